@@ -1,5 +1,5 @@
 -- The result of reading a text of two sections.
-use Rattle.std.proofs.Common.{◌≡◌, ℕ, ◌+◌, List, [], drop, None, Result, Ok, Err, sym, ap, subst, ◌∙◌, ◌≢◌}
+use Rattle.lemmas.proofs.Common.{[], ◌+◌, ◌∙◌, ◌≡◌, ◌≢◌, Err, List, None, Ok, Result, ap, drop, subst, sym, ℕ}
 use Rattle.section_text.specs.Words.{lines_of, bytes_after_last_line_feed}
 use Rattle.section_text.specs.Feeds.{FeedView, ahead}
 use Rattle.section_text.specs.Section.{Grammar, Reads, FailsAsReading}

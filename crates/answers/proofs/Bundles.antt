@@ -1,6 +1,6 @@
 -- The result of reading a bundle, and the answer to it.
-use Rattle.std.proofs.Common.{◌≡◌, ℕ, ◌+◌, List, [], ◌∷◌, ◌++◌, map, drop, Option, Some, None, Result, Ok, Err, refl}
-use Rattle.std.proofs.Common.{sym, ap, ap₂, subst, ◌∙◌, append-nil, ◌≢◌}
+use Rattle.lemmas.proofs.Common.{[], ◌++◌, ◌+◌, ◌∙◌, ◌∷◌, ◌≡◌, ◌≢◌, Err, List, None, Ok, Option, Result, Some, ap}
+use Rattle.lemmas.proofs.Common.{append-nil, ap₂, drop, map, refl, subst, sym, ℕ}
 use Rattle.section_text.specs.Words.{lines_of, bytes_after_last_line_feed}
 use Rattle.section_text.specs.Feeds.{FeedView, ahead}
 use Rattle.section_text.specs.Faults.{refusal}

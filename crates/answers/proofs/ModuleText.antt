@@ -1,11 +1,8 @@
 -- The lines of modules.
-use Rattle.std.proofs.Common.{◌≡◌, ℕ, suc, ◌+◌, ◌<◌, List, [], ◌∷◌, ◌++◌, take, length, Some, refl, sym, ap, ap₂, ◌∙◌}
-use Rattle.std.proofs.Common.{arith, rules, append_assoc, append-nil, codes, slice_get, flat_map}
-use Rattle.std.specs.Fmt.{decimal}
+use Rattle.lemmas.proofs.Common.{[], ◌++◌, ◌+◌, ◌<◌, ◌∙◌, ◌∷◌, ◌≡◌, List, Some, ap, append-nil, append_assoc, ap₂}
+use Rattle.lemmas.proofs.Common.{arith, codes, flat_map, length, refl, rules, slice_get, suc, sym, take, ℕ, decimal}
+use Rattle.lemmas.proofs.Common.{flat_map-append, get_or_from_slice_get, slice_get_within, take-suc}
 use Rattle.section_text.specs.Spelling.{space_and_word}
-use Rattle.std.proofs.Math.Seq.{take-suc}
-use Rattle.std.proofs.lemmas.Grind.{flat_map-append}
-use Rattle.std.proofs.lemmas.Option.{get_or_from_slice_get, slice_get_within}
 use Rattle.certificate_lines.specs.declared.certificate_line.Counts.{Counts}
 use Rattle.answers.specs.ModulesText.{area_words, words_of_counts, module_line, module_lines}
 

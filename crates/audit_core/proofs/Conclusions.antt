@@ -1,5 +1,6 @@
 -- Conclusions from the faults of all jobs
-use Rattle.std.proofs.Common.{◌≡◌, ◌∙◌, true, List, [], ◌∷◌, ◌++◌, length, map, Option, sym, arith, refl, Vec, Global}
+use Rattle.lemmas.proofs.Common.{[], ◌++◌, ◌∙◌, ◌∷◌, ◌≡◌, Global, List, Option, Vec, arith, length, map, refl, sym}
+use Rattle.lemmas.proofs.Common.{true}
 use Rattle.border_match.specs.BorderFaults.{AreBorderFaultsOf}
 use Rattle.border_match.specs.declared.fault.BorderFault.{BorderFault}
 use Rattle.certificate.specs.Grammars.{CertView}

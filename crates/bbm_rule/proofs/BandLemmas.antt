@@ -1,9 +1,7 @@
 -- Pairs of rows that stay, while others are turned
-use Rattle.std.proofs.Common.{◌≡◌, ◌≢◌, ℕ, Bool, true, false, ◌||◌, not, nat_eq, ◌<◌, ◌≤◌, ◌+◌, ◌-◌, ◌*◌, ◌/◌, ◌%◌}
-use Rattle.std.proofs.Common.{zero, suc, refl, arith, ◌∙◌, sym, List, length, length-set, get_or, set, bit_or}
-use Rattle.std.proofs.lemmas.Bool.Decides.{nat_tests}
-use Rattle.std.proofs.Math.Nat.{mul-le-mul_right}
-use Rattle.std.proofs.lemmas.Grind.{common_steps}
+use Rattle.lemmas.proofs.Common.{◌%◌, ◌*◌, ◌+◌, ◌-◌, ◌/◌, ◌<◌, ◌||◌, ◌∙◌, ◌≡◌, ◌≢◌, ◌≤◌, Bool, List, arith, bit_or}
+use Rattle.lemmas.proofs.Common.{false, get_or, length, length-set, nat_eq, not, refl, set, suc, sym, true, zero, ℕ}
+use Rattle.lemmas.proofs.Common.{common_steps, mul-le-mul_right, nat_tests, or_parts}
 use Rattle.bbm_rule.specs.Bits.{bit, AreSameBits, HasNoSetBit}
 use Rattle.bbm_rule.specs.Rows.{cell_at, mate, AreSameCells, HasWindow, FillsRun, SetsPlace, SetsWindow, TurnsRun}
 use Rattle.bbm_rule.specs.Rows.{TurnsRows}
@@ -17,13 +15,9 @@ use Rattle.bbm_rule.proofs.PlaneLemmas.{turned_twice, mate_twice, dead_block}
 pub blank_from_test : (n : ℕ) → not (nat_eq n 0) ≡ false → HasNoSetBit n
 blank_from_test n h j = grind (arith, common_steps, nat_tests, bit-zero)
 
-or_none : (a b : Bool) → (a || b) ≡ false → (a ≡ false) × (b ≡ false)
-or_none true b h = cc
-or_none false b h = (refl, h)
-
 pub noted_bits : (changed told j : ℕ) → bit (bit_or changed told) j ≡ false →
     (bit changed j ≡ false) × (bit told j ≡ false)
-noted_bits changed told j h = or_none (bit changed j) _ (sym (bit-or changed told j) ∙ h)
+noted_bits changed told j h = or_parts (bit changed j) _ (sym (bit-or changed told j) ∙ h)
 
 -- a window that gets the cells that it has
 pub window_same : (p a v : ℕ) (old new : List ℕ) → AreSameBits v a → HasWindow old p v → SetsWindow p a old new →

@@ -1,12 +1,9 @@
 -- Bits of numbers as tests.
-use Rattle.std.proofs.Common.{◌≡◌, ◌≢◌, ℕ, Bool, true, false, ◌&&◌, ◌||◌, ◌<◌, ◌≤◌, ◌+◌, ◌-◌, ◌*◌, ◌/◌, ◌^◌, ◌%◌, zero}
-use Rattle.std.proofs.Common.{suc, refl, arith, ◌⊎◌, inl, inr, bit_and, bit_or, nat_eq, ◌∙◌, sym, ap, bit_xor}
-use Rattle.std.specs.Int.{bit_at}
-use Rattle.std.proofs.lemmas.Bool.Decides.{leb_tells, eqb_tells}
-use Rattle.std.proofs.lemmas.Nat.{shr-shr, shr_split}
-use Rattle.std.proofs.lemmas.Nat.Bits.{bit_at_and, bit_at_or, bit_at_xor, bit_at-lt, bit_at_cat_low, bit_at_cat_high}
-use Rattle.std.proofs.lemmas.Nat.Bits.{bit_at-zero, bit_at_above}
-use Rattle.std.proofs.lemmas.Grind.{common_steps}
+use Rattle.lemmas.proofs.Common.{◌%◌, ◌&&◌, ◌*◌, ◌+◌, ◌-◌, ◌/◌, ◌<◌, ◌^◌, ◌||◌, ◌∙◌, ◌≡◌, ◌≢◌, ◌≤◌, ◌⊎◌, Bool, ap}
+use Rattle.lemmas.proofs.Common.{arith, bit_and, bit_or, bit_xor, false, inl, inr, nat_eq, refl, suc, sym, true, zero}
+use Rattle.lemmas.proofs.Common.{ℕ, bit_at, bit_at-lt, bit_at-zero, bit_at_above, bit_at_and, bit_at_cat_high}
+use Rattle.lemmas.proofs.Common.{bit_at_cat_low, bit_at_or, bit_at_xor, common_steps, eqb_tells, leb_tells, shr-shr}
+use Rattle.lemmas.proofs.Common.{shr_split, left_is_true, right_is_true}
 use Rattle.bbm_rule.specs.Bits.{bit}
 
 pub by_lt_or_le : {P : Type 0} (a b : ℕ) → (a < b → P) → (b ≤ a → P) → P
@@ -20,19 +17,11 @@ abbrev pub holds_below : (ℕ → Bool) → ℕ → Bool
 holds_below p zero = true
 holds_below p (suc n) = p n && holds_below p n
 
-and_left : (a b : Bool) → (a && b) ≡ true → a ≡ true
-and_left true b h = refl
-and_left false b h = cc
-
-and_right : (a b : Bool) → (a && b) ≡ true → b ≡ true
-and_right true b h = h
-and_right false b h = cc
-
 pub below_from_test : (p : ℕ → Bool) (n : ℕ) → holds_below p n ≡ true → (k : ℕ) → k < n → p k ≡ true
 below_from_test p zero h k l = absurd (omega arith)
 below_from_test p (suc n) h k l =
-    by_eq_or_not k n (λ e. rw e (and_left (p n) (holds_below p n) h))
-    (λ other. below_from_test p n (and_right (p n) (holds_below p n) h) k (smaller k n other l))
+    by_eq_or_not k n (λ e. rw e (left_is_true (p n) (holds_below p n) h))
+    (λ other. below_from_test p n (right_is_true (p n) (holds_below p n) h) k (smaller k n other l))
   where
     smaller : (k n : ℕ) → k ≢ n → k < suc n → k < n
     smaller k n other l = omega arith

@@ -1,12 +1,8 @@
 -- The board that the rows of a grid stand for.
-use Rattle.std.proofs.Common.{◌≡◌, ℕ, true, false, ◌<◌, ◌≤◌, ◌+◌, ◌-◌, ◌*◌, ◌/◌, ◌%◌, zero, suc, refl, arith, ◌∙◌, sym}
-use Rattle.std.proofs.Common.{ap, List, [], ◌∷◌, inl, inr, map, pos, nat_lt, nat_le}
-use Rattle.std.proofs.lemmas.Bool.Decides.{nat_tests}
-use Rattle.std.proofs.lemmas.List.FromFn.{get_or-map-range_with_len}
-use Rattle.std.proofs.lemmas.Nat.{div-mul-add, mod-mul-add, div_below, mod_below}
-use Rattle.std.proofs.Math.Nat.{mul-le-mul_right, div-add-mod, mul-le-mul_left}
-use Rattle.std.proofs.Math.Bool.{and-false}
-use Rattle.std.proofs.lemmas.Grind.{common_steps}
+use Rattle.lemmas.proofs.Common.{[], ◌%◌, ◌*◌, ◌+◌, ◌-◌, ◌/◌, ◌<◌, ◌∙◌, ◌∷◌, ◌≡◌, ◌≤◌, List, ap, arith, false, inl, inr}
+use Rattle.lemmas.proofs.Common.{map, nat_le, nat_lt, pos, refl, suc, sym, true, zero, ℕ, and-false, common_steps}
+use Rattle.lemmas.proofs.Common.{div-add-mod, div-mul-add, div_below, get_or-map-range_with_len, mod-mul-add, mod_below}
+use Rattle.lemmas.proofs.Common.{mul-le-mul_left, mul-le-mul_right, nat_tests, lt_test, not_le_test, not_lt_test}
 use Rattle.bbm_rule.specs.Plane.{step, turned}
 use Rattle.bbm_rule.specs.Rows.{cell_at, mate, TurnsRows, is_inside_margin, HasLiveMargin, HasDeadMargin}
 use Rattle.bbm_rule.specs.Board.{Board, live, is_inside, IsStep, Leaves}
@@ -25,17 +21,8 @@ pub record IsPlane (w h s : ℕ) (words : List ℕ) : Type 0 where
   pub room : w + 2 ≤ s
   pub margin : (x y : ℕ) → x < s → is_inside_margin w h x y ≡ false → cell_at words (s * y + x) ≡ false
 
-lt_test : (a b : ℕ) → a < b → nat_lt a b ≡ true
-lt_test a b l = grind (arith, nat_tests)
-
-not_lt_test : (a b : ℕ) → b ≤ a → nat_lt a b ≡ false
-not_lt_test a b l = grind (arith, nat_tests)
-
 le_test : (a b : ℕ) → a ≤ b → nat_le a b ≡ true
 le_test a b l = grind (arith, nat_tests)
-
-not_le_test : (a b : ℕ) → b < a → nat_le a b ≡ false
-not_le_test a b l = grind (arith, nat_tests)
 
 pub not_inner_column : (w h x y : ℕ) → w < x → is_inside_margin w h x y ≡ false
 not_inner_column w h x y l = rw (not_le_test x w l, and-false (nat_le 1 x)) refl

@@ -1,8 +1,6 @@
 -- The places of the cells of a board.
-use Rattle.std.proofs.Common.{◌≡◌, ℕ, Bool, true, false, ◌&&◌, refl, arith, ℤ, pos, negsuc, nat_lt}
-use Rattle.std.proofs.lemmas.Bool.{le-leb}
-use Rattle.std.proofs.Math.Bool.{and-false}
-use Rattle.std.proofs.lemmas.Grind.{common_steps}
+use Rattle.lemmas.proofs.Common.{◌&&◌, ◌≡◌, Bool, arith, false, nat_lt, negsuc, pos, refl, true, ℕ, ℤ, and-false}
+use Rattle.lemmas.proofs.Common.{common_steps, le-leb}
 use Rattle.bbm_rule.specs.Spans.{in_span}
 use Rattle.bbm_rule.specs.Board.{Board, live, is_inside}
 use Rattle.bbm_rule.proofs.Spans.{in_span-pos, in_span-negsuc}

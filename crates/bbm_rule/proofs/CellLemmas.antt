@@ -1,10 +1,8 @@
 -- Single cells.
-use Rattle.std.proofs.Common.{◌≡◌, ◌≢◌, ℕ, Bool, true, false, ◌<◌, ◌+◌, ◌-◌, ◌*◌, ◌/◌, ◌^◌, ◌%◌, refl, arith, List}
-use Rattle.std.proofs.Common.{length, get_or, set, bit_and, bit_or, w64, nat_eq, sym}
-use Rattle.std.proofs.lemmas.List.{get_or-set_same, get_or-set_other}
-use Rattle.std.proofs.lemmas.Nat.Bits.{shr_and_one, bit_at_set_same, bit_at_set_other, bit_at_clear_same}
-use Rattle.std.proofs.lemmas.Nat.Bits.{bit_at_clear_other}
-use Rattle.std.proofs.lemmas.Grind.{common_steps}
+use Rattle.lemmas.proofs.Common.{◌%◌, ◌*◌, ◌+◌, ◌-◌, ◌/◌, ◌<◌, ◌^◌, ◌≡◌, ◌≢◌, Bool, List, arith, bit_and, bit_or, false}
+use Rattle.lemmas.proofs.Common.{get_or, get_or-set_other, get_or-set_same, length, nat_eq, refl, set, sym, true, w64}
+use Rattle.lemmas.proofs.Common.{ℕ, bit_at_clear_other, bit_at_clear_same, bit_at_set_other, bit_at_set_same}
+use Rattle.lemmas.proofs.Common.{common_steps, shr_and_one}
 use Rattle.bbm_rule.specs.Bits.{bit}
 use Rattle.bbm_rule.specs.Rows.{cell_at, SetsPlace}
 use Rattle.bbm_rule.proofs.BitLemmas.{by_eq_or_not, bit-is}

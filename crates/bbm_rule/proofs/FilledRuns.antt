@@ -1,8 +1,6 @@
 -- A run of cells in one word.
-use Rattle.std.proofs.Common.{◌≡◌, ℕ, true, false, ◌<◌, ◌≤◌, ◌+◌, ◌-◌, ◌*◌, ◌/◌, ◌^◌, ◌%◌, refl, arith, List, length}
-use Rattle.std.proofs.Common.{get_or, set, bit_or, ◌∙◌, ap, ◌||◌}
-use Rattle.std.proofs.lemmas.List.{get_or-set_same, get_or-set_other}
-use Rattle.std.proofs.lemmas.Nat.{pow_pos}
+use Rattle.lemmas.proofs.Common.{◌%◌, ◌*◌, ◌+◌, ◌-◌, ◌/◌, ◌<◌, ◌^◌, ◌||◌, ◌∙◌, ◌≡◌, ◌≤◌, List, ap, arith, bit_or, false}
+use Rattle.lemmas.proofs.Common.{get_or, get_or-set_other, get_or-set_same, length, refl, set, true, ℕ, pow_pos}
 use Rattle.bbm_rule.specs.Bits.{bit}
 use Rattle.bbm_rule.specs.Rows.{cell_at, FillsRun}
 use Rattle.bbm_rule.proofs.BitLemmas.{by_eq_or_not, bit-or, bit-shr, bit-mod, bit-shl_low, bit-shl_high, bit_above}

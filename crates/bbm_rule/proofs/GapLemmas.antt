@@ -1,10 +1,7 @@
 -- The first number without a mark: it is the first one with a mark in the complement of the words.
-use Rattle.std.proofs.Common.{◌≡◌, ◌≢◌, ℕ, Bool, true, false, not, ◌<◌, ◌≤◌, ◌+◌, ◌*◌, ◌/◌, ◌^◌, ◌%◌, refl, arith, sym}
-use Rattle.std.proofs.Common.{inl, inr, List, length, map, get_or, w64, ◌∙◌}
-use Rattle.std.specs.Int.{bit_not, trailing_zeros, bit_at}
-use Rattle.std.proofs.lemmas.List.{get_or-map}
-use Rattle.std.proofs.lemmas.Nat.Bits.{bit_at-lt, bit_at_not}
-use Rattle.std.proofs.lemmas.Grind.{common_steps}
+use Rattle.lemmas.proofs.Common.{◌%◌, ◌*◌, ◌+◌, ◌/◌, ◌<◌, ◌^◌, ◌∙◌, ◌≡◌, ◌≢◌, ◌≤◌, Bool, List, arith, false, get_or}
+use Rattle.lemmas.proofs.Common.{inl, inr, length, map, not, refl, sym, true, w64, ℕ, bit_at, bit_at-lt, bit_at_not}
+use Rattle.lemmas.proofs.Common.{bit_not, common_steps, get_or-map, trailing_zeros, false_from_not, true_from_not}
 use Rattle.bbm_rule.specs.Bits.{bit}
 use Rattle.bbm_rule.specs.Rows.{cell_at}
 use Rattle.bbm_rule.specs.Marks.{IsUnmarked}
@@ -28,14 +25,6 @@ cell_flipped : (words : List ℕ) (u : ℕ) → u / 64 < length words → get_or
 unfolding cell_at
 cell_flipped words u room fits = grind (arith, common_steps, word_flipped, bit_flipped)
 
-not_false : (b : Bool) → not b ≡ false → b ≡ true
-not_false true e = refl
-not_false false e = cc
-
-not_true : (b : Bool) → not b ≡ true → b ≡ false
-not_true true e = cc
-not_true false e = refl
-
 -- the same for a number in the word of another one
 flipped_in : (words : List ℕ) (at u : ℕ) → at / 64 < length words → get_or words (at / 64) 0 < 2 ^ 64 → at ≤ u →
     u < 64 * (at / 64 + 1) → cell_at (flipped words) u ≡ not (cell_at words u)
@@ -46,7 +35,7 @@ pub all_in_word : (words : List ℕ) (at u : ℕ) → at / 64 < length words →
     bit_not w64 (get_or words (at / 64) 0) / 2 ^ (at % 64) ≡ 0 → at ≤ u → u < 64 * (at / 64 + 1) →
     cell_at words u ≡ true
 all_in_word words at u room fits e l h =
-    not_false _ (sym (flipped_in words at u room fits l h)
+    true_from_not _ (sym (flipped_in words at u room fits l h)
     ∙ none_in_word (flipped words) at u (rw (word_flipped words (at / 64) room) e) l h)
 
 -- and so have those before the first gap
@@ -55,7 +44,7 @@ pub all_before : (words : List ℕ) (at u : ℕ) → at / 64 < length words → 
     u < at + trailing_zeros w64 (bit_not w64 (get_or words (at / 64) 0) / 2 ^ (at % 64)) → cell_at words u ≡ true
 all_before words at u room fits some l h =
     let gap = first_bit (bit_not w64 (get_or words (at / 64) 0)) (at % 64) some (omega arith) in
-    not_false _ (sym (flipped_in words at u room fits l (omega (arith, gap.within)))
+    true_from_not _ (sym (flipped_in words at u room fits l (omega (arith, gap.within)))
     ∙ none_before (flipped words) at u (rw (word_flipped words (at / 64) room) some)
     (rw (word_flipped words (at / 64) room) (omega arith)) l (rw (word_flipped words (at / 64) room) h))
 
@@ -67,5 +56,5 @@ first_unmarked words at room fits some =
     let gap = first_bit (bit_not w64 (get_or words (at / 64) 0)) (at % 64) some (omega arith) in
     let marked = first_marked (flipped words) at (rw (word_flipped words (at / 64) room) some)
     (rw (word_flipped words (at / 64) room) (omega arith)) in
-    not_true _ (sym (flipped_in words at _ room fits (omega arith) (omega (arith, gap.within)))
+    false_from_not _ (sym (flipped_in words at _ room fits (omega arith) (omega (arith, gap.within)))
     ∙ (rw (word_flipped words (at / 64) room) at marked))

@@ -1,11 +1,9 @@
 -- Vectors of four words, and the words of four slices.
-use Rattle.std.proofs.Common.{◌-◌, ◌≡◌, ℕ, ◌<◌, ◌≤◌, ◌+◌, List, length, get_or, bit_and, bit_or, refl, arith, ◌∙◌}
-use Rattle.std.specs.Prelude.{bit_xor}
+use Rattle.lemmas.proofs.Common.{◌+◌, ◌-◌, ◌<◌, ◌∙◌, ◌≡◌, ◌≤◌, List, arith, bit_and, bit_or, bit_xor, get_or, length}
+use Rattle.lemmas.proofs.Common.{refl, ℕ, common_steps, get_or-chunk, get_or-put_chunk_above, get_or-put_chunk_at}
+use Rattle.lemmas.proofs.Common.{get_or-put_chunk_below, get_or-zip2, length-zip2}
 use Rattle.std.specs.Simd.Lanes.{zip2, chunk, put_chunk}
-use Rattle.std.proofs.lemmas.Grind.{common_steps}
 use Rattle.bbm_rule.proofs.BitLemmas.{by_lt_or_le}
-use Rattle.std.proofs.lemmas.Simd.{length-zip2, get_or-zip2, get_or-chunk, get_or-put_chunk_below, get_or-put_chunk_at}
-use Rattle.std.proofs.lemmas.Simd.{get_or-put_chunk_above}
 use Rattle.bbm_rule.specs.Words.{AreTurnedAt, TurnsBetween}
 use Rattle.bbm_rule.proofs.Turning.{words_turned}
 

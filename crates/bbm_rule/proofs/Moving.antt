@@ -1,8 +1,6 @@
 -- A step commutes with an even move
-use Rattle.std.proofs.Common.{◌≡◌, ℕ, suc, Bool, ◌+◌, ◌-◌, ◌%◌, refl, ap, ◌∙◌, arith, ℤ, pos, negsuc, ◌+ℤ◌, ◌-ℤ◌}
-use Rattle.std.proofs.lemmas.Bool.{cases_Bool, cases_lt, cond-true, cond-false}
-use Rattle.std.proofs.lemmas.Int.{ints}
-use Rattle.std.proofs.lemmas.Grind.{common_steps}
+use Rattle.lemmas.proofs.Common.{◌%◌, ◌+ℤ◌, ◌+◌, ◌-ℤ◌, ◌-◌, ◌∙◌, ◌≡◌, Bool, ap, arith, negsuc, pos, refl, suc, ℕ, ℤ}
+use Rattle.lemmas.proofs.Common.{cases_Bool, cases_lt, common_steps, cond-false, cond-true, ints, down_moved, up_moved}
 use Rattle.bbm_rule.specs.Plane.{parity, partner, turned, step}
 use Rattle.bbm_rule.specs.Moves.{StepCommutesWithMoves}
 
@@ -28,12 +26,6 @@ parity_moved (pos a) (pos b) even = omega (arith, even)
 parity_moved (pos a) (negsuc b) even = mixed a b (a % 2) (omega (arith, even)) refl
 parity_moved (negsuc a) (pos b) even = ap parity (turned_sum a b) ∙ mixed_back a b even
 parity_moved (negsuc a) (negsuc b) even = omega (arith, even)
-
-up_moved : (x d : ℤ) → (x +ℤ d) +ℤ pos 1 ≡ (x +ℤ pos 1) +ℤ d
-up_moved x d = omega (arith, ints)
-
-down_moved : (x d : ℤ) → (x +ℤ d) -ℤ pos 1 ≡ (x -ℤ pos 1) +ℤ d
-down_moved x d = omega (arith, ints)
 
 -- and so the other coordinate of a block moves along
 pub partner_moved : (t : ℕ) (x d : ℤ) → parity d ≡ 0 → partner t (x +ℤ d) ≡ partner t x +ℤ d

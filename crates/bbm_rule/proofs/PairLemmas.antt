@@ -1,10 +1,7 @@
 -- Two words one above the other, and windows of 64 cells.
-use Rattle.std.proofs.Common.{◌≡◌, ℕ, Bool, true, false, nat_eq, ◌<◌, ◌+◌, ◌-◌, ◌*◌, ◌/◌, ◌^◌, ◌%◌, ◌||◌, zero, suc}
-use Rattle.std.proofs.Common.{refl, arith, bit_or, ◌∙◌, List, get_or, bit_xor}
-use Rattle.std.proofs.lemmas.Nat.{div-mul-add, mod-mul-add}
-use Rattle.std.proofs.Math.Nat.{div-add-mod}
-use Rattle.std.proofs.Math.Bool.{or-false}
-use Rattle.std.proofs.lemmas.Grind.{common_steps}
+use Rattle.lemmas.proofs.Common.{◌%◌, ◌*◌, ◌+◌, ◌-◌, ◌/◌, ◌<◌, ◌^◌, ◌||◌, ◌∙◌, ◌≡◌, Bool, List, arith, bit_or, bit_xor}
+use Rattle.lemmas.proofs.Common.{false, get_or, nat_eq, refl, suc, true, zero, ℕ, common_steps, div-add-mod}
+use Rattle.lemmas.proofs.Common.{div-mul-add, mod-mul-add, or-false}
 use Rattle.bbm_rule.specs.Plane.{turned}
 use Rattle.bbm_rule.specs.Bits.{bit, AreSameBits, HasNoSetBit}
 use Rattle.bbm_rule.specs.Rows.{cell_at, mate, AreFlips, ArePairsTurned, HasWindow}

@@ -1,9 +1,7 @@
 -- Blocks on the plane
-use Rattle.std.proofs.Common.{◌≡◌, ℕ, Bool, true, false, not, ◌<◌, ◌≤◌, ◌+◌, ◌-◌, ◌%◌, zero, suc, refl, arith, ◌⊎◌, inl}
-use Rattle.std.proofs.Common.{inr, ℤ, pos, negsuc, ◌+ℤ◌, ◌-ℤ◌, nat_lt}
-use Rattle.std.proofs.lemmas.Int.{ints}
-use Rattle.std.proofs.lemmas.Bool.Decides.{nat_tests}
-use Rattle.std.proofs.lemmas.Grind.{common_steps}
+use Rattle.lemmas.proofs.Common.{◌%◌, ◌+ℤ◌, ◌+◌, ◌-ℤ◌, ◌-◌, ◌<◌, ◌≡◌, ◌≤◌, ◌⊎◌, Bool, arith, false, inl, inr, nat_lt}
+use Rattle.lemmas.proofs.Common.{negsuc, not, pos, refl, suc, true, zero, ℕ, ℤ, common_steps, ints, nat_tests, next_neg}
+use Rattle.lemmas.proofs.Common.{pred_pos}
 use Rattle.bbm_rule.specs.Plane.{State, partner, step, turned}
 use Rattle.bbm_rule.specs.Rows.{mate}
 use Rattle.bbm_rule.specs.Board.{Board, live}
@@ -51,11 +49,6 @@ mate_twice j =
     rw (e, mate_odd i even) (mate_even i even))
 
 -- ---- the partner of a coordinate
-pred_pos : (i : ℕ) → pos (suc i) -ℤ pos 1 ≡ pos i
-pred_pos i = omega (arith, ints)
-
-next_neg : (i : ℕ) → negsuc (suc i) +ℤ pos 1 ≡ negsuc i
-next_neg i = omega (arith, ints)
 
 mate_of_odd : (i : ℕ) → i % 2 ≡ 0 → mate (suc i) ≡ i
 mate_of_odd i even = let e : suc i ≡ 1 + i = omega arith in rw e (mate_odd i even)

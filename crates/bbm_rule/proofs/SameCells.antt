@@ -1,7 +1,5 @@
 -- Cells that are the same.
-use Rattle.std.proofs.Common.{arith, ◌≡◌, true}
-use Rattle.std.proofs.lemmas.Bool.{and_parts}
-use Rattle.std.proofs.lemmas.Grind.{common_steps}
+use Rattle.lemmas.proofs.Common.{◌≡◌, arith, true, and_parts, common_steps}
 use Rattle.bbm_rule.specs.Plane.{is_at}
 use Rattle.bbm_rule.specs.declared.block.Cell.{Cell}
 

@@ -1,11 +1,7 @@
 -- Runs of blocks that begin at the second cell of each word
-use Rattle.std.proofs.Common.{◌≡◌, ◌≢◌, ℕ, true, false, ◌||◌, ◌<◌, ◌≤◌, ◌+◌, ◌-◌, ◌*◌, ◌/◌, ◌^◌, ◌%◌, refl, arith, ◌∙◌}
-use Rattle.std.proofs.Common.{sym, ap, List, length, length-set, get_or, set, bit_or, bit_xor}
-use Rattle.std.specs.Int.Bits.{xor_assoc}
-use Rattle.std.proofs.lemmas.Nat.{xor_comm}
-use Rattle.std.proofs.lemmas.List.{get_or-set_same, get_or-set_other, set-set, set_comm}
-use Rattle.std.proofs.Math.Bool.{or-false}
-use Rattle.std.proofs.lemmas.Grind.{common_steps}
+use Rattle.lemmas.proofs.Common.{◌%◌, ◌*◌, ◌+◌, ◌-◌, ◌/◌, ◌<◌, ◌^◌, ◌||◌, ◌∙◌, ◌≡◌, ◌≢◌, ◌≤◌, List, ap, arith, bit_or}
+use Rattle.lemmas.proofs.Common.{bit_xor, false, get_or, get_or-set_other, get_or-set_same, length, length-set, refl}
+use Rattle.lemmas.proofs.Common.{set, sym, true, ℕ, common_steps, or-false, set-set, set_comm, xor_assoc, xor_comm}
 use Rattle.bbm_rule.specs.Plane.{turned}
 use Rattle.bbm_rule.specs.Bits.{bit, HasNoSetBit}
 use Rattle.bbm_rule.specs.Rows.{cell_at, mate, AreFlips, ArePairsTurned, AreSameCells, HasWindow, SetsWindow, TurnsRun}

@@ -1,11 +1,8 @@
 -- Numbers in a span, and the two coordinates of a block
-use Rattle.std.proofs.Common.{◌≡◌, ℕ, zero, suc, ◌+◌, ◌%◌, ◌<◌, ◌≤◌, true, false, ◌&&◌, eqb, ltb, leb, refl, sym, ap}
-use Rattle.std.proofs.Common.{◌∙◌, arith, inl, inr, ◌⊎◌, ℤ, pos, negsuc, ◌+ℤ◌, ◌-ℤ◌}
-use Rattle.std.proofs.lemmas.Bool.{and_parts, and_from, ne_eqb, cases_Bool, cond-true, cond-false, eqb-true, eqb-false}
-use Rattle.std.proofs.lemmas.Bool.{leb-true, ltb-true, le-leb, lt-ltb}
-use Rattle.std.proofs.lemmas.Int.{ints}
-use Rattle.std.proofs.lemmas.Bool.Decides.{nat_tests}
-use Rattle.std.proofs.lemmas.Grind.{common_steps}
+use Rattle.lemmas.proofs.Common.{◌%◌, ◌&&◌, ◌+ℤ◌, ◌+◌, ◌-ℤ◌, ◌<◌, ◌∙◌, ◌≡◌, ◌≤◌, ◌⊎◌, ap, arith, eqb, false, inl, inr}
+use Rattle.lemmas.proofs.Common.{leb, ltb, ne_eqb, negsuc, pos, refl, suc, sym, true, zero, ℕ, ℤ, and_from, and_parts}
+use Rattle.lemmas.proofs.Common.{cases_Bool, common_steps, cond-false, cond-true, eqb-false, eqb-true, ints, le-leb}
+use Rattle.lemmas.proofs.Common.{leb-true, lt-ltb, ltb-true, nat_tests, next_neg, pred_pos}
 use Rattle.bbm_rule.specs.Plane.{parity, partner}
 use Rattle.bbm_rule.specs.Spans.{in_span}
 
@@ -43,14 +40,8 @@ partner_down : (t : ℕ) (z : ℤ) → eqb (parity z) (t % 2) ≡ false → part
 unfolding partner
 partner_down t z e = cond-false _ _ _ e
 
-pub less_one : (m : ℕ) → pos (suc m) -ℤ pos 1 ≡ pos m
-less_one m = omega (arith, ints)
-
 less_one_negative : (k : ℕ) → negsuc k -ℤ pos 1 ≡ negsuc (suc k)
 less_one_negative k = omega (arith, ints)
-
-pub more_one_negative : (k : ℕ) → negsuc (suc k) +ℤ pos 1 ≡ negsuc k
-more_one_negative k = omega (arith, ints)
 
 up_even : (f n k : ℕ) → f % 2 ≡ 0 → n % 2 ≡ 0 → k % 2 ≡ 0 → in_span f n (pos (k + 1)) ≡ in_span f n (pos k)
 unfolding in_span
@@ -63,12 +54,12 @@ even_up f n t k pf pn pt e = grind (arith, common_steps, partner_up, up_even, eq
 even_down : (f n t k : ℕ) → f % 2 ≡ 0 → n % 2 ≡ 0 → t % 2 ≡ 0 → eqb (k % 2) (t % 2) ≡ false →
     in_span f n (partner t (pos k)) ≡ in_span f n (pos k)
 even_down f n t zero pf pn pt e = absurd (eqb-false 0 (t % 2) e (sym pt))
-even_down f n t (suc m) pf pn pt e = grind (arith, common_steps, eqb-false, partner_down, less_one, up_even)
+even_down f n t (suc m) pf pn pt e = grind (arith, common_steps, eqb-false, partner_down, pred_pos, up_even)
 
 negative_partner : (f n t k : ℕ) → t % 2 ≡ 0 → in_span f n (partner t (negsuc k)) ≡ false
 negative_partner f n t zero pt = grind (arith, common_steps, partner_down, ne_eqb, less_one_negative, in_span-negsuc)
 negative_partner f n t (suc k) pt = elim (cases_Bool (eqb (parity (negsuc (suc k))) (t % 2))) [
-  | inl e ↦ ap (in_span f n) (partner_up t (negsuc (suc k)) e ∙ more_one_negative k) ∙ in_span-negsuc f n k
+  | inl e ↦ ap (in_span f n) (partner_up t (negsuc (suc k)) e ∙ next_neg k) ∙ in_span-negsuc f n k
   | inr e ↦ ap (in_span f n) (partner_down t (negsuc (suc k)) e ∙ less_one_negative (suc k))
       ∙ in_span-negsuc f n (suc (suc k))
 ]

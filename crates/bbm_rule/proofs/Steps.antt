@@ -1,5 +1,5 @@
 -- The four cells of a block after a step
-use Rattle.std.proofs.Common.{◌≡◌, ℕ, false, refl, ◌∙◌, ℤ}
+use Rattle.lemmas.proofs.Common.{◌∙◌, ◌≡◌, false, refl, ℕ, ℤ}
 use Rattle.bbm_rule.specs.Plane.{State, partner, turned, step}
 
 -- the same four cells make the same cell

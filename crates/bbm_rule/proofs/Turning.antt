@@ -1,9 +1,6 @@
 -- The bitwise formula of a turn.
-use Rattle.std.proofs.Common.{arith, ◌≡◌, ℕ, Bool, true, false, ◌&&◌, ◌||◌, refl, bit_and, bit_or, ◌<◌, List, [], ◌∷◌}
-use Rattle.std.proofs.Common.{get_or, nat_eq, bit_xor}
-use Rattle.std.proofs.lemmas.Bool.{eqb-true}
-use Rattle.std.proofs.Math.Bool.{and-false, and-true}
-use Rattle.std.proofs.lemmas.Grind.{common_steps}
+use Rattle.lemmas.proofs.Common.{[], ◌&&◌, ◌<◌, ◌||◌, ◌∷◌, ◌≡◌, Bool, List, arith, bit_and, bit_or, bit_xor, false}
+use Rattle.lemmas.proofs.Common.{get_or, nat_eq, refl, true, ℕ, and-false, and-true, common_steps, eqb-true}
 use Rattle.bbm_rule.specs.Plane.{turned}
 use Rattle.bbm_rule.specs.Words.{turn_of, AreTurned}
 use Rattle.bbm_rule.specs.Bits.{bit, HasNoSetBit}

@@ -1,10 +1,8 @@
 -- From the jobs of modules to their lines
-use Rattle.std.proofs.Common.{◌≡◌, ℕ, ◌<◌, ◌%◌, List, [], Option, Some, None, true, sym, ap, ap₂, subst, ◌∙◌, arith, ℤ}
-use Rattle.std.proofs.Common.{option_map, slice_get, IfSome, All}
-use Rattle.std.proofs.lemmas.Bool.{and_parts}
-use Rattle.std.proofs.lemmas.List.Elements.{All-cons, All-nil}
-use Rattle.std.proofs.lemmas.Option.{get_or_from_slice_get, slice_get-map, slice_get_within}
-use Rattle.std.proofs.lemmas.Grind.{common_steps}
+use Rattle.lemmas.proofs.Common.{[], ◌%◌, ◌<◌, ◌∙◌, ◌≡◌, All, IfSome, List, None, Option, Some, ap, ap₂, arith}
+use Rattle.lemmas.proofs.Common.{option_map, slice_get, subst, sym, true, ℕ, ℤ, All-cons, All-nil, and_parts}
+use Rattle.lemmas.proofs.Common.{common_steps, get_or_from_slice_get, slice_get-map, slice_get_within, mapped_from}
+use Rattle.lemmas.proofs.Common.{some_at}
 use Rattle.bbm_rule.specs.declared.block.Cell.{Cell}
 use Rattle.circuit.specs.Bridge.{circuit_of}
 use Rattle.circuit.specs.declared.circuit_line.CircuitLine.{CircuitLine}
@@ -31,7 +29,7 @@ use Rattle.border_match.specs.Boards.{job_signal, IsJobFault, IsListed, IsQuiet,
 use Rattle.border_match.specs.declared.signals.RingOrHalo.TheVariants.{Halo, Ring}
 use Rattle.border_match.specs.Candidates.{IsLeast}
 use Rattle.border_match.specs.declared.fault.BorderFault.{BorderFault}
-use Rattle.border_match.proofs.Modules.{there, value_of, area_at}
+use Rattle.border_match.proofs.Modules.{area_at}
 use Rattle.border_match.proofs.Renumbered.{signal_renumbered, no_event_back, lines_quiet}
 
 in_ring_box : (b : Box2) (x y : ℤ) → in_ring b x y ≡ true → in_box b x y ≡ true
@@ -87,10 +85,10 @@ module _ (cs : List CircuitLine) (p : Pattern) where
     same_rectangle = ap₂ rectangle_of (sym w) (sym h)
 
     job_of : (k : ℕ) (m : ModuleLines) → slice_get ms k ≡ Some m → (j : JobView) × (slice_get js k ≡ Some j)
-    job_of k m e = there js k (let lt = slice_get_within ms k m e in let n = made.count in omega (arith, lt, n))
+    job_of k m e = some_at js k (let lt = slice_get_within ms k m e in let n = made.count in omega (arith, lt, n))
 
     lines_of : (k : ℕ) (j : JobView) → slice_get js k ≡ Some j → (m : ModuleLines) × (slice_get ms k ≡ Some m)
-    lines_of k j e = there ms k (let lt = slice_get_within js k j e in let n = made.count in omega (arith, lt, n))
+    lines_of k j e = some_at ms k (let lt = slice_get_within js k j e in let n = made.count in omega (arith, lt, n))
 
     -- the module that has a cell of the rectangle
     record IsHolder (x y : ℤ) : Type 0 where
@@ -99,7 +97,7 @@ module _ (cs : List CircuitLine) (p : Pattern) where
       has : in_box lines.area x y ≡ true
 
     holder : (x y : ℤ) → in_box (whole p.size) x y ≡ true → IsHolder x y
-    holder x y inside = grind (arith, common_steps, same_rectangle, value_of)
+    holder x y inside = grind (arith, common_steps, same_rectangle, mapped_from)
 
     pub quiet_job : (k : ℕ) (j : JobView) → slice_get js k ≡ Some j → IsQuiet j
     quiet_job k j e = let m = lines_of k j e in quiet m.0 j (good.each k m.0 m.1) (made.each k m.0 j m.1 e)

@@ -1,12 +1,8 @@
 -- Cells of a halo, and the modules that have them
-use Rattle.std.proofs.Common.{◌≡◌, ℕ, ◌+◌, ◌-◌, ◌<◌, ◌≤◌, List, map, length, true, false, ◌||◌, ◌&&◌, Some}
-use Rattle.std.proofs.Common.{sym, ap, ap₂, ◌∙◌, inl, inr, ◌⊎◌, arith, get_or, ℤ, pos, ◌+ℤ◌, ◌-ℤ◌, ◌≢◌}
-use Rattle.std.proofs.Common.{slice_get, option_map}
-use Rattle.std.proofs.lemmas.List.{length-map}
-use Rattle.std.proofs.lemmas.Option.{slice_get-map, slice_get-get_or, slice_get_within}
-use Rattle.std.proofs.lemmas.Bool.{and_parts, and_from, cases_Bool, false≢true}
-use Rattle.std.proofs.lemmas.Int.{ints}
-use Rattle.std.proofs.lemmas.Grind.{common_steps}
+use Rattle.lemmas.proofs.Common.{◌&&◌, ◌+ℤ◌, ◌+◌, ◌-ℤ◌, ◌-◌, ◌<◌, ◌||◌, ◌∙◌, ◌≡◌, ◌≢◌, ◌≤◌, ◌⊎◌, List, Some, ap, ap₂}
+use Rattle.lemmas.proofs.Common.{arith, false, get_or, inl, inr, length, map, option_map, pos, slice_get, sym, true, ℕ}
+use Rattle.lemmas.proofs.Common.{ℤ, and_from, and_parts, cases_Bool, common_steps, false≢true, ints, length-map}
+use Rattle.lemmas.proofs.Common.{slice_get-get_or, slice_get-map, slice_get_within}
 use Rattle.bbm_rule.specs.Spans.{in_span}
 use Rattle.bbm_rule.proofs.Spans.{span_from, span_parts}
 use Rattle.module_box.specs.Boxes.{in_box, in_halo}

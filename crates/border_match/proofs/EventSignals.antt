@@ -1,7 +1,5 @@
 -- The signal of the cell and time of an event
-use Rattle.std.proofs.Common.{◌≡◌, ℕ, List, [], ap, subst, ◌∙◌, arith, ℤ, pos, ◌+ℤ◌}
-use Rattle.std.proofs.lemmas.Int.{ints}
-use Rattle.std.proofs.lemmas.Grind.{common_steps}
+use Rattle.lemmas.proofs.Common.{[], ◌+ℤ◌, ◌∙◌, ◌≡◌, List, ap, arith, pos, subst, ℕ, ℤ, common_steps, ints}
 use Rattle.module_box.specs.Moments.{moment_cmp}
 use Rattle.module_box.specs.Moves.{moved_signals}
 use Rattle.module_box.specs.Schedules.{IsRising, Signals, all_times_at, moment_of, signal_at}

@@ -1,12 +1,9 @@
 -- Moments and events that a search for the cells around a box passes over
-use Rattle.std.proofs.Common.{◌≡◌, ℕ, ◌+◌, ◌<◌, ◌≤◌, ◌%◌, List, length, refl, ap, ◌∙◌, inl, inr, ◌⊎◌, arith}
-use Rattle.std.proofs.Common.{Ordering, Less, Equal, Greater, Some, get_or, Bool, true, false, ℤ, pos, ◌+ℤ◌, ◌≤ℤ◌, ◌<ℤ◌}
-use Rattle.std.proofs.Common.{◌≢◌, slice_get, nat_cmp, int_cmp}
-use Rattle.std.proofs.lemmas.Bool.{false≢true}
-use Rattle.std.proofs.lemmas.Option.{slice_get_within, slice_get-get_or}
-use Rattle.std.specs.Ordering.{ordering_then}
-use Rattle.std.proofs.lemmas.Int.{ints}
-use Rattle.std.proofs.lemmas.Grind.{common_steps}
+use Rattle.lemmas.proofs.Common.{◌%◌, ◌+ℤ◌, ◌+◌, ◌<ℤ◌, ◌<◌, ◌∙◌, ◌≡◌, ◌≢◌, ◌≤ℤ◌, ◌≤◌, ◌⊎◌, Bool, Equal, Greater, Less}
+use Rattle.lemmas.proofs.Common.{List, Ordering, Some, ap, arith, false, get_or, inl, inr, int_cmp, length, nat_cmp}
+use Rattle.lemmas.proofs.Common.{pos, refl, slice_get, true, ℕ, ℤ, common_steps, false≢true, ints, ordering_then}
+use Rattle.lemmas.proofs.Common.{slice_get-get_or, slice_get_within, below_or_from, below_or_same, int_equal, int_less}
+use Rattle.lemmas.proofs.Common.{nat_equal, nat_less, same_or_higher}
 use Rattle.bbm_rule.specs.declared.block.Cell.{Cell}
 use Rattle.module_box.specs.Moments.{cell_cmp, moment_cmp}
 use Rattle.module_box.specs.Schedules.{IsRising, moment_of}
@@ -20,18 +17,6 @@ use Rattle.border_match.specs.Surroundings.{IsSeen, IsWindow}
 use Rattle.border_match.specs.declared.surroundings.Window.{Window}
 
 -- ---- the order of moments by their parts
-
-nat_less : (a b : ℕ) → nat_cmp a b ≡ Less → a < b
-nat_less a b h = grind arith
-
-nat_equal : (a b : ℕ) → nat_cmp a b ≡ Equal → a ≡ b
-nat_equal a b h = grind arith
-
-int_less : (a b : ℤ) → int_cmp a b ≡ Less → a <ℤ b
-int_less a b h = grind arith
-
-int_equal : (a b : ℤ) → int_cmp a b ≡ Equal → a ≡ b
-int_equal a b h = grind arith
 
 then_less : (o p : Ordering) → ordering_then o p ≡ Less → (o ≡ Less) ⊎ ((o ≡ Equal) × (p ≡ Less))
 then_less Less p h = inl refl
@@ -103,21 +88,12 @@ abbrev pub AreFrom : List TimedSignal → ℕ → Moment → Type 0
 AreFrom events place at = (i : ℕ) (e : TimedSignal) → place ≤ i → slice_get events i ≡ Some e →
     moment_cmp e.at at ≢ Less
 
-lower_or_same : (i m : ℕ) → i < m + 1 → (i < m) ⊎ (i ≡ m)
-lower_or_same i m h = grind arith
-
-pub below_or_from : (i m : ℕ) → (i < m) ⊎ (m ≤ i)
-below_or_from i m = grind arith
-
-same_or_higher : (i m : ℕ) → m ≤ i → (m < i) ⊎ (m ≡ i)
-same_or_higher i m h = grind arith
-
 -- up to an event that is before the moment all are
 pub passed_to : (events : List TimedSignal) (start m : ℕ) (at : Moment) (d : TimedSignal) →
     IsRising moment_cmp moment_of events →
     m < length events → moment_cmp (get_or events m d).at at ≡ Less → ArePassed events start (m + 1) at
 passed_to events start m at d rising within less i e from lt got =
-    grind (arith, common_steps, slice_get-get_or, lower_or_same, moment_total, same_some)
+    grind (arith, common_steps, slice_get-get_or, below_or_same, moment_total, same_some)
 
 -- from an event on that is not before the moment none is
 pub rest_from : (events : List TimedSignal) (m : ℕ) (at : Moment) (d : TimedSignal) →
@@ -159,7 +135,7 @@ far_none w events place i e from lt got odd = absurd (omega (arith, from, lt))
 
 pub far_more : (w : Window) (events : List TimedSignal) (start place : ℕ) → AreEventsFar w events start place →
     IsEventFarAt w events place → AreEventsFar w events start (place + 1)
-far_more w events start place far here i e from lt got odd = grind (arith, common_steps, lower_or_same)
+far_more w events start place far here i e from lt got odd = grind (arith, common_steps, below_or_same)
 
 pub far_joined : (w : Window) (events : List TimedSignal) (start middle last next : ℕ) → last ≤ middle →
     AreEventsFar w events start middle → AreEventsFar w events last next → AreEventsFar w events start next

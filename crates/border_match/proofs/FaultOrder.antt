@@ -1,9 +1,6 @@
 -- The order of border faults
-use Rattle.std.proofs.Common.{arith, ℕ, ℤ}
-use Rattle.std.specs.Cmp.{IsTotalOrder}
-use Rattle.std.proofs.lemmas.Cmp.{then_total, on_total, nat_cmp_total}
-use Rattle.std.proofs.lemmas.Map.Lookups.{CmpEqualImpliesEq, exact_pairs, exact_unsigned, exact_signed}
-use Rattle.std.proofs.lemmas.Grind.{common_steps}
+use Rattle.lemmas.proofs.Common.{arith, ℕ, ℤ, CmpEqualImpliesEq, IsTotalOrder, common_steps, exact_pairs, exact_signed}
+use Rattle.lemmas.proofs.Common.{exact_unsigned, nat_cmp_total, on_total, then_total}
 use Rattle.module_box.specs.Moments.{cell_cmp}
 use Rattle.module_box.proofs.Rising.{cell_total}
 use Rattle.border_match.specs.BorderFaults.{border_cmp}

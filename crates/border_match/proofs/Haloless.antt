@@ -1,7 +1,6 @@
 -- The modules of version 2 have no border fault
-use Rattle.std.proofs.Common.{◌≡◌, ℕ, zero, suc, List, map, length, replicate, sym, ap, subst, ◌∙◌, Some, None}
-use Rattle.std.specs.Prelude.{slice_get, IsTrue, Option}
-use Rattle.std.proofs.lemmas.List.{length-map, length-replicate}
+use Rattle.lemmas.proofs.Common.{◌∙◌, ◌≡◌, IsTrue, List, None, Option, Some, ap, length, map, replicate, slice_get}
+use Rattle.lemmas.proofs.Common.{subst, suc, sym, zero, ℕ, length-map, length-replicate, mapped_from}
 use Rattle.module_box.specs.Boxes.{in_box, in_halo}
 use Rattle.module_box.specs.Schedules.{signal_at}
 use Rattle.module_box.specs.declared.boxes.Box2.{Box2}
@@ -9,7 +8,7 @@ use Rattle.certificate_lines.specs.Entries.{ModuleLines, Setting}
 use Rattle.certificate.specs.Jobs.{line_signals}
 use Rattle.certificate_lines.specs.Modules.{AreModules}
 use Rattle.certificate_lines.specs.Versions.{with_halos}
-use Rattle.certificate.proofs.FullModules.{full_area, full_edges, mapped_from}
+use Rattle.certificate.proofs.FullModules.{full_area, full_edges}
 use Rattle.certificate.proofs.HaloSignals.{halo_is_edge_beside}
 use Rattle.border_match.specs.BorderFaults.{halo_signal, edge_signal, AreBorderFaultsOf, IsLeastBorderFault}
 use Rattle.border_match.specs.Laws.{HalolessBordersMatch}

@@ -1,8 +1,6 @@
 -- Candidates for a least border fault
-use Rattle.std.proofs.Common.{arith, ◌≡◌, false, Option, Some, None, Ordering, Less, Equal, Greater, refl}
-use Rattle.std.proofs.Common.{◌⊎◌, ◌≢◌, is_gt}
-use Rattle.std.proofs.lemmas.Cmp.{tied_itself, upto}
-use Rattle.std.proofs.lemmas.Grind.{common_steps}
+use Rattle.lemmas.proofs.Common.{◌≡◌, ◌≢◌, ◌⊎◌, Equal, Greater, Less, None, Option, Ordering, Some, arith, false, is_gt}
+use Rattle.lemmas.proofs.Common.{refl, common_steps, tied_itself, upto}
 use Rattle.border_match.specs.BorderFaults.{border_cmp}
 use Rattle.border_match.specs.Candidates.{HasCandidateAtMost, IsBetter, IsLeast}
 use Rattle.border_match.specs.declared.fault.BorderFault.{BorderFault}

@@ -1,16 +1,13 @@
 -- Marks of the halo events that edges name
-use Rattle.std.proofs.Common.{◌≡◌, ℕ, ◌+◌, ◌≤◌, List, [], ◌++◌, length, take, replicate, Bool, true, false, Some}
-use Rattle.std.proofs.Common.{arith, refl, sym, ap, ◌∙◌, inl, inr, ◌⊎◌, zero, suc, map, ap₂, ℤ, pos, slice_get}
-use Rattle.std.proofs.lemmas.Int.{ints}
-use Rattle.std.proofs.lemmas.Grind.{common_steps}
+use Rattle.lemmas.proofs.Common.{[], ◌++◌, ◌+◌, ◌∙◌, ◌≡◌, ◌≤◌, ◌⊎◌, Bool, List, Some, ap, ap₂, arith, false, inl, inr}
+use Rattle.lemmas.proofs.Common.{length, map, pos, refl, replicate, slice_get, suc, sym, take, true, zero, ℕ, ℤ}
+use Rattle.lemmas.proofs.Common.{common_steps, false≢true, ints, slice_get_within, take-append_seam, below_or_same}
+use Rattle.lemmas.proofs.Common.{mapped_from, some_at}
 use Rattle.bbm_rule.specs.declared.block.Cell.{Cell}
 use Rattle.module_box.specs.Moves.{moved_cell, moved_event, moved_signals}
 use Rattle.module_box.specs.Schedules.{Signals}
 use Rattle.module_box.proofs.MovedBoxes.{cell_back}
 use Rattle.module_job.specs.Shapes.{shift_to_origin}
-use Rattle.std.proofs.Math.Seq.{take-append_seam}
-use Rattle.std.proofs.lemmas.Bool.{false≢true}
-use Rattle.std.proofs.lemmas.Option.{slice_get_within}
 use Rattle.module_box.specs.Tiling.{owner_of}
 use Rattle.module_box.specs.declared.schedules.TimedSignal.{TimedSignal}
 use Rattle.module_box.specs.declared.schedules.Moment.{Moment}
@@ -21,9 +18,7 @@ use Rattle.border_match.specs.Boards.{IsAtEdgeEvent, IsListed, IsPlaceOf, AreRea
 use Rattle.border_match.specs.Boards.{jobs_of}
 use Rattle.border_match.specs.declared.borders.Borders.{Borders}
 use Rattle.border_match.specs.declared.fault.BorderFault.{BorderFault}
-use Rattle.border_match.proofs.Modules.{there, value_of}
 use Rattle.border_match.proofs.Steps.{fault_covered, same_fault}
-use Rattle.border_match.proofs.NearModules.{lower_or_same}
 
 -- ---- one mark more
 
@@ -34,9 +29,9 @@ pub local_place : (x y : ℕ) (dx dy : ℤ) (cell : Cell) (s moved : Signals) (e
     IsPlaceOf es (record { time = at.time; cell = cell }) place → IsPlaceOf s.events at place
 local_place x y dx dy cell s moved es at place ex ey by same are is =
     let sx = shift_to_origin x in let sy = shift_to_origin y in
-    let there : slice_get (map (moved_event sx sy) s.events) place ≡ Some is.event =
+    let some_at : slice_get (map (moved_event sx sy) s.events) place ≡ Some is.event =
     ap (λ l. slice_get l place) (sym (same ∙ ap (λ (m : Signals). m.events) are)) ∙ is.got in
-    let v = value_of (moved_event sx sy) s.events place is.event there in
+    let v = mapped_from (moved_event sx sy) s.events place is.event some_at in
     let here = ap (λ (z : TimedSignal). z.at) v.2 ∙ is.same in
     let back : (c : Cell) → moved_cell (pos x) (pos y) (moved_cell sx sy c) ≡ c =
     λ c. cell_back sx sy (pos x) (pos y) c (omega (arith, ints)) (omega (arith, ints)) in
@@ -72,7 +67,7 @@ written_back new rest items n count is = grind (arith, common_steps, take-append
 
 pub unmarked_step : (seen : List Bool) (events : List TimedSignal) (i : ℕ) (f : BorderFault) →
     IsUnmarkedBelow (i + 1) seen events f → slice_get seen i ≡ Some true → IsUnmarkedBelow i seen events f
-unmarked_step seen events i f h marked = elim (lower_or_same h.unmarked.named.place i h.below) [
+unmarked_step seen events i f h marked = elim (below_or_same h.unmarked.named.place i h.below) [
   | inl lt ↦ record { unmarked = h.unmarked; below = lt }
   | inr same ↦ absurd (false≢true (same_some (slice_get seen i) false true
       (ap (slice_get seen) (sym same) ∙ h.unmarked.unmarked) marked))
@@ -81,7 +76,7 @@ unmarked_step seen events i f h marked = elim (lower_or_same h.unmarked.named.pl
 pub event_step : (seen : List Bool) (events : List TimedSignal) (i : ℕ) (e : TimedSignal) (f : BorderFault) →
     slice_get events i ≡ Some e → IsUnmarkedBelow (i + 1) seen events f →
     IsUnmarkedBelow i seen events f ⊎ IsAtEvent e f
-event_step seen events i e f got h = elim (lower_or_same h.unmarked.named.place i h.below) [
+event_step seen events i e f got h = elim (below_or_same h.unmarked.named.place i h.below) [
   | inl lt ↦ inl (record { unmarked = h.unmarked; below = lt })
   | inr same ↦
       let named = h.unmarked.named in
@@ -109,7 +104,7 @@ fault_unmarked b seen f ready marked g = elim (fault_covered b f ready g) [
   | inl h ↦
       let within = slice_get_within b.job.now.halos.events h.place h.event h.got in
       let sized = marked.sized in
-      let mark = there seen h.place (omega (arith, within, sized)) in
+      let mark = some_at seen h.place (omega (arith, within, sized)) in
       elim (mark_cases mark.0) [
         | inl set ↦ inl (marked.edges h.place h.event f (mark.1 ∙ ap Some set) h.got
             (same_fault h.event.at.time h.event.at.cell f (sym h.time) (sym h.cell)))

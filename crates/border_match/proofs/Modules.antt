@@ -1,9 +1,7 @@
 -- The boxes of the modules of a certificate
-use Rattle.std.proofs.Common.{◌≡◌, ℕ, zero, suc, ◌+◌, ◌<◌, ◌≤◌, List, [], ◌∷◌, ◌++◌, take, map, length, Option, Some}
-use Rattle.std.proofs.Common.{None, refl, sym, ap, subst, ◌∙◌, arith, slice_get, option_map}
-use Rattle.std.proofs.lemmas.Option.{slice_get-map, slice_get_within, get_or_from_slice_get}
-use Rattle.std.proofs.lemmas.List.{take_more}
-use Rattle.std.proofs.lemmas.Grind.{common_steps}
+use Rattle.lemmas.proofs.Common.{[], ◌++◌, ◌+◌, ◌<◌, ◌∙◌, ◌∷◌, ◌≡◌, ◌≤◌, List, None, Option, Some, ap, arith, length}
+use Rattle.lemmas.proofs.Common.{map, option_map, refl, slice_get, subst, suc, sym, take, zero, ℕ, common_steps}
+use Rattle.lemmas.proofs.Common.{get_or_from_slice_get, slice_get-map, slice_get_within, take_more, mapped_from}
 use Rattle.module_box.specs.Boxes.{IsEven, Tile}
 use Rattle.module_box.specs.Tiling.{IsTask, IsTileFault, rectangle_of}
 use Rattle.module_box.specs.declared.boxes.Box2.{Box2}
@@ -19,21 +17,10 @@ use Rattle.certificate_lines.specs.Entries.{Setting, ModuleLines, areas, counts_
 use Rattle.certificate_lines.specs.Modules.{AreModules}
 use Rattle.certificate_lines.specs.declared.certificate_line.Counts.{Counts}
 
--- an element that there is
-pub there : {A : Type 0} (xs : List A) (k : ℕ) → k < length xs → (a : A) × (slice_get xs k ≡ Some a)
-there [] k lt = absurd (omega arith)
-there (x ∷ xs) zero lt = (x, refl)
-there (x ∷ xs) (suc k) lt = there xs k (omega arith)
-
 some_value : {A B : Type 0} (v : A → B) (o : Option A) (b : B) → option_map v o ≡ Some b →
     (a : A) × (o ≡ Some a) × (v a ≡ b)
 some_value v None b e = grind (arith, common_steps)
 some_value v (Some a) b e = (a, refl, same_some (Some (v a)) (v a) b refl e)
-
--- what gives an element of a list of values
-pub value_of : {A B : Type 0} (v : A → B) (xs : List A) (k : ℕ) (b : B) → slice_get (map v xs) k ≡ Some b →
-    (a : A) × (slice_get xs k ≡ Some a) × (v a ≡ b)
-value_of v xs k b e = some_value v (slice_get xs k) b (sym (slice_get-map v xs k) ∙ e)
 
 -- if boxes tile the rectangle, a table of owners fails only out of memory
 pub only_memory : (w h : ℕ) (boxes : List Box2) (fault : TileFault) → IsTask w h boxes → IsTileFault w h boxes fault →
@@ -58,7 +45,7 @@ area_at ms k m e = slice_get-map (λ (m : ModuleLines). m.area) ms k ∙ ap (opt
 
 pub counted_area : (ms : List ModuleLines) (k : ℕ) (c : Counts) → slice_get (map counts_of ms) k ≡ Some c →
     slice_get (areas ms) k ≡ Some c.area
-counted_area ms k c e = grind (arith, common_steps, value_of, area_at)
+counted_area ms k c e = grind (arith, common_steps, mapped_from, area_at)
 
 pub areas_more : (ms : List ModuleLines) (k : ℕ) (c : Counts) (some more : List Box2) →
     slice_get (map counts_of ms) k ≡ Some c → some ≡ take k (areas ms) → more ≡ some ++ c.area ∷ [] →
@@ -78,12 +65,12 @@ is_task g ms s boxes same limits good are =
       width = sized.width;
       height = sized.height;
       even = λ k b e.
-          let m = value_of (λ (m : ModuleLines). m.area) ms k b e in
+          let m = mapped_from (λ (m : ModuleLines). m.area) ms k b e in
           let is = (good.each k m.0 m.1).even in
           let P : Box2 → Type 0 = IsEven in
           subst P m.2 is;
       sides = λ k b e.
-          let m = value_of (λ (m : ModuleLines). m.area) ms k b e in
+          let m = mapped_from (λ (m : ModuleLines). m.area) ms k b e in
           let is = good.each k m.0 m.1 in
           let P : Box2 → Type 0 = λ b. (2 ≤ b.w) × (2 ≤ b.h) in
           subst P m.2 (is.wide.0, is.high.0);

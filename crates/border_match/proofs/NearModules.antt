@@ -1,10 +1,8 @@
 -- The numbers of the modules that have cells of a module's halo, noted box by box.
-use Rattle.std.proofs.Common.{◌≡◌, ℕ, ◌+◌, ◌-◌, ◌<◌, ◌≤◌, List, [], ◌∷◌, ◌++◌, length, Bool, true, false, ◌||◌, Some}
-use Rattle.std.proofs.Common.{refl, sym, ap₂, subst, ◌∙◌, inl, inr, ◌⊎◌, arith, ℤ, pos, ◌==◌, slice_get}
-use Rattle.std.proofs.lemmas.Bool.{and_parts, cases_Bool, cond-true, cond-false, false≢true}
-use Rattle.std.proofs.lemmas.Bool.Decides.{nat_tests}
-use Rattle.std.proofs.lemmas.List.Folds.{list_any-append}
-use Rattle.std.proofs.lemmas.Grind.{common_steps}
+use Rattle.lemmas.proofs.Common.{[], ◌++◌, ◌+◌, ◌-◌, ◌<◌, ◌==◌, ◌||◌, ◌∙◌, ◌∷◌, ◌≡◌, ◌≤◌, ◌⊎◌, Bool, List, Some, ap₂}
+use Rattle.lemmas.proofs.Common.{arith, false, inl, inr, length, pos, refl, slice_get, subst, sym, true, ℕ, ℤ}
+use Rattle.lemmas.proofs.Common.{and_parts, cases_Bool, common_steps, cond-false, cond-true, false≢true}
+use Rattle.lemmas.proofs.Common.{list_any-append, nat_tests, below_or_from, or_cases, or_left, or_right}
 use Rattle.module_box.specs.Boxes.{in_box, in_halo}
 use Rattle.module_box.specs.Locals.{is_among}
 use Rattle.module_box.specs.Tiling.{owner_of}
@@ -19,23 +17,11 @@ use Rattle.border_match.specs.declared.borders.Borders.{Borders}
 
 -- ---- one number more
 
-either : (a b : Bool) → (a || b) ≡ true → (a ≡ true) ⊎ (b ≡ true)
-either true b e = inl refl
-either false b e = inr e
-
 abbrev is_it : ℕ → ℕ → Bool
 is_it w v = v == w
 
 pub among_more : (ks : List ℕ) (k w : ℕ) → is_among (ks ++ k ∷ []) w ≡ true → (is_among ks w ≡ true) ⊎ (w ≡ k)
-among_more ks k w h = grind (arith, common_steps, either, list_any-append, is_it, nat_tests, false≢true)
-
-or_left : (a b : Bool) → a ≡ true → (a || b) ≡ true
-or_left true b e = refl
-or_left false b e = absurd (false≢true e)
-
-or_right : (a b : Bool) → b ≡ true → (a || b) ≡ true
-or_right true b e = refl
-or_right false b e = e
+among_more ks k w h = grind (arith, common_steps, or_cases, list_any-append, is_it, nat_tests, false≢true)
 
 keeps_more : (ks : List ℕ) (k : ℕ) → KeepsAllNumbers ks (ks ++ k ∷ [])
 keeps_more ks k w h = list_any-append (is_it w) ks (k ∷ []) ∙ or_left (is_among ks w) (is_among (k ∷ []) w) h
@@ -63,12 +49,6 @@ with_below b ks new k is below lt = grind (arith, common_steps, with_either)
 noted_still : (b : Borders) (old new : List ℕ) (x y : ℤ) → KeepsAllNumbers old new → IsOtherOwnerListed b old x y →
     IsOtherOwnerListed b new x y
 noted_still b old new x y keeps noted inside out = keeps _ (noted inside out)
-
-pub lower_or_same : (i m : ℕ) → i < m + 1 → (i < m) ⊎ (i ≡ m)
-lower_or_same i m h = grind arith
-
-below_or_from : (i m : ℕ) → (i < m) ⊎ (m ≤ i)
-below_or_from i m = grind arith
 
 -- the cells of the module's box have no owner to be noted
 pub own_noted : (b : Borders) (ks : List ℕ) (a : Box2) → a ≡ b.job.now.area → AreAreaOwnersListed b ks a

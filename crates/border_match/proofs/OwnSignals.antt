@@ -1,7 +1,6 @@
 -- A wire that the signals of a job name is one of its own, at each cell and time
-use Rattle.std.proofs.Common.{ℕ, suc, List, [], ◌∷◌, arith, inl, inr, subst, ℤ, unwrap_or, All}
-use Rattle.std.proofs.lemmas.Bool.{cases_Bool}
-use Rattle.std.proofs.lemmas.Option.{slice_get_within, get_or_from_slice_get}
+use Rattle.lemmas.proofs.Common.{[], ◌∷◌, All, List, arith, inl, inr, subst, suc, unwrap_or, ℕ, ℤ, cases_Bool}
+use Rattle.lemmas.proofs.Common.{get_or_from_slice_get, slice_get_within, All-head, All-tail}
 use Rattle.bbm_rule.specs.Plane.{is_at}
 use Rattle.circuit.specs.Meaning.{wires}
 use Rattle.module_box.specs.Schedules.{Signals, is_moment_at, all_times_at, event_at, signal_at}
@@ -15,20 +14,14 @@ use Rattle.border_match.specs.Boards.{IsListed, job_signals}
 use Rattle.border_match.specs.declared.signals.RingOrHalo.{RingOrHalo}
 use Rattle.border_match.specs.declared.signals.RingOrHalo.TheVariants.{Halo, Ring}
 
-all_tail : {A : Type 0} (P : A → Type 0) (x : A) (xs : List A) → All P (x ∷ xs) → All P xs
-all_tail P x xs all = λ k d h. all (suc k) d (omega arith)
-
-all_head : {A : Type 0} (P : A → Type 0) (x : A) (xs : List A) → All P (x ∷ xs) → P x
-all_head P x xs all = all 0 x (omega arith)
-
 all_times_below : (n : ℕ) (hs : List AllTimes) (x y : ℤ) (d : Signal) → All (λ h. IsSignalWireBelow n h.signal) hs →
     IsSignalWireBelow n d →
     IsSignalWireBelow n (unwrap_or (all_times_at hs x y) d)
 unfolding all_times_at
 all_times_below n [] x y d all b = b
 all_times_below n (h ∷ hs) x y d all b = elim (cases_Bool (is_at h.cell x y)) [
-  | inl e ↦ rw e (all_head (λ (g : AllTimes). IsSignalWireBelow n g.signal) h hs all)
-  | inr e ↦ rw e (all_times_below n hs x y d (all_tail (λ (g : AllTimes). IsSignalWireBelow n g.signal) h hs all) b)
+  | inl e ↦ rw e (All-head (λ (g : AllTimes). IsSignalWireBelow n g.signal) h hs all)
+  | inr e ↦ rw e (all_times_below n hs x y d (All-tail (λ (g : AllTimes). IsSignalWireBelow n g.signal) h hs all) b)
 ]
 
 event_below : (n : ℕ) (es : List TimedSignal) (t : ℕ) (x y : ℤ) (d : Signal) →
@@ -37,8 +30,8 @@ event_below : (n : ℕ) (es : List TimedSignal) (t : ℕ) (x y : ℤ) (d : Signa
 unfolding event_at
 event_below n [] t x y d all b = b
 event_below n (e ∷ es) t x y d all b = elim (cases_Bool (is_moment_at e.at t x y)) [
-  | inl h ↦ rw h (all_head (λ (g : TimedSignal). IsSignalWireBelow n g.signal) e es all)
-  | inr h ↦ rw h (event_below n es t x y d (all_tail (λ (g : TimedSignal). IsSignalWireBelow n g.signal) e es all) b)
+  | inl h ↦ rw h (All-head (λ (g : TimedSignal). IsSignalWireBelow n g.signal) e es all)
+  | inr h ↦ rw h (event_below n es t x y d (All-tail (λ (g : TimedSignal). IsSignalWireBelow n g.signal) e es all) b)
 ]
 
 signal_below : (n : ℕ) (s : Signals) (t : ℕ) (x y : ℤ) → All (λ h. IsSignalWireBelow n h.signal) s.all_times →

@@ -1,10 +1,7 @@
 -- Signals by other numbers of their wires, and times without an event
-use Rattle.std.proofs.Common.{◌≡◌, ℕ, suc, ◌<◌, ◌%◌, ◌++◌, List, [], ◌∷◌, map, Bool, false, ◌&&◌, ◌==◌, Option, Some}
-use Rattle.std.proofs.Common.{None, refl, sym, ap, ◌∙◌, arith, ℤ, unwrap_or, option_map, IfSome, All}
-use Rattle.std.proofs.Common.{flat_map}
-use Rattle.std.proofs.lemmas.Bool.{cases_Bool, cond-true, cond-false}
-use Rattle.std.proofs.lemmas.Bool.Decides.{nat_tests}
-use Rattle.std.proofs.lemmas.Grind.{common_steps}
+use Rattle.lemmas.proofs.Common.{[], ◌%◌, ◌&&◌, ◌++◌, ◌<◌, ◌==◌, ◌∙◌, ◌∷◌, ◌≡◌, All, Bool, IfSome, List, None, Option}
+use Rattle.lemmas.proofs.Common.{Some, ap, arith, false, flat_map, map, option_map, refl, suc, sym, unwrap_or, ℕ, ℤ}
+use Rattle.lemmas.proofs.Common.{cases_Bool, common_steps, cond-false, cond-true, nat_tests, All-head, All-tail}
 use Rattle.bbm_rule.specs.Plane.{is_at}
 use Rattle.module_box.specs.Schedules.{Signals, all_times_at, event_at, signal_at}
 use Rattle.module_box.specs.declared.schedules.TimedSignal.{TimedSignal}
@@ -65,12 +62,6 @@ unfolding event_at
 one_quiet n e None s rest x y h r = r
 one_quiet n e (Some t) s rest x y h r = cond-false _ _ _ (not_then t (is_at e.cell x y) h.0) ∙ r
 
-all_tail : {A : Type 0} (P : A → Type 0) (x : A) (xs : List A) → All P (x ∷ xs) → All P xs
-all_tail P x xs all = λ k d h. all (suc k) d (omega arith)
-
-all_head : {A : Type 0} (P : A → Type 0) (x : A) (xs : List A) → All P (x ∷ xs) → P x
-all_head P x xs all = all 0 x (omega arith)
-
 pub lines_quiet : (n : ℕ) (signal : BorderLine → Signal) (es : List BorderLine) (x y : ℤ) →
     All (λ e. IfSome e.time (λ t. (t % 2 ≡ 1) × (t < n))) es →
     event_at (flat_map (λ e. events_of_line e e.time (signal e)) es) 0 x y ≡ None
@@ -78,4 +69,4 @@ unfolding event_at
 lines_quiet n signal [] x y all = refl
 lines_quiet n signal (e ∷ es) x y all =
     let P : BorderLine → Type 0 = λ e. IfSome e.time (λ t. (t % 2 ≡ 1) × (t < n)) in
-    one_quiet n e e.time (signal e) _ x y (all_head P e es all) (lines_quiet n signal es x y (all_tail P e es all))
+    one_quiet n e e.time (signal e) _ x y (All-head P e es all) (lines_quiet n signal es x y (All-tail P e es all))

@@ -1,7 +1,5 @@
 -- Halo and edge signals are the same if a module has no border fault
-use Rattle.std.proofs.Common.{arith, ◌≡◌, ℕ, List, refl, ap, ◌≢◌, ℤ}
-use Rattle.std.proofs.lemmas.Bool.{cases_Bool, false≢true}
-use Rattle.std.proofs.lemmas.Grind.{common_steps}
+use Rattle.lemmas.proofs.Common.{◌≡◌, ◌≢◌, List, ap, arith, refl, ℕ, ℤ, cases_Bool, common_steps, false≢true}
 use Rattle.circuit.specs.Meaning.{Valuation}
 use Rattle.module_box.specs.declared.schedules.Signal.{Signal}
 use Rattle.module_box.proofs.EqualTests.{signal_decides}

@@ -1,12 +1,8 @@
 -- Cells of which a line with a star speaks
-use Rattle.std.proofs.Common.{◌≡◌, ℕ, suc, ◌+◌, ◌<◌, ◌≤◌, List, [], ◌∷◌, map, length, take, get_or, Some, None}
-use Rattle.std.proofs.Common.{refl, sym, ap, ap₂, subst, ◌∙◌, inl, inr, ◌⊎◌, arith, ℤ, pos, slice_get}
-use Rattle.std.proofs.Common.{unwrap_or}
-use Rattle.std.proofs.lemmas.Bool.{cond-false, cases_Bool}
-use Rattle.std.proofs.lemmas.List.{length-map, take_all, take_more}
-use Rattle.std.proofs.lemmas.Option.{slice_get_within, slice_get-get_or, slice_get-map}
-use Rattle.std.proofs.lemmas.Int.{ints}
-use Rattle.std.proofs.lemmas.Grind.{common_steps}
+use Rattle.lemmas.proofs.Common.{[], ◌+◌, ◌<◌, ◌∙◌, ◌∷◌, ◌≡◌, ◌≤◌, ◌⊎◌, List, None, Some, ap, ap₂, arith, get_or, inl}
+use Rattle.lemmas.proofs.Common.{inr, length, map, pos, refl, slice_get, subst, suc, sym, take, unwrap_or, ℕ, ℤ}
+use Rattle.lemmas.proofs.Common.{cases_Bool, common_steps, cond-false, ints, length-map, slice_get-get_or}
+use Rattle.lemmas.proofs.Common.{slice_get-map, slice_get_within, take_all, take_more, below_or_same}
 use Rattle.bbm_rule.specs.Plane.{is_at}
 use Rattle.bbm_rule.specs.declared.block.Cell.{Cell}
 use Rattle.bbm_rule.proofs.SameCells.{cell_same}
@@ -28,7 +24,7 @@ use Rattle.border_match.specs.Boards.{IsStarredBelow, jobs_of}
 use Rattle.border_match.specs.declared.borders.Borders.{Borders}
 use Rattle.border_match.specs.declared.fault.BorderFault.{BorderFault}
 use Rattle.border_match.proofs.Cells.{fault_around, reached}
-use Rattle.border_match.proofs.NearModules.{among_more, lower_or_same}
+use Rattle.border_match.proofs.NearModules.{among_more}
 
 -- ---- one more line
 
@@ -45,7 +41,7 @@ pub star_far : (a corner : Box2) (b : Borders) (stars : List AllTimes) (k : ℕ)
     (let at = moved_cell (pos corner.x) (pos corner.y) (get_or stars k d).cell in ¬ IsAround a at.x at.y) →
     IsFaultOfSearchedJob b f → IsStarredBelow (k + 1) b (map (moved_all_times (pos corner.x) (pos corner.y)) stars) f →
     IsStarredBelow k b (map (moved_all_times (pos corner.x) (pos corner.y)) stars) f
-star_far a corner b stars k d f area lt far g h = elim (lower_or_same h.starred.place k h.below) [
+star_far a corner b stars k d f area lt far g h = elim (below_or_same h.starred.place k h.below) [
   | inl lower ↦ record { starred = h.starred; below = lower }
   | inr same ↦
       let at = star_at (pos corner.x) (pos corner.y) b stars k d f lt h.starred same in
@@ -58,7 +54,7 @@ pub star_step : (corner : Box2) (b : Borders) (stars : List AllTimes) (k : ℕ) 
     (f : BorderFault) → k < length stars → c ≡ moved_cell (pos corner.x) (pos corner.y) (get_or stars k d).cell →
     IsStarredBelow (k + 1) b (map (moved_all_times (pos corner.x) (pos corner.y)) stars) f →
     IsStarredBelow k b (map (moved_all_times (pos corner.x) (pos corner.y)) stars) f ⊎ DiffersWithoutEventAt b c f
-star_step corner b stars k d c f lt is h = elim (lower_or_same h.starred.place k h.below) [
+star_step corner b stars k d c f lt is h = elim (below_or_same h.starred.place k h.below) [
   | inl lower ↦ inl (record { starred = h.starred; below = lower })
   | inr same ↦ inr (
     h.starred.differs,

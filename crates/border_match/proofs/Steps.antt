@@ -1,14 +1,10 @@
 -- One more event, module or time
-use Rattle.std.proofs.Common.{◌≡◌, ℕ, suc, ◌+◌, ◌<◌, ◌≤◌, ◌%◌, List, [], ◌∷◌, length, map, take, get_or, Bool}
-use Rattle.std.proofs.Common.{Option, true, false, Some, None, Less, Greater, refl, sym, ap, ap₂, subst, ◌∙◌}
-use Rattle.std.proofs.Common.{inl, inr, ◌⊎◌, arith, ℤ, pos, ◌≢◌, option_map, slice_get, unwrap_or, nat_cmp}
-use Rattle.std.proofs.lemmas.List.{length-map, take_all, take_more}
-use Rattle.std.proofs.lemmas.Option.{slice_get_within, slice_get-map}
-use Rattle.std.proofs.lemmas.Bool.{cond-false, false≢true, cases_Bool}
-use Rattle.std.proofs.lemmas.Bool.Decides.{nat_tests}
-use Rattle.std.proofs.lemmas.Cmp.{tied_itself}
-use Rattle.std.proofs.lemmas.Int.{ints}
-use Rattle.std.proofs.lemmas.Grind.{common_steps}
+use Rattle.lemmas.proofs.Common.{[], ◌%◌, ◌+◌, ◌<◌, ◌∙◌, ◌∷◌, ◌≡◌, ◌≢◌, ◌≤◌, ◌⊎◌, Bool, Greater, Less, List, None}
+use Rattle.lemmas.proofs.Common.{Option, Some, ap, ap₂, arith, false, get_or, inl, inr, length, map, nat_cmp}
+use Rattle.lemmas.proofs.Common.{option_map, pos, refl, slice_get, subst, suc, sym, take, true, unwrap_or, ℕ, ℤ}
+use Rattle.lemmas.proofs.Common.{cases_Bool, common_steps, cond-false, false≢true, ints, length-map, nat_tests}
+use Rattle.lemmas.proofs.Common.{slice_get-map, slice_get_within, take_all, take_more, tied_itself, below_or_from}
+use Rattle.lemmas.proofs.Common.{below_or_same, less_nat, three_ways}
 use Rattle.bbm_rule.specs.declared.block.Cell.{Cell}
 use Rattle.module_box.specs.Locals.{circuit_wire}
 use Rattle.module_box.specs.Moves.{moved_cell, moved_event}
@@ -30,28 +26,25 @@ use Rattle.border_match.specs.Boards.{IsNamedBelow, IsAtEdgeEvent, IsAtEdgeEvent
 use Rattle.border_match.specs.Boards.{CellDiffersWithoutEvent, IsAround}
 use Rattle.border_match.specs.Surroundings.{AreEventsFar, IsWindow}
 use Rattle.border_match.specs.declared.surroundings.Window.{Window}
-use Rattle.border_match.proofs.FarEvents.{below_or_from, seen}
+use Rattle.border_match.proofs.FarEvents.{seen}
 use Rattle.border_match.specs.declared.borders.Borders.{Borders}
 use Rattle.border_match.specs.declared.fault.BorderFault.{BorderFault}
 use Rattle.border_match.specs.Candidates.{HasCandidateAtMost}
 use Rattle.border_match.proofs.FaultOrder.{border_total}
 use Rattle.border_match.proofs.Least.{covers_after}
 use Rattle.border_match.proofs.Cells.{fault_around, reached}
-use Rattle.border_match.proofs.NearModules.{among_more, lower_or_same}
+use Rattle.border_match.proofs.NearModules.{among_more}
 
 pub same_fault : (time : ℕ) (cell : Cell) (f : BorderFault) → f.time ≡ time → f.cell ≡ cell →
     f ≡ record { time = time; cell = cell }
 same_fault time cell f p q = let mk : ℕ → Cell → BorderFault = λ t c. record { time = t; cell = c } in ap₂ mk p q
-
-before_at_after : (i m : ℕ) → (i < m) ⊎ ((i ≡ m) ⊎ (m < i))
-before_at_after i m = grind arith
 
 -- ---- events
 
 pub named_step : (events : List TimedSignal) (i : ℕ) (e : TimedSignal) (f : BorderFault) → slice_get events i ≡ Some e →
     IsNamedBelow (i + 1) events f →
     IsNamedBelow i events f ⊎ (f ≡ record { time = e.at.time; cell = e.at.cell })
-named_step events i e f got h = elim (lower_or_same h.named.place i h.below) [
+named_step events i e f got h = elim (below_or_same h.named.place i h.below) [
   | inl lt ↦ inl (record { named = h.named; below = lt })
   | inr same ↦ inr (
       let is = same_some (slice_get events i) h.named.event e (ap (slice_get events) (sym same) ∙ h.named.got) got in
@@ -73,7 +66,7 @@ pub rest_covered : (events : List TimedSignal) (i : ℕ) (e : TimedSignal) (o : 
 rest_covered events i e o f rising got covered h =
     let at : f ≡ record { time = h.event.at.time; cell = h.event.at.cell } =
     same_fault h.event.at.time h.event.at.cell f (sym h.time) (sym h.cell) in
-    elim (before_at_after h.place i) [
+    elim (three_ways h.place i) [
       | inl lower ↦ inl (record { named = h; below = lower })
       | inr rest ↦ inr (subst (HasCandidateAtMost o) (sym at) (elim rest [
         | inl same ↦ subst (λ (z : TimedSignal). HasCandidateAtMost o (record { time = z.at.time; cell = z.at.cell }))
@@ -152,12 +145,9 @@ edges_named b k other f e h = grind (arith, common_steps, other_is)
 lower_or_eq : (i m : ℕ) → i ≤ m → (i < m) ⊎ (i ≡ m)
 lower_or_eq i m h = grind arith
 
-nat_less : (a b : ℕ) → a < b → nat_cmp a b ≡ Less
-nat_less a b h = grind (arith, nat_tests)
-
 time_less : (m n : BorderFault) → m.time < n.time → border_cmp m n ≡ Less
 unfolding border_cmp
-time_less m n h = rw (nat_less m.time n.time h)
+time_less m n h = rw (less_nat m.time n.time h)
 
 pub first_is_least : (time : ℕ) (cell : Cell) (f : BorderFault) → time ≤ f.time → f.cell ≡ cell →
     border_cmp (record { time = time; cell = cell }) f ≢ Greater
@@ -167,7 +157,7 @@ first_is_least time cell f le same g =
 pub no_fault_step : (F : BorderFault → Type 0) (cell : Cell) (time : ℕ) →
     ((f : BorderFault) → F f → f.cell ≡ cell → f.time < time → ⊥) → (F (record { time = time; cell = cell }) → ⊥) →
     (f : BorderFault) → F f → f.cell ≡ cell → f.time < time + 1 → ⊥
-no_fault_step F cell time before here f g same lt = elim (lower_or_same f.time time lt) [
+no_fault_step F cell time before here f g same lt = elim (below_or_same f.time time lt) [
   | inl l ↦ before f g same l
   | inr e ↦ here (subst F (same_fault time cell f e same) g)
 ]

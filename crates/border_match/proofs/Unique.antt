@@ -1,7 +1,6 @@
 -- A module has one least border fault, or none
-use Rattle.std.proofs.Common.{arith, ◌≡◌, Some, None, Ordering, Less, Equal, Greater, refl, ap, ◌≢◌}
-use Rattle.std.specs.Ordering.{ordering_reverse}
-use Rattle.std.proofs.lemmas.Grind.{common_steps}
+use Rattle.lemmas.proofs.Common.{◌≡◌, ◌≢◌, Equal, Greater, Less, None, Ordering, Some, ap, arith, refl, common_steps}
+use Rattle.lemmas.proofs.Common.{ordering_reverse}
 use Rattle.border_match.specs.BorderFaults.{border_cmp}
 use Rattle.border_match.specs.Laws.{LeastBorderFaultIsUnique}
 use Rattle.border_match.proofs.FaultOrder.{border_total, border_exact}

@@ -1,15 +1,10 @@
 -- The lines on delays and meetings are right about their gates.
-use Rattle.std.proofs.Common.{◌≡◌, ℕ, zero, suc, ◌+◌, ◌-◌, ◌<◌, ◌≤◌, Bool, true, false, if◌then◌else◌, List, [], ◌∷◌}
-use Rattle.std.proofs.Common.{length, Option, Some, None, refl, sym, ap, subst, ◌∙◌, arith, slice_get, Contains, nat_lt}
-use Rattle.std.proofs.Common.{nat_le, ◌==◌, min, max, All, fold, option_to_list}
-use Rattle.std.specs.List.{list_all}
-use Rattle.std.proofs.lemmas.Bool.{and_parts, eqb-true}
-use Rattle.std.proofs.lemmas.Bool.Decides.{nat_tests}
-use Rattle.std.proofs.lemmas.List.Elements.{All-nil, All-cons, All-head, All-tail, All-append, All-contains}
-use Rattle.std.proofs.lemmas.List.Elements.{Contains-append_left, Contains-append_right}
-use Rattle.std.proofs.lemmas.List.Folds.{list_all-append}
-use Rattle.std.proofs.lemmas.Option.{same_Some}
-use Rattle.std.proofs.lemmas.Grind.{common_steps}
+use Rattle.lemmas.proofs.Common.{[], ◌+◌, ◌-◌, ◌<◌, ◌==◌, ◌∙◌, ◌∷◌, ◌≡◌, ◌≤◌, All, Bool, Contains, List, None, Option}
+use Rattle.lemmas.proofs.Common.{Some, ap, arith, false, fold, if◌then◌else◌, length, max, min, nat_le, nat_lt}
+use Rattle.lemmas.proofs.Common.{option_to_list, refl, slice_get, subst, suc, sym, true, zero, ℕ, All-append, All-cons}
+use Rattle.lemmas.proofs.Common.{All-contains, All-head, All-nil, All-tail, Contains-append_left, Contains-append_right}
+use Rattle.lemmas.proofs.Common.{and_parts, common_steps, eqb-true, list_all, list_all-append, nat_tests, same_Some}
+use Rattle.lemmas.proofs.Common.{eq_test}
 use Rattle.circuit.specs.declared.circuit_line.GateKind.{GateKind}
 use Rattle.circuit.specs.declared.circuit_line.GateKind.TheVariants.{Source, Fredkin, Cswap, Interact, Switch, Delay}
 use Rattle.circuit.specs.declared.circuit_line.GateKind.TheVariants.{Unswitch, Uninteract}
@@ -148,13 +143,10 @@ all_equal t [] e = All-nil (λ u. u ≡ t)
 all_equal t (u ∷ ts) e = let p = and_parts (u == t) (list_all (λ v. v == t) ts) e in
     All-cons (λ v. v ≡ t) u ts (eqb-true u t p.0) (all_equal t ts p.1)
 
-is_equal : (u t : ℕ) → u ≡ t → (u == t) ≡ true
-is_equal u t e = grind (arith, nat_tests)
-
 equal_all : (t : ℕ) (ts : List ℕ) → All (λ u. u ≡ t) ts → list_all (λ u. u == t) ts ≡ true
 equal_all t [] h = refl
 equal_all t (u ∷ ts) h =
-    let here : (u == t) ≡ true = is_equal u t (All-head (λ v. v ≡ t) u ts h) in
+    let here : (u == t) ≡ true = eq_test u t (All-head (λ v. v ≡ t) u ts h) in
     rw (here, equal_all t ts (All-tail (λ v. v ≡ t) u ts h)) refl
 
 agreed_all : (ts : List ℕ) (t : ℕ) → common_time ts ≡ Some t → All (λ u. u ≡ t) ts

@@ -1,10 +1,8 @@
 -- The lines beside a module, one after the other
-use Rattle.std.proofs.Common.{◌≡◌, ℕ, ◌+◌, ◌<◌, ◌≤◌, Bool, true, false, if◌then◌else◌, List, [], ◌∷◌, ◌++◌, drop}
-use Rattle.std.proofs.Common.{length, map, get_or, Some, inl, inr, refl, sym, ap, subst, ◌∙◌, arith}
-use Rattle.std.proofs.Common.{slice_get, filter, flat_map}
-use Rattle.std.proofs.lemmas.List.{append-nil, drop-drop, drop_all, length-map, length_push, map-append}
-use Rattle.std.proofs.lemmas.Option.{slice_get_read, slice_get_within}
-use Rattle.std.proofs.lemmas.Grind.{common_steps}
+use Rattle.lemmas.proofs.Common.{[], ◌++◌, ◌+◌, ◌<◌, ◌∙◌, ◌∷◌, ◌≡◌, ◌≤◌, Bool, List, Some, ap, append-nil, arith, drop}
+use Rattle.lemmas.proofs.Common.{false, filter, flat_map, get_or, if◌then◌else◌, inl, inr, length, map, refl, slice_get}
+use Rattle.lemmas.proofs.Common.{subst, sym, true, ℕ, common_steps, drop-drop, drop_all, length-map, length_push}
+use Rattle.lemmas.proofs.Common.{map-append, slice_get_read, slice_get_within, mapped_at, mapped_from}
 use Rattle.circuit.specs.Meaning.{Circuit}
 use Rattle.pattern.specs.Layout.{Pattern}
 use Rattle.module_box.proofs.Rising.{pushed}
@@ -22,7 +20,7 @@ use Rattle.certificate_lines.specs.declared.certificate_line.CertificateLine.{Ce
 use Rattle.certificate_lines.specs.declared.certificate_line.CertificateLine.TheVariants.{Module, Cut, Use, Keep, Edge}
 use Rattle.certificate_lines.specs.declared.certificate_line.CertificateLine.TheVariants.{Halo, Stop}
 use Rattle.certificate_lines.specs.declared.certificate_line.Counts.{Counts}
-use Rattle.certificate.proofs.FullModules.{full_modules, mapped_at, mapped_from}
+use Rattle.certificate.proofs.FullModules.{full_modules}
 use Rattle.certificate_lines.proofs.Lists.{some_is}
 use Rattle.certificate_lines.proofs.ModuleSplit.{after_inner, split_module, split_other}
 use Rattle.certificate_lines.proofs.LinesLeft.{line_here, nothing_left}

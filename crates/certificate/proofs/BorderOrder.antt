@@ -1,10 +1,9 @@
 -- The edge and halo lines of a module rise, those with a `*` by their cells, the others by time and cell.
-use Rattle.std.proofs.Common.{◌≡◌, ℕ, ◌+◌, Bool, true, false, ◌||◌, List, [], ◌∷◌, Option, Some, None, Ordering, Less}
-use Rattle.std.proofs.Common.{Equal, Greater, refl, arith, map}
-use Rattle.std.specs.List.{flat_map, list_all}
-use Rattle.std.specs.Ordering.{nat_cmp, is_lt, ordering_then}
-use Rattle.std.proofs.lemmas.Bool.{and_parts}
-use Rattle.std.proofs.lemmas.Grind.{common_steps}
+use Rattle.lemmas.proofs.Common.{[], ◌+◌, ◌||◌, ◌∷◌, ◌≡◌, Bool, Equal, Greater, Less, List, None, Option, Ordering}
+use Rattle.lemmas.proofs.Common.{Some, arith, false, map, refl, true, ℕ, and_parts, common_steps, list_all}
+use Rattle.lemmas.proofs.Common.{ordering_then}
+use Rattle.std.specs.List.{flat_map}
+use Rattle.std.specs.Ordering.{nat_cmp, is_lt}
 use Rattle.module_box.specs.Moments.{cell_cmp, moment_cmp}
 use Rattle.module_box.specs.Schedules.{IsRising, moment_of, cell_of as all_times_cell}
 use Rattle.module_box.specs.declared.schedules.TimedSignal.{TimedSignal}

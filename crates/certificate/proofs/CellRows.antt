@@ -1,11 +1,7 @@
 -- Lists of what cells carry and must be, that grow row by row.
-use Rattle.std.proofs.Common.{◌≡◌, ℕ, zero, suc, ◌+◌, ◌-◌, ◌<◌, ◌≤◌, List, [], ◌∷◌, ◌++◌, map, replicate}
-use Rattle.std.proofs.Common.{pos, true, refl, sym, ap, to_z, w32, ◌∙◌, arith, All, flat_map}
-use Rattle.std.specs.List.{range_with_len}
-use Rattle.std.proofs.lemmas.List.{map-append}
-use Rattle.std.proofs.lemmas.Bool.{and_from}
-use Rattle.std.proofs.lemmas.Simd.{get_or-replicate, length-replicate}
-use Rattle.std.proofs.lemmas.Grind.{common_steps}
+use Rattle.lemmas.proofs.Common.{[], ◌++◌, ◌+◌, ◌-◌, ◌<◌, ◌∙◌, ◌∷◌, ◌≡◌, ◌≤◌, All, List, ap, arith, flat_map, map, pos}
+use Rattle.lemmas.proofs.Common.{refl, replicate, suc, sym, to_z, true, w32, zero, ℕ, and_from, common_steps}
+use Rattle.lemmas.proofs.Common.{get_or-replicate, length-replicate, map-append, range_with_len}
 use Rattle.bbm_rule.specs.declared.block.Cell.{Cell}
 use Rattle.bbm_rule.proofs.Spans.{span_from}
 use Rattle.circuit.specs.Meaning.{Circuit, wires}

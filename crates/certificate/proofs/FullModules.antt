@@ -1,16 +1,10 @@
 -- The modules of version 2 as modules of version 1
-use Rattle.std.proofs.Common.{◌≡◌, ℕ, zero, suc, ◌<◌, ◌≤◌, ℤ, Bool, true, false, ◌&&◌, ◌||◌, List, [], ◌∷◌, ◌++◌}
-use Rattle.std.proofs.Common.{map, length, Option, Some, None, Ordering, Less, Equal, Greater, option_map, refl, sym}
-use Rattle.std.proofs.Common.{ap, ap₂, subst, ◌∙◌, inl, inr, arith, ◌≢◌, slice_get, nat_lt, IfSome, IsTrue, All, filter}
-use Rattle.std.proofs.Common.{flat_map, option_to_list, is_lt}
-use Rattle.std.specs.List.{list_all, list_any}
-use Rattle.std.specs.Ordering.{ordering_then}
-use Rattle.std.proofs.lemmas.Bool.{and_parts, cases_Bool, cond-true, cond-false, true≢false}
-use Rattle.std.proofs.lemmas.Grind.{flat_map-append}
-use Rattle.std.proofs.lemmas.List.{length-map}
-use Rattle.std.proofs.lemmas.List.Elements.{All-nil, All-cons}
-use Rattle.std.proofs.lemmas.Option.{slice_get-map}
-use Rattle.std.proofs.lemmas.Grind.{common_steps}
+use Rattle.lemmas.proofs.Common.{[], ◌&&◌, ◌++◌, ◌<◌, ◌||◌, ◌∙◌, ◌∷◌, ◌≡◌, ◌≢◌, ◌≤◌, All, Bool, Equal, Greater, IfSome}
+use Rattle.lemmas.proofs.Common.{IsTrue, Less, List, None, Option, Ordering, Some, ap, ap₂, arith, false, filter}
+use Rattle.lemmas.proofs.Common.{flat_map, inl, inr, is_lt, length, map, nat_lt, option_map, option_to_list, refl}
+use Rattle.lemmas.proofs.Common.{slice_get, subst, suc, sym, true, true≢false, zero, ℕ, ℤ, All-cons, All-nil, and_parts}
+use Rattle.lemmas.proofs.Common.{cases_Bool, common_steps, cond-false, cond-true, flat_map-append, length-map, list_all}
+use Rattle.lemmas.proofs.Common.{list_any, ordering_then, slice_get-map, mapped_at, mapped_from}
 use Rattle.bbm_rule.specs.declared.block.Cell.{Cell}
 use Rattle.circuit.specs.Meaning.{wire_of}
 use Rattle.module_box.specs.Boxes.{in_box, in_halo, in_ring, Tile}
@@ -68,15 +62,6 @@ from_some : {X Y : Type 0} (f : X → Y) (o : Option X) (y : Y) → option_map f
     (x : X) × (o ≡ Some x) × (f x ≡ y)
 from_some f None y e = absurd cc
 from_some f (Some x) y e = (x, refl, some_is (f x) y e)
-
--- what an element of a mapped list was
-pub mapped_from : {X Y : Type 0} (f : X → Y) (xs : List X) (k : ℕ) (y : Y) → slice_get (map f xs) k ≡ Some y →
-    (x : X) × (slice_get xs k ≡ Some x) × (f x ≡ y)
-mapped_from f xs k y e = from_some f (slice_get xs k) y (sym (slice_get-map f xs k) ∙ e)
-
-pub mapped_at : {X Y : Type 0} (f : X → Y) (xs : List X) (k : ℕ) (x : X) → slice_get xs k ≡ Some x →
-    slice_get (map f xs) k ≡ Some (f x)
-mapped_at f xs k x e = slice_get-map f xs k ∙ ap (option_map f) e
 
 -- ---- the lines of a module with other halo lines
 

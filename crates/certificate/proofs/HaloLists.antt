@@ -1,12 +1,9 @@
 -- Lists of the places of edge lines, as places are added
-use Rattle.std.proofs.Common.{◌≡◌, ℕ, zero, suc, ◌<◌, Bool, true, false, not, ◌&&◌, ◌||◌, if◌then◌else◌, eqb, List, []}
-use Rattle.std.proofs.Common.{◌∷◌, ◌++◌, length, map, get_or, Some, refl, sym, ap, ◌∙◌, inl, inr}
-use Rattle.std.proofs.Common.{arith, append_assoc, ℤ, pos, ◌+ℤ◌, ◌-ℤ◌, slice_get, slice_set, filter}
-use Rattle.std.proofs.lemmas.Bool.{cases_Bool, cond-true, cond-false, eqb-true, eqb-false, and_parts, and_from}
-use Rattle.std.proofs.lemmas.List.{append-nil}
-use Rattle.std.proofs.lemmas.Option.{slice_get_within}
-use Rattle.std.proofs.lemmas.Grind.{flat_map-append}
-use Rattle.std.proofs.lemmas.Grind.{common_steps}
+use Rattle.lemmas.proofs.Common.{[], ◌&&◌, ◌++◌, ◌+ℤ◌, ◌-ℤ◌, ◌<◌, ◌||◌, ◌∙◌, ◌∷◌, ◌≡◌, Bool, List, Some, ap, append-nil}
+use Rattle.lemmas.proofs.Common.{append_assoc, arith, eqb, false, filter, get_or, if◌then◌else◌, inl, inr, length, map}
+use Rattle.lemmas.proofs.Common.{not, pos, refl, slice_get, slice_set, suc, sym, true, zero, ℕ, ℤ, and_from, and_parts}
+use Rattle.lemmas.proofs.Common.{cases_Bool, common_steps, cond-false, cond-true, eqb-false, eqb-true, flat_map-append}
+use Rattle.lemmas.proofs.Common.{slice_get_within, true_from_not}
 use Rattle.bbm_rule.specs.Plane.{partner}
 use Rattle.bbm_rule.specs.Spans.{in_span}
 use Rattle.bbm_rule.specs.declared.block.Cell.{Cell}
@@ -167,10 +164,6 @@ module _ (x y : ℤ) where
 
 -- ---- cells that are not in the ring
 
-not_true : (t : Bool) → not t ≡ false → t ≡ true
-not_true true h = refl
-not_true false h = absurd cc
-
 partner_in : (f n : ℕ) (z : ℤ) → in_span f n (z -ℤ pos 1) ≡ true → in_span f n (z +ℤ pos 1) ≡ true →
     in_span f n (partner 1 z) ≡ true
 partner_in f n z below above = grind (arith, common_steps, partner_near, above)
@@ -182,7 +175,7 @@ pub inner_block : (b : Box2) (c : Cell) → IsInnerCell b c →
 unfolding in_box
 inner_block b c inner =
     let here = and_parts (in_span b.x b.w c.x) (in_span b.y b.h c.y) inner.0 in
-    let all = not_true _ (grind (arith, common_steps, ring_read)) in
+    let all = true_from_not _ (grind (arith, common_steps, ring_read)) in
     let both = and_parts _ _ all in
     let px = and_parts _ _ both.0 in let py = and_parts _ _ both.1 in
     let ax = partner_in b.x b.w c.x px.0 px.1 in let ay = partner_in b.y b.h c.y py.0 py.1 in

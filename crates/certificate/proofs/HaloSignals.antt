@@ -1,10 +1,8 @@
 -- The signals of a halo's cells by the edge lines beside a module
-use Rattle.std.proofs.Common.{◌≡◌, ℕ, ◌<◌, ◌%◌, ◌==◌, ℤ, Bool, true, false, ◌&&◌, if◌then◌else◌, List, [], ◌∷◌, ◌++◌}
-use Rattle.std.proofs.Common.{Option, Some, None, Less, refl, sym, ap, ap₂, subst, ◌∙◌, inl, inr, arith, slice_get}
-use Rattle.std.proofs.Common.{nat_lt, unwrap_or, filter, flat_map}
-use Rattle.std.proofs.lemmas.Bool.{cases_Bool, cond-true, cond-false}
-use Rattle.std.proofs.lemmas.Bool.Decides.{nat_tests}
-use Rattle.std.proofs.lemmas.Grind.{common_steps}
+use Rattle.lemmas.proofs.Common.{[], ◌%◌, ◌&&◌, ◌++◌, ◌<◌, ◌==◌, ◌∙◌, ◌∷◌, ◌≡◌, Bool, Less, List, None, Option, Some}
+use Rattle.lemmas.proofs.Common.{ap, ap₂, arith, false, filter, flat_map, if◌then◌else◌, inl, inr, nat_lt, refl}
+use Rattle.lemmas.proofs.Common.{slice_get, subst, sym, true, unwrap_or, ℕ, ℤ, cases_Bool, common_steps, cond-false}
+use Rattle.lemmas.proofs.Common.{cond-true, nat_tests, and-false, mapped_at}
 use Rattle.bbm_rule.specs.Plane.{is_at}
 use Rattle.bbm_rule.specs.declared.block.Cell.{Cell}
 use Rattle.circuit.specs.Meaning.{Circuit}
@@ -22,7 +20,7 @@ use Rattle.certificate_lines.specs.Modules.{AreModules}
 use Rattle.certificate_lines.specs.Versions.{edge_lines_beside, in_order, border_line_cmp}
 use Rattle.certificate_lines.specs.declared.certificate_line.BorderLine.{BorderLine}
 use Rattle.certificate.proofs.FullModules.{beside_in, edge_cell, edges_rising, full_halos, full_rises, in_beside}
-use Rattle.certificate.proofs.FullModules.{mapped_at, stands}
+use Rattle.certificate.proofs.FullModules.{stands}
 use Rattle.certificate_lines.proofs.InList.{placed}
 use Rattle.certificate_lines.proofs.LineOrder.{In, filter_in, flat_in, in_filter, in_flat, in_ordered, ordered_in}
 use Rattle.certificate_lines.proofs.LineOrder.{pairs_filter, rising_same}
@@ -33,10 +31,6 @@ use Rattle.bbm_rule.proofs.SameCells.{cell_same}
 
 unfoldable pub at_cell : ℤ → ℤ → List BorderLine → List BorderLine
 at_cell x y es = filter (λ e. is_at e.cell x y) es
-
-both_false : (b : Bool) → (b && false) ≡ false
-both_false true = refl
-both_false false = refl
 
 pub all_times_past : (e : BorderLine) (time : Option ℕ) (s : Signal) (rest : List AllTimes) (x y : ℤ) →
     is_at e.cell x y ≡ false →
@@ -49,7 +43,7 @@ pub event_past : (e : BorderLine) (time : Option ℕ) (s : Signal) (rest : List 
     is_at e.cell x y ≡ false → event_at (events_of_line e time s ++ rest) t x y ≡ event_at rest t x y
 unfolding event_at
 event_past e None s rest t x y h = refl
-event_past e (Some u) s rest t x y h = cond-false _ _ _ (ap (λ b. (u == t) && b) h ∙ both_false (u == t))
+event_past e (Some u) s rest t x y h = cond-false _ _ _ (ap (λ b. (u == t) && b) h ∙ and-false (u == t))
 
 all_times_on : (e : BorderLine) (time : Option ℕ) (s : Signal) (rest other : List AllTimes) (x y : ℤ) →
     all_times_at rest x y ≡ all_times_at other x y →

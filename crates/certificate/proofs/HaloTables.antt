@@ -1,12 +1,8 @@
 -- The lists of the edge lines beside each module, from the modules of a certificate
-use Rattle.std.proofs.Common.{◌≡◌, ℕ, zero, suc, ◌+◌, ◌<◌, ◌≤◌, ℤ, inl, inr, true, false, List, [], ◌∷◌, ◌++◌, length}
-use Rattle.std.proofs.Common.{drop, get_or, Some, refl, sym, ap, subst, ◌∙◌, arith, slice_get, nat_lt, All, filter}
-use Rattle.std.proofs.Common.{flat_map}
-use Rattle.std.proofs.lemmas.Bool.{and_parts, cases_Bool, cond-true, cond-false}
-use Rattle.std.proofs.lemmas.List.{append-nil, drop_all, length-drop}
-use Rattle.std.proofs.lemmas.Option.{slice_get-get_or}
-use Rattle.std.proofs.lemmas.Bool.Decides.{nat_tests}
-use Rattle.std.proofs.lemmas.Grind.{common_steps}
+use Rattle.lemmas.proofs.Common.{[], ◌++◌, ◌+◌, ◌<◌, ◌∙◌, ◌∷◌, ◌≡◌, ◌≤◌, All, List, Some, ap, append-nil, arith, drop}
+use Rattle.lemmas.proofs.Common.{false, filter, flat_map, get_or, inl, inr, length, nat_lt, refl, slice_get, subst, suc}
+use Rattle.lemmas.proofs.Common.{sym, true, zero, ℕ, ℤ, and_parts, cases_Bool, common_steps, cond-false, cond-true}
+use Rattle.lemmas.proofs.Common.{drop_all, length-drop, nat_tests, slice_get-get_or, mapped_from}
 use Rattle.module_box.specs.Boxes.{in_box, in_halo, in_ring, IsEven}
 use Rattle.module_box.specs.declared.boxes.Box2.{Box2}
 use Rattle.certificate_lines.specs.Entries.{ModuleLines, Setting, areas, edge_in, edges, modules_of}
@@ -22,7 +18,7 @@ use Rattle.certificate_lines.proofs.InnerLines.{inner_module, inner_other}
 use Rattle.certificate_lines.proofs.LackedWires.{in_rectangle}
 use Rattle.certificate_lines.proofs.LinesLeft.{line_here, nothing_left}
 use Rattle.certificate_lines.proofs.ModuleSplit.{split_module, split_other}
-use Rattle.certificate_lines.proofs.OddBlocks.{area_of, mapped_at}
+use Rattle.certificate_lines.proofs.OddBlocks.{area_of}
 use Rattle.certificate.specs.HaloPlaces.{AreHaloPlaces, AreLinesFrom, HaveEdges, IsInnerCell, edge_lines_at}
 use Rattle.certificate.specs.HaloPlaces.{list_at_or_empty}
 use Rattle.certificate.proofs.NearLines.{flat_all}
@@ -111,7 +107,7 @@ inner_edges g ms good = flat_all (λ (e : BorderLine). IsInnerCell (whole g.size
 pub even_areas : (g : Setting) (ms : List ModuleLines) → AreModules g ms → (k : ℕ) (b : Box2) →
     slice_get (areas ms) k ≡ Some b → IsEven b
 even_areas g ms good k b at =
-    let m = mapped_at (λ (n : ModuleLines). n.area) ms k b at in
+    let m = mapped_from (λ (n : ModuleLines). n.area) ms k b at in
     let P : Box2 → Type 0 = IsEven in
     subst P m.2 (good.each k m.0 m.1).even
 

@@ -1,6 +1,6 @@
 -- Lines that are hashed one after the other
-use Rattle.std.proofs.Common.{◌≡◌, ℕ, ◌+◌, List, [], ◌∷◌, ◌++◌}
-use Rattle.std.proofs.Common.{refl, codes, decimal, flat_map}
+use Rattle.lemmas.proofs.Common.{[], ◌++◌, ◌+◌, ◌∷◌, ◌≡◌, List, codes, flat_map, refl, ℕ}
+use Rattle.std.proofs.Common.{decimal}
 use Rattle.section_text.specs.Spelling.{line_text}
 use Rattle.certificate.specs.Grammars.{CertView}
 use Rattle.certificate.specs.Text.{certificate_text, entry_text}

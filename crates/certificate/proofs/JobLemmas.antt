@@ -1,8 +1,6 @@
 -- The parts of a job by its module's lines.
-use Rattle.std.proofs.Common.{◌≡◌, ℕ, ◌+◌, ◌<◌, ◌≤◌, ◌^◌, length, List, None, sym, ap, subst, ◌∙◌, arith, get_or}
-use Rattle.std.proofs.Common.{IsTrue, All}
-use Rattle.std.proofs.lemmas.Option.{slice_get-get_or, slice_get_within}
-use Rattle.std.proofs.lemmas.Grind.{common_steps}
+use Rattle.lemmas.proofs.Common.{◌+◌, ◌<◌, ◌^◌, ◌∙◌, ◌≡◌, ◌≤◌, All, IsTrue, List, None, ap, arith, get_or, length}
+use Rattle.lemmas.proofs.Common.{subst, sym, ℕ, common_steps, slice_get-get_or, slice_get_within}
 use Rattle.circuit.specs.Bridge.{circuit_of, netlist_of}
 use Rattle.circuit.specs.Meaning.{Netlist}
 use Rattle.circuit.specs.declared.circuit_line.CircuitLine.{CircuitLine}

@@ -1,6 +1,6 @@
 -- A job whose lists have an element for each cell of its box
-use Rattle.std.proofs.Common.{arith, ◌≡◌, true, if◌then◌else◌, Bool, false, refl, ℤ, slice_get, unwrap_or, IsTrue}
-use Rattle.std.proofs.lemmas.Grind.{common_steps}
+use Rattle.lemmas.proofs.Common.{◌≡◌, Bool, IsTrue, arith, false, if◌then◌else◌, refl, slice_get, true, unwrap_or, ℤ}
+use Rattle.lemmas.proofs.Common.{common_steps}
 use Rattle.circuit.specs.Meaning.{Circuit}
 use Rattle.pattern.specs.Layout.{Pattern}
 use Rattle.module_box.specs.Boxes.{in_box}

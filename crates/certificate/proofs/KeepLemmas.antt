@@ -1,10 +1,7 @@
 -- The inverse gates that no module keeps
-use Rattle.std.proofs.Common.{arith, ◌≡◌, ℕ, ◌+◌, ◌<◌, ◌≤◌, ◌&&◌, Bool, not, cond, List, [], ◌∷◌, ◌++◌, drop, get_or}
-use Rattle.std.proofs.Common.{length}
-use Rattle.std.proofs.Common.{slice_get, Some, sym, ap₂, ◌∙◌, add-one, drop-cons}
-use Rattle.std.proofs.lemmas.List.{append-nil}
-use Rattle.std.proofs.lemmas.Option.{get_or_from_slice_get}
-use Rattle.std.proofs.lemmas.Grind.{common_steps}
+use Rattle.lemmas.proofs.Common.{[], ◌&&◌, ◌++◌, ◌+◌, ◌<◌, ◌∙◌, ◌∷◌, ◌≡◌, ◌≤◌, Bool, List, Some, add-one, append-nil}
+use Rattle.lemmas.proofs.Common.{ap₂, arith, cond, drop, drop-cons, get_or, length, not, slice_get, sym, ℕ}
+use Rattle.lemmas.proofs.Common.{common_steps, get_or_from_slice_get}
 use Rattle.circuit.specs.Gates.{is_inverse}
 use Rattle.circuit.specs.Meaning.{Gate}
 use Rattle.certificate_lines.specs.Entries.{ModuleLines}

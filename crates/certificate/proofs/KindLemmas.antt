@@ -1,17 +1,11 @@
 -- Lines in order rise by rank, and the lines of one kind lie on one side of a split.
-use Rattle.std.proofs.Common.{◌≡◌, ℕ, zero, suc, ◌<◌, ◌≤◌, Bool, true, false, ◌&&◌, List, [], ◌∷◌, ◌++◌, length, get_or}
-use Rattle.std.proofs.Common.{refl, sym, ap, ap₂, subst, ◌∙◌, arith, Greater, ◌≢◌, ◌-◌, ◌+◌, take, drop, ltb}
-use Rattle.std.specs.List.{All, flat_map, list_all}
-use Rattle.std.specs.List.Sorted.{IsNonDecreasingBy, IsPartitionPoint}
-use Rattle.std.specs.Cmp.{nat_cmp_is}
-use Rattle.std.proofs.lemmas.Bool.{and_parts}
-use Rattle.std.proofs.lemmas.Grind.{flat_map-append}
-use Rattle.std.proofs.lemmas.Bool.{ltb-false, ltb-true}
-use Rattle.std.proofs.lemmas.List.{append-nil, get_or-drop, get_or-take, length-drop, length-take, take-append-drop}
-use Rattle.std.proofs.lemmas.List.{take_all}
-use Rattle.std.proofs.lemmas.List.Elements.{All-head, All-tail}
-use Rattle.std.proofs.lemmas.List.Sums.{AllPass-from_list_all}
-use Rattle.std.proofs.lemmas.Grind.{common_steps}
+use Rattle.lemmas.proofs.Common.{[], ◌&&◌, ◌++◌, ◌+◌, ◌-◌, ◌<◌, ◌∙◌, ◌∷◌, ◌≡◌, ◌≢◌, ◌≤◌, Bool, Greater, List, ap}
+use Rattle.lemmas.proofs.Common.{append-nil, ap₂, arith, drop, false, get_or, length, ltb, refl, subst, suc, sym, take}
+use Rattle.lemmas.proofs.Common.{take-append-drop, true, zero, ℕ, All-head, All-tail, AllPass-from_list_all}
+use Rattle.lemmas.proofs.Common.{IsNonDecreasingBy, IsPartitionPoint, and_parts, common_steps, flat_map-append}
+use Rattle.lemmas.proofs.Common.{get_or-drop, get_or-take, length-drop, length-take, list_all, ltb-false, ltb-true}
+use Rattle.lemmas.proofs.Common.{nat_cmp_is, take_all}
+use Rattle.std.specs.List.{All, flat_map}
 use Rattle.bbm_rule.proofs.BitLemmas.{by_lt_or_le}
 use Rattle.certificate_lines.specs.Entries.{cut_in, edge_in, halo_in, keep_in, stop_in, use_in}
 use Rattle.certificate_lines.specs.Orders.{AreInOrder, is_cut, line_cmp, may_precede, rank_of}

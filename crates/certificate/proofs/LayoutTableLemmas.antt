@@ -1,12 +1,8 @@
 -- The indexes of a layout's cells, and the ports in a module's box.
-use Rattle.std.proofs.Common.{arith, ◌≡◌, ℕ, ◌+◌, ℤ, Bool, true, false, ◌||◌, if◌then◌else◌, List, [], ◌∷◌, ◌++◌, map}
-use Rattle.std.proofs.Common.{◌<◌}
-use Rattle.std.proofs.Common.{◌≤◌, get_or, length, Option, Some, None, refl, sym, ap, subst, ◌∙◌, slice_get, IsTrue}
-use Rattle.std.proofs.Common.{IfSome, flat_map}
-use Rattle.std.proofs.lemmas.List.Folds.{list_any-append}
-use Rattle.std.proofs.lemmas.List.Elements.{All-append}
-use Rattle.std.proofs.lemmas.Option.{slice_get-get_or, slice_get-map}
-use Rattle.std.proofs.lemmas.Grind.{common_steps}
+use Rattle.lemmas.proofs.Common.{[], ◌++◌, ◌+◌, ◌<◌, ◌||◌, ◌∙◌, ◌∷◌, ◌≡◌, ◌≤◌, Bool, IfSome, IsTrue, List, None, Option}
+use Rattle.lemmas.proofs.Common.{Some, ap, arith, false, flat_map, get_or, if◌then◌else◌, length, map, refl, slice_get}
+use Rattle.lemmas.proofs.Common.{subst, sym, true, ℕ, ℤ, All-append, common_steps, list_any-append, slice_get-get_or}
+use Rattle.lemmas.proofs.Common.{slice_get-map, or_parts}
 use Rattle.bbm_rule.specs.Plane.{is_at}
 use Rattle.bbm_rule.specs.declared.block.Cell.{Cell}
 use Rattle.circuit.specs.Bridge.{circuit_of}
@@ -158,13 +154,9 @@ others_inside p s is good cells are =
     (grind (arith, common_steps, balls_on_layout, wastes_on_layout, port_cells_inside))
     (port_cells_inside s p.outs ports.1))
 
-neither : (a b : Bool) → (a || b) ≡ false → (a ≡ false) × (b ≡ false)
-neither true b e = absurd cc
-neither false b e = (refl, e)
-
 apart : (xs ys : List Cell) (x y : ℤ) → in_cells (xs ++ ys) x y ≡ false →
     (in_cells xs x y ≡ false) × (in_cells ys x y ≡ false)
-apart xs ys x y e = grind (arith, common_steps, neither, list_any-append)
+apart xs ys x y e = grind (arith, common_steps, or_parts, list_any-append)
 
 pub no_others : (p : Pattern) (x y : ℤ) → in_cells (non_mirror_cells p) x y ≡ false → HasMirrorOrNothing p x y
 no_others p x y e = grind (arith, common_steps, apart, no_port)

@@ -1,11 +1,8 @@
 -- The signal of one line for its cell at its time
-use Rattle.std.proofs.Common.{◌≡◌, ℕ, ◌+◌, Bool, true, false, not, ◌&&◌, ◌||◌, List, [], ◌∷◌, ◌++◌, Option, Some}
-use Rattle.std.proofs.Common.{None, Ordering, Less, Greater, refl, sym, ap, ap₂, subst, ◌∙◌, inl, inr, arith, unwrap_or}
-use Rattle.std.proofs.Common.{flat_map, nat_cmp}
-use Rattle.std.specs.List.{list_all}
-use Rattle.std.specs.Ordering.{ordering_then}
-use Rattle.std.proofs.lemmas.Bool.{and_parts, cases_Bool, cond-true, cond-false, eqb-true, true≢false}
-use Rattle.std.proofs.lemmas.Grind.{common_steps}
+use Rattle.lemmas.proofs.Common.{[], ◌&&◌, ◌++◌, ◌+◌, ◌||◌, ◌∙◌, ◌∷◌, ◌≡◌, Bool, Greater, Less, List, None, Option}
+use Rattle.lemmas.proofs.Common.{Ordering, Some, ap, ap₂, arith, false, flat_map, inl, inr, nat_cmp, not, refl, subst}
+use Rattle.lemmas.proofs.Common.{sym, true, true≢false, unwrap_or, ℕ, and_parts, cases_Bool, common_steps, cond-false}
+use Rattle.lemmas.proofs.Common.{cond-true, eqb-true, list_all, ordering_then}
 use Rattle.bbm_rule.specs.Plane.{is_at}
 use Rattle.bbm_rule.specs.declared.block.Cell.{Cell}
 use Rattle.circuit.specs.Meaning.{Circuit}

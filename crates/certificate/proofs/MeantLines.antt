@@ -1,8 +1,6 @@
 -- The stops and kept gates of the modules that lines mean are those of the lines
-use Rattle.std.proofs.Common.{arith, ◌≡◌, ℕ, ◌+◌, ◌||◌, List, [], ◌∷◌, ◌++◌, map, refl}
-use Rattle.std.proofs.Common.{ap, ap₂}
-use Rattle.std.proofs.lemmas.Bool.{cases_Bool}
-use Rattle.std.proofs.lemmas.Grind.{common_steps}
+use Rattle.lemmas.proofs.Common.{[], ◌++◌, ◌+◌, ◌||◌, ◌∷◌, ◌≡◌, List, ap, ap₂, arith, map, refl, ℕ, cases_Bool}
+use Rattle.lemmas.proofs.Common.{common_steps}
 use Rattle.circuit.specs.Meaning.{Circuit, Gate}
 use Rattle.module_box.specs.Locals.{is_among}
 use Rattle.certificate_lines.specs.Entries.{Setting, ModuleLines, keeps, stops}

@@ -1,12 +1,8 @@
 -- Lines that are good are good without the halo lines
-use Rattle.std.proofs.Common.{◌≡◌, ℕ, ◌≤◌, Bool, true, false, not, ◌&&◌, ◌||◌, List, [], ◌∷◌, ◌++◌, map}
-use Rattle.std.proofs.Common.{length, Option, Some, None, option_map, refl, sym, ap, ap₂, ◌∙◌, arith, nat_le}
-use Rattle.std.proofs.Common.{filter, flat_map, fold}
-use Rattle.std.specs.List.{list_all, list_any}
-use Rattle.std.proofs.lemmas.Bool.{and_parts}
-use Rattle.std.proofs.lemmas.Bool.Decides.{nat_tests}
-use Rattle.std.proofs.lemmas.List.{append-nil, length-map, map-append}
-use Rattle.std.proofs.lemmas.Grind.{common_steps}
+use Rattle.lemmas.proofs.Common.{[], ◌&&◌, ◌++◌, ◌||◌, ◌∙◌, ◌∷◌, ◌≡◌, ◌≤◌, Bool, List, None, Option, Some, ap}
+use Rattle.lemmas.proofs.Common.{append-nil, ap₂, arith, false, filter, flat_map, fold, length, map, nat_le, not}
+use Rattle.lemmas.proofs.Common.{option_map, refl, sym, true, ℕ, and_parts, common_steps, length-map, list_all}
+use Rattle.lemmas.proofs.Common.{list_any, map-append, nat_tests, true_from_not}
 use Rattle.section_text.specs.Codes.{or_else, code_if}
 use Rattle.circuit.specs.Meaning.{Circuit}
 use Rattle.module_box.specs.declared.boxes.Box2.{Box2}
@@ -190,10 +186,6 @@ follow_less (Stop s ∷ lines) i h = let both =
     and_parts (may_precede (Stop s) i) (list_all (λ j. may_precede j i) lines) h in
     rw (both.0, follow_less lines i both.1) refl
 
-true_of : (b : Bool) → not b ≡ false → b ≡ true
-true_of true h = refl
-true_of false h = sym h
-
 none_both : (a b : Option RefusalCode) → a ≡ None → b ≡ None → or_else a b ≡ None
 none_both None b h k = k
 none_both (Some x) b h k = absurd cc
@@ -224,7 +216,7 @@ words_kept g m (Stop s) o h = grind (arith, common_steps, border_less, fewer, kn
 line_kept : (g : Setting) (m : ModuleLines) (i : CertificateLine) → is_halo i ≡ false → line_fault g m i ≡ None →
     line_fault g (haloless_module m) i ≡ None
 unfolding haloless_module
-line_kept g m i o h = grind (arith, common_steps, both_none, none_both, follow_less, true_of, no_code, words_kept)
+line_kept g m i o h = grind (arith, common_steps, both_none, none_both, follow_less, true_from_not, no_code, words_kept)
 
 inner_kept : (g : Setting) (p : Option ModuleLines) (i : CertificateLine) → is_halo i ≡ false →
     body_line_code g p i ≡ None →

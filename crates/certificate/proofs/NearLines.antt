@@ -1,10 +1,7 @@
 -- The cells of a module's edge and halo lines lie within 512 columns and rows.
-use Rattle.std.proofs.Common.{◌≡◌, ℕ, ◌+◌, ◌<◌, ◌≤◌, List, [], ◌∷◌, map, true, Option, Some, None, sym, ap, subst}
-use Rattle.std.proofs.Common.{arith, get_or, ℤ, pos, ◌+ℤ◌, ◌≤ℤ◌, All, flat_map}
-use Rattle.std.proofs.lemmas.Bool.{and_parts}
-use Rattle.std.proofs.lemmas.Int.{ints}
-use Rattle.std.proofs.lemmas.List.Elements.{All-nil, All-cons, All-head, All-tail, All-append, All-map, All-weaker}
-use Rattle.std.proofs.lemmas.Grind.{common_steps}
+use Rattle.lemmas.proofs.Common.{[], ◌+ℤ◌, ◌+◌, ◌<◌, ◌∷◌, ◌≡◌, ◌≤ℤ◌, ◌≤◌, All, List, None, Option, Some, ap, arith}
+use Rattle.lemmas.proofs.Common.{flat_map, get_or, map, pos, subst, sym, true, ℕ, ℤ, All-append, All-cons, All-head}
+use Rattle.lemmas.proofs.Common.{All-map, All-nil, All-tail, All-weaker, and_parts, common_steps, ints, all_unmapped}
 use Rattle.bbm_rule.specs.declared.block.Cell.{Cell}
 use Rattle.circuit.specs.Meaning.{Circuit}
 use Rattle.pattern.specs.declared.layout_line.LayoutHeader.{LayoutHeader}
@@ -66,11 +63,6 @@ flat_all P f Q each [] all = All-nil P
 flat_all P f Q each (x ∷ xs) all =
     All-append P (f x) (flat_map f xs) (each x (All-head Q x xs all)) (flat_all P f Q each xs (All-tail Q x xs all))
 
-unmapped : {X A : Type 0} (P : A → Type 0) (f : X → A) (xs : List X) → All P (map f xs) → All (λ x. P (f x)) xs
-unmapped P f [] all = All-nil (λ x. P (f x))
-unmapped P f (x ∷ xs) all = All-cons (λ x. P (f x)) x xs (All-head P (f x) (map f xs) all)
-    (unmapped P f xs (All-tail P (f x) (map f xs) all))
-
 all_times_low : (e : BorderLine) (t : Option ℕ) (s : Signal) → IsLow e.cell →
     All (λ (h : AllTimes). IsLow h.cell) (all_times_of_line e t s)
 all_times_low e None s low = All-cons (λ (h : AllTimes). IsLow h.cell) _ [] low (All-nil _)
@@ -85,7 +77,7 @@ pub low_all_times : (f : ℕ → ℕ) (c : Circuit) (es : List BorderLine) (s : 
     renumber_signals f s ≡ line_signals c es →
     All (λ e. IsLow e.cell) es → All (λ (h : AllTimes). IsLow h.cell) s.all_times
 low_all_times f c es s same all =
-    unmapped (λ (h : AllTimes). IsLow h.cell) (renumber_all_times f) s.all_times
+    all_unmapped (λ (h : AllTimes). IsLow h.cell) (renumber_all_times f) s.all_times
     (subst (λ (hs : List AllTimes). All (λ (h : AllTimes). IsLow h.cell) hs)
     (sym (ap (λ (r : Signals). r.all_times) same))
     (flat_all (λ (h : AllTimes). IsLow h.cell) (λ e. all_times_of_line e e.time (one_or_named_wire c e.signal))
@@ -96,7 +88,7 @@ pub low_events : (f : ℕ → ℕ) (c : Circuit) (es : List BorderLine) (s : Sig
     renumber_signals f s ≡ line_signals c es →
     All (λ e. IsLow e.cell) es → All (λ (h : TimedSignal). IsLow h.at.cell) s.events
 low_events f c es s same all =
-    unmapped (λ (h : TimedSignal). IsLow h.at.cell) (renumber_event f) s.events
+    all_unmapped (λ (h : TimedSignal). IsLow h.at.cell) (renumber_event f) s.events
     (subst (λ (hs : List TimedSignal). All (λ (h : TimedSignal). IsLow h.at.cell) hs)
     (sym (ap (λ (r : Signals). r.events) same))
     (flat_all (λ (h : TimedSignal). IsLow h.at.cell) (λ e. events_of_line e e.time (one_or_named_wire c e.signal))

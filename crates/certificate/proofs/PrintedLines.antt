@@ -1,9 +1,6 @@
 -- Lines that are printed without halo lines
-use Rattle.std.proofs.Common.{arith, ◌≡◌, ℕ, ◌+◌, ◌<◌, List, [], ◌∷◌, ◌++◌, length, take, get_or, sym}
-use Rattle.std.proofs.Common.{append-nil, flat_map}
-use Rattle.std.proofs.lemmas.Grind.{flat_map-append}
-use Rattle.std.proofs.lemmas.List.{take_more}
-use Rattle.std.proofs.lemmas.Grind.{common_steps}
+use Rattle.lemmas.proofs.Common.{[], ◌++◌, ◌+◌, ◌<◌, ◌∷◌, ◌≡◌, List, append-nil, arith, flat_map, get_or, length, sym}
+use Rattle.lemmas.proofs.Common.{take, ℕ, common_steps, flat_map-append, take_more}
 use Rattle.certificate.specs.Text.{entry_text}
 use Rattle.certificate_lines.specs.Versions.{without_halos}
 use Rattle.certificate_lines.specs.declared.certificate_line.CertificateLine.{CertificateLine}

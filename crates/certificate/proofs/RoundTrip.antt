@@ -1,5 +1,5 @@
 -- The certificate section has one text.
-use Rattle.std.proofs.Common.{ℕ, ◌+◌, List, length, drop, ◌∙◌, sym, ap, append_assoc, flat_map}
+use Rattle.lemmas.proofs.Common.{◌+◌, ◌∙◌, List, ap, append_assoc, drop, flat_map, length, sym, ℕ}
 use Rattle.section_text.specs.Words.{lines_of}
 use Rattle.section_text.specs.Section.{section_of}
 use Rattle.section_text.specs.declared.section.Form.TheVariants.{Header, Item, End}

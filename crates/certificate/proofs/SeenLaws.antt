@@ -1,8 +1,6 @@
 -- The first time is the least, and the last one the greatest.
-use Rattle.std.proofs.Common.{◌≡◌, ◌⊎◌, ℕ, zero, suc, ◌≤◌, List, [], ◌∷◌, Some, None, arith}
-use Rattle.std.proofs.Common.{Contains, min, max, All, fold}
-use Rattle.std.proofs.lemmas.Option.{same_Some}
-use Rattle.std.proofs.lemmas.Grind.{common_steps}
+use Rattle.lemmas.proofs.Common.{[], ◌∷◌, ◌≡◌, ◌≤◌, ◌⊎◌, All, Contains, List, None, Some, arith, fold, max, min, suc}
+use Rattle.lemmas.proofs.Common.{zero, ℕ, common_steps, same_Some}
 use Rattle.certificate.specs.Laws.{FirstSeenIsLeast, LastSeenIsGreatest}
 use Rattle.certificate.specs.Times.{earlier, later, stop_times_of_wire}
 

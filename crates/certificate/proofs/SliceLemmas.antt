@@ -1,14 +1,12 @@
 -- Modules as they are kept: their lines are in order, and what is found in them is found in the modules.
-use Rattle.std.proofs.Common.{◌≡◌, Bool, List, [], ◌∷◌, ◌++◌, ◌||◌, get_or, map, refl, sym, ap, ◌∙◌}
-use Rattle.std.specs.Prelude.{slice_get}
-use Rattle.std.specs.List.{All, flat_map, list_any}
-use Rattle.std.proofs.lemmas.Option.{slice_get-get_or}
+use Rattle.lemmas.proofs.Common.{[], ◌++◌, ◌||◌, ◌∙◌, ◌∷◌, ◌≡◌, Bool, List, ap, get_or, map, refl, slice_get, sym}
+use Rattle.lemmas.proofs.Common.{list_any, slice_get-get_or, mapped_at}
+use Rattle.std.specs.List.{All, flat_map}
 use Rattle.certificate_lines.specs.Entries.{ModuleLines, Setting}
 use Rattle.certificate_lines.specs.Modules.{AreModules}
 use Rattle.certificate_lines.specs.Orders.{AreInOrder}
 use Rattle.certificate.specs.SliceLines.{slice_lines}
 use Rattle.certificate.specs.declared.beside.ModuleSlice.{ModuleSlice}
-use Rattle.certificate.proofs.FullModules.{mapped_at}
 
 pub are_in_order : (g : Setting) (ms : List ModuleLines) (parts : List ModuleSlice) → AreModules g ms →
     map slice_lines parts ≡ ms → All (λ p. AreInOrder p.lines.now) parts

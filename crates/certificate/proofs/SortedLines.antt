@@ -1,12 +1,8 @@
 -- Lines that are sorted are in order
-use Rattle.std.proofs.Common.{◌≡◌, ℕ, ◌+◌, ◌≤◌, false, if◌then◌else◌, List, [], ◌∷◌, get_or, Ordering, Less}
-use Rattle.std.proofs.Common.{Equal, Greater, refl, ap, arith, ◌≢◌, sum_by, is_eq, is_lt}
-use Rattle.std.specs.List.Sorted.{IsPermutation, IsSortedBy}
-use Rattle.std.proofs.lemmas.List.Sorted.{IsPermutation-sym, All-permutation, ranks_by, sorted_far}
-use Rattle.std.proofs.lemmas.List.Sorted.{sum_by-IsPermutation}
-use Rattle.std.proofs.lemmas.List.Sums.{sum_by-cons}
-use Rattle.std.proofs.lemmas.Option.{get_or_from_slice_get, slice_get_within}
-use Rattle.std.proofs.lemmas.Grind.{common_steps}
+use Rattle.lemmas.proofs.Common.{[], ◌+◌, ◌∷◌, ◌≡◌, ◌≢◌, ◌≤◌, Equal, Greater, Less, List, Ordering, ap, arith, false}
+use Rattle.lemmas.proofs.Common.{get_or, if◌then◌else◌, is_eq, is_lt, refl, sum_by, ℕ, All-permutation, IsPermutation}
+use Rattle.lemmas.proofs.Common.{IsPermutation-sym, IsSortedBy, common_steps, get_or_from_slice_get, ranks_by}
+use Rattle.lemmas.proofs.Common.{slice_get_within, sorted_far, sum_by-IsPermutation, sum_by-cons}
 use Rattle.certificate_lines.specs.Versions.{in_order, border_line_cmp}
 use Rattle.certificate_lines.specs.declared.certificate_line.BorderLine.{BorderLine}
 use Rattle.certificate_lines.proofs.InList.{all_in}

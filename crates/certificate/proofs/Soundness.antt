@@ -1,13 +1,10 @@
 -- Lines that are good one after the other make good modules.
-use Rattle.std.proofs.Common.{◌≡◌, ◌⊎◌, ℕ, zero, suc, ◌+◌, ◌<◌, ◌≤◌, ℤ, Bool, true, false, not, ◌&&◌, ◌||◌, ◌==◌, List}
-use Rattle.std.proofs.Common.{[], ◌∷◌, ◌++◌, Some, None, refl, sym, ap, subst, ◌∙◌, inl, inr, arith, pos}
-use Rattle.std.proofs.Common.{negsuc, append-nil, append_assoc, slice_get, All}
-use Rattle.std.specs.List.{list_all}
-use Rattle.std.proofs.lemmas.Bool.{and_parts, eqb-true, true≢false}
-use Rattle.std.proofs.lemmas.Bool.Decides.{nat_tests}
-use Rattle.std.proofs.lemmas.Grind.{common_steps}
+use Rattle.lemmas.proofs.Common.{[], ◌&&◌, ◌++◌, ◌+◌, ◌<◌, ◌==◌, ◌||◌, ◌∙◌, ◌∷◌, ◌≡◌, ◌≤◌, ◌⊎◌, All, Bool, List, None}
+use Rattle.lemmas.proofs.Common.{Some, ap, append-nil, append_assoc, arith, false, inl, inr, negsuc, not, pos, refl}
+use Rattle.lemmas.proofs.Common.{slice_get, subst, suc, sym, true, true≢false, zero, ℕ, ℤ, and_parts, common_steps}
+use Rattle.lemmas.proofs.Common.{eqb-true, list_all, nat_tests, slice_get-get_or, slice_get_within, or_cases, or_parts}
+use Rattle.lemmas.proofs.Common.{true_from_not}
 use Rattle.bbm_rule.specs.Spans.{in_span}
-use Rattle.std.proofs.lemmas.Option.{slice_get-get_or, slice_get_within}
 use Rattle.bbm_rule.specs.Plane.{is_at}
 use Rattle.bbm_rule.specs.declared.block.Cell.{Cell}
 use Rattle.pattern.specs.Layout.{in_cells}
@@ -27,10 +24,10 @@ use Rattle.certificate_lines.specs.BuilderView.{AreSound, IsWritten}
 use Rattle.certificate_lines.specs.declared.certificate_line.CertificateLine.{CertificateLine}
 use Rattle.certificate_lines.specs.declared.certificate_line.CertificateLine.TheVariants.{Module, Cut, Use, Keep, Edge}
 use Rattle.certificate_lines.specs.declared.certificate_line.CertificateLine.TheVariants.{Halo, Stop}
-use Rattle.certificate_lines.proofs.BuiltLemmas.{good_module, line_sound, module_sound, sound_none, or_false, last_is}
+use Rattle.certificate_lines.proofs.BuiltLemmas.{good_module, line_sound, module_sound, sound_none, last_is}
 use Rattle.certificate_lines.proofs.Growing.{modules_push}
 use Rattle.certificate_lines.proofs.Keeping.{good_line, IsGoodLine}
-use Rattle.certificate_lines.proofs.Lists.{any_at, or_parts, passed, some_is}
+use Rattle.certificate_lines.proofs.Lists.{any_at, passed, some_is}
 use Rattle.certificate_lines.proofs.ModulePushes.{both_none, no_code, new_wire, good_use, cut_pushed, use_pushed}
 use Rattle.certificate_lines.proofs.ModulePushes.{keep_pushed, edge_pushed, halo_pushed, stop_pushed}
 use Rattle.bbm_rule.proofs.SameCells.{cell_same}
@@ -89,17 +86,13 @@ none_sound g = sound_none g []
 
 -- ---- the end
 
-not_false : (a : Bool) → not a ≡ false → a ≡ true
-not_false true h = refl
-not_false false h = sym h
-
 -- a test that all cells of a list pass
 cell_passes : (test : Cell → Bool) (cells : List Cell) (d : Cell) → list_all test cells ≡ true →
     in_cells cells d.x d.y ≡ true → test d ≡ true
 cell_passes test [] d all there = absurd cc
 cell_passes test (c ∷ cells) d all there =
     let both = and_parts (test c) (list_all test cells) all in
-    elim (or_parts (is_at c d.x d.y) (in_cells cells d.x d.y) there) [
+    elim (or_cases (is_at c d.x d.y) (in_cells cells d.x d.y) there) [
       | inl here ↦ sym (ap test (cell_same c d here)) ∙ both.0
       | inr more ↦ cell_passes test cells d both.1 more
     ]
@@ -129,7 +122,7 @@ module _ (g : Setting) (ms : List ModuleLines) (sound : AreSound g ms) where
   tiles full = record {
     covered = λ x y h.
         let there : in_boxes (areas ms) x y ≡ true =
-        cell_passes (λ c. in_boxes (areas ms) c.x c.y) (box_cells (whole g.size)) (at_cell x y) (not_false _ full)
+        cell_passes (λ c. in_boxes (areas ms) c.x c.y) (box_cells (whole g.size)) (at_cell x y) (true_from_not _ full)
         (in_box_cells (whole g.size) x y ∙ h) in
         let p = passed (λ (b : Box2). in_box b x y) (areas ms) there in
         (p.place, p.element, p.stands, p.passes);
@@ -160,12 +153,12 @@ module _ (g : Setting) (ms : List ModuleLines) (sound : AreSound g ms) where
   }
 
 one_or_two : (v : ℕ) → (v == 1 || v == 2) ≡ true → (1 ≤ v) × (v ≤ 2)
-one_or_two v e = grind (arith, common_steps, or_parts, eqb-true)
+one_or_two v e = grind (arith, common_steps, or_cases, eqb-true)
 
 -- the version of what was read
 pub read_version : (g : Setting) (v : ℕ) (es : List CertificateLine) → IsFaultless (certificate_grammar g) v es →
     (1 ≤ v) × (v ≤ 2)
-read_version g v es good = one_or_two v (not_false _ (no_code _ PastLimit good.header))
+read_version g v es good = one_or_two v (true_from_not _ (no_code _ PastLimit good.header))
 
 -- and in version 2 each module knows the wires of the edge lines beside it
 pub read_complete : (g : Setting) (v : ℕ) (es : List CertificateLine) → IsFaultless (certificate_grammar g) v es →
@@ -177,7 +170,7 @@ pub faultless_modules : (g : Setting) (v : ℕ) (es : List CertificateLine) → 
 unfolding end_fault
 faultless_modules g v es good =
     let sound = sound_all g v es [] (none_sound g) good.each in
-    let parts = or_false (is_last_module_incomplete g (last_module es)) (leaves_gap g.size (areas (modules_of es)))
+    let parts = or_parts (is_last_module_incomplete g (last_module es)) (leaves_gap g.size (areas (modules_of es)))
     (no_code _ SomethingMissing (both_none (end_fault g es) _ good.end).0) in
     good_modules g (modules_of es) sound parts.0 parts.1
 

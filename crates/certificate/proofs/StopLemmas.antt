@@ -1,9 +1,7 @@
 -- The stops of a module: what its lines give, and their order.
-use Rattle.std.proofs.Common.{arith, ◌≡◌, ℕ, List, [], ◌∷◌, Option, Some, None, Less}
-use Rattle.std.proofs.Common.{map, false, true, refl, sym, subst, All, flat_map, nat_cmp}
-use Rattle.std.specs.Ordering.{ordering_then}
-use Rattle.std.proofs.lemmas.List.Elements.{All-nil, All-cons, All-append, All-head, All-tail}
-use Rattle.std.proofs.lemmas.Grind.{common_steps}
+use Rattle.lemmas.proofs.Common.{[], ◌∷◌, ◌≡◌, All, Less, List, None, Option, Some, arith, false, flat_map, map}
+use Rattle.lemmas.proofs.Common.{nat_cmp, refl, subst, sym, true, ℕ, All-append, All-cons, All-head, All-nil, All-tail}
+use Rattle.lemmas.proofs.Common.{common_steps, ordering_then}
 use Rattle.circuit.specs.Meaning.{Circuit, wire_of}
 use Rattle.module_box.specs.Locals.{LocalNet, circuit_wire}
 use Rattle.module_box.specs.Moments.{cell_cmp, moment_cmp}

@@ -1,10 +1,7 @@
 -- Tables of times, line by line, and the lines of gates one after the other.
-use Rattle.std.proofs.Common.{◌≡◌, ℕ, ◌+◌, ◌<◌, ◌≤◌, false, List, [], ◌∷◌, ◌++◌, length, drop, get_or, Option}
-use Rattle.std.proofs.Common.{Some, refl, sym, ap, ◌∙◌, arith}
-use Rattle.std.proofs.Common.{slice_get, flat_map}
-use Rattle.std.proofs.lemmas.List.{drop_all}
-use Rattle.std.proofs.lemmas.Option.{same_Some, slice_get-get_or, slice_get_within}
-use Rattle.std.proofs.lemmas.Grind.{common_steps}
+use Rattle.lemmas.proofs.Common.{[], ◌++◌, ◌+◌, ◌<◌, ◌∙◌, ◌∷◌, ◌≡◌, ◌≤◌, List, Option, Some, ap, arith, drop, false}
+use Rattle.lemmas.proofs.Common.{flat_map, get_or, length, refl, slice_get, sym, ℕ, common_steps, drop_all, same_Some}
+use Rattle.lemmas.proofs.Common.{slice_get-get_or, slice_get_within}
 use Rattle.circuit.specs.Meaning.{Circuit, Gate}
 use Rattle.section_text.proofs.Good.{AreFaultless, IsFaultless}
 use Rattle.certificate_lines.specs.Entries.{ModuleLines, Setting, last_of, modules_of, stop_in}

@@ -1,14 +1,11 @@
 -- The signals of a module after one more line.
-use Rattle.std.proofs.Common.{arith, ◌≡◌, ℕ, ◌<◌, List, [], ◌∷◌, ◌++◌, ◌+◌, ◌≤◌, length, Option, Some, None, take}
-use Rattle.std.proofs.Common.{get_or}
-use Rattle.std.proofs.Common.{refl, sym, subst, map, IfSome, replicate, All, flat_map}
+use Rattle.lemmas.proofs.Common.{[], ◌++◌, ◌+◌, ◌<◌, ◌∷◌, ◌≡◌, ◌≤◌, All, IfSome, List, None, Option, Some, append-nil}
+use Rattle.lemmas.proofs.Common.{arith, flat_map, get_or, length, map, refl, replicate, subst, sym, take, ℕ, All-cons}
+use Rattle.lemmas.proofs.Common.{All-nil, All-replicate, common_steps, flat_map-append, flat_map_more, map-append}
+use Rattle.lemmas.proofs.Common.{take_all, take_more}
 use Rattle.std.specs.Result.{OnOk}
 use Rattle.std.specs.declared.result.Result.{Result}
 use Rattle.std.specs.declared.result.Result.TheVariants.{Ok, Err}
-use Rattle.std.proofs.lemmas.Grind.{flat_map-append}
-use Rattle.std.proofs.lemmas.List.{append-nil, map-append, flat_map_more, take_all, take_more}
-use Rattle.std.proofs.lemmas.List.Elements.{All-nil, All-cons, All-replicate}
-use Rattle.std.proofs.lemmas.Grind.{common_steps}
 use Rattle.circuit.specs.Meaning.{Circuit, wires}
 use Rattle.module_box.specs.Locals.{LocalNet, circuit_wire}
 use Rattle.module_box.specs.Moments.{cell_cmp, moment_cmp}

@@ -1,12 +1,8 @@
 -- Cells that are all live.
-use Rattle.std.proofs.Common.{◌≡◌, ℕ, zero, suc, ◌+◌, ◌<◌, ◌≤◌, Bool, true, false, ◌&&◌, refl, sym, ap, ap₂, ◌∙◌, arith}
-use Rattle.std.proofs.Common.{inl, inr, nat_eq}
-use Rattle.std.proofs.lemmas.Bool.{cases_Bool}
-use Rattle.std.proofs.lemmas.Bool.Decides.{nat_tests}
-use Rattle.std.specs.List.{list_all, flat_map, range_with_len}
-use Rattle.std.proofs.lemmas.List.Folds.{list_all-append}
-use Rattle.std.proofs.Math.Bool.{and-false}
-use Rattle.std.proofs.lemmas.Grind.{common_steps}
+use Rattle.lemmas.proofs.Common.{◌&&◌, ◌+◌, ◌<◌, ◌∙◌, ◌≡◌, ◌≤◌, Bool, ap, ap₂, arith, false, inl, inr, nat_eq, refl}
+use Rattle.lemmas.proofs.Common.{suc, sym, true, zero, ℕ, and-false, cases_Bool, common_steps, list_all}
+use Rattle.lemmas.proofs.Common.{list_all-append, nat_tests, range_with_len}
+use Rattle.std.specs.List.{flat_map}
 use Rattle.bbm_rule.specs.declared.block.Cell.{Cell}
 use Rattle.pattern.specs.Layout.{cell, row_cells}
 use Rattle.pattern.proofs.CellLists.{flat_map_range_more}

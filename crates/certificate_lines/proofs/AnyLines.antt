@@ -1,10 +1,8 @@
 -- Whether some line of some module passes a test
-use Rattle.std.proofs.Common.{arith, ◌≡◌, ℕ, ◌+◌, ◌<◌, ◌≤◌, Bool, true, false, ◌&&◌, ◌||◌, if◌then◌else◌, List, [], ◌∷◌}
-use Rattle.std.proofs.Common.{drop, length, get_or, refl, ap, ◌∙◌}
-use Rattle.std.specs.List.{filter, flat_map, list_any}
-use Rattle.std.proofs.lemmas.List.Folds.{list_any-append, list_any_at}
-use Rattle.std.proofs.lemmas.List.{drop_all}
-use Rattle.std.proofs.lemmas.Grind.{common_steps}
+use Rattle.lemmas.proofs.Common.{[], ◌&&◌, ◌+◌, ◌<◌, ◌||◌, ◌∙◌, ◌∷◌, ◌≡◌, ◌≤◌, Bool, List, ap, arith, drop, false}
+use Rattle.lemmas.proofs.Common.{get_or, if◌then◌else◌, length, refl, true, ℕ, common_steps, drop_all, list_any}
+use Rattle.lemmas.proofs.Common.{list_any-append, list_any_at}
+use Rattle.std.specs.List.{filter, flat_map}
 use Rattle.module_box.specs.declared.boxes.Box2.{Box2}
 use Rattle.certificate_lines.specs.Entries.{ModuleLines, modules_of}
 use Rattle.certificate_lines.specs.ModuleParts.{inner, is_module}

@@ -1,12 +1,7 @@
 -- The form of a line by whether it has five words
-use Rattle.std.proofs.Common.{arith, ◌≡◌, ◌==◌, if◌then◌else◌, ℕ, Bool, true, false, List, length, Option, Some, None}
-use Rattle.std.proofs.Common.{refl}
-use Rattle.std.proofs.Common.{sym, ap, ◌∙◌, codes}
-use Rattle.std.specs.Str.{bytes_eq}
-use Rattle.std.proofs.lemmas.Bool.{cases_Bool, cond-false, cond-true}
-use Rattle.std.proofs.lemmas.Option.{same_Some}
-use Rattle.std.proofs.lemmas.Slice.Eq.{bytes_eq-Decides}
-use Rattle.std.proofs.lemmas.Grind.{common_steps}
+use Rattle.lemmas.proofs.Common.{◌==◌, ◌∙◌, ◌≡◌, Bool, List, None, Option, Some, ap, arith, codes, false, if◌then◌else◌}
+use Rattle.lemmas.proofs.Common.{length, refl, sym, true, ℕ, bytes_eq, bytes_eq-Decides, cases_Bool, common_steps}
+use Rattle.lemmas.proofs.Common.{cond-false, cond-true, same_Some, test_failed, tested_value}
 use Rattle.section_text.specs.Listed.{list_of_five_words}
 use Rattle.section_text.specs.Words.{five, is_word, is_word_at, lone, lone_name, lone_number, ◌>>=◌}
 use Rattle.section_text.specs.declared.words.FiveWords.{FiveWords}
@@ -49,15 +44,11 @@ pub stop_form : (ws : List (List ℕ)) (o : Option StopLine) → is_word_at ws 0
 unfolding form_of
 stop_form ws o edge halo stop is = grind (arith, common_steps, cond-false, cond-true)
 
-five_is : {A : Type 0} (b : Bool) (x y : A) → (if b then Some x else None) ≡ Some y → x ≡ y
-five_is true x y e = same_Some x y e
-five_is false x y e = absurd cc
-
 -- the words of a line of five
 pub five_words_are : (ws : List (List ℕ)) (w : FiveWords) → Some (list_of_five_words w) ≡ five ws →
     ws ≡ list_of_five_words w
 unfolding five
-five_words_are ws w e = five_is (length ws == 5) ws (list_of_five_words w) (sym e)
+five_words_are ws w e = tested_value (length ws == 5) ws (list_of_five_words w) (sym e)
 
 pub long_form_is : (ws : List (List ℕ)) (w : FiveWords) → Some (list_of_five_words w) ≡ five ws →
     form_of (list_of_five_words w) ≡ form_of ws
@@ -65,13 +56,9 @@ long_form_is ws w e = ap form_of (sym (five_words_are ws w e))
 
 -- ---- lines of another number of words
 
-no_five : {A : Type 0} (b : Bool) (x : A) → (if b then Some x else None) ≡ None → b ≡ false
-no_five true x e = absurd cc
-no_five false x e = refl
-
 pub no_stop : (ws : List (List ℕ)) → None ≡ five ws → None ≡ stop_of ws
 unfolding five stop_of
-no_stop ws e = sym (cond-false _ _ _ (no_five (length ws == 5) ws (sym e)))
+no_stop ws e = sym (cond-false _ _ _ (test_failed (length ws == 5) ws (sym e)))
 
 -- a word that is one keyword is no other
 other_word : (o : Option (List ℕ)) (k m : List ℕ) → bytes_eq k m ≡ false → is_word o k ≡ true → is_word o m ≡ false
@@ -105,4 +92,4 @@ short_is ws border stop area =
 
 pub short_form_is : (ws : List (List ℕ)) → None ≡ five ws → form_of_not_five_words ws ≡ form_of ws
 unfolding five border_of stop_of area_of
-short_form_is ws e = grind (arith, common_steps, no_five, short_is, cond-false)
+short_form_is ws e = grind (arith, common_steps, test_failed, short_is, cond-false)

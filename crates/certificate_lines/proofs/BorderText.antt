@@ -1,14 +1,9 @@
 -- The content of an edge or halo line, by the bytes behind its keyword.
-use Rattle.std.proofs.Common.{◌≡◌, ◌==◌, ℕ, suc, ◌-◌, ◌<◌, Bool, true, false, List, [], ◌∷◌, ◌++◌, length, take, drop}
-use Rattle.std.proofs.Common.{Option, Some, None, ◌&&◌, refl, sym, ap, subst, ◌∙◌, inl, inr, arith, codes}
-use Rattle.std.specs.List.{join_with_byte, list_all, onto_first}
-use Rattle.std.specs.Str.{bytes_eq}
-use Rattle.std.proofs.lemmas.Bool.{cases_Bool, cond-false, false≢true}
-use Rattle.std.proofs.lemmas.Bool.Decides.{nat_tests}
-use Rattle.std.proofs.lemmas.List.{take-append-drop, take_rest}
-use Rattle.std.proofs.lemmas.List.Splits.{join_with_byte-slice_split, slice_split-cons_no}
-use Rattle.std.proofs.lemmas.Slice.Eq.{bytes_eq-Decides}
-use Rattle.std.proofs.lemmas.Grind.{common_steps}
+use Rattle.lemmas.proofs.Common.{[], ◌&&◌, ◌++◌, ◌-◌, ◌<◌, ◌==◌, ◌∙◌, ◌∷◌, ◌≡◌, Bool, List, None, Option, Some, ap}
+use Rattle.lemmas.proofs.Common.{arith, codes, drop, false, inl, inr, length, refl, subst, suc, sym, take}
+use Rattle.lemmas.proofs.Common.{take-append-drop, true, ℕ, bytes_eq, bytes_eq-Decides, cases_Bool, common_steps}
+use Rattle.lemmas.proofs.Common.{cond-false, false≢true, join_with_byte, join_with_byte-slice_split, list_all}
+use Rattle.lemmas.proofs.Common.{nat_tests, onto_first, slice_split-cons_no, take_rest, and_parts}
 use Rattle.section_text.specs.Leading.{leading_number}
 use Rattle.section_text.specs.Words.{is_lower, is_name, is_name_byte, is_space, is_word_at, name_at, name_of, number_at}
 use Rattle.section_text.specs.Words.{number_of, words_of, ◌>>=◌}
@@ -109,19 +104,15 @@ name_letter b e = grind (arith, nat_tests)
 small_letter : (b : ℕ) → is_lower b ≡ true → is_space b ≡ false
 small_letter b e = grind (arith, nat_tests)
 
-both : (a b : Bool) → (a && b) ≡ true → (a ≡ true) × (b ≡ true)
-both true b e = (refl, e)
-both false b e = absurd cc
-
 letters : (bs : List ℕ) → list_all is_name_byte bs ≡ true → words_of bs ≡ bs ∷ []
 letters [] e = refl
 letters (b ∷ bs) e =
-    let all = both (is_name_byte b) (list_all is_name_byte bs) e in
+    let all = and_parts (is_name_byte b) (list_all is_name_byte bs) e in
     slice_split-cons_no is_space b bs (name_letter b all.0) ∙ ap (onto_first b) (letters bs all.1)
 
 name_word : (w : List ℕ) → is_name w ≡ true → words_of w ≡ w ∷ []
 name_word [] e = absurd cc
-name_word (b ∷ bs) e = grind (arith, common_steps, both, slice_split-cons_no, small_letter, letters)
+name_word (b ∷ bs) e = grind (arith, common_steps, and_parts, slice_split-cons_no, small_letter, letters)
 
 no_signal : (l : List ℕ) → one_or_name_from_word l ≡ None → (ws : List (List ℕ)) → words_of l ≡ ws →
     one_or_name_of_one_word ws ≡ one_or_name_from_word l

@@ -1,9 +1,7 @@
 -- The places of the cells of a box, row by row
-use Rattle.std.proofs.Common.{◌≡◌, ℕ, zero, suc, ◌+◌, ◌-◌, ◌*◌, ◌<◌, ◌≤◌, true, List, [], ◌∷◌, ◌++◌, map, length, Some}
-use Rattle.std.proofs.Common.{refl, sym, ap, ap₂, ◌∙◌, arith, ℤ, pos, slice_get, unwrap_or, flat_map}
-use Rattle.std.specs.List.{range_with_len}
-use Rattle.std.proofs.lemmas.List.{length-map, length-append}
-use Rattle.std.proofs.lemmas.Grind.{common_steps}
+use Rattle.lemmas.proofs.Common.{[], ◌*◌, ◌++◌, ◌+◌, ◌-◌, ◌<◌, ◌∙◌, ◌∷◌, ◌≡◌, ◌≤◌, List, Some, ap, ap₂, arith, flat_map}
+use Rattle.lemmas.proofs.Common.{length, length-append, map, pos, refl, slice_get, suc, sym, true, unwrap_or, zero, ℕ}
+use Rattle.lemmas.proofs.Common.{ℤ, common_steps, length-map, range_with_len, mapped_at}
 use Rattle.bbm_rule.specs.declared.block.Cell.{Cell}
 use Rattle.pattern.specs.Layout.{cell, row_cells, rectangle_cells}
 use Rattle.bbm_rule.specs.Plane.{is_at}
@@ -83,12 +81,6 @@ cells_inside b k c e = sym (in_box_cells b c.x c.y)
     ∙ any_at (λ (d : Cell). is_at d c.x c.y) (box_cells b) k c e (cell_itself c)
 
 -- ---- a list with an element for each cell of a box
-
-mapped_at : {A B : Type 0} (f : A → B) (xs : List A) (i : ℕ) (a : A) → slice_get xs i ≡ Some a →
-    slice_get (map f xs) i ≡ Some (f a)
-mapped_at f [] i a e = absurd cc
-mapped_at f (x ∷ xs) zero a e = ap (λ (b : _). Some (f b)) (some_is x a e)
-mapped_at f (x ∷ xs) (suc i) a e = mapped_at f xs i a e
 
 mapped_from : {A B : Type 0} (g : A → B) (xs : List A) (i : ℕ) (b : B) (other : A) → slice_get (map g xs) i ≡ Some b →
     g (unwrap_or (slice_get xs i) other) ≡ b

@@ -1,14 +1,9 @@
 -- The modules so far, after one more module and after one more line.
-use Rattle.std.proofs.Common.{◌≡◌, ℕ, ◌+◌, ◌-◌, ◌%◌, ◌<◌, ◌≤◌, ℤ, Bool, true, false, not, ◌&&◌, ◌||◌, List, []}
-use Rattle.std.proofs.Common.{◌∷◌, ◌++◌, length, Option, Some, None, refl, sym, ap, ap₂, subst, ◌∙◌, inl, inr, arith}
-use Rattle.std.proofs.Common.{slice_get, nat_lt}
-use Rattle.std.specs.List.{list_any, list_all}
-use Rattle.std.proofs.lemmas.Bool.{true≢false}
-use Rattle.std.proofs.lemmas.Bool.Decides.{nat_tests}
-use Rattle.std.proofs.lemmas.List.{length_push, map-append}
-use Rattle.std.proofs.lemmas.List.Folds.{list_any-append}
-use Rattle.std.proofs.lemmas.Option.{slice_get_within}
-use Rattle.std.proofs.lemmas.Grind.{common_steps}
+use Rattle.lemmas.proofs.Common.{[], ◌%◌, ◌&&◌, ◌++◌, ◌+◌, ◌-◌, ◌<◌, ◌||◌, ◌∙◌, ◌∷◌, ◌≡◌, ◌≤◌, Bool, List, None, Option}
+use Rattle.lemmas.proofs.Common.{Some, ap, ap₂, arith, false, inl, inr, length, nat_lt, not, refl, slice_get, subst}
+use Rattle.lemmas.proofs.Common.{sym, true, true≢false, ℕ, ℤ, common_steps, length_push, list_all, list_any}
+use Rattle.lemmas.proofs.Common.{list_any-append, map-append, nat_tests, slice_get_within, none_at, not_below_by_test}
+use Rattle.lemmas.proofs.Common.{or_parts}
 use Rattle.bbm_rule.specs.Board.{Board, live, HasSameSize}
 use Rattle.section_text.specs.Codes.{code_if}
 use Rattle.pattern.specs.Lines.{size_fault}
@@ -46,23 +41,16 @@ pub record IsGoodBox (s : LayoutHeader) (b : Box2) : Type 0 where
   pub high : (2 ≤ b.h) × (b.h ≤ 64)
   pub inside : IsInside s.w s.h b
 
-pub or_false : (a b : Bool) → (a || b) ≡ false → (a ≡ false) × (b ≡ false)
-or_false true b e = absurd cc
-or_false false b e = (refl, e)
-
 side : (n : ℕ) → is_wrong_side n ≡ false → (n % 2 ≡ 0) × (2 ≤ n) × (n ≤ 64)
 side n e = (grind (arith, nat_tests), grind (arith, nat_tests), grind (arith, nat_tests))
 
 even_by : (n : ℕ) → is_odd n ≡ false → n % 2 ≡ 0
 even_by n e = grind (arith, nat_tests)
 
-at_most : (a b : ℕ) → nat_lt a b ≡ false → b ≤ a
-at_most a b e = grind (arith, nat_tests)
-
 box_good : (s : LayoutHeader) (b : Box2) → is_wrong_side b.w ≡ false → is_wrong_side b.h ≡ false →
     is_misplaced s b ≡ false →
     IsGoodBox s b
-box_good s b wide high placed = grind (arith, common_steps, side, or_false, even_by, at_most)
+box_good s b wide high placed = grind (arith, common_steps, side, or_parts, even_by, not_below_by_test)
 
 -- what the tests of a `module` line say
 pub record IsGoodModule (g : Setting) (ms : List ModuleLines) (before : Option ModuleLines) (b : Box2) : Type 0 where
@@ -80,7 +68,7 @@ record PassesAlone (g : Setting) (count : ℕ) (before : Option ModuleLines) (b 
 passes_alone : (g : Setting) (count : ℕ) (before : Option ModuleLines) (b : Box2) → box_fault g count before b ≡ None →
     PassesAlone g count before b
 unfolding box_fault
-passes_alone g count before b e = grind (arith, common_steps, both_none, or_false, no_code, less, box_good)
+passes_alone g count before b e = grind (arith, common_steps, both_none, or_parts, no_code, less, box_good)
 
 pub good_module : (g : Setting) (ms : List ModuleLines) (before : Option ModuleLines) (b : Box2) →
     module_fault g ms before b ≡ None → IsGoodModule g ms before b
@@ -146,9 +134,6 @@ pub missing_none : (g : Setting) (entries : List CertificateLine) (lacks full : 
     (lacks || not full) ≡ false → None ≡ end_fault g entries
 unfolding end_fault
 missing_none g entries lacks full p q h = ap (λ b. code_if b SomethingMissing) (sym h ∙ ap₂ (λ a b. a || b) p q)
-
-none_at : {A : Type 0} (i : ℕ) (a : A) → slice_get [] i ≡ Some a → ⊥
-none_at i a e = cc
 
 -- a module without lines
 begun_module : (g : Setting) (b : Box2) → IsGoodBox g.size b → IsModule g (record { area = b; lines = [] })
@@ -261,8 +246,8 @@ module _ (g : Setting) (ms : List ModuleLines) where
 pub near_by : (s : LayoutHeader) (b : Box2) → size_fault s ≡ None → is_misplaced s b ≡ false → IsNear s b
 near_by s b sized placed =
     let sides = size_sides s sized in
-    let bottom = or_false _ (nat_lt s.h (b.y + b.h)) placed in
-    let right = or_false _ (nat_lt s.w (b.x + b.w)) bottom.0 in
-    let r = at_most s.w (b.x + b.w) right.1 in
-    let d = at_most s.h (b.y + b.h) bottom.1 in
+    let bottom = or_parts _ (nat_lt s.h (b.y + b.h)) placed in
+    let right = or_parts _ (nat_lt s.w (b.x + b.w)) bottom.0 in
+    let r = not_below_by_test s.w (b.x + b.w) right.1 in
+    let d = not_below_by_test s.h (b.y + b.h) bottom.1 in
     grind (arith, common_steps)

@@ -1,8 +1,6 @@
 -- The last of the counts.
-use Rattle.std.proofs.Common.{◌≡◌, ℕ, suc, ◌-◌, ◌<◌, List, [], ◌∷◌, length, get_or, Some, refl, sym, ap, ◌∙◌, arith}
-use Rattle.std.specs.Prelude.{slice_set}
-use Rattle.std.proofs.lemmas.Option.{slice_get-get_or}
-use Rattle.std.proofs.lemmas.Grind.{common_steps}
+use Rattle.lemmas.proofs.Common.{[], ◌-◌, ◌<◌, ◌∙◌, ◌∷◌, ◌≡◌, List, Some, ap, arith, get_or, length, refl, slice_set}
+use Rattle.lemmas.proofs.Common.{suc, sym, ℕ, common_steps, slice_get-get_or}
 use Rattle.certificate_lines.specs.Entries.{change_last, last_of}
 use Rattle.certificate_lines.proofs.Growing.{last_by_place}
 

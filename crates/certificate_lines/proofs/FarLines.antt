@@ -1,8 +1,6 @@
 -- Edge lines of a box that a halo does not reach
-use Rattle.std.proofs.Common.{arith, ◌≡◌, Bool, true, false, if◌then◌else◌, List, [], ◌∷◌, refl, ◌∙◌, inl, inr}
-use Rattle.std.proofs.Common.{filter}
-use Rattle.std.proofs.lemmas.Bool.{and_parts, cases_Bool, false≢true}
-use Rattle.std.proofs.lemmas.Grind.{common_steps}
+use Rattle.lemmas.proofs.Common.{[], ◌∙◌, ◌∷◌, ◌≡◌, Bool, List, arith, false, filter, if◌then◌else◌, inl, inr, refl}
+use Rattle.lemmas.proofs.Common.{true, and_parts, cases_Bool, common_steps, false≢true}
 use Rattle.module_box.specs.Boxes.{in_box, in_halo, in_ring, is_near}
 use Rattle.module_box.specs.declared.boxes.Box2.{Box2}
 use Rattle.module_box.proofs.NearBoxes.{near_boxes}

@@ -1,12 +1,7 @@
 -- If all elements of a joined list have a property, those of each of its parts have it.
-use Rattle.std.proofs.Common.{arith, ◌≡◌, ℕ, zero, suc, ◌+◌, ◌<◌, List, [], ◌∷◌, ◌++◌, length, Some, sym, ap, subst}
-use Rattle.std.proofs.Common.{◌∙◌}
-use Rattle.std.proofs.Common.{get_or, take, slice_get, All, flat_map}
-use Rattle.std.proofs.lemmas.List.{append-nil, take_more}
-use Rattle.std.proofs.lemmas.Grind.{flat_map-append}
-use Rattle.std.proofs.lemmas.List.Elements.{All-nil, All-head, All-tail, All-cons}
-use Rattle.std.proofs.lemmas.Option.{slice_get-get_or}
-use Rattle.std.proofs.lemmas.Grind.{common_steps}
+use Rattle.lemmas.proofs.Common.{[], ◌++◌, ◌+◌, ◌<◌, ◌∙◌, ◌∷◌, ◌≡◌, All, List, Some, ap, append-nil, arith, flat_map}
+use Rattle.lemmas.proofs.Common.{get_or, length, slice_get, subst, suc, sym, take, zero, ℕ, All-cons, All-head, All-nil}
+use Rattle.lemmas.proofs.Common.{All-tail, common_steps, flat_map-append, slice_get-get_or, take_more}
 use Rattle.certificate_lines.proofs.Lists.{some_is}
 
 pub all_left : {A : Type 0} (P : A → Type 0) (xs ys : List A) → All P (xs ++ ys) → All P xs

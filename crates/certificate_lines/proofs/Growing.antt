@@ -1,9 +1,7 @@
 -- The modules of lines after one more line.
-use Rattle.std.proofs.Common.{◌≡◌, ◌⊎◌, ℕ, zero, suc, ◌+◌, ◌<◌, List, [], ◌∷◌, ◌++◌, map, length, ◌-◌, Some, option_map}
-use Rattle.std.proofs.Common.{refl, sym, ap, ◌∙◌, inl, inr, arith, append-nil, slice_get, flat_map}
-use Rattle.std.proofs.lemmas.List.Sums.{fold_push}
-use Rattle.std.proofs.lemmas.Grind.{flat_map-append}
-use Rattle.std.proofs.lemmas.Grind.{common_steps}
+use Rattle.lemmas.proofs.Common.{[], ◌++◌, ◌+◌, ◌-◌, ◌<◌, ◌∙◌, ◌∷◌, ◌≡◌, ◌⊎◌, List, Some, ap, append-nil, arith}
+use Rattle.lemmas.proofs.Common.{flat_map, inl, inr, length, map, option_map, refl, slice_get, suc, sym, zero, ℕ}
+use Rattle.lemmas.proofs.Common.{common_steps, flat_map-append, fold_push}
 use Rattle.certificate_lines.specs.Entries.{ModuleLines, module_with_line, change_last, last_of, add_line, modules_of}
 use Rattle.certificate_lines.specs.Entries.{areas}
 use Rattle.certificate_lines.specs.declared.certificate_line.CertificateLine.{CertificateLine}

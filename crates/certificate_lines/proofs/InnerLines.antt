@@ -1,9 +1,8 @@
 -- The lines before the next `module` line.
-use Rattle.std.proofs.Common.{◌≡◌, ℕ, zero, suc, ◌+◌, ◌<◌, ◌≤◌, Bool, true, false, List, [], ◌∷◌, ◌++◌, length, take}
-use Rattle.std.proofs.Common.{drop, refl, sym, ap, subst, ◌∙◌, arith, get_or}
+use Rattle.lemmas.proofs.Common.{[], ◌++◌, ◌+◌, ◌<◌, ◌∙◌, ◌∷◌, ◌≡◌, ◌≤◌, Bool, List, ap, append-nil, append_assoc}
+use Rattle.lemmas.proofs.Common.{arith, drop, false, get_or, length, refl, subst, suc, sym, take, true, zero, ℕ}
+use Rattle.lemmas.proofs.Common.{common_steps, drop_all, take_all, take_more}
 use Rattle.std.proofs.Math.Seq.{drop-cons}
-use Rattle.std.proofs.lemmas.List.{append-nil, append_assoc, drop_all, take_all, take_more}
-use Rattle.std.proofs.lemmas.Grind.{common_steps}
 use Rattle.certificate_lines.specs.ModuleParts.{inner, is_module}
 use Rattle.certificate_lines.specs.declared.certificate_line.CertificateLine.{CertificateLine}
 

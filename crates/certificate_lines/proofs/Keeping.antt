@@ -1,11 +1,8 @@
 -- The tables of the lines after one more line.
-use Rattle.std.proofs.Common.{◌≡◌, ℕ, ◌+◌, ◌≤◌, ℤ, Bool, true, false, not, ◌&&◌, ◌||◌, List, [], ◌∷◌, ◌++◌, length}
-use Rattle.std.proofs.Common.{Option, Some, None, option_map, refl, sym, ap, subst, ◌∙◌, arith, append-nil, replicate}
-use Rattle.std.proofs.Common.{flat_map, option_to_list}
-use Rattle.std.specs.List.{list_any}
-use Rattle.std.proofs.lemmas.List.Folds.{list_any-append}
-use Rattle.std.proofs.lemmas.List.{length_push}
-use Rattle.std.proofs.lemmas.Grind.{common_steps}
+use Rattle.lemmas.proofs.Common.{[], ◌&&◌, ◌++◌, ◌+◌, ◌||◌, ◌∙◌, ◌∷◌, ◌≡◌, ◌≤◌, Bool, List, None, Option, Some, ap}
+use Rattle.lemmas.proofs.Common.{append-nil, arith, false, flat_map, length, not, option_map, option_to_list, refl}
+use Rattle.lemmas.proofs.Common.{replicate, subst, sym, true, ℕ, ℤ, common_steps, length_push, list_any}
+use Rattle.lemmas.proofs.Common.{list_any-append, true_from_not}
 use Rattle.bbm_rule.specs.Board.{Board, live, HasSameSize}
 use Rattle.bbm_rule.specs.declared.block.Cell.{Cell}
 use Rattle.section_text.specs.Codes.{code_if, or_else}
@@ -42,7 +39,7 @@ use Rattle.certificate_lines.proofs.OrderLemmas.{inner_pushed, module_pushed}
 use Rattle.certificate_lines.proofs.KnownLemmas.{none_new}
 use Rattle.certificate_lines.proofs.LocalNames.{no_names, still_local}
 use Rattle.certificate_lines.proofs.LackedWires.{wires_begun, wires_more}
-use Rattle.certificate_lines.proofs.ModulePushes.{no_code, both_none, not_false, new_wire, good_use, cuts_cut}
+use Rattle.certificate_lines.proofs.ModulePushes.{no_code, both_none, new_wire, good_use, cuts_cut}
 use Rattle.certificate_lines.proofs.ModulePushes.{gates_use, edges_edge, halos_halo, stops_stop, known_cut, known_use}
 use Rattle.certificate_lines.proofs.ModulePushes.{known_same, cut_pushed, use_pushed, keep_pushed, edge_pushed}
 use Rattle.certificate_lines.proofs.ModulePushes.{halo_pushed, stop_pushed}
@@ -163,7 +160,7 @@ good_by : (g : Setting) (es : List CertificateLine) (i : CertificateLine) (o : O
     last_module es ≡ o →
     body_line_code g o i ≡ None → IsGoodLine g es i
 good_by g es i None is e = absurd cc
-good_by g es i (Some m) is e = grind (arith, common_steps, both_none, not_false, no_code)
+good_by g es i (Some m) is e = grind (arith, common_steps, both_none, true_from_not, no_code)
 
 pub good_line : (g : Setting) (es : List CertificateLine) (i : CertificateLine) →
     body_line_code g (last_module es) i ≡ None → IsGoodLine g es i

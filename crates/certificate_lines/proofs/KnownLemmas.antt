@@ -1,16 +1,9 @@
 -- Wires that are local, and wires that become local.
-use Rattle.std.proofs.Common.{◌≡◌, ℕ, zero, suc, ◌+◌, ◌<◌, ◌==◌, Bool, true, false, not, ◌&&◌, ◌||◌}
-use Rattle.std.proofs.Common.{List, [], ◌∷◌, ◌++◌, take, drop, get_or, length, nat_eq, append-nil}
-use Rattle.std.proofs.Common.{refl, sym, ap, ap₂, ◌∙◌, arith}
-use Rattle.std.specs.List.{list_any}
-use Rattle.std.proofs.Math.Seq.{take-suc}
-use Rattle.std.proofs.lemmas.List.Folds.{list_any-append}
-use Rattle.std.proofs.lemmas.Grind.{common_steps}
+use Rattle.lemmas.proofs.Common.{[], ◌&&◌, ◌++◌, ◌+◌, ◌<◌, ◌==◌, ◌||◌, ◌∙◌, ◌∷◌, ◌≡◌, Bool, List, ap, append-nil, ap₂}
+use Rattle.lemmas.proofs.Common.{arith, drop, false, get_or, length, nat_eq, not, refl, suc, sym, take, true, zero, ℕ}
+use Rattle.lemmas.proofs.Common.{common_steps, list_any, list_any-append, take-suc, eq_sym}
 use Rattle.module_box.specs.Locals.{is_among}
 use Rattle.certificate_lines.specs.Rules.{are_new_and_distinct}
-
-eq_sym : (v w : ℕ) → (w == v) ≡ (v == w)
-eq_sym v w = grind arith
 
 pub among : (ws : List ℕ) (w : ℕ) → list_any (nat_eq w) ws ≡ is_among ws w
 among [] w = refl

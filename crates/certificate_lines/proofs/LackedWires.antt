@@ -1,12 +1,9 @@
 -- The wires that modules lack of the edge lines beside them, and the local wires of each module
-use Rattle.std.proofs.Common.{◌≡◌, ℕ, zero, suc, ◌+◌, ◌<◌, ◌≤◌, Bool, true, false, ◌||◌, List, [], ◌∷◌, ◌++◌}
-use Rattle.std.proofs.Common.{length, map, drop, inr, Some, get_or, option_map, refl, sym, ap, ap₂, subst, ◌∙◌}
-use Rattle.std.proofs.Common.{arith, ℤ, nat_lt, slice_get, filter, flat_map}
-use Rattle.std.specs.List.{list_any}
-use Rattle.std.proofs.lemmas.Bool.{and_from, cond-true, cond-false}
-use Rattle.std.proofs.lemmas.Option.{get_or_from_slice_get, slice_get-map}
-use Rattle.std.proofs.lemmas.List.{length-map, length_push, map-append, same_from_push}
-use Rattle.std.proofs.lemmas.Grind.{common_steps}
+use Rattle.lemmas.proofs.Common.{[], ◌++◌, ◌+◌, ◌<◌, ◌||◌, ◌∙◌, ◌∷◌, ◌≡◌, ◌≤◌, Bool, List, Some, ap, ap₂, arith, drop}
+use Rattle.lemmas.proofs.Common.{false, filter, flat_map, get_or, inr, length, map, nat_lt, option_map, refl, slice_get}
+use Rattle.lemmas.proofs.Common.{subst, suc, sym, true, zero, ℕ, ℤ, and_from, common_steps, cond-false, cond-true}
+use Rattle.lemmas.proofs.Common.{get_or_from_slice_get, length-map, length_push, list_any, map-append, same_from_push}
+use Rattle.lemmas.proofs.Common.{slice_get-map}
 use Rattle.circuit.specs.Meaning.{Circuit}
 use Rattle.module_box.specs.Boxes.{in_box, in_halo}
 use Rattle.module_box.specs.declared.boxes.Box2.{Box2}

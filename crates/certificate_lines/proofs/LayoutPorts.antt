@@ -1,10 +1,7 @@
 -- The ports of a layout by their cells, and its parts, which lie inside it
-use Rattle.std.proofs.Common.{◌≡◌, ℕ, zero, suc, ℤ, Bool, true, false, not, ◌||◌, if◌then◌else◌, List, [], ◌∷◌, ◌++◌}
-use Rattle.std.proofs.Common.{◌<◌, get_or, length, Option, Some, None, refl, sym, ap, subst, ◌∙◌, arith, slice_get}
-use Rattle.std.specs.List.{list_all}
-use Rattle.std.proofs.lemmas.List.Folds.{list_all-append, list_all-map}
-use Rattle.std.proofs.lemmas.Bool.{and_parts}
-use Rattle.std.proofs.lemmas.Grind.{common_steps}
+use Rattle.lemmas.proofs.Common.{[], ◌++◌, ◌<◌, ◌||◌, ◌∙◌, ◌∷◌, ◌≡◌, Bool, List, None, Option, Some, ap, arith, false}
+use Rattle.lemmas.proofs.Common.{get_or, if◌then◌else◌, length, not, refl, slice_get, subst, suc, sym, true, zero, ℕ, ℤ}
+use Rattle.lemmas.proofs.Common.{and_parts, common_steps, list_all, list_all-append, list_all-map}
 use Rattle.bbm_rule.specs.Plane.{is_at}
 use Rattle.bbm_rule.specs.declared.block.Cell.{Cell}
 use Rattle.pattern.specs.Layout.{Pattern, in_layout, parts_of}

@@ -1,12 +1,8 @@
 -- Lines in their order
-use Rattle.std.proofs.Common.{arith, ◌≡◌, ◌⊎◌, Bool, true, false, if◌then◌else◌, List, [], ◌∷◌, ◌++◌, Ordering, Less}
-use Rattle.std.proofs.Common.{Equal}
-use Rattle.std.proofs.Common.{Greater, refl, sym, ap, ap₂, subst, ◌∙◌, inl, inr, ◌≢◌, filter, flat_map, is_lt}
-use Rattle.std.specs.Ordering.{ordering_reverse}
-use Rattle.std.specs.Cmp.{IsTotalOrder}
-use Rattle.std.proofs.lemmas.Bool.{cases_Bool, cond-true, cond-false}
-use Rattle.std.proofs.lemmas.Cmp.{then_total, on_total, nat_cmp_total}
-use Rattle.std.proofs.lemmas.Grind.{common_steps}
+use Rattle.lemmas.proofs.Common.{[], ◌++◌, ◌∙◌, ◌∷◌, ◌≡◌, ◌≢◌, ◌⊎◌, Bool, Equal, Greater, Less, List, Ordering, ap, ap₂}
+use Rattle.lemmas.proofs.Common.{arith, false, filter, flat_map, if◌then◌else◌, inl, inr, is_lt, refl, subst, sym, true}
+use Rattle.lemmas.proofs.Common.{IsTotalOrder, cases_Bool, common_steps, cond-false, cond-true, nat_cmp_total, on_total}
+use Rattle.lemmas.proofs.Common.{ordering_reverse, then_total}
 use Rattle.module_box.proofs.Rising.{cell_total}
 use Rattle.certificate_lines.specs.Orders.{time_rank}
 use Rattle.certificate_lines.specs.Versions.{border_line_cmp, insert_border_line, in_order}

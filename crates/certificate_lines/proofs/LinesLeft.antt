@@ -1,11 +1,9 @@
 -- The lines from a place on
-use Rattle.std.proofs.Common.{◌≡◌, ℕ, ◌+◌, ◌<◌, List, [], ◌∷◌, drop, length, get_or, refl, arith}
-use Rattle.std.proofs.Common.{◌-◌, take}
+use Rattle.lemmas.proofs.Common.{[], ◌+◌, ◌-◌, ◌<◌, ◌∷◌, ◌≡◌, List, arith, drop, get_or, length, refl, take, ℕ}
+use Rattle.lemmas.proofs.Common.{common_steps, length-drop, take_all}
 use Rattle.std.proofs.Math.Seq.{drop-cons}
-use Rattle.std.proofs.lemmas.Grind.{common_steps}
 use Rattle.certificate_lines.specs.Entries.{modules_of}
 use Rattle.certificate_lines.specs.declared.certificate_line.CertificateLine.{CertificateLine}
-use Rattle.std.proofs.lemmas.List.{length-drop, take_all}
 
 -- the part of a list from a place on
 pub rest_of_lines : {X : Type 0} (xs : List X) (n : ℕ) → take (length xs - n) (drop n xs) ≡ drop n xs

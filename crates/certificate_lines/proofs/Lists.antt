@@ -1,25 +1,6 @@
 -- Elements of lists, by their places.
-use Rattle.std.proofs.Common.{◌≡◌, ◌⊎◌, ℕ, zero, suc, Bool, true, false, ◌||◌, List, [], ◌∷◌, ◌++◌, Option, Some, refl}
-use Rattle.std.proofs.Common.{sym, inl, inr, slice_get}
-use Rattle.std.specs.List.{list_any}
-
-pub or_parts : (a b : Bool) → (a || b) ≡ true → (a ≡ true) ⊎ (b ≡ true)
-or_parts true b h = inl refl
-or_parts false b h = inr h
-
-pub or_left : (a b : Bool) → a ≡ true → (a || b) ≡ true
-or_left true b h = refl
-or_left false b h = absurd cc
-
-pub or_right : (a b : Bool) → b ≡ true → (a || b) ≡ true
-or_right true b h = refl
-or_right false b h = h
-
-pub same_truth : (a b : Bool) → (a ≡ true → b ≡ true) → (b ≡ true → a ≡ true) → a ≡ b
-same_truth true true f g = refl
-same_truth true false f g = sym (f refl)
-same_truth false true f g = g refl
-same_truth false false f g = refl
+use Rattle.lemmas.proofs.Common.{[], ◌++◌, ◌||◌, ◌∷◌, ◌≡◌, ◌⊎◌, Bool, List, Option, Some, false, inl, inr, refl}
+use Rattle.lemmas.proofs.Common.{slice_get, suc, sym, true, zero, ℕ, list_any, or_cases, or_right}
 
 pub some_is : {A : Type 0} (a b : A) → ◌≡◌ {A = Option A} (Some a) (Some b) → a ≡ b
 some_is a b e = cc
@@ -38,7 +19,7 @@ number_with_port_in_front test x xs p =
 
 pub passed : {A : Type 0} (test : A → Bool) (xs : List A) → list_any test xs ≡ true → IsPassed test xs
 passed test [] h = absurd cc
-passed test (x ∷ xs) h = elim (or_parts (test x) (list_any test xs) h) [
+passed test (x ∷ xs) h = elim (or_cases (test x) (list_any test xs) h) [
   | inl here ↦ record { place = 0; element = x; stands = refl; passes = here }
   | inr later ↦ number_with_port_in_front test x xs (passed test xs later)
 ]

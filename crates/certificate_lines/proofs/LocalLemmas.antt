@@ -1,15 +1,10 @@
 -- The lines of local wires after one more cut, and after one more used gate.
-use Rattle.std.proofs.Common.{◌≡◌, ℕ, zero, suc, ◌<◌, ◌==◌, Bool, true, false, not, List, [], ◌∷◌, ◌++◌, take, length}
-use Rattle.std.proofs.Common.{Option, Some, refl, sym, ap, subst, ◌∙◌, inl, inr, arith, rules, append-nil, append_assoc}
-use Rattle.std.specs.Prelude.{slice_get}
-use Rattle.std.specs.List.{All, list_all}
-use Rattle.std.specs.Option.{option_map_or}
-use Rattle.std.proofs.Math.Seq.{take-append_seam}
-use Rattle.std.proofs.lemmas.Bool.{and_parts, true≢false}
-use Rattle.std.proofs.lemmas.List.{length_push}
-use Rattle.std.proofs.lemmas.List.Elements.{All-get_or}
-use Rattle.std.proofs.lemmas.Option.{slice_get_within, get_or_from_slice_get}
-use Rattle.std.proofs.lemmas.Grind.{common_steps}
+use Rattle.lemmas.proofs.Common.{[], ◌++◌, ◌<◌, ◌==◌, ◌∙◌, ◌∷◌, ◌≡◌, Bool, List, Option, Some, ap, append-nil}
+use Rattle.lemmas.proofs.Common.{append_assoc, arith, false, inl, inr, length, not, refl, rules, slice_get, subst, suc}
+use Rattle.lemmas.proofs.Common.{sym, take, true, true≢false, zero, ℕ, All-get_or, and_parts, common_steps}
+use Rattle.lemmas.proofs.Common.{get_or_from_slice_get, length_push, list_all, option_map_or, slice_get_within}
+use Rattle.lemmas.proofs.Common.{take-append_seam, eq_itself, false_from_not, none_at}
+use Rattle.std.specs.List.{All}
 use Rattle.circuit.specs.Meaning.{Gate, Netlist}
 use Rattle.module_box.specs.Locals.{AreDifferent, AreLocalLines, IsKnown, is_among, local_wires, outs_of}
 use Rattle.module_box.proofs.Rising.{pushed}
@@ -17,13 +12,10 @@ use Rattle.certificate_lines.specs.Rules.{are_new_and_distinct}
 use Rattle.certificate_lines.proofs.Growing.{flat_push}
 use Rattle.certificate_lines.proofs.Lists.{any_at}
 
-itself : (w : ℕ) → (w == w) ≡ true
-itself w = search rules
-
 -- ---- no wire twice
 
 among_at : (ws : List ℕ) (i w : ℕ) → slice_get ws i ≡ Some w → is_among ws w ≡ true
-among_at ws i w e = any_at (λ v. v == w) ws i w e (itself w)
+among_at ws i w e = any_at (λ v. v == w) ws i w e (eq_itself w)
 
 not_there : (ws : List ℕ) (i w : ℕ) → is_among ws w ≡ false → slice_get ws i ≡ Some w → ⊥
 not_there ws i w none e = true≢false (sym (among_at ws i w e) ∙ none)
@@ -31,22 +23,15 @@ not_there ws i w none e = true≢false (sym (among_at ws i w e) ∙ none)
 pub different_push : (ws : List ℕ) (w : ℕ) → AreDifferent ws → is_among ws w ≡ false → AreDifferent (ws ++ w ∷ [])
 different_push ws w different none i j v e f = grind (arith, common_steps, pushed, not_there)
 
-not_true : (a : Bool) → not a ≡ true → a ≡ false
-not_true true h = sym h
-not_true false h = refl
-
 pub different_append : (ys xs : List ℕ) → AreDifferent xs → are_new_and_distinct xs ys ≡ true → AreDifferent (xs ++ ys)
 unfolding are_new_and_distinct
 different_append [] xs different new = subst AreDifferent (sym (append-nil xs)) different
 different_append (y ∷ ys) xs different new =
     let both = and_parts (not (is_among xs y)) (are_new_and_distinct (xs ++ y ∷ []) ys) new in
     subst AreDifferent (append_assoc xs (y ∷ []) ys)
-    (different_append ys (xs ++ y ∷ []) (different_push xs y different (not_true (is_among xs y) both.0)) both.1)
+    (different_append ys (xs ++ y ∷ []) (different_push xs y different (false_from_not (is_among xs y) both.0)) both.1)
 
 -- ---- cuts
-
-none_at : {A : Type 0} (i : ℕ) (a : A) → slice_get [] i ≡ Some a → ⊥
-none_at i a e = cc
 
 pub local_cut : (n : Netlist) (cw : List ℕ) (w : ℕ) → AreLocalLines n cw [] → length cw < 12 →
     is_among (local_wires n cw []) w ≡ false → AreLocalLines n (cw ++ w ∷ []) []

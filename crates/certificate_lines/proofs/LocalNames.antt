@@ -1,8 +1,6 @@
 -- The names of local wires in slots, after more wires are local, and before any is.
-use Rattle.std.proofs.Common.{◌≡◌, ◌∙◌, ℕ, ◌==◌, ◌||◌, true, List, ◌++◌, Option, Some, None, ap, sym, subst, IfSome}
-use Rattle.std.proofs.Common.{replicate, All}
-use Rattle.std.proofs.lemmas.List.Elements.{All-replicate}
-use Rattle.std.proofs.lemmas.List.Folds.{list_any-append}
+use Rattle.lemmas.proofs.Common.{◌++◌, ◌==◌, ◌||◌, ◌∙◌, ◌≡◌, All, IfSome, List, None, Option, Some, ap, replicate}
+use Rattle.lemmas.proofs.Common.{subst, sym, true, ℕ, All-replicate, list_any-append}
 use Rattle.circuit.specs.Meaning.{Circuit, wire_of}
 use Rattle.certificate_lines.specs.declared.local_names.LocalName.{LocalName}
 use Rattle.module_box.specs.Locals.{is_among}

@@ -1,9 +1,7 @@
 -- The boxes of modules, for a table of their owners
-use Rattle.std.proofs.Common.{◌≡◌, ℕ, ◌+◌, ◌<◌, ◌≤◌, List, [], ◌∷◌, ◌++◌, length, map, take, get_or, Some, sym, ap}
-use Rattle.std.proofs.Common.{subst, ◌∙◌, arith, None, slice_get}
-use Rattle.std.proofs.lemmas.List.{length-map, take_all, take_more}
-use Rattle.std.proofs.lemmas.Option.{slice_get-get_or, get_or_from_slice_get}
-use Rattle.std.proofs.lemmas.Grind.{common_steps}
+use Rattle.lemmas.proofs.Common.{[], ◌++◌, ◌+◌, ◌<◌, ◌∙◌, ◌∷◌, ◌≡◌, ◌≤◌, List, None, Some, ap, arith, get_or, length}
+use Rattle.lemmas.proofs.Common.{map, slice_get, subst, sym, take, ℕ, common_steps, get_or_from_slice_get, length-map}
+use Rattle.lemmas.proofs.Common.{slice_get-get_or, take_all, take_more, mapped_from}
 use Rattle.pattern.specs.Lines.{size_fault}
 use Rattle.pattern.specs.declared.layout_line.LayoutHeader.{LayoutHeader}
 use Rattle.pattern.proofs.TakenLemmas.{is_sized}
@@ -15,7 +13,7 @@ use Rattle.certificate_lines.specs.Entries.{ModuleLines, Setting, areas, counts_
 use Rattle.certificate_lines.specs.Modules.{IsModule}
 use Rattle.certificate_lines.specs.declared.certificate_line.Counts.{Counts}
 use Rattle.certificate_lines.proofs.LackedWires.{area_counted}
-use Rattle.certificate_lines.proofs.OddBlocks.{area_of, mapped_at}
+use Rattle.certificate_lines.proofs.OddBlocks.{area_of}
 
 pub more_areas : (ms : List ModuleLines) (counts : List Counts) (k : ℕ) (of : Counts) (some more : List Box2) →
     counts ≡ map counts_of ms → k < length counts → of ≡ get_or counts k of → some ≡ take k (areas ms) →
@@ -46,12 +44,12 @@ is_task g ms s boxes same limits good are =
       width = sized.width;
       height = sized.height;
       even = λ k b e.
-          let m = mapped_at (λ (m : ModuleLines). m.area) ms k b e in
+          let m = mapped_from (λ (m : ModuleLines). m.area) ms k b e in
           let is = (good k m.0 m.1).even in
           let P : Box2 → Type 0 = IsEven in
           subst P m.2 is;
       sides = λ k b e.
-          let m = mapped_at (λ (m : ModuleLines). m.area) ms k b e in
+          let m = mapped_from (λ (m : ModuleLines). m.area) ms k b e in
           let is = good k m.0 m.1 in
           let P : Box2 → Type 0 = λ b. (2 ≤ b.w) × (2 ≤ b.h) in
           subst P m.2 (is.wide.0, is.high.0);

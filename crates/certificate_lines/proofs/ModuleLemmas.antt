@@ -1,11 +1,9 @@
 -- A module after one more line.
-use Rattle.std.proofs.Common.{◌≡◌, ℕ, ◌<◌, Bool, true, false, ◌&&◌, ◌||◌, List, [], ◌∷◌, ◌++◌, Ordering, Less, Equal}
-use Rattle.std.proofs.Common.{Greater, refl, ap₂, ◌∙◌, arith}
-use Rattle.std.specs.List.{All, flat_map, list_all}
-use Rattle.std.specs.Ordering.{nat_cmp, is_lt, ordering_then}
-use Rattle.std.proofs.lemmas.Bool.{and_parts}
-use Rattle.std.proofs.lemmas.List.Elements.{All-nil, All-push, All-append}
-use Rattle.std.proofs.lemmas.List.Folds.{list_all-append}
+use Rattle.lemmas.proofs.Common.{[], ◌&&◌, ◌++◌, ◌<◌, ◌||◌, ◌∙◌, ◌∷◌, ◌≡◌, Bool, Equal, Greater, Less, List, Ordering}
+use Rattle.lemmas.proofs.Common.{ap₂, arith, false, refl, true, ℕ, All-append, All-nil, All-push, and_parts, list_all}
+use Rattle.lemmas.proofs.Common.{list_all-append, ordering_then, nat_less}
+use Rattle.std.specs.List.{All, flat_map}
+use Rattle.std.specs.Ordering.{nat_cmp, is_lt}
 use Rattle.module_box.specs.Moments.{cell_cmp}
 use Rattle.certificate_lines.specs.Entries.{use_in, keep_in, edge_in, halo_in, stop_in}
 use Rattle.certificate_lines.specs.Orders.{AreInOrder, rank_of, number_of, cell_of, line_cmp, is_cut, may_precede}
@@ -187,16 +185,13 @@ less_by Less h = refl
 less_by Equal h = cc
 less_by Greater h = cc
 
-lower : (g k : ℕ) → nat_cmp g k ≡ Less → g < k
-lower g k h = grind arith
-
 or_false : (a : Bool) → (a || false) ≡ true → a ≡ true
 or_false true h = refl
 or_false false h = h
 
 use_then_use : (g k : ℕ) → may_precede (Use g) (Use k) ≡ true → g < k
 unfolding may_precede line_cmp rank_of number_of cell_of is_cut cell_cmp
-use_then_use g k h = lower g k (less_by (nat_cmp g k) (or_false _ h))
+use_then_use g k h = nat_less g k (less_by (nat_cmp g k) (or_false _ h))
 
 pub lower_uses : (k : ℕ) (j : CertificateLine) → may_precede j (Use k) ≡ true → All (λ g. g < k) (use_in j)
 lower_uses k (Module b) h = All-nil (λ (g : ℕ). g < k)

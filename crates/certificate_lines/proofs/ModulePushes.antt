@@ -1,13 +1,9 @@
 -- A module that is good stays so after one more line that is good.
-use Rattle.std.proofs.Common.{◌≡◌, ℕ, ◌+◌, ◌%◌, ◌<◌, ◌≤◌, Bool, true, false, not, ◌&&◌, ◌||◌, List, [], ◌∷◌, ◌++◌}
-use Rattle.std.proofs.Common.{length, Option, Some, None, refl, sym, ap, ap₂, subst, ◌∙◌, arith, slice_get}
-use Rattle.std.proofs.Common.{nat_le, nat_lt, IfSome, IsTrue, All, flat_map, option_to_list}
-use Rattle.std.specs.List.{list_any, list_all}
-use Rattle.std.proofs.lemmas.Bool.{and_parts, eqb-true}
-use Rattle.std.proofs.lemmas.Bool.Decides.{nat_tests}
-use Rattle.std.proofs.lemmas.List.{length_push}
-use Rattle.std.proofs.lemmas.List.Elements.{All-nil}
-use Rattle.std.proofs.lemmas.Grind.{common_steps}
+use Rattle.lemmas.proofs.Common.{[], ◌%◌, ◌&&◌, ◌++◌, ◌+◌, ◌<◌, ◌||◌, ◌∙◌, ◌∷◌, ◌≡◌, ◌≤◌, All, Bool, IfSome, IsTrue}
+use Rattle.lemmas.proofs.Common.{List, None, Option, Some, ap, ap₂, arith, false, flat_map, length, nat_le, nat_lt, not}
+use Rattle.lemmas.proofs.Common.{option_to_list, refl, slice_get, subst, sym, true, ℕ, All-nil, and_parts, common_steps}
+use Rattle.lemmas.proofs.Common.{eqb-true, length_push, list_all, list_any, nat_tests, at_most_by_test, below_by_test}
+use Rattle.lemmas.proofs.Common.{false_from_not, true_from_not}
 use Rattle.section_text.specs.Codes.{code_if, or_else}
 use Rattle.circuit.specs.Meaning.{Circuit, Gate, wire_of}
 use Rattle.module_box.specs.Boxes.{in_box}
@@ -49,14 +45,6 @@ both_none (Some c) b e = absurd cc
 
 pub less : (a b : ℕ) → nat_le a b ≡ false → b < a
 less a b e = grind (arith, nat_tests)
-
-pub not_false : (a : Bool) → not a ≡ false → a ≡ true
-not_false true e = refl
-not_false false e = sym e
-
-not_true : (a : Bool) → not a ≡ true → a ≡ false
-not_true true e = sym e
-not_true false e = refl
 
 at_nil : {A : Type 0} (P : A → Type 0) (xs : List A) → xs ≡ [] → All P xs
 at_nil P xs none = subst (All P) (sym none) (All-nil P)
@@ -215,7 +203,7 @@ gate_by : (local : List ℕ) (o : Option Gate) → used_gate_fault local o ≡ N
     (g : Gate) × (o ≡ Some g) × (list_all (is_among local) g.ins ≡ true) × (are_new_and_distinct local g.outs ≡ true)
 unfolding used_gate_fault
 gate_by local None e = absurd cc
-gate_by local (Some g) e = grind (arith, common_steps, both_none, not_false, no_code)
+gate_by local (Some g) e = grind (arith, common_steps, both_none, true_from_not, no_code)
 
 pub good_use : (c : Circuit) (count : ℕ) (local : List ℕ) (k : ℕ) → use_fault c count local k ≡ None →
     (count < 64) × IsGoodUse c local k
@@ -273,19 +261,16 @@ module _ (g : Setting) (m : ModuleLines) (k : ℕ) where
 odd : (t : ℕ) → is_odd t ≡ true → t % 2 ≡ 1
 odd t e = eqb-true (t % 2) 1 e
 
-below : (t n : ℕ) → nat_lt t n ≡ true → t < n
-below t n e = grind (arith, nat_tests)
-
 time_good : (steps : ℕ) (starred : Bool) (t : Option ℕ) → is_line_time_allowed steps starred t ≡ true →
     IfSome t (λ t. (t % 2 ≡ 1) × (t < steps))
 unfolding is_line_time_allowed
 time_good steps starred None e = tt
-time_good steps starred (Some t) e = grind (arith, common_steps, and_parts, odd, below)
+time_good steps starred (Some t) e = grind (arith, common_steps, and_parts, odd, below_by_test)
 
 local_by : (c : Circuit) (local : List ℕ) (name : List ℕ) (o : Option ℕ) → wire_of c name ≡ o →
     wire_fault local o ≡ None → IsTrue (is_local c local name)
 local_by c local name None is e = absurd cc
-local_by c local name (Some w) is e = rw is (not_false _ (no_code _ NotLocal e))
+local_by c local name (Some w) is e = rw is (true_from_not _ (no_code _ NotLocal e))
 
 -- a signal that is good is `1` or names a wire that is local
 pub signal_good : (c : Circuit) (local : List ℕ) (s : Option (List ℕ)) → signal_fault c local s ≡ None →
@@ -304,20 +289,17 @@ pub record IsGoodBorder (c : Circuit) (count : ℕ) (local : List ℕ) (placed :
 pub good_border : (c : Circuit) (count : ℕ) (local : List ℕ) (placed : Bool) (signal : Option (List ℕ)) →
     border_line_code c count local placed signal ≡ None → IsGoodBorder c count local placed signal
 unfolding border_line_code
-good_border c count local placed signal e = grind (arith, common_steps, both_none, less, no_code, not_false)
+good_border c count local placed signal e = grind (arith, common_steps, both_none, less, no_code, true_from_not)
 
 edge_good : (g : Setting) (area : Box2) (local : List ℕ) (count : ℕ) (starred : Bool) (e : BorderLine) →
     IsGoodBorder g.circuit count local (is_edge_place_and_time g.size area starred e) e.signal → IsEdge g area local e
 unfolding is_edge_place_and_time
-edge_good g area local count starred e good = grind (arith, common_steps, and_parts, not_true, time_good, signal_good)
+edge_good g area local count starred e good = grind (arith, common_steps, and_parts, false_from_not, time_good, signal_good)
 
 halo_good : (g : Setting) (area : Box2) (local : List ℕ) (count : ℕ) (starred : Bool) (e : BorderLine) →
     IsGoodBorder g.circuit count local (is_halo_place_and_time g.size area starred e) e.signal → IsHalo g area local e
 unfolding is_halo_place_and_time
 halo_good g area local count starred e good = grind (arith, common_steps, and_parts, time_good, signal_good)
-
-at_most : (t n : ℕ) → nat_le t n ≡ true → t ≤ n
-at_most t n e = grind (arith, nat_tests)
 
 stop_good : (g : Setting) (area : Box2) (local : List ℕ) (count : ℕ) (s : StopLine) →
     IsGoodBorder g.circuit count local (is_stop_place_and_time g.size area s) (Some s.wire) → IsStop g area local s
@@ -325,7 +307,7 @@ unfolding is_stop_place_and_time
 stop_good g area local count s good =
     let parts = and_parts (in_box area s.cell.x s.cell.y) (nat_le s.time g.size.steps) good.place in
     record {
-      time = at_most s.time g.size.steps parts.1;
+      time = at_most_by_test s.time g.size.steps parts.1;
       inside = parts.0;
       wire = signal_good g.circuit local (Some s.wire) good.names;
     }
@@ -366,7 +348,7 @@ module _ (g : Setting) (m : ModuleLines) (i : CertificateLine) (no_cut : cut_in 
 
 keep_good : (g : Setting) (used : List ℕ) (k : ℕ) → keep_line_code g.circuit used k ≡ None → IsKeep g used k
 unfolding keep_line_code
-keep_good g mine k e = grind (arith, common_steps, both_none, not_false, no_code)
+keep_good g mine k e = grind (arith, common_steps, both_none, true_from_not, no_code)
 
 keeps_keep : (m : ModuleLines) (k : ℕ) → keeps (module_with_line (Keep k) m) ≡ keeps m ++ k ∷ []
 keeps_keep m k = flat_push keep_in m.lines (Keep k)

@@ -1,8 +1,6 @@
 -- The modules of lines, one after the other.
-use Rattle.std.proofs.Common.{arith, ◌≡◌, Bool, true, false, List, [], ◌∷◌, ◌++◌, drop, length, refl, sym, ap, ◌∙◌}
-use Rattle.std.proofs.Common.{fold}
-use Rattle.std.proofs.lemmas.List.{append-nil, append_assoc}
-use Rattle.std.proofs.lemmas.Grind.{common_steps}
+use Rattle.lemmas.proofs.Common.{[], ◌++◌, ◌∙◌, ◌∷◌, ◌≡◌, Bool, List, ap, append-nil, append_assoc, arith, drop, false}
+use Rattle.lemmas.proofs.Common.{fold, length, refl, sym, true, common_steps}
 use Rattle.module_box.specs.declared.boxes.Box2.{Box2}
 use Rattle.certificate_lines.specs.Entries.{ModuleLines, add_line, change_last, module_with_line, modules_of}
 use Rattle.certificate_lines.specs.ModuleParts.{inner, is_module}

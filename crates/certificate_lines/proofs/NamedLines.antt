@@ -1,5 +1,5 @@
 -- The name in a good line is that of a wire
-use Rattle.std.proofs.Common.{◌≡◌, None, Some, refl, subst, sym, IsTrue, is_some}
+use Rattle.lemmas.proofs.Common.{◌≡◌, IsTrue, None, Some, is_some, refl, subst, sym}
 use Rattle.certificate_lines.specs.BuilderView.{NamesLocalOrCutWire}
 use Rattle.certificate_lines.specs.Entries.{Setting, ModuleLines, known}
 use Rattle.certificate_lines.specs.Rules.{content_code}

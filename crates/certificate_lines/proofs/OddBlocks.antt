@@ -1,12 +1,9 @@
 -- The modules beside the cell of an edge line, by the cells of its block at odd times
-use Rattle.std.proofs.Common.{◌≡◌, ℕ, zero, suc, ◌+◌, ◌%◌, ◌<◌, ◌≤◌, Bool, true, false, not, ◌&&◌, ◌||◌, List, []}
-use Rattle.std.proofs.Common.{◌∷◌, length, map, Option, Some, None, refl, sym, ap, ap₂, ◌∙◌, inl, inr, ◌⊎◌, arith}
-use Rattle.std.proofs.Common.{eq-eqb, ℤ, pos, negsuc, ◌+ℤ◌, ◌-ℤ◌, ◌≤ℤ◌, slice_get}
-use Rattle.std.specs.List.{list_any}
-use Rattle.std.proofs.lemmas.Bool.{cases_Bool, cond-true, cond-false, ne_eqb, eqb-true, eqb-false, false≢true}
-use Rattle.std.proofs.lemmas.Int.{ints}
-use Rattle.std.proofs.lemmas.Option.{slice_get_within}
-use Rattle.std.proofs.lemmas.Grind.{common_steps}
+use Rattle.lemmas.proofs.Common.{[], ◌%◌, ◌&&◌, ◌+ℤ◌, ◌+◌, ◌-ℤ◌, ◌<◌, ◌||◌, ◌∙◌, ◌∷◌, ◌≡◌, ◌≤ℤ◌, ◌≤◌, ◌⊎◌, Bool, List}
+use Rattle.lemmas.proofs.Common.{None, Option, Some, ap, ap₂, arith, eq-eqb, false, inl, inr, length, map, ne_eqb}
+use Rattle.lemmas.proofs.Common.{negsuc, not, pos, refl, slice_get, suc, sym, true, zero, ℕ, ℤ, cases_Bool}
+use Rattle.lemmas.proofs.Common.{common_steps, cond-false, cond-true, eqb-false, eqb-true, false≢true, ints, list_any}
+use Rattle.lemmas.proofs.Common.{slice_get_within, and-false, mapped_from, or-false}
 use Rattle.bbm_rule.specs.Plane.{parity, partner}
 use Rattle.bbm_rule.specs.Spans.{in_span}
 use Rattle.bbm_rule.specs.declared.block.Cell.{Cell}
@@ -99,14 +96,6 @@ true_and : (p q : Bool) → p ≡ true → (p && q) ≡ q
 true_and true q h = refl
 true_and false q h = absurd cc
 
-and_false : (b : Bool) → (b && false) ≡ false
-and_false true = refl
-and_false false = refl
-
-or_false : (b : Bool) → (b || false) ≡ b
-or_false true = refl
-or_false false = refl
-
 pub none_passes : {X : Type 0} (p q : X → Bool) (xs : List X) →
     ((i : ℕ) (x : X) → slice_get xs i ≡ Some x → p x ≡ true → ⊥) → list_any (λ x. p x && q x) xs ≡ false
 none_passes p q [] none = refl
@@ -127,7 +116,7 @@ one_passes p q (y ∷ xs) zero x at here only =
     ap₂ (λ a b. a || b)
     (ap (λ z. p z && q z) same ∙ true_and (p x) (q x) here)
     (none_passes p q xs (λ i z there passes. zero_other i (sym (only (suc i) z there passes))))
-    ∙ or_false (q x)
+    ∙ or-false (q x)
 one_passes p q (y ∷ xs) (suc k) x at here only =
     ap₂ (λ a b. a || b) (false_and (p y) (q y) (λ passes. zero_other k (only 0 y refl passes)))
     (one_passes p q xs k x at here (λ i z there passes. one_less i k (only (suc i) z there passes)))
@@ -139,12 +128,6 @@ same_at f g (x ∷ xs) h = ap₂ (λ a b. a || b) (h 0 x refl) (same_at f g xs (
 
 -- ---- the owner of a cell
 
-pub mapped_at : {A B : Type 0} (f : A → B) (xs : List A) (k : ℕ) (b : B) → slice_get (map f xs) k ≡ Some b →
-    (a : A) × (slice_get xs k ≡ Some a) × (f a ≡ b)
-mapped_at f [] k b at = absurd cc
-mapped_at f (x ∷ xs) zero b at = (x, refl, some_is (f x) b at)
-mapped_at f (x ∷ xs) (suc k) b at = mapped_at f xs k b at
-
 pub area_of : (ms : List ModuleLines) (k : ℕ) (m : ModuleLines) → slice_get ms k ≡ Some m →
     slice_get (areas ms) k ≡ Some m.area
 area_of [] k m at = absurd cc
@@ -154,7 +137,7 @@ area_of (n ∷ ms) (suc k) m at = area_of ms k m at
 module _ (ms : List ModuleLines) (o : Owning) (good : AreOwners o (areas ms)) (x y : ℤ) where
   owner_at : in_box (rectangle o) x y ≡ true →
       (m : ModuleLines) × (slice_get ms (owner_of o x y) ≡ Some m) × (in_box m.area x y ≡ true)
-  owner_at inside = grind (arith, common_steps, mapped_at)
+  owner_at inside = grind (arith, common_steps, mapped_from)
 
   pub owner_within : in_box (rectangle o) x y ≡ true → owner_of o x y < length ms
   owner_within inside = let m = owner_at inside in slice_get_within ms (owner_of o x y) m.0 m.1
@@ -202,7 +185,7 @@ module _ (c : Circuit) (ms : List ModuleLines) where
       sym (ap (λ s. list_any (λ (m : ModuleLines).
       in_halo m.area e.cell.x e.cell.y && is_nonlocal_signal c (known c m) s) ms)
       is ∙ any_same (λ (m : ModuleLines). in_halo m.area e.cell.x e.cell.y && false) (λ m. false) ms
-      (λ m. and_false (in_halo m.area e.cell.x e.cell.y)) ∙ none_any ms)
+      (λ m. and-false (in_halo m.area e.cell.x e.cell.y)) ∙ none_any ms)
 
   -- the same, line by line or module by module
   pub lacked_by_lines : (es : List BorderLine) →

@@ -1,13 +1,8 @@
 -- Lines in order: what comes after the last comes after all.
-use Rattle.std.proofs.Common.{arith, ◌≡◌, ◌⊎◌, ℕ, Bool, true, false, ◌&&◌, List, [], ◌∷◌, ◌++◌, Some, None, Less, Equal}
-use Rattle.std.proofs.Common.{Greater, get_or, Ordering, refl, sym, ap, ◌∙◌, inl, inr, is_lt, nat_cmp}
-use Rattle.std.specs.List.{list_all}
-use Rattle.std.specs.Cmp.{IsTotalOrder}
-use Rattle.std.specs.Ordering.{ordering_then}
-use Rattle.std.proofs.lemmas.Bool.{and_parts}
-use Rattle.std.proofs.lemmas.Cmp.{then_total, on_total, nat_cmp_total}
-use Rattle.std.proofs.Math.Bool.{and-true}
-use Rattle.std.proofs.lemmas.Grind.{common_steps}
+use Rattle.lemmas.proofs.Common.{[], ◌&&◌, ◌++◌, ◌∙◌, ◌∷◌, ◌≡◌, ◌⊎◌, Bool, Equal, Greater, Less, List, None, Ordering}
+use Rattle.lemmas.proofs.Common.{Some, ap, arith, false, get_or, inl, inr, is_lt, nat_cmp, refl, sym, true, ℕ}
+use Rattle.lemmas.proofs.Common.{IsTotalOrder, and-true, and_parts, common_steps, list_all, nat_cmp_total, on_total}
+use Rattle.lemmas.proofs.Common.{ordering_then, then_total, or-false, or_cases, or_right}
 use Rattle.module_box.proofs.Rising.{cell_total}
 use Rattle.module_box.specs.Moments.{cell_cmp}
 use Rattle.certificate_lines.specs.declared.certificate_line.CertificateLine.{CertificateLine}
@@ -21,9 +16,7 @@ use Rattle.certificate_lines.specs.declared.certificate_line.BorderLine.{BorderL
 use Rattle.certificate_lines.specs.declared.certificate_line.StopLine.{StopLine}
 use Rattle.certificate_lines.specs.BuilderView.{IsBodyLine, body_line_or_none, last_body_line}
 use Rattle.certificate_lines.proofs.Growing.{last_pushed}
-use Rattle.certificate_lines.proofs.Lists.{or_parts, or_right}
 use Rattle.module_box.specs.declared.boxes.Box2.{Box2}
-use Rattle.certificate_lines.proofs.StarLemmas.{or_none}
 
 line_total : IsTotalOrder line_cmp
 unfolding line_cmp
@@ -70,12 +63,12 @@ by_cuts i j h k = or_right _ (is_cut i && is_cut j) (rw (h, k) refl)
 -- two edge lines are in order by time and cell
 pub edges_precede : (d e : BorderLine) → is_lt (border_line_cmp d e) ≡ may_precede (Edge d) (Edge e)
 unfolding may_precede line_cmp border_line_cmp rank_of number_of cell_of is_cut
-edges_precede d e = sym (or_none _)
+edges_precede d e = sym (or-false _)
 
 -- so are two halo lines
 pub halos_precede : (d e : BorderLine) → is_lt (border_line_cmp d e) ≡ may_precede (Halo d) (Halo e)
 unfolding may_precede line_cmp border_line_cmp rank_of number_of cell_of is_cut
-halos_precede d e = sym (or_none _)
+halos_precede d e = sym (or-false _)
 
 -- two equal keys leave the order to the other
 then_equal : (o : Ordering) → is_lt (ordering_then o Equal) ≡ is_lt o
@@ -86,12 +79,12 @@ then_equal Greater = refl
 -- two lines that use gates are in order by the gates' numbers
 pub uses_precede : (j k : ℕ) → is_lt (nat_cmp j k) ≡ may_precede (Use j) (Use k)
 unfolding may_precede line_cmp rank_of number_of cell_of is_cut cell_cmp
-uses_precede j k = sym (then_equal (nat_cmp j k)) ∙ sym (or_none _)
+uses_precede j k = sym (then_equal (nat_cmp j k)) ∙ sym (or-false _)
 
 -- and two stops
 pub stops_precede : (s t : StopLine) → is_lt (line_cmp (Stop s) (Stop t)) ≡ may_precede (Stop s) (Stop t)
 unfolding may_precede is_cut
-stops_precede s t = sym (or_none _)
+stops_precede s t = sym (or-false _)
 
 -- ---- a line by its kind
 pub edge_is : (l : CertificateLine) (e : BorderLine) → e ∷ [] ≡ edge_in l → l ≡ Edge e
@@ -125,7 +118,7 @@ stop_is (Stop t) s h = ap Stop (sym (ap (λ l. get_or l 0 s) h))
 precede_parts : (i j : CertificateLine) → may_precede i j ≡ true →
     (line_cmp i j ≡ Less) ⊎ ((is_cut i ≡ true) × (is_cut j ≡ true))
 unfolding may_precede
-precede_parts i j h = grind (arith, common_steps, or_parts, is_less, and_parts)
+precede_parts i j h = grind (arith, common_steps, or_cases, is_less, and_parts)
 
 less_then_cut : (i j k : CertificateLine) → line_cmp i j ≡ Less → is_cut j ≡ true → is_cut k ≡ true →
     line_cmp i k ≡ Less

@@ -1,11 +1,8 @@
 -- Lists in which each element stands as it should to every later one.
-use Rattle.std.proofs.Common.{◌≡◌, ℕ, zero, suc, ◌<◌, List, [], ◌∷◌, ◌++◌, Some, ap, subst, ◌∙◌, arith, map, slice_get}
-use Rattle.std.proofs.Common.{option_map, All, flat_map}
-use Rattle.std.proofs.lemmas.List.Elements.{All-tail}
-use Rattle.std.proofs.lemmas.Option.{slice_get-map}
+use Rattle.lemmas.proofs.Common.{[], ◌++◌, ◌<◌, ◌∙◌, ◌∷◌, ◌≡◌, All, List, Some, ap, arith, flat_map, map, option_map}
+use Rattle.lemmas.proofs.Common.{slice_get, subst, suc, zero, ℕ, All-tail, common_steps, slice_get-map}
 use Rattle.std.specs.declared.cmp.Ordering.{Ordering}
 use Rattle.std.specs.declared.cmp.Ordering.TheVariants.{Less}
-use Rattle.std.proofs.lemmas.Grind.{common_steps}
 use Rattle.module_box.specs.Schedules.{IsRising}
 use Rattle.certificate_lines.proofs.Lists.{some_is}
 

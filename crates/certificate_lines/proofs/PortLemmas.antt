@@ -1,6 +1,6 @@
 -- The cells of a box.
-use Rattle.std.proofs.Common.{◌≡◌, ℤ, Bool, true, List, [], ◌∷◌, ap, ◌∙◌, inl, inr}
-use Rattle.std.specs.List.{list_any}
+use Rattle.lemmas.proofs.Common.{[], ◌∙◌, ◌∷◌, ◌≡◌, Bool, List, ap, inl, inr, true, ℤ, list_any, or_cases, or_left}
+use Rattle.lemmas.proofs.Common.{or_right}
 use Rattle.bbm_rule.specs.Plane.{is_at}
 use Rattle.bbm_rule.specs.declared.block.Cell.{Cell}
 use Rattle.bbm_rule.proofs.SameCells.{cell_same, cell_itself}
@@ -9,7 +9,6 @@ use Rattle.pattern.proofs.RectangleLemmas.{in_rectangle_cells}
 use Rattle.module_box.specs.Boxes.{in_box}
 use Rattle.module_box.specs.declared.boxes.Box2.{Box2}
 use Rattle.certificate_lines.specs.Rules.{box_cells}
-use Rattle.certificate_lines.proofs.Lists.{or_parts, or_left, or_right}
 
 -- ---- the cells of a box
 
@@ -17,7 +16,7 @@ use Rattle.certificate_lines.proofs.Lists.{or_parts, or_left, or_right}
 pub cell_passed : (test : Cell → Bool) (cells : List Cell) → list_any test cells ≡ true →
     (c : Cell) × (in_cells cells c.x c.y ≡ true) × (test c ≡ true)
 cell_passed test [] h = absurd cc
-cell_passed test (c ∷ cells) h = elim (or_parts (test c) (list_any test cells) h) [
+cell_passed test (c ∷ cells) h = elim (or_cases (test c) (list_any test cells) h) [
   | inl here ↦ (c, or_left (is_at c c.x c.y) _ (cell_itself c), here)
   | inr more ↦ let r = cell_passed test cells more in (r.0, or_right (is_at c r.0.x r.0.y) _ r.1, r.2)
 ]
@@ -25,7 +24,7 @@ cell_passed test (c ∷ cells) h = elim (or_parts (test c) (list_any test cells)
 pub has_cell : (test : Cell → Bool) (cells : List Cell) (d : Cell) → in_cells cells d.x d.y ≡ true → test d ≡ true →
     list_any test cells ≡ true
 has_cell test [] d h t = absurd cc
-has_cell test (c ∷ cells) d h t = elim (or_parts (is_at c d.x d.y) (in_cells cells d.x d.y) h) [
+has_cell test (c ∷ cells) d h t = elim (or_cases (is_at c d.x d.y) (in_cells cells d.x d.y) h) [
   | inl here ↦ or_left (test c) _ (ap test (cell_same c d here) ∙ t)
   | inr more ↦ or_right (test c) _ (has_cell test cells d more t)
 ]

@@ -1,13 +1,10 @@
 -- The numbers of the rows with a port, for the contracts of `entry_place` and `number_rows`.
-use Rattle.std.proofs.Common.{◌≡◌, ◌∙◌, ◌⊎◌, ℕ, zero, suc, ◌+◌, ◌-◌, ◌*◌, ◌<◌, ◌≤◌, ℤ, true, List, [], ◌∷◌, length}
-use Rattle.std.proofs.Common.{get_or, set, replicate, Option, Some, None, refl, sym, ap, ap₂, subst, inl, inr, arith}
-use Rattle.std.proofs.Common.{pos, slice_get, option_map}
-use Rattle.std.specs.Int.RustNames.{unsigned_abs}
-use Rattle.std.proofs.lemmas.Bool.{and_parts, and_from, cases_lt}
-use Rattle.std.proofs.lemmas.Grind.{common_steps}
+use Rattle.lemmas.proofs.Common.{[], ◌*◌, ◌+◌, ◌-◌, ◌<◌, ◌∙◌, ◌∷◌, ◌≡◌, ◌≤◌, ◌⊎◌, List, None, Option, Some, ap, ap₂}
+use Rattle.lemmas.proofs.Common.{arith, get_or, get_or-set_same, inl, inr, length, length-set, option_map, pos, refl}
+use Rattle.lemmas.proofs.Common.{replicate, set, slice_get, subst, suc, sym, true, zero, ℕ, ℤ, and_from, and_parts}
+use Rattle.lemmas.proofs.Common.{cases_lt, common_steps, get_or_default, length-replicate, slice_get_within}
+use Rattle.lemmas.proofs.Common.{unsigned_abs}
 use Rattle.bbm_rule.proofs.Spans.{span_from, span_parts}
-use Rattle.std.proofs.lemmas.List.{length-set, length-replicate, get_or_default, get_or-set_same}
-use Rattle.std.proofs.lemmas.Option.{slice_get_within}
 use Rattle.bbm_rule.specs.declared.block.Cell.{Cell}
 use Rattle.pattern.specs.declared.layout_line.Port.{Port}
 use Rattle.module_box.specs.Boxes.{in_box}

@@ -1,18 +1,11 @@
 -- The cells of lines with a star.
-use Rattle.std.proofs.Common.{arith, ◌≡◌, Bool, true, false, ◌&&◌, ◌||◌, if◌then◌else◌, List, [], ◌∷◌, ◌++◌, Option}
-use Rattle.std.proofs.Common.{Some}
-use Rattle.std.proofs.Common.{None, length, refl, sym, ap, ◌∙◌, is_some, ℕ}
-use Rattle.std.specs.List.{list_any}
-use Rattle.std.proofs.lemmas.List.Folds.{list_any-append}
-use Rattle.std.proofs.lemmas.Grind.{common_steps}
+use Rattle.lemmas.proofs.Common.{[], ◌&&◌, ◌++◌, ◌||◌, ◌∙◌, ◌∷◌, ◌≡◌, Bool, List, None, Option, Some, ap, arith, false}
+use Rattle.lemmas.proofs.Common.{if◌then◌else◌, is_some, length, refl, sym, true, ℕ, common_steps, list_any}
+use Rattle.lemmas.proofs.Common.{list_any-append, or-false}
 use Rattle.bbm_rule.specs.declared.block.Cell.{Cell}
 use Rattle.certificate_lines.specs.Rules.{same_cell, is_star, is_starred_line_at}
 use Rattle.certificate_lines.specs.declared.certificate_line.BorderLine.{BorderLine}
 use Rattle.bbm_rule.proofs.SameCells.{cell_same}
-
-pub or_none : (a : Bool) → (a || false) ≡ a
-or_none true = refl
-or_none false = refl
 
 by_true : (a : Bool) → a ≡ true → a ≡ (a || true)
 by_true true h = refl
@@ -31,12 +24,12 @@ again : (keys : List Cell) (c d : Cell) (s : Bool) → same_cell c d ≡ s → l
     list_any (same_cell c) keys ≡ (list_any (same_cell c) keys || s)
 again keys c d true same there =
     by_true (list_any (same_cell c) keys) (ap (λ (x : Cell). list_any (same_cell x) keys) (cell_same c d same) ∙ there)
-again keys c d false same there = sym (or_none _)
+again keys c d false same there = sym (or-false _)
 
 inserted_by : (b : Bool) (keys : List Cell) (c d : Cell) → list_any (same_cell d) keys ≡ b →
     list_any (same_cell c) (if b then keys else keys ++ d ∷ []) ≡ (list_any (same_cell c) keys || same_cell c d)
 inserted_by true keys c d h = again keys c d (same_cell c d) refl h
-inserted_by false keys c d h = grind (arith, common_steps, list_any-append, or_none)
+inserted_by false keys c d h = grind (arith, common_steps, list_any-append, or-false)
 
 pub star_noted : (keys new : List Cell) (e : BorderLine) → is_some e.time ≡ false →
     new ≡ (if list_any (same_cell e.cell) keys then keys else keys ++ e.cell ∷ []) → (c : Cell) →
@@ -45,7 +38,7 @@ star_noted keys new e none is c = grind (arith, common_steps, inserted_by, starr
 
 pub no_star : (keys : List Cell) (e : BorderLine) → is_some e.time ≡ true → (c : Cell) →
     list_any (same_cell c) keys ≡ (list_any (same_cell c) keys || is_starred_line_at c e)
-no_star keys e some c = grind (arith, common_steps, timed, or_none)
+no_star keys e some c = grind (arith, common_steps, timed, or-false)
 
 pub none_starred : (keys : List Cell) (c : Cell) → length keys ≡ 0 → false ≡ list_any (same_cell c) keys
 none_starred [] c none = refl

@@ -1,19 +1,11 @@
 -- The tables of ports, and the ports in a box.
-use Rattle.std.proofs.Common.{◌≡◌, ℕ, zero, suc, ◌+◌, ◌*◌, ◌<◌, ◌≤◌, ℤ, Bool, true, false, ◌&&◌, ◌||◌, if◌then◌else◌}
-use Rattle.std.proofs.Common.{List, [], ◌∷◌, ◌++◌, ◌-◌, nat_eq, set, take, to_z, w32, drop, length, length-take-le}
-use Rattle.std.proofs.Common.{get_or, replicate, Option, Some, None, refl, sym, ap, ap₂, subst, ◌∙◌, arith, slice_get}
-use Rattle.std.proofs.Common.{flat_map}
-use Rattle.std.specs.List.{list_all, list_any, range_with_len}
-use Rattle.std.specs.Option.{option_map_or}
-use Rattle.std.proofs.Math.Nat.{mul-le-mul_right}
-use Rattle.std.proofs.Math.Seq.{take-suc}
-use Rattle.std.proofs.lemmas.Bool.{and_parts, eqb-true}
-use Rattle.std.proofs.lemmas.List.{get_or-drop, length-set, length-replicate, get_or_default, get_or-set_same}
-use Rattle.std.proofs.lemmas.List.{get_or-set_other}
-use Rattle.std.proofs.lemmas.List.Folds.{list_any-append}
-use Rattle.std.proofs.lemmas.Option.{slice_get-get_or, slice_get_within}
-use Rattle.std.proofs.Math.Bool.{or-false}
-use Rattle.std.proofs.lemmas.Grind.{common_steps}
+use Rattle.lemmas.proofs.Common.{[], ◌&&◌, ◌*◌, ◌++◌, ◌+◌, ◌-◌, ◌<◌, ◌||◌, ◌∙◌, ◌∷◌, ◌≡◌, ◌≤◌, Bool, List, None, Option}
+use Rattle.lemmas.proofs.Common.{Some, ap, ap₂, arith, drop, false, flat_map, get_or, get_or-set_other, get_or-set_same}
+use Rattle.lemmas.proofs.Common.{if◌then◌else◌, length, length-set, length-take-le, nat_eq, refl, replicate, set}
+use Rattle.lemmas.proofs.Common.{slice_get, subst, suc, sym, take, to_z, true, w32, zero, ℕ, ℤ, and_parts, common_steps}
+use Rattle.lemmas.proofs.Common.{eqb-true, get_or-drop, get_or_default, length-replicate, list_all, list_any}
+use Rattle.lemmas.proofs.Common.{list_any-append, mul-le-mul_right, option_map_or, or-false, range_with_len}
+use Rattle.lemmas.proofs.Common.{slice_get-get_or, slice_get_within, take-suc, same_truth}
 use Rattle.bbm_rule.specs.Plane.{is_at}
 use Rattle.bbm_rule.specs.declared.block.Cell.{Cell}
 use Rattle.pattern.specs.Layout.{HaveDistinctCells, cell, row_cells}
@@ -27,7 +19,7 @@ use Rattle.certificate_lines.specs.PortTables.{entry_place, number_at, number_wi
 use Rattle.certificate_lines.specs.Rules.{box_cells, whole}
 use Rattle.certificate_lines.proofs.RowLemmas.{all_zero, entry_few, entry_own, filled, filled_less, filled_more}
 use Rattle.certificate_lines.proofs.RowLemmas.{filled_none}
-use Rattle.certificate_lines.proofs.Lists.{same_truth, passed, any_at, some_is}
+use Rattle.certificate_lines.proofs.Lists.{passed, any_at, some_is}
 use Rattle.certificate_lines.proofs.LayoutPorts.{port_stands, none_stands}
 use Rattle.bbm_rule.proofs.SameCells.{cell_same, cell_itself}
 use Rattle.certificate_lines.proofs.PortLemmas.{cell_passed, has_cell, in_box_cells}

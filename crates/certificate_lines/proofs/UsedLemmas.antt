@@ -1,9 +1,7 @@
 -- The gates that the last module uses, found from its last line on.
-use Rattle.std.proofs.Common.{◌≡◌, ℕ, ◌+◌, ◌-◌, ◌<◌, ◌≤◌, Bool, true, false, ◌||◌, List, [], ◌∷◌, ◌++◌, length}
-use Rattle.std.proofs.Common.{take, get_or, Some, refl, sym, subst, arith}
-use Rattle.std.proofs.lemmas.List.{take_all, take_more}
-use Rattle.std.proofs.lemmas.List.Folds.{list_any-append}
-use Rattle.std.proofs.lemmas.Grind.{common_steps}
+use Rattle.lemmas.proofs.Common.{[], ◌++◌, ◌+◌, ◌-◌, ◌<◌, ◌||◌, ◌∷◌, ◌≡◌, ◌≤◌, Bool, List, Some, arith, false, get_or}
+use Rattle.lemmas.proofs.Common.{length, refl, subst, sym, take, true, ℕ, common_steps, list_any-append, take_all}
+use Rattle.lemmas.proofs.Common.{take_more}
 use Rattle.module_box.specs.Locals.{is_among}
 use Rattle.certificate_lines.specs.Entries.{ModuleLines, module_with_line, add_line, last_of, modules_of, last_module}
 use Rattle.certificate_lines.specs.Entries.{gates, use_in}

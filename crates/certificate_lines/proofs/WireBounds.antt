@@ -1,7 +1,6 @@
 -- The wires that a gate defines are wires of the netlist
-use Rattle.std.proofs.Common.{arith, ◌≡◌, ℕ, zero, suc, ◌+◌, ◌<◌, ◌≤◌, List, [], ◌∷◌, Some, slice_get, All}
-use Rattle.std.proofs.lemmas.Option.{same_Some}
-use Rattle.std.proofs.lemmas.Grind.{common_steps}
+use Rattle.lemmas.proofs.Common.{[], ◌+◌, ◌<◌, ◌∷◌, ◌≡◌, ◌≤◌, All, List, Some, arith, slice_get, suc, zero, ℕ}
+use Rattle.lemmas.proofs.Common.{common_steps, same_Some}
 use Rattle.circuit.specs.Gates.{defines}
 use Rattle.circuit.specs.Meaning.{Gate, AreOrdered, wires_after}
 use Rattle.module_box.proofs.LocalRows.{wires_grow, range_below, all_below}

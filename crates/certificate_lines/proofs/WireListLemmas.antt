@@ -1,7 +1,6 @@
 -- The marks of a list of wires
-use Rattle.std.proofs.Common.{◌≡◌, ℕ, ◌/◌, ◌%◌, ◌≤◌, false, List, [], length, get_or, ap, ◌∙◌, arith, replicate}
-use Rattle.std.proofs.lemmas.List.{get_or_past, get_or-replicate, length-replicate}
-use Rattle.std.proofs.lemmas.Grind.{common_steps}
+use Rattle.lemmas.proofs.Common.{[], ◌%◌, ◌/◌, ◌∙◌, ◌≡◌, ◌≤◌, List, ap, arith, false, get_or, length, replicate, ℕ}
+use Rattle.lemmas.proofs.Common.{common_steps, get_or-replicate, get_or_past, length-replicate}
 use Rattle.bbm_rule.specs.Bits.{bit}
 use Rattle.bbm_rule.specs.Rows.{cell_at}
 use Rattle.bbm_rule.proofs.BitLemmas.{by_lt_or_le, bit-zero}

@@ -1,6 +1,6 @@
 -- What each status of `program` means, from its clauses
-use Rattle.std.proofs.Common.{◌≡◌, ◌≢◌, ◌≤◌, ◌⊎◌, ◌∙◌, ℕ, true, false, [], ◌∷◌, List, Ok, Err, ap, arith, inl, inr}
-use Rattle.std.proofs.Common.{refl, sym}
+use Rattle.lemmas.proofs.Common.{[], ◌∙◌, ◌∷◌, ◌≡◌, ◌≢◌, ◌≤◌, ◌⊎◌, Err, List, Ok, ap, arith, false, inl, inr, refl, sym}
+use Rattle.lemmas.proofs.Common.{true, ℕ}
 use Rattle.clap.specs.Walk.{Text}
 use Rattle.clap.specs.Words.{Kinds, fault_of}
 use Rattle.streams.specs.declared.streams.Source.{Ghosts as Source}

@@ -1,6 +1,6 @@
 -- The book of an audit.
-use Rattle.std.proofs.Common.{◌≡◌, ◌∙◌, ◌+◌, ◌≤◌, ℕ, suc, zero, List, [], ◌∷◌, ◌++◌, length, map, false, refl, sym, ap}
-use Rattle.std.proofs.Common.{arith, subst, length-append, replicate}
+use Rattle.lemmas.proofs.Common.{[], ◌++◌, ◌+◌, ◌∙◌, ◌∷◌, ◌≡◌, ◌≤◌, List, ap, arith, false, length, length-append, map}
+use Rattle.lemmas.proofs.Common.{refl, replicate, subst, suc, sym, zero, ℕ}
 use Rattle.sha2.specs.Sha256.{sha256}
 use Rattle.certificate.specs.Grammars.{CertView}
 use Rattle.certificate.specs.Text.{certificate_text}

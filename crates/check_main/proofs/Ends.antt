@@ -1,5 +1,5 @@
 -- The end of a command for each status
-use Rattle.std.proofs.Common.{◌≡◌, ◌≢◌, ◌≤◌, ◌⊎◌, Result, Ok, Err, arith, inl, inr, refl, subst, IfErr, IfOk, OnOk}
+use Rattle.lemmas.proofs.Common.{◌≡◌, ◌≢◌, ◌≤◌, ◌⊎◌, Err, IfErr, IfOk, Ok, OnOk, Result, arith, inl, inr, refl, subst}
 use Rattle.answers.specs.declared.outcome.Outcome.{Outcome}
 use Rattle.answers.specs.declared.outcome.Outcome.TheVariants.{Yes, No, Refused}
 use Rattle.check_main.specs.Status.{status_for}

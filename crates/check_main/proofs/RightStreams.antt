@@ -1,8 +1,6 @@
 -- What an outcome means for a text, of what a reader had to give and of what a writer holds.
-use Rattle.std.proofs.Common.{◌≡◌, ℕ, List, [], ◌++◌, Option, Some, None, Result, Ok, Err, sym, ap, subst, ◌∙◌, arith}
-use Rattle.std.proofs.Common.{append-nil, ◌↔◌, IfErr, IfOk, OnOk}
-use Rattle.std.proofs.lemmas.List.{append_cancel_left}
-use Rattle.std.specs.Io.KnownBytes.{Appends, Consumes, IsAtEnd}
+use Rattle.lemmas.proofs.Common.{[], ◌++◌, ◌↔◌, ◌∙◌, ◌≡◌, Err, IfErr, IfOk, List, None, Ok, OnOk, Option, Result, Some}
+use Rattle.lemmas.proofs.Common.{ap, append-nil, arith, subst, sym, ℕ, Appends, Consumes, IsAtEnd, append_cancel_left}
 use Rattle.answers.specs.declared.outcome.Outcome.{Outcome}
 use Rattle.answers.specs.declared.outcome.Outcome.TheVariants.{Yes}
 use Rattle.meaning.specs.Streams.{HoldsOfKnownInput, FourthLineSaysYes, YesMeans}

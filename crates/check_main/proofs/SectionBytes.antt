@@ -1,9 +1,6 @@
 -- The bytes that a reader of the section took are the text of the certificate that it gave.
-use Rattle.std.proofs.Common.{◌≡◌, ℕ, ◌+◌, ◌≤◌, List, ◌++◌, length, take, drop, Option, None, Some, Ok, refl, ap, ◌∙◌}
-use Rattle.std.proofs.Common.{arith, flat_map}
-use Rattle.std.proofs.Math.Seq.{drop-append_seam, take-add}
-use Rattle.std.proofs.lemmas.Grind.{flat_map-append}
-use Rattle.std.proofs.lemmas.List.{length-append}
+use Rattle.lemmas.proofs.Common.{◌++◌, ◌+◌, ◌∙◌, ◌≡◌, ◌≤◌, List, None, Ok, Option, Some, ap, arith, drop, flat_map}
+use Rattle.lemmas.proofs.Common.{length, length-append, refl, take, ℕ, drop-append_seam, flat_map-append, take-add}
 use Rattle.section_text.specs.Feeds.{FeedView}
 use Rattle.section_text.specs.Section.{Reads, ReadsSection, with_line_feed}
 use Rattle.section_text.specs.Words.{lines_of}

@@ -1,9 +1,7 @@
 -- The commands that one word asks for, and that a number of workers asks for.
-use Rattle.std.proofs.Common.{◌≡◌, ℕ, zero, suc, ◌+◌, ◌/◌, ◌%◌, ◌<◌, ◌≤◌, ◌&&◌, Bool, true, false, cond, List, [], ◌∷◌}
-use Rattle.std.proofs.Common.{◌++◌, eqb, ltb, refl, sym, ap, ◌∙◌, arith, inl, inr, codes}
-use Rattle.std.specs.Fmt.{decimal}
-use Rattle.std.specs.List.{list_all, range_with_len}
-use Rattle.std.proofs.lemmas.Bool.{and_parts, cases_lt, cond-true, cond-false, eqb-true, lt-ltb}
+use Rattle.lemmas.proofs.Common.{[], ◌%◌, ◌&&◌, ◌++◌, ◌+◌, ◌/◌, ◌<◌, ◌∙◌, ◌∷◌, ◌≡◌, ◌≤◌, Bool, List, ap, arith, codes}
+use Rattle.lemmas.proofs.Common.{cond, eqb, false, inl, inr, ltb, refl, suc, sym, true, zero, ℕ, and_parts, cases_lt}
+use Rattle.lemmas.proofs.Common.{cond-false, cond-true, decimal, eqb-true, list_all, lt-ltb, range_with_len}
 use Rattle.std.proofs.lemmas.Fmt.{decimal_digit, decimal_step}
 use Rattle.clap.specs.Faults.{defaults_fault, flags_fault, walk_fault}
 use Rattle.clap.specs.Takes.{flags_pass, walk_passes}

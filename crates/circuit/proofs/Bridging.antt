@@ -1,12 +1,8 @@
 -- The gates of good lines are ordered.
-use Rattle.std.proofs.Common.{◌≡◌, ℕ, ◌+◌, ◌<◌, Bool, false, cond, List, [], ◌∷◌, ◌++◌, map, length, take, Option, Some}
-use Rattle.std.proofs.Common.{None, refl, sym, ap, ap₂, subst, ◌∙◌, arith, inl, inr, append_assoc, length-append, All}
-use Rattle.std.proofs.Common.{count_by}
-use Rattle.std.specs.List.{range_with_len}
-use Rattle.std.proofs.lemmas.List.{append-nil, length-map}
-use Rattle.std.proofs.lemmas.Grind.{flat_map-append, common_steps}
-use Rattle.std.proofs.lemmas.List.Sums.{sum_by-append, sum_by-cons}
-use Rattle.std.proofs.lemmas.Bool.{cases_Bool, true≢false}
+use Rattle.lemmas.proofs.Common.{[], ◌++◌, ◌+◌, ◌<◌, ◌∙◌, ◌∷◌, ◌≡◌, All, Bool, List, None, Option, Some, ap, append-nil}
+use Rattle.lemmas.proofs.Common.{append_assoc, ap₂, arith, cond, count_by, false, inl, inr, length, length-append, map}
+use Rattle.lemmas.proofs.Common.{refl, subst, sym, take, true≢false, ℕ, cases_Bool, common_steps, flat_map-append}
+use Rattle.lemmas.proofs.Common.{length-map, range_with_len, sum_by-append, sum_by-cons}
 use Rattle.circuit.specs.Entries.{defined}
 use Rattle.circuit.specs.declared.circuit_line.GateKind.{GateKind}
 use Rattle.circuit.specs.declared.circuit_line.Kind.{Kind}

@@ -1,6 +1,5 @@
 -- There are as many names of inputs as inputs.
-use Rattle.std.proofs.Common.{◌≡◌, ℕ, List, [], ◌∷◌, ◌++◌, length, cond, refl, arith}
-use Rattle.std.proofs.lemmas.Grind.{common_steps}
+use Rattle.lemmas.proofs.Common.{[], ◌++◌, ◌∷◌, ◌≡◌, List, arith, cond, length, refl, ℕ, common_steps}
 use Rattle.circuit.specs.declared.circuit_line.CircuitLine.{CircuitLine}
 use Rattle.circuit.specs.declared.circuit_line.Kind.{Kind}
 use Rattle.circuit.specs.declared.circuit_line.Kind.TheVariants.{Input, Output, Spill, Gate as GateLine}

@@ -1,9 +1,7 @@
 -- A draft with one more line.
-use Rattle.std.proofs.Common.{◌≡◌, ℕ, ◌+◌, ◌≤◌, ◌||◌, ◌&&◌, Bool, true, false, cond, List, [], ◌∷◌, ◌++◌, map, length}
-use Rattle.std.proofs.Common.{take, get_or, Some, None, refl, arith, nat_le, position}
-use Rattle.std.specs.Str.{bytes_eq}
-use Rattle.std.proofs.lemmas.Bool.{true≢false, ltb-false, leb-false}
-use Rattle.std.proofs.lemmas.Grind.{common_steps}
+use Rattle.lemmas.proofs.Common.{[], ◌&&◌, ◌++◌, ◌+◌, ◌||◌, ◌∷◌, ◌≡◌, ◌≤◌, Bool, List, None, Some, arith, cond, false}
+use Rattle.lemmas.proofs.Common.{get_or, length, map, nat_le, position, refl, take, true, true≢false, ℕ, bytes_eq}
+use Rattle.lemmas.proofs.Common.{common_steps, leb-false, ltb-false, or_parts}
 use Rattle.circuit.specs.Entries.{defined}
 use Rattle.circuit.specs.declared.circuit_line.CircuitLine.{CircuitLine}
 use Rattle.circuit.specs.Rules.{consumed, consume, define, is_gate, gate_count, add_fault, exceeds_limit}
@@ -16,10 +14,6 @@ use Rattle.circuit.specs.DraftView.{IsDraft}
 use Rattle.circuit.proofs.Bridging.{gates_push, good_push, defined_push, count_append}
 use Rattle.circuit.proofs.Places.{found_number}
 use Rattle.circuit.proofs.WireMarks.{mark_read, marks_push}
-
-or_false : (a b : Bool) → (a || b) ≡ false → (a ≡ false) × (b ≡ false)
-or_false true b e = absurd (true≢false e)
-or_false false b e = (refl, e)
 
 no_fault : (entries : List CircuitLine) (r : CircuitLine) → exceeds_limit entries r ≡ false →
     consume (defined entries) (consumed entries) r.ins ≡ None → define (defined entries) r.outs ≡ None →
@@ -45,7 +39,7 @@ pub record Added (a b : Inside) (r : CircuitLine) (numbers : List ℕ) : Type 0 
 
 few : (entries : List CircuitLine) (r : CircuitLine) → exceeds_limit entries r ≡ false →
     (length (defined entries) + length r.outs ≤ 4096) × ((is_gate r.kind && nat_le 1024 (gate_count entries)) ≡ false)
-few entries r e = grind (arith, common_steps, or_false, ltb-false)
+few entries r e = grind (arith, common_steps, or_parts, ltb-false)
 
 few_more : (b : Bool) (n : ℕ) → (b && nat_le 1024 n) ≡ false → n ≤ 1024 → n + cond b 1 0 ≤ 1024
 few_more true n e h = let l = leb-false 1024 n e in omega arith

@@ -1,14 +1,13 @@
 -- A line that is read has as many names as its kind.
-use Rattle.std.proofs.Common.{◌≡◌, ℕ, zero, suc, ◌+◌, ◌≤◌, true, cond, eqb, List, [], ◌∷◌, length, Some, None, refl}
-use Rattle.std.proofs.Common.{sym, ap, subst, ◌∙◌, arith, inl, inr, codes}
-use Rattle.std.proofs.lemmas.Option.{cond_some, option_and_then_some, same_Some}
+use Rattle.lemmas.proofs.Common.{[], ◌+◌, ◌∙◌, ◌∷◌, ◌≡◌, ◌≤◌, List, None, Some, ap, arith, codes, cond, eqb, inl, inr}
+use Rattle.lemmas.proofs.Common.{length, refl, subst, suc, sym, true, true≢false, zero, ℕ, cond_some}
+use Rattle.lemmas.proofs.Common.{option_and_then_some, same_Some}
 use Rattle.section_text.specs.Words.{◌>>=◌, is_word_at, name_at, names_at, lone, lone_name}
 use Rattle.section_text.specs.declared.section.Form.TheVariants.{Header, Item, End}
 use Rattle.circuit.specs.declared.circuit_line.Kind.TheVariants.{Input, Gate, Output, Spill}
 use Rattle.circuit.specs.declared.circuit_line.CircuitLine.{CircuitLine}
 use Rattle.circuit.specs.declared.circuit_line.Kind.{Kind}
 use Rattle.circuit.specs.Rules.{is_gate}
-use Rattle.std.proofs.lemmas.Bool.{true≢false}
 use Rattle.circuit.specs.Entries.{entry, rank_of}
 use Rattle.circuit.specs.Gates.{uses, defines}
 use Rattle.section_text.proofs.Spellings.{chosen, passed}

@@ -1,6 +1,6 @@
 -- Gates keep the number of ones, and inverse gates undo others.
-use Rattle.std.proofs.Common.{arith, ◌≡◌, ℕ, Bool, true, false, List, [], ◌∷◌, Option, Some, None, refl, sym, ap, subst}
-use Rattle.std.proofs.lemmas.Grind.{common_steps}
+use Rattle.lemmas.proofs.Common.{[], ◌∷◌, ◌≡◌, Bool, List, None, Option, Some, ap, arith, false, refl, subst, sym, true}
+use Rattle.lemmas.proofs.Common.{ℕ, common_steps}
 use Rattle.circuit.specs.declared.circuit_line.GateKind.TheVariants.{Source, Fredkin, Cswap, Interact, Switch, Delay}
 use Rattle.circuit.specs.declared.circuit_line.GateKind.TheVariants.{Unswitch, Uninteract}
 use Rattle.circuit.specs.Gates.{row}

@@ -1,7 +1,6 @@
 -- A gate line by the names on both sides of its arrow.
-use Rattle.std.proofs.Common.{arith, ◌≡◌, ◌==◌, if◌then◌else◌, ℕ, ◌+◌, Bool, true, false, List, length, Option, Some}
-use Rattle.std.proofs.Common.{None, refl, codes}
-use Rattle.std.proofs.lemmas.Grind.{common_steps}
+use Rattle.lemmas.proofs.Common.{◌+◌, ◌==◌, ◌≡◌, Bool, List, None, Option, Some, arith, codes, false, if◌then◌else◌}
+use Rattle.lemmas.proofs.Common.{length, refl, true, ℕ, common_steps}
 use Rattle.section_text.specs.Words.{◌>>=◌, is_word_at, names_beside_arrow}
 use Rattle.circuit.specs.declared.circuit_line.CircuitLine.{CircuitLine}
 use Rattle.circuit.specs.declared.circuit_line.GateKind.{GateKind}

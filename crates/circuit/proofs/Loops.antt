@@ -1,8 +1,7 @@
 -- One gate after another
-use Rattle.std.proofs.Common.{◌≡◌, ℕ, zero, suc, ◌+◌, ◌<◌, ◌≤◌, Bool, List, [], ◌∷◌, ◌++◌, map, take, get_or, length}
-use Rattle.std.proofs.Common.{Option, Some, None, refl, sym, ap, subst, ◌∙◌, option_and_then, option_map}
-use Rattle.std.proofs.lemmas.List.{take_more, take_all, map_push}
-use Rattle.std.proofs.lemmas.Option.{slice_get-map, slice_get_read}
+use Rattle.lemmas.proofs.Common.{[], ◌++◌, ◌+◌, ◌<◌, ◌∙◌, ◌∷◌, ◌≡◌, ◌≤◌, Bool, List, None, Option, Some, ap, get_or}
+use Rattle.lemmas.proofs.Common.{length, map, option_and_then, option_map, refl, subst, suc, sym, take, zero, ℕ}
+use Rattle.lemmas.proofs.Common.{map_push, slice_get-map, slice_get_read, take_all, take_more}
 use Rattle.circuit.specs.Gates.{row}
 use Rattle.circuit.specs.Meaning.{Gate}
 use Rattle.circuit.specs.Bridge.{read}

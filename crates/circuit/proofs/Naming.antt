@@ -1,13 +1,8 @@
 -- The names of wires.
-use Rattle.std.proofs.Common.{◌≡◌, ℕ, zero, suc, ◌+◌, ◌<◌, ◌≤◌, true, false, cond, List, [], ◌∷◌, ◌++◌, length, take}
-use Rattle.std.proofs.Common.{Some, None, refl, sym, ap, subst, ◌∙◌, arith, inl, inr, append_assoc, slice_get, position}
-use Rattle.std.specs.Str.{bytes_eq}
-use Rattle.std.proofs.lemmas.List.{append-nil}
-use Rattle.std.proofs.lemmas.List.Sums.{sum_by-cons}
-use Rattle.std.proofs.lemmas.Bool.{cases_Bool, cases_lt, le-ltb}
-use Rattle.std.proofs.lemmas.List.Folds.{list_any-append}
-use Rattle.std.proofs.Math.Bool.{or-true}
-use Rattle.std.proofs.lemmas.Grind.{common_steps}
+use Rattle.lemmas.proofs.Common.{[], ◌++◌, ◌+◌, ◌<◌, ◌∙◌, ◌∷◌, ◌≡◌, ◌≤◌, List, None, Some, ap, append-nil, append_assoc}
+use Rattle.lemmas.proofs.Common.{arith, cond, false, inl, inr, length, position, refl, slice_get, subst, suc, sym, take}
+use Rattle.lemmas.proofs.Common.{true, zero, ℕ, bytes_eq, cases_Bool, cases_lt, common_steps, le-ltb, list_any-append}
+use Rattle.lemmas.proofs.Common.{or-true, sum_by-cons}
 use Rattle.circuit.specs.Entries.{defined}
 use Rattle.circuit.specs.declared.circuit_line.Kind.{Kind}
 use Rattle.circuit.specs.declared.circuit_line.Kind.TheVariants.{Input, Output, Spill, Gate as GateLine}

@@ -1,6 +1,5 @@
 -- The first test that a line fails, from the tests of its order and of its names.
-use Rattle.std.proofs.Common.{◌≡◌, ◌≤◌, List, [], ◌∷◌, ◌++◌, Option, refl}
-use Rattle.std.proofs.lemmas.Bool.{le-ltb}
+use Rattle.lemmas.proofs.Common.{[], ◌++◌, ◌∷◌, ◌≡◌, ◌≤◌, List, Option, refl, le-ltb}
 use Rattle.circuit.specs.declared.circuit_line.CircuitLine.{CircuitLine}
 use Rattle.section_text.specs.Codes.{or_else}
 use Rattle.circuit.specs.Entries.{rank_of}

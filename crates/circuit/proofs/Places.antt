@@ -1,14 +1,9 @@
 -- The places of names.
-use Rattle.std.proofs.Common.{◌≡◌, ℕ, zero, suc, ◌+◌, ◌<◌, Bool, true, false, cond, List, [], ◌∷◌, ◌++◌, map, length}
-use Rattle.std.proofs.Common.{Option, Some, None, refl, sym, ap, ap₂, ◌∙◌, arith, inl, inr, All, find, position, nat_lt}
-use Rattle.std.specs.List.{position_or_len}
-use Rattle.std.specs.Str.{bytes_eq}
-use Rattle.std.proofs.lemmas.Bool.{cond-true, cases_Bool, true≢false, lt-ltb}
+use Rattle.lemmas.proofs.Common.{[], ◌++◌, ◌+◌, ◌<◌, ◌∙◌, ◌∷◌, ◌≡◌, All, Bool, List, None, Option, Some, ap, ap₂, arith}
+use Rattle.lemmas.proofs.Common.{cond, false, find, inl, inr, length, map, nat_lt, position, refl, suc, sym, true}
+use Rattle.lemmas.proofs.Common.{true≢false, zero, ℕ, Decides, bytes_eq, bytes_eq-Decides, cases_Bool, common_steps}
+use Rattle.lemmas.proofs.Common.{cond-true, list_any-append, lt-ltb, position_or_len}
 use Rattle.std.proofs.lemmas.List.Recursion.{is_position_or_len}
-use Rattle.std.specs.Bool.{Decides}
-use Rattle.std.proofs.lemmas.Slice.Eq.{bytes_eq-Decides}
-use Rattle.std.proofs.lemmas.List.Folds.{list_any-append}
-use Rattle.std.proofs.lemmas.Grind.{common_steps}
 use Rattle.circuit.specs.Meaning.{number}
 use Rattle.section_text.specs.Words.{has}
 use Rattle.circuit.specs.Rules.{consume}

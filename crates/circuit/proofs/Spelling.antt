@@ -1,10 +1,7 @@
 -- Each line of the circuit section is the spelling of its form.
-use Rattle.std.proofs.Common.{arith, ◌≡◌, ℕ, ◌+◌, Bool, true, cond, eqb, List, [], ◌∷◌, length, take, Option, Some}
-use Rattle.std.proofs.Common.{None, ap, subst, inl, inr, slice_get, codes}
-use Rattle.std.specs.Fmt.{decimal}
-use Rattle.std.proofs.lemmas.Bool.{eqb-true}
-use Rattle.std.proofs.lemmas.Option.{cond_some, option_and_then_some, same_Some}
-use Rattle.std.proofs.lemmas.Grind.{common_steps}
+use Rattle.lemmas.proofs.Common.{[], ◌+◌, ◌∷◌, ◌≡◌, Bool, List, None, Option, Some, ap, arith, codes, cond, eqb, inl}
+use Rattle.lemmas.proofs.Common.{inr, length, slice_get, subst, take, true, ℕ, common_steps, cond_some, decimal}
+use Rattle.lemmas.proofs.Common.{eqb-true, option_and_then_some, same_Some}
 use Rattle.section_text.specs.Words.{◌>>=◌, words_of, is_word_at, names_at, number_at, lone, lone_name}
 use Rattle.section_text.specs.Section.{with_line_feed}
 use Rattle.section_text.specs.declared.section.Form.TheVariants.{Header, Item, End}

@@ -1,13 +1,10 @@
 -- The first gate that has no row, if there is one; else the gates have a valuation
-use Rattle.std.proofs.Common.{◌≡◌, ℕ, zero, suc, ◌+◌, ◌-◌, ◌<◌, ◌≤◌, Bool, true, false, List, [], ◌∷◌, ◌++◌, map}
-use Rattle.std.proofs.Common.{get_or, length, take, slice_get, Option, Some, None, refl, sym, ap, subst, ◌∙◌, arith}
-use Rattle.std.proofs.Common.{inl, inr, length-append, get_or-append-add, option_and_then, option_map, All}
-use Rattle.std.specs.List.{range_with_len}
-use Rattle.std.proofs.lemmas.Bool.{cases_lt, cases_Bool}
-use Rattle.std.proofs.lemmas.List.{length-map, get_or_append_left}
-use Rattle.std.proofs.lemmas.List.FromFn.{get_or-map-range_with_len, length-range_with_len}
-use Rattle.std.proofs.lemmas.Option.{slice_get_within, get_or_from_slice_get, same_Some}
-use Rattle.std.proofs.lemmas.Grind.{common_steps}
+use Rattle.lemmas.proofs.Common.{[], ◌++◌, ◌+◌, ◌-◌, ◌<◌, ◌∙◌, ◌∷◌, ◌≡◌, ◌≤◌, All, Bool, List, None, Option, Some, ap}
+use Rattle.lemmas.proofs.Common.{arith, false, get_or, get_or-append-add, inl, inr, length, length-append, map}
+use Rattle.lemmas.proofs.Common.{option_and_then, option_map, refl, slice_get, subst, suc, sym, take, true, zero, ℕ}
+use Rattle.lemmas.proofs.Common.{cases_Bool, cases_lt, common_steps, get_or-map-range_with_len, get_or_append_left}
+use Rattle.lemmas.proofs.Common.{get_or_from_slice_get, length-map, length-range_with_len, range_with_len, same_Some}
+use Rattle.lemmas.proofs.Common.{slice_get_within, All-head, All-tail}
 use Rattle.circuit.specs.declared.netlist.ValuesFault.{ValuesFault}
 use Rattle.circuit.specs.declared.netlist.ValuesFault.TheVariants.{OutOfDomain, Memory}
 use Rattle.circuit.specs.Gates.{row, uses, defines, is_inverse}
@@ -18,7 +15,7 @@ use Rattle.circuit.specs.Evaluate.{evaluate, first_undefined_gate, this_or_later
 use Rattle.circuit.specs.Evaluate.{IsGateEvaluationError}
 use Rattle.circuit.specs.Laws.{HasValuation, UndefinedHasNoValuation, OnlyInverseGatesAreUndefined}
 use Rattle.circuit.specs.Laws.{AtMostOneGateIsUndefined, ValuesStopAtUndefinedGate}
-use Rattle.circuit.proofs.Valuations.{row_of, row_cases, map_below, all_head, all_tail, evaluated}
+use Rattle.circuit.proofs.Valuations.{row_of, row_cases, map_below, evaluated}
 
 -- ---- what `first_undefined_gate` answers
 clash : {A : Type 0} (x : A) → ◌≡◌ {A = Option A} None (Some x) → ⊥
@@ -140,9 +137,9 @@ pub defined_from : (vs : List Bool) (gs : List Gate) (v : Valuation) → AreOrde
 unfolding first_undefined_gate AreOrdered
 defined_from vs [] v ordered agree rows = refl
 defined_from vs (h ∷ gs) v ordered agree rows =
-    let n : IsNext vs h v = next vs h gs v ordered agree (all_head (HasRow v) h gs rows) in
+    let n : IsNext vs h v = next vs h gs v ordered agree (All-head (HasRow v) h gs rows) in
     let rest = defined_from (vs ++ map v h.outs) gs v (subst (λ n. AreOrdered n gs) n.long ordered.3) n.agree
-    (all_tail (HasRow v) h gs rows) in
+    (All-tail (HasRow v) h gs rows) in
     ap (this_or_later_undefined (λ r. first_undefined_gate (vs ++ r) gs)) n.is ∙ ap (option_map (λ k. k + 1)) rest
 
 -- ---- a netlist

@@ -1,12 +1,9 @@
 -- Gates that are ordered have at most one valuation, and what `evaluate` finds is one.
-use Rattle.std.proofs.Common.{◌≡◌, ℕ, zero, suc, ◌+◌, ◌-◌, ◌<◌, ◌≤◌, Bool, true, false, List, [], ◌∷◌, ◌++◌, map}
-use Rattle.std.proofs.Common.{get_or, length, Option, Some, None, refl, sym, ap, ap₂, subst, ◌∙◌, arith, inl, inr, ◌⊎◌}
-use Rattle.std.proofs.Common.{length-append, get_or-append-add, option_and_then, All}
-use Rattle.std.specs.List.{range_with_len}
-use Rattle.std.proofs.lemmas.List.{length-map, get_or_append_left}
-use Rattle.std.proofs.lemmas.List.FromFn.{get_or-map-range_with_len}
-use Rattle.std.proofs.lemmas.Bool.{cases_lt, true≢false}
-use Rattle.std.proofs.lemmas.Grind.{common_steps}
+use Rattle.lemmas.proofs.Common.{[], ◌++◌, ◌+◌, ◌-◌, ◌<◌, ◌∙◌, ◌∷◌, ◌≡◌, ◌≤◌, ◌⊎◌, All, Bool, List, None, Option, Some}
+use Rattle.lemmas.proofs.Common.{ap, ap₂, arith, false, get_or, get_or-append-add, inl, inr, length, length-append, map}
+use Rattle.lemmas.proofs.Common.{option_and_then, refl, subst, suc, sym, true, true≢false, zero, ℕ, cases_lt}
+use Rattle.lemmas.proofs.Common.{common_steps, get_or-map-range_with_len, get_or_append_left, length-map}
+use Rattle.lemmas.proofs.Common.{range_with_len, All-head, All-tail}
 use Rattle.circuit.specs.declared.circuit_line.GateKind.{GateKind}
 use Rattle.circuit.specs.declared.circuit_line.GateKind.TheVariants.{Source, Fredkin, Cswap, Interact, Switch, Delay}
 use Rattle.circuit.specs.declared.circuit_line.GateKind.TheVariants.{Unswitch, Uninteract}
@@ -87,17 +84,12 @@ some_same : (x y : List Bool) (o : Option (List Bool)) → o ≡ Some x → o �
 some_same x y o e f = cc
 
 -- ---- lists
-pub all_tail : {A : Type 0} (P : A → Type 0) (x : A) (xs : List A) → All P (x ∷ xs) → All P xs
-all_tail P x xs all = λ k d h. all (suc k) d (omega arith)
-
-pub all_head : {A : Type 0} (P : A → Type 0) (x : A) (xs : List A) → All P (x ∷ xs) → P x
-all_head P x xs all = all 0 x (omega arith)
 
 pub map_below : (n : ℕ) (f g : Valuation) (ws : List ℕ) → All (λ w. w < n) ws → ((w : ℕ) → w < n → f w ≡ g w) →
     map f ws ≡ map g ws
 map_below n f g [] all same = refl
 map_below n f g (w ∷ ws) all same =
-    grind (arith, common_steps, map_below n f g ws (all_tail (λ w. w < n) w ws all) same, all_head, all_tail)
+    grind (arith, common_steps, map_below n f g ws (All-tail (λ w. w < n) w ws all) same, All-head, All-tail)
 
 pub map_range : (r : List Bool) (n k : ℕ) (f : Valuation) → length r ≡ k →
     ((i : ℕ) → i < k → f (n + i) ≡ get_or r i false) → map f (range_with_len n k) ≡ r
@@ -172,12 +164,12 @@ unique_after n [] v v' ordered rows rows' same w h = same w h
 unique_after n (g ∷ gs) v v' ordered rows rows' same w h =
     let ins : map v g.ins ≡ map v' g.ins = map_below n v v' g.ins ordered.0 same in
     let outs : map v g.outs ≡ map v' g.outs =
-    some_same _ _ (row g.kind (map v g.ins)) (all_head (HasRow v) g gs rows)
-    (ap (row g.kind) ins ∙ all_head (HasRow v') g gs rows') in
+    some_same _ _ (row g.kind (map v g.ins)) (All-head (HasRow v) g gs rows)
+    (ap (row g.kind) ins ∙ All-head (HasRow v') g gs rows') in
     let range : map v (range_with_len n (defines g.kind)) ≡ map v' (range_with_len n (defines g.kind)) =
     ap (map v) (sym ordered.2) ∙ outs ∙ ap (map v') ordered.2 in
-    unique_after (n + defines g.kind) gs v v' ordered.3 (all_tail (HasRow v) g gs rows)
-    (all_tail (HasRow v') g gs rows')
+    unique_after (n + defines g.kind) gs v v' ordered.3 (All-tail (HasRow v) g gs rows)
+    (All-tail (HasRow v') g gs rows')
     (λ w l. elim (cases_lt w n) [
       | inl small ↦ same w small
       | inr large ↦

@@ -1,8 +1,6 @@
 -- The values of wires: their one valuation, their list, and their text.
-use Rattle.std.proofs.Common.{◌≡◌, ℕ, zero, suc, ◌+◌, ◌<◌, ◌≤◌, Bool, List, [], ◌∷◌, ◌++◌, length, take, get_or, refl}
-use Rattle.std.proofs.Common.{sym, ap, ◌∙◌, arith, append_assoc}
-use Rattle.std.proofs.lemmas.List.{append-nil}
-use Rattle.std.proofs.lemmas.Grind.{common_steps}
+use Rattle.lemmas.proofs.Common.{[], ◌++◌, ◌+◌, ◌<◌, ◌∙◌, ◌∷◌, ◌≡◌, ◌≤◌, Bool, List, ap, append-nil, append_assoc}
+use Rattle.lemmas.proofs.Common.{arith, get_or, length, refl, suc, sym, take, zero, ℕ, common_steps}
 use Rattle.circuit.specs.Meaning.{wires}
 use Rattle.circuit.specs.Bridge.{netlist_of}
 use Rattle.circuit.specs.Laws.{HasOneValuation, ValuesAreTheValuation}

@@ -1,15 +1,10 @@
 -- Marks of wires, by the names that lines consume.
-use Rattle.std.proofs.Common.{◌≡◌, ℕ, suc, ◌+◌, ◌<◌, ◌≤◌, ◌||◌, Bool, true, false, List, [], ◌∷◌, ◌++◌, map, length}
-use Rattle.std.proofs.Common.{take, drop, eqb, Some, None, refl, sym, ap, ap₂, subst, ◌∙◌, arith, inl, inr, get_or}
-use Rattle.std.proofs.Common.{append_assoc, slice_get, slice_set, All}
-use Rattle.std.proofs.lemmas.Option.{get_or_from_slice_get}
-use Rattle.std.specs.List.{list_any}
-use Rattle.std.specs.Str.{bytes_eq}
-use Rattle.std.proofs.lemmas.Bool.{cases_Bool, true≢false, eqb-true, eq-eqb}
-use Rattle.std.proofs.lemmas.List.{append-nil, map-append, take_more, drop_more, take_more_set}
-use Rattle.std.proofs.lemmas.Grind.{flat_map-append, common_steps}
-use Rattle.std.proofs.lemmas.List.Folds.{list_any-append}
-use Rattle.std.proofs.lemmas.Slice.Eq.{bytes_eq-Decides}
+use Rattle.lemmas.proofs.Common.{[], ◌++◌, ◌+◌, ◌<◌, ◌||◌, ◌∙◌, ◌∷◌, ◌≡◌, ◌≤◌, All, Bool, List, None, Some, ap}
+use Rattle.lemmas.proofs.Common.{append-nil, append_assoc, ap₂, arith, drop, eq-eqb, eqb, false, get_or, inl, inr}
+use Rattle.lemmas.proofs.Common.{length, map, refl, slice_get, slice_set, subst, suc, sym, take, true, true≢false, ℕ}
+use Rattle.lemmas.proofs.Common.{bytes_eq, bytes_eq-Decides, cases_Bool, common_steps, drop_more, eqb-true}
+use Rattle.lemmas.proofs.Common.{flat_map-append, get_or_from_slice_get, list_any, list_any-append, map-append}
+use Rattle.lemmas.proofs.Common.{take_more, take_more_set}
 use Rattle.section_text.specs.Words.{has}
 use Rattle.circuit.specs.Entries.{defined}
 use Rattle.circuit.specs.declared.circuit_line.CircuitLine.{CircuitLine}

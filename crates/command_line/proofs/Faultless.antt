@@ -1,9 +1,7 @@
 -- If a parse ends without an error, a property of the arguments that each successful step keeps holds at the end.
-use Rattle.std.proofs.Common.{arith, ◌≡◌, ℕ, Bool, cond, true, false, zero, suc, refl, List, [], ◌∷◌, length, drop}
-use Rattle.std.proofs.Common.{Option, Some, None, is_some, fold, encode_utf8, slice_get, find}
-use Rattle.std.specs.Option.{option_map_or}
-use Rattle.std.specs.Str.{chars}
-use Rattle.std.proofs.lemmas.Grind.{common_steps}
+use Rattle.lemmas.proofs.Common.{[], ◌∷◌, ◌≡◌, Bool, List, None, Option, Some, arith, cond, drop, encode_utf8, false}
+use Rattle.lemmas.proofs.Common.{find, fold, is_some, length, refl, slice_get, suc, true, zero, ℕ, chars, common_steps}
+use Rattle.lemmas.proofs.Common.{option_map_or}
 use Rattle.clap.specs.Lexer.{short_of}
 use Rattle.clap.specs.Walk.{Held, Names, Outcome, Row, Rule, Step, Text, Waiting, Walk, after_flag, after_step}
 use Rattle.clap.specs.Walk.{arg_by_short, attached_value, bundle_met, bundle_step, done, flag_met, idle, long_met}

@@ -1,10 +1,7 @@
 -- The text of `--workers` is a whole number of 1 to 64 if clap finds no fault.
-use Rattle.std.proofs.Common.{◌≡◌, ◌∙◌, ◌++◌, Bool, cond, true, false, refl, sym, ap, subst, List, [], ◌∷◌, Option}
-use Rattle.std.proofs.Common.{Some, None, length, codes, true≢false}
-use Rattle.std.specs.Prelude.{⊤, find, option_map, option_and_then, slice_get}
-use Rattle.std.specs.Option.{option_map_or}
-use Rattle.std.specs.Str.{bytes_eq}
-use Rattle.std.proofs.lemmas.Slice.Eq.{bytes_eq-Decides}
+use Rattle.lemmas.proofs.Common.{[], ◌++◌, ◌∙◌, ◌∷◌, ◌≡◌, Bool, List, None, Option, Some, ap, codes, cond, false, find}
+use Rattle.lemmas.proofs.Common.{length, option_and_then, option_map, refl, slice_get, subst, sym, true, true≢false}
+use Rattle.lemmas.proofs.Common.{bytes_eq, bytes_eq-Decides, option_map_or, ⊤}
 use Rattle.clap.specs.ValueTests.{accepts}
 use Rattle.clap.specs.Values.{read_as, refused_kind}
 use Rattle.clap.specs.Walk.{Row, Rule, Text, at_row, has_row, more_values, nothing_held, row_text, rows_after, settled}

@@ -1,10 +1,7 @@
 -- The number that `get_one` reads of `--workers` is the one that the words ask for.
-use Rattle.std.proofs.Common.{◌≡◌, ◌≤◌, ℕ, refl, List, [], Option, Some, None, codes, arith, Err, Ok, Result}
-use Rattle.std.proofs.Common.{option_map, unwrap_or}
-use Rattle.std.specs.Option.{option_map_or}
+use Rattle.lemmas.proofs.Common.{[], ◌≡◌, ◌≤◌, Err, List, None, Ok, Option, Result, Some, arith, codes, option_map}
+use Rattle.lemmas.proofs.Common.{refl, unwrap_or, ℕ, bytes_eq-Decides, common_steps, option_map_or}
 use Rattle.std.specs.Str.Parse.{ParsesUnsigned}
-use Rattle.std.proofs.lemmas.Slice.Eq.{bytes_eq-Decides}
-use Rattle.std.proofs.lemmas.Grind.{common_steps}
 use Rattle.clap.specs.Words.{IsUnsignedIn, ReadsOne, Row, Text, fault_of, one_of, subcommand_name_of, subcommand_of}
 use Rattle.clap.specs.Words.{subcommand_rows_of}
 use Rattle.clap.specs.declared.parser.matches.ArgMatches.{ArgMatches}

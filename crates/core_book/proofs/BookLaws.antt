@@ -1,11 +1,8 @@
 -- The laws of books
-use Rattle.std.proofs.Common.{◌≡◌, ◌≢◌, ◌∙◌, ◌<◌, ℕ, Bool, true, false, not, List, length, get_or, Option, None, Some}
-use Rattle.std.proofs.Common.{refl, sym, ap, subst, arith, nat_eq, nat_lt, is_some, if◌then◌else◌, slice_get, IsSome}
-use Rattle.std.specs.Option.{option_eq}
-use Rattle.std.specs.Cmp.Lexicographic.{pointwise, bytes_decides}
-use Rattle.std.proofs.lemmas.Bool.Decides.{nat_tests}
-use Rattle.std.proofs.lemmas.List.{get_or-set_same, get_or-set_other}
-use Rattle.std.proofs.lemmas.Option.{slice_get_within, same_Some}
+use Rattle.lemmas.proofs.Common.{◌<◌, ◌∙◌, ◌≡◌, ◌≢◌, Bool, IsSome, List, None, Option, Some, ap, arith, false, get_or}
+use Rattle.lemmas.proofs.Common.{get_or-set_other, get_or-set_same, if◌then◌else◌, is_some, length, nat_eq, nat_lt, not}
+use Rattle.lemmas.proofs.Common.{refl, slice_get, subst, sym, true, ℕ, bytes_decides, nat_tests, option_eq, pointwise}
+use Rattle.lemmas.proofs.Common.{same_Some, slice_get_within}
 use Rattle.module_job.specs.Equality.{same_job}
 use Rattle.module_job.specs.Jobs.{JobView}
 use Rattle.module_job.proofs.EqualJobs.{jobs_decide}

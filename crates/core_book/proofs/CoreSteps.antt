@@ -1,9 +1,7 @@
 -- The parts of a core that each event keeps
-use Rattle.std.proofs.Common.{◌≡◌, ◌∙◌, ◌+◌, ◌<◌, ◌≤◌, ◌++◌, ◌∷◌, ℕ, suc, zero, List, [], Bool, true, false, length}
-use Rattle.std.proofs.Common.{map, refl, sym, ap, subst, arith, get_or, set, All, if◌then◌else◌, nat_lt}
-use Rattle.std.proofs.lemmas.Bool.Decides.{nat_tests}
-use Rattle.std.proofs.lemmas.List.{length-set, length-replicate}
-use Rattle.std.proofs.lemmas.List.Elements.{All-head, All-tail}
+use Rattle.lemmas.proofs.Common.{[], ◌++◌, ◌+◌, ◌<◌, ◌∙◌, ◌∷◌, ◌≡◌, ◌≤◌, All, Bool, List, ap, arith, false, get_or}
+use Rattle.lemmas.proofs.Common.{if◌then◌else◌, length, length-set, map, nat_lt, refl, set, subst, suc, sym, true, zero}
+use Rattle.lemmas.proofs.Common.{ℕ, All-head, All-tail, length-replicate, nat_tests}
 use Rattle.module_job.specs.Jobs.{JobView}
 use Rattle.core_book.specs.Draws.{IsDrawn, total}
 use Rattle.core_book.specs.Claims.{draws_after_claim, next_after_claim, has_seat_drawn_past_last}

@@ -1,8 +1,7 @@
 -- Sums over lists, and lists of numbers that were drawn
-use Rattle.std.proofs.Common.{◌≡◌, ◌+◌, ◌-◌, ◌<◌, ◌≤◌, ◌++◌, ◌∷◌, ℕ, suc, zero, List, [], true, length, refl, ap, arith}
-use Rattle.std.proofs.Common.{get_or, set, length-append, nat_le, nat_lt, replicate, slice_get, Some}
-use Rattle.std.proofs.lemmas.Option.{same_Some}
-use Rattle.std.proofs.lemmas.Bool.Decides.{nat_tests}
+use Rattle.lemmas.proofs.Common.{[], ◌++◌, ◌+◌, ◌-◌, ◌<◌, ◌∷◌, ◌≡◌, ◌≤◌, List, Some, ap, arith, get_or, length}
+use Rattle.lemmas.proofs.Common.{length-append, nat_le, nat_lt, refl, replicate, set, slice_get, suc, true, zero, ℕ}
+use Rattle.lemmas.proofs.Common.{nat_tests, same_Some}
 use Rattle.core_book.specs.Draws.{IsDrawn, past_last, one_if_below, times, total}
 use Rattle.core_book.specs.Claims.{has_seat_drawn_past_last}
 

@@ -1,12 +1,9 @@
 -- The laws of the core
-use Rattle.std.proofs.Common.{◌≡◌, ◌≢◌, ◌∙◌, ◌+◌, ◌<◌, ◌≤◌, ◌∷◌, ◌⊎◌, inl, inr, cond, ℕ, suc, zero, List, [], Bool}
-use Rattle.std.proofs.Common.{true, false, length, Option, None, Some, refl, sym, ap, subst, arith, get_or, All}
-use Rattle.std.proofs.Common.{if◌then◌else◌, nat_lt, is_some, ◌==◌, Contains, sum_by}
-use Rattle.std.proofs.lemmas.Bool.Decides.{nat_tests, eqb_tells}
-use Rattle.std.proofs.lemmas.List.Elements.{Contains-append_left, Contains-append_right, Contains-append_cases}
-use Rattle.std.proofs.lemmas.List.Elements.{Contains-push, All-contains}
-use Rattle.std.proofs.lemmas.List.Sums.{sum_by-append}
-use Rattle.std.proofs.lemmas.Option.{same_Some}
+use Rattle.lemmas.proofs.Common.{[], ◌+◌, ◌<◌, ◌==◌, ◌∙◌, ◌∷◌, ◌≡◌, ◌≢◌, ◌≤◌, ◌⊎◌, All, Bool, Contains, List, None}
+use Rattle.lemmas.proofs.Common.{Option, Some, ap, arith, cond, false, get_or, if◌then◌else◌, inl, inr, is_some, length}
+use Rattle.lemmas.proofs.Common.{nat_lt, refl, subst, suc, sum_by, sym, true, zero, ℕ, All-contains}
+use Rattle.lemmas.proofs.Common.{Contains-append_cases, Contains-append_left, Contains-append_right, Contains-push}
+use Rattle.lemmas.proofs.Common.{eqb_tells, nat_tests, same_Some, sum_by-append, nothing_in, one_in}
 use Rattle.module_job.specs.Jobs.{JobView}
 use Rattle.local_run.specs.Shown.{number_of}
 use Rattle.local_run.specs.declared.finding.Finding.{Finding}
@@ -127,16 +124,6 @@ holds-honest_own digest jobs seats es k f h =
 
 -- ---- what was accepted
 
-none-in : {X : Type 0} (x : X) → Contains [] x → ⊥
-none-in x h = All-contains (λ _. ⊥) [] x (λ i d below. absurd (omega (arith, below))) h
-
-one-in : {X : Type 0} (x y : X) → Contains (x ∷ []) y → x ≡ y
-one-in {X = X} x y h = All-contains (λ z. x ≡ z) (x ∷ []) y single h
-  where
-    single : (i : ℕ) (d : X) → i < length (x ∷ []) → x ≡ get_or (x ∷ []) i d
-    single zero d below = refl
-    single (suc i) d below = absurd (omega (arith, below))
-
 -- what is held after an event was held before it, or was accepted by it
 held-event : (c : CoreView) (e : Event) (k : ℕ) (f : Finding) → IsBook c.book →
     found_in (after_event c e).book k ≡ Some f → (found_in c.book k ≡ Some f) ⊎ (Contains (findings_accepted_by c e) f)
@@ -165,19 +152,19 @@ held-event c (Events.File g) k f is h = by_reply (reply_to c.book g) refl
 -- what is accepted by an event is held after it
 accepted-event : (c : CoreView) (e : Event) (f : Finding) → IsBook c.book → Contains (findings_accepted_by c e) f →
     found_in (after_event c e).book (number_of f) ≡ Some f
-accepted-event c (Events.Claim seat) f is m = absurd (none-in f m)
-accepted-event c (Events.Lose number) f is m = absurd (none-in f m)
+accepted-event c (Events.Claim seat) f is m = absurd (nothing_in f m)
+accepted-event c (Events.Lose number) f is m = absurd (nothing_in f m)
 accepted-event c (Events.File g) f is m = by_reply (reply_to c.book g) refl m
   where
     by_reply : (r : Reply) → reply_to c.book g ≡ r → Contains (finding_if_accepted g r) f →
         found_in (after_filing c.book g) (number_of f) ≡ Some f
     by_reply Accepted e m =
-        let same : g ≡ f = one-in g f m in
+        let same : g ≡ f = one_in g f m in
         subst (λ (x : Finding). found_in (after_filing c.book g) (number_of x) ≡ Some x) same
         (holds-what_is_accepted c.book g is e)
-    by_reply Closed e m = absurd (none-in f m)
-    by_reply (Stranger mismatch) e m = absurd (none-in f m)
-    by_reply (Double number) e m = absurd (none-in f m)
+    by_reply Closed e m = absurd (nothing_in f m)
+    by_reply (Stranger mismatch) e m = absurd (nothing_in f m)
+    by_reply (Double number) e m = absurd (nothing_in f m)
 
 events-keep-all : (es : List Event) (c : CoreView) (k : ℕ) (f : Finding) → found_in c.book k ≡ Some f →
     found_in (after_events c es).book k ≡ Some f
@@ -201,7 +188,7 @@ held-among (e ∷ es) c k f is h =
 
 among-held : (es : List Event) (c : CoreView) (f : Finding) → IsBook c.book → Contains (findings_accepted_in c es) f →
     found_in (after_events c es).book (number_of f) ≡ Some f
-among-held [] c f is m = absurd (none-in f m)
+among-held [] c f is m = absurd (nothing_in f m)
 among-held (e ∷ es) c f is m =
     elim (Contains-append_cases (findings_accepted_by c e) (findings_accepted_in (after_event c e) es) f m) [
       | inl first ↦ events-keep-all es (after_event c e) (number_of f) f (accepted-event c e f is first)

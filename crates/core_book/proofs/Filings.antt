@@ -1,15 +1,11 @@
 -- Replies, and what filing keeps
-use Rattle.std.proofs.Common.{◌≡◌, ◌≢◌, ◌∙◌, ◌+◌, ◌<◌, ◌≤◌, ◌++◌, ◌∷◌, ℕ, suc, zero, Bool, true, false, not, cond, inl}
-use Rattle.std.proofs.Common.{inr, List, [], length, map, Option, None, Some, refl, sym, ap, ap₂, subst, arith, nat_eq}
-use Rattle.std.proofs.Common.{nat_lt, get_or, set, is_some, if◌then◌else◌, slice_get, IfSome, option_copied, option_map}
-use Rattle.std.proofs.Common.{sum_by}
+use Rattle.lemmas.proofs.Common.{[], ◌++◌, ◌+◌, ◌<◌, ◌∙◌, ◌∷◌, ◌≡◌, ◌≢◌, ◌≤◌, Bool, IfSome, List, None, Option, Some}
+use Rattle.lemmas.proofs.Common.{ap, ap₂, arith, cond, false, get_or, get_or-set_other, get_or-set_same, if◌then◌else◌}
+use Rattle.lemmas.proofs.Common.{inl, inr, is_some, length, length-set, map, nat_eq, nat_lt, not, option_copied}
+use Rattle.lemmas.proofs.Common.{option_map, refl, set, slice_get, subst, suc, sum_by, sym, true, zero, ℕ, eqb_tells}
+use Rattle.lemmas.proofs.Common.{nat_tests, option_eq, pointwise, same_text, slice_get-map, slice_get_read, sum_by-set}
+use Rattle.lemmas.proofs.Common.{false_from_not, true_from_not}
 use Rattle.std.specs.Borrow.{Bor}
-use Rattle.std.specs.Option.{option_eq}
-use Rattle.std.specs.Cmp.Lexicographic.{pointwise, same_text}
-use Rattle.std.proofs.lemmas.Bool.Decides.{eqb_tells, nat_tests}
-use Rattle.std.proofs.lemmas.List.{get_or-set_same, get_or-set_other, length-set}
-use Rattle.std.proofs.lemmas.List.Sums.{sum_by-set}
-use Rattle.std.proofs.lemmas.Option.{slice_get-map, slice_get_read}
 use Rattle.module_job.specs.Equality.{same_job}
 use Rattle.module_job.specs.Jobs.{JobView}
 use Rattle.module_job.proofs.EqualJobs.{jobs_decide}
@@ -61,25 +57,17 @@ reply_to-new b f closed digest number job held = rw (closed, digest, number, job
 
 -- ---- the tests as the code makes them
 
-not_true : (x : Bool) → not x ≡ true → x ≡ false
-not_true true e = cc
-not_true false e = refl
-
-not_false : (x : Bool) → not x ≡ false → x ≡ true
-not_false true e = refl
-not_false false e = cc
-
 pub digest-differs : (b : BookView) (f : Finding) (theirs own : List ℕ) (r : Bool) →
     r ≡ not (pointwise nat_eq theirs own) → theirs ≡ digest_of f → own ≡ b.digest → r ≡ true →
     pointwise nat_eq (digest_of f) b.digest ≡ false
 digest-differs b f theirs own r e t o differs =
-    not_true _ (sym (e ∙ ap₂ (λ x y. not (pointwise nat_eq x y)) t o) ∙ differs)
+    false_from_not _ (sym (e ∙ ap₂ (λ x y. not (pointwise nat_eq x y)) t o) ∙ differs)
 
 pub digest-agrees : (b : BookView) (f : Finding) (theirs own : List ℕ) (r : Bool) →
     r ≡ not (pointwise nat_eq theirs own) → theirs ≡ digest_of f → own ≡ b.digest → r ≡ false →
     pointwise nat_eq (digest_of f) b.digest ≡ true
 digest-agrees b f theirs own r e t o agrees =
-    not_false _ (sym (e ∙ ap₂ (λ x y. not (pointwise nat_eq x y)) t o) ∙ agrees)
+    true_from_not _ (sym (e ∙ ap₂ (λ x y. not (pointwise nat_eq x y)) t o) ∙ agrees)
 
 pub number-past : (b : BookView) (f : Finding) (n count : ℕ) → n ≡ number_of f → count ≡ length b.jobs → count ≤ n →
     nat_lt (number_of f) (length b.jobs) ≡ false

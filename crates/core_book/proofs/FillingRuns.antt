@@ -1,11 +1,8 @@
 -- While a book is filled up, one job of each shape is run at most
-use Rattle.std.proofs.Common.{◌≡◌, ◌≢◌, ◌≤◌, ◌<◌, ◌+◌, ◌∙◌, ℕ, zero, suc, Bool, true, false, List, length, get_or}
-use Rattle.std.proofs.Common.{Option, Some, None, refl, sym, ap, ap₂, subst, inl, inr, arith, if◌then◌else◌, ◌==◌}
-use Rattle.std.proofs.Common.{IsSome, slice_get, slice_index, option_map}
-use Rattle.std.proofs.lemmas.Bool.{cases_order}
-use Rattle.std.proofs.lemmas.Bool.Decides.{nat_tests}
-use Rattle.std.proofs.lemmas.List.{get_or_default}
-use Rattle.std.proofs.lemmas.Option.{same_Some, slice_get-map}
+use Rattle.lemmas.proofs.Common.{◌+◌, ◌<◌, ◌==◌, ◌∙◌, ◌≡◌, ◌≢◌, ◌≤◌, Bool, IsSome, List, None, Option, Some, ap, ap₂}
+use Rattle.lemmas.proofs.Common.{arith, false, get_or, if◌then◌else◌, inl, inr, length, option_map, refl, slice_get}
+use Rattle.lemmas.proofs.Common.{slice_index, subst, suc, sym, true, zero, ℕ, cases_order, get_or_default, nat_tests}
+use Rattle.lemmas.proofs.Common.{same_Some, slice_get-map}
 use Rattle.module_job.specs.Groups.{AreGroups, IsFirstLike}
 use Rattle.module_job.specs.Jobs.{JobView}
 use Rattle.module_job.specs.Shapes.{ShapeView, shape_of}

@@ -1,14 +1,10 @@
 -- Books that are filled up
-use Rattle.std.proofs.Common.{◌≡◌, ◌≢◌, ◌∙◌, ◌+◌, ◌<◌, ◌≤◌, ◌++◌, ◌∷◌, ℕ, suc, Bool, true, false, cond, inl, inr, List}
-use Rattle.std.proofs.Common.{[], length, map, Option, None, Some, refl, sym, ap, ap₂, subst, arith, get_or}
-use Rattle.std.specs.Prelude.{is_some, if◌then◌else◌, slice_get, IsSome}
-use Rattle.std.specs.Bool.{Decides}
-use Rattle.std.specs.List.{AllZip, count_by}
-use Rattle.std.specs.Cmp.Lexicographic.{pointwise}
+use Rattle.lemmas.proofs.Common.{[], ◌++◌, ◌+◌, ◌<◌, ◌∙◌, ◌∷◌, ◌≡◌, ◌≢◌, ◌≤◌, Bool, IsSome, List, None, Option, Some}
+use Rattle.lemmas.proofs.Common.{ap, append-nil, append_assoc, ap₂, arith, cond, false, get_or, if◌then◌else◌, inl, inr}
+use Rattle.lemmas.proofs.Common.{is_some, length, map, refl, slice_get, subst, suc, sym, true, ℕ, AllZip, Decides}
+use Rattle.lemmas.proofs.Common.{eqb_tells, map-append, pointwise, slice_eq-Decides}
+use Rattle.std.specs.List.{count_by}
 use Rattle.std.specs.Cmp.Derive.Mapped.{pointwise-map}
-use Rattle.std.proofs.lemmas.Bool.Decides.{eqb_tells}
-use Rattle.std.proofs.lemmas.List.{append-nil, append_assoc, map-append}
-use Rattle.std.proofs.lemmas.Slice.Eq.{slice_eq-Decides}
 use Rattle.module_job.specs.Equality.{same_job}
 use Rattle.module_job.specs.Jobs.{JobView}
 use Rattle.module_job.proofs.EqualJobs.{jobs_decide}

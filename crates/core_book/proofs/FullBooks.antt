@@ -1,8 +1,7 @@
 -- Books that hold a finding for each job
-use Rattle.std.proofs.Common.{◌≡◌, ◌∙◌, ◌+◌, ◌<◌, ℕ, suc, zero, true, cond, List, [], ◌∷◌, length, Option, None, Some}
-use Rattle.std.proofs.Common.{refl, sym, arith, get_or, is_some, slice_get, count_by}
-use Rattle.std.proofs.lemmas.List.Sums.{count_by-le-length, sum_by-cons}
-use Rattle.std.proofs.lemmas.Option.{same_Some}
+use Rattle.lemmas.proofs.Common.{[], ◌+◌, ◌<◌, ◌∙◌, ◌∷◌, ◌≡◌, List, None, Option, Some, arith, cond, count_by, get_or}
+use Rattle.lemmas.proofs.Common.{is_some, length, refl, slice_get, suc, sym, true, zero, ℕ, count_by-le-length}
+use Rattle.lemmas.proofs.Common.{same_Some, sum_by-cons}
 use Rattle.module_job.specs.Jobs.{JobView}
 use Rattle.local_run.specs.declared.finding.Finding.{Finding}
 use Rattle.core_book.specs.Book.{BookView, IsBook, found_in}

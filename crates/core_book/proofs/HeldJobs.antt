@@ -1,8 +1,7 @@
 -- Jobs for which a finding is held, and their least faults
-use Rattle.std.proofs.Common.{◌≡◌, ◌≢◌, ◌∙◌, ◌+◌, ◌<◌, ℕ, Bool, true, false, inl, inr, List, [], ◌∷◌, ◌++◌, length}
-use Rattle.std.proofs.Common.{Some, refl, sym, ap, subst, arith, length-append, get_or, map, slice_get, option_map}
-use Rattle.std.proofs.lemmas.Bool.Decides.{eqb_tells}
-use Rattle.std.proofs.lemmas.Option.{same_Some, slice_get-map, slice_get_read}
+use Rattle.lemmas.proofs.Common.{[], ◌++◌, ◌+◌, ◌<◌, ◌∙◌, ◌∷◌, ◌≡◌, ◌≢◌, Bool, List, Some, ap, arith, false, get_or}
+use Rattle.lemmas.proofs.Common.{inl, inr, length, length-append, map, option_map, refl, slice_get, subst, sym, true, ℕ}
+use Rattle.lemmas.proofs.Common.{eqb_tells, same_Some, slice_get-map, slice_get_read}
 use Rattle.module_box.proofs.Rising.{pushed}
 use Rattle.module_job.specs.Equality.{same_job}
 use Rattle.module_job.specs.Jobs.{JobView}

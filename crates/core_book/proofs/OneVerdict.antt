@@ -1,8 +1,7 @@
 -- The modules of a certificate have one verdict
-use Rattle.std.proofs.Common.{◌≡◌, ◌∙◌, ◌<◌, ◌≤◌, ◌∷◌, ℕ, suc, zero, List, [], length, map, Option, None, Some, refl}
-use Rattle.std.proofs.Common.{sym, ap, arith, ◌++◌, slice_get, option_map}
-use Rattle.std.proofs.lemmas.List.{same_lists}
-use Rattle.std.proofs.lemmas.Option.{slice_get-get_or, slice_get_within}
+use Rattle.lemmas.proofs.Common.{[], ◌++◌, ◌<◌, ◌∙◌, ◌∷◌, ◌≡◌, ◌≤◌, List, None, Option, Some, ap, arith, length, map}
+use Rattle.lemmas.proofs.Common.{option_map, refl, slice_get, suc, sym, zero, ℕ, same_lists, slice_get-get_or}
+use Rattle.lemmas.proofs.Common.{slice_get_within}
 use Rattle.certificate_lines.specs.Entries.{Setting, ModuleLines}
 use Rattle.module_job.specs.Jobs.{JobView}
 use Rattle.certificate.specs.Times.{delay_and_meet_lines}

@@ -1,11 +1,8 @@
 -- The history of a book replays to it
-use Rattle.std.proofs.Common.{◌≡◌, ◌∙◌, ◌+◌, ◌<◌, ◌++◌, ◌∷◌, ℕ, suc, zero, Bool, inl, inr, List, [], length, Option}
-use Rattle.std.proofs.Common.{None, Some, refl, sym, ap, arith, nat_eq, get_or, set, length-append, true, false}
-use Rattle.std.proofs.Common.{if◌then◌else◌, is_some, replicate, count_by}
-use Rattle.std.proofs.lemmas.Bool.Decides.{eqb_tells}
-use Rattle.std.proofs.lemmas.Grind.{common_steps}
-use Rattle.std.proofs.lemmas.List.{get_or-set_same, get_or-set_other, length-replicate}
-use Rattle.std.proofs.lemmas.List.Folds.{list_any-append}
+use Rattle.lemmas.proofs.Common.{[], ◌++◌, ◌+◌, ◌<◌, ◌∙◌, ◌∷◌, ◌≡◌, Bool, List, None, Option, Some, ap, arith, count_by}
+use Rattle.lemmas.proofs.Common.{false, get_or, get_or-set_other, get_or-set_same, if◌then◌else◌, inl, inr, is_some}
+use Rattle.lemmas.proofs.Common.{length, length-append, nat_eq, refl, replicate, set, suc, sym, true, zero, ℕ}
+use Rattle.lemmas.proofs.Common.{common_steps, eqb_tells, length-replicate, list_any-append}
 use Rattle.module_job.specs.Jobs.{JobView}
 use Rattle.local_run.specs.Shown.{digest_of, number_of, job_of}
 use Rattle.local_run.specs.declared.finding.Finding.{Finding}

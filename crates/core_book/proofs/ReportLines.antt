@@ -1,11 +1,9 @@
 -- The lines of a report
-use Rattle.std.proofs.Common.{◌≡◌, ◌∙◌, ◌+◌, ◌<◌, ◌≤◌, ◌&&◌, ℕ, suc, zero, inl, inr, Bool, true, false, not, cond, List}
-use Rattle.std.proofs.Common.{[], ◌∷◌, ◌++◌, map, length, drop, get_or, Option, None, Some, refl, sym, ap, ap₂, subst}
-use Rattle.std.proofs.Common.{arith, append_assoc, append-nil, add-one, drop-cons, slice_get, option_map}
-use Rattle.std.proofs.Common.{option_to_list}
-use Rattle.std.proofs.lemmas.Bool.{true≢false}
-use Rattle.std.proofs.lemmas.List.{drop_all}
-use Rattle.std.proofs.lemmas.Option.{same_Some, slice_get_cases, slice_get_within, slice_get-get_or}
+use Rattle.lemmas.proofs.Common.{[], ◌&&◌, ◌++◌, ◌+◌, ◌<◌, ◌∙◌, ◌∷◌, ◌≡◌, ◌≤◌, Bool, List, None, Option, Some, add-one}
+use Rattle.lemmas.proofs.Common.{ap, append-nil, append_assoc, ap₂, arith, cond, drop, drop-cons, false, get_or, inl}
+use Rattle.lemmas.proofs.Common.{inr, length, map, not, option_map, option_to_list, refl, slice_get, subst, suc, sym}
+use Rattle.lemmas.proofs.Common.{true, true≢false, zero, ℕ, drop_all, same_Some, slice_get-get_or, slice_get_cases}
+use Rattle.lemmas.proofs.Common.{slice_get_within}
 use Rattle.circuit.specs.Gates.{is_inverse}
 use Rattle.circuit.specs.Meaning.{Gate}
 use Rattle.certificate_lines.specs.Entries.{Setting, ModuleLines}

@@ -1,7 +1,6 @@
 -- A text that is reported with a yes is so too after it is migrated.
-use Rattle.std.proofs.Common.{◌≡◌, ◌≤◌, ◌==◌, ℕ, Bool, true, false, List, [], ◌∷◌, ◌++◌, Result, Ok, refl, sym, ap}
-use Rattle.std.proofs.Common.{ap₂, subst, ◌∙◌, arith}
-use Rattle.std.proofs.lemmas.Bool.Decides.{nat_tests}
+use Rattle.lemmas.proofs.Common.{[], ◌++◌, ◌==◌, ◌∙◌, ◌∷◌, ◌≡◌, ◌≤◌, Bool, List, Ok, Result, ap, ap₂, arith, false}
+use Rattle.lemmas.proofs.Common.{refl, subst, sym, true, ℕ, nat_tests}
 use Rattle.section_text.specs.declared.fault.Refusal.{Refusal}
 use Rattle.section_text.proofs.Good.{AreFaultless, IsFaultless}
 use Rattle.circuit.specs.Bridge.{circuit_of}

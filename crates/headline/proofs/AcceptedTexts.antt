@@ -2,10 +2,9 @@
 --
 -- One is of four modules around a gate, with stops and a delay, and one of a switch and its inverse gate. Two are plain
 -- texts of two balls that meet, the second of them with a wrong layout.
-use Rattle.std.proofs.Common.{◌≡◌, ℕ, zero, suc, true, List, [], ◌∷◌, Ok, Some, option_map, refl, sym, ap, subst, ◌∙◌}
-use Rattle.std.proofs.Common.{arith, ◌≢◌, codes, slice_get, unwrap_or, All, flat_map}
-use Rattle.std.proofs.lemmas.Bool.{true≢false}
-use Rattle.std.proofs.lemmas.List.Elements.{All-cons, All-head, All-nil, All-tail}
+use Rattle.lemmas.proofs.Common.{[], ◌∙◌, ◌∷◌, ◌≡◌, ◌≢◌, All, List, Ok, Some, ap, arith, codes, flat_map, option_map}
+use Rattle.lemmas.proofs.Common.{refl, slice_get, subst, suc, sym, true, true≢false, unwrap_or, zero, ℕ, All-cons}
+use Rattle.lemmas.proofs.Common.{All-head, All-nil, All-tail}
 use Rattle.bbm_rule.specs.Bits.{bit}
 use Rattle.bbm_rule.specs.Plane.{partner, step, turned}
 use Rattle.bbm_rule.specs.Spans.{in_span}

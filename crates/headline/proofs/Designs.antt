@@ -1,6 +1,6 @@
 -- The design that a text says.
-use Rattle.std.proofs.Common.{◌≡◌, ℕ, ◌+◌, List, ◌++◌, length, take, drop, Option, Ok, sym, ap, ap₂, ◌∙◌}
-use Rattle.std.proofs.Common.{take-append-drop}
+use Rattle.lemmas.proofs.Common.{◌++◌, ◌+◌, ◌∙◌, ◌≡◌, List, Ok, Option, ap, ap₂, drop, length, sym, take}
+use Rattle.lemmas.proofs.Common.{take-append-drop, ℕ}
 use Rattle.section_text.specs.Words.{lines_of}
 use Rattle.section_text.specs.Section.{section_of}
 use Rattle.section_text.specs.Ports.{Named}

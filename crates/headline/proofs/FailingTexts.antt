@@ -1,17 +1,11 @@
 -- A text is refuted by one `local` line if its one module passes tests, which a proof by computation can run.
 --
 -- By the tests a cell is not as asked at the end, and no fault comes before this one in the order of faults.
-use Rattle.std.proofs.Common.{◌≡◌, ℕ, zero, suc, ◌<◌, Bool, true, false, not, ◌||◌, ◌&&◌, refl, sym, ap, ap₂, subst}
-use Rattle.std.proofs.Common.{◌∙◌, arith, map, length, List, [], ◌∷◌, ◌++◌, Option, Some, None, Ok, Ordering, Less}
-use Rattle.std.proofs.Common.{Equal, Greater, ℤ, ◌≢◌, codes, slice_get, All, flat_map}
-use Rattle.std.specs.Cmp.{booleans_Decides}
-use Rattle.std.specs.List.{list_all, range_with_len}
-use Rattle.std.specs.Bool.{beq}
-use Rattle.std.proofs.lemmas.Bool.{and_parts, false≢true, true≢false}
-use Rattle.std.proofs.lemmas.List.{length-map}
-use Rattle.std.proofs.lemmas.List.Elements.{All-head}
-use Rattle.std.proofs.lemmas.List.FromFn.{get_or-map-range_with_len, length-range_with_len}
-use Rattle.std.proofs.lemmas.Option.{slice_get-get_or}
+use Rattle.lemmas.proofs.Common.{[], ◌&&◌, ◌++◌, ◌<◌, ◌||◌, ◌∙◌, ◌∷◌, ◌≡◌, ◌≢◌, All, Bool, Equal, Greater, Less, List}
+use Rattle.lemmas.proofs.Common.{None, Ok, Option, Ordering, Some, ap, ap₂, arith, codes, false, flat_map, length, map}
+use Rattle.lemmas.proofs.Common.{not, refl, slice_get, subst, suc, sym, true, true≢false, zero, ℕ, ℤ, All-head}
+use Rattle.lemmas.proofs.Common.{and_parts, beq, booleans_Decides, false≢true, get_or-map-range_with_len, length-map}
+use Rattle.lemmas.proofs.Common.{length-range_with_len, list_all, range_with_len, slice_get-get_or}
 use Rattle.sha2.specs.Sha256.{sha256}
 use Rattle.bbm_rule.specs.Bits.{bit}
 use Rattle.bbm_rule.specs.declared.block.Cell.{Cell}

@@ -1,13 +1,9 @@
 -- The fourth line of a report.
-use Rattle.std.proofs.Common.{◌≡◌, ℕ, zero, suc, ◌+◌, ◌/◌, ◌%◌, ◌<◌, Bool, true, false, cond, eqb, not, ◌&&◌, List, []}
-use Rattle.std.proofs.Common.{◌∷◌, ◌++◌, length, get_or, Option, Some, refl, sym, ap, ap₂, ◌∙◌, append_assoc}
-use Rattle.std.proofs.Common.{append-nil, arith, slice_get, codes, nat_lt, flat_map}
-use Rattle.std.specs.Fmt.{decimal, digit_glyph, digits, digits_onto}
-use Rattle.std.specs.List.{list_all, slice_split, onto_first}
-use Rattle.std.proofs.lemmas.Bool.{and_parts, ne_eqb}
-use Rattle.std.proofs.lemmas.List.Elements.{All-from_recursion}
-use Rattle.std.proofs.lemmas.List.Folds.{list_all-append}
-use Rattle.std.proofs.lemmas.List.Splits.{slice_split_at}
+use Rattle.lemmas.proofs.Common.{[], ◌%◌, ◌&&◌, ◌++◌, ◌+◌, ◌/◌, ◌<◌, ◌∙◌, ◌∷◌, ◌≡◌, Bool, List, Option, Some, ap}
+use Rattle.lemmas.proofs.Common.{append-nil, append_assoc, ap₂, arith, codes, cond, eqb, false, flat_map, get_or}
+use Rattle.lemmas.proofs.Common.{length, nat_lt, ne_eqb, not, refl, slice_get, suc, sym, true, zero, ℕ}
+use Rattle.lemmas.proofs.Common.{All-from_recursion, and_parts, decimal, digit_glyph, digits, digits_onto, list_all}
+use Rattle.lemmas.proofs.Common.{list_all-append, onto_first, slice_split, slice_split_at}
 use Rattle.hex.specs.Hex.{encode_lower, encode_with, lower_digits}
 use Rattle.sha2.specs.Sha256.{sha256}
 use Rattle.section_text.specs.Spelling.{line_text, space_and_word}

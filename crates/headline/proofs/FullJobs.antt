@@ -1,7 +1,6 @@
 -- The modules without halo lines have the jobs of the modules whose halos are the edge lines beside them
-use Rattle.std.proofs.Common.{◌≡◌, ℕ, zero, suc, false, List, [], ◌∷◌, map, length, Some, refl, sym, ap, ap₂, subst}
-use Rattle.std.proofs.Common.{◌∙◌, arith, slice_get}
-use Rattle.std.proofs.lemmas.List.{length-map}
+use Rattle.lemmas.proofs.Common.{[], ◌∙◌, ◌∷◌, ◌≡◌, List, Some, ap, ap₂, arith, false, length, map, refl, slice_get}
+use Rattle.lemmas.proofs.Common.{subst, suc, sym, zero, ℕ, length-map, mapped_at, mapped_from}
 use Rattle.circuit.specs.Bridge.{circuit_of}
 use Rattle.circuit.specs.Meaning.{Circuit}
 use Rattle.circuit.specs.declared.circuit_line.CircuitLine.{CircuitLine}
@@ -15,7 +14,7 @@ use Rattle.module_job.specs.Signals.{IsSignalWireBelow}
 use Rattle.certificate_lines.specs.Versions.{lacks_edge_wire_beside, with_halos}
 use Rattle.certificate_lines.proofs.InList.{all_in}
 use Rattle.certificate.proofs.FullModules.{all_of_each, full_cuts, full_edges, full_gates, full_keeps, full_known}
-use Rattle.certificate.proofs.FullModules.{full_modules, full_stops, mapped_at, mapped_from}
+use Rattle.certificate.proofs.FullModules.{full_modules, full_stops}
 use Rattle.certificate_lines.proofs.LineOrder.{in_each}
 use Rattle.soundness.proofs.NumberedSignals.{IsNamed, lines_back, numbered_event, numbered_all_times, numbered_signals}
 use Rattle.certificate_lines.proofs.Pairs.{Each}

@@ -1,10 +1,8 @@
 -- The output of `migrate` says what was read, in version 2.
-use Rattle.std.proofs.Common.{◌≡◌, ℕ, ◌+◌, Bool, true, false, not, if◌then◌else◌, List, [], ◌∷◌, ◌++◌, length, map}
-use Rattle.std.proofs.Common.{take, drop, Option, Some, None, Result, Ok, Err, refl, sym, ap, ap₂, subst, ◌∙◌}
-use Rattle.std.proofs.Common.{append_assoc, take-append-drop, arith, ◌&&◌, codes, flat_map}
-use Rattle.std.proofs.lemmas.Grind.{flat_map-append}
-use Rattle.std.proofs.lemmas.List.{append-nil, length-map, length-append}
-use Rattle.std.proofs.Math.Seq.{drop-append_seam}
+use Rattle.lemmas.proofs.Common.{[], ◌&&◌, ◌++◌, ◌+◌, ◌∙◌, ◌∷◌, ◌≡◌, Bool, Err, List, None, Ok, Option, Result, Some}
+use Rattle.lemmas.proofs.Common.{ap, append-nil, append_assoc, ap₂, arith, codes, drop, false, flat_map, if◌then◌else◌}
+use Rattle.lemmas.proofs.Common.{length, length-append, map, not, refl, subst, sym, take, take-append-drop, true, ℕ}
+use Rattle.lemmas.proofs.Common.{drop-append_seam, flat_map-append, length-map}
 use Rattle.section_text.specs.Words.{is_word_at, lines_of, lone_number, number_at, number_of}
 use Rattle.section_text.specs.Words.{bytes_after_last_line_feed, words_of}
 use Rattle.section_text.specs.Codes.{code_if, or_else}

@@ -1,5 +1,5 @@
 -- A small design that computes its circuit gets a yes after it is moved
-use Rattle.std.proofs.Common.{◌≡◌, ℕ, List, sym, subst, ◌∙◌, arith, IsTrue}
+use Rattle.lemmas.proofs.Common.{◌∙◌, ◌≡◌, IsTrue, List, arith, subst, sym, ℕ}
 use Rattle.circuit.specs.Bridge.{circuit_of}
 use Rattle.circuit.specs.declared.circuit_line.CircuitLine.{CircuitLine}
 use Rattle.pattern.specs.Layout.{Pattern}

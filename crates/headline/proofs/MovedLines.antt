@@ -1,12 +1,7 @@
 -- The lines of a moved layout keep the rules of lines
-use Rattle.std.proofs.Common.{◌≡◌, ℕ, zero, suc, ◌+◌, ◌≤◌, ◌&&◌, ◌||◌, not, Bool, true, false, cond, List, [], ◌∷◌}
-use Rattle.std.proofs.Common.{◌++◌, map, None, refl, sym, ap, ap₂, subst, ◌∙◌, arith, ℤ, pos, negsuc, ◌+ℤ◌, nat_le}
-use Rattle.std.proofs.Common.{flat_map}
-use Rattle.std.specs.List.{list_any, range_with_len}
-use Rattle.std.proofs.lemmas.Bool.{and_parts}
-use Rattle.std.proofs.lemmas.Bool.Decides.{nat_tests}
-use Rattle.std.proofs.lemmas.Int.{ints}
-use Rattle.std.proofs.lemmas.List.{map-append}
+use Rattle.lemmas.proofs.Common.{[], ◌&&◌, ◌++◌, ◌+ℤ◌, ◌+◌, ◌||◌, ◌∙◌, ◌∷◌, ◌≡◌, ◌≤◌, Bool, List, None, ap, ap₂, arith}
+use Rattle.lemmas.proofs.Common.{cond, false, flat_map, map, nat_le, negsuc, not, pos, refl, subst, suc, sym, true}
+use Rattle.lemmas.proofs.Common.{zero, ℕ, ℤ, and_parts, ints, list_any, map-append, nat_tests, range_with_len}
 use Rattle.bbm_rule.specs.Plane.{is_at}
 use Rattle.bbm_rule.specs.Spans.{in_span}
 use Rattle.bbm_rule.proofs.Spans.{in_span-negsuc, span_from, span_parts}

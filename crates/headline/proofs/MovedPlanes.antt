@@ -1,8 +1,6 @@
 -- The plane of a moved design is the moved plane, at each time
-use Rattle.std.proofs.Common.{◌≡◌, ℕ, zero, suc, ◌+◌, ◌&&◌, ◌||◌, Bool, List, [], ◌∷◌, map, refl, ap, ap₂, subst, arith}
-use Rattle.std.proofs.Common.{ℤ, pos, ◌+ℤ◌, ◌-ℤ◌, int_eq}
-use Rattle.std.specs.List.{list_any}
-use Rattle.std.proofs.lemmas.Int.{ints}
+use Rattle.lemmas.proofs.Common.{[], ◌&&◌, ◌+ℤ◌, ◌+◌, ◌-ℤ◌, ◌||◌, ◌∷◌, ◌≡◌, Bool, List, ap, ap₂, arith, int_eq, map}
+use Rattle.lemmas.proofs.Common.{pos, refl, subst, suc, zero, ℕ, ℤ, ints, list_any}
 use Rattle.bbm_rule.specs.Moves.{IsMoved}
 use Rattle.bbm_rule.specs.Plane.{is_at, run}
 use Rattle.bbm_rule.specs.declared.block.Cell.{Cell}

@@ -1,7 +1,6 @@
 -- A moved layout keeps off its rim
-use Rattle.std.proofs.Common.{◌≡◌, ℕ, ◌+◌, ◌&&◌, true, false, sym, ap, ap₂, ◌∙◌, arith, ℤ, pos, negsuc, ◌+ℤ◌, ◌-ℤ◌}
-use Rattle.std.proofs.lemmas.Bool.{and_parts}
-use Rattle.std.proofs.lemmas.Int.{ints}
+use Rattle.lemmas.proofs.Common.{◌&&◌, ◌+ℤ◌, ◌+◌, ◌-ℤ◌, ◌∙◌, ◌≡◌, ap, ap₂, arith, false, negsuc, pos, sym, true, ℕ, ℤ}
+use Rattle.lemmas.proofs.Common.{and_parts, ints}
 use Rattle.bbm_rule.specs.Spans.{in_span}
 use Rattle.bbm_rule.proofs.Spans.{in_span-negsuc, span_from, span_parts}
 use Rattle.module_box.specs.Boxes.{in_box, in_ring}

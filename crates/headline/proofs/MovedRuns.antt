@@ -1,7 +1,6 @@
 -- A layout that computes a circuit does so after it is moved
-use Rattle.std.proofs.Common.{◌≡◌, ℕ, Bool, true, List, [], ◌∷◌, map, refl, sym, ap, subst, ◌∙◌, ℤ, pos, ◌+ℤ◌, IsFalse}
-use Rattle.std.proofs.Common.{IsTrue, Some, None, option_map, slice_get}
-use Rattle.std.proofs.lemmas.Option.{slice_get-map}
+use Rattle.lemmas.proofs.Common.{[], ◌+ℤ◌, ◌∙◌, ◌∷◌, ◌≡◌, Bool, IsFalse, IsTrue, List, None, Some, ap, map, option_map}
+use Rattle.lemmas.proofs.Common.{pos, refl, slice_get, subst, sym, true, ℕ, ℤ, slice_get-map}
 use Rattle.bbm_rule.specs.Plane.{State}
 use Rattle.section_text.specs.Words.{has}
 use Rattle.circuit.specs.Bridge.{circuit_of, input_names, output_names}

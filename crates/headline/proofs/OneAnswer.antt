@@ -1,9 +1,7 @@
 -- A text has one answer.
-use Rattle.std.proofs.Common.{◌≡◌, ℕ, List, [], ◌∷◌, ◌++◌, length, Bool, Result, Ok, Err, refl, sym, ap, subst, ◌∙◌}
-use Rattle.std.proofs.Common.{inl, inr, codes, flat_map}
-use Rattle.std.specs.Fmt.{decimal}
+use Rattle.lemmas.proofs.Common.{[], ◌++◌, ◌∙◌, ◌∷◌, ◌≡◌, Bool, Err, List, Ok, Result, ap, codes, flat_map, inl, inr}
+use Rattle.lemmas.proofs.Common.{length, refl, subst, sym, true≢false, ℕ, cases_order, decimal}
 use Rattle.bbm_rule.specs.Plane.{State}
-use Rattle.std.proofs.lemmas.Bool.{true≢false, cases_order}
 use Rattle.section_text.specs.Spelling.{line_text}
 use Rattle.section_text.specs.declared.fault.Refusal.{Refusal}
 use Rattle.bbm_rule.specs.declared.block.Cell.{Cell}

@@ -1,5 +1,5 @@
 -- A text has one listing of modules, and one migration.
-use Rattle.std.proofs.Common.{◌≡◌, ℕ, List, sym, ◌∙◌}
+use Rattle.lemmas.proofs.Common.{◌∙◌, ◌≡◌, List, sym, ℕ}
 use Rattle.answers.specs.BundleText.{Bundle, bundle_of}
 use Rattle.answers.specs.MigrateText.{IsMigrationOf, SaysMigration}
 use Rattle.answers.specs.ModulesText.{IsModulesOf, SaysModules}

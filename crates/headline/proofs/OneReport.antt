@@ -1,7 +1,6 @@
 -- A text has one report.
-use Rattle.std.proofs.Common.{◌≡◌, ◌∙◌, ◌<◌, ◌++◌, ◌∷◌, ℕ, List, [], length, Option, Some, None, refl, sym, ap, subst}
-use Rattle.std.proofs.Common.{arith, slice_get, codes, flat_map}
-use Rattle.std.proofs.lemmas.Option.{slice_get_within}
+use Rattle.lemmas.proofs.Common.{[], ◌++◌, ◌<◌, ◌∙◌, ◌∷◌, ◌≡◌, List, None, Option, Some, ap, arith, codes, flat_map}
+use Rattle.lemmas.proofs.Common.{length, refl, slice_get, subst, sym, ℕ, slice_get_within}
 use Rattle.sha2.specs.Sha256.{sha256}
 use Rattle.section_text.specs.Spelling.{line_text}
 use Rattle.circuit.specs.Bridge.{circuit_of}

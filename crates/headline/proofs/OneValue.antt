@@ -1,12 +1,11 @@
 -- A circuit has one answer.
-use Rattle.std.proofs.Common.{◌≡◌, ◌⊎◌, ℕ, zero, suc, ◌<◌, Bool, false, List, [], ◌∷◌, ◌++◌, inl, inr, subst, length}
-use Rattle.std.proofs.Common.{refl, sym, ap, ap₂, ◌∙◌, arith, slice_index_or, codes}
+use Rattle.lemmas.proofs.Common.{[], ◌++◌, ◌<◌, ◌∙◌, ◌∷◌, ◌≡◌, ◌⊎◌, Bool, List, ap, ap₂, arith, codes, false, inl, inr}
+use Rattle.lemmas.proofs.Common.{length, refl, slice_index_or, subst, suc, sym, zero, ℕ, decimal}
 use Rattle.circuit.specs.Entries.{defined}
 use Rattle.circuit.specs.Bridge.{AreValues, StopsAt, netlist_of, read}
 use Rattle.circuit.specs.Meaning.{AreOrdered, Netlist, Valuation, first_gates}
 use Rattle.circuit.proofs.Undefined.{stopped, undefined_has_none, undefined_is_one}
 use Rattle.section_text.specs.Spelling.{line_text}
-use Rattle.std.specs.Fmt.{decimal}
 use Rattle.circuit.specs.Text.{value_lines}
 use Rattle.answers.specs.ValueText.{SaysAll, SaysSome, IsValueOf, CircuitAndNamesOn, SaysValues, value_sections_of}
 use Rattle.answers.specs.declared.outcome.Outcome.{Outcome}

@@ -1,5 +1,5 @@
 -- A text is accepted if its modules pass tests, which a proof by computation can run.
-use Rattle.std.proofs.Common.{◌≡◌, ℕ, List, Result, Ok, Err, refl, sym, subst, map}
+use Rattle.lemmas.proofs.Common.{◌≡◌, Err, List, Ok, Result, map, refl, subst, sym, ℕ}
 use Rattle.section_text.specs.declared.fault.Refusal.{Refusal}
 use Rattle.circuit.specs.Bridge.{circuit_of}
 use Rattle.circuit.proofs.Bridging.{gates_are_ordered}

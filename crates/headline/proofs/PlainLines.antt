@@ -1,12 +1,9 @@
 -- The lines of the plain certificate of a design make a plain module
-use Rattle.std.proofs.Common.{◌≡◌, ℕ, zero, suc, ◌+◌, ◌<◌, ◌≤◌, ◌++◌, ◌&&◌, not, eqb, fold, Bool, true, false, List, []}
-use Rattle.std.proofs.Common.{◌∷◌, length, map, filter, Some, refl, sym, ap, ap₂, subst, ◌∙◌, inl, inr, arith}
-use Rattle.std.proofs.Common.{append-nil, append_assoc, slice_get, All, flat_map}
-use Rattle.std.specs.List.{list_all, range_with_len}
-use Rattle.std.proofs.lemmas.Bool.{and_parts, cases_Bool, eq-eqb, eqb-true}
-use Rattle.std.proofs.lemmas.Grind.{flat_map-append}
-use Rattle.std.proofs.lemmas.List.Elements.{All-nil, All-cons}
-use Rattle.std.proofs.lemmas.Option.{slice_get_within}
+use Rattle.lemmas.proofs.Common.{[], ◌&&◌, ◌++◌, ◌+◌, ◌<◌, ◌∙◌, ◌∷◌, ◌≡◌, ◌≤◌, All, Bool, List, Some, ap, append-nil}
+use Rattle.lemmas.proofs.Common.{append_assoc, ap₂, arith, eq-eqb, eqb, false, filter, flat_map, fold, inl, inr, length}
+use Rattle.lemmas.proofs.Common.{map, not, refl, slice_get, subst, suc, sym, true, zero, ℕ, All-cons, All-nil}
+use Rattle.lemmas.proofs.Common.{and_parts, cases_Bool, eqb-true, flat_map-append, list_all, range_with_len}
+use Rattle.lemmas.proofs.Common.{slice_get_within, false_from_not}
 use Rattle.section_text.specs.Words.{has}
 use Rattle.circuit.specs.Bridge.{AreGoodCircuitLines, input_names, netlist_of}
 use Rattle.circuit.specs.Entries.{defined}
@@ -47,16 +44,12 @@ one_more b ms (Edge e) h = refl
 one_more b ms (Halo e) h = refl
 one_more b ms (Stop s) h = refl
 
-not_false : (a : Bool) → not a ≡ true → a ≡ false
-not_false true h = sym h
-not_false false h = refl
-
 pub all_inner : (b : Box2) (ms ls : List CertificateLine) → list_all (λ i. not (is_module i)) ls ≡ true →
     fold add_line (record { area = b; lines = ms } ∷ []) ls ≡ record { area = b; lines = ms ++ ls } ∷ []
 all_inner b ms [] h = ap (λ (l : List CertificateLine). (record { area = b; lines = l }) ∷ []) (sym (append-nil ms))
 all_inner b ms (i ∷ ls) h =
     let both = and_parts (not (is_module i)) (list_all (λ i. not (is_module i)) ls) h in
-    ap (λ s. fold add_line s ls) (one_more b ms i (not_false (is_module i) both.0))
+    ap (λ s. fold add_line s ls) (one_more b ms i (false_from_not (is_module i) both.0))
     ∙ all_inner b (ms ++ i ∷ []) ls both.1
     ∙ ap (λ (l : List CertificateLine). (record { area = b; lines = l }) ∷ []) (append_assoc ms (i ∷ []) ls)
 

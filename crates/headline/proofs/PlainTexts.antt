@@ -1,7 +1,7 @@
 -- The report on a plain text
-use Rattle.std.proofs.Common.{◌≡◌, ℕ, List, [], ◌∷◌, map, Result, Ok, Err, Vec, Global, refl, sym, ap, subst, ◌∙◌, inl}
-use Rattle.std.proofs.Common.{inr, ℤ, length, Some, option_map, All, flat_map, Contains, slice_get}
-use Rattle.std.proofs.lemmas.Bool.{cases_Bool}
+use Rattle.lemmas.proofs.Common.{[], ◌∙◌, ◌∷◌, ◌≡◌, All, Contains, Err, Global, List, Ok, Result, Some, Vec, ap}
+use Rattle.lemmas.proofs.Common.{flat_map, inl, inr, length, map, option_map, refl, slice_get, subst, sym, ℕ, ℤ}
+use Rattle.lemmas.proofs.Common.{cases_Bool, slice_get-map}
 use Rattle.section_text.specs.declared.fault.Refusal.{Refusal}
 use Rattle.circuit.specs.Bridge.{circuit_of, netlist_of}
 use Rattle.circuit.specs.declared.circuit_line.CircuitLine.{CircuitLine}
@@ -20,7 +20,6 @@ use Rattle.certificate.specs.Times.{all_stops}
 use Rattle.certificate.proofs.FullModules.{meant_new, meant_old, other_lines, stop_lines}
 use Rattle.certificate.proofs.MeantLines.{stops_meant}
 use Rattle.certificate.proofs.TimeLemmas.{all_in_modules}
-use Rattle.std.proofs.lemmas.Option.{slice_get-map}
 use Rattle.sha2.specs.Sha256.{sha256}
 use Rattle.circuit.specs.Meaning.{Circuit, Satisfies, Valuation}
 use Rattle.module_box.specs.Schedules.{signal_at}

@@ -1,12 +1,8 @@
 -- A text that begins with a design says it, and the printing is the text of the sections.
-use Rattle.std.proofs.Common.{◌≡◌, ℕ, ℤ, pos, ◌<◌, ◌^◌, true, false, List, [], ◌∷◌, ◌++◌, length, map, None, refl, sym}
-use Rattle.std.proofs.Common.{ap, ap₂, subst, ◌∙◌, append_assoc, arith, IsTrue, codes, ◌&&◌, All, flat_map}
-use Rattle.std.specs.Fmt.{signed_decimal}
-use Rattle.std.specs.List.{AllByRecursion, slice_split}
-use Rattle.std.proofs.lemmas.Grind.{flat_map-append}
-use Rattle.std.proofs.lemmas.List.{append-nil}
-use Rattle.std.proofs.lemmas.List.Elements.{All-from_recursion, All-head, All-tail}
-use Rattle.std.proofs.lemmas.List.Splits.{slice_split_at}
+use Rattle.lemmas.proofs.Common.{[], ◌&&◌, ◌++◌, ◌<◌, ◌^◌, ◌∙◌, ◌∷◌, ◌≡◌, All, IsTrue, List, None, ap, append-nil}
+use Rattle.lemmas.proofs.Common.{append_assoc, ap₂, arith, codes, false, flat_map, length, map, pos, refl, subst, sym}
+use Rattle.lemmas.proofs.Common.{true, ℕ, ℤ, All-from_recursion, All-head, All-tail, AllByRecursion, flat_map-append}
+use Rattle.lemmas.proofs.Common.{signed_decimal, slice_split, slice_split_at}
 use Rattle.section_text.specs.Section.{with_line_feed}
 use Rattle.section_text.specs.Spelling.{line_text}
 use Rattle.section_text.specs.Words.{ended, is_line_feed, is_name, lines_of}

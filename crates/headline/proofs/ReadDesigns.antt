@@ -1,11 +1,8 @@
 -- What a text says that is not refused keeps the rules of a design
-use Rattle.std.proofs.Common.{◌≡◌, ℕ, zero, suc, ◌+◌, Bool, true, cond, eqb, List, [], ◌∷◌, ◌++◌, ◌&&◌, length, Option}
-use Rattle.std.proofs.Common.{Some, None, Result, Ok, Err, refl, sym, ap, ap₂, subst, inl, inr, map, IsTrue, codes}
-use Rattle.std.proofs.Common.{slice_get}
-use Rattle.std.specs.List.{AllByRecursion, list_all}
-use Rattle.std.proofs.lemmas.Bool.{and_parts}
-use Rattle.std.proofs.lemmas.List.Elements.{All-from_recursion}
-use Rattle.std.proofs.lemmas.Option.{cond_some, option_and_then_some, same_Some}
+use Rattle.lemmas.proofs.Common.{[], ◌&&◌, ◌++◌, ◌+◌, ◌∷◌, ◌≡◌, Bool, Err, IsTrue, List, None, Ok, Option, Result, Some}
+use Rattle.lemmas.proofs.Common.{ap, ap₂, codes, cond, eqb, inl, inr, length, map, refl, slice_get, subst, suc, sym}
+use Rattle.lemmas.proofs.Common.{true, zero, ℕ, All-from_recursion, AllByRecursion, and_parts, cond_some, list_all}
+use Rattle.lemmas.proofs.Common.{option_and_then_some, same_Some}
 use Rattle.section_text.specs.SaidSection.{IsSection}
 use Rattle.section_text.specs.Words.{◌>>=◌, is_name, is_word_at, lone, lone_name, name_at, name_of, names_at, words_of}
 use Rattle.section_text.specs.declared.fault.Refusal.{Refusal}

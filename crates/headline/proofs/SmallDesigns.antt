@@ -1,15 +1,13 @@
 -- The lines of the plain certificate of a small design are good
-use Rattle.std.proofs.Common.{◌≡◌, ℕ, zero, suc, ◌+◌, ◌<◌, ◌≤◌, ◌++◌, ◌&&◌, ◌||◌, not, eqb, Bool, true, false, List, []}
-use Rattle.std.proofs.Common.{◌∷◌, length, map, filter, take, drop, Some, None, Less, refl, sym, ap, ap₂, subst, ◌∙◌}
-use Rattle.std.proofs.Common.{append-nil, append_assoc, take-append-drop, cond, option_map, inl, inr, arith, ◌%◌, Ok}
-use Rattle.std.proofs.Common.{slice_get, nat_lt, nat_le, ◌==◌, ◌≢◌, All, flat_map, option_to_list, is_lt, nat_cmp}
-use Rattle.std.proofs.Math.Seq.{take-length}
-use Rattle.std.specs.List.{list_all, list_any, range_with_len}
-use Rattle.std.specs.Ordering.{ordering_then}
-use Rattle.std.proofs.lemmas.Bool.{and_parts, cases_Bool, eqb-true, true≢false}
-use Rattle.std.proofs.lemmas.List.Elements.{All-append, All-nil, All-cons, All-head, All-tail}
-use Rattle.std.proofs.lemmas.List.{length-append, map-append}
-use Rattle.std.proofs.lemmas.Option.{same_Some, slice_get-map, slice_get_within}
+use Rattle.lemmas.proofs.Common.{[], ◌%◌, ◌&&◌, ◌++◌, ◌+◌, ◌<◌, ◌==◌, ◌||◌, ◌∙◌, ◌∷◌, ◌≡◌, ◌≢◌, ◌≤◌, All, Bool, Less}
+use Rattle.lemmas.proofs.Common.{List, None, Ok, Some, ap, append-nil, append_assoc, ap₂, arith, cond, drop, eqb, false}
+use Rattle.lemmas.proofs.Common.{filter, flat_map, inl, inr, is_lt, length, length-append, map, nat_cmp, nat_le, nat_lt}
+use Rattle.lemmas.proofs.Common.{not, option_map, option_to_list, refl, slice_get, subst, suc, sym, take}
+use Rattle.lemmas.proofs.Common.{take-append-drop, true, true≢false, zero, ℕ, All-append, All-cons, All-head, All-nil}
+use Rattle.lemmas.proofs.Common.{All-tail, and-false, and_parts, bytes_eq, bytes_eq-Decides, cases_Bool, eqb-true}
+use Rattle.lemmas.proofs.Common.{flat_map-append, list_all, list_any, list_any-append, map-append, nat_tests, or-true}
+use Rattle.lemmas.proofs.Common.{ordering_then, range_with_len, same_Some, slice_get-map, slice_get_within, take-length}
+use Rattle.lemmas.proofs.Common.{less_nat, not_le_test}
 use Rattle.section_text.specs.Codes.{code_if, or_else}
 use Rattle.section_text.specs.Words.{has}
 use Rattle.circuit.specs.Bridge.{AreGoodCircuitLines, AreGoodAfter, circuit_of, input_names, netlist_of, output_names}
@@ -41,9 +39,6 @@ use Rattle.certificate_lines.proofs.Lists.{any_at, kept}
 use Rattle.certificate_lines.proofs.LocalLemmas.{local_more}
 use Rattle.certificate.specs.Grammars.{certificate_grammar}
 use Rattle.section_text.proofs.Good.{AreFaultless, IsFaultless, read_faultless}
-use Rattle.std.specs.Str.{bytes_eq}
-use Rattle.std.proofs.lemmas.Slice.Eq.{bytes_eq-Decides}
-use Rattle.std.proofs.lemmas.List.Folds.{list_any-append}
 use Rattle.circuit.specs.Grammars.{circuit_grammar}
 use Rattle.pattern.specs.Forms.{form_of as layout_form}
 use Rattle.pattern.specs.Grammars.{layout_grammar, layout_section}
@@ -78,9 +73,6 @@ use Rattle.headline.proofs.WrittenNames.{outs_have}
 use Rattle.headline.proofs.YesIsRight.{bundle_good, circuit_good}
 use Rattle.core_book.specs.declared.verdict.Verdict.TheVariants as verdict
 use Rattle.headline.proofs.PlainLines.{all_inner, among_range, none_of, own_of, is_one, plain_lines_decide}
-use Rattle.std.proofs.lemmas.Grind.{flat_map-append}
-use Rattle.std.proofs.lemmas.Bool.Decides.{nat_tests}
-use Rattle.std.proofs.Math.Bool.{and-false, or-true}
 use Rattle.module_box.specs.Moments.{cell_cmp}
 use Rattle.section_text.specs.declared.code.RefusalCode.TheVariants.{PastLimit, UnknownName, DefinedTwice, OutOfOrder}
 use Rattle.section_text.specs.declared.code.RefusalCode.TheVariants.{MisplacedBox, NotLocal, SomethingMissing}
@@ -230,9 +222,6 @@ all_anything : {X : Type 0} (xs : List X) → All (λ x. Unit {0}) xs
 all_anything [] = All-nil (λ x. Unit {0})
 all_anything (x ∷ xs) = All-cons (λ x. Unit {0}) x xs tt (all_anything xs)
 
-less : (a b : ℕ) → a < b → nat_cmp a b ≡ Less
-less a b lt = grind (arith, lt)
-
 cut_cut : (a b : List ℕ) → may_precede (Cut a) (Cut b) ≡ true
 unfolding may_precede is_cut
 cut_cut a b = or-true (is_lt (line_cmp (Cut a) (Cut b)))
@@ -252,12 +241,12 @@ use_keep j k = refl
 use_use : (j k : ℕ) → j < k → may_precede (Use j) (Use k) ≡ true
 unfolding may_precede is_cut line_cmp rank_of number_of
 use_use j k lt =
-    ap (λ o. is_lt (ordering_then o (cell_cmp (cell_of (Use j)) (cell_of (Use k)))) || false) (less j k lt)
+    ap (λ o. is_lt (ordering_then o (cell_cmp (cell_of (Use j)) (cell_of (Use k)))) || false) (less_nat j k lt)
 
 keep_keep : (j k : ℕ) → j < k → may_precede (Keep j) (Keep k) ≡ true
 unfolding may_precede is_cut line_cmp rank_of number_of
 keep_keep j k lt =
-    ap (λ o. is_lt (ordering_then o (cell_cmp (cell_of (Keep j)) (cell_of (Keep k)))) || false) (less j k lt)
+    ap (λ o. is_lt (ordering_then o (cell_cmp (cell_of (Keep j)) (cell_of (Keep k)))) || false) (less_nat j k lt)
 
 follow_by : (g : Setting) (m : ModuleLines) (i : CertificateLine) → may_follow m.lines i ≡ true →
     content_code g m i ≡ None →
@@ -271,14 +260,11 @@ all_below (suc n) a b h =
 
 -- ---- what a line asks
 
-below_limit : (a b : ℕ) → b < a → nat_le a b ≡ false
-below_limit a b lt = grind (arith, nat_tests, lt)
-
 cut_ok : (c : Circuit) (count : ℕ) (local : List ℕ) (n : List ℕ) (w : ℕ) → count < 12 → wire_of c n ≡ Some w →
     is_among local w ≡ false → cut_fault c count local n ≡ None
 unfolding cut_fault
 cut_ok c count local n w few e fresh =
-    ap₂ or_else (ap (λ b. code_if b PastLimit) (below_limit 12 count few))
+    ap₂ or_else (ap (λ b. code_if b PastLimit) (not_le_test 12 count few))
     (ap (cut_wire_fault local) e ∙ ap (λ b. code_if b DefinedTwice) fresh)
 
 use_ok : (c : Circuit) (count : ℕ) (local : List ℕ) (k : ℕ) (x : Gate) → count < 64 →
@@ -287,7 +273,7 @@ use_ok : (c : Circuit) (count : ℕ) (local : List ℕ) (k : ℕ) (x : Gate) →
     use_fault c count local k ≡ None
 unfolding use_fault used_gate_fault
 use_ok c count local k x few at ins new =
-    ap₂ or_else (ap (λ b. code_if b PastLimit) (below_limit 64 count few))
+    ap₂ or_else (ap (λ b. code_if b PastLimit) (not_le_test 64 count few))
     (ap (used_gate_fault local) at ∙ ap₂ or_else (ap (λ b. code_if (not b) NotLocal) ins)
     (ap (λ b. code_if (not b) DefinedTwice) new))
 

@@ -1,6 +1,6 @@
 -- `modules`, `migrate` and `value` have an answer to each text
-use Rattle.std.proofs.Common.{◌≡◌, ◌⊎◌, ◌++◌, ◌∷◌, [], ℕ, List, Result, Ok, Err, refl, inl, inr, subst, codes}
-use Rattle.std.specs.Fmt.{decimal}
+use Rattle.lemmas.proofs.Common.{[], ◌++◌, ◌∷◌, ◌≡◌, ◌⊎◌, Err, List, Ok, Result, codes, inl, inr, refl, subst, ℕ}
+use Rattle.lemmas.proofs.Common.{decimal}
 use Rattle.section_text.specs.Spelling.{line_text}
 use Rattle.section_text.specs.Words.{lines_of}
 use Rattle.section_text.specs.Section.{section_of}

@@ -1,6 +1,6 @@
 -- A text has a report
-use Rattle.std.proofs.Common.{◌≡◌, ◌++◌, ◌∷◌, ◌∙◌, [], ℕ, List, Option, Some, None, Ok, refl, sym, ap, subst}
-use Rattle.std.proofs.Common.{append-nil, append_assoc}
+use Rattle.lemmas.proofs.Common.{[], ◌++◌, ◌∙◌, ◌∷◌, ◌≡◌, List, None, Ok, Option, Some, ap, append-nil, append_assoc}
+use Rattle.lemmas.proofs.Common.{refl, subst, sym, ℕ}
 use Rattle.section_text.proofs.Good.{AreFaultless, IsFaultless}
 use Rattle.section_text.specs.Ports.{Named}
 use Rattle.pattern.specs.Grammars.{layout_grammar, layout_section}

@@ -1,8 +1,7 @@
 -- `run` has an answer to each text
-use Rattle.std.proofs.Common.{◌≡◌, ◌⊎◌, ◌≤◌, ◌<◌, ◌*◌, ◌^◌, ◌∷◌, ◌∙◌, [], ℕ, zero, suc, Bool, true, false, List, None}
-use Rattle.std.proofs.Common.{Result, Ok, Err, refl, sym, subst, length, cond, inl, inr, arith, ℤ, filter, flat_map}
-use Rattle.std.proofs.Math.Nat.{mul-le-mul_right}
-use Rattle.std.proofs.lemmas.Bool.{cases_Bool, cases_lt, true≢false}
+use Rattle.lemmas.proofs.Common.{[], ◌*◌, ◌<◌, ◌^◌, ◌∙◌, ◌∷◌, ◌≡◌, ◌≤◌, ◌⊎◌, Bool, Err, List, None, Ok, Result, arith}
+use Rattle.lemmas.proofs.Common.{cond, false, filter, flat_map, inl, inr, length, refl, subst, suc, sym, true}
+use Rattle.lemmas.proofs.Common.{true≢false, zero, ℕ, ℤ, cases_Bool, cases_lt, mul-le-mul_right}
 use Rattle.section_text.specs.Words.{has, lines_of}
 use Rattle.section_text.specs.Section.{section_of}
 use Rattle.section_text.specs.declared.fault.Refusal.{Refusal}

@@ -1,15 +1,12 @@
 -- A mirror that touches the rim of its rectangle: its layout computes a circuit, and gets a yes after it is moved
-use Rattle.std.proofs.Common.{◌≡◌, ℕ, zero, suc, ◌+◌, ◌≤◌, ◌&&◌, ◌||◌, Bool, true, false, List, [], ◌∷◌, leb, ltb, refl}
-use Rattle.std.proofs.Common.{sym, ap, ap₂, subst, ◌∙◌, arith, inl, inr, ℤ, pos, negsuc, ◌+ℤ◌, ◌-ℤ◌, IsTrue, None}
-use Rattle.std.proofs.Common.{codes, option_map, unwrap_or}
-use Rattle.std.proofs.lemmas.Bool.{and_parts}
-use Rattle.std.proofs.lemmas.Bool.Decides.{nat_tests}
-use Rattle.std.proofs.lemmas.Int.{ints}
-use Rattle.std.proofs.lemmas.List.Elements.{All-cons, All-nil}
+use Rattle.lemmas.proofs.Common.{[], ◌&&◌, ◌+ℤ◌, ◌+◌, ◌-ℤ◌, ◌||◌, ◌∙◌, ◌∷◌, ◌≡◌, ◌≤◌, Bool, IsTrue, List, None, ap, ap₂}
+use Rattle.lemmas.proofs.Common.{arith, codes, false, inl, inr, leb, ltb, negsuc, option_map, pos, refl, subst, suc}
+use Rattle.lemmas.proofs.Common.{sym, true, unwrap_or, zero, ℕ, ℤ, All-cons, All-nil, and_parts, ints, nat_tests}
+use Rattle.lemmas.proofs.Common.{next_neg}
 use Rattle.section_text.specs.Words.{is_name}
 use Rattle.bbm_rule.specs.Plane.{State, partner, run, step, turned}
 use Rattle.bbm_rule.specs.Spans.{in_area, in_span}
-use Rattle.bbm_rule.proofs.Spans.{even_span, in_span-negsuc, in_span-pos, more_one_negative, partner_near, span_from}
+use Rattle.bbm_rule.proofs.Spans.{even_span, in_span-negsuc, in_span-pos, partner_near, span_from}
 use Rattle.bbm_rule.proofs.Spans.{span_parts}
 use Rattle.bbm_rule.proofs.Steps.{step_same}
 use Rattle.circuit.specs.Bridge.{AreGoodCircuitLines, circuit_of, AreGoodAfter as AreGoodCircuit}
@@ -102,7 +99,7 @@ far k = elim (partner_near 1 (pos (4 + k))) [
 
 negative : (k : ℕ) → in_span 1 2 (partner 1 (negsuc (suc k))) ≡ false
 negative k = elim (partner_near 1 (negsuc (suc k))) [
-  | inl up ↦ ap (in_span 1 2) (up ∙ more_one_negative k) ∙ in_span-negsuc 1 2 k
+  | inl up ↦ ap (in_span 1 2) (up ∙ next_neg k) ∙ in_span-negsuc 1 2 k
   | inr down ↦ ap (in_span 1 2) (down ∙ below k) ∙ in_span-negsuc 1 2 (suc (suc k))
 ]
   where

@@ -1,12 +1,8 @@
 -- Words make a line, lines make a section, and sections make a text, which have these words, lines and sections
-use Rattle.std.proofs.Common.{◌≡◌, ℕ, Bool, true, false, eqb, List, [], ◌∷◌, ◌++◌, map, Option, Some, refl, sym, ap}
-use Rattle.std.proofs.Common.{ap₂, ◌∙◌, inl, inr, arith, ◌&&◌, ◌||◌, ◌==◌, length, nat_lt, flat_map}
-use Rattle.std.specs.List.{AllByRecursion, list_all}
-use Rattle.std.proofs.lemmas.Bool.{and_parts, cases_Bool, eqb-true, false≢true}
-use Rattle.std.proofs.lemmas.Bool.Decides.{nat_tests}
-use Rattle.std.proofs.lemmas.List.{append-nil}
-use Rattle.std.proofs.lemmas.List.Elements.{All-from_recursion}
-use Rattle.std.proofs.lemmas.List.Splits.{slice_split_at, slice_split_none}
+use Rattle.lemmas.proofs.Common.{[], ◌&&◌, ◌++◌, ◌==◌, ◌||◌, ◌∙◌, ◌∷◌, ◌≡◌, Bool, List, Option, Some, ap, append-nil}
+use Rattle.lemmas.proofs.Common.{ap₂, arith, eqb, false, flat_map, inl, inr, length, map, nat_lt, refl, sym, true, ℕ}
+use Rattle.lemmas.proofs.Common.{All-from_recursion, AllByRecursion, and_parts, cases_Bool, eqb-true, false≢true}
+use Rattle.lemmas.proofs.Common.{list_all, nat_tests, slice_split_at, slice_split_none}
 use Rattle.section_text.specs.SaidSection.{IsSection}
 use Rattle.section_text.specs.Spelling.{space_and_word}
 use Rattle.section_text.specs.Words.{is_digit, is_lower, is_name, is_name_byte, is_space, words_of}

@@ -1,15 +1,9 @@
 -- The lines of a good circuit can be written, if its wires have names
-use Rattle.std.proofs.Common.{◌≡◌, ℕ, ◌+◌, ◌<◌, ◌^◌, Bool, true, false, cond, List, [], ◌∷◌, ◌++◌, ◌&&◌, ◌||◌, length}
-use Rattle.std.proofs.Common.{Some, None, refl, sym, ap, ap₂, subst, ◌∙◌, inl, inr, arith, append_assoc, ◌==◌, codes}
-use Rattle.std.proofs.Common.{nat_lt, slice_get}
-use Rattle.std.specs.Fmt.{decimal}
-use Rattle.std.specs.List.{AllByRecursion, list_all}
-use Rattle.std.specs.Str.{bytes_eq}
-use Rattle.std.proofs.lemmas.Bool.{and_parts, cases_Bool, eq-eqb, false≢true}
-use Rattle.std.proofs.lemmas.Bool.Decides.{nat_tests}
-use Rattle.std.proofs.lemmas.List.{append-nil, length-append}
-use Rattle.std.proofs.lemmas.Option.{cond_some}
-use Rattle.std.proofs.lemmas.Slice.Eq.{bytes_eq-Decides}
+use Rattle.lemmas.proofs.Common.{[], ◌&&◌, ◌++◌, ◌+◌, ◌<◌, ◌==◌, ◌^◌, ◌||◌, ◌∙◌, ◌∷◌, ◌≡◌, Bool, List, None, Some, ap}
+use Rattle.lemmas.proofs.Common.{append-nil, append_assoc, ap₂, arith, codes, cond, eq-eqb, false, inl, inr, length}
+use Rattle.lemmas.proofs.Common.{length-append, nat_lt, refl, slice_get, subst, sym, true, ℕ, AllByRecursion, and_parts}
+use Rattle.lemmas.proofs.Common.{bytes_eq, bytes_eq-Decides, cases_Bool, cond_some, decimal, false≢true, list_all}
+use Rattle.lemmas.proofs.Common.{nat_tests, left_is_false}
 use Rattle.section_text.specs.Words.{◌>>=◌, has, is_digit, is_name, is_number, is_word, is_word_at, lone, lone_name}
 use Rattle.section_text.specs.Words.{name_at, name_of, names_at, number_at, number_of}
 use Rattle.section_text.specs.declared.code.RefusalCode.TheVariants.{PastLimit}
@@ -266,14 +260,10 @@ line_of Spill (n ∷ []) (x ∷ outs) fits i o right = absurd (let e = fits.1 in
 
 -- ---- the section
 
-either_false : (a b : Bool) → (a || b) ≡ false → a ≡ false
-either_false true b e = e
-either_false false b e = refl
-
 pub right_delay : (before : List CircuitLine) (r : CircuitLine) → add_fault before r ≡ None →
     is_wrong_delay r.kind ≡ false
 unfolding add_fault
-right_delay before r e = either_false (is_wrong_delay r.kind) _
+right_delay before r e = left_is_false (is_wrong_delay r.kind) _
     (no_code (exceeds_limit before r) PastLimit (first_none (limit_fault before r) _ e))
 
 pub defined_more : (before : List CircuitLine) (r : CircuitLine) → AreNames (defined before) → AreNames r.outs →

@@ -1,12 +1,8 @@
 -- Each small design has a plain text, and `check` decides the design by it
-use Rattle.std.proofs.Common.{◌≡◌, ℕ, zero, suc, ◌+◌, ◌<◌, ◌≤◌, ◌^◌, Bool, true, false, cond, List, [], ◌∷◌, ◌++◌, ◌&&◌}
-use Rattle.std.proofs.Common.{length, map, filter, Some, Ok, refl, sym, ap, ap₂, subst, ◌∙◌, arith, append-nil}
-use Rattle.std.proofs.Common.{append_assoc, IsTrue, codes, slice_get, All, flat_map}
-use Rattle.std.specs.Fmt.{decimal}
-use Rattle.std.specs.List.{AllByRecursion, list_all, range_with_len}
-use Rattle.std.proofs.lemmas.Bool.{and_parts}
-use Rattle.std.proofs.lemmas.Grind.{flat_map-append}
-use Rattle.std.proofs.lemmas.List.Elements.{All-head, All-nil, All-tail}
+use Rattle.lemmas.proofs.Common.{[], ◌&&◌, ◌++◌, ◌+◌, ◌<◌, ◌^◌, ◌∙◌, ◌∷◌, ◌≡◌, ◌≤◌, All, Bool, IsTrue, List, Ok, Some}
+use Rattle.lemmas.proofs.Common.{ap, append-nil, append_assoc, ap₂, arith, codes, cond, false, filter, flat_map, length}
+use Rattle.lemmas.proofs.Common.{map, refl, slice_get, subst, suc, sym, true, zero, ℕ, All-head, All-nil, All-tail}
+use Rattle.lemmas.proofs.Common.{AllByRecursion, and_parts, decimal, flat_map-append, list_all, range_with_len}
 use Rattle.section_text.specs.Codes.{or_else}
 use Rattle.section_text.specs.SaidSection.{IsSection}
 use Rattle.section_text.specs.Section.{Grammar, with_line_feed, section_of}

@@ -1,12 +1,8 @@
 -- The lines of a good layout can be written, if its ports have names, and no line has a fault after those before it
-use Rattle.std.proofs.Common.{◌≡◌, ℕ, suc, ◌+◌, ◌<◌, ◌≤◌, ◌^◌, Bool, true, false, not, List, [], ◌∷◌, ◌++◌, ◌&&◌, ◌||◌}
-use Rattle.std.proofs.Common.{map, Option, Some, None, refl, sym, ap, ap₂, subst, ◌∙◌, arith, append-nil, codes, nat_le}
-use Rattle.std.proofs.Common.{nat_lt, option_map, slice_get}
-use Rattle.std.specs.Fmt.{decimal}
-use Rattle.std.specs.List.{AllByRecursion, list_all, list_any}
-use Rattle.std.proofs.lemmas.Bool.{and_parts}
-use Rattle.std.proofs.lemmas.Bool.Decides.{nat_tests}
-use Rattle.std.proofs.lemmas.Option.{slice_get-map}
+use Rattle.lemmas.proofs.Common.{[], ◌&&◌, ◌++◌, ◌+◌, ◌<◌, ◌^◌, ◌||◌, ◌∙◌, ◌∷◌, ◌≡◌, ◌≤◌, Bool, List, None, Option}
+use Rattle.lemmas.proofs.Common.{Some, ap, append-nil, ap₂, arith, codes, false, map, nat_le, nat_lt, not, option_map}
+use Rattle.lemmas.proofs.Common.{refl, slice_get, subst, suc, sym, true, ℕ, AllByRecursion, and_parts, decimal}
+use Rattle.lemmas.proofs.Common.{list_all, list_any, nat_tests, slice_get-map, at_most_by_test}
 use Rattle.section_text.specs.Codes.{code_if, or_else}
 use Rattle.section_text.specs.Ports.{Named}
 use Rattle.section_text.specs.Words.{◌>>=◌, has, is_name, is_word_at, lone, name_at, number_at}
@@ -49,9 +45,6 @@ pub record HasLimits (s : LayoutHeader) : Type 0 where
   pub high : s.h ≤ 512
   pub long : s.steps ≤ 65536
 
-below : (n k : ℕ) → nat_le n k ≡ true → n ≤ k
-below n k h = grind (arith, nat_tests, h)
-
 side_below : (n : ℕ) → is_layout_side n ≡ true → n ≤ 512
 side_below n h = grind (arith, nat_tests, h)
 
@@ -64,7 +57,7 @@ has_limits s e =
     record {
       wide = side_below s.w sides.0;
       high = side_below s.h sides.1;
-      long = below s.steps 65536 both.1;
+      long = at_most_by_test s.steps 65536 both.1;
     }
 
 -- ---- lines
@@ -171,8 +164,8 @@ module _ (s : LayoutHeader) (l : HasLimits s) where
   unfolding is_inside
   small_mirror r h =
       let inside = and_parts (nat_le (r.x + r.w) s.w) (nat_le (r.y + r.h) s.h) h in
-      let across = below (r.x + r.w) s.w inside.0 in
-      let down = below (r.y + r.h) s.h inside.1 in
+      let across = at_most_by_test (r.x + r.w) s.w inside.0 in
+      let down = at_most_by_test (r.y + r.h) s.h inside.1 in
       let wide = l.wide in
       let high = l.high in
       record {

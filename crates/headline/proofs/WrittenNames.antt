@@ -1,6 +1,6 @@
 -- The inputs and the outputs of a good circuit have names, if its wires do
-use Rattle.std.proofs.Common.{Bool, true, false, cond, List, [], ◌∷◌, ◌++◌, ℕ, refl, sym, subst, if◌then◌else◌}
-use Rattle.std.proofs.lemmas.Grind.{flat_map-append}
+use Rattle.lemmas.proofs.Common.{[], ◌++◌, ◌∷◌, Bool, List, cond, false, if◌then◌else◌, refl, subst, sym, true, ℕ}
+use Rattle.lemmas.proofs.Common.{flat_map-append}
 use Rattle.circuit.specs.Bridge.{AreGoodAfter, input_names, is_input, is_output, output_names}
 use Rattle.circuit.specs.Entries.{defined}
 use Rattle.circuit.specs.Rules.{consumed}

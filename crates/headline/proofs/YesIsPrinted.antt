@@ -1,9 +1,7 @@
 -- A text that is not refused begins with the design that it says, and one that is reported with a yes is right.
-use Rattle.std.proofs.Common.{◌≡◌, ℕ, ℤ, pos, ◌<◌, ◌^◌, true, List, [], ◌∷◌, ◌++◌, map, refl, sym, ap₂, subst, ◌∙◌}
-use Rattle.std.proofs.Common.{arith, IsTrue, codes, All}
-use Rattle.std.specs.List.{AllByRecursion, list_all}
-use Rattle.std.proofs.lemmas.Bool.{and_parts}
-use Rattle.std.proofs.lemmas.List.Elements.{All-cons, All-from_recursion, All-nil, All-tail}
+use Rattle.lemmas.proofs.Common.{[], ◌++◌, ◌<◌, ◌^◌, ◌∙◌, ◌∷◌, ◌≡◌, All, IsTrue, List, ap₂, arith, codes, map, pos}
+use Rattle.lemmas.proofs.Common.{refl, subst, sym, true, ℕ, ℤ, All-cons, All-from_recursion, All-nil, All-tail}
+use Rattle.lemmas.proofs.Common.{AllByRecursion, and_parts, list_all}
 use Rattle.section_text.specs.Ports.{Named}
 use Rattle.section_text.specs.Words.{is_name}
 use Rattle.circuit.specs.Bridge.{AreGoodAfter}

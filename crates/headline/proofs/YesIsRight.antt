@@ -1,10 +1,7 @@
 -- A text that is reported with a yes is right.
-use Rattle.std.proofs.Common.{◌≡◌, ◌≤◌, ℕ, ◌+◌, cond, eqb, List, [], ◌∷◌, ◌++◌, length, take, drop, Option, Some, None}
-use Rattle.std.proofs.Common.{Result, Ok, Err, refl, sym, ap, ap₂, subst, ◌∙◌, append_assoc, take-append-drop, arith}
-use Rattle.std.proofs.Common.{nat_lt, ◌≢◌, All, flat_map}
-use Rattle.std.proofs.lemmas.Grind.{flat_map-append}
-use Rattle.std.proofs.lemmas.List.{append-nil}
-use Rattle.std.proofs.lemmas.Bool.{ltb-false}
+use Rattle.lemmas.proofs.Common.{[], ◌++◌, ◌+◌, ◌∙◌, ◌∷◌, ◌≡◌, ◌≢◌, ◌≤◌, All, Err, List, None, Ok, Option, Result, Some}
+use Rattle.lemmas.proofs.Common.{ap, append-nil, append_assoc, ap₂, arith, cond, drop, eqb, flat_map, length, nat_lt}
+use Rattle.lemmas.proofs.Common.{refl, subst, sym, take, take-append-drop, ℕ, flat_map-append, ltb-false}
 use Rattle.section_text.specs.Codes.{or_else}
 use Rattle.section_text.specs.Words.{lines_of, bytes_after_last_line_feed, words_of}
 use Rattle.section_text.specs.Section.{with_line_feed, unless, result_after_line, header_line, section_of}

@@ -1,5 +1,5 @@
 -- A text that is reported with a yes is right in full.
-use Rattle.std.proofs.Common.{◌≡◌, ℕ, List, Option, Some, sym, ◌∙◌}
+use Rattle.lemmas.proofs.Common.{◌∙◌, ◌≡◌, List, Option, Some, sym, ℕ}
 use Rattle.circuit.specs.Bridge.{AreGoodCircuitLines}
 use Rattle.circuit.specs.declared.circuit_line.CircuitLine.{CircuitLine}
 use Rattle.circuit.proofs.Naming.{inputs_are_first, names_are_own}

@@ -1,8 +1,6 @@
 -- Facts on lists, for the end of a desk.
-use Rattle.std.proofs.Common.{◌≡◌, ℕ, zero, suc, ◌+◌, ◌-◌, ◌<◌, ◌≤◌, List, [], ◌∷◌, ◌++◌, map, length, All, sym, ap}
-use Rattle.std.proofs.Common.{◌∙◌, subst, arith, append_assoc, Any}
-use Rattle.std.proofs.lemmas.Bool.Decides.{nat_tests}
-use Rattle.std.proofs.lemmas.List.{map-append}
+use Rattle.lemmas.proofs.Common.{[], ◌++◌, ◌+◌, ◌-◌, ◌<◌, ◌∙◌, ◌∷◌, ◌≡◌, ◌≤◌, All, Any, List, ap, append_assoc, arith}
+use Rattle.lemmas.proofs.Common.{length, map, subst, suc, sym, zero, ℕ, map-append, nat_tests}
 use Rattle.atomic_table.proofs.Lists.{at_index, at_map}
 use mathlib.Core.Option.{some}
 use lib.ListN.{get_elem?}

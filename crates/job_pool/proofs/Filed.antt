@@ -1,10 +1,7 @@
 -- The findings that are due from the draws of all workers.
-use Rattle.std.proofs.Common.{◌≡◌, ℕ, suc, ◌+◌, ◌<◌, ◌≤◌, Bool, true, false, List, [], ◌∷◌, ◌++◌, length, map, get_or}
-use Rattle.std.proofs.Common.{All, refl, ap, ◌∙◌, subst, arith, take, drop, nat_lt, if◌then◌else◌}
-use Rattle.std.proofs.lemmas.Bool.Decides.{nat_tests}
-use Rattle.std.proofs.lemmas.List.{append-nil, drop_all, take_all}
-use Rattle.std.proofs.lemmas.List.Elements.{All-map}
-use Rattle.std.proofs.lemmas.List.Sums.{sum_by-cons}
+use Rattle.lemmas.proofs.Common.{[], ◌++◌, ◌+◌, ◌<◌, ◌∙◌, ◌∷◌, ◌≡◌, ◌≤◌, All, Bool, List, ap, append-nil, arith, drop}
+use Rattle.lemmas.proofs.Common.{false, get_or, if◌then◌else◌, length, map, nat_lt, refl, subst, suc, take, true, ℕ}
+use Rattle.lemmas.proofs.Common.{All-map, drop_all, nat_tests, sum_by-cons, take_all}
 use mathlib.Core.Option.{some}
 use lib.ListN.{get_elem?}
 use Rattle.core_book.specs.declared.claim.Claim.TheVariants.{Number, Empty}

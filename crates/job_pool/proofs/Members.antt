@@ -1,12 +1,8 @@
 -- Groups of jobs, and the findings that are due for draws.
-use Rattle.std.proofs.Common.{◌≡◌, ℕ, zero, suc, ◌+◌, ◌<◌, ◌≤◌, List, [], ◌∷◌, ◌++◌, All, map, take, length, get_or}
-use Rattle.std.proofs.Common.{Some, refl, sym, ap, ◌∙◌, subst, arith, inl, inr, ◌≢◌, ◌==◌, if◌then◌else◌, slice_get}
-use Rattle.std.proofs.Common.{slice_index, option_map}
-use Rattle.std.proofs.lemmas.Bool.{cases_lt}
-use Rattle.std.proofs.lemmas.Bool.Decides.{nat_tests}
-use Rattle.std.proofs.lemmas.List.{take_more}
-use Rattle.std.proofs.lemmas.List.Elements.{All-head, All-tail}
-use Rattle.std.proofs.lemmas.Option.{slice_get-map, slice_get_within}
+use Rattle.lemmas.proofs.Common.{[], ◌++◌, ◌+◌, ◌<◌, ◌==◌, ◌∙◌, ◌∷◌, ◌≡◌, ◌≢◌, ◌≤◌, All, List, Some, ap, arith, get_or}
+use Rattle.lemmas.proofs.Common.{if◌then◌else◌, inl, inr, length, map, option_map, refl, slice_get, slice_index, subst}
+use Rattle.lemmas.proofs.Common.{suc, sym, take, zero, ℕ, All-head, All-tail, cases_lt, nat_tests, slice_get-map}
+use Rattle.lemmas.proofs.Common.{slice_get_within, take_more, some_at}
 use Rattle.core_book.specs.Draws.{total, times, IsDrawn}
 use Rattle.module_job.specs.Groups.{AreGroups, IsFirstLike}
 use Rattle.module_job.specs.Jobs.{JobView}
@@ -16,10 +12,6 @@ use Rattle.job_pool.specs.Work.{due}
 use Rattle.job_pool.proofs.Sums.{times-append, total-add, total_same}
 
 -- ---- groups
-some_at : {X : Type 0} (xs : List X) (k : ℕ) → k < length xs → (x : X) × (slice_get xs k ≡ Some x)
-some_at [] k lt = absurd (omega (arith, lt))
-some_at (x ∷ xs) zero lt = (x, refl)
-some_at (x ∷ xs) (suc k) lt = some_at xs k (omega (arith, lt))
 
 read_any : (xs : List ℕ) (k d : ℕ) → k < length xs → get_or xs k d ≡ slice_index xs k
 read_any [] k d lt = absurd (omega (arith, lt))

@@ -1,10 +1,9 @@
 -- Sums over lists, and lists of numbers that were drawn.
-use Rattle.std.proofs.Common.{◌≡◌, ℕ, zero, suc, ◌+◌, ◌-◌, ◌<◌, ◌≤◌, max, min, List, [], ◌∷◌, ◌++◌, map, length, get_or}
-use Rattle.std.proofs.Common.{set, refl, sym, ap, ◌∙◌, subst, arith, length-append, append_assoc}
-use Rattle.std.proofs.lemmas.List.{append-nil}
+use Rattle.lemmas.proofs.Common.{[], ◌++◌, ◌+◌, ◌-◌, ◌<◌, ◌∙◌, ◌∷◌, ◌≡◌, ◌≤◌, List, ap, append-nil, append_assoc, arith}
+use Rattle.lemmas.proofs.Common.{get_or, length, length-append, map, max, min, refl, set, subst, suc, sym, zero, ℕ}
+use Rattle.lemmas.proofs.Common.{nat_tests}
 use mathlib.Core.Option.{some, some-injective, some-ne-none}
 use lib.ListN.{get_elem?}
-use Rattle.std.proofs.lemmas.Bool.Decides.{nat_tests}
 use Rattle.core_book.specs.Draws.{total, times, past_last, IsDrawn}
 use Rattle.job_pool.specs.Lists.{count_at_least, count_less_than, past_greatest, front, joined}
 

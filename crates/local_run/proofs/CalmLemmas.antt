@@ -1,8 +1,6 @@
 -- Which blocks are still known to stay, after cells or marks changed
-use Rattle.std.proofs.Common.{◌≡◌, ◌≢◌, ℕ, Bool, true, false, ◌<◌, ◌≤◌, ◌+◌, ◌*◌, ◌%◌, arith, List, get_or}
-use Rattle.std.proofs.lemmas.Bool.{cases_Bool}
-use Rattle.std.proofs.Math.Nat.{mul-le-mul_left}
-use Rattle.std.proofs.lemmas.Grind.{common_steps}
+use Rattle.lemmas.proofs.Common.{◌%◌, ◌*◌, ◌+◌, ◌<◌, ◌≡◌, ◌≢◌, ◌≤◌, Bool, List, arith, false, get_or, true, ℕ}
+use Rattle.lemmas.proofs.Common.{cases_Bool, common_steps, mul-le-mul_left}
 use Rattle.bbm_rule.specs.Rows.{SetsPlace}
 use Rattle.bbm_rule.proofs.BitLemmas.{by_lt_or_le, by_eq_or_not}
 use Rattle.bbm_rule.specs.Marks.{IsUnmarked, MarksOne}

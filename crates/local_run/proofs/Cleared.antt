@@ -1,10 +1,6 @@
 -- Values that are cleared under the assignments under which some used gate lacks a row
-use Rattle.std.proofs.Common.{◌≡◌, ℕ, true, ◌<◌, ◌≤◌, ◌*◌, ◌%◌, arith, sym, ◌∙◌, ap, subst, List, length, bit_and}
-use Rattle.std.proofs.Common.{slice_index}
-use Rattle.std.proofs.Math.Nat.{mul_comm}
-use Rattle.std.proofs.lemmas.Nat.{mod-mul-add}
-use Rattle.std.proofs.Math.Bool.{and-true}
-use Rattle.std.proofs.lemmas.Grind.{common_steps}
+use Rattle.lemmas.proofs.Common.{◌%◌, ◌*◌, ◌<◌, ◌∙◌, ◌≡◌, ◌≤◌, List, ap, arith, bit_and, length, slice_index, subst}
+use Rattle.lemmas.proofs.Common.{sym, true, ℕ, and-true, common_steps, mod-mul-add, mul_comm}
 use Rattle.bbm_rule.specs.Bits.{bit}
 use Rattle.bbm_rule.proofs.BitLemmas.{by_lt_or_le, bit-and}
 use Rattle.circuit.specs.Meaning.{Netlist, Satisfies, Valuation}

@@ -1,11 +1,8 @@
 -- Whether a job has a fault does not depend on the local valuation that is taken
-use Rattle.std.proofs.Common.{◌≡◌, ◌≢◌, ℕ, zero, suc, ◌<◌, Bool, true, false, List, [], ◌∷◌, refl, sym, ap, subst, ◌∙◌}
-use Rattle.std.proofs.Common.{arith, ◌⊎◌, inl, inr, ℤ, Contains}
-use Rattle.std.proofs.Props.{props}
-use Rattle.std.proofs.lemmas.Bool.{and_from, and_parts, cases_Bool, eqb-true, true≢false}
-use Rattle.std.proofs.lemmas.Option.{same_Some, slice_get-get_or}
-use Rattle.std.proofs.Math.Logic.{∥∥₁_elim, ∥∥₁_map}
-use Rattle.std.proofs.lemmas.Grind.{common_steps}
+use Rattle.lemmas.proofs.Common.{[], ◌<◌, ◌∙◌, ◌∷◌, ◌≡◌, ◌≢◌, ◌⊎◌, Bool, Contains, List, ap, arith, false, inl, inr}
+use Rattle.lemmas.proofs.Common.{refl, subst, suc, sym, true, true≢false, zero, ℕ, ℤ, and_from, and_parts, cases_Bool}
+use Rattle.lemmas.proofs.Common.{common_steps, eqb-true, props, same_Some, slice_get-get_or, ∥∥₁_elim, ∥∥₁_map}
+use Rattle.lemmas.proofs.Common.{nothing_prop, three_ways}
 use Rattle.circuit.specs.Meaning.{Valuation, AreOrdered, wires}
 use Rattle.circuit.proofs.Valuations.{at_most_one}
 use Rattle.module_box.specs.LocalValues.{IsLocalValuation}
@@ -26,7 +23,6 @@ use Rattle.local_run.specs.declared.fault.Kind.{Kind}
 use Rattle.local_run.specs.declared.fault.Kind.TheVariants.{Edge, Stop, End}
 use Rattle.local_run.proofs.LocalRuns.{AgreeBelow, live_same, run_same}
 use Rattle.local_run.proofs.OwnWires.{edge_below, demand_below}
-use Rattle.local_run.proofs.Numbers.{three_ways}
 
 -- ---- the same fault under valuations that agree
 meets_same : (n : ℕ) (u u' : Valuation) (d : Demand) (b : Bool) → AgreeBelow n u u' → IsDemandWireBelow n d →
@@ -50,9 +46,6 @@ fault_same j u u' t End x y own same f = grind (arith, common_steps, meets_same,
 -- ---- so any local valuation tells
 not_prop : (j : JobView) (u : Valuation) (t w : ℕ) (x y : ℤ) → IsProp (local_run j u t x y ≢ u w)
 not_prop j u t w x y = Prim.hlevel props
-
-nothing_prop : IsProp ⊥
-nothing_prop = Prim.hlevel props
 
 -- a stop at the moment, or none
 found_stop : (stops : List listed.Stop) (t : ℕ) (x y : ℤ) →

@@ -1,9 +1,7 @@
 -- Steps that pass over the blocks that stay
-use Rattle.std.proofs.Common.{◌≡◌, ◌≢◌, ℕ, true, false, ◌<◌, ◌≤◌, ◌+◌, ◌*◌, ◌/◌, ◌%◌, ◌⊎◌, inl, inr, arith, sym, ◌∙◌}
-use Rattle.std.proofs.Common.{ap, ltb, List, get_or, subst}
-use Rattle.std.proofs.lemmas.Bool.{false≢true}
-use Rattle.std.proofs.Math.Nat.{div-add-mod, mod-lt, mul-le-mul_left}
-use Rattle.std.proofs.lemmas.Grind.{common_steps}
+use Rattle.lemmas.proofs.Common.{◌%◌, ◌*◌, ◌+◌, ◌/◌, ◌<◌, ◌∙◌, ◌≡◌, ◌≢◌, ◌≤◌, ◌⊎◌, List, ap, arith, false, get_or, inl}
+use Rattle.lemmas.proofs.Common.{inr, ltb, subst, sym, true, ℕ, common_steps, div-add-mod, false≢true, mod-lt}
+use Rattle.lemmas.proofs.Common.{mul-le-mul_left}
 use Rattle.bbm_rule.specs.Bits.{bit}
 use Rattle.bbm_rule.specs.Words.{AreTurned}
 use Rattle.bbm_rule.proofs.BitLemmas.{bit-zero, by_eq_or_not, by_lt_or_le}

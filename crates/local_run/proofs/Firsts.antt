@@ -1,9 +1,7 @@
 -- From the cells that were looked at, in order, to the first fault
-use Rattle.std.proofs.Common.{◌≡◌, ◌≢◌, ℕ, Bool, true, false, not, ◌&&◌, ◌⊎◌, ◌<◌, ◌≤◌, ◌+◌, ◌-◌, refl, arith, sym, ◌∙◌}
-use Rattle.std.proofs.Common.{ap, subst, Option, Some, None, ℤ, pos, negsuc, ◌+ℤ◌, ◌-ℤ◌, ◌<ℤ◌}
-use Rattle.std.proofs.lemmas.Bool.{and_parts, and_from, false≢true}
-use Rattle.std.proofs.lemmas.Int.{ints}
-use Rattle.std.proofs.lemmas.Grind.{common_steps}
+use Rattle.lemmas.proofs.Common.{◌&&◌, ◌+ℤ◌, ◌+◌, ◌-ℤ◌, ◌-◌, ◌<ℤ◌, ◌<◌, ◌∙◌, ◌≡◌, ◌≢◌, ◌≤◌, ◌⊎◌, Bool, None, Option}
+use Rattle.lemmas.proofs.Common.{Some, ap, arith, false, negsuc, not, pos, refl, subst, sym, true, ℕ, ℤ, and_from}
+use Rattle.lemmas.proofs.Common.{and_parts, common_steps, false≢true, ints}
 use Rattle.bbm_rule.specs.Spans.{in_span}
 use Rattle.module_box.specs.Boxes.{in_box, in_ring}
 use Rattle.module_box.specs.declared.boxes.Box2.{Box2}

@@ -1,9 +1,7 @@
 -- Blocks that some of their cells hold
-use Rattle.std.proofs.Common.{◌≡◌, ℕ, Bool, true, false, ◌<◌, ◌≤◌, ◌+◌, ◌-◌, ◌*◌, ◌^◌, ◌⊎◌, inl, inr, refl, arith, ◌∙◌}
-use Rattle.std.proofs.Common.{ap, List, get_or, ◌||◌}
-use Rattle.std.proofs.lemmas.Bool.{false≢true}
-use Rattle.std.proofs.Math.Nat.{mul-le-mul_left}
-use Rattle.std.proofs.lemmas.Grind.{common_steps}
+use Rattle.lemmas.proofs.Common.{◌*◌, ◌+◌, ◌-◌, ◌<◌, ◌^◌, ◌||◌, ◌∙◌, ◌≡◌, ◌≤◌, ◌⊎◌, Bool, List, ap, arith, false}
+use Rattle.lemmas.proofs.Common.{get_or, inl, inr, refl, true, ℕ, common_steps, false≢true, mul-le-mul_left, or_left}
+use Rattle.lemmas.proofs.Common.{or_right}
 use Rattle.bbm_rule.specs.Bits.{bit}
 use Rattle.bbm_rule.specs.Plane.{turned}
 use Rattle.bbm_rule.proofs.BitLemmas.{bit_above, bit-zero, by_lt_or_le}
@@ -48,16 +46,8 @@ none_live : turned false false false false ≡ false
 unfolding turned
 none_live = refl
 
-first_live_assignment : (a d : Bool) → a ≡ true → (a || d) ≡ true
-first_live_assignment true d e = refl
-first_live_assignment false d e = absurd (false≢true e)
-
-second_live : (a d : Bool) → d ≡ true → (a || d) ≡ true
-second_live true d e = refl
-second_live false d e = e
-
 swap_live : (a d : Bool) → (a || d) ≡ true → (d || a) ≡ true
-swap_live true d e = second_live d true refl
+swap_live true d e = or_right d true refl
 swap_live false true e = refl
 swap_live false false e = e
 
@@ -99,8 +89,8 @@ calm_dead a b c d ea eb ec ed = grind (arith, common_steps, none_live)
 one_live : (w : ℕ) (A D : Type 0) (a d : ℕ → ℕ → Bool) →
     (A × HasValueUnderAll true w a) ⊎ (D × HasValueUnderAll true w d) → (k j : ℕ) →
     k < w → j < 64 → (a k j || d k j) ≡ true
-one_live w A D a d (inl h) k j lk lj = first_live_assignment (a k j) (d k j) (h.1 k j lk lj)
-one_live w A D a d (inr h) k j lk lj = second_live (a k j) (d k j) (h.1 k j lk lj)
+one_live w A D a d (inl h) k j lk lj = or_left (a k j) (d k j) (h.1 k j lk lj)
+one_live w A D a d (inr h) k j lk lj = or_right (a k j) (d k j) (h.1 k j lk lj)
 
 held_calm : (w : ℕ) (A B C D : Type 0) (a b c d : ℕ → ℕ → Bool) → IsBlockHeldByCorners w A B C D a b c d → (k j : ℕ) →
     k < w →

@@ -1,6 +1,6 @@
 -- Numbers in rows
-use Rattle.std.proofs.Common.{◌≡◌, ◌≢◌, ℕ, ◌<◌, ◌≤◌, ◌+◌, ◌*◌, ◌/◌, ◌%◌, arith, ◌∙◌, ap, sym, subst, List}
-use Rattle.std.proofs.Math.Nat.{div-add-mod, mod-eq_of_lt, mod-lt, mul-add-mod_self_left, mul-le-mul_left}
+use Rattle.lemmas.proofs.Common.{◌%◌, ◌*◌, ◌+◌, ◌/◌, ◌<◌, ◌∙◌, ◌≡◌, ◌≢◌, ◌≤◌, List, ap, arith, subst, sym, ℕ}
+use Rattle.lemmas.proofs.Common.{div-add-mod, mod-eq_of_lt, mod-lt, mul-add-mod_self_left, mul-le-mul_left}
 use Rattle.bbm_rule.specs.Marks.{IsUnmarked}
 use Rattle.bbm_rule.proofs.BitLemmas.{by_lt_or_le}
 use Rattle.local_run.specs.Borders.{AreUnmarkedAwayFromBorder}

@@ -1,9 +1,7 @@
 -- The cells of planes, by assignment.
-use Rattle.std.proofs.Common.{◌≡◌, ℕ, ◌<◌, ◌≤◌, ◌+◌, ◌-◌, ◌*◌, ◌/◌, ◌%◌, refl, arith, ◌∙◌, ap, List, length, get_or}
-use Rattle.std.proofs.Math.Nat.{mul-le-mul_left}
-use Rattle.std.proofs.Common.{drop}
-use Rattle.std.proofs.lemmas.List.{get_or-take, get_or-drop, get_or-append_right, get_or_append_left, length-take-le}
-use Rattle.std.proofs.lemmas.Grind.{common_steps}
+use Rattle.lemmas.proofs.Common.{◌%◌, ◌*◌, ◌+◌, ◌-◌, ◌/◌, ◌<◌, ◌∙◌, ◌≡◌, ◌≤◌, List, ap, arith, drop, get_or, length}
+use Rattle.lemmas.proofs.Common.{length-take-le, refl, ℕ, common_steps, get_or-append_right, get_or-drop, get_or-take}
+use Rattle.lemmas.proofs.Common.{get_or_append_left, mul-le-mul_left}
 use borrow.Rule.Slice.PartMut.{mid_of, put_mid, post_of}
 use Rattle.local_run.specs.Across.{TurnsAcross}
 use Rattle.bbm_rule.specs.Plane.{turned}

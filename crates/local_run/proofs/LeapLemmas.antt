@@ -1,10 +1,8 @@
 -- Runs that stay as they are, and times that can be leapt over
-use Rattle.std.proofs.Common.{◌≡◌, ◌≢◌, ℕ, zero, suc, ◌<◌, ◌≤◌, ◌+◌, ◌-◌, ◌%◌, ◌&&◌, ◌||◌, List, length, Option, Some}
-use Rattle.std.proofs.Common.{None, Less, Greater, refl, arith, sym, ◌∙◌, ap, ap₂, inl, inr, subst, rules, true, false}
-use Rattle.std.proofs.Common.{ℤ, ◌+ℤ◌, slice_get, unwrap_or, int_eq, nat_cmp}
-use Rattle.std.proofs.lemmas.Option.{slice_get_within}
-use Rattle.std.proofs.lemmas.Bool.{and_parts, false≢true}
-use Rattle.std.proofs.lemmas.Grind.{common_steps}
+use Rattle.lemmas.proofs.Common.{◌%◌, ◌&&◌, ◌+ℤ◌, ◌+◌, ◌-◌, ◌<◌, ◌||◌, ◌∙◌, ◌≡◌, ◌≢◌, ◌≤◌, Greater, Less, List, None}
+use Rattle.lemmas.proofs.Common.{Option, Some, ap, ap₂, arith, false, inl, inr, int_eq, length, nat_cmp, refl, rules}
+use Rattle.lemmas.proofs.Common.{slice_get, subst, suc, sym, true, unwrap_or, zero, ℕ, ℤ, and_parts, common_steps}
+use Rattle.lemmas.proofs.Common.{false≢true, slice_get_within, int_itself, int_same}
 use Rattle.bbm_rule.specs.Plane.{State, is_at, partner, step}
 use Rattle.bbm_rule.specs.declared.block.Cell.{Cell}
 use Rattle.module_box.specs.declared.schedules.AllTimes.{AllTimes}
@@ -32,12 +30,6 @@ use Rattle.local_run.proofs.LocalRuns.{even_or_odd, local_even, local_odd, step_
 pub event_there : (es : List TimedSignal) (k : ℕ) (m : Moment) (e : TimedSignal) → IsRising moment_cmp moment_of es →
     slice_get es k ≡ Some e → e.at ≡ m → event_at es m.time m.cell.x m.cell.y ≡ Some e.signal
 event_there es k m e rising at same = grind (arith, common_steps, event_found, is_first, moment_total)
-
-int_same : (a b : ℤ) → int_eq a b ≡ true → a ≡ b
-int_same a b e = search rules
-
-int_itself : (a : ℤ) → int_eq a a ≡ true
-int_itself a = search rules
 
 at_cell : (c d : Cell) → is_at c d.x d.y ≡ true → c ≡ d
 at_cell c d e = grind (arith, common_steps, and_parts, int_same)

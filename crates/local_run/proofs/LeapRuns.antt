@@ -1,8 +1,6 @@
 -- Runs under all assignments that leap over times
-use Rattle.std.proofs.Common.{◌≡◌, ℕ, Bool, true, false, ◌||◌, ◌<◌, ◌≤◌, ◌+◌, ◌-◌, ◌%◌, refl, arith, sym, ◌∙◌, subst}
-use Rattle.std.proofs.Common.{inl, inr, ◌⊎◌, ℤ}
-use Rattle.std.proofs.lemmas.Bool.{and_parts, cases_Bool, false≢true}
-use Rattle.std.proofs.lemmas.Grind.{common_steps}
+use Rattle.lemmas.proofs.Common.{◌%◌, ◌+◌, ◌-◌, ◌<◌, ◌||◌, ◌∙◌, ◌≡◌, ◌≤◌, ◌⊎◌, Bool, arith, false, inl, inr, refl}
+use Rattle.lemmas.proofs.Common.{subst, sym, true, ℕ, ℤ, and_parts, cases_Bool, common_steps, false≢true, or_parts}
 use Rattle.bbm_rule.specs.Spans.{in_span}
 use Rattle.bbm_rule.proofs.BitLemmas.{by_lt_or_le, by_eq_or_not}
 use Rattle.module_box.specs.Boxes.{in_box}
@@ -109,10 +107,6 @@ leap_next j vs o n place q changed odd first second free next low high edges hal
     all : (a : ℕ) → a < assignments j → IsRunUnchangedUntil j (valuation vs a) o n
     all a la = quiet_runs j (valuation vs a) o o n (is_odd_of o odd) (both a la) halos
 
-none_or : (a b : Bool) → (a || b) ≡ false → (a ≡ false) × (b ≡ false)
-none_or true b e = absurd (false≢true (sym e))
-none_or false b e = (refl, e)
-
 pub next_run : (j : JobView) (vs : Values) (t n old place : ℕ) (p q : Planes) (before changed : Bool) → IsReady j vs →
     InRun j vs t old p before → t < j.steps → IsPassed j vs t place →
     Shows j vs (t + 1) q → (changed ≡ false → Shows j vs t q) → (t < n) × (n ≤ j.steps) →
@@ -121,7 +115,7 @@ next_run j vs t n old place p q before changed ready run l passed next same rang
   | inl e ↦ subst (λ (m : ℕ). InRun j vs m place q changed) (sym e)
       (one_next j vs t old place p q before changed ready run l passed next same)
   | inr leap ↦
-      let none = none_or before changed leap.unchanged in
+      let none = or_parts before changed leap.unchanged in
       let even = leap.even in
       let later = leap.later in
       let after = one_next j vs t old place p q before changed ready run l passed next same in

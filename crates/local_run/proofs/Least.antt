@@ -1,10 +1,7 @@
 -- A job has one least fault
-use Rattle.std.proofs.Common.{arith, ◌≡◌, ℕ, suc, zero, Some, None, Ordering, Less, Equal, Greater, refl, ap, ℤ, ◌≢◌}
-use Rattle.std.specs.Ordering.{ordering_reverse}
-use Rattle.std.specs.Cmp.{IsTotalOrder}
-use Rattle.std.proofs.lemmas.Cmp.{then_total, on_total, nat_cmp_total, int_cmp_total}
-use Rattle.std.proofs.lemmas.Map.Lookups.{CmpEqualImpliesEq, exact_pairs, exact_unsigned, exact_signed}
-use Rattle.std.proofs.lemmas.Grind.{common_steps}
+use Rattle.lemmas.proofs.Common.{◌≡◌, ◌≢◌, Equal, Greater, Less, None, Ordering, Some, ap, arith, refl, suc, zero, ℕ, ℤ}
+use Rattle.lemmas.proofs.Common.{CmpEqualImpliesEq, IsTotalOrder, common_steps, exact_pairs, exact_signed}
+use Rattle.lemmas.proofs.Common.{exact_unsigned, int_cmp_total, nat_cmp_total, on_total, ordering_reverse, then_total}
 use Rattle.local_run.specs.Order.{kind_number, fault_cmp, keep_cmp}
 use Rattle.module_box.specs.Moments.{cell_cmp}
 use Rattle.bbm_rule.specs.declared.block.Cell.{Cell}

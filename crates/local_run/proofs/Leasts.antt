@@ -1,18 +1,13 @@
 -- From the first fault of a time and a kind to the least fault of the job
-use Rattle.std.proofs.Common.{◌≡◌, ◌≢◌, ℕ, ◌+◌, true, false, length, ◌<◌, ◌≤◌, ◌%◌, refl, arith, sym, ◌∙◌, subst}
-use Rattle.std.proofs.Common.{Option, Some, None, Ordering, Less, Equal, Greater, ◌⊎◌, inl, inr, ℤ, ◌<ℤ◌, ◌↔◌}
-use Rattle.std.proofs.Common.{MatchOption, IsTrue, All, nat_cmp, int_cmp}
-use Rattle.std.proofs.Props.{props}
-use Rattle.std.proofs.lemmas.Option.{slice_get_within}
-use Rattle.std.proofs.lemmas.Grind.{common_steps}
+use Rattle.lemmas.proofs.Common.{◌%◌, ◌+◌, ◌<ℤ◌, ◌<◌, ◌↔◌, ◌∙◌, ◌≡◌, ◌≢◌, ◌≤◌, ◌⊎◌, All, Equal, Greater, IsTrue, Less}
+use Rattle.lemmas.proofs.Common.{MatchOption, None, Option, Ordering, Some, arith, false, inl, inr, int_cmp, length}
+use Rattle.lemmas.proofs.Common.{nat_cmp, refl, subst, sym, true, true≢false, ℕ, ℤ, cases_Bool, cases_lt, common_steps}
+use Rattle.lemmas.proofs.Common.{ordering_then, props, slice_get_within, ∥∥₁_elim, int_equal, nat_equal}
 use Rattle.module_box.specs.Locals.{is_among}
-use Rattle.std.proofs.lemmas.Bool.{cases_Bool, cases_lt, true≢false}
-use Rattle.std.proofs.Math.Logic.{∥∥₁_elim}
 use Rattle.bbm_rule.specs.Bits.{bit}
 use Rattle.circuit.proofs.Undefined.{undefined_has_none}
 use Rattle.module_box.specs.LocalValues.{AreRowsAt, value_of}
 use Rattle.bbm_rule.proofs.BitLemmas.{by_lt_or_le}
-use Rattle.std.specs.Ordering.{ordering_then}
 use Rattle.module_box.specs.Moments.{cell_cmp}
 use Rattle.circuit.specs.Meaning.{IsUndefined}
 use Rattle.module_job.specs.Jobs.{JobView}
@@ -32,14 +27,8 @@ use Rattle.local_run.specs.declared.values.Values.{Values}
 nat_greater : (a b : ℕ) → nat_cmp a b ≡ Greater → b < a
 nat_greater a b h = grind arith
 
-nat_equal : (a b : ℕ) → nat_cmp a b ≡ Equal → a ≡ b
-nat_equal a b h = grind arith
-
 int_greater : (a b : ℤ) → int_cmp a b ≡ Greater → b <ℤ a
 int_greater a b h = grind arith
-
-int_equal : (a b : ℤ) → int_cmp a b ≡ Equal → a ≡ b
-int_equal a b h = grind arith
 
 -- a first order that is `Greater`, or the second where the first is `Equal`
 then_greater : (o p : Ordering) → ordering_then o p ≡ Greater → (o ≡ Greater) ⊎ ((o ≡ Equal) × (p ≡ Greater))

@@ -1,8 +1,7 @@
 -- Cells that are known to be dead, and blocks of which one cell at most is live
-use Rattle.std.proofs.Common.{◌≡◌, ◌≢◌, ℕ, Bool, true, false, ◌<◌, ◌≤◌, ◌+◌, ◌-◌, ◌*◌, ◌⊎◌, arith, refl, sym, ◌∙◌, ap}
-use Rattle.std.proofs.Common.{List, get_or, set, length, inl, inr}
-use Rattle.std.proofs.lemmas.List.{get_or-set_other, get_or-set_same}
-use Rattle.std.proofs.lemmas.Grind.{common_steps}
+use Rattle.lemmas.proofs.Common.{◌*◌, ◌+◌, ◌-◌, ◌<◌, ◌∙◌, ◌≡◌, ◌≢◌, ◌≤◌, ◌⊎◌, Bool, List, ap, arith, false, get_or}
+use Rattle.lemmas.proofs.Common.{get_or-set_other, get_or-set_same, inl, inr, length, refl, set, sym, true, ℕ}
+use Rattle.lemmas.proofs.Common.{common_steps}
 use Rattle.bbm_rule.specs.Bits.{bit}
 use Rattle.bbm_rule.specs.Plane.{turned}
 use Rattle.bbm_rule.specs.Words.{AreTurned}

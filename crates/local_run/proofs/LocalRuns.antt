@@ -1,7 +1,6 @@
 -- The run of a module: its two steps, that it stays in its box, and which wires it reads
-use Rattle.std.proofs.Common.{◌≡◌, ℕ, zero, suc, ◌<◌, ◌%◌, ◌&&◌, ◌||◌, refl, sym, ap, ap₂, ◌∙◌, inl, inr, ◌⊎◌, arith}
-use Rattle.std.proofs.Common.{eq-eqb, ne_eqb, ℤ}
-use Rattle.std.proofs.lemmas.Bool.{cases_eq, cond-true, cond-false}
+use Rattle.lemmas.proofs.Common.{◌%◌, ◌&&◌, ◌<◌, ◌||◌, ◌∙◌, ◌≡◌, ◌⊎◌, ap, ap₂, arith, eq-eqb, inl, inr, ne_eqb, refl}
+use Rattle.lemmas.proofs.Common.{suc, sym, zero, ℕ, ℤ, cases_eq, cond-false, cond-true}
 use Rattle.bbm_rule.specs.Plane.{State, step}
 use Rattle.bbm_rule.proofs.Steps.{step_same}
 use Rattle.circuit.specs.Meaning.{Valuation, wires}

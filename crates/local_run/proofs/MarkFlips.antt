@@ -1,16 +1,9 @@
 -- Marks that are flipped or change places
-use Rattle.std.proofs.Common.{◌≡◌, ◌≢◌, ℕ, Bool, true, false, not, ◌<◌, ◌*◌, ◌/◌, ◌^◌, ◌%◌, refl, arith, sym, ◌∙◌, ap}
-use Rattle.std.proofs.Common.{List, length, get_or, set, bit_and, bit_or, w64, ◌&&◌, bit_xor}
-use Rattle.std.specs.Bool.{beq}
-use Rattle.std.specs.Int.{bit_at, trailing_zeros}
+use Rattle.lemmas.proofs.Common.{◌%◌, ◌&&◌, ◌*◌, ◌/◌, ◌<◌, ◌^◌, ◌∙◌, ◌≡◌, ◌≢◌, Bool, List, ap, arith, bit_and, bit_or}
+use Rattle.lemmas.proofs.Common.{bit_xor, false, get_or, get_or-set_other, get_or-set_same, length, not, refl, set, sym}
+use Rattle.lemmas.proofs.Common.{true, w64, ℕ, beq, bit_at, bit_at-trailing_zeros, bit_at_set_other, bit_at_set_same}
+use Rattle.lemmas.proofs.Common.{common_steps, false≢true, mod-lt, or_zero_l, trailing_zeros, xor_lt}
 use Rattle.std.specs.Int.Count.{trailing_of_zero}
-use Rattle.std.specs.Int.Bits.{or_zero_l}
-use Rattle.std.proofs.lemmas.Bool.{false≢true}
-use Rattle.std.proofs.lemmas.List.{get_or-set_same, get_or-set_other}
-use Rattle.std.proofs.Math.Nat.{mod-lt}
-use Rattle.std.proofs.lemmas.Nat.{xor_lt}
-use Rattle.std.proofs.lemmas.Nat.Bits.{bit_at-trailing_zeros, bit_at_set_same, bit_at_set_other}
-use Rattle.std.proofs.lemmas.Grind.{common_steps}
 use Rattle.bbm_rule.specs.Bits.{bit}
 use Rattle.bbm_rule.specs.Rows.{cell_at}
 use Rattle.bbm_rule.specs.Marks.{IsUnmarked}

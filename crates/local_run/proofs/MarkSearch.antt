@@ -1,8 +1,6 @@
 -- Words of marks: numbers that have a mark in one list, and one in another
-use Rattle.std.proofs.Common.{arith, ◌≡◌, ℕ, Bool, true, false, ◌&&◌, ◌||◌, ◌⊎◌, inl, inr, ◌/◌, ◌%◌, refl, sym, ◌∙◌, ap}
-use Rattle.std.proofs.Common.{List, get_or, bit_and, bit_or}
-use Rattle.std.proofs.lemmas.Bool.{false≢true}
-use Rattle.std.proofs.lemmas.Grind.{common_steps}
+use Rattle.lemmas.proofs.Common.{◌%◌, ◌&&◌, ◌/◌, ◌||◌, ◌∙◌, ◌≡◌, ◌⊎◌, Bool, List, ap, arith, bit_and, bit_or, false}
+use Rattle.lemmas.proofs.Common.{get_or, inl, inr, refl, sym, true, ℕ, common_steps, false≢true, or_parts}
 use Rattle.bbm_rule.specs.Bits.{bit}
 use Rattle.bbm_rule.specs.Marks.{IsUnmarked}
 use Rattle.bbm_rule.specs.Rows.{cell_at}
@@ -24,10 +22,6 @@ IsWordOf l q w = (u : ℕ) → u / 64 ≡ q → bit w (u % 64) ≡ false → Are
 cell_is : (marks : List ℕ) (q u : ℕ) → u / 64 ≡ q → cell_at marks u ≡ bit (get_or marks q 0) (u % 64)
 unfolding cell_at
 cell_is marks q u e = rw e refl
-
-or_parts : (a b : Bool) → (a || b) ≡ false → (a ≡ false) × (b ≡ false)
-or_parts true b e = absurd (false≢true (sym e))
-or_parts false b e = (refl, e)
 
 parts : (a b c : Bool) → (a && (b || c)) ≡ false → (a ≡ false) ⊎ ((b ≡ false) × (c ≡ false))
 parts true b c e = inr (or_parts b c e)

@@ -1,12 +1,8 @@
 -- Jobs of the same shape have the same faults but for where they lie
-use Rattle.std.proofs.Common.{◌≡◌, ℕ, zero, suc, ◌+◌, ◌-◌, ◌<◌, ◌≤◌, ◌%◌, ◌^◌, ◌&&◌, ◌||◌, true, List, [], ◌∷◌, map}
-use Rattle.std.proofs.Common.{Some, None, refl, sym, ap, ap₂, subst, ◌∙◌, arith, inl, inr, ℤ, pos, ◌+ℤ◌, ◌-ℤ◌, Contains}
-use Rattle.std.proofs.Common.{if◌then◌else◌, slice_get, unwrap_or}
-use Rattle.std.proofs.Props.{props}
-use Rattle.std.proofs.Math.Logic.{∥∥₁_map, ∥∥₁_elim}
-use Rattle.std.proofs.lemmas.Bool.{cases_Bool, and_parts}
-use Rattle.std.proofs.lemmas.Int.{ints}
-use Rattle.std.proofs.lemmas.Grind.{common_steps}
+use Rattle.lemmas.proofs.Common.{[], ◌%◌, ◌&&◌, ◌+ℤ◌, ◌+◌, ◌-ℤ◌, ◌-◌, ◌<◌, ◌^◌, ◌||◌, ◌∙◌, ◌∷◌, ◌≡◌, ◌≤◌, Contains}
+use Rattle.lemmas.proofs.Common.{List, None, Some, ap, ap₂, arith, if◌then◌else◌, inl, inr, map, pos, refl, slice_get}
+use Rattle.lemmas.proofs.Common.{subst, suc, sym, true, unwrap_or, zero, ℕ, ℤ, and_parts, cases_Bool, common_steps}
+use Rattle.lemmas.proofs.Common.{ints, props, ∥∥₁_elim, ∥∥₁_map}
 use Rattle.bbm_rule.specs.Bits.{bit}
 use Rattle.bbm_rule.specs.Moves.{IsMoved}
 use Rattle.bbm_rule.specs.Plane.{State, parity}

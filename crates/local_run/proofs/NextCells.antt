@@ -1,7 +1,6 @@
 -- Cells of a row that are known to be dead
-use Rattle.std.proofs.Common.{◌≡◌, ◌+◌, ◌*◌, ◌<◌, ◌≤◌, ℕ, Bool, true, false, if◌then◌else◌, refl, sym, ap, ◌∙◌, arith}
-use Rattle.std.proofs.Common.{ℤ, slice_get, unwrap_or}
-use Rattle.std.proofs.lemmas.Grind.{common_steps}
+use Rattle.lemmas.proofs.Common.{◌*◌, ◌+◌, ◌<◌, ◌∙◌, ◌≡◌, ◌≤◌, Bool, ap, arith, false, if◌then◌else◌, refl, slice_get}
+use Rattle.lemmas.proofs.Common.{sym, true, unwrap_or, ℕ, ℤ, common_steps}
 use Rattle.circuit.specs.Meaning.{Valuation}
 use Rattle.module_box.specs.Places.{place_in}
 use Rattle.module_box.specs.declared.boxes.Box2.{Box2}

@@ -1,7 +1,6 @@
 -- Each wire that a job names is one of its own, at each cell and time
-use Rattle.std.proofs.Common.{◌≡◌, ℕ, zero, suc, Bool, true, false, List, [], ◌∷◌, arith, inl, inr, ℤ, slice_get}
-use Rattle.std.proofs.Common.{unwrap_or, if◌then◌else◌, All}
-use Rattle.std.proofs.lemmas.Bool.{cases_Bool, cond-false}
+use Rattle.lemmas.proofs.Common.{[], ◌∷◌, ◌≡◌, All, Bool, List, arith, false, if◌then◌else◌, inl, inr, slice_get, suc}
+use Rattle.lemmas.proofs.Common.{true, unwrap_or, zero, ℕ, ℤ, cases_Bool, cond-false, All-head, All-tail}
 use Rattle.bbm_rule.specs.Plane.{is_at}
 use Rattle.circuit.specs.Meaning.{wires}
 use Rattle.module_box.specs.Boxes.{in_box}
@@ -15,17 +14,11 @@ use Rattle.module_box.specs.Places.{place_in}
 use Rattle.module_job.specs.Signals.{IsSignalWireBelow, IsDemandWireBelow}
 use Rattle.module_job.specs.declared.job.Demand.TheVariants as Demanded
 
-all_tail : {A : Type 0} (P : A → Type 0) (x : A) (xs : List A) → All P (x ∷ xs) → All P xs
-all_tail P x xs all = λ k d h. all (suc k) d (omega arith)
-
-all_head : {A : Type 0} (P : A → Type 0) (x : A) (xs : List A) → All P (x ∷ xs) → P x
-all_head P x xs all = all 0 x (omega arith)
-
 -- an element of a list, or another value
 item : {A : Type 0} (P : A → Type 0) (xs : List A) (i : ℕ) (d : A) → All P xs → P d → P (unwrap_or (slice_get xs i) d)
 item P [] i d all h = h
-item P (x ∷ xs) zero d all h = all_head P x xs all
-item P (x ∷ xs) (suc i) d all h = item P xs i d (all_tail P x xs all) h
+item P (x ∷ xs) zero d all h = All-head P x xs all
+item P (x ∷ xs) (suc i) d all h = item P xs i d (All-tail P x xs all) h
 
 -- either value of a choice
 chosen : {A : Type 0} (P : A → Type 0) (b : Bool) (x y : A) → P x → P y → P (if b then x else y)
@@ -38,8 +31,8 @@ all_times : (n : ℕ) (hs : List AllTimes) (x y : ℤ) (d : Signal) → All (λ 
 unfolding all_times_at
 all_times n [] x y d all b = b
 all_times n (h ∷ hs) x y d all b = elim (cases_Bool (is_at h.cell x y)) [
-  | inl e ↦ rw e (all_head (λ (g : AllTimes). IsSignalWireBelow n g.signal) h hs all)
-  | inr e ↦ rw e (all_times n hs x y d (all_tail (λ (g : AllTimes). IsSignalWireBelow n g.signal) h hs all) b)
+  | inl e ↦ rw e (All-head (λ (g : AllTimes). IsSignalWireBelow n g.signal) h hs all)
+  | inr e ↦ rw e (all_times n hs x y d (All-tail (λ (g : AllTimes). IsSignalWireBelow n g.signal) h hs all) b)
 ]
 
 event : (n : ℕ) (es : List TimedSignal) (t : ℕ) (x y : ℤ) (d : Signal) → All (λ e. IsSignalWireBelow n e.signal) es →
@@ -48,8 +41,8 @@ event : (n : ℕ) (es : List TimedSignal) (t : ℕ) (x y : ℤ) (d : Signal) →
 unfolding event_at
 event n [] t x y d all b = b
 event n (e ∷ es) t x y d all b = elim (cases_Bool (is_moment_at e.at t x y)) [
-  | inl h ↦ rw h (all_head (λ (g : TimedSignal). IsSignalWireBelow n g.signal) e es all)
-  | inr h ↦ rw h (event n es t x y d (all_tail (λ (g : TimedSignal). IsSignalWireBelow n g.signal) e es all) b)
+  | inl h ↦ rw h (All-head (λ (g : TimedSignal). IsSignalWireBelow n g.signal) e es all)
+  | inr h ↦ rw h (event n es t x y d (All-tail (λ (g : TimedSignal). IsSignalWireBelow n g.signal) e es all) b)
 ]
 
 scheduled : (n : ℕ) (s : Signals) (t : ℕ) (x y : ℤ) → All (λ h. IsSignalWireBelow n h.signal) s.all_times →

@@ -1,8 +1,6 @@
 -- Cells of which no line of a module says anything
-use Rattle.std.proofs.Common.{◌≡◌, ℕ, ◌<◌, ◌+◌, ◌*◌, ◌/◌, ◌%◌, ◌≤◌, arith, sym, ◌∙◌, ap, ap₂, List, slice_get, Some}
-use Rattle.std.proofs.Common.{inl, inr, ℤ, pos, ◌+ℤ◌, ◌-ℤ◌}
-use Rattle.std.proofs.lemmas.Int.{ints}
-use Rattle.std.proofs.lemmas.Grind.{common_steps}
+use Rattle.lemmas.proofs.Common.{◌%◌, ◌*◌, ◌+ℤ◌, ◌+◌, ◌-ℤ◌, ◌/◌, ◌<◌, ◌∙◌, ◌≡◌, ◌≤◌, List, Some, ap, ap₂, arith, inl}
+use Rattle.lemmas.proofs.Common.{inr, pos, slice_get, sym, ℕ, ℤ, common_steps, ints}
 use Rattle.bbm_rule.specs.declared.block.Cell.{Cell}
 use Rattle.module_box.specs.Schedules.{Signals, signal_at}
 use Rattle.module_box.specs.declared.boxes.Box2.{Box2}

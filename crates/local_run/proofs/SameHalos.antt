@@ -1,9 +1,6 @@
 -- Jobs whose halos say the same at each odd time have the same faults
-use Rattle.std.proofs.Common.{◌≡◌, ℕ, zero, suc, ◌<◌, ◌≤◌, ◌%◌, ◌&&◌, List, refl, sym, ap, subst, ◌∙◌, arith, inl, inr}
-use Rattle.std.proofs.Common.{ℤ, Contains, All}
-use Rattle.std.proofs.lemmas.Bool.{cases_Bool}
-use Rattle.std.proofs.Math.Logic.{∥∥₁_map}
-use Rattle.std.proofs.lemmas.Grind.{common_steps}
+use Rattle.lemmas.proofs.Common.{◌%◌, ◌&&◌, ◌<◌, ◌∙◌, ◌≡◌, ◌≤◌, All, Contains, List, ap, arith, inl, inr, refl, subst}
+use Rattle.lemmas.proofs.Common.{suc, sym, zero, ℕ, ℤ, cases_Bool, common_steps, ∥∥₁_map}
 use Rattle.bbm_rule.specs.Plane.{State}
 use Rattle.circuit.specs.Meaning.{Valuation}
 use Rattle.module_box.specs.Boxes.{in_box}

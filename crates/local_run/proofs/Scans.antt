@@ -1,20 +1,13 @@
 -- Words of assignments, and the first that differs
-use Rattle.std.proofs.Common.{◌≡◌, ◌≢◌, ℕ, Bool, true, false, ◌<◌, ◌≤◌, ◌+◌, ◌*◌, ◌/◌, ◌%◌, ◌^◌, refl, arith, sym, ◌∙◌}
-use Rattle.std.proofs.Common.{ap, ap₂, subst, List, [], ◌∷◌, ◌&&◌, zero, suc, length, get_or, set, get_or-set_same}
-use Rattle.std.proofs.Common.{get_or-set_other, w64, bit_and, bit_xor}
-use Rattle.std.specs.Int.{bit_at, trailing_zeros}
-use Rattle.std.proofs.lemmas.Nat.Bits.{bit_at-trailing_zeros}
-use Rattle.std.proofs.lemmas.Bool.{and_parts}
-use Rattle.std.proofs.lemmas.Nat.{xor_lt}
-use Rattle.std.specs.Int.Bits.{and_lt}
-use Rattle.std.proofs.lemmas.Grind.{common_steps}
+use Rattle.lemmas.proofs.Common.{[], ◌%◌, ◌&&◌, ◌*◌, ◌+◌, ◌/◌, ◌<◌, ◌^◌, ◌∙◌, ◌∷◌, ◌≡◌, ◌≢◌, ◌≤◌, Bool, List, ap, ap₂}
+use Rattle.lemmas.proofs.Common.{arith, bit_and, bit_xor, false, get_or, get_or-set_other, get_or-set_same, length}
+use Rattle.lemmas.proofs.Common.{refl, set, subst, suc, sym, true, w64, zero, ℕ, and-true, and_lt, and_parts, bit_at}
+use Rattle.lemmas.proofs.Common.{bit_at-trailing_zeros, common_steps, mul-le-mul_left, trailing_zeros, xor_lt}
 use Rattle.bbm_rule.specs.Bits.{bit}
 use Rattle.bbm_rule.proofs.BitLemmas.{by_lt_or_le, by_eq_or_not, xor, bit-and, bit-xor, bit-zero}
 use Rattle.module_job.specs.Signals.{IsSignalWireBelow, is_live}
 use Rattle.module_box.specs.declared.schedules.Signal.{Signal}
 use Rattle.module_box.specs.declared.schedules.Signal.TheVariants.{Zero, One, Wire}
-use Rattle.std.proofs.Math.Nat.{mul-le-mul_left}
-use Rattle.std.proofs.Math.Bool.{and-true}
 use Rattle.module_box.specs.LocalValues.{bit_of_row, value_of}
 use Rattle.local_run.specs.Scans.{HasValueRow, IsCellAsSignalUnderWords, is_defined_under, valuation}
 use Rattle.local_run.specs.Lanes.{lane, plane_of, SetsWord}

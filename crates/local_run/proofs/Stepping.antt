@@ -1,10 +1,8 @@
 -- The steps of the planes are those of the definition
-use Rattle.std.proofs.Common.{◌≡◌, ◌≢◌, ℕ, zero, suc, Bool, true, false, ◌&&◌, ◌||◌, ◌<◌, ◌≤◌, ◌+◌, ◌-◌, ◌*◌, ◌/◌}
-use Rattle.std.proofs.Common.{◌%◌, refl, arith, sym, ◌∙◌, ap, ap₂, subst, eq-eqb, ne_eqb, add-one}
-use Rattle.std.specs.Prelude.{ℤ, pos, negsuc, ◌+ℤ◌, ◌-ℤ◌}
-use Rattle.std.proofs.lemmas.Bool.{and_parts, and_from, cases_Bool, false≢true, cond-true, cond-false, not_from_false}
-use Rattle.std.proofs.lemmas.Int.{ints}
-use Rattle.std.proofs.lemmas.Grind.{common_steps}
+use Rattle.lemmas.proofs.Common.{◌%◌, ◌&&◌, ◌*◌, ◌+ℤ◌, ◌+◌, ◌-ℤ◌, ◌-◌, ◌/◌, ◌<◌, ◌||◌, ◌∙◌, ◌≡◌, ◌≢◌, ◌≤◌, Bool}
+use Rattle.lemmas.proofs.Common.{add-one, ap, ap₂, arith, eq-eqb, false, ne_eqb, negsuc, pos, refl, subst, suc, sym}
+use Rattle.lemmas.proofs.Common.{true, zero, ℕ, ℤ, and_from, and_parts, cases_Bool, common_steps, cond-false, cond-true}
+use Rattle.lemmas.proofs.Common.{false≢true, ints, not_from_false, or-false, pred_pos}
 use Rattle.bbm_rule.specs.Rows.{mate}
 use Rattle.bbm_rule.proofs.BitLemmas.{by_lt_or_le, by_eq_or_not}
 use Rattle.bbm_rule.proofs.PairLemmas.{mate_even, mate_odd}
@@ -12,7 +10,7 @@ use Rattle.bbm_rule.specs.Plane.{State, partner, turned, step}
 use Rattle.bbm_rule.specs.Spans.{in_span}
 use Rattle.module_box.specs.Boxes.{in_box, in_halo}
 use Rattle.module_box.specs.declared.boxes.Box2.{Box2}
-use Rattle.bbm_rule.proofs.Spans.{span_parts, span_from, in_span-negsuc, less_one}
+use Rattle.bbm_rule.proofs.Spans.{span_parts, span_from, in_span-negsuc}
 use Rattle.module_box.proofs.RingTests.{halo_read}
 use Rattle.circuit.specs.Meaning.{Valuation}
 use Rattle.module_job.specs.Signals.{is_live}
@@ -71,7 +69,7 @@ partner_inner c t x ec et = by_eq_or_not (x % 2) 0
 
 outer_up : (t n : ℕ) → t % 2 ≡ 1 → n % 2 ≡ 0 → partner t (pos n -ℤ pos 1) ≡ pos (1 + n) -ℤ pos 1
 outer_up t zero et en = ap (partner t) less_none ∙ up_last t et ∙ sym (less_plus 0)
-outer_up t (suc m) et en = ap (partner t) (less_one m) ∙ up_pos t m (omega arith) ∙ ap pos (omega arith)
+outer_up t (suc m) et en = ap (partner t) (pred_pos m) ∙ up_pos t m (omega arith) ∙ ap pos (omega arith)
     ∙ sym (less_plus (suc m))
 
 outer_down : (t n : ℕ) → t % 2 ≡ 1 → n % 2 ≡ 0 → partner t (pos (1 + n) -ℤ pos 1) ≡ pos n -ℤ pos 1
@@ -176,7 +174,7 @@ odd_shows j vs t p q ready odd sized halo size turns = record {
 -- ---- the cells around the box
 span_outer_parts : (c n x : ℕ) → in_span c n (halo_coord c x) ≡ true → (1 ≤ x) × (x ≤ n)
 unfolding halo_coord
-span_outer_parts c n x h = grind (arith, common_steps, false≢true, less_none, in_span-negsuc, span_parts, less_one)
+span_outer_parts c n x h = grind (arith, common_steps, false≢true, less_none, in_span-negsuc, span_parts, pred_pos)
 
 pub box_out : (b : Box2) (x y : ℕ) → IsHaloCountOutsideBox b x y →
     in_box b (halo_coord b.x x) (halo_coord b.y y) ≡ false
@@ -224,10 +222,6 @@ margin_halo b x y tw th lx ly m =
     sym (halo_read b (halo_coord b.x x) (halo_coord b.y y) _ _ _ refl refl refl)
     ∙ and_from _ _ (not_from_false _ (box_out b x y m))
     (and_from _ _ (near_span b.x b.w x lx tw) (near_span b.y b.h y ly th))
-
-or-false : (b : Bool) → (b || false) ≡ b
-or-false true = refl
-or-false false = refl
 
 with_halo_inside : (j : JobView) (u : Valuation) (t : ℕ) (s : State) (x y : ℤ) → in_box j.area x y ≡ true →
     with_halo j u t s x y ≡ s x y

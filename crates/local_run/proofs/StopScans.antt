@@ -1,12 +1,9 @@
 -- Stops in their order, and the first of them that has a fault
-use Rattle.std.proofs.Common.{◌≡◌, ◌≢◌, ℕ, ◌<◌, ◌≤◌, ◌+◌, length, get_or, Some, None, true, Ordering, Less, Equal}
-use Rattle.std.proofs.Common.{Greater, ◌⊎◌, inl, inr, refl, arith, sym, ◌∙◌, ap, subst}
-use Rattle.std.specs.Prelude.{ℤ, ◌<ℤ◌, slice_get}
-use Rattle.std.specs.Ordering.{nat_cmp, int_cmp, ordering_then}
-use Rattle.std.proofs.lemmas.Bool.{cases_lt}
-use Rattle.std.proofs.lemmas.Int.{ints}
-use Rattle.std.proofs.lemmas.Option.{same_Some, slice_get_within, slice_get-get_or}
-use Rattle.std.proofs.lemmas.Grind.{common_steps}
+use Rattle.lemmas.proofs.Common.{◌+◌, ◌<ℤ◌, ◌<◌, ◌∙◌, ◌≡◌, ◌≢◌, ◌≤◌, ◌⊎◌, Equal, Greater, Less, None, Ordering, Some}
+use Rattle.lemmas.proofs.Common.{ap, arith, get_or, inl, inr, length, refl, slice_get, subst, sym, true, ℕ, ℤ, cases_lt}
+use Rattle.lemmas.proofs.Common.{common_steps, ints, ordering_then, same_Some, slice_get-get_or, slice_get_within}
+use Rattle.lemmas.proofs.Common.{below_or_same, int_equal, int_less, nat_equal, nat_less, three_ways}
+use Rattle.std.specs.Ordering.{nat_cmp, int_cmp}
 use Rattle.circuit.specs.Meaning.{Valuation}
 use Rattle.module_box.specs.Moments.{cell_cmp, moment_cmp}
 use Rattle.module_box.specs.Schedules.{IsRising}
@@ -19,20 +16,8 @@ use Rattle.local_run.specs.Scans.{IsFirst, HasNoFaultOfKind, IsLeastBelow, IsSto
 use Rattle.local_run.specs.Scans.{valuation}
 use Rattle.local_run.specs.declared.fault.Kind.TheVariants.{Stop}
 use Rattle.local_run.specs.declared.values.Values.{Values}
-use Rattle.local_run.proofs.Numbers.{three_ways}
 
 -- ---- the order of moments
-nat_less : (a b : ℕ) → nat_cmp a b ≡ Less → a < b
-nat_less a b h = grind arith
-
-nat_equal : (a b : ℕ) → nat_cmp a b ≡ Equal → a ≡ b
-nat_equal a b h = grind arith
-
-int_less : (a b : ℤ) → int_cmp a b ≡ Less → a <ℤ b
-int_less a b h = grind arith
-
-int_equal : (a b : ℤ) → int_cmp a b ≡ Equal → a ≡ b
-int_equal a b h = grind arith
 
 then_less : (o p : Ordering) → ordering_then o p ≡ Less → (o ≡ Less) ⊎ ((o ≡ Equal) × (p ≡ Less))
 then_less Less p h = inl refl
@@ -59,14 +44,11 @@ pub record AreTried (j : JobView) (vs : Values) (t place : ℕ) : Type 0 where
       a < assignments j →
       ¬ IsStopMissed j vs a s
 
-below_or_there : (k n : ℕ) → k < n + 1 → (k < n) ⊎ (k ≡ n)
-below_or_there k n l = grind arith
-
 -- a stop more
 pub one_more : (j : JobView) (vs : Values) (t place : ℕ) (s : listed.Stop) → AreTried j vs t place →
     slice_get j.stops place ≡ Some s → s.at.time ≡ t →
     IsLeastBelow (assignments j) (λ b. IsStopMissed j vs b s) None → AreTried j vs t (place + 1)
-one_more j vs t place s tried e at none = grind (arith, common_steps, slice_get_within, below_or_there, same_Some)
+one_more j vs t place s tried e at none = grind (arith, common_steps, slice_get_within, below_or_same, same_Some)
 
 -- the stop of a fault stands in the list
 stop_at : (j : JobView) (u : Valuation) (t : ℕ) (x y : ℤ) (f : IsStopFault j u t x y) →

@@ -1,14 +1,9 @@
 -- Parts of lists whose blocks are turned, and blocks that stay
-use Rattle.std.proofs.Common.{◌≡◌, ℕ, false, ◌<◌, ◌≤◌, ◌+◌, ◌*◌, refl, arith, sym, ◌∙◌, ap, List, length, inl, inr}
-use Rattle.std.proofs.Common.{nat_eq, not, bit_and, bit_or, ◌↔◌, bit_xor}
-use Rattle.std.proofs.lemmas.Nat.{and_or_self, or_comm}
-use Rattle.std.specs.Int.Bits.{and_zero_l, xor_assoc, xor_self, xor_zero_l, xor_zero_r}
-use Rattle.std.specs.Int.{bit_at}
-use Rattle.std.proofs.lemmas.Bool.{eqb-true, false≢true, not-false}
-use Rattle.std.proofs.lemmas.Nat.Bits.{bit_at-lt, same_from_bits}
-use Rattle.std.proofs.lemmas.List.{get_or-take, get_or-drop}
+use Rattle.lemmas.proofs.Common.{◌*◌, ◌+◌, ◌<◌, ◌↔◌, ◌∙◌, ◌≡◌, ◌≤◌, List, ap, arith, bit_and, bit_or, bit_xor, false}
+use Rattle.lemmas.proofs.Common.{inl, inr, length, nat_eq, not, refl, sym, ℕ, and_or_self, and_zero_l, bit_at}
+use Rattle.lemmas.proofs.Common.{bit_at-lt, common_steps, eqb-true, false≢true, get_or-drop, get_or-take, not-false}
+use Rattle.lemmas.proofs.Common.{or_comm, same_from_bits, xor_assoc, xor_self, xor_zero_l, xor_zero_r}
 use Rattle.std.proofs.lemmas.Slice.{take-put_mid_below, drop-put_mid}
-use Rattle.std.proofs.lemmas.Grind.{common_steps}
 use borrow.Rule.Slice.PartMut.{mid_of, put_mid}
 use Rattle.bbm_rule.specs.Bits.{bit}
 use Rattle.bbm_rule.specs.Words.{AreTurned, AreTurnedAt}

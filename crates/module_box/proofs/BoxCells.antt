@@ -1,11 +1,7 @@
 -- The cells of a box, and the place of a cell's block in a table of owners
-use Rattle.std.proofs.Common.{◌≡◌, ℕ, ◌+◌, ◌*◌, ◌/◌, ◌%◌, ◌<◌, ◌≤◌, length, true, Option, Some, refl, sym, ◌∙◌, arith}
-use Rattle.std.proofs.Common.{get_or, ℤ, pos, negsuc}
-use Rattle.std.specs.Int.RustNames.{unsigned_abs}
-use Rattle.std.proofs.Math.Nat.{mul-le-mul_right}
-use Rattle.std.proofs.lemmas.Option.{slice_get_read, get_or_from_slice_get}
-use Rattle.std.proofs.lemmas.Bool.{and_parts, false≢true}
-use Rattle.std.proofs.lemmas.Grind.{common_steps}
+use Rattle.lemmas.proofs.Common.{◌%◌, ◌*◌, ◌+◌, ◌/◌, ◌<◌, ◌∙◌, ◌≡◌, ◌≤◌, Option, Some, arith, get_or, length, negsuc}
+use Rattle.lemmas.proofs.Common.{pos, refl, sym, true, ℕ, ℤ, and_parts, common_steps, false≢true, get_or_from_slice_get}
+use Rattle.lemmas.proofs.Common.{mul-le-mul_right, slice_get_read, unsigned_abs}
 use Rattle.bbm_rule.specs.Spans.{in_span}
 use Rattle.bbm_rule.proofs.Spans.{span_parts, in_span-negsuc}
 use Rattle.module_box.specs.Boxes.{in_box}

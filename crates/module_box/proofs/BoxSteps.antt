@@ -1,6 +1,5 @@
 -- The cells of a box after a step
-use Rattle.std.proofs.Common.{arith, ◌≡◌, ℕ, ◌%◌, ◌&&◌, ap, ap₂, ℤ}
-use Rattle.std.proofs.lemmas.Grind.{common_steps}
+use Rattle.lemmas.proofs.Common.{◌%◌, ◌&&◌, ◌≡◌, ap, ap₂, arith, ℕ, ℤ, common_steps}
 use Rattle.bbm_rule.specs.Plane.{State, partner, step}
 use Rattle.bbm_rule.specs.Spans.{in_span}
 use Rattle.module_box.specs.Boxes.{in_box, IsEven}

@@ -1,10 +1,7 @@
 -- The words of cuts: the bits of a counter, 64 values of the counter at once
-use Rattle.std.proofs.Common.{◌≡◌, ℕ, ◌<◌, ◌≤◌, ◌+◌, ◌-◌, ◌*◌, Bool, true, false, List, [], ◌∷◌, ◌++◌, length, sym}
-use Rattle.std.proofs.Common.{refl, ap, ◌∙◌, arith, slice_index_or}
-use Rattle.std.proofs.lemmas.Bool.{cases_lt}
-use Rattle.std.proofs.lemmas.List.{get_or_append_left}
-use Rattle.std.proofs.lemmas.Nat.Bits.{bit_at_cat_low, bit_at_cat_high, bit_at_ones}
-use Rattle.std.proofs.lemmas.Grind.{common_steps}
+use Rattle.lemmas.proofs.Common.{[], ◌*◌, ◌++◌, ◌+◌, ◌-◌, ◌<◌, ◌∙◌, ◌∷◌, ◌≡◌, ◌≤◌, Bool, List, ap, arith, false, length}
+use Rattle.lemmas.proofs.Common.{refl, slice_index_or, sym, true, ℕ, bit_at_cat_high, bit_at_cat_low, bit_at_ones}
+use Rattle.lemmas.proofs.Common.{cases_lt, common_steps, get_or_append_left}
 use Rattle.bbm_rule.specs.Bits.{bit}
 use Rattle.bbm_rule.proofs.BitLemmas.{holds_below, below_from_test, bit-zero}
 

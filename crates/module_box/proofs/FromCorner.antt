@@ -1,7 +1,5 @@
 -- The cells of a box, counted from its corner
-use Rattle.std.proofs.Common.{arith, ◌≡◌, ◌≤◌, true, ℤ}
-use Rattle.std.specs.Int.RustNames.{unsigned_abs}
-use Rattle.std.proofs.lemmas.Grind.{common_steps}
+use Rattle.lemmas.proofs.Common.{◌≡◌, ◌≤◌, arith, true, ℤ, common_steps, unsigned_abs}
 use Rattle.module_box.specs.Boxes.{in_box}
 use Rattle.module_box.specs.declared.boxes.Box2.{Box2}
 use Rattle.module_box.proofs.BoxCells.{in_box_nats}

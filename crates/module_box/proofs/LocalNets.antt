@@ -1,14 +1,11 @@
 -- The wires and gates of a module, gate after gate
-use Rattle.std.proofs.Common.{◌≡◌, ℕ, zero, suc, ◌+◌, ◌*◌, ◌<◌, ◌≤◌, List, [], ◌∷◌, ◌++◌, map, length, take, drop}
-use Rattle.std.proofs.Common.{get_or, slice_get, Some, refl, sym, ap, ap₂, subst, ◌∙◌, ◌⊎◌, arith, inl, inr}
-use Rattle.std.proofs.Common.{append_assoc, length-append, take-append-drop, slice_index, IsTrue, All, flat_map}
-use Rattle.std.specs.List.{range_with_len}
-use Rattle.std.proofs.lemmas.List.{append-nil, take_more, take_all, get_or_at, get_or_append_left, get_or_default}
-use Rattle.std.proofs.lemmas.List.{length_push, length-map}
-use Rattle.std.proofs.lemmas.List.Elements.{All-head, All-tail}
-use Rattle.std.proofs.lemmas.List.FromFn.{length-range_with_len}
-use Rattle.std.proofs.lemmas.Grind.{flat_map-append, common_steps}
-use Rattle.std.proofs.lemmas.Option.{same_Some, slice_get-get_or, slice_get_read}
+use Rattle.lemmas.proofs.Common.{[], ◌*◌, ◌++◌, ◌+◌, ◌<◌, ◌∙◌, ◌∷◌, ◌≡◌, ◌≤◌, ◌⊎◌, All, IsTrue, List, Some, ap}
+use Rattle.lemmas.proofs.Common.{append-nil, append_assoc, ap₂, arith, drop, flat_map, get_or, inl, inr, length}
+use Rattle.lemmas.proofs.Common.{length-append, map, refl, slice_get, slice_index, subst, suc, sym, take}
+use Rattle.lemmas.proofs.Common.{take-append-drop, zero, ℕ, All-head, All-tail, common_steps, flat_map-append}
+use Rattle.lemmas.proofs.Common.{get_or_append_left, get_or_at, get_or_default, length-map, length-range_with_len}
+use Rattle.lemmas.proofs.Common.{length_push, range_with_len, same_Some, slice_get-get_or, slice_get_read, take_all}
+use Rattle.lemmas.proofs.Common.{take_more}
 use Rattle.circuit.specs.declared.circuit_line.GateKind.{GateKind}
 use Rattle.circuit.specs.declared.circuit_line.GateKind.TheVariants.{Source, Fredkin, Cswap, Interact, Switch, Delay}
 use Rattle.circuit.specs.declared.circuit_line.GateKind.TheVariants.{Unswitch, Uninteract}

@@ -1,16 +1,11 @@
 -- The values of all wires of a module, and its gates without a row: one assignment, and rows of assignments
-use Rattle.std.proofs.Common.{◌≡◌, ◌≢◌, ℕ, ◌+◌, ◌*◌, ◌/◌, ◌%◌, ◌<◌, ◌≤◌, Bool, true, false, List, [], ◌∷◌, ◌++◌, map}
-use Rattle.std.proofs.Common.{set, length, get_or, Option, Some, None, refl, sym, ap, subst, ◌∙◌, arith, inl, inr}
-use Rattle.std.proofs.Common.{get_or-append-add, slice_index, slice_index_or, All}
-use Rattle.std.specs.List.{range_with_len}
-use Rattle.std.proofs.Math.Nat.{mul-le-mul_left}
-use Rattle.std.proofs.lemmas.Bool.{cases_lt, cases_Bool, true≢false, eqb-true, eq-eqb}
-use Rattle.std.proofs.lemmas.List.{length-set, length-map, length_push, get_or-set_same, get_or-set_other}
-use Rattle.std.proofs.lemmas.List.{get_or_append_left}
-use Rattle.std.proofs.lemmas.List.Elements.{All-nil, All-cons, All-head, All-tail}
-use Rattle.std.proofs.lemmas.List.FromFn.{get_or-range_with_len, length-range_with_len}
-use Rattle.std.proofs.lemmas.Option.{slice_get_within}
-use Rattle.std.proofs.lemmas.Grind.{common_steps}
+use Rattle.lemmas.proofs.Common.{[], ◌%◌, ◌*◌, ◌++◌, ◌+◌, ◌/◌, ◌<◌, ◌∙◌, ◌∷◌, ◌≡◌, ◌≢◌, ◌≤◌, All, Bool, List, None}
+use Rattle.lemmas.proofs.Common.{Option, Some, ap, arith, eq-eqb, false, get_or, get_or-append-add, get_or-set_other}
+use Rattle.lemmas.proofs.Common.{get_or-set_same, inl, inr, length, length-set, map, refl, set, slice_index}
+use Rattle.lemmas.proofs.Common.{slice_index_or, subst, sym, true, true≢false, ℕ, All-cons, All-head, All-nil, All-tail}
+use Rattle.lemmas.proofs.Common.{cases_Bool, cases_lt, common_steps, eqb-true, get_or-range_with_len}
+use Rattle.lemmas.proofs.Common.{get_or_append_left, length-map, length-range_with_len, length_push, mul-le-mul_left}
+use Rattle.lemmas.proofs.Common.{range_with_len, slice_get_within}
 use Rattle.bbm_rule.specs.Bits.{bit}
 use Rattle.circuit.specs.Gates.{row, defines}
 use Rattle.circuit.specs.Meaning.{Gate, Netlist, Valuation, HasRow, Satisfies, AreOrdered, wires, wires_after}

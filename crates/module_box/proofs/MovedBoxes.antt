@@ -1,10 +1,9 @@
 -- Boxes and signals that are moved
-use Rattle.std.proofs.Common.{◌≡◌, ℕ, zero, suc, ◌+◌, List, [], ◌∷◌, map, ◌&&◌, not, Some, Ordering, Less, Equal}
-use Rattle.std.proofs.Common.{Greater, refl, ap, ap₂, arith}
-use Rattle.std.specs.Prelude.{ℤ, pos, ◌+ℤ◌, ◌-ℤ◌, int_le, int_lt, slice_get, unwrap_or, if◌then◌else◌, nat_eq}
-use Rattle.std.specs.Ordering.{int_eq, int_cmp, nat_cmp, ordering_then}
-use Rattle.std.proofs.lemmas.Int.{ints}
-use Rattle.std.proofs.lemmas.Grind.{common_steps}
+use Rattle.lemmas.proofs.Common.{[], ◌&&◌, ◌+ℤ◌, ◌+◌, ◌-ℤ◌, ◌∷◌, ◌≡◌, Equal, Greater, Less, List, Ordering, Some, ap}
+use Rattle.lemmas.proofs.Common.{ap₂, arith, if◌then◌else◌, map, nat_eq, not, pos, refl, slice_get, suc, unwrap_or}
+use Rattle.lemmas.proofs.Common.{zero, ℕ, ℤ, common_steps, int_le, int_lt, ints, ordering_then, down_moved, mapped_from}
+use Rattle.lemmas.proofs.Common.{up_moved}
+use Rattle.std.specs.Ordering.{int_eq, int_cmp, nat_cmp}
 use Rattle.bbm_rule.specs.Moves.{IsMoved}
 use Rattle.bbm_rule.specs.Plane.{State, is_at}
 use Rattle.bbm_rule.specs.Spans.{in_span}
@@ -43,12 +42,6 @@ span_moved f f' n n' d x e same = grind (arith, common_steps, end_moved, le_move
 pub box_moved : (dx dy : ℤ) (b b' : Box2) → IsMovedBox dx dy b b' → IsMoved dx dy (in_box b) (in_box b')
 unfolding in_box
 box_moved dx dy b b' m x y = grind (arith, common_steps, span_moved)
-
-up_moved : (x d : ℤ) → (x +ℤ d) +ℤ pos 1 ≡ (x +ℤ pos 1) +ℤ d
-up_moved x d = omega (arith, ints)
-
-down_moved : (x d : ℤ) → (x +ℤ d) -ℤ pos 1 ≡ (x -ℤ pos 1) +ℤ d
-down_moved x d = omega (arith, ints)
 
 -- the neighbours of a cell move along
 some_moved : (dx dy : ℤ) (s s' : State) → IsMoved dx dy s s' → IsMoved dx dy (some_neighbour s) (some_neighbour s')
@@ -116,17 +109,10 @@ moment_cmp_moved : (dx dy : ℤ) (d e : TimedSignal) →
 unfolding moment_cmp
 moment_cmp_moved dx dy d e = ap (ordering_then (nat_cmp d.at.time e.at.time)) (cell_cmp_moved dx dy d.at.cell e.at.cell)
 
--- an element of a mapped list comes from one of the list
-from_map : {A B : Type 0} (f : A → B) (xs : List A) (i : ℕ) (b : B) → slice_get (map f xs) i ≡ Some b →
-    (a : A) × (slice_get xs i ≡ Some a) × (f a ≡ b)
-from_map f [] i b e = absurd cc
-from_map f (x ∷ xs) zero b e = (x, refl, cc)
-from_map f (x ∷ xs) (suc i) b e = from_map f xs i b e
-
 rising_mapped : {A K : Type 0} (cmp : K → K → Ordering) (key : A → K) (f : A → A) →
     ((a b : A) → cmp (key (f a)) (key (f b)) ≡ cmp (key a) (key b)) → (xs : List A) → IsRising cmp key xs →
     IsRising cmp key (map f xs)
-rising_mapped cmp key f same xs rising = grind (arith, common_steps, from_map)
+rising_mapped cmp key f same xs rising = grind (arith, common_steps, mapped_from)
 
 pub all_times_rising : (dx dy : ℤ) (hs : List AllTimes) → IsRising cell_cmp cell_of hs →
     IsRising cell_cmp cell_of (map (moved_all_times dx dy) hs)

@@ -1,8 +1,6 @@
 -- Boxes that a halo reaches
-use Rattle.std.proofs.Common.{◌≡◌, ℕ, ◌+◌, ◌<◌, ◌≤◌, true, ◌||◌, refl, ◌∙◌, inl, inr, ◌⊎◌, arith, ℤ, pos, ◌+ℤ◌, ◌-ℤ◌}
-use Rattle.std.proofs.lemmas.Bool.{and_parts, and_from, lt-ltb, or_cases}
-use Rattle.std.proofs.lemmas.Int.{ints}
-use Rattle.std.proofs.lemmas.Grind.{common_steps}
+use Rattle.lemmas.proofs.Common.{◌+ℤ◌, ◌+◌, ◌-ℤ◌, ◌<◌, ◌||◌, ◌∙◌, ◌≡◌, ◌≤◌, ◌⊎◌, arith, inl, inr, pos, refl, true, ℕ, ℤ}
+use Rattle.lemmas.proofs.Common.{and_from, and_parts, common_steps, ints, lt-ltb, or_cases}
 use Rattle.bbm_rule.specs.Spans.{in_span}
 use Rattle.module_box.specs.Boxes.{in_box, in_halo, is_near}
 use Rattle.module_box.specs.declared.boxes.Box2.{Box2}

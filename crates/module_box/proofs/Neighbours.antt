@@ -1,10 +1,7 @@
 -- The eight neighbours of a cell, rings and halos
-use Rattle.std.proofs.Common.{◌≡◌, ℕ, Bool, true, false, not, ◌||◌, sym, ap, ap₂, ◌∙◌, inl, inr, ◌⊎◌, arith, List, Some}
-use Rattle.std.proofs.Common.{ℤ, pos, ◌+ℤ◌, ◌-ℤ◌, slice_get}
-use Rattle.std.proofs.lemmas.Int.{ints}
-use Rattle.std.proofs.lemmas.Bool.{and_parts, and_from, or_left, or_right, or_cases, not_from_false, not-true}
-use Rattle.std.proofs.lemmas.Bool.{cases_Bool, false≢true}
-use Rattle.std.proofs.lemmas.Grind.{common_steps}
+use Rattle.lemmas.proofs.Common.{◌+ℤ◌, ◌-ℤ◌, ◌||◌, ◌∙◌, ◌≡◌, ◌⊎◌, Bool, List, Some, ap, ap₂, arith, false, inl, inr}
+use Rattle.lemmas.proofs.Common.{not, pos, slice_get, sym, true, ℕ, ℤ, and_from, and_parts, cases_Bool, common_steps}
+use Rattle.lemmas.proofs.Common.{false≢true, ints, not-true, not_from_false, or_cases, or_left, or_right}
 use Rattle.bbm_rule.specs.Plane.{State, partner, step}
 use Rattle.module_box.specs.Boxes.{in_box, some_neighbour, in_ring, in_halo}
 use Rattle.module_box.specs.Laws.{SameInBox, SameInHalo, HaloCellIsRingCellOfOwner}

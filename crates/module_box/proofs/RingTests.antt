@@ -1,6 +1,5 @@
 -- Rings and halos by tests on the two coordinates
-use Rattle.std.proofs.Common.{◌≡◌, Bool, not, ◌&&◌, ◌||◌, ap₂, sym, ◌∙◌, arith, ℤ, pos, ◌+ℤ◌, ◌-ℤ◌}
-use Rattle.std.proofs.lemmas.Grind.{common_steps}
+use Rattle.lemmas.proofs.Common.{◌&&◌, ◌+ℤ◌, ◌-ℤ◌, ◌||◌, ◌∙◌, ◌≡◌, Bool, ap₂, arith, not, pos, sym, ℤ, common_steps}
 use Rattle.bbm_rule.specs.Spans.{in_span}
 use Rattle.module_box.specs.Boxes.{in_box, some_neighbour, in_ring, in_halo}
 use Rattle.module_box.specs.declared.boxes.Box2.{Box2}

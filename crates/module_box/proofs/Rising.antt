@@ -1,12 +1,10 @@
 -- Facts about a rising list by comparing its keys with a key
-use Rattle.std.proofs.Common.{◌≡◌, ℕ, zero, suc, ◌+◌, ◌<◌, ◌≤◌, List, [], ◌∷◌, ◌++◌, length, true, Option, Some, None}
-use Rattle.std.proofs.Common.{Ordering, Less, Equal, Greater, refl, sym, ap, ◌∙◌, inl, inr, ◌⊎◌, arith, rules, eqb, ℤ}
-use Rattle.std.proofs.Common.{◌≢◌, slice_get, int_eq}
-use Rattle.std.specs.Cmp.{IsTotalOrder}
-use Rattle.std.proofs.lemmas.Cmp.{then_total, on_total, nat_cmp_total, int_cmp_total, tied_itself}
-use Rattle.std.proofs.lemmas.Map.Lookups.{CmpEqualImpliesEq, exact_pairs, exact_unsigned, exact_signed}
-use Rattle.std.proofs.lemmas.Bool.{and_parts, cases_Bool, cond-true, cond-false, eqb-true}
-use Rattle.std.proofs.lemmas.Grind.{common_steps}
+use Rattle.lemmas.proofs.Common.{[], ◌++◌, ◌+◌, ◌<◌, ◌∙◌, ◌∷◌, ◌≡◌, ◌≢◌, ◌≤◌, ◌⊎◌, Equal, Greater, Less, List, None}
+use Rattle.lemmas.proofs.Common.{Option, Ordering, Some, ap, arith, eqb, inl, inr, int_eq, length, refl, rules}
+use Rattle.lemmas.proofs.Common.{slice_get, suc, sym, true, zero, ℕ, ℤ, CmpEqualImpliesEq, IsTotalOrder, and_parts}
+use Rattle.lemmas.proofs.Common.{cases_Bool, common_steps, cond-false, cond-true, eqb-true, exact_pairs, exact_signed}
+use Rattle.lemmas.proofs.Common.{exact_unsigned, int_cmp_total, nat_cmp_total, on_total, then_total, tied_itself}
+use Rattle.lemmas.proofs.Common.{below_or_from, below_or_same, int_itself, int_same, same_or_higher}
 use Rattle.bbm_rule.specs.Plane.{is_at}
 use Rattle.bbm_rule.specs.declared.block.Cell.{Cell}
 use Rattle.module_box.specs.declared.schedules.Moment.{Moment}
@@ -46,12 +44,6 @@ pub record IsBetween {A K : Type 0} (cmp : K → K → Ordering) (key : A → K)
   pub below : (i : ℕ) (a : A) → i < low → slice_get xs i ≡ Some a → cmp (key a) k ≡ Less
   pub above : (i : ℕ) (a : A) → high ≤ i → slice_get xs i ≡ Some a → cmp k (key a) ≡ Less
 
-lower_or_same : (i m : ℕ) → i < m + 1 → (i < m) ⊎ (i ≡ m)
-lower_or_same i m h = grind arith
-
-same_or_higher : (i m : ℕ) → m ≤ i → (m < i) ⊎ (m ≡ i)
-same_or_higher i m h = grind arith
-
 same_some : {A : Type 0} (o : Option A) (a b : A) → o ≡ Some a → o ≡ Some b → a ≡ b
 same_some o a b e f = cc
 
@@ -59,7 +51,7 @@ pub raise_low : {A K : Type 0} (cmp : K → K → Ordering) (key : A → K) (xs 
     IsTotalOrder cmp → IsRising cmp key xs →
     IsBetween cmp key xs k low high → slice_get xs m ≡ Some a → cmp (key a) k ≡ Less →
     IsBetween cmp key xs k (m + 1) high
-raise_low cmp key xs k low high m a total rising b at less = grind (arith, common_steps, lower_or_same, same_some)
+raise_low cmp key xs k low high m a total rising b at less = grind (arith, common_steps, below_or_same, same_some)
 
 pub drop_high : {A K : Type 0} (cmp : K → K → Ordering) (key : A → K) (xs : List A) (k : K) (low high m : ℕ) (a : A) →
     IsTotalOrder cmp → IsRising cmp key xs →
@@ -68,9 +60,6 @@ drop_high cmp key xs k low high m a total rising b at greater = grind (arith, co
 
 less_equal : Less ≡ Equal → ⊥
 less_equal e = cc
-
-below_or_from : (i m : ℕ) → (i < m) ⊎ (m ≤ i)
-below_or_from i m = grind arith
 
 -- the bounds have met: the key is not there
 pub is_absent : {A K : Type 0} (cmp : K → K → Ordering) (key : A → K) (xs : List A) (k : K) (low high : ℕ) →
@@ -87,20 +76,15 @@ is_first cmp key xs m a total rising at i b lt e same =
     less_equal (sym (rising.rises i m b a lt e at) ∙ ap (λ z. cmp z (key a)) same ∙ tied_itself total (key a))
 
 -- ---- what the lookups give
-int_eq_is : (a b : ℤ) → int_eq a b ≡ true → a ≡ b
-int_eq_is a b h = search rules
-
-int_eq_itself : (a : ℤ) → int_eq a a ≡ true
-int_eq_itself a = search rules
 
 eqb_itself : (a : ℕ) → eqb a a ≡ true
 eqb_itself a = search rules
 
 at_cell : (c d : Cell) → is_at c d.x d.y ≡ true → c ≡ d
-at_cell c d h = grind (arith, common_steps, and_parts, int_eq_is)
+at_cell c d h = grind (arith, common_steps, and_parts, int_same)
 
 at_own_cell : (c : Cell) → is_at c c.x c.y ≡ true
-at_own_cell c = rw (int_eq_itself c.x, int_eq_itself c.y)
+at_own_cell c = rw (int_itself c.x, int_itself c.y)
 
 pub then_moment : (m n : Moment) → is_moment_at m n.time n.cell.x n.cell.y ≡ true → m ≡ n
 then_moment m n h = grind (arith, common_steps, and_parts, eqb-true, at_cell)

@@ -1,10 +1,8 @@
 -- The values of a circuit's wires, as a module sees them
-use Rattle.std.proofs.Common.{◌≡◌, ℕ, zero, suc, ◌+◌, ◌*◌, ◌/◌, ◌%◌, ◌<◌, ◌^◌, Bool, true, false, eqb, get_or, List}
-use Rattle.std.proofs.Common.{Option, Some, map, refl, sym, ap, subst, ◌∙◌, arith, slice_get, All}
-use Rattle.std.proofs.lemmas.Simd.{map-map}
-use Rattle.std.proofs.lemmas.Nat.Bits.{bit_at_lowest, bit_at-suc}
-use Rattle.std.proofs.lemmas.Option.{slice_get-get_or, slice_get_within, get_or_from_slice_get, same_Some}
-use Rattle.std.proofs.lemmas.Grind.{common_steps}
+use Rattle.lemmas.proofs.Common.{◌%◌, ◌*◌, ◌+◌, ◌/◌, ◌<◌, ◌^◌, ◌∙◌, ◌≡◌, All, Bool, List, Option, Some, ap, arith, eqb}
+use Rattle.lemmas.proofs.Common.{false, get_or, map, refl, slice_get, subst, suc, sym, true, zero, ℕ, bit_at-suc}
+use Rattle.lemmas.proofs.Common.{bit_at_lowest, common_steps, get_or_from_slice_get, map-map, same_Some}
+use Rattle.lemmas.proofs.Common.{slice_get-get_or, slice_get_within}
 use Rattle.bbm_rule.specs.Bits.{bit}
 use Rattle.bbm_rule.specs.Plane.{one_if}
 use Rattle.circuit.specs.Gates.{row}

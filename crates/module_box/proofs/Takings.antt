@@ -1,17 +1,11 @@
 -- Boxes that take the places of their blocks, row by row
-use Rattle.std.proofs.Common.{◌≡◌, ℕ, ◌+◌, ◌-◌, ◌*◌, ◌/◌, ◌%◌, ◌<◌, ◌≤◌, min, List, length, ◌∙◌, inl, inr, ◌⊎◌, arith}
-use Rattle.std.proofs.Common.{slice_index}
-use Rattle.std.proofs.lemmas.Nat.{mod-mul-add, div-mul-add, div-add-mod'}
-use Rattle.std.proofs.lemmas.Bool.{and_from, and_parts}
-use Rattle.std.proofs.Math.Nat.{mul-le-mul_right, mod-lt}
-use Rattle.std.proofs.lemmas.Grind.{common_steps}
+use Rattle.lemmas.proofs.Common.{◌%◌, ◌*◌, ◌+◌, ◌-◌, ◌/◌, ◌<◌, ◌∙◌, ◌≡◌, ◌≤◌, ◌⊎◌, List, arith, inl, inr, length, min}
+use Rattle.lemmas.proofs.Common.{slice_index, ℕ, and_from, and_parts, common_steps, div-add-mod', div-mul-add, mod-lt}
+use Rattle.lemmas.proofs.Common.{mod-mul-add, mul-le-mul_right, below_or_from}
 use Rattle.bbm_rule.proofs.Spans.{span_from, span_parts}
 use Rattle.module_box.specs.Boxes.{in_box, IsEven}
 use Rattle.module_box.specs.Taking.{TakesRow, TakesBox, HasBlockAtPlace, FitsTable}
 use Rattle.module_box.specs.declared.boxes.Box2.{Box2}
-
-below_or_from : (i m : ℕ) → (i < m) ⊎ (m ≤ i)
-below_or_from i m = grind arith
 
 -- the rows and columns of blocks that a box has
 record IsAmong (b : Box2) (row column : ℕ) : Type 0 where

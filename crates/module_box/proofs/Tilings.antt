@@ -1,12 +1,9 @@
 -- From the blocks of a rectangle to its cells
-use Rattle.std.proofs.Common.{◌≡◌, ℕ, ◌+◌, ◌*◌, ◌/◌, ◌%◌, ◌<◌, ◌≤◌, List, length, take, true, Some, sym, ap, ap₂, subst}
-use Rattle.std.proofs.Common.{◌∙◌, inl, inr, ◌⊎◌, arith, get_or, ℤ, pos, slice_get, slice_index, IsTrue}
-use Rattle.std.proofs.lemmas.Option.{slice_get-get_or, slice_get_within, get_or_from_slice_get}
-use Rattle.std.proofs.lemmas.List.{get_or-take, length-take-le}
-use Rattle.std.proofs.Math.Nat.{div-add-mod, mul-le-mul_left}
-use Rattle.std.proofs.lemmas.Nat.{mod-mul-add, div-mul-add}
-use Rattle.std.proofs.lemmas.Bool.{and_from, and_parts, cases_Bool, false≢true}
-use Rattle.std.proofs.lemmas.Grind.{common_steps}
+use Rattle.lemmas.proofs.Common.{◌%◌, ◌*◌, ◌+◌, ◌/◌, ◌<◌, ◌∙◌, ◌≡◌, ◌≤◌, ◌⊎◌, IsTrue, List, Some, ap, ap₂, arith}
+use Rattle.lemmas.proofs.Common.{get_or, inl, inr, length, length-take-le, pos, slice_get, slice_index, subst, sym}
+use Rattle.lemmas.proofs.Common.{take, true, ℕ, ℤ, and_from, and_parts, cases_Bool, common_steps, div-add-mod}
+use Rattle.lemmas.proofs.Common.{div-mul-add, false≢true, get_or-take, get_or_from_slice_get, mod-mul-add}
+use Rattle.lemmas.proofs.Common.{mul-le-mul_left, slice_get-get_or, slice_get_within, below_or_from, below_or_same}
 use Rattle.module_box.specs.Boxes.{in_box, IsEven}
 use Rattle.bbm_rule.specs.Spans.{in_span}
 use Rattle.bbm_rule.specs.declared.block.Cell.{Cell}
@@ -58,9 +55,6 @@ same_box : (boxes : List Box2) (x y : ℤ) (n : ℕ) (b : Box2) → slice_get bo
     IsTrue (in_box b x y)
 same_box boxes x y n b e h = grind (arith, common_steps, same_some)
 
-last_or_before : (j n : ℕ) → j < n + 1 → (j < n) ⊎ (j ≡ n)
-last_or_before j n h = grind arith
-
 pub decide_block : (columns : ℕ) (b : Box2) (k : ℕ) → HasBlockAtPlace b columns k ⊎ ¬ HasBlockAtPlace b columns k
 decide_block columns b k = grind (arith, common_steps, cases_Bool, false≢true)
 
@@ -86,7 +80,7 @@ next_place columns blocks n k stop boxes b table table' t lt got takes ks = elim
         below = λ f. omega (arith, own);
         holds = λ f. subst (λ z. Holds boxes (block_corner_x columns k) (block_corner_y columns k) z) (sym own)
             (record { area = b; numbered = got; has = h });
-        only = λ j f p hold. elim (last_or_before j n p) [
+        only = λ j f p hold. elim (below_or_same j n p) [
           | inl l ↦ absurd (t.none k j within g.0 l hold)
           | inr e ↦ e ∙ sym own
         ];
@@ -100,12 +94,12 @@ next_place columns blocks n k stop boxes b table table' t lt got takes ks = elim
         below = λ f. (let p = t.below k within (old f) in omega (arith, p, same));
         holds = λ f. subst (λ z. Holds boxes (block_corner_x columns k) (block_corner_y columns k) z) (sym same)
             (t.holds k within (old f));
-        only = λ j f p hold. elim (last_or_before j n p) [
+        only = λ j f p hold. elim (below_or_same j n p) [
           | inl l ↦ t.only k j within (old f) l hold ∙ sym same
           | inr e ↦ absurd (h (same_box boxes (block_corner_x columns k) (block_corner_y columns k) n b got
               (subst (λ z. Holds boxes (block_corner_x columns k) (block_corner_y columns k) z) e hold)))
         ];
-        none = λ j e p hold. elim (last_or_before j n p) [
+        none = λ j e p hold. elim (below_or_same j n p) [
           | inl l ↦ t.none k j within (sym same ∙ e) l hold
           | inr i ↦ h (same_box boxes (block_corner_x columns k) (block_corner_y columns k) n b got
               (subst (λ z. Holds boxes (block_corner_x columns k) (block_corner_y columns k) z) i hold))
@@ -120,7 +114,7 @@ twice_at : (columns blocks n stop : ℕ) (boxes : List Box2) (b : Box2) (table t
     IsTakenBy columns blocks n boxes table → slice_get boxes n ≡ Some b →
     TakesBox columns b (length boxes) n stop table table' → stop < blocks →
     HeldTwice boxes (block_corner_x columns stop) (block_corner_y columns stop)
-twice_at columns blocks n stop boxes b table table' t got takes lt = grind (arith, common_steps, last_or_before)
+twice_at columns blocks n stop boxes b table table' t got takes lt = grind (arith, common_steps, below_or_same)
 
 pub taken_by_next : (columns blocks n stop : ℕ) (boxes : List Box2) (b : Box2) (table table' table'' : List ℕ) →
     IsTakenBy columns blocks n boxes table → n < length boxes →
@@ -266,9 +260,6 @@ owners_from o boxes t even f inside =
       };
       named = λ x y h. let g = at x y h in (g.holds.area, g.holds.numbered, g.holds.has);
     }
-
-below_or_from : (i m : ℕ) → (i < m) ⊎ (m ≤ i)
-below_or_from i m = grind arith
 
 pub div_small : (a c n : ℕ) → n < a * c → n / c < a
 div_small a c n h = grind (arith, common_steps, below_or_from, div-add-mod, mul-le-mul_left)

@@ -1,19 +1,15 @@
 -- Lists of wires: the place of a wire, and wires that are added
-use Rattle.std.proofs.Common.{◌≡◌, ◌≢◌, ℕ, zero, suc, ◌+◌, ◌<◌, ◌≤◌, ◌==◌, ◌||◌, true, false, List, [], ◌∷◌, ◌++◌}
-use Rattle.std.proofs.Common.{length, take, drop, get_or, set, slice_get, position, Option, Some, None, nat_eq, min}
-use Rattle.std.proofs.Common.{Contains, refl, sym, ap, ap₂, subst, ◌∙◌, inl, inr, arith, append_assoc, length-append}
-use Rattle.std.proofs.Common.{take-append-drop, if◌then◌else◌, nat_lt, is_some, IfSome}
-use Rattle.std.specs.List.{list_any}
-use Rattle.std.proofs.Math.Seq.{get_or-append_seam}
-use Rattle.std.proofs.lemmas.Bool.{cases_lt, eqb-true, eqb-false, eq-eqb, ne_eqb, false_from_ne_true, false≢true}
-use Rattle.std.proofs.lemmas.List.{get_or-take, length-take, take_more, drop_more, get_or_append_left}
-use Rattle.std.proofs.lemmas.List.{get_or-append-add, get_or-set_same, get_or-set_other, length-set}
-use Rattle.std.proofs.lemmas.List.Folds.{list_any_at}
+use Rattle.lemmas.proofs.Common.{[], ◌++◌, ◌+◌, ◌<◌, ◌==◌, ◌||◌, ◌∙◌, ◌∷◌, ◌≡◌, ◌≢◌, ◌≤◌, Contains, IfSome, List, None}
+use Rattle.lemmas.proofs.Common.{Option, Some, ap, append_assoc, ap₂, arith, drop, eq-eqb, false, get_or}
+use Rattle.lemmas.proofs.Common.{get_or-append-add, get_or-set_other, get_or-set_same, if◌then◌else◌, inl, inr, is_some}
+use Rattle.lemmas.proofs.Common.{length, length-append, length-set, min, nat_eq, nat_lt, ne_eqb, position, refl, set}
+use Rattle.lemmas.proofs.Common.{slice_get, subst, suc, sym, take, take-append-drop, true, zero, ℕ, cases_lt}
+use Rattle.lemmas.proofs.Common.{common_steps, drop_more, eqb-false, eqb-true, fails_before_first, false_from_ne_true}
+use Rattle.lemmas.proofs.Common.{false≢true, get_or-append_seam, get_or-take, get_or_append_left, length-take, list_any}
+use Rattle.lemmas.proofs.Common.{list_any_at, none-some, position_or_len_is, same_Some, slice_get-get_or}
+use Rattle.lemmas.proofs.Common.{slice_get_past, slice_get_within, take_more, eq_itself, eq_sym}
 use Rattle.std.proofs.lemmas.List.Quantifiers.{position-Some}
-use Rattle.std.proofs.lemmas.List.Sums.{fails_before_first, position_or_len_is}
 use Rattle.std.proofs.lemmas.Map.Views.{Contains-from_any}
-use Rattle.std.proofs.lemmas.Option.{none-some, same_Some, slice_get-get_or, slice_get_past, slice_get_within}
-use Rattle.std.proofs.lemmas.Grind.{common_steps}
 use Rattle.module_box.specs.Locals.{AreDifferent, is_among}
 
 -- the wire that stands at the place that a look-up finds
@@ -39,9 +35,6 @@ different_front xs ys different i j w at there = different i j w (longer xs ys i
     longer [] ys i w at = absurd cc
     longer (x ∷ xs) ys zero w at = at
     longer (x ∷ xs) ys (suc i) w at = longer xs ys i w at
-
-eq_sym : (v w : ℕ) → (w == v) ≡ (v == w)
-eq_sym v w = grind arith
 
 among : (ws : List ℕ) (w : ℕ) → list_any (nat_eq w) ws ≡ is_among ws w
 among [] w = refl
@@ -88,13 +81,10 @@ place_at : (m : ℕ) (ws places : List ℕ) (w i : ℕ) → AreAt m ws places �
     slice_get places w ≡ Some i
 place_at m ws places w i at g l e = ap (slice_get places) (sym e) ∙ at i g l
 
-eqb_same : (w : ℕ) → (w == w) ≡ true
-eqb_same w = eq-eqb w w refl
-
 -- the place of a wire that stands nowhere before it
 place_first : (ws : List ℕ) (w n : ℕ) → n < length ws → get_or ws n 0 ≡ w → ((k : ℕ) → k < n → get_or ws k 0 ≢ w) →
     Some n ≡ position (λ v. v == w) ws
-place_first ws w n l e none = grind (arith, common_steps, position_or_len_is, ne_eqb, eqb_same)
+place_first ws w n l e none = grind (arith, common_steps, position_or_len_is, ne_eqb, eq_itself)
 
 -- a wire that stands nowhere has no place
 place_missing : (ws : List ℕ) (w : ℕ) → ((k : ℕ) → k < length ws → get_or ws k 0 ≢ w) → None ≡ position (λ v. v == w) ws
@@ -118,7 +108,7 @@ scan_found m ws w i e =
     let within : (i < m) × (i < length ws) = in_front (length (take m ws)) (length-take m ws) is.0 in
     place_first ws w i within.1 (sym (get_or-take m ws i 0 within.0) ∙ eqb-true (get_or (take m ws) i 0) w is.1)
     (λ k lt f. false≢true (sym (is.2 k lt) ∙ ap (λ v. v == w) (get_or-take m ws k 0 (omega (arith, lt, within.0)) ∙ f)
-    ∙ eqb_same w))
+    ∙ eq_itself w))
   where
     in_front : (n : ℕ) → n ≡ min m (length ws) → i < n → (i < m) × (i < length ws)
     in_front n e l = (omega (arith, e, l), omega (arith, e, l))
@@ -159,7 +149,7 @@ placed_more m ws places longer w at new kept entry i g l = elim (cases_lt i (len
       let v : ℕ = get_or ws i 0 in
       let old : slice_get longer v ≡ Some i = kept v i (at i g lt) in
       let other : v ≢ w = λ e. false≢true (sym new ∙ list_any_at (λ u. u == w) ws i 0 lt
-      (ap (λ u. u == w) e ∙ eqb_same w)) in
+      (ap (λ u. u == w) e ∙ eq_itself w)) in
       let within : v < length longer = slice_get_within longer v i old in
       ap (slice_get (set longer w (length ws))) (get_or_append_left ws (w ∷ []) 0 i lt)
       ∙ slice_get-get_or (set longer w (length ws)) v 0 (omega (arith, within, length-set longer w (length ws)))

@@ -1,12 +1,11 @@
 -- The words of a gate's wires: at each bit they are the gate's row
-use Rattle.std.proofs.Common.{◌≡◌, ℕ, ◌+◌, ◌<◌, ◌≤◌, Bool, true, false, ◌&&◌, ◌||◌, not, cond, List, [], ◌∷◌, ◌++◌, map}
-use Rattle.std.proofs.Common.{take, drop, get_or, length, Option, Some, None, refl, sym, ap, ap₂, subst, ◌∙◌, arith}
-use Rattle.std.proofs.Common.{inl, inr, bit_and, add-one, drop-cons, drop_of_length-le, length-append}
-use Rattle.std.proofs.Common.{get_or-append-add, bit_xor, slice_index, slice_index_or, option_and_then, option_map}
+use Rattle.lemmas.proofs.Common.{[], ◌&&◌, ◌++◌, ◌+◌, ◌<◌, ◌||◌, ◌∙◌, ◌∷◌, ◌≡◌, ◌≤◌, Bool, List, None, Option, Some}
+use Rattle.lemmas.proofs.Common.{add-one, ap, ap₂, arith, bit_and, bit_xor, cond, drop, drop-cons, drop_of_length-le}
+use Rattle.lemmas.proofs.Common.{eq-eqb, false, get_or, get_or-append-add, inl, inr, length, length-append, map, ne_eqb}
+use Rattle.lemmas.proofs.Common.{not, option_and_then, option_map, refl, slice_index, slice_index_or, subst, sym, take}
+use Rattle.lemmas.proofs.Common.{true, true≢false, ℕ, cases_lt, common_steps, get_or_append_left, length-map}
+use Rattle.lemmas.proofs.Common.{map-append}
 use Rattle.std.proofs.Math.ListN as listn
-use Rattle.std.proofs.lemmas.Bool.{cases_lt, true≢false, eq-eqb, ne_eqb}
-use Rattle.std.proofs.lemmas.List.{map-append, length-map, get_or_append_left}
-use Rattle.std.proofs.lemmas.Grind.{common_steps}
 use Rattle.bbm_rule.specs.Bits.{bit}
 use Rattle.bbm_rule.proofs.BitLemmas.{bit-and, bit-or, bit-xor, bit-zero, xor}
 use Rattle.circuit.specs.declared.circuit_line.GateKind.{GateKind}

@@ -1,12 +1,8 @@
 -- The entries of cells tell what the cells carry, and those of more cells follow them.
-use Rattle.std.proofs.Common.{◌≡◌, ℕ, ◌+◌, ◌<◌, ◌≤◌, List, [], ◌∷◌, ◌++◌, length, map}
-use Rattle.std.proofs.Common.{refl, sym, ap, ap₂, ◌∙◌, arith, inl, inr, ◌⊎◌}
-use Rattle.std.proofs.lemmas.Bool.{cases_Bool, cond-true, cond-false}
-use Rattle.std.proofs.lemmas.Bool.Decides.{nat_tests}
-use Rattle.std.proofs.lemmas.List.{append_assoc, length-map}
-use Rattle.std.proofs.lemmas.Grind.{common_steps}
+use Rattle.lemmas.proofs.Common.{[], ◌++◌, ◌+◌, ◌<◌, ◌∙◌, ◌∷◌, ◌≡◌, ◌≤◌, ◌⊎◌, List, ap, append_assoc, ap₂, arith, inl}
+use Rattle.lemmas.proofs.Common.{inr, length, map, refl, sym, ℕ, cases_Bool, common_steps, cond-false, cond-true}
+use Rattle.lemmas.proofs.Common.{length-map, nat_tests, same_head, same_tail}
 use Rattle.module_box.specs.Numbers.{IsPrefixFree}
-use Rattle.module_box.proofs.InjectiveNumbers.{same_head, same_tail}
 use Rattle.module_job.specs.Keys.{sparse_entry, sparse_list_numbers, sparse_entries_from}
 
 -- ---- one cell

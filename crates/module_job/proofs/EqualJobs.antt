@@ -1,10 +1,6 @@
 -- The tests of equality answer whether two jobs are equal.
-use Rattle.std.proofs.Common.{arith, ◌≡◌, ℕ, zero, suc, nat_eq, Bool, true, false, ◌&&◌, List, Option, Some, None, refl}
-use Rattle.std.proofs.Common.{sym, ap, ◌∙◌}
-use Rattle.std.specs.Bool.{Decides}
-use Rattle.std.specs.Cmp.Lexicographic.{pointwise}
-use Rattle.std.proofs.lemmas.Bool.Decides.{Decides-eqb}
-use Rattle.std.proofs.lemmas.Grind.{common_steps}
+use Rattle.lemmas.proofs.Common.{◌&&◌, ◌∙◌, ◌≡◌, Bool, List, None, Option, Some, ap, arith, false, nat_eq, refl, suc}
+use Rattle.lemmas.proofs.Common.{sym, true, zero, ℕ, Decides, Decides-eqb, common_steps, pointwise}
 use Rattle.module_box.proofs.EqualTests.{both, lists, options, signal_decides, cell_decides, signals_decides}
 use Rattle.module_box.proofs.EqualTests.{locals_decides, netlists_decide}
 use Rattle.module_box.specs.Equality.{same_cell, same_signal}

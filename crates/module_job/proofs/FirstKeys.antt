@@ -1,8 +1,6 @@
 -- The first keys that are the same, as a map has them
-use Rattle.std.proofs.Common.{◌≡◌, ℕ, ◌+◌, ◌<◌, List, Option, Some, None, refl, sym, ◌∙◌, arith}
-use Rattle.std.specs.Prelude.{◌≢◌, if◌then◌else◌, slice_get, unwrap_or}
-use Rattle.std.proofs.lemmas.Bool.{cases_Bool, cases_lt, false≢true}
-use Rattle.std.proofs.lemmas.Grind.{common_steps}
+use Rattle.lemmas.proofs.Common.{◌+◌, ◌<◌, ◌∙◌, ◌≡◌, ◌≢◌, List, None, Option, Some, arith, if◌then◌else◌, refl}
+use Rattle.lemmas.proofs.Common.{slice_get, sym, unwrap_or, ℕ, cases_Bool, cases_lt, common_steps, false≢true}
 use Rattle.module_box.proofs.EqualTests.{lists}
 use Rattle.module_job.specs.Groups.{IsFirstLike, same_key}
 

@@ -1,10 +1,7 @@
 -- Shapes at their places in a list of references.
-use Rattle.std.proofs.Common.{◌≡◌, ℕ, ◌+◌, ◌<◌, List, [], ◌∷◌, ◌++◌, map, length, get_or, Option, Some, zero, suc, refl}
-use Rattle.std.proofs.Common.{sym, ap, ◌∙◌, arith, slice_get, slice_index, unwrap_or}
-use Rattle.std.proofs.lemmas.Bool.{cases_lt}
-use Rattle.std.proofs.lemmas.Grind.{common_steps}
-use Rattle.std.proofs.lemmas.List.{length-map}
-use Rattle.std.proofs.lemmas.Option.{slice_get-map, slice_get-get_or}
+use Rattle.lemmas.proofs.Common.{[], ◌++◌, ◌+◌, ◌<◌, ◌∙◌, ◌∷◌, ◌≡◌, List, Option, Some, ap, arith, get_or, length, map}
+use Rattle.lemmas.proofs.Common.{refl, slice_get, slice_index, suc, sym, unwrap_or, zero, ℕ, cases_lt, common_steps}
+use Rattle.lemmas.proofs.Common.{length-map, slice_get-get_or, slice_get-map}
 use Rattle.module_job.specs.Groups.{AreGroups, AreKeys, IsFirstLike}
 use Rattle.module_job.specs.Shapes.{ShapeView}
 

@@ -1,9 +1,7 @@
 -- The first of a list with each summary, and the first with each key of those that differ from it: for `job_groups`.
-use Rattle.std.proofs.Common.{◌≡◌, ℕ, ◌+◌, ◌<◌, List, map, Option, Some, None, sym, ap, ◌∙◌, arith, inl, inr, ◌⊎◌, ◌≢◌}
-use Rattle.std.proofs.Common.{if◌then◌else◌, slice_get, unwrap_or, option_map}
-use Rattle.std.proofs.lemmas.Bool.{cases_Bool, cases_lt, cond-true, cond-false, false≢true}
-use Rattle.std.proofs.lemmas.Option.{slice_get-map}
-use Rattle.std.proofs.lemmas.Grind.{common_steps}
+use Rattle.lemmas.proofs.Common.{◌+◌, ◌<◌, ◌∙◌, ◌≡◌, ◌≢◌, ◌⊎◌, List, None, Option, Some, ap, arith, if◌then◌else◌, inl}
+use Rattle.lemmas.proofs.Common.{inr, map, option_map, slice_get, sym, unwrap_or, ℕ, cases_Bool, cases_lt, common_steps}
+use Rattle.lemmas.proofs.Common.{cond-false, cond-true, false≢true, slice_get-map, mapped_at}
 use Rattle.module_box.proofs.EqualTests.{lists}
 use Rattle.module_job.specs.Groups.{IsFirstLike, same_key}
 use Rattle.module_job.proofs.FirstKeys.{IsFirstOf, first_found}
@@ -20,15 +18,11 @@ abbrev pub AreHeadsBefore : {A : Type 0} → (A → List ℕ) → (A → List �
 AreHeadsBefore {A} summary key xs n firsts =
     (x : A) (i : ℕ) → i < unwrap_or (firsts (key x)) n → slice_get xs i ≡ Some x → IsHead summary xs x
 
-pub value_of : {A B : Type 0} (v : A → B) (xs : List A) (k : ℕ) (x : A) → slice_get xs k ≡ Some x →
-    slice_get (map v xs) k ≡ Some (v x)
-value_of v xs k x there = slice_get-map v xs k ∙ ap (option_map v) there
-
 -- the number that the map has for the summary is that of the first one with this summary
 pub head_like : {A : Type 0} (summary : A → List ℕ) (xs : List A) (n : ℕ) (x : A) (k : List ℕ) (o : Option ℕ) (h : ℕ) →
     slice_get xs n ≡ Some x → k ≡ summary x → h ≡ unwrap_or o n → IsFirstOf (map summary xs) n k o →
     IsFirstLike (map summary xs) n h
-head_like summary xs n x k o h there its is known = grind (arith, common_steps, first_found, value_of)
+head_like summary xs n x k o h there its is known = grind (arith, common_steps, first_found, mapped_at)
 
 -- ---- the first one with the summary is the same
 pub first_equal_shape : {A : Type 0} (summary : A → List ℕ) (xs : List A) (n h : ℕ) → IsFirstLike (map summary xs) n h →
@@ -41,12 +35,12 @@ first_equal_shape summary xs n h like same = record {
 
 pub is_head : {A : Type 0} (summary : A → List ℕ) (xs : List A) (n h : ℕ) (x : A) → slice_get xs n ≡ Some x →
     IsFirstLike (map summary xs) n h → slice_get xs h ≡ slice_get xs n → IsHead summary xs x
-is_head summary xs n h x there like same = grind (arith, common_steps, value_of)
+is_head summary xs n h x there like same = grind (arith, common_steps, mapped_at)
 
 -- ---- the first one with the summary differs
 pub head_same : {A : Type 0} (summary : A → List ℕ) (xs : List A) (n h : ℕ) (x : A) → slice_get xs n ≡ Some x →
     IsFirstLike (map summary xs) n h → IsHead summary xs x → slice_get xs h ≡ slice_get xs n
-head_same summary xs n h x there like head = grind (arith, common_steps, value_of, cases_lt)
+head_same summary xs n h x there like head = grind (arith, common_steps, mapped_at, cases_lt)
 
 -- ---- one more
 bound_more : (o : Option ℕ) (n i : ℕ) → i < unwrap_or o (n + 1) → (i < unwrap_or o n) ⊎ (i ≡ n)

@@ -1,12 +1,8 @@
 -- Lists of what cells carry or must be, by their numbers.
-use Rattle.std.proofs.Common.{◌≡◌, ℕ, zero, suc, ◌+◌, ◌<◌, Bool, List, [], ◌∷◌, ◌++◌, length, map, replicate, nat_eq}
-use Rattle.std.proofs.Common.{refl, sym, ap, ap₂, ◌∙◌, arith, slice_get, unwrap_or, All}
-use Rattle.std.specs.Bool.{Decides}
-use Rattle.std.specs.Cmp.Lexicographic.{pointwise}
-use Rattle.std.proofs.lemmas.Bool.Decides.{Decides-eqb, same_from_decides}
-use Rattle.std.proofs.lemmas.List.{get_or-replicate, length-map, length-replicate, map-append}
-use Rattle.std.proofs.lemmas.List.Elements.{All-head, All-tail}
-use Rattle.std.proofs.lemmas.Grind.{common_steps}
+use Rattle.lemmas.proofs.Common.{[], ◌++◌, ◌+◌, ◌<◌, ◌∙◌, ◌∷◌, ◌≡◌, All, Bool, List, ap, ap₂, arith, length, map}
+use Rattle.lemmas.proofs.Common.{nat_eq, refl, replicate, slice_get, suc, sym, unwrap_or, zero, ℕ, All-head, All-tail}
+use Rattle.lemmas.proofs.Common.{Decides, Decides-eqb, common_steps, get_or-replicate, length-map, length-replicate}
+use Rattle.lemmas.proofs.Common.{map-append, pointwise, same_from_decides}
 use Rattle.module_box.proofs.EqualTests.{lists, signal_decides}
 use Rattle.module_box.specs.Equality.{same_signal}
 use Rattle.module_box.specs.declared.schedules.Signal.{Signal}

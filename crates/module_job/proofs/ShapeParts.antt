@@ -1,7 +1,6 @@
 -- Jobs and their shapes
-use Rattle.std.proofs.Common.{◌≡◌, ℕ, List, [], ◌∷◌, map, refl, sym, ap₂, ◌∙◌, arith, ℤ, pos, ◌+ℤ◌}
-use Rattle.std.proofs.lemmas.Int.{ints}
-use Rattle.std.proofs.lemmas.Grind.{common_steps}
+use Rattle.lemmas.proofs.Common.{[], ◌+ℤ◌, ◌∙◌, ◌∷◌, ◌≡◌, List, ap₂, arith, map, pos, refl, sym, ℕ, ℤ, common_steps}
+use Rattle.lemmas.proofs.Common.{ints}
 use Rattle.module_box.specs.Moves.{moved_signals}
 use Rattle.module_box.specs.Schedules.{Signals, signal_at}
 use Rattle.module_box.proofs.MovedBoxes.{cell_back, signals_back, signals_moved}

@@ -1,15 +1,11 @@
 -- A list of numbers from the entries of those that are not 0, and the search for an entry.
-use Rattle.std.proofs.Common.{◌≡◌, ◌≢◌, ℕ, zero, suc, ◌+◌, ◌-◌, ◌*◌, ◌/◌, ◌<◌, ◌≤◌, List, [], ◌∷◌, ◌++◌, length, take}
-use Rattle.std.proofs.Common.{drop, get_or, replicate, nat_eq, refl, sym, ap, ap₂, subst, ◌∙◌, arith, ◌&&◌, inl, inr}
-use Rattle.std.proofs.Common.{◌⊎◌, slice_get, unwrap_or}
-use Rattle.std.specs.Cmp.Lexicographic.{pointwise}
-use Rattle.std.proofs.lemmas.Bool.{cases_Bool, cases_lt, cond-true, cond-false}
-use Rattle.std.proofs.lemmas.Bool.Decides.{nat_tests, same_from_decides}
-use Rattle.std.proofs.lemmas.List.{append_assoc, append-nil, drop_more, get_or_append_left, get_or-append-add}
-use Rattle.std.proofs.lemmas.List.{get_or-append_right, get_or_past, length-append, length-drop, length-replicate}
-use Rattle.std.proofs.lemmas.List.{length-take, length-take-le, take-append-drop}
-use Rattle.std.proofs.lemmas.Option.{unwrap_or-slice_get}
-use Rattle.std.proofs.lemmas.Grind.{common_steps}
+use Rattle.lemmas.proofs.Common.{[], ◌&&◌, ◌*◌, ◌++◌, ◌+◌, ◌-◌, ◌/◌, ◌<◌, ◌∙◌, ◌∷◌, ◌≡◌, ◌≢◌, ◌≤◌, ◌⊎◌, List, ap}
+use Rattle.lemmas.proofs.Common.{append-nil, append_assoc, ap₂, arith, drop, get_or, get_or-append-add, inl, inr}
+use Rattle.lemmas.proofs.Common.{length, length-append, length-take-le, nat_eq, refl, replicate, slice_get, subst, suc}
+use Rattle.lemmas.proofs.Common.{sym, take, take-append-drop, unwrap_or, zero, ℕ, cases_Bool, cases_lt, common_steps}
+use Rattle.lemmas.proofs.Common.{cond-false, cond-true, drop_more, get_or-append_right, get_or_append_left, get_or_past}
+use Rattle.lemmas.proofs.Common.{length-drop, length-replicate, length-take, nat_tests, pointwise, same_from_decides}
+use Rattle.lemmas.proofs.Common.{unwrap_or-slice_get}
 use Rattle.module_box.proofs.EqualTests.{both, lists}
 use Rattle.module_job.specs.Keys.{sparse_entry, sparse_entries_from}
 use Rattle.module_job.specs.SparseNumbers.{numbers_from_entries}

@@ -1,18 +1,13 @@
 -- The numbers of a shape tell it, and the bytes of numbers tell them
-use Rattle.std.proofs.Common.{◌≡◌, ℕ, ◌<◌, ◌^◌, List, [], ◌∷◌, ◌++◌, refl, sym, ap, ap₂, ◌∙◌, arith, inl, inr, ◌⊎◌, ℤ}
-use Rattle.std.proofs.Common.{pos, negsuc, flat_map}
-use Rattle.std.specs.Int.{to_le_bytes, w16, w64}
-use Rattle.std.proofs.lemmas.Bool.{cases_Bool, cond-true, cond-false}
-use Rattle.std.proofs.lemmas.Bool.Decides.{nat_tests}
-use Rattle.std.proofs.lemmas.List.{append_assoc}
-use Rattle.std.proofs.lemmas.List.Elements.{All-head, All-tail}
-use Rattle.std.proofs.lemmas.Nat.{from_le_bytes-to_le_bytes_2, from_le_bytes-to_le_bytes_8}
-use Rattle.std.proofs.lemmas.Grind.{common_steps}
+use Rattle.lemmas.proofs.Common.{[], ◌++◌, ◌<◌, ◌^◌, ◌∙◌, ◌∷◌, ◌≡◌, ◌⊎◌, List, ap, append_assoc, ap₂, arith, flat_map}
+use Rattle.lemmas.proofs.Common.{inl, inr, negsuc, pos, refl, sym, ℕ, ℤ, All-head, All-tail, cases_Bool, common_steps}
+use Rattle.lemmas.proofs.Common.{cond-false, cond-true, from_le_bytes-to_le_bytes_2, from_le_bytes-to_le_bytes_8}
+use Rattle.lemmas.proofs.Common.{nat_tests, to_le_bytes, w16, same_head, same_tail}
+use Rattle.std.specs.Int.{w64}
 use Rattle.module_box.specs.Numbers.{IsPrefixFree, length_prefixed, netlist_numbers}
 use Rattle.module_box.specs.declared.schedules.Signal.{Signal}
 use Rattle.module_box.specs.declared.schedules.Signal.TheVariants.{Zero, One, Wire}
-use Rattle.module_box.proofs.InjectiveNumbers.{counted_tell, listed, lists_tell, netlists_tell, same_head, same_length}
-use Rattle.module_box.proofs.InjectiveNumbers.{same_tail}
+use Rattle.module_box.proofs.InjectiveNumbers.{counted_tell, listed, lists_tell, netlists_tell, same_length}
 use Rattle.module_job.specs.Keys.{BytesDetermineNumbers, NumbersDetermineShapes, cell_numbers, sparse_list_numbers}
 use Rattle.module_job.specs.Keys.{demand_number, event_numbers, all_times_numbers, zigzag_number, number_bytes}
 use Rattle.module_job.specs.Keys.{shape_numbers, signal_number, signals_numbers, stop_numbers}

@@ -1,10 +1,7 @@
 -- A layout with one more line.
-use Rattle.std.proofs.Common.{◌≡◌, ℕ, ◌||◌, ◌&&◌, Bool, true, false, not, List, [], ◌∷◌, ◌++◌, length, None, refl, sym}
-use Rattle.std.proofs.Common.{ap, subst, ◌∙◌, arith, append_assoc, append-nil, ◌==◌, ℤ}
-use Rattle.std.proofs.lemmas.Bool.Decides.{nat_tests}
-use Rattle.std.proofs.lemmas.List.{map-append}
-use Rattle.std.proofs.lemmas.List.Folds.{list_any-append}
-use Rattle.std.proofs.lemmas.Grind.{common_steps}
+use Rattle.lemmas.proofs.Common.{[], ◌&&◌, ◌++◌, ◌==◌, ◌||◌, ◌∙◌, ◌∷◌, ◌≡◌, Bool, List, None, ap, append-nil}
+use Rattle.lemmas.proofs.Common.{append_assoc, arith, false, length, not, refl, subst, sym, true, ℕ, ℤ, common_steps}
+use Rattle.lemmas.proofs.Common.{list_any-append, map-append, nat_tests, or_last}
 use Rattle.bbm_rule.specs.declared.block.Cell.{Cell}
 use Rattle.section_text.specs.Codes.{code_if}
 use Rattle.pattern.specs.declared.layout_line.Rectangle.{Rectangle}
@@ -103,9 +100,6 @@ pub good_more : (s : LayoutHeader) (p v : Pattern) (same : v ≡ p) (q : List La
 good_more s p v same q part good more limit cells = grind (arith, common_steps, good_push)
 
 -- ---- the cells that are taken after one more line
-
-or_last : (a b : Bool) → (a || (b || false)) ≡ (a || b)
-or_last a b = grind arith
 
 pub begun_push : (parts : List LayoutLine) (part : LayoutLine) (x y : ℤ) →
     cells_taken_at_start (parts ++ part ∷ []) x y ≡ (cells_taken_at_start parts x y || (begins part && holds part x y))

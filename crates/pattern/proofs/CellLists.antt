@@ -1,18 +1,10 @@
 -- The cells of rows and rectangles.
-use Rattle.std.proofs.Common.{◌≡◌, ℕ, zero, suc, Bool, true, false, cond, ◌+◌, ◌-◌, ◌<◌, ◌≤◌, ◌||◌, List, [], ◌∷◌}
-use Rattle.std.proofs.Common.{◌++◌}
-use Rattle.std.proofs.Common.{arith, ap, ap₂, refl, ◌∙◌, append-nil, append_assoc, sym, to_z, w32, nat_lt, inl, inr}
-use Rattle.std.proofs.lemmas.Bool.{cases_Bool}
-use Rattle.std.proofs.lemmas.Bool.Decides.{nat_tests}
-use Rattle.std.proofs.lemmas.List.Folds.{list_any-append}
-use Rattle.std.proofs.lemmas.Int.{ints}
-use Rattle.std.specs.List.{flat_map, filter, list_any, range_with_len}
-use Rattle.std.proofs.lemmas.List.Elements.{filter-append}
-use Rattle.std.proofs.lemmas.List.Concat.{flat_map-append}
-use Rattle.std.proofs.lemmas.List.FromFn.{map-range_with_len_more, filter_of_map_range_with_len_more}
-use Rattle.std.proofs.lemmas.List.{map-id}
-use Rattle.std.proofs.Math.Bool.{or-true}
-use Rattle.std.proofs.lemmas.Grind.{common_steps}
+use Rattle.lemmas.proofs.Common.{[], ◌++◌, ◌+◌, ◌-◌, ◌<◌, ◌||◌, ◌∙◌, ◌∷◌, ◌≡◌, ◌≤◌, Bool, List, ap, append-nil}
+use Rattle.lemmas.proofs.Common.{append_assoc, ap₂, arith, cond, false, inl, inr, nat_lt, refl, suc, sym, to_z, true}
+use Rattle.lemmas.proofs.Common.{w32, zero, ℕ, cases_Bool, common_steps, filter-append}
+use Rattle.lemmas.proofs.Common.{filter_of_map_range_with_len_more, flat_map-append, ints, list_any, list_any-append}
+use Rattle.lemmas.proofs.Common.{map-id, map-range_with_len_more, nat_tests, or-true, range_with_len}
+use Rattle.std.specs.List.{flat_map, filter}
 use Rattle.bbm_rule.specs.declared.block.Cell.{Cell}
 use Rattle.pattern.specs.Layout.{cell, row_cells}
 

@@ -1,10 +1,7 @@
 -- The cells that are live at the start of a good layout lie inside it.
-use Rattle.std.proofs.Common.{◌≡◌, ℕ, zero, suc, ◌+◌, ◌≤◌, ◌<◌, ◌%◌, ℤ, pos, negsuc, Bool, true, false, not, ◌&&◌, ◌||◌}
-use Rattle.std.proofs.Common.{None, List, [], ◌∷◌, ◌++◌, length, get_or, refl, arith}
-use Rattle.std.specs.List.{list_any, list_all}
-use Rattle.std.proofs.lemmas.Bool.Decides.{nat_tests}
-use Rattle.std.proofs.lemmas.List.Folds.{list_all-append, list_all-map}
-use Rattle.std.proofs.lemmas.Grind.{common_steps}
+use Rattle.lemmas.proofs.Common.{[], ◌%◌, ◌&&◌, ◌++◌, ◌+◌, ◌<◌, ◌||◌, ◌∷◌, ◌≡◌, ◌≤◌, Bool, List, None, arith, false}
+use Rattle.lemmas.proofs.Common.{get_or, length, negsuc, not, pos, refl, suc, true, zero, ℕ, ℤ, common_steps, list_all}
+use Rattle.lemmas.proofs.Common.{list_all-append, list_all-map, list_any, nat_tests, left_is_true, right_is_true}
 use Rattle.bbm_rule.specs.Plane.{is_at}
 use Rattle.bbm_rule.specs.Spans.{in_span}
 use Rattle.bbm_rule.specs.declared.block.Cell.{Cell}
@@ -20,14 +17,6 @@ use Rattle.pattern.proofs.TakenLemmas.{mirror_fits}
 use Rattle.pattern.specs.Lines.{size_fault, cell_fault, is_inside, is_taken, is_layout_side, AreGoodAfter}
 use Rattle.section_text.specs.declared.code.RefusalCode.{RefusalCode}
 use Rattle.section_text.specs.declared.code.RefusalCode.TheVariants.{TakenCell}
-
-and_left : (a b : Bool) → (a && b) ≡ true → a ≡ true
-and_left true b h = refl
-and_left false b h = h
-
-and_right : (a b : Bool) → (a && b) ≡ true → b ≡ true
-and_right true b h = h
-and_right false b h = cc
 
 -- ---- the size
 
@@ -45,7 +34,7 @@ side_length n e = grind (arith, common_steps, nat_tests)
 
 pub size_sides : (s : LayoutHeader) → size_fault s ≡ None → IsSideLength s.w × IsSideLength s.h
 unfolding size_fault
-size_sides s e = grind (arith, common_steps, no_code, and_left, side_length, and_right)
+size_sides s e = grind (arith, common_steps, no_code, left_is_true, side_length, right_is_true)
 
 -- ---- the parts
 
@@ -70,16 +59,16 @@ pub record BeginsInside (p : Pattern) : Type 0 where
   pub ins : list_all (λ q. is_inside p.size (In q)) p.ins ≡ true
 
 pub begins_inside : (p : Pattern) → AreGoodAfter p.size [] (parts_of p) → BeginsInside p
-begins_inside p h = grind (arith, common_steps, parts_inside, list_all-append, and_right, list_all-map, and_left)
+begins_inside p h = grind (arith, common_steps, parts_inside, list_all-append, right_is_true, list_all-map, left_is_true)
 
 pub mirrors_fit : (s : LayoutHeader) (rs : List Rectangle) → list_all (λ r. is_inside s (Mirror r)) rs ≡ true →
     s.w ≤ 512 →
     s.h ≤ 512 → (k : ℕ) (d : Rectangle) → k < length rs →
     ((get_or rs k d).x + (get_or rs k d).w ≤ 512) × ((get_or rs k d).y + (get_or rs k d).h ≤ 512)
 mirrors_fit s [] e w h k d lt = absurd (omega arith)
-mirrors_fit s (r ∷ rs) e w h zero d lt = let f = mirror_fits s r (and_left _ _ e) in
+mirrors_fit s (r ∷ rs) e w h zero d lt = let f = mirror_fits s r (left_is_true _ _ e) in
     (omega (arith, f.0), omega (arith, f.1))
-mirrors_fit s (r ∷ rs) e w h (suc k) d lt = mirrors_fit s rs (and_right _ _ e) w h k d (omega arith)
+mirrors_fit s (r ∷ rs) e w h (suc k) d lt = mirrors_fit s rs (right_is_true _ _ e) w h k d (omega arith)
 
 -- ---- the start
 
@@ -92,7 +81,7 @@ any_among : {X : Type 0} (p q : X → Bool) (b : Bool) → ((x : X) → q x ≡ 
     list_all q xs ≡ true → list_any p xs ≡ true → b ≡ true
 any_among p q b f [] all some = cc
 any_among p q b f (x ∷ xs) all some =
-    one_or_rest (p x) (list_any p xs) b (f x (and_left _ _ all)) (any_among p q b f xs (and_right _ _ all)) some
+    one_or_rest (p x) (list_any p xs) b (f x (left_is_true _ _ all)) (any_among p q b f xs (right_is_true _ _ all)) some
 
 span_within : (a n m : ℕ) (x : ℤ) → a + n ≤ m → in_span a n x ≡ true → in_span 0 m x ≡ true
 unfolding in_span
@@ -102,11 +91,11 @@ span_within a n m (negsuc x) fits e = cc
 rectangle_inside : (s : LayoutHeader) (r : Rectangle) (x y : ℤ) → is_inside s (Mirror r) ≡ true →
     in_rectangle r x y ≡ true →
     in_layout s x y ≡ true
-rectangle_inside s r x y e h = grind (arith, common_steps, mirror_fits, span_within, and_left, and_right)
+rectangle_inside s r x y e h = grind (arith, common_steps, mirror_fits, span_within, left_is_true, right_is_true)
 
 at_inside : (s : LayoutHeader) (c : Cell) (x y : ℤ) → in_layout s c.x c.y ≡ true → is_at c x y ≡ true →
     in_layout s x y ≡ true
-at_inside s c x y e h = grind (arith, common_steps, and_left, and_right)
+at_inside s c x y e h = grind (arith, common_steps, left_is_true, right_is_true)
 
 ball_inside : (s : LayoutHeader) (c : Cell) (x y : ℤ) → is_inside s (Ball c) ≡ true → is_at c x y ≡ true →
     in_layout s x y ≡ true
@@ -116,7 +105,7 @@ ball_inside s c x y e h = at_inside s c x y e h
 port_inside : (s : LayoutHeader) (b : Bool) (q : Port) (x y : ℤ) → is_inside s (In q) ≡ true →
     (b && is_at q.cell x y) ≡ true → in_layout s x y ≡ true
 unfolding is_inside
-port_inside s b q x y e h = at_inside s q.cell x y e (and_right _ _ h)
+port_inside s b q x y e h = at_inside s q.cell x y e (right_is_true _ _ h)
 
 or_either : (a b c d : Bool) → (a || b || c) ≡ true → (a ≡ true → d ≡ true) → (b ≡ true → d ≡ true) →
     (c ≡ true → d ≡ true) → d ≡ true

@@ -1,7 +1,5 @@
 -- The names of the ports of a layout that was read.
-use Rattle.std.proofs.Common.{arith, ◌≡◌, List, [], ◌∷◌, ◌++◌, Option, None}
-use Rattle.std.specs.List.{AllByRecursion}
-use Rattle.std.proofs.lemmas.Grind.{common_steps}
+use Rattle.lemmas.proofs.Common.{[], ◌++◌, ◌∷◌, ◌≡◌, List, None, Option, arith, AllByRecursion, common_steps}
 use Rattle.section_text.specs.Ports.{Named}
 use Rattle.section_text.proofs.Good.{AreFaultless, IsFaultless}
 use Rattle.pattern.specs.declared.layout_line.LayoutHeader.{LayoutHeader}

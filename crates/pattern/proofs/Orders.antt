@@ -1,8 +1,6 @@
 -- Lines in the order of their kinds.
-use Rattle.std.proofs.Common.{◌≡◌, ℕ, ◌||◌, ◌&&◌, Bool, false, not, List, [], ◌∷◌, map, length, arith, nat_lt, ◌==◌}
-use Rattle.std.specs.List.{list_any}
-use Rattle.std.proofs.lemmas.List.Folds.{list_any-append}
-use Rattle.std.proofs.lemmas.Grind.{common_steps}
+use Rattle.lemmas.proofs.Common.{[], ◌&&◌, ◌==◌, ◌||◌, ◌∷◌, ◌≡◌, Bool, List, arith, false, length, map, nat_lt, not, ℕ}
+use Rattle.lemmas.proofs.Common.{common_steps, list_any, list_any-append}
 use Rattle.bbm_rule.specs.declared.block.Cell.{Cell}
 use Rattle.pattern.specs.declared.layout_line.Rectangle.{Rectangle}
 use Rattle.pattern.specs.declared.layout_line.Port.{Port}

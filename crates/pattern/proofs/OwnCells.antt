@@ -1,9 +1,7 @@
 -- The ports of a good layout have cells of their own.
-use Rattle.std.proofs.Common.{◌≡◌, ℕ, zero, suc, ◌||◌, ℤ, Bool, true, false, not, List, [], ◌∷◌, ◌++◌, map, None, Some}
-use Rattle.std.proofs.Common.{refl, sym, ap, subst, ◌∙◌, arith, append-nil, slice_get}
-use Rattle.std.proofs.lemmas.Bool.{true≢false}
-use Rattle.std.proofs.lemmas.Option.{same_Some}
-use Rattle.std.proofs.lemmas.Grind.{common_steps}
+use Rattle.lemmas.proofs.Common.{[], ◌++◌, ◌||◌, ◌∙◌, ◌∷◌, ◌≡◌, Bool, List, None, Some, ap, append-nil, arith, false}
+use Rattle.lemmas.proofs.Common.{map, not, refl, slice_get, subst, suc, sym, true, true≢false, zero, ℕ, ℤ, common_steps}
+use Rattle.lemmas.proofs.Common.{same_Some, left_is_false}
 use Rattle.bbm_rule.specs.Plane.{State, is_at}
 use Rattle.bbm_rule.specs.declared.block.Cell.{Cell}
 use Rattle.section_text.specs.Codes.{code_if}
@@ -28,9 +26,6 @@ good_behind s before (part ∷ front) back good =
 at_itself : (c : Cell) → is_at c c.x c.y ≡ true
 at_itself c = grind (arith, common_steps)
 
-or_left : (a b : Bool) → (a || b) ≡ false → a ≡ false
-or_left a b e = grind arith
-
 or_right : (a b : Bool) → (a || (b || false)) ≡ false → b ≡ false
 or_right a b e = grind arith
 
@@ -54,7 +49,7 @@ module _ (make : Port → LayoutLine) (taken : List LayoutLine → State)
   free before (p ∷ ports) good zero q e = let same : p ≡ q = same_Some p q e in
       subst (λ (r : Port). taken before r.cell.x r.cell.y ≡ false) same (is_free s before p good.1)
   free before (p ∷ ports) good (suc i) q e =
-      grind (arith, common_steps, free (before ++ make p ∷ []) ports good.2 i q e, or_left)
+      grind (arith, common_steps, free (before ++ make p ∷ []) ports good.2 i q e, left_is_false)
 
   -- the first port and a later one
   not_one : (before : List LayoutLine) (p : Port) (ports : List Port) →

@@ -1,10 +1,7 @@
 -- Boards that run on the plane.
-use Rattle.std.proofs.Common.{◌≡◌, ℕ, ◌+◌, ◌≤◌, ◌<◌, ℤ, Bool, true, false, List, length, get_or, refl, arith, ap, ◌∙◌}
-use Rattle.std.proofs.Common.{sym, subst, add-one, Result, Ok, Err, OnOk, OnErr}
-use Rattle.std.specs.Result.{is_err}
-use Rattle.std.proofs.lemmas.Bool.{cases_lt}
-use Rattle.std.proofs.lemmas.List.Folds.{list_any_at}
-use Rattle.std.proofs.lemmas.Grind.{common_steps}
+use Rattle.lemmas.proofs.Common.{◌+◌, ◌<◌, ◌∙◌, ◌≡◌, ◌≤◌, Bool, Err, List, Ok, OnErr, OnOk, Result, add-one, ap, arith}
+use Rattle.lemmas.proofs.Common.{false, get_or, length, refl, subst, sym, true, ℕ, ℤ, cases_lt, common_steps, is_err}
+use Rattle.lemmas.proofs.Common.{list_any_at}
 use Rattle.bbm_rule.specs.Plane.{State, step, run}
 use Rattle.bbm_rule.specs.Board.{Board, live, is_inside, IsStep, Leaves}
 use Rattle.bbm_rule.specs.declared.block.Cell.{Cell}

@@ -1,8 +1,6 @@
 -- The lines of a layout by their words.
-use Rattle.std.proofs.Common.{arith, ◌≡◌, ◌==◌, if◌then◌else◌, ℕ, Bool, true, false, List, [], ◌∷◌, length, Some, None}
-use Rattle.std.proofs.Common.{refl, sym, ap}
-use Rattle.std.proofs.lemmas.Option.{same_Some}
-use Rattle.std.proofs.lemmas.Grind.{common_steps}
+use Rattle.lemmas.proofs.Common.{[], ◌==◌, ◌∷◌, ◌≡◌, Bool, List, None, Some, ap, arith, false, if◌then◌else◌, length}
+use Rattle.lemmas.proofs.Common.{refl, sym, true, ℕ, common_steps, same_Some, test_failed, tested_value}
 use Rattle.section_text.specs.Words.{three, four, five, number_at, name_at}
 use Rattle.pattern.specs.Forms.{cell_of_words_from, cell_after_keyword, port_after_keyword, port_of, rectangle_of}
 use Rattle.pattern.specs.Forms.{size_of}
@@ -11,14 +9,6 @@ use Rattle.pattern.specs.PortWords.{cell_from_words, port_from_words}
 port_by_words : (k n x y : List ℕ) → port_of (k ∷ n ∷ x ∷ y ∷ []) ≡ port_from_words n x y
 unfolding port_of port_after_keyword cell_of_words_from number_at name_at port_from_words cell_from_words
 port_by_words k n x y = refl
-
-is_so_many : {A : Type 0} (b : Bool) (x y : A) → (if b then Some x else None) ≡ Some y → x ≡ y
-is_so_many true x y e = same_Some x y e
-is_so_many false x y e = absurd cc
-
-not_so_many : {A : Type 0} (b : Bool) (x : A) → (if b then Some x else None) ≡ None → b ≡ false
-not_so_many true x e = absurd cc
-not_so_many false x e = refl
 
 -- ---- lines of three words
 
@@ -29,37 +19,37 @@ cell_by_words k x y = refl
 pub cell_found : (ws : List (List ℕ)) (k x y : List ℕ) → Some (k ∷ x ∷ y ∷ []) ≡ three ws →
     cell_from_words x y ≡ cell_after_keyword ws
 unfolding three
-cell_found ws k x y e = grind (arith, common_steps, cell_by_words, is_so_many)
+cell_found ws k x y e = grind (arith, common_steps, cell_by_words, tested_value)
 
 pub cell_missed : (ws : List (List ℕ)) → None ≡ three ws → None ≡ cell_after_keyword ws
 unfolding three cell_after_keyword
-cell_missed ws e = rw (not_so_many (length ws == 3) ws (sym e)) refl
+cell_missed ws e = rw (test_failed (length ws == 3) ws (sym e)) refl
 
 -- ---- lines of four words
 
 pub port_found : (ws : List (List ℕ)) (k n x y : List ℕ) → Some (k ∷ n ∷ x ∷ y ∷ []) ≡ four ws →
     port_from_words n x y ≡ port_of ws
 unfolding four
-port_found ws k n x y e = grind (arith, common_steps, port_by_words, is_so_many)
+port_found ws k n x y e = grind (arith, common_steps, port_by_words, tested_value)
 
 pub port_missed : (ws : List (List ℕ)) → None ≡ four ws → None ≡ port_of ws
 unfolding four port_of
-port_missed ws e = rw (not_so_many (length ws == 4) ws (sym e)) refl
+port_missed ws e = rw (test_failed (length ws == 4) ws (sym e)) refl
 
 pub size_found : (ws words : List (List ℕ)) → Some words ≡ four ws → size_of words ≡ size_of ws
 unfolding four
-size_found ws words e = ap size_of (sym (is_so_many (length ws == 4) ws words (sym e)))
+size_found ws words e = ap size_of (sym (tested_value (length ws == 4) ws words (sym e)))
 
 pub size_missed : (ws : List (List ℕ)) → None ≡ four ws → None ≡ size_of ws
 unfolding four size_of
-size_missed ws e = rw (not_so_many (length ws == 4) ws (sym e)) refl
+size_missed ws e = rw (test_failed (length ws == 4) ws (sym e)) refl
 
 -- ---- lines of five words
 
 pub rectangle_found : (ws words : List (List ℕ)) → Some words ≡ five ws → rectangle_of words ≡ rectangle_of ws
 unfolding five
-rectangle_found ws words e = ap rectangle_of (sym (is_so_many (length ws == 5) ws words (sym e)))
+rectangle_found ws words e = ap rectangle_of (sym (tested_value (length ws == 5) ws words (sym e)))
 
 pub rectangle_missed : (ws : List (List ℕ)) → None ≡ five ws → None ≡ rectangle_of ws
 unfolding five rectangle_of
-rectangle_missed ws e = rw (not_so_many (length ws == 5) ws (sym e)) refl
+rectangle_missed ws e = rw (test_failed (length ws == 5) ws (sym e)) refl

@@ -1,7 +1,6 @@
 -- The lists of a layout, printed one after the other, are its text.
-use Rattle.std.proofs.Common.{arith, ◌≡◌, ℕ, List, ◌++◌, refl, ap, append_assoc, codes, flat_map}
-use Rattle.std.proofs.lemmas.Grind.{flat_map-append, common_steps}
-use Rattle.std.proofs.lemmas.List.Folds.{flat_map-map}
+use Rattle.lemmas.proofs.Common.{◌++◌, ◌≡◌, List, ap, append_assoc, arith, codes, flat_map, refl, ℕ, common_steps}
+use Rattle.lemmas.proofs.Common.{flat_map-append, flat_map-map}
 use Rattle.section_text.specs.Spelling.{line_text}
 use Rattle.pattern.specs.Layout.{Pattern, parts_of}
 use Rattle.pattern.specs.Text.{cell_words, rectangle_words, port_words, size_words, part_text, layout_text}

@@ -1,9 +1,6 @@
 -- The tables of a reader of layouts, for the lines so far.
-use Rattle.std.proofs.Common.{arith, ◌≡◌, ℕ, ◌&&◌, Bool, not, List, [], ◌∷◌, Option, None, Some, Vec, refl, sym, ap}
-use Rattle.std.proofs.Common.{◌∙◌}
-use Rattle.std.specs.List.{list_all, list_any}
-use Rattle.std.specs.Global.{Global}
-use Rattle.std.proofs.lemmas.Grind.{common_steps}
+use Rattle.lemmas.proofs.Common.{[], ◌&&◌, ◌∙◌, ◌∷◌, ◌≡◌, Bool, Global, List, None, Option, Some, Vec, ap, arith, not}
+use Rattle.lemmas.proofs.Common.{refl, sym, ℕ, common_steps, list_all, list_any}
 use Rattle.section_text.specs.Codes.{or_else, code_if}
 use Rattle.section_text.specs.Ports.{Named, named_ports}
 use Rattle.section_text.specs.declared.ports.PortNames.{PortNames}

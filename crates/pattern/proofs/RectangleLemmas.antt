@@ -1,10 +1,8 @@
 -- The places of the cells of a rectangle.
-use Rattle.std.proofs.Common.{◌≡◌, ℕ, zero, suc, ◌+◌, ◌-◌, ◌≤◌, ℤ, pos, negsuc, false, ◌&&◌, ◌||◌, refl, arith, ◌∙◌}
-use Rattle.std.specs.List.{flat_map, range_with_len}
+use Rattle.lemmas.proofs.Common.{◌&&◌, ◌+◌, ◌-◌, ◌||◌, ◌∙◌, ◌≡◌, ◌≤◌, arith, false, negsuc, pos, refl, suc, zero, ℕ, ℤ}
+use Rattle.lemmas.proofs.Common.{common_steps, list_any-append, nat_tests, range_with_len}
+use Rattle.std.specs.List.{flat_map}
 use Rattle.std.specs.Ordering.{int_eq}
-use Rattle.std.proofs.lemmas.Bool.Decides.{nat_tests}
-use Rattle.std.proofs.lemmas.List.Folds.{list_any-append}
-use Rattle.std.proofs.lemmas.Grind.{common_steps}
 use Rattle.bbm_rule.specs.Plane.{State}
 use Rattle.bbm_rule.specs.Spans.{in_span}
 use Rattle.pattern.specs.declared.layout_line.Rectangle.{Rectangle}

@@ -1,10 +1,6 @@
 -- Each line of the layout section is the spelling of its form.
-use Rattle.std.proofs.Common.{arith, ◌≡◌, ℕ, ◌+◌, true, eqb, List, [], ◌∷◌, length, Some, ap, subst, inl, inr}
-use Rattle.std.proofs.Common.{slice_get, codes}
-use Rattle.std.specs.Fmt.{decimal}
-use Rattle.std.proofs.lemmas.Bool.{eqb-true}
-use Rattle.std.proofs.lemmas.Option.{option_and_then_some, same_Some}
-use Rattle.std.proofs.lemmas.Grind.{common_steps}
+use Rattle.lemmas.proofs.Common.{[], ◌+◌, ◌∷◌, ◌≡◌, List, Some, ap, arith, codes, eqb, inl, inr, length, slice_get}
+use Rattle.lemmas.proofs.Common.{subst, true, ℕ, common_steps, decimal, eqb-true, option_and_then_some, same_Some}
 use Rattle.section_text.specs.Words.{◌>>=◌, words_of, is_word_at, lone, name_at, number_at}
 use Rattle.section_text.specs.Section.{with_line_feed}
 use Rattle.section_text.specs.declared.section.Form.TheVariants.{Header, Item, End}

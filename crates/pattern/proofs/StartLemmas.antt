@@ -1,8 +1,6 @@
 -- The start as a list of cells.
-use Rattle.std.proofs.Common.{arith, ◌≡◌, ℕ, ℤ, Bool, true, false, cond, ◌&&◌, ◌||◌, List, [], ◌∷◌, ◌++◌, map, refl, ap}
-use Rattle.std.proofs.Common.{◌∙◌, flat_map, filter}
-use Rattle.std.proofs.lemmas.List.Folds.{list_any-append}
-use Rattle.std.proofs.lemmas.Grind.{common_steps}
+use Rattle.lemmas.proofs.Common.{[], ◌&&◌, ◌++◌, ◌||◌, ◌∙◌, ◌∷◌, ◌≡◌, Bool, List, ap, arith, cond, false, filter}
+use Rattle.lemmas.proofs.Common.{flat_map, map, refl, true, ℕ, ℤ, common_steps, list_any-append}
 use Rattle.bbm_rule.specs.Plane.{is_at}
 use Rattle.bbm_rule.specs.declared.block.Cell.{Cell}
 use Rattle.pattern.specs.declared.layout_line.Rectangle.{Rectangle}

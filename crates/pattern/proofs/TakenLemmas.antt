@@ -1,11 +1,8 @@
 -- The cells of a line, and the cells that are taken.
-use Rattle.std.proofs.Common.{◌≡◌, ℕ, zero, suc, ◌+◌, ◌%◌, ◌<◌, ◌≤◌, ◌||◌, ◌&&◌, ℤ, pos, Bool, true, false, not, List}
-use Rattle.std.proofs.Common.{[], ◌∷◌, ◌++◌, None, Some, if◌then◌else◌, refl, sym, subst, ◌∙◌, arith, All, nat_le}
-use Rattle.std.proofs.Common.{flat_map}
-use Rattle.std.specs.List.{AllByRecursion, list_any, range_with_len}
-use Rattle.std.proofs.lemmas.Bool.Decides.{nat_tests}
-use Rattle.std.proofs.lemmas.List.Elements.{All-from_recursion}
-use Rattle.std.proofs.lemmas.Grind.{common_steps}
+use Rattle.lemmas.proofs.Common.{[], ◌%◌, ◌&&◌, ◌++◌, ◌+◌, ◌<◌, ◌||◌, ◌∙◌, ◌∷◌, ◌≡◌, ◌≤◌, All, Bool, List, None, Some}
+use Rattle.lemmas.proofs.Common.{arith, false, flat_map, if◌then◌else◌, nat_le, not, pos, refl, subst, suc, sym, true}
+use Rattle.lemmas.proofs.Common.{zero, ℕ, ℤ, All-from_recursion, AllByRecursion, common_steps, list_any, nat_tests}
+use Rattle.lemmas.proofs.Common.{range_with_len, and_parts, at_most_by_test}
 use Rattle.bbm_rule.specs.Board.{Board, live, is_inside as is_on_board}
 use Rattle.bbm_rule.specs.Spans.{in_span}
 use Rattle.bbm_rule.proofs.Boards.{inside_is_span}
@@ -67,19 +64,11 @@ rows_inside s x w y (suc n) wide high =
     append_inside s (row_cells x w y) (flat_map (row_cells x w) (range_with_len (y + 1) n))
     (row_inside s x w y wide (omega arith)) (rows_inside s x w (y + 1) n wide (omega arith))
 
-both : (a b : Bool) → (a && b) ≡ true → (a ≡ true) × (b ≡ true)
-both true true e = (refl, refl)
-both true false e = absurd cc
-both false b e = absurd cc
-
-at_most : (a b : ℕ) → nat_le a b ≡ true → a ≤ b
-at_most a b e = grind (arith, nat_tests)
-
 -- where the corner of a mirror that lies inside is
 pub mirror_fits : (s : LayoutHeader) (r : Rectangle) → is_inside s (Mirror r) ≡ true →
     (r.x + r.w ≤ s.w) × (r.y + r.h ≤ s.h)
 unfolding is_inside
-mirror_fits s r e = grind (arith, common_steps, both, at_most)
+mirror_fits s r e = grind (arith, common_steps, and_parts, at_most_by_test)
 
 cells_inside_by : (s : LayoutHeader) (part : LayoutLine) → is_inside s part ≡ true →
     AllByRecursion (IsInside s) (cells_of part)

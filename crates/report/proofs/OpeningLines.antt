@@ -1,6 +1,5 @@
 -- The lines before the verdict, made in one piece.
-use Rattle.std.proofs.Common.{◌≡◌, ◌++◌, ◌∙◌, ℕ, List, [], ◌∷◌, refl, ap, append_assoc, append-nil, codes}
-use Rattle.std.specs.Fmt.{decimal}
+use Rattle.lemmas.proofs.Common.{[], ◌++◌, ◌∙◌, ◌∷◌, ◌≡◌, List, ap, append-nil, append_assoc, codes, refl, ℕ, decimal}
 use Rattle.hex.specs.Hex.{encode_lower}
 use Rattle.section_text.specs.Spelling.{line_text}
 use Rattle.report.specs.ReportText.{lines_before_verdict}

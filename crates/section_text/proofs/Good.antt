@@ -1,7 +1,6 @@
 -- A section that was read is good: neither its header, nor an item after those before it, nor its end had a fault.
-use Rattle.std.proofs.Common.{arith, ◌≡◌, ℕ, ◌+◌, List, [], ◌∷◌, ◌++◌, Option, Some, None, Result, Ok, refl, sym, subst}
-use Rattle.std.proofs.lemmas.List.{append-nil}
-use Rattle.std.proofs.lemmas.Grind.{common_steps}
+use Rattle.lemmas.proofs.Common.{[], ◌++◌, ◌+◌, ◌∷◌, ◌≡◌, List, None, Ok, Option, Result, Some, append-nil, arith, refl}
+use Rattle.lemmas.proofs.Common.{subst, sym, ℕ, common_steps}
 use Rattle.section_text.specs.Words.{words_of}
 use Rattle.section_text.specs.declared.section.Form.{Form}
 use Rattle.section_text.specs.declared.section.Form.TheVariants.{Header, Item, End}

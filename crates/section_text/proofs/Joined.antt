@@ -1,7 +1,6 @@
 -- Readers one after the other read sections one after the other.
-use Rattle.std.proofs.Common.{arith, ◌≡◌, ℕ, ◌+◌, List, [], ◌∷◌, None, Result, Ok, Err, refl, sym, ap, subst, ◌∙◌, ◌≢◌}
-use Rattle.std.proofs.lemmas.List.{drop-drop}
-use Rattle.std.proofs.lemmas.Grind.{common_steps}
+use Rattle.lemmas.proofs.Common.{[], ◌+◌, ◌∙◌, ◌∷◌, ◌≡◌, ◌≢◌, Err, List, None, Ok, Result, ap, arith, refl, subst, sym}
+use Rattle.lemmas.proofs.Common.{ℕ, common_steps, drop-drop}
 use Rattle.section_text.specs.Faults.{refusal}
 use Rattle.section_text.specs.Feeds.{FeedView, ahead}
 use Rattle.section_text.specs.declared.fault.Refusal.{Refusal}

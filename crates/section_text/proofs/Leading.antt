@@ -1,15 +1,10 @@
 -- The number that is the first of several words, byte by byte.
-use Rattle.std.proofs.Common.{◌≡◌, ◌==◌, ◌+◌, ◌-◌, ◌*◌, ◌<◌, ◌≤◌, ℕ, Bool, true, false, List, [], ◌∷◌, ◌++◌, length}
-use Rattle.std.proofs.Common.{Option, Some, None, if◌then◌else◌, ◌&&◌, ◌||◌, nat_lt, drop, take, get_or, refl, sym, ap}
-use Rattle.std.proofs.Common.{subst, ◌∙◌, inl, inr, arith}
-use Rattle.std.specs.List.{list_all, onto_first}
-use Rattle.std.proofs.lemmas.Bool.{cases_Bool, cond-false, cond-true}
-use Rattle.std.proofs.lemmas.Bool.Decides.{nat_tests}
-use Rattle.std.proofs.lemmas.List.{append_assoc, append-nil, at_drop_more, length-append, take_rest}
-use Rattle.std.proofs.lemmas.List.Folds.{list_all-append}
-use Rattle.std.proofs.lemmas.List.Splits.{slice_split-cons_no, slice_split-cons_yes}
+use Rattle.lemmas.proofs.Common.{[], ◌&&◌, ◌*◌, ◌++◌, ◌+◌, ◌-◌, ◌<◌, ◌==◌, ◌||◌, ◌∙◌, ◌∷◌, ◌≡◌, ◌≤◌, Bool, List, None}
+use Rattle.lemmas.proofs.Common.{Option, Some, ap, append-nil, append_assoc, arith, drop, false, get_or, if◌then◌else◌}
+use Rattle.lemmas.proofs.Common.{inl, inr, length, length-append, nat_lt, refl, subst, sym, take, true, ℕ, at_drop_more}
+use Rattle.lemmas.proofs.Common.{cases_Bool, common_steps, cond-false, cond-true, list_all, list_all-append, nat_tests}
+use Rattle.lemmas.proofs.Common.{onto_first, slice_split-cons_no, slice_split-cons_yes, take_rest, and_parts}
 use Rattle.std.proofs.Math.ListN.{drop_of_length-le}
-use Rattle.std.proofs.lemmas.Grind.{common_steps}
 use Rattle.section_text.specs.Leading.{leading_number}
 use Rattle.section_text.specs.Words.{is_digit, is_number, is_space, number_of, append_digits, words_of, ◌>>=◌}
 use Rattle.section_text.proofs.Numbers.{is_one}
@@ -63,16 +58,12 @@ reads_end n k line i le = rw (drop_of_length-le line le) refl
 no_space : (b : ℕ) → is_digit b ≡ true → is_space b ≡ false
 no_space b digit = grind (arith, nat_tests)
 
-both : (a b : Bool) → (a && b) ≡ true → (a ≡ true) × (b ≡ true)
-both true b e = (refl, e)
-both false b e = absurd cc
-
 -- digits before a line become the begin of its first word
 put_before : (ds line w : List ℕ) (ws : List (List ℕ)) → list_all is_digit ds ≡ true → words_of line ≡ w ∷ ws →
     words_of (ds ++ line) ≡ (ds ++ w) ∷ ws
 put_before [] line w ws digits e = e
 put_before (d ∷ ds) line w ws digits e =
-    let all = both (is_digit d) (list_all is_digit ds) digits in
+    let all = and_parts (is_digit d) (list_all is_digit ds) digits in
     slice_split-cons_no is_space d (ds ++ line) (no_space d all.0) ∙ ap (onto_first d) (put_before ds line w ws all.1 e)
 
 pub first_of : (ws : List (List ℕ)) → 0 < length ws → (w : List ℕ) × (vs : List (List ℕ)) × (ws ≡ w ∷ vs)

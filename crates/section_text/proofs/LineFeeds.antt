@@ -1,8 +1,6 @@
 -- The first line feed, as a search for a byte finds it.
-use Rattle.std.proofs.Common.{◌≡◌, ℕ, Bool, true, false, List, length, Option, Some, None, refl, arith, position}
-use Rattle.std.specs.List.{position_or_len}
-use Rattle.std.proofs.lemmas.List.Sums.{position_or_len_is}
-use Rattle.std.proofs.lemmas.Bool.Decides.{nat_tests}
+use Rattle.lemmas.proofs.Common.{◌≡◌, Bool, List, None, Option, Some, arith, false, length, position, refl, true, ℕ}
+use Rattle.lemmas.proofs.Common.{nat_tests, position_or_len, position_or_len_is}
 use Rattle.memchr.specs.Find.{IsFirstByte, is_byte}
 use Rattle.section_text.specs.Words.{is_line_feed}
 

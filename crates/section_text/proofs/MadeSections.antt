@@ -1,7 +1,6 @@
 -- Lines with the forms of a section and without a fault are read as that section, and their text is that of the forms
-use Rattle.std.proofs.Common.{◌≡◌, ℕ, ◌+◌, List, [], ◌∷◌, ◌++◌, map, Option, Some, None, Ok, refl, sym, ap, ap₂, subst}
-use Rattle.std.proofs.Common.{◌∙◌, append_assoc, flat_map}
-use Rattle.std.proofs.lemmas.List.{append-nil, append_cancel_left}
+use Rattle.lemmas.proofs.Common.{[], ◌++◌, ◌+◌, ◌∙◌, ◌∷◌, ◌≡◌, List, None, Ok, Option, Some, ap, append-nil}
+use Rattle.lemmas.proofs.Common.{append_assoc, ap₂, flat_map, map, refl, subst, sym, ℕ, append_cancel_left}
 use Rattle.section_text.specs.Words.{words_of, bytes_after_last_line_feed}
 use Rattle.section_text.specs.SaidSection.{IsSection}
 use Rattle.section_text.specs.Section.{Grammar, section_of, section_body_of, with_line_feed}

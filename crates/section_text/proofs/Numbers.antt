@@ -1,15 +1,11 @@
 -- A number has one spelling.
-use Rattle.std.proofs.Common.{◌≡◌, ◌⊎◌, inl, inr, ℕ, zero, suc, ◌<◌, ◌≤◌, ◌^◌, true, List, [], ◌∷◌, length, get_or}
-use Rattle.std.proofs.Common.{Bool, false, Option, None, Some, sym, ap, ◌∙◌, arith, rules, IfNone, IfSome}
-use Rattle.std.specs.List.{list_all}
-use Rattle.std.specs.Fmt.{decimal}
-use Rattle.std.proofs.lemmas.Option.{cond_some}
-use Rattle.std.proofs.lemmas.Bool.{cases_Bool, cond-false, cond-true, false≢true}
-use Rattle.std.proofs.lemmas.Bool.Decides.{nat_tests}
+use Rattle.lemmas.proofs.Common.{[], ◌<◌, ◌^◌, ◌∙◌, ◌∷◌, ◌≡◌, ◌≤◌, ◌⊎◌, Bool, IfNone, IfSome, List, None, Option, Some}
+use Rattle.lemmas.proofs.Common.{ap, arith, false, get_or, inl, inr, length, rules, suc, sym, true, zero, ℕ, cases_Bool}
+use Rattle.lemmas.proofs.Common.{common_steps, cond-false, cond-true, cond_some, decimal, false≢true, list_all}
+use Rattle.lemmas.proofs.Common.{nat_tests}
 use Rattle.std.proofs.lemmas.Str.Parse.{IsNumeralModel, numerals_by_fold, digits_value_short}
 use Rattle.std.proofs.lemmas.Fmt.{decimal-digits_value, digits_decimal, digits_value-decimal, decimal_digit}
 use Rattle.std.proofs.lemmas.Fmt.{decimal_nonempty, first_decimal, length-decimal-le}
-use Rattle.std.proofs.lemmas.Grind.{common_steps}
 use Rattle.section_text.specs.Words.{is_digit, is_number, append_digits, number_of}
 
 own : IsNumeralModel (λ ds. list_all is_digit ds ≡ true) (append_digits 0)

@@ -1,9 +1,7 @@
 -- The content of a section, by the forms of its lines.
-use Rattle.std.proofs.Common.{◌≡◌, ℕ, suc, ◌+◌, List, [], ◌∷◌, ◌++◌, length, map, take, drop, Option, Some, None}
-use Rattle.std.proofs.Common.{Result, Ok, refl, sym, ap, ap₂, ◌∙◌, append_assoc, arith}
-use Rattle.std.proofs.lemmas.List.{append-nil, length-map, map-append}
-use Rattle.std.proofs.Math.Seq.{drop-append_seam}
-use Rattle.std.proofs.lemmas.Grind.{common_steps}
+use Rattle.lemmas.proofs.Common.{[], ◌++◌, ◌+◌, ◌∙◌, ◌∷◌, ◌≡◌, List, None, Ok, Option, Result, Some, ap, append-nil}
+use Rattle.lemmas.proofs.Common.{append_assoc, ap₂, arith, drop, length, map, refl, suc, sym, take, ℕ, common_steps}
+use Rattle.lemmas.proofs.Common.{drop-append_seam, length-map, map-append}
 use Rattle.section_text.specs.Words.{words_of}
 use Rattle.section_text.specs.SaidSection.{IsSection}
 use Rattle.section_text.specs.Section.{Grammar, unless, result_after_line, header_line, section_of, section_body_of}

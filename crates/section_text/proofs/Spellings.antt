@@ -1,9 +1,6 @@
 -- The words of a line, from the tests that the line passes.
-use Rattle.std.proofs.Common.{◌≡◌, ◌⊎◌, ℕ, Bool, true, false, cond, List, [], ◌∷◌, length, Option, Some, None, refl}
-use Rattle.std.proofs.Common.{arith, inl, inr, slice_get}
-use Rattle.std.specs.Fmt.{decimal}
-use Rattle.std.proofs.lemmas.Option.{option_and_then_some}
-use Rattle.std.proofs.lemmas.Grind.{common_steps}
+use Rattle.lemmas.proofs.Common.{[], ◌∷◌, ◌≡◌, ◌⊎◌, Bool, List, None, Option, Some, arith, cond, false, inl, inr}
+use Rattle.lemmas.proofs.Common.{length, refl, slice_get, true, ℕ, common_steps, decimal, option_and_then_some}
 use Rattle.section_text.specs.Words.{number_at}
 use Rattle.section_text.proofs.Numbers.{number_spelled}
 

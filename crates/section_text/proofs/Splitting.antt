@@ -1,13 +1,9 @@
 -- The words of a line, one after the other.
-use Rattle.std.proofs.Common.{◌≡◌, ◌==◌, if◌then◌else◌, ℕ, suc, ◌+◌, ◌-◌, ◌<◌, ◌≤◌, Bool, true, false, cond, List, []}
-use Rattle.std.proofs.Common.{◌∷◌, take, drop, length, Option, Some, None, nat_lt, refl, arith, slice_get}
-use Rattle.std.proofs.Common.{option_and_then, position}
-use Rattle.std.proofs.lemmas.List.{length-drop, take_all}
-use Rattle.std.proofs.lemmas.Bool.Decides.{nat_tests}
-use Rattle.std.proofs.lemmas.Option.{same_Some}
-use Rattle.std.proofs.lemmas.List.Splits.{length-slice_split, slice_split_first, slice_split_none}
-use Rattle.std.proofs.lemmas.List.Sums.{fails_before_first}
-use Rattle.std.proofs.lemmas.Grind.{common_steps}
+use Rattle.lemmas.proofs.Common.{[], ◌+◌, ◌-◌, ◌<◌, ◌==◌, ◌∷◌, ◌≡◌, ◌≤◌, Bool, List, None, Option, Some, arith, cond}
+use Rattle.lemmas.proofs.Common.{drop, false, if◌then◌else◌, length, nat_lt, option_and_then, position, refl, slice_get}
+use Rattle.lemmas.proofs.Common.{suc, take, true, ℕ, common_steps, fails_before_first, length-drop, length-slice_split}
+use Rattle.lemmas.proofs.Common.{nat_tests, same_Some, slice_split_first, slice_split_none, take_all, below_by_test}
+use Rattle.lemmas.proofs.Common.{not_below_by_test, test_failed}
 use Rattle.section_text.specs.Words.{is_space, words_of, second_word_of_two, three, four, five, number_of, name_of}
 use Rattle.section_text.specs.Words.{number_at, name_at, lone_number, lone_name}
 
@@ -20,18 +16,12 @@ missed_by : (b : Bool) (p : ℕ) → cond b (Some p) None ≡ None → b ≡ fal
 missed_by true p e = absurd cc
 missed_by false p e = refl
 
-below : (a b : ℕ) → nat_lt a b ≡ true → a < b
-below a b e = grind (arith, nat_tests)
-
-not_below : (a b : ℕ) → nat_lt a b ≡ false → b ≤ a
-not_below a b e = grind (arith, nat_tests)
-
 pub split_some : (line : List ℕ) (i : ℕ) → position is_space line ≡ Some i →
     words_of line ≡ take i line ∷ words_of (take (length line - (i + 1)) (drop (i + 1) line))
-split_some line i e = grind (arith, common_steps, found_by, below, slice_split_first, take_all, length-drop)
+split_some line i e = grind (arith, common_steps, found_by, below_by_test, slice_split_first, take_all, length-drop)
 
 pub split_none : (line : List ℕ) → position is_space line ≡ None → words_of line ≡ line ∷ []
-split_none line e = grind (arith, common_steps, not_below, missed_by, slice_split_none, fails_before_first)
+split_none line e = grind (arith, common_steps, not_below_by_test, missed_by, slice_split_none, fails_before_first)
 
 -- a line has a word
 pub some_words : (l : List ℕ) → 0 < length (words_of l)
@@ -76,10 +66,6 @@ test_of : {A : Type 0} (b : Bool) (x y : A) → (if b then Some x else None) ≡
 test_of true x y e = (refl, same_Some x y e)
 test_of false x y e = absurd cc
 
-test_none : {A : Type 0} (b : Bool) (x : A) → (if b then Some x else None) ≡ None → b ≡ false
-test_none true x e = absurd cc
-test_none false x e = refl
-
 one_more : (n : ℕ) → (n == 4) ≡ true → (suc n == 5) ≡ true
 one_more n e = grind (arith, nat_tests)
 
@@ -92,7 +78,7 @@ lone_word l a = rw a refl
 
 pub no_five : (l w r : List ℕ) → words_of l ≡ w ∷ words_of r → None ≡ four (words_of r) → None ≡ five (words_of l)
 unfolding four five
-no_five l w r a none = grind (arith, common_steps, not_one_more, test_none)
+no_five l w r a none = grind (arith, common_steps, not_one_more, test_failed)
 
 pub five_are : (l w r : List ℕ) (ws : List (List ℕ)) → words_of l ≡ w ∷ words_of r → Some ws ≡ four (words_of r) →
     Some (w ∷ ws) ≡ five (words_of l)

@@ -1,12 +1,8 @@
 -- The words of the rest of a line, which are those from a place on.
-use Rattle.std.proofs.Common.{◌≡◌, ℕ, zero, suc, ◌+◌, ◌-◌, ◌<◌, ◌≤◌, ◌==◌, Bool, true, false, List, [], ◌∷◌, length}
-use Rattle.std.proofs.Common.{drop, Option, Some, None, if◌then◌else◌, refl, sym, ap, ◌∙◌, arith, codes, slice_get}
-use Rattle.std.proofs.Common.{option_and_then}
-use Rattle.std.specs.Str.{bytes_eq}
-use Rattle.std.proofs.lemmas.Bool.Decides.{nat_tests}
-use Rattle.std.proofs.lemmas.List.{drop-drop, drop_all, length-drop}
-use Rattle.std.proofs.lemmas.Option.{option_and_then_some, slice_get_within}
-use Rattle.std.proofs.lemmas.Grind.{common_steps}
+use Rattle.lemmas.proofs.Common.{[], ◌+◌, ◌-◌, ◌<◌, ◌==◌, ◌∙◌, ◌∷◌, ◌≡◌, ◌≤◌, Bool, List, None, Option, Some, ap, arith}
+use Rattle.lemmas.proofs.Common.{codes, drop, false, if◌then◌else◌, length, option_and_then, refl, slice_get, suc, sym}
+use Rattle.lemmas.proofs.Common.{true, zero, ℕ, bytes_eq, common_steps, drop-drop, drop_all, length-drop, nat_tests}
+use Rattle.lemmas.proofs.Common.{option_and_then_some, slice_get_within}
 use Rattle.section_text.specs.Words.{◌>>=◌, is_word_at, words_of, name_of, name_at, names_at, names_beside_arrow}
 use Rattle.section_text.proofs.Splitting.{some_words}
 use Rattle.section_text.proofs.WordPlaces.{name_at_is}

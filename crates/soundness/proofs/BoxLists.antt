@@ -1,9 +1,7 @@
 -- Lists with one element for each cell of a box are the same where they say the same of each cell
-use Rattle.std.proofs.Common.{◌≡◌, ℕ, zero, suc, ◌+◌, ◌-◌, ◌*◌, ◌/◌, ◌<◌, ◌≤◌, true, List, length, refl, sym, ap₂}
-use Rattle.std.proofs.Common.{subst, ◌∙◌, arith, ℤ, pos, slice_get, unwrap_or}
-use Rattle.std.proofs.lemmas.List.{get_or_default, same_lists}
-use Rattle.std.proofs.lemmas.Option.{unwrap_or-slice_get}
-use Rattle.std.proofs.Math.Nat.{div-mul-le_self, lt_of_mul-lt-mul_right, lt-div-mul-add}
+use Rattle.lemmas.proofs.Common.{◌*◌, ◌+◌, ◌-◌, ◌/◌, ◌<◌, ◌∙◌, ◌≡◌, ◌≤◌, List, ap₂, arith, length, pos, refl, slice_get}
+use Rattle.lemmas.proofs.Common.{subst, suc, sym, true, unwrap_or, zero, ℕ, ℤ, div-mul-le_self, get_or_default}
+use Rattle.lemmas.proofs.Common.{lt-div-mul-add, lt_of_mul-lt-mul_right, same_lists, unwrap_or-slice_get}
 use Rattle.bbm_rule.proofs.Spans.{span_from}
 use Rattle.bbm_rule.specs.Spans.{in_span}
 use Rattle.module_box.specs.Boxes.{in_box}

@@ -1,11 +1,9 @@
 -- The earliest line of a report is the first fault
-use Rattle.std.proofs.Common.{◌≡◌, ◌≢◌, ℕ, zero, suc, ◌+◌, ◌<◌, ◌≤◌, ◌++◌, List, [], ◌∷◌, map, length, Option, Some}
-use Rattle.std.proofs.Common.{None, refl, sym, ap, subst, ◌∙◌, inl, inr, arith, Contains, slice_get, option_map}
-use Rattle.std.proofs.Common.{option_to_list}
-use Rattle.std.specs.Ordering.{ordering_then}
+use Rattle.lemmas.proofs.Common.{[], ◌++◌, ◌+◌, ◌<◌, ◌∙◌, ◌∷◌, ◌≡◌, ◌≢◌, ◌≤◌, Contains, List, None, Option, Some, ap}
+use Rattle.lemmas.proofs.Common.{arith, inl, inr, length, map, option_map, option_to_list, refl, slice_get, subst, suc}
+use Rattle.lemmas.proofs.Common.{sym, zero, ℕ, Contains-append_cases, Contains-append_left, Contains-append_right}
+use Rattle.lemmas.proofs.Common.{ordering_then, same_Some, slice_get_within, nothing_in, one_in, some_at}
 use Rattle.std.specs.declared.cmp.Ordering.TheVariants.{Greater}
-use Rattle.std.proofs.lemmas.List.Elements.{Contains-append_cases, Contains-append_left, Contains-append_right}
-use Rattle.std.proofs.lemmas.Option.{same_Some, slice_get_within}
 use Rattle.module_box.specs.Moments.{cell_cmp}
 use Rattle.certificate_lines.specs.Entries.{ModuleLines, Setting}
 use Rattle.certificate_lines.specs.Settings.{setting_of}
@@ -19,7 +17,6 @@ use Rattle.local_run.specs.Order.{fault_cmp}
 use Rattle.local_run.specs.declared.fault.Fault.{Fault}
 use Rattle.border_match.specs.BorderFaults.{IsBorderFault, IsLeastBorderFault, border_cmp}
 use Rattle.border_match.specs.declared.fault.BorderFault.{BorderFault}
-use Rattle.border_match.proofs.Modules.{there}
 use Rattle.soundness.specs.FirstFaults.{EarliestLineIsFirstFault, EarliestLineIsReal, IsAssignmentOf}
 use Rattle.soundness.proofs.FirstFaults.{assigned, first_means}
 use Rattle.core_book.specs.Verdicts.{AreReportLines, IsToldOf, IsVerdict, border_line, keep_line, report_lines_from}
@@ -31,15 +28,8 @@ use Rattle.soundness.proofs.PlainCertificates.{greater, nat_greater}
 
 -- ---- which line a list has
 
-nothing_in : {X : Type 0} (x : X) → Contains [] x → ⊥
-nothing_in x h = let lt = h.1 in omega (arith, lt)
-
 at_head : {X : Type 0} (x : X) (xs : List X) → Contains (x ∷ xs) x
 at_head x xs = (zero, omega arith, refl)
-
-one_is : {X : Type 0} (x y : X) → Contains (x ∷ []) y → x ≡ y
-one_is x y (zero, lt, e) = e
-one_is x y (suc k, lt, e) = absurd (omega (arith, lt))
 
 in_tail : {X : Type 0} (x y : X) (xs : List X) (k : ℕ) → (lt : suc k < length (x ∷ xs)) → Contains xs y → Contains xs y
 in_tail x y xs k lt h = h
@@ -52,7 +42,7 @@ not_mapped f (x ∷ xs) y never (suc k, lt, e) = not_mapped f xs y never (k, (om
 not_optional : {X Y : Type 0} (f : X → Y) (o : Option X) (y : Y) → ((x : X) → ¬ (f x ≡ y)) →
     ¬ Contains (option_to_list (option_map f o)) y
 not_optional f None y never h = nothing_in y h
-not_optional f (Some x) y never h = never x (one_is (f x) y h)
+not_optional f (Some x) y never h = never x (one_in (f x) y h)
 
 optional_there : {X Y : Type 0} (f : X → Y) (o : Option X) (x : X) → o ≡ Some x →
     Contains (option_to_list (option_map f o)) (f x)
@@ -88,7 +78,7 @@ own_line : (number i : ℕ) (f : Fault) (o : Option Fault) → Contains (option_
 unfolding local_number local_fault
 own_line number i f None h = absurd (nothing_in (Local i f) h)
 own_line number i f (Some g) h =
-    let e = one_is (Local number g) (Local i f) h in
+    let e = one_in (Local number g) (Local i f) h in
     (ap local_number e, ap Some (ap (local_fault f) e))
 
 from_line : (number i : ℕ) (f : Fault) (fs : List LeastFaults) (bs : List (Option BorderFault)) →
@@ -263,14 +253,14 @@ earliest_is_first lines p ms jobs report inputs v i m j f b judged first atm atj
       under = under;
       before = λ t lt. record {
         of_jobs = λ n k e at kind time own fault.
-            let r = there are.faults n (let inside = slice_get_within jobs n k at in let same = are.are_least.count in
+            let r = some_at are.faults n (let inside = slice_get_within jobs n k at in let same = are.are_least.count in
             omega (arith, inside, same)) in
             let told : IsToldOf k r.0 = are.are_least.each n k r.0 at r.1 in
             let le = by_least g ms jobs report.items are count n k r.0 r.0.fault e r.1 refl told.fault fault f.time
             first.of_jobs in
             omega (arith, le, lt, time);
         of_modules = λ n e time fault.
-            let o = there are.borders n (let inside = slice_get_within ms n fault.lines fault.numbered in
+            let o = some_at are.borders n (let inside = slice_get_within ms n fault.lines fault.numbered in
             let same = are.are_border_faults.count in omega (arith, inside, same)) in
             let le = by_least_border g ms jobs report.items are count n o.0 e o.1 (are.are_border_faults.each n o.0 o.1)
             fault f.time first.of_borders in
@@ -283,7 +273,7 @@ unfolding IsVerdict
 earliest_is_real lines p ms jobs report inputs v i m f named b judged first atm s has =
     let count = b.are_jobs.count in
     let within = slice_get_within ms i m atm in
-    let j = there jobs i (omega (arith, count, within)) in
+    let j = some_at jobs i (omega (arith, count, within)) in
     let is = b.are_jobs.each i m j.0 atm j.1 in
     let fault : IsFault j.0 f =
     its_fault (setting_of lines p) ms jobs report.items judged.1 count i f j.0 first.listed j.1 in

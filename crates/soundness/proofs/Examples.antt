@@ -1,5 +1,5 @@
 -- A ball that goes two steps along a diagonal, in a rectangle that is one module, is accepted by computation.
-use Rattle.std.proofs.Common.{ℕ, List, [], ◌∷◌, refl, map, arith}
+use Rattle.lemmas.proofs.Common.{[], ◌∷◌, List, arith, map, refl, ℕ}
 use Rattle.bbm_rule.specs.Bits.{bit}
 use Rattle.bbm_rule.specs.Plane.{step, partner, turned}
 use Rattle.bbm_rule.specs.Spans.{in_span}

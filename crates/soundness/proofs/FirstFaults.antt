@@ -1,13 +1,10 @@
 -- The first fault is one of the whole plane
-use Rattle.std.proofs.Common.{◌≡◌, ℕ, zero, suc, ◌<◌, ◌≤◌, ◌++◌, length, Bool, true, false, List, [], ◌∷◌, map, Option}
-use Rattle.std.proofs.Common.{Some, None, refl, sym, ap, ap₂, subst, ◌∙◌, inl, inr, arith, ℤ, Contains, slice_get}
-use Rattle.std.proofs.Common.{slice_index, if◌then◌else◌, All, flat_map, option_to_list}
-use Rattle.std.specs.Option.{option_map_or}
-use Rattle.std.proofs.Props.{props}
-use Rattle.std.proofs.Math.Logic.{∥∥₁_elim}
-use Rattle.std.proofs.lemmas.Bool.{and_parts, cases_Bool}
-use Rattle.std.proofs.lemmas.List.Elements.{All-nil, All-cons, All-contains, All-head, All-tail}
-use Rattle.std.proofs.lemmas.Option.{get_or_from_slice_get, same_Some, slice_get_within}
+use Rattle.lemmas.proofs.Common.{[], ◌++◌, ◌<◌, ◌∙◌, ◌∷◌, ◌≡◌, ◌≤◌, All, Bool, Contains, List, None, Option, Some, ap}
+use Rattle.lemmas.proofs.Common.{ap₂, arith, false, flat_map, if◌then◌else◌, inl, inr, length, map, option_to_list}
+use Rattle.lemmas.proofs.Common.{refl, slice_get, slice_index, subst, suc, sym, true, zero, ℕ, ℤ, All-cons}
+use Rattle.lemmas.proofs.Common.{All-contains, All-head, All-nil, All-tail, and_parts, cases_Bool}
+use Rattle.lemmas.proofs.Common.{get_or_from_slice_get, option_map_or, props, same_Some, slice_get_within, ∥∥₁_elim}
+use Rattle.lemmas.proofs.Common.{all_unmapped, nothing_prop, some_at}
 use Rattle.bbm_rule.specs.Bits.{bit}
 use Rattle.bbm_rule.specs.Plane.{State, is_at}
 use Rattle.bbm_rule.specs.declared.block.Cell.{Cell}
@@ -42,7 +39,6 @@ use Rattle.local_run.specs.declared.fault.Fault.{Fault}
 use Rattle.local_run.specs.declared.fault.Kind.{Kind}
 use Rattle.local_run.specs.declared.fault.Kind.TheVariants.{Edge, End, Stop as AtStop}
 use Rattle.local_run.proofs.Decided.{fault_same}
-use Rattle.border_match.proofs.Modules.{there}
 use Rattle.soundness.specs.HeadlineLaws.{BelongTogether, HasInputNames, IsRunOfJobs}
 use Rattle.meaning.specs.Implements.{IsCorrect, LooksAsAsked, in_ports, run_under}
 use Rattle.soundness.specs.FirstFaults.{EndFaultMeansIncorrect, FirstFaultIsReal, GivesModuleAssignment, HasGoodBorders}
@@ -63,11 +59,6 @@ runs_up_to lines p ms jobs inputs v (suc t) b s h good =
     (runs_up_to lines p ms jobs inputs v t b s (omega arith) (λ r lt. good r (omega arith)))
 
 -- ---- the stops of a job are the stop lines of its module
-
-all_unmapped : {X Y : Type 0} (P : Y → Type 0) (f : X → Y) (xs : List X) → All P (map f xs) → All (λ x. P (f x)) xs
-all_unmapped P f [] h = All-nil (λ x. P (f x))
-all_unmapped P f (x ∷ xs) h = All-cons (λ z. P (f z)) x xs (All-head P (f x) (map f xs) h)
-    (all_unmapped P f xs (All-tail P (f x) (map f xs) h))
 
 abbrev stop_at : StopLine → ℕ → listed.Stop
 stop_at s w = record { at = record { time = s.time; cell = s.cell }; wire = w }
@@ -163,9 +154,6 @@ seen_fault lines p m inputs v j f is s under h =
     (agree.only h.values h.local)
     h.differs
 
-pub nothing_prop : IsProp ⊥
-nothing_prop = Prim.hlevel props
-
 pub first_is_real : FirstFaultIsReal
 first_is_real lines p ms jobs inputs v i m f first said =
     ∥∥₁_elim first.fault.shown nothing_prop (λ h.
@@ -192,14 +180,14 @@ off_mirrors : (c : Circuit) (p : Pattern) (v : Valuation) (state : State) (x y :
     (waste : Bool) → LooksAsAsked p (values_by_name c v) state →
     in_rectangles p.mirrors x y ≡ false → port_at p.outs x y ≡ o → in_cells p.wastes x y ≡ waste →
     MeetsDemand v (demand_outside_mirrors c o waste) (state x y)
-off_mirrors c p v state x y (Some n) waste looks mirror port there =
+off_mirrors c p v state x y (Some n) waste looks mirror port some_at =
     let s = port_stands p.outs x y n port in
     let cell : s.port.cell ≡ record { x = x; y = y } = cell_same s.port.cell (record { x = x; y = y }) s.stands in
     meets_wire v (wire_of c n) (state x y) (sym (ap (λ (d : Cell). state d.x d.y) cell) ∙
     looks.outputs s.number s.port s.numbered ∙ ap (values_by_name c v) s.named)
-off_mirrors c p v state x y None true looks mirror port there = tt
-off_mirrors c p v state x y None false looks mirror port there = looks.elsewhere x y mirror
-    (no_port_there p.outs x y port) there
+off_mirrors c p v state x y None true looks mirror port some_at = tt
+off_mirrors c p v state x y None false looks mirror port some_at = looks.elsewhere x y mirror
+    (no_port_there p.outs x y port) some_at
 
 pub asked_meets : (c : Circuit) (p : Pattern) (v : Valuation) (state : State) (x y : ℤ) →
     LooksAsAsked p (values_by_name c v) state → MeetsDemand v (end_demand c p x y) (state x y)
@@ -318,7 +306,7 @@ pub assigned : (lines : List CircuitLine) (p : Pattern) (m : ModuleLines) (j : J
     (k : ℕ) → k < j.locals.netlist.given → bit a k ≡ values_by_local_number j.locals v k
 assigned lines p m j v a good is has k lt =
     let c = circuit_of lines in
-    let n = there (cuts m) k (let cut = is.cut in omega (arith, lt, cut)) in
+    let n = some_at (cuts m) k (let cut = is.cut in omega (arith, lt, cut)) in
     let w : IsPlacedWire (wire_of c) (cuts m) k n.0 = placed_wire (wire_of c) (cuts m) n.0 k good.named n.1 in
     let at : slice_get (known c m) k ≡ Some w.wire = kept (cut_wires c m) _ k w.wire w.placed in
     let number : circuit_wire j.locals k ≡ w.wire =

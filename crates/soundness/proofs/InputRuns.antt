@@ -1,11 +1,8 @@
 -- The run by the values of the inputs
-use Rattle.std.proofs.Common.{◌≡◌, ℕ, zero, suc, ◌+◌, ◌<◌, ◌&&◌, ◌||◌, Bool, true, false, cond, not, List, [], ◌∷◌}
-use Rattle.std.proofs.Common.{◌++◌, map, take, length, Option, Some, None, refl, sym, ap, ap₂, subst, ◌∙◌, arith, inl}
-use Rattle.std.proofs.Common.{inr, ℤ, slice_get, option_map, All}
-use Rattle.std.specs.Str.{bytes_eq}
-use Rattle.std.proofs.lemmas.Bool.{cases_Bool, false≢true}
-use Rattle.std.proofs.lemmas.Option.{slice_get-map, slice_get_within, get_or_from_slice_get}
-use Rattle.std.specs.Option.{option_map_or}
+use Rattle.lemmas.proofs.Common.{[], ◌&&◌, ◌++◌, ◌+◌, ◌<◌, ◌||◌, ◌∙◌, ◌∷◌, ◌≡◌, All, Bool, List, None, Option, Some, ap}
+use Rattle.lemmas.proofs.Common.{ap₂, arith, cond, false, inl, inr, length, map, not, option_map, refl, slice_get}
+use Rattle.lemmas.proofs.Common.{subst, suc, sym, take, true, zero, ℕ, ℤ, bytes_eq, cases_Bool, false≢true}
+use Rattle.lemmas.proofs.Common.{get_or_from_slice_get, option_map_or, slice_get-map, slice_get_within}
 use Rattle.circuit.specs.Entries.{defined}
 use Rattle.bbm_rule.specs.Plane.{run, is_at}
 use Rattle.bbm_rule.proofs.Steps.{step_same}

@@ -1,9 +1,8 @@
 -- The jobs of modules: which one has a cell, and what their signals say by the wires of the circuit
-use Rattle.std.proofs.Common.{◌≡◌, ℕ, ◌==◌, ◌++◌, ◌&&◌, Bool, true, false, List, [], ◌∷◌, Option, Some, None, refl, sym}
-use Rattle.std.proofs.Common.{ap, subst, ◌∙◌, arith, inl, inr, ℤ, slice_get, unwrap_or, All, flat_map}
-use Rattle.std.proofs.lemmas.Bool.{cases_Bool, cond-false, true≢false}
-use Rattle.std.proofs.lemmas.List.Elements.{All-head, All-tail}
-use Rattle.std.proofs.lemmas.Option.{slice_get_within}
+use Rattle.lemmas.proofs.Common.{[], ◌&&◌, ◌++◌, ◌==◌, ◌∙◌, ◌∷◌, ◌≡◌, All, Bool, List, None, Option, Some, ap, arith}
+use Rattle.lemmas.proofs.Common.{false, flat_map, inl, inr, refl, slice_get, subst, sym, true, true≢false, unwrap_or, ℕ}
+use Rattle.lemmas.proofs.Common.{ℤ, All-head, All-tail, cases_Bool, cond-false, slice_get_within, and-false}
+use Rattle.lemmas.proofs.Common.{mapped_from, some_at}
 use Rattle.bbm_rule.specs.Plane.{is_at}
 use Rattle.bbm_rule.specs.declared.block.Cell.{Cell}
 use Rattle.circuit.specs.Bridge.{circuit_of}
@@ -32,7 +31,6 @@ use Rattle.module_job.specs.declared.job.Demand.TheVariants as Demanded
 use Rattle.bbm_rule.proofs.SameCells.{cell_same}
 use Rattle.border_match.specs.BorderFaults.{halo_signal, edge_signal}
 use Rattle.border_match.proofs.Bridge.{halo_same, edge_same}
-use Rattle.border_match.proofs.Modules.{there, value_of}
 use Rattle.soundness.specs.HeadlineLaws.{BelongTogether}
 
 -- ---- signals by the wires of the circuit
@@ -68,7 +66,7 @@ pub known_job : (lines : List CircuitLine) (p : Pattern) (ms : List ModuleLines)
     (j : JobView) →
     BelongTogether lines p ms jobs → slice_get jobs i ≡ Some j → Known lines p ms i j
 known_job lines p ms jobs i j b e =
-    let m = there ms i (let lt = slice_get_within jobs i j e in let n = b.are_jobs.count in omega (arith, lt, n)) in
+    let m = some_at ms i (let lt = slice_get_within jobs i j e in let n = b.are_jobs.count in omega (arith, lt, n)) in
     record { of = m.0; numbered = m.1; is_job = b.are_jobs.each i m.0 j m.1 e; good = b.are_modules.each i m.0 m.1 }
 
 pub job_even : (lines : List CircuitLine) (p : Pattern) (ms : List ModuleLines) (i : ℕ) (j : JobView) →
@@ -89,8 +87,8 @@ pub owner_of : (lines : List CircuitLine) (p : Pattern) (ms : List ModuleLines) 
     in_box (whole p.size) x y ≡ true → Owner lines p ms jobs x y
 owner_of lines p ms jobs x y b h =
     let c = b.are_modules.tile.covered x y h in
-    let m = value_of (λ (m : ModuleLines). m.area) ms c.0 c.1 c.2 in
-    let j = there jobs c.0 (let lt = slice_get_within ms c.0 m.0 m.1 in let n = b.are_jobs.count in
+    let m = mapped_from (λ (m : ModuleLines). m.area) ms c.0 c.1 c.2 in
+    let j = some_at jobs c.0 (let lt = slice_get_within ms c.0 m.0 m.1 in let n = b.are_jobs.count in
     omega (arith, lt, n)) in
     let k = known_job lines p ms jobs c.0 j.0 b j.1 in
     record {
@@ -102,10 +100,6 @@ owner_of lines p ms jobs x y b h =
     }
 
 -- ---- cells that no line names
-
-and-false : (a : Bool) → (a && false) ≡ false
-and-false true = refl
-and-false false = refl
 
 one_all_times : (e : BorderLine) (time : Option ℕ) (s : Signal) (rest : List AllTimes) (x y : ℤ) →
     is_at e.cell x y ≡ false →

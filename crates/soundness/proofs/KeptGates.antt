@@ -1,9 +1,7 @@
 -- No gate of what is accepted is undefined
-use Rattle.std.proofs.Common.{◌≡◌, ℕ, suc, ◌<◌, eqb, true, List, [], ◌∷◌, map, length, Some, refl, sym, ap, ◌∙◌, arith}
-use Rattle.std.proofs.Common.{inl, inr, slice_get, All}
-use Rattle.std.proofs.lemmas.Bool.{cases_Bool, eq-eqb, eqb-true, true≢false}
-use Rattle.std.proofs.lemmas.List.Elements.{All-head, All-tail}
-use Rattle.std.proofs.lemmas.Option.{slice_get_within}
+use Rattle.lemmas.proofs.Common.{[], ◌<◌, ◌∙◌, ◌∷◌, ◌≡◌, All, List, Some, ap, arith, eq-eqb, eqb, inl, inr, length, map}
+use Rattle.lemmas.proofs.Common.{refl, slice_get, suc, sym, true, true≢false, ℕ, All-head, All-tail, cases_Bool}
+use Rattle.lemmas.proofs.Common.{eqb-true, slice_get_within, some_at}
 use Rattle.circuit.specs.Bridge.{circuit_of, netlist_of}
 use Rattle.circuit.proofs.Undefined.{has_valuation, only_inverse}
 use Rattle.module_box.specs.Locals.{circuit_gate, is_among}
@@ -13,7 +11,6 @@ use Rattle.certificate_lines.specs.Entries.{ModuleLines, keeps}
 use Rattle.module_job.specs.Jobs.{JobView}
 use Rattle.certificate.specs.Jobs.{IsJobOf}
 use Rattle.certificate.specs.Keeps.{is_kept}
-use Rattle.border_match.proofs.Modules.{there}
 use Rattle.soundness.specs.HeadlineLaws.{BelongTogether, AcceptedHasNoUndefinedGate, AcceptedHasValuation}
 
 -- a module that keeps the gate
@@ -75,7 +72,7 @@ none_is_undefined lines p ms jobs inputs k all u =
     let kept : is_kept ms k ≡ true =
     all.accepted.kept k u.gate u.numbered (only_inverse (netlist_of lines) inputs k b.ordered u) in
     let by : Keeper ms k = keeper ms k kept in
-    let j = there jobs by.number (let lt = slice_get_within ms by.number by.lines by.numbered in let n =
+    let j = some_at jobs by.number (let lt = slice_get_within ms by.number by.lines by.numbered in let n =
     b.are_jobs.count in omega (arith, lt, n)) in
     let job : JobView = j.0 in
     let is_job : IsJobOf (circuit_of lines) p by.lines job = b.are_jobs.each by.number by.lines job by.numbered j.1 in

@@ -1,10 +1,8 @@
 -- The cells of a layout: their ports, the start, and the demand at the end
-use Rattle.std.proofs.Common.{◌≡◌, ℕ, zero, suc, Bool, true, false, not, ◌&&◌, ◌||◌, List, [], ◌∷◌, ◌++◌, map, Option}
-use Rattle.std.proofs.Common.{Some, None, refl, sym, ap, subst, ◌∙◌, append_assoc, append-nil, ℤ, slice_get, option_map}
-use Rattle.std.proofs.Common.{if◌then◌else◌}
-use Rattle.std.proofs.lemmas.Bool.{false≢true, true≢false, and_parts, and_from}
-use Rattle.std.proofs.lemmas.Option.{same_Some, slice_get-map}
-use Rattle.std.specs.Option.{option_map_or}
+use Rattle.lemmas.proofs.Common.{[], ◌&&◌, ◌++◌, ◌||◌, ◌∙◌, ◌∷◌, ◌≡◌, Bool, List, None, Option, Some, ap, append-nil}
+use Rattle.lemmas.proofs.Common.{append_assoc, false, if◌then◌else◌, map, not, option_map, refl, slice_get, subst, suc}
+use Rattle.lemmas.proofs.Common.{sym, true, true≢false, zero, ℕ, ℤ, and_from, and_parts, false≢true, option_map_or}
+use Rattle.lemmas.proofs.Common.{same_Some, slice_get-map, left_is_false, same_truth}
 use Rattle.bbm_rule.specs.Plane.{is_at}
 use Rattle.bbm_rule.specs.declared.block.Cell.{Cell}
 use Rattle.section_text.specs.Codes.{code_if}
@@ -32,7 +30,7 @@ use Rattle.certificate_lines.specs.Rules.{whole}
 use Rattle.module_job.specs.Signals.{is_live, MeetsDemand}
 use Rattle.module_job.specs.declared.job.Demand.TheVariants as Demanded
 use Rattle.module_box.specs.declared.schedules.Signal.TheVariants.{One}
-use Rattle.certificate_lines.proofs.Lists.{any_at, kept, passed, same_truth}
+use Rattle.certificate_lines.proofs.Lists.{any_at, kept, passed}
 use Rattle.certificate_lines.proofs.LayoutPorts.{port_stands, none_stands}
 use Rattle.bbm_rule.proofs.SameCells.{cell_same, cell_itself}
 use Rattle.meaning.specs.Implements.{in_ports}
@@ -171,10 +169,6 @@ free_here s before q e =
     let r = two_tests (in_layout s q.cell.x q.cell.y) (ended before q.cell.x q.cell.y) e in
     record { inside = r.0; free = r.1 }
 
-or_left : (a b : Bool) → (a || b) ≡ false → a ≡ false
-or_left true b e = e
-or_left false b e = refl
-
 all_free : (s : LayoutHeader) (before : List LayoutLine) (ports : List Port) (rest : List LayoutLine) →
     AreGoodAfter s before (map Out ports ++ rest) →
     (i : ℕ) (q : Port) → slice_get ports i ≡ Some q → IsFree s before q
@@ -185,7 +179,7 @@ all_free s before (p ∷ ports) rest good (suc i) q e =
     let later = all_free s (before ++ Out p ∷ []) ports rest good.2 i q e in
     record {
       inside = later.inside;
-      free = or_left _ _ (sym (ended_push before (Out p) q.cell.x q.cell.y) ∙ later.free);
+      free = left_is_false _ _ (sym (ended_push before (Out p) q.cell.x q.cell.y) ∙ later.free);
     }
 
 before_outs : Pattern → List LayoutLine

@@ -1,12 +1,10 @@
 -- From modules with halo lines to modules without
-use Rattle.std.proofs.Common.{◌≡◌, ℕ, ◌<◌, ◌≤◌, ◌%◌, ◌==◌, ◌∷◌, ℤ, Bool, true, false, not, List, [], map, length}
-use Rattle.std.proofs.Common.{Option, Some, None, refl, sym, ap, subst, ◌∙◌, inl, inr, arith}
-use Rattle.std.specs.Prelude.{slice_get, slice_index, slice_index_or, nat_lt, IsTrue, IfSome}
-use Rattle.std.specs.List.{All, list_any}
-use Rattle.std.proofs.lemmas.Bool.{cases_Bool, true≢false}
-use Rattle.std.proofs.lemmas.Bool.Decides.{nat_tests}
-use Rattle.std.proofs.lemmas.Option.{slice_get-get_or, slice_get_within}
-use Rattle.std.proofs.lemmas.List.{length-map}
+use Rattle.lemmas.proofs.Common.{[], ◌%◌, ◌<◌, ◌==◌, ◌∙◌, ◌∷◌, ◌≡◌, ◌≤◌, Bool, IfSome, IsTrue, List, None, Option, Some}
+use Rattle.lemmas.proofs.Common.{ap, arith, false, inl, inr, length, map, nat_lt, not, refl, slice_get, slice_index}
+use Rattle.lemmas.proofs.Common.{slice_index_or, subst, sym, true, true≢false, ℕ, ℤ, cases_Bool, length-map, list_any}
+use Rattle.lemmas.proofs.Common.{nat_tests, slice_get-get_or, slice_get_within, eq_test, mapped_at, mapped_from}
+use Rattle.lemmas.proofs.Common.{some_at}
+use Rattle.std.specs.List.{All}
 use Rattle.bbm_rule.specs.declared.block.Cell.{Cell}
 use Rattle.circuit.specs.Bridge.{circuit_of}
 use Rattle.circuit.specs.Meaning.{Circuit, wire_of, wires}
@@ -30,8 +28,8 @@ use Rattle.certificate_lines.specs.Versions.{edge_lines_beside, is_haloless_vers
 use Rattle.certificate_lines.specs.Versions.{lacks_edge_wire_beside, with_halos}
 use Rattle.certificate_lines.specs.declared.certificate_line.BorderLine.{BorderLine}
 use Rattle.certificate.proofs.FullModules.{edge_cell, edge_of, edges_rising, full_cuts, full_gates, full_keeps}
-use Rattle.certificate.proofs.FullModules.{full_edges, full_stops, full_known, full_modules, in_beside, mapped_at}
-use Rattle.certificate.proofs.FullModules.{mapped_from, meant_old}
+use Rattle.certificate.proofs.FullModules.{full_edges, full_stops, full_known, full_modules, in_beside}
+use Rattle.certificate.proofs.FullModules.{meant_old}
 use Rattle.certificate_lines.proofs.InList.{placed}
 use Rattle.certificate.proofs.HaloSignals.{halo_is_edge_beside}
 use Rattle.certificate_lines.proofs.LineOrder.{In, in_flat}
@@ -49,7 +47,6 @@ use Rattle.local_run.proofs.OwnWires.{halo_below}
 use Rattle.local_run.proofs.SameHalos.{same_halos_agree}
 use Rattle.border_match.specs.BorderFaults.{edge_signal, halo_signal}
 use Rattle.border_match.proofs.Haloless.{haloless_match}
-use Rattle.border_match.proofs.Modules.{there}
 use Rattle.border_match.proofs.Bridge.{halo_same}
 use Rattle.border_match.proofs.SameSignals.{not_different}
 use Rattle.soundness.specs.MigrationLaws.{AcceptedWithoutHalos, IsAcceptedWithoutHalos, MigrationIsAccepted}
@@ -86,12 +83,9 @@ wire_behind f n (Wire i) w b e = (i, b, ap named e)
     named One = 0
     named (Wire v) = v
 
-same_number : (a b : ℕ) → a ≡ b → (a == b) ≡ true
-same_number a b e = grind arith
-
 among_at : (ws : List ℕ) (i w : ℕ) → i < length ws → slice_index ws i ≡ w → is_among ws w ≡ true
 among_at ws i w lt e = any_at (λ v. v == w) ws i (slice_index ws i) (slice_get-get_or ws i 0 lt)
-    (same_number (slice_index ws i) w e)
+    (eq_test (slice_index ws i) w e)
 
 module _ (lines : List CircuitLine) (p : Pattern) (ms : List ModuleLines) (jobs : List JobView)
     (good : AreModules (setting_of lines p) ms) (own : AreJobsOf (circuit_of lines) p ms jobs)
@@ -125,7 +119,7 @@ module _ (lines : List CircuitLine) (p : Pattern) (ms : List ModuleLines) (jobs 
   -- ---- the wires of the edge lines beside a module are local in it
 
   the_job : (i : ℕ) (m : ModuleLines) → slice_get ms i ≡ Some m → (j : JobView) × (slice_get jobs i ≡ Some j)
-  the_job i m at = there jobs i (let lt = slice_get_within ms i m at in let n = own.count in omega (arith, lt, n))
+  the_job i m at = some_at jobs i (let lt = slice_get_within ms i m at in let n = own.count in omega (arith, lt, n))
 
   -- a wire that the halo of a job is said to carry is local in the module
   halo_names : (i : ℕ) (m : ModuleLines) (t : ℕ) (x y : ℤ) (w : ℕ) → slice_get ms i ≡ Some m →
@@ -290,14 +284,14 @@ module _ (lines : List CircuitLine) (p : Pattern) (ms : List ModuleLines) (jobs 
     complete = no_strange;
     accepted = λ others are. record {
       no_fault = λ number k f at is.
-          let m = there ms number (let lt = slice_get_within others number k at in let n = are.count in let l =
+          let m = some_at ms number (let lt = slice_get_within others number k at in let n = are.count in let l =
           length-map ms (with_halos g ms) in omega (arith, lt, n, l)) in
           let j = the_job number m.0 m.1 in
           ok.no_fault number j.0 f j.1 (fault_kept number m.0 j.0 k m.1 (own.each number m.0 j.0 m.1 j.1)
           (are.each number (with_halos g ms m.0) k (mapped_at (with_halos g ms) ms number m.0 m.1) at) f is);
       no_border_fault = λ number f. haloless_match g ms good number f;
       no_keep_fault = λ number k f at is.
-          let m = there ms number (let lt = slice_get_within others number k at in let n = are.count in let l =
+          let m = some_at ms number (let lt = slice_get_within others number k at in let n = are.count in let l =
           length-map ms (with_halos g ms) in omega (arith, lt, n, l)) in
           let j = the_job number m.0 m.1 in
           ok.no_keep_fault number j.0 f j.1

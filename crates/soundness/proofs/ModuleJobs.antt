@@ -1,11 +1,8 @@
 -- A module has one job
-use Rattle.std.proofs.Common.{◌≡◌, ℕ, suc, ◌+◌, ◌*◌, ◌<◌, ◌≤◌, true, List, [], ◌∷◌, map, length, drop, Some, refl, sym}
-use Rattle.std.proofs.Common.{ap, ap₂, subst, ◌∙◌, arith, inl, inr, ℤ, IsTrue, slice_get, slice_index, slice_index_or}
-use Rattle.std.proofs.Common.{unwrap_or, All}
-use Rattle.std.specs.List.{range_with_len}
-use Rattle.std.proofs.lemmas.Bool.{cases_Bool, cases_lt, cond-true}
-use Rattle.std.proofs.lemmas.List.Elements.{All-head, All-tail}
-use Rattle.std.proofs.lemmas.Option.{same_Some, slice_get-get_or}
+use Rattle.lemmas.proofs.Common.{[], ◌*◌, ◌+◌, ◌<◌, ◌∙◌, ◌∷◌, ◌≡◌, ◌≤◌, All, IsTrue, List, Some, ap, ap₂, arith, drop}
+use Rattle.lemmas.proofs.Common.{inl, inr, length, map, refl, slice_get, slice_index, slice_index_or, subst, suc, sym}
+use Rattle.lemmas.proofs.Common.{true, unwrap_or, ℕ, ℤ, All-head, All-tail, cases_Bool, cases_lt, cond-true}
+use Rattle.lemmas.proofs.Common.{range_with_len, same_Some, slice_get-get_or, same_head, same_tail}
 use Rattle.circuit.specs.declared.circuit_line.GateKind.{GateKind}
 use Rattle.circuit.specs.declared.circuit_line.GateKind.TheVariants.{Source, Fredkin, Cswap, Interact, Switch, Delay}
 use Rattle.circuit.specs.declared.circuit_line.GateKind.TheVariants.{Unswitch, Uninteract}
@@ -34,12 +31,6 @@ use Rattle.soundness.proofs.BoxLists.{same_over_box}
 use Rattle.local_run.proofs.OwnWires.{demand_below, demand_outside, start_below, start_outside}
 
 -- ---- what the same wires of the circuit stand for is the same
-
-same_head : {X : Type 0} (x y : X) (xs ys : List X) → x ∷ xs ≡ y ∷ ys → x ≡ y
-same_head x y xs ys e = ap (λ l. slice_index_or l 0 x) e
-
-same_tail : {X : Type 0} (x y : X) (xs ys : List X) → x ∷ xs ≡ y ∷ ys → xs ≡ ys
-same_tail x y xs ys e = ap (λ l. drop 1 l) e
 
 map_back : {X : Type 0} (g : X → X) (P : X → Type 0) → ((x y : X) → P x → P y → g x ≡ g y → x ≡ y) → (xs ys : List X) →
     All P xs → All P ys → map g xs ≡ map g ys → xs ≡ ys

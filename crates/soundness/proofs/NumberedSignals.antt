@@ -1,8 +1,7 @@
 -- The wires that signals name, by their places in a list of wires
-use Rattle.std.proofs.Common.{◌≡◌, ℕ, suc, ◌<◌, ◌==◌, Bool, true, false, if◌then◌else◌, List, [], ◌∷◌, ◌++◌, map}
-use Rattle.std.proofs.Common.{length, Option, Some, None, refl, ap, ap₂, arith, ◌||◌, slice_index, IsTrue, IfSome}
-use Rattle.std.proofs.lemmas.Bool.{false≢true}
-use Rattle.std.proofs.lemmas.Bool.Decides.{nat_tests}
+use Rattle.lemmas.proofs.Common.{[], ◌++◌, ◌<◌, ◌==◌, ◌||◌, ◌∷◌, ◌≡◌, Bool, IfSome, IsTrue, List, None, Option, Some}
+use Rattle.lemmas.proofs.Common.{ap, ap₂, arith, false, if◌then◌else◌, length, map, refl, slice_index, suc, true, ℕ}
+use Rattle.lemmas.proofs.Common.{false≢true, nat_tests}
 use Rattle.circuit.specs.Meaning.{Circuit, wire_of}
 use Rattle.module_box.specs.Locals.{is_among}
 use Rattle.module_box.specs.Schedules.{Signals}

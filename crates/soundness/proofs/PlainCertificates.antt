@@ -1,18 +1,12 @@
 -- A plain certificate decides whether its layout is correct
-use Rattle.std.proofs.Common.{◌||◌, map, ◌≡◌, ◌≢◌, ℕ, zero, suc, ◌+◌, ◌<◌, ◌≤◌, ◌++◌, eqb, Bool, true, false, List, []}
-use Rattle.std.proofs.Common.{◌∷◌, length, Option, Some, None, refl, sym, ap, ap₂, subst, ◌∙◌, inl, inr, arith}
-use Rattle.std.proofs.Common.{if◌then◌else◌, not, ◌&&◌, append-nil, ℤ, Contains, slice_get, All, option_to_list}
-use Rattle.std.proofs.Common.{option_map, nat_cmp}
-use Rattle.std.specs.List.{list_all, range_with_len}
-use Rattle.std.specs.Option.{option_map_or}
-use Rattle.std.specs.Ordering.{ordering_then}
+use Rattle.lemmas.proofs.Common.{[], ◌&&◌, ◌++◌, ◌+◌, ◌<◌, ◌||◌, ◌∙◌, ◌∷◌, ◌≡◌, ◌≢◌, ◌≤◌, All, Bool, Contains, List}
+use Rattle.lemmas.proofs.Common.{None, Option, Some, ap, append-nil, ap₂, arith, eq-eqb, eqb, false, if◌then◌else◌, inl}
+use Rattle.lemmas.proofs.Common.{inr, length, map, nat_cmp, not, option_map, option_to_list, refl, slice_get, subst}
+use Rattle.lemmas.proofs.Common.{suc, sym, true, true≢false, zero, ℕ, ℤ, All-append, All-cons, All-contains, All-head}
+use Rattle.lemmas.proofs.Common.{All-nil, All-tail, Contains-append_left, and_from, cases_Bool, eqb-true, false≢true}
+use Rattle.lemmas.proofs.Common.{list_all, option_map_or, ordering_then, props, range_with_len, same_Some}
+use Rattle.lemmas.proofs.Common.{slice_get_within, ∥∥₁_elim, nothing_prop, some_at}
 use Rattle.std.specs.declared.cmp.Ordering.TheVariants.{Greater}
-use Rattle.std.proofs.Props.{props}
-use Rattle.std.proofs.Math.Logic.{∥∥₁_elim}
-use Rattle.std.proofs.lemmas.Bool.{and_from, cases_Bool, eq-eqb, eqb-true, false≢true, true≢false}
-use Rattle.std.proofs.lemmas.List.Elements.{All-nil, All-cons, All-contains, All-head, All-tail, Contains-append_left}
-use Rattle.std.proofs.lemmas.List.Elements.{All-append}
-use Rattle.std.proofs.lemmas.Option.{same_Some, slice_get_within}
 use Rattle.bbm_rule.specs.Bits.{bit}
 use Rattle.circuit.specs.Bridge.{circuit_of, netlist_of}
 use Rattle.circuit.specs.declared.circuit_line.GateKind.TheVariants.{Delay}
@@ -58,7 +52,6 @@ use Rattle.local_run.specs.declared.fault.Kind.{Kind}
 use Rattle.local_run.specs.declared.fault.Kind.TheVariants.{Edge, End, Stop as AtStop}
 use Rattle.border_match.specs.BorderFaults.{IsBorderFault, edge_signal, IsLeastBorderFault}
 use Rattle.border_match.specs.declared.fault.BorderFault.{BorderFault}
-use Rattle.border_match.proofs.Modules.{there}
 use Rattle.certificate.specs.Keeps as keeping
 use Rattle.certificate.specs.Keeps.{unkept, unkept_from}
 use Rattle.soundness.specs.HeadlineLaws.{BelongTogether, HasInputNames, IsAcceptedBundle, IsInputName, IsRunOfJobs}
@@ -75,7 +68,7 @@ use Rattle.core_book.specs.declared.verdict.LeastFaults.{LeastFaults}
 use Rattle.core_book.specs.declared.verdict.ReportLine.{ReportLine}
 use Rattle.core_book.specs.declared.verdict.ReportLine.TheVariants as line
 use Rattle.soundness.proofs.KeptGates.{PlaceOf, place_of}
-use Rattle.soundness.proofs.FirstFaults.{correct_meets, nothing_prop, real, ring_inside, runs_up_to, seen_fault}
+use Rattle.soundness.proofs.FirstFaults.{correct_meets, real, ring_inside, runs_up_to, seen_fault}
 use Rattle.soundness.proofs.FirstFaults.{stop_by_lines, IsPlacedWire, assigned, first_means, placed_wire}
 use Rattle.soundness.proofs.InputRuns.{at_place, inputs_decide}
 use Rattle.soundness.proofs.JobSignals.{Known, edge_by_circuit, no_signal}
@@ -309,7 +302,7 @@ module _ (lines : List CircuitLine) (p : Pattern) (m : ModuleLines) (jobs : List
 
   its_job : (n : ℕ) (j : JobView) → slice_get jobs n ≡ Some j → IsItsJob n j
   its_job n j at =
-      let k = there (m ∷ []) n (let lt = slice_get_within jobs n j at in let count = b.are_jobs.count in
+      let k = some_at (m ∷ []) n (let lt = slice_get_within jobs n j at in let count = b.are_jobs.count in
       omega (arith, lt, count)) in
       record {
         at = at;
@@ -662,7 +655,7 @@ module _ (lines : List CircuitLine) (p : Pattern) (m : ModuleLines) (jobs : List
       slice_get are.borders k ≡ Some o → EachLine Means (0 + k) r o = λ k r o at at'.
       let count = are.are_least.count in
       let within = slice_get_within are.faults k r at in
-      let j = there jobs k (omega (arith, count, within)) in
+      let j = some_at jobs k (omega (arith, count, within)) in
       let it : IsItsJob k j.0 = its_job k j.0 j.1 in
       let own : IsItsJob 0 j.0 =
       record { at = sym (ap (slice_get jobs) it.first) ∙ it.at; first = refl; is = it.is } in
@@ -709,10 +702,10 @@ pub plain_no : PlainNoMeansWrong
 unfolding IsVerdict
 plain_no lines p m jobs report named b plain judged =
     let count = b.are_jobs.count in
-    let j = there jobs 0 (omega (arith, count)) in
+    let j = some_at jobs 0 (omega (arith, count)) in
     let r = judged.1 in
     let counted = r.are_least.count in
-    let f = there r.faults 0 (omega (arith, count, counted)) in
+    let f = some_at r.faults 0 (omega (arith, count, counted)) in
     let is : IsToldOf j.0 f.0 = r.are_least.each 0 j.0 f.0 j.1 f.1 in
     decide lines p m jobs named b plain f.0.fault is.keep _ j.0 (its_job lines p m jobs named b plain 0 j.0 j.1)
     is.fault is.least_keep refl judged.0

@@ -1,12 +1,8 @@
 -- The ports of a layout that was read have the names that were given, and each of these has a port
-use Rattle.std.proofs.Common.{◌≡◌, ℕ, suc, ◌||◌, Bool, true, false, not, List, [], ◌∷◌, ◌++◌, ◌+◌, length, map, Some}
-use Rattle.std.proofs.Common.{None, refl, sym, ap, ap₂, subst, ◌∙◌, inl, inr, slice_get, option_map}
-use Rattle.std.specs.List.{list_any, list_all}
-use Rattle.std.specs.Str.{bytes_eq}
-use Rattle.std.proofs.lemmas.Bool.{and_parts, cases_Bool, false≢true}
-use Rattle.std.proofs.lemmas.Slice.Eq.{bytes_eq-Decides}
-use Rattle.std.proofs.lemmas.List.Folds.{list_any-append}
-use Rattle.std.proofs.lemmas.Option.{slice_get-map}
+use Rattle.lemmas.proofs.Common.{[], ◌++◌, ◌+◌, ◌||◌, ◌∙◌, ◌∷◌, ◌≡◌, Bool, List, None, Some, ap, ap₂, false, inl, inr}
+use Rattle.lemmas.proofs.Common.{length, map, not, option_map, refl, slice_get, subst, suc, sym, true, ℕ, and_parts}
+use Rattle.lemmas.proofs.Common.{bytes_eq, bytes_eq-Decides, cases_Bool, false≢true, list_all, list_any}
+use Rattle.lemmas.proofs.Common.{list_any-append, slice_get-map, or-false, same_truth}
 use Rattle.section_text.specs.Codes.{code_if}
 use Rattle.section_text.specs.Ports.{Named}
 use Rattle.section_text.specs.Words.{has}
@@ -22,11 +18,6 @@ use Rattle.soundness.specs.HeadlineLaws.{ReadLayoutHasPortNames}
 use Rattle.soundness.proofs.InputRuns.{at_place, in_known, in_stands}
 use Rattle.section_text.specs.declared.code.RefusalCode.{RefusalCode}
 use Rattle.section_text.specs.declared.code.RefusalCode.TheVariants.{UnknownName, SomethingMissing}
-
-same_bool : (a b : Bool) → (a ≡ true → b ≡ true) → (b ≡ true → a ≡ true) → a ≡ b
-same_bool true b f g = sym (f refl)
-same_bool false true f g = g refl
-same_bool false false f g = refl
 
 pub no_code : (b : Bool) (code : RefusalCode) → code_if (not b) code ≡ None → b ≡ true
 no_code true code e = refl
@@ -77,10 +68,6 @@ five_parts f a b c d e =
     list_any-append f a _ ∙ ap (λ r. list_any f a || r)
     (list_any-append f b _ ∙ ap (λ r. list_any f b || r)
     (list_any-append f c _ ∙ ap (λ r. list_any f c || r) (list_any-append f d e)))
-
-or-false : (b : Bool) → (b || false) ≡ b
-or-false true = refl
-or-false false = refl
 
 pub in_lines : (p : Pattern) (n : List ℕ) → list_any (is_in_line_named n) (parts_of p) ≡ has (map (λ q. q.name) p.ins) n
 in_lines p n =
@@ -140,13 +127,13 @@ read_layout-is_named lines p named =
     let names : Named = record { ins = input_names lines; outs = output_names lines } in
     let all = all_stand names (parts_of p) named.whole in
     record {
-      ins = λ n. same_bool _ _
+      ins = λ n. same_truth _ _
           (ports_known names.ins p.ins n
           (λ i q e. in_known names.ins names.outs q
           (at_place (λ (part : LayoutLine). name_fault (Some names) part ≡ None) (parts_of p) _ (In q) named.good
           (in_stands p i q e))))
           (λ h. sym (in_lines p n) ∙ all_have (λ n. list_any (is_in_line_named n) (parts_of p)) names.ins n all.0 h);
-      outs = λ n. same_bool _ _
+      outs = λ n. same_truth _ _
           (ports_known names.outs p.outs n
           (λ i q e. out_known names q (at_place (λ (part : LayoutLine). name_fault (Some names) part ≡ None)
           (parts_of p)

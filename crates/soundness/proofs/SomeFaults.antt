@@ -1,13 +1,9 @@
 -- A job has a least fault or none, and so for keep faults and border faults
-use Rattle.std.proofs.Common.{◌≡◌, ◌≢◌, ◌⊎◌, ◌<◌, ◌+◌, ◌%◌, ◌∷◌, ◌∙◌, [], ℕ, Bool, true, false, List, Option, Some}
-use Rattle.std.proofs.Common.{None, refl, sym, ap, subst, map, inl, inr, arith, ℤ, IsTrue, slice_get, flat_map}
-use Rattle.std.specs.Cmp.{IsTotalOrder}
-use Rattle.std.specs.List.{range_with_len}
-use Rattle.std.proofs.Props.{props}
-use Rattle.std.proofs.Math.Logic.{∥∥₁_elim}
-use Rattle.std.proofs.lemmas.Bool.{and_parts}
-use Rattle.std.proofs.lemmas.Cmp.{nat_cmp_total, on_total, then_total}
-use Rattle.std.proofs.lemmas.Option.{get_or_from_slice_get, slice_get-get_or, slice_get_within}
+use Rattle.lemmas.proofs.Common.{[], ◌%◌, ◌+◌, ◌<◌, ◌∙◌, ◌∷◌, ◌≡◌, ◌≢◌, ◌⊎◌, Bool, IsTrue, List, None, Option, Some, ap}
+use Rattle.lemmas.proofs.Common.{arith, false, flat_map, inl, inr, map, refl, slice_get, subst, sym, true, ℕ, ℤ}
+use Rattle.lemmas.proofs.Common.{Decides-int_eq, IsTotalOrder, and_parts, get_or_from_slice_get, nat_cmp_total}
+use Rattle.lemmas.proofs.Common.{on_total, props, range_with_len, slice_get-get_or, slice_get_within, then_total}
+use Rattle.lemmas.proofs.Common.{∥∥₁_elim}
 use Rattle.bbm_rule.specs.Bits.{bit}
 use Rattle.bbm_rule.specs.declared.block.Cell.{Cell}
 use Rattle.circuit.specs.Meaning.{AreOrdered, Valuation}
@@ -47,7 +43,6 @@ use Rattle.soundness.proofs.SomeLeast.{Decided, HasOne, among_in, below_decided,
 use Rattle.soundness.proofs.SomeLeast.{decided_by, IsLeastIn, in_map, in_range, least_in, not_decided, numbers_decided}
 use Rattle.soundness.proofs.SomeLeast.{some_decided, true_decided}
 use Rattle.soundness.proofs.SomeValues.{HasStop, HasValues, values_or_stop}
-use Rattle.std.proofs.lemmas.Bool.Decides.{Decides-int_eq}
 
 fault_total : IsTotalOrder fault_cmp
 unfolding fault_cmp

@@ -1,12 +1,9 @@
 -- A module has a job, which is computed from its lines
-use Rattle.std.proofs.Common.{◌≡◌, ◌<◌, ◌++◌, ◌∷◌, ◌∙◌, [], ℕ, suc, Bool, true, false, List, Option, Some, None, refl}
-use Rattle.std.proofs.Common.{sym, ap, ap₂, subst, map, length, get_or, arith, append_assoc, length-append, ℤ, IsTrue}
-use Rattle.std.proofs.Common.{IfSome, slice_get, slice_index, if◌then◌else◌, ◌||◌, All, flat_map, option_map}
-use Rattle.std.proofs.Common.{option_to_list}
-use Rattle.std.proofs.lemmas.Option.{same_Some, slice_get-map}
-use Rattle.std.specs.List.{range_with_len}
-use Rattle.std.proofs.lemmas.List.{append-nil, get_or_at, length-map, length_push, take_all}
-use Rattle.std.proofs.lemmas.List.Elements.{All-nil, All-cons, All-head, All-tail}
+use Rattle.lemmas.proofs.Common.{[], ◌++◌, ◌<◌, ◌||◌, ◌∙◌, ◌∷◌, ◌≡◌, All, Bool, IfSome, IsTrue, List, None, Option}
+use Rattle.lemmas.proofs.Common.{Some, ap, append-nil, append_assoc, ap₂, arith, false, flat_map, get_or, if◌then◌else◌}
+use Rattle.lemmas.proofs.Common.{length, length-append, map, option_map, option_to_list, refl, slice_get, slice_index}
+use Rattle.lemmas.proofs.Common.{subst, suc, sym, true, ℕ, ℤ, All-cons, All-head, All-nil, All-tail, get_or_at}
+use Rattle.lemmas.proofs.Common.{length-map, length_push, range_with_len, same_Some, slice_get-map, take_all}
 use Rattle.bbm_rule.specs.declared.block.Cell.{Cell}
 use Rattle.circuit.specs.Bridge.{circuit_of, netlist_of}
 use Rattle.circuit.specs.Gates.{defines}

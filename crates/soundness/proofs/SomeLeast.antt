@@ -1,12 +1,8 @@
 -- The least of the elements of a list for which a fact holds that can be decided
-use Rattle.std.proofs.Common.{◌≡◌, ◌≢◌, ◌⊎◌, ◌<◌, ◌+◌, ◌∷◌, ◌∙◌, [], ℕ, zero, suc, Bool, true, false, List, Option}
-use Rattle.std.proofs.Common.{Some, None, Ordering, Less, Equal, Greater, refl, sym, ap, subst, map, eqb, inl, inr}
-use Rattle.std.proofs.Common.{arith, slice_get, ◌||◌, is_gt}
-use Rattle.std.specs.List.{range_with_len}
-use Rattle.std.specs.Ordering.{ordering_reverse}
-use Rattle.std.specs.Cmp.{IsTotalOrder}
-use Rattle.std.proofs.lemmas.Bool.{cases_lt, eqb-true, false≢true, true≢false}
-use Rattle.std.proofs.lemmas.Cmp.{tied_itself, upto}
+use Rattle.lemmas.proofs.Common.{[], ◌+◌, ◌<◌, ◌||◌, ◌∙◌, ◌∷◌, ◌≡◌, ◌≢◌, ◌⊎◌, Bool, Equal, Greater, Less, List, None}
+use Rattle.lemmas.proofs.Common.{Option, Ordering, Some, ap, arith, eqb, false, inl, inr, is_gt, map, refl, slice_get}
+use Rattle.lemmas.proofs.Common.{subst, suc, sym, true, true≢false, zero, ℕ, IsTotalOrder, cases_lt, eqb-true}
+use Rattle.lemmas.proofs.Common.{false≢true, ordering_reverse, range_with_len, tied_itself, upto}
 use Rattle.module_box.specs.Locals.{is_among}
 use Rattle.certificate_lines.proofs.LineOrder.{In}
 

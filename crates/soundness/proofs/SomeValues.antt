@@ -1,9 +1,7 @@
 -- Ordered gates have values, or there is a first gate that has no row
-use Rattle.std.proofs.Common.{◌≡◌, ◌⊎◌, ◌<◌, ◌∙◌, ℕ, Bool, List, Option, Some, None, refl, sym, subst, map, length}
-use Rattle.std.proofs.Common.{false, inl, inr, arith}
-use Rattle.std.specs.List.{range_with_len}
-use Rattle.std.proofs.lemmas.List.{length-map}
-use Rattle.std.proofs.lemmas.List.FromFn.{get_or-map-range_with_len, length-range_with_len}
+use Rattle.lemmas.proofs.Common.{◌<◌, ◌∙◌, ◌≡◌, ◌⊎◌, Bool, List, None, Option, Some, arith, false, inl, inr, length}
+use Rattle.lemmas.proofs.Common.{map, refl, subst, sym, ℕ, get_or-map-range_with_len, length-map, length-range_with_len}
+use Rattle.lemmas.proofs.Common.{range_with_len}
 use Rattle.circuit.specs.Bridge.{AreValues, StopsAt, read}
 use Rattle.circuit.specs.Evaluate.{first_undefined_gate}
 use Rattle.circuit.specs.Meaning.{AreOrdered, Netlist, Valuation}

@@ -1,11 +1,8 @@
 -- The modules of a certificate have jobs and a verdict
-use Rattle.std.proofs.Common.{◌≡◌, ◌≤◌, ◌<◌, ◌+◌, ◌*◌, ◌^◌, ◌&&◌, ◌||◌, ◌++◌, ◌∷◌, ◌∙◌, [], ℕ, zero, suc, Bool, true}
-use Rattle.std.proofs.Common.{false, not, List, Option, Some, None, Vec, Global, refl, sym, ap, subst, map, length}
-use Rattle.std.proofs.Common.{get_or, cond, inl, inr, arith, append-nil, append_assoc, length-append, nat_le, nat_lt}
-use Rattle.std.proofs.Common.{slice_get, option_map, option_to_list}
-use Rattle.std.proofs.lemmas.Bool.Decides.{nat_tests}
-use Rattle.std.proofs.lemmas.List.{length-map}
-use Rattle.std.proofs.lemmas.Option.{slice_get_within}
+use Rattle.lemmas.proofs.Common.{[], ◌&&◌, ◌*◌, ◌++◌, ◌+◌, ◌<◌, ◌^◌, ◌||◌, ◌∙◌, ◌∷◌, ◌≡◌, ◌≤◌, Bool, Global, List, None}
+use Rattle.lemmas.proofs.Common.{Option, Some, Vec, ap, append-nil, append_assoc, arith, cond, false, get_or, inl, inr}
+use Rattle.lemmas.proofs.Common.{length, length-append, map, nat_le, nat_lt, not, option_map, option_to_list, refl}
+use Rattle.lemmas.proofs.Common.{slice_get, subst, suc, sym, true, zero, ℕ, length-map, nat_tests, slice_get_within}
 use Rattle.section_text.specs.Codes.{code_if, or_else}
 use Rattle.circuit.specs.Bridge.{AreGoodCircuitLines, AreGoodAfter, circuit_of, netlist_of}
 use Rattle.circuit.specs.Entries.{defined}

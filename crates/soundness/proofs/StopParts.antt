@@ -1,8 +1,6 @@
 -- If all stops of the jobs have a property, all stop lines have it.
-use Rattle.std.proofs.Common.{◌≡◌, ℕ, zero, suc, true, List, [], ◌∷◌, map, Option, Some, None, refl, subst, slice_get}
-use Rattle.std.proofs.Common.{All, flat_map}
-use Rattle.std.proofs.lemmas.List.Elements.{All-nil, All-cons, All-append, All-head, All-tail}
-use Rattle.std.proofs.lemmas.Option.{same_Some}
+use Rattle.lemmas.proofs.Common.{[], ◌∷◌, ◌≡◌, All, List, None, Option, Some, flat_map, map, refl, slice_get, subst}
+use Rattle.lemmas.proofs.Common.{suc, true, zero, ℕ, All-append, All-cons, All-head, All-nil, All-tail, same_Some}
 use Rattle.certificate.specs.Jobs.{stop_with_wire_number}
 use Rattle.certificate_lines.specs.Rules.{is_local_wire}
 use Rattle.certificate_lines.specs.declared.certificate_line.StopLine.{StopLine}

@@ -1,17 +1,11 @@
 -- Modules are accepted if they pass tests, which a proof by computation can run.
 --
 -- Each job is run under each assignment, and the borders are compared at each odd time.
-use Rattle.std.proofs.Common.{◌≡◌, ℕ, zero, suc, ◌+◌, ◌*◌, ◌/◌, ◌<◌, ◌%◌, Bool, true, false, not, ◌||◌, ◌&&◌, refl}
-use Rattle.std.proofs.Common.{sym, ap, subst, ◌∙◌, arith, map, length, List, [], ◌∷◌, Option, Some, None}
-use Rattle.std.specs.Prelude.{ℤ, slice_get, IsTrue}
-use Rattle.std.specs.Bool.{beq}
-use Rattle.std.specs.Cmp.{booleans_Decides}
-use Rattle.std.specs.List.{list_all, range_with_len}
-use Rattle.std.proofs.Math.Logic.{∥∥₁_elim}
-use Rattle.std.proofs.lemmas.Bool.{and_parts, false≢true}
-use Rattle.std.proofs.lemmas.List.{length-map}
-use Rattle.std.proofs.lemmas.List.FromFn.{get_or-map-range_with_len, get_or-range_with_len, length-range_with_len}
-use Rattle.std.proofs.lemmas.Option.{slice_get-get_or, slice_get_within}
+use Rattle.lemmas.proofs.Common.{[], ◌%◌, ◌&&◌, ◌*◌, ◌+◌, ◌/◌, ◌<◌, ◌||◌, ◌∙◌, ◌∷◌, ◌≡◌, Bool, IsTrue, List, None}
+use Rattle.lemmas.proofs.Common.{Option, Some, ap, arith, false, length, map, not, refl, slice_get, subst, suc, sym}
+use Rattle.lemmas.proofs.Common.{true, zero, ℕ, ℤ, and_parts, beq, booleans_Decides, false≢true}
+use Rattle.lemmas.proofs.Common.{get_or-map-range_with_len, get_or-range_with_len, length-map, length-range_with_len}
+use Rattle.lemmas.proofs.Common.{list_all, range_with_len, slice_get-get_or, slice_get_within, ∥∥₁_elim}
 use Rattle.bbm_rule.specs.Bits.{bit}
 use Rattle.bbm_rule.specs.declared.block.Cell.{Cell}
 use Rattle.circuit.specs.Bridge.{circuit_of, read}

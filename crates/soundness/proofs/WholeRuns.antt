@@ -1,10 +1,8 @@
 -- The run of the whole plane is that of the jobs
-use Rattle.std.proofs.Common.{◌≡◌, ℕ, zero, suc, ◌<◌, ◌≤◌, ◌%◌, Bool, true, false, not, ◌&&◌, ◌||◌, List, Some, refl}
-use Rattle.std.proofs.Common.{sym, ap, ap₂, subst, ◌∙◌, inl, inr, arith, ℤ, ◌≢◌, Contains, slice_get, All}
-use Rattle.std.proofs.lemmas.List.Elements.{All-contains_itself}
-use Rattle.std.proofs.lemmas.Option.{slice_get-get_or, slice_get_within}
-use Rattle.std.proofs.lemmas.Bool.{and_parts, cases_Bool, false≢true, true≢false, not_from_false, not-true}
-use Rattle.std.specs.Option.{option_map_or}
+use Rattle.lemmas.proofs.Common.{◌%◌, ◌&&◌, ◌<◌, ◌||◌, ◌∙◌, ◌≡◌, ◌≢◌, ◌≤◌, All, Bool, Contains, List, Some, ap, ap₂}
+use Rattle.lemmas.proofs.Common.{arith, false, inl, inr, not, refl, slice_get, subst, suc, sym, true, true≢false, zero}
+use Rattle.lemmas.proofs.Common.{ℕ, ℤ, All-contains_itself, and_parts, cases_Bool, false≢true, not-true, not_from_false}
+use Rattle.lemmas.proofs.Common.{option_map_or, slice_get-get_or, slice_get_within, or-false, some_at}
 use Rattle.bbm_rule.specs.Plane.{State, step, run}
 use Rattle.bbm_rule.proofs.Steps.{step_dead}
 use Rattle.circuit.specs.Bridge.{circuit_of, netlist_of}
@@ -40,7 +38,7 @@ use Rattle.local_run.specs.declared.fault.Kind.{Kind}
 use Rattle.local_run.specs.declared.fault.Kind.TheVariants.{Edge, End, Stop as AtStop}
 use Rattle.local_run.proofs.LocalRuns.{even_or_odd, local_even, local_odd}
 use Rattle.local_run.proofs.OwnWires as own
-use Rattle.border_match.proofs.Modules.{area_at, there}
+use Rattle.border_match.proofs.Modules.{area_at}
 use Rattle.border_match.proofs.SameSignals.{same_at}
 use Rattle.meaning.specs.Implements.{LooksAsAsked, run_under}
 use Rattle.soundness.specs.FirstFaults.{HasGoodBorders, IsAssignmentOf, StepsWithGoodBorders}
@@ -57,10 +55,6 @@ use Rattle.soundness.proofs.JobSignals.{live_renumbered, rim_edge_dead, outer_ha
 use Rattle.soundness.proofs.JobSignals.{halo_by_circuit}
 use Rattle.soundness.proofs.LayoutCells.{live_start, start_outside, whole_inside, whole_even, mirror_inside, IsOutput}
 use Rattle.soundness.proofs.LayoutCells.{is_output, met_mirror, met_output, met_other}
-
-or-false : (b : Bool) → (b || false) ≡ b
-or-false true = refl
-or-false false = refl
 
 stable : (a b : Bool) → ¬ (a ≢ b) → a ≡ b
 stable true true n = refl
@@ -319,7 +313,7 @@ steps_with_good_borders lines p ms jobs inputs v t b s early right now =
       }
     ]
 
--- where there is no fault, borders are good at all times
+-- where some_at is no fault, borders are good at all times
 pub good_borders : (lines : List CircuitLine) (p : Pattern) (ms : List ModuleLines) (jobs : List JobView)
     (v : Valuation)
     (t : ℕ) → HasNoFault lines p ms jobs → HasGoodBorders lines p ms jobs v t
@@ -480,7 +474,7 @@ stop_holds lines p ms jobs named all i k m s at has line inputs v satisfied =
     let set : Faultless lines p ms jobs inputs v =
     record { bundle = all.bundle; right = right_of lines p ms jobs all; satisfied = satisfied } in
     let b : BelongTogether lines p ms jobs = all.bundle in
-    let j = there jobs i (let lt = slice_get_within ms i m at in let n = b.are_jobs.count in omega (arith, lt, n)) in
+    let j = some_at jobs i (let lt = slice_get_within ms i m at in let n = b.are_jobs.count in omega (arith, lt, n)) in
     let is : IsJobOf (circuit_of lines) p m j.0 = b.are_jobs.each i m j.0 at j.1 in
     let inside : in_box j.0.area s.cell.x s.cell.y ≡ true =
     ap (λ a. in_box a s.cell.x s.cell.y) is.area ∙ line.inside in

@@ -1,6 +1,5 @@
 -- A wire from an input to an output, and a layout of no step in which the output cell is not the input cell
-use Rattle.std.proofs.Common.{◌≡◌, ℕ, true, List, [], ◌∷◌, refl, ◌∙◌, arith, pos}
-use Rattle.std.proofs.lemmas.Bool.{false≢true}
+use Rattle.lemmas.proofs.Common.{[], ◌∙◌, ◌∷◌, ◌≡◌, List, arith, pos, refl, true, ℕ, false≢true}
 use Rattle.bbm_rule.specs.Plane.{run}
 use Rattle.circuit.specs.Bridge.{circuit_of}
 use Rattle.circuit.specs.Meaning.{Valuation, place_of, values_by_name, number}

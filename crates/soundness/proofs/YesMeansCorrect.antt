@@ -1,5 +1,5 @@
 -- From a yes to the whole pattern
-use Rattle.std.proofs.Common.{◌≡◌, [], None, Some, List, subst, take}
+use Rattle.lemmas.proofs.Common.{[], ◌≡◌, List, None, Some, subst, take}
 use Rattle.circuit.specs.Entries.{defined}
 use Rattle.pattern.specs.Layout.{parts_of}
 use Rattle.circuit.specs.Bridge.{circuit_of, input_names, netlist_of}

@@ -1,5 +1,5 @@
 -- A reply depends only on the book's digest, its jobs, and whether the book already has a finding of that number.
-use Rattle.std.proofs.Common.{◌≡◌, ◌∙◌, ℕ, List, false, length, is_some}
+use Rattle.lemmas.proofs.Common.{◌∙◌, ◌≡◌, List, false, is_some, length, ℕ}
 use Rattle.module_job.specs.Jobs.{JobView}
 use Rattle.local_run.specs.Shown.{digest_of, number_of, job_of}
 use Rattle.local_run.specs.declared.finding.Finding.{Finding}

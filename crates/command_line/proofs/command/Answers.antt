@@ -1,6 +1,5 @@
 -- Each step of the builder does to the command what clap's definition of it does.
-use Rattle.std.proofs.Common.{◌∙◌, ap, ap₂}
-use Rattle.std.proofs.lemmas.Result.{IfOk-weaker}
+use Rattle.lemmas.proofs.Common.{◌∙◌, ap, ap₂, IfOk-weaker}
 use Rattle.clap.specs.Words.{App, Shape, with_subcommand}
 use Rattle.command_line.proofs.command.Goals as goal
 

@@ -1,8 +1,7 @@
 -- clap's parse succeeds only where nothing is wrong with the words, and then the text of `--workers` is a number that
 -- its parser lets through.
-use Rattle.std.proofs.Common.{◌≡◌, ◌∙◌, rules, List, Option, Some, None, refl, sym, ap, ap₂, codes, map, true}
-use Rattle.std.proofs.Common.{true≢false, [], option_map}
-use Rattle.std.specs.Option.{option_map_or}
+use Rattle.lemmas.proofs.Common.{[], ◌∙◌, ◌≡◌, List, None, Option, Some, ap, ap₂, codes, map, option_map, refl, rules}
+use Rattle.lemmas.proofs.Common.{sym, true, true≢false, option_map_or}
 use Rattle.std.specs.Str.Parse.{ExplainsUnsignedError, HasUnsignedDigitsIfOk, ParsesUnsigned}
 use Rattle.clap.specs.Words.{Row, Text, fault_of, found_of, is_simple, is_simple_and_free, one_text, subcommand_of}
 use Rattle.clap.specs.Words.{subcommand_rows_of}

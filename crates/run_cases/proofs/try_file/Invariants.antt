@@ -1,5 +1,5 @@
 -- At most every case so far has failed.
-use Rattle.std.proofs.Common.{◌≤◌}
+use Rattle.lemmas.proofs.Common.{◌≤◌}
 use Rattle.run_cases.proofs.try_file.Given as goal
 
 abbrev pub invariant-loop-case : goal.invariant-loop-case

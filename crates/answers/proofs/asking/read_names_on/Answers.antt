@@ -1,6 +1,5 @@
 -- The names that are on, and the end of the text.
-use Rattle.std.proofs.Common.{ℕ, List, Vec}
-use Rattle.std.specs.Global.{Global}
+use Rattle.lemmas.proofs.Common.{Global, List, Vec, ℕ}
 use Rattle.pattern.specs.Assign.{assign_section}
 use Rattle.answers.proofs.AskedLemmas.{names_failed, names_leave_going, text_ends, text_goes_on}
 use Rattle.answers.proofs.asking.read_names_on.Goals as goal

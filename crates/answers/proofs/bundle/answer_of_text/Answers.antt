@@ -1,5 +1,5 @@
 -- The circuit, the layout, the certificate, and the end of the text.
-use Rattle.std.proofs.lemmas.Result.{IfOk-weaker}
+use Rattle.lemmas.proofs.Common.{IfOk-weaker}
 use Rattle.section_text.specs.Ports.{named_ports}
 use Rattle.answers.specs.Questions.{AnswersQuestion}
 use Rattle.answers.specs.BundleText.{bundle_of}

@@ -1,5 +1,5 @@
 -- The three sections one after the other.
-use Rattle.std.proofs.Common.{◌≡◌, ◌++◌, refl, ap, ap₂, ◌∙◌}
+use Rattle.lemmas.proofs.Common.{◌++◌, ◌∙◌, ◌≡◌, ap, ap₂, refl}
 use Rattle.circuit.specs.Text.{circuit_text}
 use Rattle.pattern.specs.Text.{layout_text}
 use Rattle.certificate.specs.Grammars.{CertView, migrated}

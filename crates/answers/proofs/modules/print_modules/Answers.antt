@@ -1,4 +1,4 @@
-use Rattle.std.proofs.Common.{map, ◌∙◌, sym}
+use Rattle.lemmas.proofs.Common.{◌∙◌, map, sym}
 use Rattle.certificate_lines.specs.Entries.{counts_of, modules_of}
 use Rattle.answers.proofs.ModuleText.{no_lines, one_more_line}
 use Rattle.answers.proofs.modules.print_modules.Goals as goal

@@ -1,5 +1,5 @@
 -- The lines of the modules so far.
-use Rattle.std.proofs.Common.{◌≡◌, map, take}
+use Rattle.lemmas.proofs.Common.{◌≡◌, map, take}
 use Rattle.certificate_lines.specs.Entries.{counts_of, modules_of}
 use Rattle.answers.specs.ModulesText.{module_lines}
 use Rattle.answers.proofs.modules.print_modules.Given as goal

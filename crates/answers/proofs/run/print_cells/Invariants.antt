@@ -1,5 +1,5 @@
 -- The cells so far are printed.
-use Rattle.std.proofs.Common.{◌≡◌, ◌++◌, take, flat_map}
+use Rattle.lemmas.proofs.Common.{◌++◌, ◌≡◌, flat_map, take}
 use Rattle.answers.specs.RunText.{live_cell_line}
 use Rattle.answers.proofs.run.print_cells.Given as goal
 

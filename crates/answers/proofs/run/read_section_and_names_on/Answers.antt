@@ -1,5 +1,5 @@
 -- The layout, the names that are on, and the end of the text.
-use Rattle.std.proofs.Common.{ℕ, List, None, sym, ◌∙◌, flat_map}
+use Rattle.lemmas.proofs.Common.{◌∙◌, List, None, flat_map, sym, ℕ}
 use Rattle.pattern.specs.declared.layout_line.LayoutLine.{LayoutLine}
 use Rattle.pattern.specs.declared.layout_line.LayoutHeader.{LayoutHeader}
 use Rattle.pattern.specs.Layout.{Pattern}

@@ -1,7 +1,5 @@
-use Rattle.std.proofs.Common.{arith, rules, ◌≡◌, ◌++◌, ◌∷◌, [], ℕ, Bool, List, map, length, refl, ap, ◌∙◌, subst, inl}
-use Rattle.std.proofs.Common.{inr, codes}
-use Rattle.std.specs.Fmt.{decimal}
-use Rattle.std.proofs.lemmas.List.{length-map}
+use Rattle.lemmas.proofs.Common.{[], ◌++◌, ◌∙◌, ◌∷◌, ◌≡◌, Bool, List, ap, arith, codes, inl, inr, length, map, refl}
+use Rattle.lemmas.proofs.Common.{rules, subst, ℕ, decimal, length-map}
 use Rattle.section_text.specs.Spelling.{line_text}
 use Rattle.circuit.specs.Entries.{defined}
 use Rattle.circuit.specs.Bridge.{AreValues, IsValuesFault, StopsAt, netlist_of, read}

@@ -1,5 +1,5 @@
 -- The circuit, the names that are on, and the end of the text.
-use Rattle.std.proofs.Common.{ℕ, List, ◌∙◌}
+use Rattle.lemmas.proofs.Common.{◌∙◌, List, ℕ}
 use Rattle.circuit.specs.declared.circuit_line.CircuitLine.{CircuitLine}
 use Rattle.circuit.specs.Bridge.{input_names}
 use Rattle.circuit.specs.Grammars.{circuit_grammar, circuit_section}

@@ -1,5 +1,5 @@
 -- The line of a refusal is the answer to what fails so.
-use Rattle.std.proofs.lemmas.Result.{IfOk-weaker}
+use Rattle.lemmas.proofs.Common.{IfOk-weaker}
 use Rattle.answers.specs.ValueText.{SaysValues, value_sections_of}
 use Rattle.answers.proofs.Bundles.{refusal_answers}
 use Rattle.answers.proofs.value.value_text.Goals as goal

@@ -1,8 +1,6 @@
-use Rattle.std.proofs.Common.{◌≡◌, ◌∙◌, ◌+◌, ◌<◌, None, Some, length, arith, inl, inr, refl, sym, ap, subst}
-use Rattle.std.specs.Arc.{arc_value}
+use Rattle.lemmas.proofs.Common.{◌+◌, ◌<◌, ◌∙◌, ◌≡◌, None, Some, ap, arith, inl, inr, length, refl, subst, sym}
+use Rattle.lemmas.proofs.Common.{arc_value, length-map, slice_get_cases}
 use Rattle.std.specs.Option.{option_copied}
-use Rattle.std.proofs.lemmas.List.{length-map}
-use Rattle.std.proofs.lemmas.Option.{slice_get_cases}
 use Rattle.core_book.specs.Book.{found_in}
 use Rattle.core_book.proofs.HeldJobs.{AreFaultsBelow, one-more}
 use Rattle.audit_core.proofs.concluding.faults_in_full_book.Goals as goal

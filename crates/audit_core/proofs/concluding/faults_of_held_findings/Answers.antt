@@ -1,5 +1,4 @@
-use Rattle.std.proofs.Common.{◌≡◌, ◌∙◌, ◌+◌, ℕ, sym, subst, map}
-use Rattle.std.specs.Arc.{arc_value}
+use Rattle.lemmas.proofs.Common.{◌+◌, ◌∙◌, ◌≡◌, map, subst, sym, ℕ, arc_value}
 use Rattle.module_job.specs.Jobs.{JobView}
 use Rattle.core_book.specs.Verdicts.{IsFirstMissing, IsHeld}
 use Rattle.core_book.proofs.HeldJobs.{AreFaultsBelow, first-missing, job-at, one-more}

@@ -1,5 +1,4 @@
-use Rattle.std.proofs.Common.{map}
-use Rattle.std.specs.Arc.{arc_value}
+use Rattle.lemmas.proofs.Common.{map, arc_value}
 use Rattle.core_book.proofs.HeldJobs.{AreFaultsBelow}
 use Rattle.audit_core.proofs.concluding.faults_of_held_findings.Given as goal
 

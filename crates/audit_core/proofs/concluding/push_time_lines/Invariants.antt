@@ -1,4 +1,4 @@
-use Rattle.std.proofs.Common.{◌≡◌, ◌++◌, map, take}
+use Rattle.lemmas.proofs.Common.{◌++◌, ◌≡◌, map, take}
 use Rattle.core_book.specs.Verdicts.{timing_report}
 use Rattle.audit_core.proofs.concluding.push_time_lines.Given as goal
 

@@ -1,4 +1,4 @@
-use Rattle.std.proofs.Common.{◌≡◌, ◌++◌, map, take}
+use Rattle.lemmas.proofs.Common.{◌++◌, ◌≡◌, map, take}
 use Rattle.core_book.specs.Verdicts.{report_lines_from}
 use Rattle.core_book.specs.declared.verdict.ReportLine.TheVariants.{Unkept}
 use Rattle.audit_core.proofs.concluding.report_lines.Given as goal

@@ -1,4 +1,4 @@
-use Rattle.std.proofs.Common.{◌≡◌, ◌++◌, drop}
+use Rattle.lemmas.proofs.Common.{◌++◌, ◌≡◌, drop}
 use Rattle.core_book.specs.Verdicts.{report_lines_from}
 use Rattle.audit_core.proofs.concluding.report_lines_on_modules.Given as goal
 

@@ -1,7 +1,6 @@
-use Rattle.std.proofs.Common.{◌≡◌, ◌∙◌, ◌==◌, ◌++◌, true, List, ap, sym, subst, length, map, rules}
+use Rattle.lemmas.proofs.Common.{◌++◌, ◌==◌, ◌∙◌, ◌≡◌, List, ap, length, map, rules, subst, sym, true, and_from}
+use Rattle.lemmas.proofs.Common.{and_parts, arc_value}
 use Rattle.std.specs.Vec.{vec_len}
-use Rattle.std.specs.Arc.{arc_value}
-use Rattle.std.proofs.lemmas.Bool.{and_from, and_parts}
 use Rattle.module_job.specs.Jobs.{JobView}
 use Rattle.certificate.specs.Times.{are_all_obeyed, delay_and_meet_lines}
 use Rattle.core_book.specs.Concluding.{modules, setting}

@@ -1,5 +1,4 @@
-use Rattle.std.proofs.lemmas.Grind.{common_steps}
-use Rattle.std.proofs.Common.{arith}
+use Rattle.lemmas.proofs.Common.{arith, common_steps}
 use Rattle.bbm_rule.proofs.FilledRuns.{cells_filled}
 use Rattle.bbm_rule.proofs.cells.fill_in_word.Goals as goal
 

@@ -1,5 +1,5 @@
-use Rattle.std.proofs.Common.{arith, refl, sym, false, inl, inr, ℕ, ◌≡◌, ◌+◌, ◌-◌, ◌*◌, ◌/◌, ◌%◌}
-use Rattle.std.proofs.lemmas.Bool.{OnTrue_from, ltb-true}
+use Rattle.lemmas.proofs.Common.{◌%◌, ◌*◌, ◌+◌, ◌-◌, ◌/◌, ◌≡◌, arith, false, inl, inr, refl, sym, ℕ, OnTrue_from}
+use Rattle.lemmas.proofs.Common.{ltb-true}
 use Rattle.bbm_rule.specs.Rows.{is_inside_margin}
 use Rattle.bbm_rule.proofs.BoardLemmas.{not_inner_column, not_inner_first_row, not_inner_row}
 use Rattle.bbm_rule.proofs.cells.is_margin_live.Goals.{then-is_live_in-via-then-is_live_in}

@@ -1,5 +1,4 @@
-use Rattle.std.proofs.Common.{arith, ◌/◌, sym, ◌∙◌}
-use Rattle.std.proofs.lemmas.Bool.{false≢true}
+use Rattle.lemmas.proofs.Common.{◌/◌, ◌∙◌, arith, sym, false≢true}
 use Rattle.bbm_rule.proofs.MarkLemmas.{full_word}
 use Rattle.bbm_rule.proofs.marks.mark_all.Goals as goal
 

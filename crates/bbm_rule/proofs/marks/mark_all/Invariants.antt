@@ -1,4 +1,4 @@
-use Rattle.std.proofs.Common.{ℕ, ◌≡◌, ◌<◌, slice_index_or}
+use Rattle.lemmas.proofs.Common.{◌<◌, ◌≡◌, slice_index_or, ℕ}
 use Rattle.bbm_rule.proofs.marks.mark_all.Given as goal
 
 abbrev pub invariant-loop-k : goal.invariant-loop-k

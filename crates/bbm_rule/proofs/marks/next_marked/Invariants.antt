@@ -1,4 +1,4 @@
-use Rattle.std.proofs.Common.{ℕ, ◌*◌, ◌<◌, ◌≤◌}
+use Rattle.lemmas.proofs.Common.{◌*◌, ◌<◌, ◌≤◌, ℕ}
 use Rattle.bbm_rule.specs.Marks.{IsUnmarked}
 use Rattle.bbm_rule.proofs.marks.next_marked.Given as goal
 

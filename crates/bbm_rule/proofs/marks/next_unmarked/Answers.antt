@@ -1,5 +1,4 @@
-use Rattle.std.proofs.Common.{arith}
-use Rattle.std.proofs.lemmas.Grind.{common_steps}
+use Rattle.lemmas.proofs.Common.{arith, common_steps}
 use Rattle.bbm_rule.proofs.BitLemmas.{by_lt_or_le}
 use Rattle.bbm_rule.proofs.GapLemmas.{all_before, all_in_word, first_unmarked}
 use Rattle.bbm_rule.proofs.marks.next_unmarked.Goals as goal

@@ -1,4 +1,4 @@
-use Rattle.std.proofs.Common.{◌≡◌, ℕ, true, ◌-◌, ◌<◌, ◌≤◌}
+use Rattle.lemmas.proofs.Common.{◌-◌, ◌<◌, ◌≡◌, ◌≤◌, true, ℕ}
 use Rattle.bbm_rule.specs.Rows.{cell_at}
 use Rattle.bbm_rule.proofs.marks.next_unmarked.Given as goal
 

@@ -1,5 +1,4 @@
-use Rattle.std.proofs.lemmas.Grind.{common_steps}
-use Rattle.std.proofs.Common.{arith}
+use Rattle.lemmas.proofs.Common.{arith, common_steps}
 use Rattle.bbm_rule.proofs.Turning.{flips_found, no_flips}
 use Rattle.bbm_rule.proofs.rows.block_flips.Goals as goal
 

@@ -1,5 +1,4 @@
-use Rattle.std.proofs.lemmas.Grind.{common_steps}
-use Rattle.std.proofs.Common.{arith}
+use Rattle.lemmas.proofs.Common.{arith, common_steps}
 use Rattle.bbm_rule.proofs.PairLemmas.{pairs_turned, flipped_same}
 use Rattle.bbm_rule.proofs.rows.turn_word_pair.Goals as goal
 

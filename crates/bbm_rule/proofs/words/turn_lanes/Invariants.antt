@@ -1,4 +1,4 @@
-use Rattle.std.proofs.Common.{◌-◌, ◌≤◌, length}
+use Rattle.lemmas.proofs.Common.{◌-◌, ◌≤◌, length}
 use Rattle.bbm_rule.specs.Words.{TurnsBetween}
 use Rattle.bbm_rule.proofs.words.turn_lanes.Given as goal
 

@@ -1,4 +1,4 @@
-use Rattle.std.proofs.Common.{◌≡◌, take}
+use Rattle.lemmas.proofs.Common.{◌≡◌, take}
 use Rattle.certificate_lines.specs.Entries.{areas, modules_of}
 use Rattle.border_match.proofs.matching.boxes_of.Given as goal
 

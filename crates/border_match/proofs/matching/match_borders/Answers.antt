@@ -1,7 +1,5 @@
-use Rattle.std.proofs.Common.{◌≡◌, ◌∙◌, sym, ap, subst, map, Some, arith}
-use Rattle.std.specs.Prelude.{slice_get, IfOk, Result, Ok, Err}
-use Rattle.std.specs.Arc.{arc_value}
-use Rattle.std.proofs.lemmas.Grind.{common_steps}
+use Rattle.lemmas.proofs.Common.{◌∙◌, ◌≡◌, Err, IfOk, Ok, Result, Some, ap, arith, map, slice_get, subst, sym}
+use Rattle.lemmas.proofs.Common.{arc_value, common_steps}
 use Rattle.pattern.specs.declared.layout_line.LayoutHeader.{LayoutHeader}
 use Rattle.certificate.specs.Grammars.{modules_in}
 use Rattle.certificate_lines.specs.Settings.{setting_of}

@@ -1,4 +1,4 @@
-use Rattle.std.proofs.Common.{◌≡◌, ℕ, vec_len, slice_get, Option, Some}
+use Rattle.lemmas.proofs.Common.{◌≡◌, Option, Some, slice_get, vec_len, ℕ}
 use Rattle.certificate.specs.Grammars.{modules_in}
 use Rattle.certificate_lines.specs.Settings.{setting_of}
 use Rattle.border_match.specs.BorderFaults.{IsLeastBorderFault}

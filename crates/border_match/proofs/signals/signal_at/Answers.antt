@@ -1,5 +1,4 @@
-use Rattle.std.proofs.Common.{arith}
-use Rattle.std.proofs.lemmas.Grind.{common_steps}
+use Rattle.lemmas.proofs.Common.{arith, common_steps}
 use Rattle.border_match.proofs.OwnSignals.{edge_below, halo_below}
 use Rattle.border_match.proofs.signals.signal_at.Goals as goal
 

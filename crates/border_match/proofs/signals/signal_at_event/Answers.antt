@@ -1,4 +1,4 @@
-use Rattle.std.proofs.Common.{ap, sym, ◌∙◌}
+use Rattle.lemmas.proofs.Common.{◌∙◌, ap, sym}
 use Rattle.module_box.specs.Locals.{circuit_wire}
 use Rattle.module_job.specs.Signals.{renumber_signal}
 use Rattle.border_match.specs.Boards.{job_signals}

@@ -1,5 +1,4 @@
-use Rattle.std.proofs.Common.{◌≡◌, ◌+◌, ◌-◌, subst, arith}
-use Rattle.std.proofs.lemmas.Grind.{common_steps}
+use Rattle.lemmas.proofs.Common.{◌+◌, ◌-◌, ◌≡◌, arith, subst, common_steps}
 use Rattle.border_match.specs.Surroundings.{IsEventFarAt}
 use Rattle.border_match.proofs.FarEvents.{far_at, far_joined, far_more, far_none}
 use Rattle.border_match.proofs.surroundings.next_place_near.Goals as goal

@@ -1,5 +1,5 @@
 -- The events so far are far, and so is the last one that was looked at.
-use Rattle.std.proofs.Common.{◌-◌, ◌≤◌, ◌<◌, length}
+use Rattle.lemmas.proofs.Common.{◌-◌, ◌<◌, ◌≤◌, length}
 use Rattle.border_match.specs.Surroundings.{AreEventsFar, IsEventFarAt}
 use Rattle.border_match.proofs.surroundings.next_place_near.Given as goal
 

@@ -1,5 +1,5 @@
 -- The edge lines at the places so far.
-use Rattle.std.proofs.Common.{◌≡◌, take}
+use Rattle.lemmas.proofs.Common.{◌≡◌, take}
 use Rattle.certificate.specs.HaloPlaces.{edge_lines_at}
 use Rattle.certificate.proofs.beside.edge_lines_at.Given as goal
 

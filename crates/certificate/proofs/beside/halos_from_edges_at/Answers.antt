@@ -1,7 +1,4 @@
-use Rattle.std.proofs.Common.{arith, rules, is_lt}
-use Rattle.std.specs.List.Sorted.{IsPermutation}
-use Rattle.std.proofs.lemmas.List.Sorted.{answers_always, ranks_by}
-use Rattle.std.proofs.lemmas.Grind.{common_steps}
+use Rattle.lemmas.proofs.Common.{arith, is_lt, rules, IsPermutation, answers_always, common_steps, ranks_by}
 use Rattle.certificate_lines.specs.Entries.{modules_of}
 use Rattle.certificate_lines.specs.Versions.{edge_lines_beside, border_line_cmp}
 use Rattle.certificate.proofs.FullModules.{distinct_beside}

@@ -1,6 +1,5 @@
-use Rattle.std.proofs.Common.{◌≡◌, ◌∙◌, ◌≤◌, ◌+◌, get_or, sym, ap, subst, drop, length, arith, rules}
-use Rattle.std.specs.Prelude.{slice_get}
-use Rattle.std.proofs.lemmas.Grind.{common_steps}
+use Rattle.lemmas.proofs.Common.{◌+◌, ◌∙◌, ◌≡◌, ◌≤◌, ap, arith, drop, get_or, length, rules, slice_get, subst, sym}
+use Rattle.lemmas.proofs.Common.{common_steps}
 use Rattle.certificate_lines.specs.ModuleParts.{inner}
 use Rattle.certificate_lines.specs.declared.certificate_line.CertificateLine.TheVariants.{Module}
 use Rattle.certificate.proofs.BesideLines.{all_parts, one_part, other_line_on, within_module}

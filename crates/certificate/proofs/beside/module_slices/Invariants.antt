@@ -1,4 +1,4 @@
-use Rattle.std.proofs.Common.{◌≡◌, ◌-◌, ◌++◌, drop, length, map}
+use Rattle.lemmas.proofs.Common.{◌++◌, ◌-◌, ◌≡◌, drop, length, map}
 use Rattle.certificate_lines.specs.Entries.{modules_of}
 use Rattle.certificate.specs.SliceLines.{slice_lines}
 use Rattle.certificate.proofs.beside.module_slices.Given as goal

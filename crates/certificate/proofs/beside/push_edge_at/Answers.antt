@@ -1,6 +1,4 @@
-use Rattle.std.proofs.Common.{◌++◌, ◌∙◌, sym, ap, flat_map, option_to_list}
-use Rattle.std.proofs.lemmas.List.{append-nil}
-use Rattle.std.proofs.lemmas.Option.{slice_get_past}
+use Rattle.lemmas.proofs.Common.{◌++◌, ◌∙◌, ap, append-nil, flat_map, option_to_list, sym, slice_get_past}
 use Rattle.certificate_lines.specs.Entries.{edge_in}
 use Rattle.certificate.proofs.beside.push_edge_at.Goals as goal
 

@@ -1,4 +1,4 @@
-use Rattle.std.proofs.Common.{◌≡◌, ◌++◌, map, take}
+use Rattle.lemmas.proofs.Common.{◌++◌, ◌≡◌, map, take}
 use Rattle.certificate_lines.specs.declared.certificate_line.CertificateLine.TheVariants.{Halo}
 use Rattle.certificate.proofs.beside.push_halos.Given as goal
 

@@ -1,4 +1,4 @@
-use Rattle.std.proofs.Common.{◌≡◌, ◌++◌, take, filter}
+use Rattle.lemmas.proofs.Common.{◌++◌, ◌≡◌, filter, take}
 use Rattle.certificate_lines.specs.Versions.{precedes_halos}
 use Rattle.certificate.proofs.beside.push_lines_before_halos.Given as goal
 

@@ -1,4 +1,4 @@
-use Rattle.std.proofs.Common.{◌≡◌, ◌++◌, map, take, flat_map}
+use Rattle.lemmas.proofs.Common.{◌++◌, ◌≡◌, flat_map, map, take}
 use Rattle.certificate_lines.specs.Entries.{stop_in}
 use Rattle.certificate_lines.specs.declared.certificate_line.CertificateLine.TheVariants.{Stop}
 use Rattle.certificate.proofs.beside.push_stops.Given as goal

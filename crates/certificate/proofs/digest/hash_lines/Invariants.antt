@@ -1,5 +1,5 @@
 -- The lines so far are hashed.
-use Rattle.std.proofs.Common.{ℕ, List, ◌++◌, take, flat_map}
+use Rattle.lemmas.proofs.Common.{◌++◌, List, flat_map, take, ℕ}
 use Rattle.sha2.specs.Hashers.{Holds256}
 use Rattle.certificate.specs.Text.{entry_text}
 use Rattle.certificate.proofs.digest.hash_lines.Given as goal

@@ -1,5 +1,5 @@
 -- The boxes of the modules so far.
-use Rattle.std.proofs.Common.{◌≡◌, map, take}
+use Rattle.lemmas.proofs.Common.{◌≡◌, map, take}
 use Rattle.certificate_lines.specs.Entries.{areas}
 use Rattle.certificate.specs.SliceLines.{slice_lines}
 use Rattle.certificate.proofs.halo_places.boxes_of.Given as goal

@@ -1,5 +1,4 @@
-use Rattle.std.proofs.Common.{arith}
-use Rattle.std.proofs.lemmas.Grind.{common_steps}
+use Rattle.lemmas.proofs.Common.{arith, common_steps}
 use Rattle.certificate.proofs.HaloLists.{list_pushed}
 use Rattle.certificate.proofs.halo_places.empty_place_lists.Goals as goal
 

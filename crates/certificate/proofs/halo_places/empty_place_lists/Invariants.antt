@@ -1,5 +1,5 @@
 -- The lists so far are empty.
-use Rattle.std.proofs.Common.{◌≡◌, [], ℕ, length, map}
+use Rattle.lemmas.proofs.Common.{[], ◌≡◌, length, map, ℕ}
 use Rattle.certificate.specs.HaloPlaces.{list_at_or_empty}
 use Rattle.certificate.proofs.halo_places.empty_place_lists.Given as goal
 

@@ -1,6 +1,5 @@
-use Rattle.std.proofs.Common.{◌≡◌, ◌∙◌, ◌<◌, ◌≤◌, List, length, map, sym, ap, subst, arith, slice_get, All, flat_map}
-use Rattle.std.proofs.lemmas.List.{length-map}
-use Rattle.std.proofs.lemmas.Grind.{common_steps}
+use Rattle.lemmas.proofs.Common.{◌<◌, ◌∙◌, ◌≡◌, ◌≤◌, All, List, ap, arith, flat_map, length, map, slice_get, subst, sym}
+use Rattle.lemmas.proofs.Common.{common_steps, length-map}
 use Rattle.module_box.specs.declared.boxes.Box2.{Box2}
 use Rattle.certificate_lines.specs.Entries.{areas, edges, modules_of}
 use Rattle.certificate_lines.specs.Settings.{setting_of}

@@ -1,6 +1,5 @@
-use Rattle.std.proofs.Common.{arith, ◌≡◌, ◌∙◌, ◌+◌, ◌++◌, List, map, drop, sym, ap, subst, All, flat_map}
-use Rattle.std.proofs.lemmas.List.{length-map}
-use Rattle.std.proofs.lemmas.Grind.{common_steps}
+use Rattle.lemmas.proofs.Common.{◌++◌, ◌+◌, ◌∙◌, ◌≡◌, All, List, ap, arith, drop, flat_map, map, subst, sym}
+use Rattle.lemmas.proofs.Common.{common_steps, length-map}
 use Rattle.module_box.specs.Tiling.{rectangle}
 use Rattle.certificate_lines.specs.Entries.{edge_in, edges, modules_of}
 use Rattle.certificate_lines.specs.ModuleParts.{inner}

@@ -1,5 +1,5 @@
 -- The lists have the edge lines of the modules so far more.
-use Rattle.std.proofs.Common.{◌≡◌, List, map, drop, ◌++◌, flat_map}
+use Rattle.lemmas.proofs.Common.{◌++◌, ◌≡◌, List, drop, flat_map, map}
 use Rattle.certificate_lines.specs.Entries.{edges, modules_of}
 use Rattle.certificate_lines.specs.declared.certificate_line.BorderLine.{BorderLine}
 use Rattle.certificate.specs.HaloPlaces.{AreReady, HaveEdges}

@@ -1,4 +1,4 @@
-use Rattle.std.proofs.Common.{◌∙◌, map, Some, sym, ap, subst}
+use Rattle.lemmas.proofs.Common.{◌∙◌, Some, ap, map, subst, sym}
 use Rattle.certificate_lines.specs.Entries.{edge_in}
 use Rattle.certificate_lines.specs.declared.certificate_line.CertificateLine.{CertificateLine}
 use Rattle.certificate.specs.HaloPlaces.{HaveEdges}

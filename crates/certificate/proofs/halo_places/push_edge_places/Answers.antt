@@ -1,7 +1,5 @@
-use Rattle.std.proofs.Common.{arith, ◌∙◌, map, take, Some, sym, ap, subst, flat_map}
-use Rattle.std.proofs.lemmas.List.{length-map}
-use Rattle.std.proofs.lemmas.Option.{slice_get-get_or}
-use Rattle.std.proofs.lemmas.Grind.{common_steps}
+use Rattle.lemmas.proofs.Common.{◌∙◌, Some, ap, arith, flat_map, map, subst, sym, take, common_steps, length-map}
+use Rattle.lemmas.proofs.Common.{slice_get-get_or}
 use Rattle.module_box.specs.Tiling.{rectangle}
 use Rattle.certificate_lines.specs.Entries.{edge_in}
 use Rattle.certificate_lines.specs.declared.certificate_line.BorderLine.{BorderLine}

@@ -1,5 +1,5 @@
 -- The lists have the edge lines so far more.
-use Rattle.std.proofs.Common.{List, map, take, flat_map}
+use Rattle.lemmas.proofs.Common.{List, flat_map, map, take}
 use Rattle.certificate_lines.specs.Entries.{edge_in}
 use Rattle.certificate_lines.specs.declared.certificate_line.CertificateLine.{CertificateLine}
 use Rattle.certificate.specs.HaloPlaces.{AreLinesFrom, AreReady, HaveEdges}

@@ -1,6 +1,4 @@
-use Rattle.std.proofs.Common.{arith}
-use Rattle.std.proofs.lemmas.List.{length-map}
-use Rattle.std.proofs.lemmas.Grind.{common_steps}
+use Rattle.lemmas.proofs.Common.{arith, common_steps, length-map}
 use Rattle.certificate.proofs.HaloLists.{no_place, one_place, owner_within}
 use Rattle.certificate.proofs.halo_places.push_place_for_owner.Goals as goal
 

@@ -1,5 +1,4 @@
-use Rattle.std.proofs.Common.{arith}
-use Rattle.std.proofs.lemmas.Grind.{common_steps}
+use Rattle.lemmas.proofs.Common.{arith, common_steps}
 use Rattle.certificate.proofs.HaloLists.{list_left, list_read, list_written}
 use Rattle.certificate.proofs.halo_places.take_list.Goals as goal
 

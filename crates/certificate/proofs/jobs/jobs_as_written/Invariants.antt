@@ -1,6 +1,5 @@
 -- The modules before have their jobs.
-use Rattle.std.proofs.Common.{map}
-use Rattle.std.specs.Arc.{arc_value}
+use Rattle.lemmas.proofs.Common.{map, arc_value}
 use Rattle.circuit.specs.Bridge.{circuit_of}
 use Rattle.certificate.specs.SliceLines.{slice_lines}
 use Rattle.certificate.proofs.BesideLines.{PartJobs}

@@ -1,5 +1,4 @@
-use Rattle.std.proofs.Common.{arith, sym, subst, ◌∙◌, refl}
-use Rattle.std.proofs.lemmas.Grind.{common_steps}
+use Rattle.lemmas.proofs.Common.{◌∙◌, arith, refl, subst, sym, common_steps}
 use Rattle.circuit.specs.Bridge.{netlist_of}
 use Rattle.module_box.specs.Locals.{AreLocalLines}
 use Rattle.certificate.proofs.JobLemmas.{small_gates, few_gates}

@@ -1,7 +1,5 @@
-use Rattle.std.proofs.Common.{◌≡◌, ◌<◌, ◌≤◌, ℕ, List, map, true, get_or, arith, sym, ap, subst, ◌∙◌, refl}
-use Rattle.std.proofs.Common.{slice_index, All}
-use Rattle.std.specs.Arc.{arc_value}
-use Rattle.std.proofs.lemmas.Grind.{common_steps}
+use Rattle.lemmas.proofs.Common.{◌<◌, ◌∙◌, ◌≡◌, ◌≤◌, All, List, ap, arith, get_or, map, refl, slice_index, subst, sym}
+use Rattle.lemmas.proofs.Common.{true, ℕ, arc_value, common_steps}
 use Rattle.circuit.specs.Bridge.{circuit_of, netlist_of}
 use Rattle.circuit.specs.Meaning.{Netlist, wires}
 use Rattle.certificate_lines.specs.Entries.{gates, keeps, ModuleLines, edges, halos, stops}

@@ -1,6 +1,5 @@
-use Rattle.std.proofs.Common.{◌≡◌, ℕ, ℤ, arith, to_z, of_z, w32, sym, ap, ap₂, subst, ◌∙◌, All, flat_map}
-use Rattle.std.proofs.lemmas.Int.{ints}
-use Rattle.std.proofs.lemmas.Grind.{common_steps}
+use Rattle.lemmas.proofs.Common.{◌∙◌, ◌≡◌, All, ap, ap₂, arith, flat_map, of_z, subst, sym, to_z, w32, ℕ, ℤ}
+use Rattle.lemmas.proofs.Common.{common_steps, ints}
 use Rattle.circuit.specs.Bridge.{circuit_of}
 use Rattle.circuit.specs.Meaning.{wires}
 use Rattle.certificate.specs.Jobs.{line_signals}

@@ -1,7 +1,5 @@
-use Rattle.std.proofs.Common.{◌≡◌, ℕ, ℤ, List, map, arith, to_z, of_z, w32, sym, ap, subst, ◌∙◌, pos, All, flat_map}
-use Rattle.std.proofs.lemmas.Int.{ints}
-use Rattle.std.proofs.lemmas.Result.{IfOk-weaker}
-use Rattle.std.proofs.lemmas.Grind.{common_steps}
+use Rattle.lemmas.proofs.Common.{◌∙◌, ◌≡◌, All, List, ap, arith, flat_map, map, of_z, pos, subst, sym, to_z, w32, ℕ, ℤ}
+use Rattle.lemmas.proofs.Common.{IfOk-weaker, common_steps, ints}
 use Rattle.circuit.specs.Bridge.{circuit_of}
 use Rattle.circuit.specs.Meaning.{Circuit}
 use Rattle.module_box.specs.Locals.{LocalNet}

@@ -1,6 +1,6 @@
 -- What the modules so far keep is noted.
-use Rattle.std.proofs.Common.{◌≡◌, ℕ, take}
-use Rattle.std.specs.List.{flat_map, list_any}
+use Rattle.lemmas.proofs.Common.{◌≡◌, take, ℕ, list_any}
+use Rattle.std.specs.List.{flat_map}
 use Rattle.module_box.specs.Locals.{is_among}
 use Rattle.certificate_lines.specs.Entries.{keep_in}
 use Rattle.certificate.proofs.keep_lines.kept_gates.Given as goal

@@ -1,5 +1,5 @@
 -- What the lines so far keep is noted.
-use Rattle.std.proofs.Common.{◌≡◌, ◌||◌, ℕ, take, flat_map}
+use Rattle.lemmas.proofs.Common.{◌||◌, ◌≡◌, flat_map, take, ℕ}
 use Rattle.module_box.specs.Locals.{is_among}
 use Rattle.certificate_lines.specs.Entries.{keep_in}
 use Rattle.certificate.proofs.keep_lines.note_keeps.Given as goal

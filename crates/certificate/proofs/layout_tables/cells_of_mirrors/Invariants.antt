@@ -1,5 +1,5 @@
 -- The cells of the mirrors so far.
-use Rattle.std.proofs.Common.{◌≡◌, take, flat_map}
+use Rattle.lemmas.proofs.Common.{◌≡◌, flat_map, take}
 use Rattle.pattern.specs.Layout.{rectangle_cells}
 use Rattle.certificate.proofs.layout_tables.cells_of_mirrors.Given as goal
 

@@ -1,5 +1,4 @@
-use Rattle.std.proofs.Common.{arith, ◌∙◌, List, ap, flat_map}
-use Rattle.std.proofs.lemmas.Grind.{common_steps}
+use Rattle.lemmas.proofs.Common.{◌∙◌, List, ap, arith, flat_map, common_steps}
 use Rattle.bbm_rule.specs.declared.block.Cell.{Cell}
 use Rattle.pattern.specs.Layout.{in_cells, rectangle_cells}
 use Rattle.certificate_lines.proofs.LayoutPorts.{balls_on_layout, wastes_on_layout}

@@ -1,6 +1,5 @@
 -- The cells lie inside the layout, and a cell that is dead on the grid is none of them.
-use Rattle.std.proofs.Common.{arith}
-use Rattle.std.proofs.lemmas.Grind.{common_steps}
+use Rattle.lemmas.proofs.Common.{arith, common_steps}
 use Rattle.certificate.proofs.LayoutTableLemmas.{no_others, others_inside}
 use Rattle.certificate.proofs.layout_tables.non_mirror_grid.Goals as goal
 

@@ -1,5 +1,4 @@
-use Rattle.std.proofs.Common.{arith}
-use Rattle.std.proofs.lemmas.Grind.{common_steps}
+use Rattle.lemmas.proofs.Common.{arith, common_steps}
 use Rattle.certificate.proofs.KindLemmas.{only_edges, only_halos}
 use Rattle.certificate.proofs.line_kinds.side_lines.Goals as goal
 

@@ -1,5 +1,4 @@
-use Rattle.std.proofs.Common.{rules, ltb}
-use Rattle.std.proofs.lemmas.List.Sorted.{IsPartitionPoint-from_clause, IsPartitionedBy-ltb}
+use Rattle.lemmas.proofs.Common.{ltb, rules, IsPartitionPoint-from_clause, IsPartitionedBy-ltb}
 use Rattle.certificate_lines.specs.Orders.{rank_of}
 use Rattle.certificate.proofs.KindLemmas.{ranks_rise, split_parts}
 use Rattle.certificate.proofs.line_kinds.split_at_rank.Goals as goal

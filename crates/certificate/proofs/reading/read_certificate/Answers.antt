@@ -1,6 +1,5 @@
 -- What was read makes good modules.
-use Rattle.std.proofs.Common.{arith}
-use Rattle.std.proofs.lemmas.Grind.{common_steps}
+use Rattle.lemmas.proofs.Common.{arith, common_steps}
 use Rattle.section_text.proofs.Good.{reads_faultless}
 use Rattle.certificate.proofs.Soundness.{faultless_lines, faultless_modules, read_complete, read_version}
 use Rattle.certificate.proofs.reading.read_certificate.Goals as goal

@@ -1,4 +1,4 @@
-use Rattle.std.proofs.Common.{◌≡◌, true}
+use Rattle.lemmas.proofs.Common.{◌≡◌, true}
 use Rattle.circuit.specs.Bridge.{circuit_of}
 use Rattle.certificate_lines.specs.Entries.{stop_in}
 use Rattle.certificate_lines.specs.Rules.{is_local}

@@ -1,4 +1,4 @@
-use Rattle.std.proofs.Common.{take, flat_map}
+use Rattle.lemmas.proofs.Common.{flat_map, take}
 use Rattle.circuit.specs.Bridge.{circuit_of}
 use Rattle.certificate_lines.specs.Entries.{stop_in}
 use Rattle.certificate.specs.NamedWires.{AreNamedWires}

@@ -1,4 +1,4 @@
-use Rattle.std.proofs.Common.{◌≡◌, take}
+use Rattle.lemmas.proofs.Common.{◌≡◌, take}
 use Rattle.certificate.specs.Times.{last_times}
 use Rattle.certificate.specs.SeenTimes.{time_in_table}
 use Rattle.certificate.proofs.times.last_times.Given as goal

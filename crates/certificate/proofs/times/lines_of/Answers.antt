@@ -1,4 +1,4 @@
-use Rattle.std.proofs.Common.{◌≡◌, map, refl, subst}
+use Rattle.lemmas.proofs.Common.{◌≡◌, map, refl, subst}
 use Rattle.std.specs.Result.{IfOk}
 use Rattle.circuit.specs.Bridge.{circuit_of}
 use Rattle.certificate.specs.SliceLines.{slice_lines}

@@ -1,5 +1,4 @@
-use Rattle.std.proofs.Common.{arith, ◌++◌, take, subst, ◌∙◌, flat_map}
-use Rattle.std.proofs.lemmas.Grind.{common_steps}
+use Rattle.lemmas.proofs.Common.{◌++◌, ◌∙◌, arith, flat_map, subst, take, common_steps}
 use Rattle.circuit.specs.Bridge.{circuit_of}
 use Rattle.certificate_lines.specs.Entries.{stop_in}
 use Rattle.certificate.specs.SeenTimes.{IsStopTimeTable}

@@ -1,4 +1,4 @@
-use Rattle.std.proofs.Common.{◌≡◌, ◌++◌, List, length, take, flat_map}
+use Rattle.lemmas.proofs.Common.{◌++◌, ◌≡◌, List, flat_map, length, take}
 use Rattle.circuit.specs.Bridge.{circuit_of}
 use Rattle.certificate_lines.specs.Entries.{stop_in}
 use Rattle.certificate_lines.specs.declared.certificate_line.StopLine.{StopLine}

@@ -1,6 +1,4 @@
-use Rattle.std.proofs.Common.{arith}
-use Rattle.std.proofs.lemmas.List.{take_all}
-use Rattle.std.proofs.lemmas.Grind.{common_steps}
+use Rattle.lemmas.proofs.Common.{arith, common_steps, take_all}
 use Rattle.certificate.proofs.SliceLemmas.{flat_mapped}
 use Rattle.certificate.proofs.times.stop_time_table.Goals as goal
 

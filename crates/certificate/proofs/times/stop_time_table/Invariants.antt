@@ -1,4 +1,4 @@
-use Rattle.std.proofs.Common.{◌≡◌, length, take, flat_map}
+use Rattle.lemmas.proofs.Common.{◌≡◌, flat_map, length, take}
 use Rattle.circuit.specs.Bridge.{circuit_of, netlist_of}
 use Rattle.circuit.specs.Meaning.{wires}
 use Rattle.certificate_lines.specs.Entries.{stop_in}

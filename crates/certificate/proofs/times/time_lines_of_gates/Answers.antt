@@ -1,4 +1,4 @@
-use Rattle.std.proofs.Common.{◌≡◌, ◌++◌, ◌≤◌, ap, sym, ◌∙◌, length, Some, arith, slice_get}
+use Rattle.lemmas.proofs.Common.{◌++◌, ◌∙◌, ◌≡◌, ◌≤◌, Some, ap, arith, length, slice_get, sym}
 use Rattle.circuit.specs.Bridge.{netlist_of}
 use Rattle.circuit.specs.Wiring.{gate_of}
 use Rattle.certificate.specs.Times.{delay_line, meet_line, numbered}

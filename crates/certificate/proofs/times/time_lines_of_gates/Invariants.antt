@@ -1,4 +1,4 @@
-use Rattle.std.proofs.Common.{◌≡◌, ◌++◌, drop}
+use Rattle.lemmas.proofs.Common.{◌++◌, ◌≡◌, drop}
 use Rattle.circuit.specs.Bridge.{netlist_of}
 use Rattle.certificate.specs.Times.{delay_line, time_lines_of_gates, meet_line, numbered}
 use Rattle.certificate.specs.SeenTimes.{time_in_table}

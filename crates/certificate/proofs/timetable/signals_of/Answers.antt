@@ -1,5 +1,4 @@
-use Rattle.std.proofs.Common.{arith}
-use Rattle.std.proofs.lemmas.Grind.{common_steps}
+use Rattle.lemmas.proofs.Common.{arith, common_steps}
 use Rattle.circuit.specs.Bridge.{circuit_of}
 use Rattle.certificate.specs.Timetables.{HasLocalWire, borders_in}
 use Rattle.certificate_lines.proofs.FlatParts.{flat_at}

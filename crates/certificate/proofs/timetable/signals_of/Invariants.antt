@@ -1,5 +1,5 @@
 -- What the lines so far say.
-use Rattle.std.proofs.Common.{take, flat_map}
+use Rattle.lemmas.proofs.Common.{flat_map, take}
 use Rattle.circuit.specs.Bridge.{circuit_of}
 use Rattle.certificate.specs.Timetables.{AreSignalLists, borders_in}
 use Rattle.certificate.proofs.timetable.signals_of.Given as goal

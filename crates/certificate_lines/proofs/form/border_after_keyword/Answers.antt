@@ -1,5 +1,4 @@
-use Rattle.std.proofs.Common.{arith, ◌≡◌, Some, pos, to_z, w32, ap, sym, ◌∙◌, rules}
-use Rattle.std.proofs.lemmas.Grind.{common_steps}
+use Rattle.lemmas.proofs.Common.{◌∙◌, ◌≡◌, Some, ap, arith, pos, rules, sym, to_z, w32, common_steps}
 use Rattle.section_text.specs.Words.{words_of, ◌>>=◌}
 use Rattle.pattern.specs.Layout.{cell}
 use Rattle.certificate_lines.proofs.BorderText.{border_is, no_column, no_row, no_time, signal_is}

@@ -1,6 +1,5 @@
-use Rattle.std.proofs.Common.{arith, ◌≡◌, ◌∙◌, Bool, true, false, Some, None, ap, sym, take, codes}
-use Rattle.std.specs.Str.{bytes_eq}
-use Rattle.std.proofs.lemmas.Grind.{common_steps}
+use Rattle.lemmas.proofs.Common.{◌∙◌, ◌≡◌, Bool, None, Some, ap, arith, codes, false, sym, take, true, bytes_eq}
+use Rattle.lemmas.proofs.Common.{common_steps}
 use Rattle.section_text.specs.Words.{words_of}
 use Rattle.certificate_lines.proofs.BorderText.{edge_line, halo_line}
 use Rattle.certificate_lines.proofs.form.line_form.Goals as goal

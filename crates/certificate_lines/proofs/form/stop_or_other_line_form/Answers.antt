@@ -1,5 +1,4 @@
-use Rattle.std.proofs.Common.{arith, ◌∙◌, Some, None, sym}
-use Rattle.std.proofs.lemmas.Grind.{common_steps}
+use Rattle.lemmas.proofs.Common.{◌∙◌, None, Some, arith, sym, common_steps}
 use Rattle.section_text.specs.Feeds.{line_bytes}
 use Rattle.certificate_lines.proofs.BorderText.{stop_line}
 use Rattle.certificate_lines.proofs.form.stop_or_other_line_form.Goals as goal

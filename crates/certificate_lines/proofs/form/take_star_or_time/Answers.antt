@@ -1,6 +1,4 @@
-use Rattle.std.proofs.Common.{arith, Some, None, sym, ◌∙◌}
-use Rattle.std.proofs.lemmas.List.{take_rest}
-use Rattle.std.proofs.lemmas.Grind.{common_steps}
+use Rattle.lemmas.proofs.Common.{◌∙◌, None, Some, arith, sym, common_steps, take_rest}
 use Rattle.section_text.specs.Words.{words_of}
 use Rattle.certificate_lines.proofs.BorderText.{number_time, star_time}
 use Rattle.certificate_lines.proofs.form.take_star_or_time.Goals as goal

@@ -1,5 +1,4 @@
-use Rattle.std.proofs.Common.{arith}
-use Rattle.std.proofs.lemmas.Grind.{common_steps}
+use Rattle.lemmas.proofs.Common.{arith, common_steps}
 use Rattle.certificate_lines.proofs.KnownLemmas.{none_new, old_wire, new_wire}
 use Rattle.certificate_lines.proofs.known.are_all_new_and_distinct.Goals as goal
 

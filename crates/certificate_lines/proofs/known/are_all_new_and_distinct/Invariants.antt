@@ -1,5 +1,5 @@
 -- The wires so far are new.
-use Rattle.std.proofs.Common.{◌≡◌, true, take}
+use Rattle.lemmas.proofs.Common.{◌≡◌, take, true}
 use Rattle.certificate_lines.specs.Rules.{are_new_and_distinct}
 use Rattle.certificate_lines.proofs.known.are_all_new_and_distinct.Given as goal
 

@@ -1,6 +1,5 @@
 -- The wires so far are local.
-use Rattle.std.proofs.Common.{◌≡◌, true, take}
-use Rattle.std.specs.List.{list_all}
+use Rattle.lemmas.proofs.Common.{◌≡◌, take, true, list_all}
 use Rattle.module_box.specs.Locals.{is_among}
 use Rattle.certificate_lines.proofs.known.knows_all.Given as goal
 

@@ -1,5 +1,5 @@
 -- The wires so far are local.
-use Rattle.std.proofs.Common.{◌≡◌, ◌≤◌, ◌+◌, ◌++◌, take, length}
+use Rattle.lemmas.proofs.Common.{◌++◌, ◌+◌, ◌≡◌, ◌≤◌, length, take}
 use Rattle.certificate_lines.proofs.known.learn_all.Given as goal
 
 abbrev pub invariant-loop-wire : goal.invariant-loop-wire

@@ -1,7 +1,5 @@
-use Rattle.std.proofs.Common.{◌≡◌, ◌∙◌, ◌-◌, length, ap, arith}
-use Rattle.std.proofs.Math.Seq.{set-append_seam}
-use Rattle.std.proofs.lemmas.List.{length_push, map-append}
-use Rattle.std.proofs.lemmas.Grind.{common_steps}
+use Rattle.lemmas.proofs.Common.{◌-◌, ◌∙◌, ◌≡◌, ap, arith, length, common_steps, length_push, map-append}
+use Rattle.lemmas.proofs.Common.{set-append_seam}
 use Rattle.certificate_lines.proofs.known.move_wires_to_earlier.Goals as goal
 
 pub returns-clause-earlier : goal.returns-clause-earlier

@@ -1,5 +1,4 @@
-use Rattle.std.proofs.Common.{arith}
-use Rattle.std.proofs.lemmas.Grind.{common_steps}
+use Rattle.lemmas.proofs.Common.{arith, common_steps}
 use Rattle.certificate_lines.proofs.AnyLines.{any_kept}
 use Rattle.certificate_lines.proofs.lacks.has_nonlocal_halo_edge.Goals as goal
 

@@ -1,6 +1,6 @@
 -- None of the lines so far.
-use Rattle.std.proofs.Common.{◌≡◌, false, take}
-use Rattle.std.specs.List.{filter, flat_map, list_any}
+use Rattle.lemmas.proofs.Common.{◌≡◌, false, take, list_any}
+use Rattle.std.specs.List.{filter, flat_map}
 use Rattle.module_box.specs.Boxes.{in_halo}
 use Rattle.certificate_lines.specs.Entries.{edge_in}
 use Rattle.certificate_lines.specs.Versions.{is_nonlocal_signal}

@@ -1,7 +1,6 @@
 -- The names of the ports in the rows so far.
-use Rattle.std.proofs.Common.{◌≡◌, ◌||◌, ◌-◌, Bool, false, ℕ, List}
-use Rattle.std.specs.List.{flat_map, list_any, range_with_len}
-use Rattle.std.specs.Option.{option_map_or}
+use Rattle.lemmas.proofs.Common.{◌-◌, ◌||◌, ◌≡◌, Bool, List, false, ℕ, list_any, option_map_or, range_with_len}
+use Rattle.std.specs.List.{flat_map}
 use Rattle.pattern.specs.Layout.{row_cells}
 use Rattle.certificate_lines.specs.PortTables.{port_at}
 use Rattle.certificate_lines.proofs.line_tables.push_port_names.Given as goal

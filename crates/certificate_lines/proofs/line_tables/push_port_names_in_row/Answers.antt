@@ -1,7 +1,4 @@
-use Rattle.std.proofs.Common.{ap, arith, false, List, ℕ, Option}
-use Rattle.std.specs.List.{list_any}
-use Rattle.std.specs.Option.{option_map_or}
-use Rattle.std.proofs.lemmas.Grind.{common_steps}
+use Rattle.lemmas.proofs.Common.{List, Option, ap, arith, false, ℕ, common_steps, list_any, option_map_or}
 use Rattle.bbm_rule.specs.declared.block.Cell.{Cell}
 use Rattle.certificate_lines.specs.PortTables.{port_at}
 use Rattle.certificate_lines.proofs.TableLemmas.{row_named, row_nameless}

@@ -1,7 +1,5 @@
 -- The names of the ports at the cells so far.
-use Rattle.std.proofs.Common.{◌≡◌, ◌||◌, ◌-◌, Bool, false, ℕ, List}
-use Rattle.std.specs.List.{list_any}
-use Rattle.std.specs.Option.{option_map_or}
+use Rattle.lemmas.proofs.Common.{◌-◌, ◌||◌, ◌≡◌, Bool, List, false, ℕ, list_any, option_map_or}
 use Rattle.pattern.specs.Layout.{row_cells}
 use Rattle.certificate_lines.specs.PortTables.{port_at}
 use Rattle.certificate_lines.proofs.line_tables.push_port_names_in_row.Given as goal

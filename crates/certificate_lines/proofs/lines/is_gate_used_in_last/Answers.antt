@@ -1,5 +1,4 @@
-use Rattle.std.proofs.Common.{arith, ◌∙◌, sym}
-use Rattle.std.proofs.lemmas.Grind.{common_steps}
+use Rattle.lemmas.proofs.Common.{◌∙◌, arith, sym, common_steps}
 use Rattle.certificate_lines.proofs.UsedLemmas.{told_by_all, told_before, told_true, told_false, told_all}
 use Rattle.certificate_lines.proofs.lines.is_gate_used_in_last.Goals as goal
 

@@ -1,4 +1,4 @@
-use Rattle.std.specs.Prelude.{IsTrue}
+use Rattle.lemmas.proofs.Common.{IsTrue}
 use Rattle.module_box.specs.Locals.{is_among}
 use Rattle.certificate_lines.specs.Entries.{keep_in}
 use Rattle.certificate_lines.proofs.FlatParts.{flat_at}

@@ -1,5 +1,5 @@
 -- The gates that the lines so far keep.
-use Rattle.std.proofs.Common.{◌≡◌, ◌<◌, length, map, take, slice_index, All, flat_map}
+use Rattle.lemmas.proofs.Common.{◌<◌, ◌≡◌, All, flat_map, length, map, slice_index, take}
 use Rattle.certificate_lines.specs.Entries.{keep_in}
 use Rattle.certificate_lines.proofs.lines.kept_places.Given as goal
 

@@ -1,5 +1,5 @@
 -- No line so far begins a module.
-use Rattle.std.proofs.Common.{◌≡◌, ◌++◌, take, drop}
+use Rattle.lemmas.proofs.Common.{◌++◌, ◌≡◌, drop, take}
 use Rattle.certificate_lines.specs.ModuleParts.{inner}
 use Rattle.certificate_lines.proofs.lines.lines_of_module_past.Given as goal
 

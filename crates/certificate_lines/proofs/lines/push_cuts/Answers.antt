@@ -1,6 +1,4 @@
-use Rattle.std.proofs.Common.{arith}
-use Rattle.std.proofs.lemmas.Grind.{flat_map-append}
-use Rattle.std.proofs.lemmas.Grind.{common_steps}
+use Rattle.lemmas.proofs.Common.{arith, common_steps, flat_map-append}
 use Rattle.certificate_lines.proofs.FlatParts.{flat_more}
 use Rattle.certificate_lines.proofs.lines.push_cuts.Goals as goal
 

@@ -1,5 +1,5 @@
 -- The cuts of the lines so far.
-use Rattle.std.proofs.Common.{◌≡◌, ◌++◌, take, flat_map, option_to_list}
+use Rattle.lemmas.proofs.Common.{◌++◌, ◌≡◌, flat_map, option_to_list, take}
 use Rattle.circuit.specs.Bridge.{circuit_of}
 use Rattle.circuit.specs.Meaning.{wire_of}
 use Rattle.certificate_lines.specs.Entries.{cut_in}

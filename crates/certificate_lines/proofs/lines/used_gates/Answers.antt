@@ -1,5 +1,4 @@
-use Rattle.std.proofs.Common.{arith, ◌<◌, ◌^◌}
-use Rattle.std.proofs.lemmas.Grind.{common_steps}
+use Rattle.lemmas.proofs.Common.{◌<◌, ◌^◌, arith, common_steps}
 use Rattle.certificate_lines.specs.Entries.{use_in}
 use Rattle.certificate_lines.proofs.FlatParts.{flat_at, flat_more}
 use Rattle.certificate_lines.proofs.lines.used_gates.Goals as goal

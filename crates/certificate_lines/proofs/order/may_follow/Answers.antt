@@ -1,5 +1,4 @@
-use Rattle.std.proofs.Common.{arith}
-use Rattle.std.proofs.lemmas.Grind.{common_steps}
+use Rattle.lemmas.proofs.Common.{arith, common_steps}
 use Rattle.certificate_lines.proofs.Growing.{last_by_place}
 use Rattle.certificate_lines.proofs.OrderLemmas.{follows_inner, follows_none}
 use Rattle.certificate_lines.proofs.order.may_follow.Goals as goal

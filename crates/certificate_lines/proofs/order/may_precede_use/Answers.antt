@@ -1,5 +1,4 @@
-use Rattle.std.proofs.Common.{arith}
-use Rattle.std.proofs.lemmas.Grind.{common_steps}
+use Rattle.lemmas.proofs.Common.{arith, common_steps}
 use Rattle.certificate_lines.proofs.OrderLemmas.{uses_precede}
 use Rattle.certificate_lines.proofs.order.may_precede_use.Goals as goal
 

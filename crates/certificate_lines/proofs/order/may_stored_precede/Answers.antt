@@ -1,5 +1,4 @@
-use Rattle.std.proofs.Common.{arith}
-use Rattle.std.proofs.lemmas.Grind.{common_steps}
+use Rattle.lemmas.proofs.Common.{arith, common_steps}
 use Rattle.certificate_lines.proofs.OrderLemmas.{edge_is, edges_precede, halo_is, halos_precede, stop_is, stops_precede}
 use Rattle.certificate_lines.proofs.order.may_stored_precede.Goals as goal
 

@@ -1,8 +1,5 @@
-use Rattle.std.proofs.Common.{◌≡◌, ◌∙◌, ℕ, ◌+◌, ◌<◌, ◌≤◌, None, List, length, refl, subst, sym, arith, Some, get_or}
-use Rattle.std.specs.Prelude.{slice_get}
-use Rattle.std.proofs.lemmas.Option.{slice_get-get_or}
-use Rattle.std.proofs.Math.Seq.{take-length}
-use Rattle.std.proofs.lemmas.Grind.{common_steps}
+use Rattle.lemmas.proofs.Common.{◌+◌, ◌<◌, ◌∙◌, ◌≡◌, ◌≤◌, List, None, Some, arith, get_or, length, refl, slice_get}
+use Rattle.lemmas.proofs.Common.{subst, sym, ℕ, common_steps, slice_get-get_or, take-length}
 use Rattle.pattern.specs.Layout.{HaveDistinctCells}
 use Rattle.pattern.specs.Lines.{size_fault}
 use Rattle.pattern.specs.declared.layout_line.LayoutHeader.{LayoutHeader}

@@ -1,17 +1,11 @@
-use Rattle.std.proofs.Common.{◌≡◌, ◌∙◌, ℕ, zero, suc, ◌+◌, ◌-◌, ◌<◌, List, refl, sym, ap, subst, arith, rules}
-use Rattle.std.proofs.Common.{SFits, w32, to_z-of_z, get_or}
-use Rattle.std.specs.Int.RustNames.{unsigned_abs}
-use Rattle.std.proofs.lemmas.Option.{slice_get-get_or}
+use Rattle.lemmas.proofs.Common.{◌+◌, ◌-◌, ◌<◌, ◌∙◌, ◌≡◌, List, SFits, ap, arith, get_or, refl, rules, subst, suc, sym}
+use Rattle.lemmas.proofs.Common.{to_z-of_z, w32, zero, ℕ, slice_get-get_or, unsigned_abs, positive}
 use Rattle.pattern.specs.declared.layout_line.Port.{Port}
 use Rattle.module_box.proofs.FromCorner.{abs_from}
 use Rattle.certificate_lines.proofs.RowLemmas.{AreRowsSoFar, count_below, no_rows, read_row, row_kept, row_set}
 use Rattle.certificate_lines.proofs.RowLemmas.{row_there, rows_done}
 use Rattle.certificate_lines.proofs.ports.number_rows.Goals as goal
 use Rattle.certificate_lines.proofs.ports.number_rows.Goals.{then-index-eq0, else-index-eq0}
-
-some_row : (n : ℕ) → (n ≡ 0 → ⊥) → 0 < n
-some_row zero h = absurd (h refl)
-some_row (suc n) h = omega arith
 
 pub ports-init : goal.ports-init
 ports-init c =
@@ -76,7 +70,7 @@ ports-preserved c =
           (ap (λ (y : ℕ). y - c.args.area.y) ey) (omega arith) (sym row ∙ w.if-index-eq0.true))
       | else-index-eq0 w ↦ rw (w.rows-is, w.count-is)
           (row_kept c.args.area c.args.ports.now c.ports.number p at inside c.ports.rows.items c.ports.count
-          c.ports.invariant (let lt = some_row c.index.result.now w.if-index-eq0.false in omega (arith, lt, row)))
+          c.ports.invariant (let lt = positive c.index.result.now w.if-index-eq0.false in omega (arith, lt, row)))
     ]
 
 pub returns : goal.returns

@@ -1,5 +1,4 @@
-use Rattle.std.proofs.Common.{arith}
-use Rattle.std.proofs.lemmas.Grind.{common_steps}
+use Rattle.lemmas.proofs.Common.{arith, common_steps}
 use Rattle.certificate_lines.proofs.LayoutPorts.{ports_on_layout}
 use Rattle.certificate_lines.proofs.ports.port_tables.Goals as goal
 

@@ -1,6 +1,6 @@
 -- The rows so far are live.
-use Rattle.std.proofs.Common.{◌≡◌}
-use Rattle.std.specs.List.{list_all, flat_map, range_with_len}
+use Rattle.lemmas.proofs.Common.{◌≡◌, list_all, range_with_len}
+use Rattle.std.specs.List.{flat_map}
 use Rattle.bbm_rule.specs.Board.{live}
 use Rattle.pattern.specs.Layout.{row_cells}
 use Rattle.certificate_lines.proofs.tiles.are_all_cells_live.Given as goal

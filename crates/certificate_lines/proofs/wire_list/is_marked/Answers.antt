@@ -1,5 +1,4 @@
-use Rattle.std.proofs.Common.{arith}
-use Rattle.std.proofs.lemmas.Grind.{common_steps}
+use Rattle.lemmas.proofs.Common.{arith, common_steps}
 use Rattle.bbm_rule.proofs.CellLemmas.{cell_is}
 use Rattle.certificate_lines.proofs.WireListLemmas.{past_marks}
 use Rattle.certificate_lines.proofs.wire_list.is_marked.Goals as goal

@@ -1,6 +1,5 @@
 -- The book is filled up behind what the workers filed, and closed.
-use Rattle.std.proofs.Common.{◌∙◌, ap, arith, map, subst, sym}
-use Rattle.std.specs.Arc.{arc_value}
+use Rattle.lemmas.proofs.Common.{◌∙◌, ap, arith, map, subst, sym, arc_value}
 use Rattle.core_book.specs.Concluding.{AreJobsOfCertificate}
 use Rattle.core_book.proofs.Fillings.{clones-same}
 use Rattle.check_main.proofs.Closings.{audit_of, completed_closed, many_filings, no_history, own_digest, own_jobs}

@@ -1,6 +1,5 @@
 -- The report on the text, and what the laws say of each outcome.
-use Rattle.std.proofs.Common.{subst}
-use Rattle.std.proofs.lemmas.Result.{IfOk-weaker}
+use Rattle.lemmas.proofs.Common.{subst, IfOk-weaker}
 use Rattle.answers.specs.CheckText.{IsReportOf}
 use Rattle.headline.proofs.PlainTexts.{no_is_wrong, no_lines_tell}
 use Rattle.headline.proofs.SmallDesigns.{refused_is_none}

@@ -1,6 +1,5 @@
 -- The circuit, the layout, the certificate, and the end of the text.
-use Rattle.std.proofs.Common.{◌∙◌, List, ℕ, ◌++◌, ap, length, subst, sym}
-use Rattle.std.proofs.lemmas.Result.{IfOk-weaker}
+use Rattle.lemmas.proofs.Common.{◌++◌, ◌∙◌, List, ap, length, subst, sym, ℕ, IfOk-weaker}
 use Rattle.section_text.specs.Feeds.{FeedView}
 use Rattle.section_text.specs.Ports.{named_ports}
 use Rattle.certificate.specs.Text.{certificate_text}

@@ -1,6 +1,6 @@
 -- The command ran, or memory ran out before it did, or the words are explained.
-use Rattle.std.proofs.Common.{◌≡◌, ◌∙◌, ◌⊎◌, ℕ, List, [], Option, Result, Ok, Err, ap, arith, inl, inr, refl, subst}
-use Rattle.std.proofs.Common.{sym}
+use Rattle.lemmas.proofs.Common.{[], ◌∙◌, ◌≡◌, ◌⊎◌, Err, List, Ok, Option, Result, ap, arith, inl, inr, refl, subst}
+use Rattle.lemmas.proofs.Common.{sym, ℕ}
 use Rattle.clap.specs.Words.{HasKind, IsAmong, Kinds, kind_of}
 use Rattle.clap.specs.declared.error.Error.{Error}
 use Rattle.clap.specs.declared.error.kind.ErrorKind.TheVariants.{DisplayHelp, DisplayVersion, OutOfMemory}

@@ -1,5 +1,5 @@
 -- What was written is the report on what was read, or its first bytes, or nothing. `check_text` says what it means.
-use Rattle.std.proofs.Common.{refl}
+use Rattle.lemmas.proofs.Common.{refl}
 use Rattle.headline.specs.RightInFull.{IsRightInFull}
 use Rattle.headline.specs.Plain.{IsWrongIfPlain}
 use Rattle.headline.specs.SmallDesigns.{IsNoSmallDesignText}

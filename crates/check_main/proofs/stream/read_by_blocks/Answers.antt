@@ -1,5 +1,5 @@
 -- The piece that does not fit has the byte past the limit.
-use Rattle.std.proofs.Common.{◌+◌, ◌<◌, ◌++◌, Err, length, take, ap, length-append}
+use Rattle.lemmas.proofs.Common.{◌++◌, ◌+◌, ◌<◌, Err, ap, length, length-append, take}
 use Rattle.std.proofs.KnownBytes.{Consumes-trans}
 use Rattle.section_text.specs.Feeds.{text_limit}
 use Rattle.check_main.proofs.stream.read_by_blocks.Goals as goal

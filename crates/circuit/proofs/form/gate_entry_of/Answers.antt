@@ -1,4 +1,4 @@
-use Rattle.std.proofs.Common.{◌∙◌, ap, sym}
+use Rattle.lemmas.proofs.Common.{◌∙◌, ap, sym}
 use Rattle.section_text.specs.Feeds.{line_bytes}
 use Rattle.section_text.specs.Words.{words_of}
 use Rattle.circuit.proofs.GateLines.{gate_entry_is, gate_of}

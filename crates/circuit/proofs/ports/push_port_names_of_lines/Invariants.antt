@@ -1,4 +1,4 @@
-use Rattle.std.proofs.Common.{◌≡◌, ◌++◌, take}
+use Rattle.lemmas.proofs.Common.{◌++◌, ◌≡◌, take}
 use Rattle.circuit.specs.Bridge.{input_names, output_names}
 use Rattle.circuit.proofs.ports.push_port_names_of_lines.Given as goal
 

@@ -1,4 +1,4 @@
-use Rattle.std.proofs.Common.{◌≡◌, ◌++◌, take, flat_map}
+use Rattle.lemmas.proofs.Common.{◌++◌, ◌≡◌, flat_map, take}
 use Rattle.circuit.specs.Text.{entry_text}
 use Rattle.circuit.proofs.printing.print_entries.Given as goal
 

@@ -1,4 +1,4 @@
-use Rattle.std.proofs.Common.{◌≡◌, ◌++◌, take}
+use Rattle.lemmas.proofs.Common.{◌++◌, ◌≡◌, take}
 use Rattle.circuit.specs.Text.{value_lines}
 use Rattle.circuit.proofs.printing.print_value_lines.Given as goal
 

@@ -1,5 +1,4 @@
-use Rattle.std.proofs.Common.{arith}
-use Rattle.std.proofs.lemmas.Grind.{common_steps}
+use Rattle.lemmas.proofs.Common.{arith, common_steps}
 use Rattle.circuit.proofs.WireMarks.{four_unset}
 use Rattle.circuit.proofs.sets.define_wires.Goals as goal
 

@@ -1,4 +1,4 @@
-use Rattle.std.proofs.Common.{◌≡◌, drop, length}
+use Rattle.lemmas.proofs.Common.{◌≡◌, drop, length}
 use Rattle.circuit.specs.Wiring.{with_marks_set}
 use Rattle.circuit.proofs.sets.mark_wires.Given as goal
 

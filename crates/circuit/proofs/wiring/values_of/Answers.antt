@@ -1,5 +1,4 @@
-use Rattle.std.proofs.Common.{rules, ◌≡◌, Ok, true, ap, arith}
-use Rattle.std.proofs.lemmas.Grind.{common_steps}
+use Rattle.lemmas.proofs.Common.{◌≡◌, Ok, ap, arith, rules, true, common_steps}
 use Rattle.circuit.proofs.wiring.values_of.Goals as goal
 use Rattle.circuit.proofs.Loops.{none_done, values_more, values_all, values_stop}
 

@@ -1,7 +1,6 @@
-use Rattle.std.specs.Arc.{arc_value}
+use Rattle.lemmas.proofs.Common.{◌≡◌, true, arc_value}
 use Rattle.core_book.proofs.Fillings.{lists-told}
 use Rattle.core_book.proofs.filling.are_same_jobs.Goals as goal
-use Rattle.std.proofs.Common.{◌≡◌, true}
 
 pub returns-clause-same_jobs : goal.returns-clause-same_jobs
 returns-clause-same_jobs c = (lists-told arc_value c.args.own.now c.args.jobs.now c.eq.result c.eq.ensures).0

@@ -1,5 +1,4 @@
-use Rattle.std.proofs.Common.{◌≡◌, ◌∙◌, ap, inr, map, sym, subst}
-use Rattle.std.specs.Arc.{arc_value}
+use Rattle.lemmas.proofs.Common.{◌∙◌, ◌≡◌, ap, inr, map, subst, sym, arc_value}
 use Rattle.core_book.specs.Book.{BookView, new_book}
 use Rattle.core_book.specs.Filling.{IsOpenFor, IsPartlyFilled}
 use Rattle.core_book.proofs.Fillings.{clones-same, new-open}

@@ -1,5 +1,4 @@
-use Rattle.std.proofs.Common.{◌≡◌, sym, subst, inl, refl, true, false, OnOk, rules, is_some}
-use Rattle.std.specs.Arc.{arc_value}
+use Rattle.lemmas.proofs.Common.{◌≡◌, OnOk, false, inl, is_some, refl, rules, subst, sym, true, arc_value}
 use Rattle.core_book.specs.Book.{found_in}
 use Rattle.core_book.specs.Filling.{IsHeldOrFiled}
 use Rattle.core_book.proofs.Fillings.{filed-for}

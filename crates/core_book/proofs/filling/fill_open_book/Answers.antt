@@ -1,6 +1,5 @@
-use Rattle.std.proofs.Common.{◌∙◌, ◌+◌, ◌<◌, ℕ, List, ap, map, length, refl, sym, subst, ◌≤◌, arith, slice_get}
-use Rattle.std.specs.Arc.{arc_value}
-use Rattle.std.proofs.lemmas.List.{length-map}
+use Rattle.lemmas.proofs.Common.{◌+◌, ◌<◌, ◌∙◌, ◌≤◌, List, ap, arith, length, map, refl, slice_get, subst, sym, ℕ}
+use Rattle.lemmas.proofs.Common.{arc_value, length-map}
 use Rattle.core_book.proofs.Fillings.{filled-all, filling-step, is-full, open-stays}
 use Rattle.core_book.proofs.FillingRuns.{first-read, holds_alike, runs_end, runs_step}
 use Rattle.core_book.proofs.HeldJobs.{job-at}

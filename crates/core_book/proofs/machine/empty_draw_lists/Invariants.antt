@@ -1,4 +1,4 @@
-use Rattle.std.proofs.Common.{◌≡◌, [], replicate}
+use Rattle.lemmas.proofs.Common.{[], ◌≡◌, replicate}
 use Rattle.core_book.specs.CoreView.{lists_of}
 use Rattle.core_book.proofs.machine.empty_draw_lists.Given as goal
 

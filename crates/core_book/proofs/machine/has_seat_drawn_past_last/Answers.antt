@@ -1,4 +1,4 @@
-use Rattle.std.proofs.Common.{sym}
+use Rattle.lemmas.proofs.Common.{sym}
 use Rattle.core_book.proofs.Counting.{has_seat_drawn_past_last-last}
 use Rattle.core_book.proofs.machine.has_seat_drawn_past_last.Goals as goal
 

@@ -1,5 +1,4 @@
-use Rattle.std.proofs.Common.{List, [], ◌∷◌, ◌++◌, All, refl, arith, subst}
-use Rattle.std.specs.Vec.Iter.{into_iter_items}
+use Rattle.lemmas.proofs.Common.{[], ◌++◌, ◌∷◌, All, List, arith, refl, subst, into_iter_items}
 use Rattle.job_pool.specs.declared.desk.DeskSeat.{DeskSeat}
 use Rattle.job_pool.specs.declared.worker.Worker.{Worker}
 use Rattle.job_pool.specs.Seats.{IsNewSeatOf}

@@ -1,5 +1,4 @@
-use Rattle.std.proofs.Common.{◌≡◌, ◌+◌, ◌≤◌, ◌++◌, vec_len, vec_capacity, All}
-use Rattle.std.specs.Vec.Iter.{into_iter_items, into_iter_len}
+use Rattle.lemmas.proofs.Common.{◌++◌, ◌+◌, ◌≡◌, ◌≤◌, All, vec_capacity, vec_len, into_iter_items, into_iter_len}
 use Rattle.job_pool.specs.Seats.{IsNewSeatOf}
 use Rattle.job_pool.specs.Work.{IsReadyWorker, shares_of}
 use Rattle.job_pool.proofs.pool.make_workers.Given as goal

@@ -1,5 +1,4 @@
-use Rattle.std.proofs.Common.{◌≡◌, ◌+◌, ◌≤◌, ◌++◌, vec_len, vec_capacity}
-use Rattle.std.specs.Vec.Iter.{into_iter_items, into_iter_len}
+use Rattle.lemmas.proofs.Common.{◌++◌, ◌+◌, ◌≡◌, ◌≤◌, vec_capacity, vec_len, into_iter_items, into_iter_len}
 use Rattle.job_pool.specs.Work.{seats_of, shares_of}
 use Rattle.job_pool.proofs.pool.take_workers_apart.Given as goal
 

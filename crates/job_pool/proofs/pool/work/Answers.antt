@@ -1,8 +1,5 @@
-use Rattle.std.proofs.Common.{◌≡◌, ℕ, ◌<◌, ◌≤◌, ◌++◌, List, length, take, drop, map, All, false, arith, rules, ap, sym}
-use Rattle.std.proofs.Common.{◌∙◌, subst}
-use Rattle.std.specs.Arc.{arc_value}
-use Rattle.std.proofs.lemmas.List.{length-map}
-use Rattle.std.proofs.lemmas.List.Elements.{All-same}
+use Rattle.lemmas.proofs.Common.{◌++◌, ◌<◌, ◌∙◌, ◌≡◌, ◌≤◌, All, List, ap, arith, drop, false, length, map, rules, subst}
+use Rattle.lemmas.proofs.Common.{sym, take, ℕ, All-same, arc_value, length-map}
 use Rattle.module_job.specs.Shapes.{shape_of}
 use Rattle.job_pool.specs.declared.desk.DeskSeat.{DeskSeat}
 use Rattle.job_pool.specs.declared.worker.Worker.{Worker}

@@ -1,7 +1,5 @@
-use Rattle.std.proofs.Common.{◌≡◌, ◌<◌, ◌==◌, ℕ, length, map, get_or, refl, ap, ◌∙◌, arith, if◌then◌else◌}
-use Rattle.std.specs.Arc.{arc_value}
-use Rattle.std.proofs.lemmas.Bool.Decides.{nat_tests}
-use Rattle.std.proofs.lemmas.List.{length-map}
+use Rattle.lemmas.proofs.Common.{◌<◌, ◌==◌, ◌∙◌, ◌≡◌, ap, arith, get_or, if◌then◌else◌, length, map, refl, ℕ, arc_value}
+use Rattle.lemmas.proofs.Common.{length-map, nat_tests}
 use Rattle.module_job.specs.Shapes.{shape_of}
 use Rattle.module_job.proofs.FirstShapes.{value_at}
 use Rattle.local_run.specs.Shown.{job_of}

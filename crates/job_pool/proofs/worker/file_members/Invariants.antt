@@ -1,5 +1,5 @@
 -- the findings of the members so far were filed
-use Rattle.std.proofs.Common.{◌≡◌, ◌+◌, take}
+use Rattle.lemmas.proofs.Common.{◌+◌, ◌≡◌, take}
 use Rattle.core_book.specs.Draws.{times}
 use Rattle.job_pool.specs.Work.{HasRisen}
 use Rattle.job_pool.proofs.worker.file_members.Given as goal

@@ -1,5 +1,4 @@
-use Rattle.std.proofs.Common.{map, ◌∙◌, arith, rules}
-use Rattle.std.specs.Arc.{arc_value}
+use Rattle.lemmas.proofs.Common.{◌∙◌, arith, map, rules, arc_value}
 use Rattle.local_run.specs.Shown.{job_of}
 use Rattle.module_job.proofs.FirstShapes.{value_at}
 use Rattle.core_book.specs.Filling.{shapes_of}

@@ -1,5 +1,4 @@
-use Rattle.std.proofs.Common.{◌≡◌, ◌≢◌, ℕ, Option, Some, None, arith, ap, ◌∙◌, true, not, is_some}
-use Rattle.std.proofs.lemmas.Grind.{common_steps}
+use Rattle.lemmas.proofs.Common.{◌∙◌, ◌≡◌, ◌≢◌, None, Option, Some, ap, arith, is_some, not, true, ℕ, common_steps}
 use Rattle.module_job.specs.Signals.{is_live}
 use Rattle.local_run.specs.Faults.{assignments}
 use Rattle.local_run.specs.Lanes.{lane}

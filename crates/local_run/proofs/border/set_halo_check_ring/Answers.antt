@@ -1,5 +1,5 @@
-use Rattle.std.proofs.Common.{arith, ℕ, ◌<◌, ◌≤◌, ◌+◌, ◌*◌, ◌/◌, ◌%◌, ◌≡◌, ◌∙◌, ap, ap₂, subst, sym, vec_items, ℤ}
-use Rattle.std.proofs.lemmas.Bool.{and_parts}
+use Rattle.lemmas.proofs.Common.{◌%◌, ◌*◌, ◌+◌, ◌/◌, ◌<◌, ◌∙◌, ◌≡◌, ◌≤◌, ap, ap₂, arith, subst, sym, vec_items, ℕ, ℤ}
+use Rattle.lemmas.proofs.Common.{and_parts}
 use Rattle.bbm_rule.proofs.BitLemmas.{by_lt_or_le}
 use Rattle.local_run.specs.Borders.{AreSkippableBetween}
 use Rattle.local_run.proofs.MarkSearch.{whole_zero}

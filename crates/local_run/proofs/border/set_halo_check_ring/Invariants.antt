@@ -1,4 +1,4 @@
-use Rattle.std.proofs.Common.{◌≡◌, ℕ, ◌<◌, ◌+◌, ◌*◌, true}
+use Rattle.lemmas.proofs.Common.{◌*◌, ◌+◌, ◌<◌, ◌≡◌, true, ℕ}
 use Rattle.local_run.specs.Quiet.{number_at}
 use Rattle.local_run.specs.Scans.{Shows, IsEdgeCorrectAt, IsHaloCellSet}
 use Rattle.local_run.proofs.border.set_halo_check_ring.Given as goal

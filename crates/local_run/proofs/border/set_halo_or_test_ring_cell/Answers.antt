@@ -1,5 +1,4 @@
-use Rattle.std.proofs.Common.{arith}
-use Rattle.std.proofs.lemmas.Grind.{common_steps}
+use Rattle.lemmas.proofs.Common.{arith, common_steps}
 use Rattle.local_run.proofs.Silence.{outer_edge, unsaid_edge, unsaid_halo}
 use Rattle.local_run.proofs.border.set_halo_or_test_ring_cell.Goals as goal
 

@@ -1,5 +1,4 @@
-use Rattle.std.proofs.Common.{arith, ℕ, ◌<◌, ◌+◌, ◌*◌, ◌/◌, ◌≡◌, ◌∙◌, ap, ap₂, sym, refl}
-use Rattle.std.proofs.lemmas.Bool.{and_parts}
+use Rattle.lemmas.proofs.Common.{◌*◌, ◌+◌, ◌/◌, ◌<◌, ◌∙◌, ◌≡◌, ap, ap₂, arith, refl, sym, ℕ, and_parts}
 use Rattle.bbm_rule.proofs.BitLemmas.{by_eq_or_not}
 use Rattle.local_run.specs.Quiet.{number_at}
 use Rattle.local_run.specs.declared.planes.Planes.{Planes}

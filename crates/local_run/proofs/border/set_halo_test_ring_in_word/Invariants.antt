@@ -1,5 +1,4 @@
-use Rattle.std.proofs.Common.{◌≡◌, ℕ, ◌<◌, ◌+◌, ◌-◌, true, w64}
-use Rattle.std.specs.Int.{trailing_zeros}
+use Rattle.lemmas.proofs.Common.{◌+◌, ◌-◌, ◌<◌, ◌≡◌, true, w64, ℕ, trailing_zeros}
 use Rattle.local_run.specs.Quiet.{number_at}
 use Rattle.local_run.specs.Scans.{IsEdgeCorrectAt, IsHaloCellSet, IsSameBeforeNumber, Shows}
 use Rattle.local_run.specs.Sweeps.{IsInRangeNotInWord}

@@ -1,5 +1,4 @@
-use Rattle.std.proofs.Common.{arith, ◌∙◌, ℕ}
-use Rattle.std.proofs.lemmas.Bool.{and_parts}
+use Rattle.lemmas.proofs.Common.{◌∙◌, arith, ℕ, and_parts}
 use Rattle.local_run.specs.Scans.{IsEdgeCorrectAt, IsHaloCellSet}
 use Rattle.local_run.proofs.Silence.{four_cells}
 use Rattle.local_run.proofs.border.set_or_test_four_cells.Goals as goal

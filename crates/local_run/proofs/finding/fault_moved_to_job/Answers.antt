@@ -1,5 +1,4 @@
-use Rattle.std.proofs.Common.{◌≡◌, ◌+ℤ◌, arith, rules, SFits, w32, ap}
-use Rattle.std.proofs.lemmas.Int.{ints}
+use Rattle.lemmas.proofs.Common.{◌+ℤ◌, ◌≡◌, SFits, ap, arith, rules, w32, ints}
 use Rattle.bbm_rule.specs.declared.block.Cell.{Cell}
 use Rattle.module_box.specs.declared.boxes.Box2.{Box2}
 use Rattle.local_run.specs.Moves.{columns_between, rows_between}

@@ -1,4 +1,4 @@
-use Rattle.std.proofs.Common.{Option, Some, None, sym, subst}
+use Rattle.lemmas.proofs.Common.{None, Option, Some, subst, sym}
 use Rattle.local_run.specs.Faults.{IsLeastFault}
 use Rattle.local_run.specs.declared.fault.Fault.{Fault}
 use Rattle.local_run.proofs.MovedJobs.{least_moved}

@@ -1,6 +1,4 @@
-use Rattle.std.proofs.lemmas.Bool.{not-true}
-use Rattle.std.proofs.lemmas.Grind.{common_steps}
-use Rattle.std.proofs.Common.{arith}
+use Rattle.lemmas.proofs.Common.{arith, common_steps, not-true}
 use Rattle.local_run.proofs.HeldLemmas.{all_live}
 use Rattle.local_run.proofs.held_cells.is_always_live.Goals as goal
 

@@ -1,5 +1,4 @@
-use Rattle.std.proofs.Common.{arith}
-use Rattle.std.proofs.lemmas.Grind.{common_steps}
+use Rattle.lemmas.proofs.Common.{arith, common_steps}
 use Rattle.local_run.proofs.Least.{least_unique, least_keep_unique}
 use Rattle.local_run.proofs.laws.findings_of_one_job_agree.Goals as goal
 

@@ -1,4 +1,4 @@
-use Rattle.std.proofs.Common.{◌≡◌, ◌∙◌, ap, subst}
+use Rattle.lemmas.proofs.Common.{◌∙◌, ◌≡◌, ap, subst}
 use Rattle.module_box.specs.Schedules.{Signals}
 use Rattle.module_job.specs.Shapes.{ShapeView, shift_to_origin, shape_of}
 use Rattle.local_run.specs.Leaps.{HasSameSignalsAtOddTimes}

@@ -1,4 +1,4 @@
-use Rattle.std.proofs.Common.{◌-◌, ◌≤◌, length}
+use Rattle.lemmas.proofs.Common.{◌-◌, ◌≤◌, length}
 use Rattle.local_run.specs.Leaps.{IsTimeBetween}
 use Rattle.local_run.proofs.leaps.first_event_place.Given as goal
 

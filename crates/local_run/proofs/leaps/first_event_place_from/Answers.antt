@@ -1,6 +1,4 @@
-use Rattle.std.proofs.Common.{arith}
-use Rattle.std.proofs.lemmas.Option.{slice_get-get_or}
-use Rattle.std.proofs.lemmas.Grind.{common_steps}
+use Rattle.lemmas.proofs.Common.{arith, common_steps, slice_get-get_or}
 use Rattle.local_run.proofs.LeapLemmas.{raise_time, drop_time, met}
 use Rattle.local_run.proofs.leaps.first_event_place_from.Goals as goal
 

@@ -1,5 +1,4 @@
-use Rattle.std.proofs.Common.{◌-◌, ◌<◌, length, arith}
-use Rattle.std.proofs.lemmas.Option.{slice_get-get_or}
+use Rattle.lemmas.proofs.Common.{◌-◌, ◌<◌, arith, length, slice_get-get_or}
 use Rattle.local_run.proofs.LeapLemmas.{any_place, sure}
 use Rattle.local_run.proofs.leaps.valid_start_place.Goals as goal
 

@@ -1,6 +1,4 @@
-use Rattle.std.proofs.Common.{arith, sym}
-use Rattle.std.proofs.lemmas.Option.{slice_get-get_or}
-use Rattle.std.proofs.lemmas.Grind.{common_steps}
+use Rattle.lemmas.proofs.Common.{arith, sym, common_steps, slice_get-get_or}
 use Rattle.local_run.proofs.LeapLemmas.{all_times_nowhere, all_times_there, one_more_other}
 use Rattle.local_run.proofs.lines.find_all_times_signal.Goals as goal
 

@@ -1,4 +1,4 @@
-use Rattle.std.proofs.Common.{rules, ◌≡◌, w32, sym, ◌∙◌}
+use Rattle.lemmas.proofs.Common.{◌∙◌, ◌≡◌, rules, sym, w32}
 use mir.Val.{to_z, of_z}
 use Rattle.local_run.proofs.QuietLemmas.{cell_marked}
 use Rattle.local_run.proofs.lines.mark_cell.Goals as goal

@@ -1,4 +1,4 @@
-use Rattle.std.proofs.Common.{ℕ, ◌≡◌, ◌<◌, ◌≤◌, slice_get, Some}
+use Rattle.lemmas.proofs.Common.{◌<◌, ◌≡◌, ◌≤◌, Some, slice_get, ℕ}
 use Rattle.module_box.specs.declared.schedules.TimedSignal.{TimedSignal}
 use Rattle.local_run.specs.Quiet.{HasRoomForCellNumbers, IsCellMarked, KeepsMarks}
 use Rattle.local_run.proofs.lines.mark_events.Given as goal

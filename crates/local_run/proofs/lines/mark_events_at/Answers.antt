@@ -1,5 +1,4 @@
-use Rattle.std.proofs.lemmas.Grind.{common_steps}
-use Rattle.std.proofs.Common.{arith}
+use Rattle.lemmas.proofs.Common.{arith, common_steps}
 use Rattle.local_run.proofs.QuietLemmas.{events_between}
 use Rattle.local_run.proofs.lines.mark_events_at.Goals as goal
 

@@ -1,5 +1,4 @@
-use Rattle.std.proofs.Common.{arith}
-use Rattle.std.proofs.lemmas.Grind.{common_steps}
+use Rattle.lemmas.proofs.Common.{arith, common_steps}
 use Rattle.local_run.proofs.QuietLemmas.{quiet_moved, still_quiet}
 use Rattle.local_run.proofs.lines.mark_lines.Goals as goal
 

@@ -1,6 +1,5 @@
-use Rattle.std.proofs.Common.{◌≡◌, ◌∙◌, ◌+◌, ◌*◌, ◌/◌, ◌≤◌, ℕ, ap, arith, length, subst, sym, List}
-use Rattle.std.specs.Int.{div_ceil}
-use Rattle.std.proofs.lemmas.List.{with_items_is}
+use Rattle.lemmas.proofs.Common.{◌*◌, ◌+◌, ◌/◌, ◌∙◌, ◌≡◌, ◌≤◌, List, ap, arith, length, subst, sym, ℕ, div_ceil}
+use Rattle.lemmas.proofs.Common.{with_items_is}
 use Rattle.module_box.specs.declared.boxes.Box2.{Box2}
 use Rattle.module_job.specs.Shapes.{shape_of}
 use Rattle.local_run.specs.Quiet.{AreAllTimesMarks}

@@ -1,5 +1,4 @@
-use Rattle.std.proofs.Common.{arith}
-use Rattle.std.proofs.lemmas.Grind.{common_steps}
+use Rattle.lemmas.proofs.Common.{arith, common_steps}
 use Rattle.local_run.proofs.LeapLemmas.{signal_there, steady_there}
 use Rattle.local_run.proofs.lines.signal_at_moment.Goals as goal
 

@@ -1,5 +1,4 @@
-use Rattle.std.proofs.Common.{◌<◌, length, arith, sym}
-use Rattle.std.proofs.lemmas.Option.{slice_get-get_or}
+use Rattle.lemmas.proofs.Common.{◌<◌, arith, length, sym, slice_get-get_or}
 use Rattle.module_box.proofs.Rising.{then_moment}
 use Rattle.local_run.proofs.LeapLemmas.{event_there}
 use Rattle.local_run.proofs.lines.signal_of_event_near.Goals as goal

@@ -1,4 +1,4 @@
-use Rattle.std.proofs.Common.{ℕ, ◌≡◌, ◌+◌, ◌*◌, ◌<◌, slice_index}
+use Rattle.lemmas.proofs.Common.{◌*◌, ◌+◌, ◌<◌, ◌≡◌, slice_index, ℕ}
 use Rattle.local_run.proofs.marks.are_cell_words_zero.Given as goal
 
 -- the words so far are zero

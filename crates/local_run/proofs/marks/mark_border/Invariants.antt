@@ -1,4 +1,4 @@
-use Rattle.std.proofs.Common.{◌≡◌, ℕ, ◌<◌, ◌+◌, ◌-◌, ◌*◌, length}
+use Rattle.lemmas.proofs.Common.{◌*◌, ◌+◌, ◌-◌, ◌<◌, ◌≡◌, length, ℕ}
 use Rattle.bbm_rule.specs.Marks.{IsUnmarked}
 use Rattle.local_run.proofs.marks.mark_border.Given as goal
 

@@ -1,5 +1,4 @@
-use Rattle.std.proofs.lemmas.Grind.{common_steps}
-use Rattle.std.proofs.Common.{arith}
+use Rattle.lemmas.proofs.Common.{arith, common_steps}
 use Rattle.local_run.proofs.MarkSearch.{lacks_mark}
 use Rattle.local_run.proofs.marks.marked_in_first_and_other.Goals as goal
 

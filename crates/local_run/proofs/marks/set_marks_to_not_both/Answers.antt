@@ -1,5 +1,4 @@
-use Rattle.std.proofs.Common.{arith}
-use Rattle.std.proofs.lemmas.Grind.{common_steps}
+use Rattle.lemmas.proofs.Common.{arith, common_steps}
 use Rattle.local_run.proofs.MarkFlips.{lacking_bit}
 use Rattle.local_run.proofs.marks.set_marks_to_not_both.Goals as goal
 

@@ -1,4 +1,4 @@
-use Rattle.std.proofs.Common.{◌≡◌, ℕ, ◌<◌, get_or, length}
+use Rattle.lemmas.proofs.Common.{◌<◌, ◌≡◌, get_or, length, ℕ}
 use Rattle.local_run.proofs.MarkFlips.{lacking}
 use Rattle.local_run.proofs.marks.set_marks_to_not_both.Given as goal
 

@@ -1,5 +1,4 @@
-use Rattle.std.proofs.Common.{arith}
-use Rattle.std.proofs.lemmas.Grind.{common_steps}
+use Rattle.lemmas.proofs.Common.{arith, common_steps}
 use Rattle.local_run.proofs.MarkFlips.{becomes_first, becomes_second, took}
 use Rattle.local_run.proofs.marks.swap_marks.Goals as goal
 

@@ -1,5 +1,4 @@
-use Rattle.std.proofs.Common.{arith, refl}
-use Rattle.std.proofs.lemmas.Grind.{common_steps}
+use Rattle.lemmas.proofs.Common.{arith, refl, common_steps}
 use Rattle.local_run.proofs.MarkFlips.{clears_first}
 use Rattle.local_run.proofs.marks.take_first.Goals as goal
 

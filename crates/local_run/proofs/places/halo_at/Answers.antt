@@ -1,5 +1,4 @@
-use Rattle.std.proofs.Common.{arith, subst, sym}
-use Rattle.std.proofs.lemmas.Grind.{common_steps}
+use Rattle.lemmas.proofs.Common.{arith, subst, sym, common_steps}
 use Rattle.circuit.specs.Meaning.{wires}
 use Rattle.module_job.specs.Signals.{IsSignalWireBelow}
 use Rattle.local_run.proofs.OwnWires.{halo_below}

@@ -1,5 +1,4 @@
-use Rattle.std.proofs.Common.{arith}
-use Rattle.std.proofs.lemmas.Grind.{common_steps}
+use Rattle.lemmas.proofs.Common.{arith, common_steps}
 use Rattle.local_run.proofs.NextCells.{demand_dead}
 use Rattle.local_run.proofs.places.skip_dead_demands.Goals as goal
 

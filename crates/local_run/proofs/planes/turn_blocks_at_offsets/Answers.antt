@@ -1,4 +1,4 @@
-use Rattle.std.proofs.Common.{ℕ, ◌+◌, ◌-◌, length, arith}
+use Rattle.lemmas.proofs.Common.{◌+◌, ◌-◌, arith, length, ℕ}
 use Rattle.local_run.proofs.LaneLemmas.{across_turned}
 use Rattle.local_run.proofs.planes.turn_blocks_at_offsets.Goals as goal
 

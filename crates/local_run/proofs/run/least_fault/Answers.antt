@@ -1,4 +1,4 @@
-use Rattle.std.proofs.Common.{◌≡◌, arith, subst, sym, ℕ}
+use Rattle.lemmas.proofs.Common.{◌≡◌, arith, subst, sym, ℕ}
 use Rattle.local_run.specs.Calm.{AreAllCellsDead}
 use Rattle.local_run.specs.Scans.{IsFirst, HasNoFaultOfKind}
 use Rattle.local_run.specs.declared.fault.Kind.TheVariants.{Stop}

@@ -1,4 +1,4 @@
-use Rattle.std.proofs.Common.{◌-◌}
+use Rattle.lemmas.proofs.Common.{◌-◌}
 use Rattle.local_run.proofs.LeapRuns.{InRun}
 use Rattle.local_run.proofs.run.least_fault.Given as goal
 

@@ -1,5 +1,4 @@
-use Rattle.std.proofs.lemmas.Grind.{common_steps}
-use Rattle.std.proofs.Common.{arith}
+use Rattle.lemmas.proofs.Common.{arith, common_steps}
 use Rattle.local_run.proofs.Leasts.{none_undefined}
 use Rattle.local_run.proofs.run.least_fault_if_defined.Goals as goal
 

@@ -1,5 +1,4 @@
-use Rattle.std.proofs.lemmas.Grind.{common_steps}
-use Rattle.std.proofs.Common.{arith}
+use Rattle.lemmas.proofs.Common.{arith, common_steps}
 use Rattle.local_run.proofs.Firsts.{edge_not_found, end_least, inner_in_box}
 use Rattle.local_run.proofs.Scans.{row_from}
 use Rattle.local_run.proofs.scan.cell_fault_assignment.Goals as goal

@@ -1,5 +1,4 @@
-use Rattle.std.proofs.Common.{arith, ◌≡◌, sym, ap, ◌∙◌, ℕ, subst}
-use Rattle.std.proofs.lemmas.Grind.{common_steps}
+use Rattle.lemmas.proofs.Common.{◌∙◌, ◌≡◌, ap, arith, subst, sym, ℕ, common_steps}
 use Rattle.bbm_rule.proofs.BitLemmas.{by_lt_or_le, by_eq_or_not}
 use Rattle.module_box.specs.declared.boxes.Box2.{Box2}
 use Rattle.local_run.specs.Places.{box_coord}

@@ -1,4 +1,4 @@
-use Rattle.std.proofs.Common.{◌≡◌, ◌⊎◌, ℕ, ◌<◌, ◌≤◌, ◌+◌, ◌-◌}
+use Rattle.lemmas.proofs.Common.{◌+◌, ◌-◌, ◌<◌, ◌≡◌, ◌≤◌, ◌⊎◌, ℕ}
 use Rattle.local_run.specs.Faults.{assignments}
 use Rattle.local_run.specs.Places.{box_coord}
 use Rattle.local_run.specs.Scans.{IsFaultWhereDefined}

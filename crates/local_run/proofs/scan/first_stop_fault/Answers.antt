@@ -1,5 +1,4 @@
-use Rattle.std.proofs.Common.{arith}
-use Rattle.std.proofs.lemmas.Grind.{common_steps}
+use Rattle.lemmas.proofs.Common.{arith, common_steps}
 use Rattle.local_run.proofs.StopScans.{one_more, past_all, past_these, stop_first}
 use Rattle.local_run.proofs.scan.first_stop_fault.Goals as goal
 

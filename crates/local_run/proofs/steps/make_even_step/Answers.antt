@@ -1,5 +1,4 @@
-use Rattle.std.proofs.lemmas.Grind.{common_steps}
-use Rattle.std.proofs.Common.{arith}
+use Rattle.lemmas.proofs.Common.{arith, common_steps}
 use Rattle.local_run.proofs.Stepping.{even_shows, inside_shows}
 use Rattle.local_run.proofs.steps.make_even_step.Goals as goal
 

@@ -1,4 +1,4 @@
-use Rattle.std.proofs.Common.{◌≡◌, ℕ, ◌<◌, ◌≤◌, ◌+◌, ◌-◌, ◌*◌, ◌/◌, false}
+use Rattle.lemmas.proofs.Common.{◌*◌, ◌+◌, ◌-◌, ◌/◌, ◌<◌, ◌≡◌, ◌≤◌, false, ℕ}
 use Rattle.local_run.specs.Runs.{local_run}
 use Rattle.local_run.specs.Places.{box_coord}
 use Rattle.local_run.specs.Lanes.{lane, HasWordsStrideRows}

@@ -1,4 +1,4 @@
-use Rattle.std.proofs.Common.{ℕ, ◌≡◌, ◌+◌, ◌<◌, slice_index}
+use Rattle.lemmas.proofs.Common.{◌+◌, ◌<◌, ◌≡◌, slice_index, ℕ}
 use Rattle.local_run.proofs.words.are_words_different.Given as goal
 
 -- if no difference is seen, the words so far are the same

@@ -1,6 +1,4 @@
-use Rattle.std.proofs.Common.{arith}
-use Rattle.std.proofs.lemmas.Bool.{cases_lt}
-use Rattle.std.proofs.lemmas.Grind.{common_steps}
+use Rattle.lemmas.proofs.Common.{arith, cases_lt, common_steps}
 use Rattle.local_run.proofs.TurnLemmas.{none_first, none_last, same_word}
 use Rattle.local_run.proofs.words.has_word_other_than.Goals as goal
 

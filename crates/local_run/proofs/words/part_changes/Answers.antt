@@ -1,5 +1,4 @@
-use Rattle.std.proofs.Common.{◌≡◌, ◌+◌, ℕ, arith, subst, inl, inr, slice_index}
-use Rattle.std.proofs.lemmas.Bool.{cases_lt}
+use Rattle.lemmas.proofs.Common.{◌+◌, ◌≡◌, arith, inl, inr, slice_index, subst, ℕ, cases_lt}
 use Rattle.local_run.specs.Turns.{DiagonalStays}
 use Rattle.local_run.proofs.TurnLemmas.{none_first, none_last}
 use Rattle.local_run.proofs.words.part_changes.Goals as goal

@@ -1,4 +1,4 @@
-use Rattle.std.proofs.Common.{ℕ, ◌≡◌, ◌+◌, ◌<◌, slice_index}
+use Rattle.lemmas.proofs.Common.{◌+◌, ◌<◌, ◌≡◌, slice_index, ℕ}
 use Rattle.local_run.specs.Turns.{DiagonalStays}
 use Rattle.local_run.proofs.words.part_changes.Given as goal
 

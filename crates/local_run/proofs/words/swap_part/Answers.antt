@@ -1,4 +1,4 @@
-use Rattle.std.proofs.Common.{arith}
+use Rattle.lemmas.proofs.Common.{arith}
 use Rattle.local_run.proofs.LiveLemmas.{swaps_more}
 use Rattle.local_run.proofs.words.swap_part.Goals as goal
 

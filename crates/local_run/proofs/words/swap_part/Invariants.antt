@@ -1,4 +1,4 @@
-use Rattle.std.proofs.Common.{◌≡◌, ◌≤◌, ◌-◌, length}
+use Rattle.lemmas.proofs.Common.{◌-◌, ◌≡◌, ◌≤◌, length}
 use Rattle.local_run.specs.Turns.{SwapsPart}
 use Rattle.local_run.proofs.words.swap_part.Given as goal
 

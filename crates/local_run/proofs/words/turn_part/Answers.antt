@@ -1,4 +1,4 @@
-use Rattle.std.proofs.Common.{arith}
+use Rattle.lemmas.proofs.Common.{arith}
 use Rattle.local_run.proofs.TurnLemmas.{part_turned}
 use Rattle.local_run.proofs.words.turn_part.Goals as goal
 

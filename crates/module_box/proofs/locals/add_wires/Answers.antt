@@ -1,6 +1,4 @@
-use Rattle.std.proofs.Common.{arith}
-use Rattle.std.proofs.lemmas.List.{length_push}
-use Rattle.std.proofs.lemmas.Grind.{common_steps}
+use Rattle.lemmas.proofs.Common.{arith, common_steps, length_push}
 use Rattle.module_box.proofs.WireLists.{next_fresh, wire_added}
 use Rattle.module_box.proofs.locals.add_wires.Goals as goal
 

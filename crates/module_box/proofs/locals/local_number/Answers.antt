@@ -1,5 +1,4 @@
-use Rattle.std.proofs.Common.{ap, sym, ◌∙◌, is_some}
-use Rattle.std.proofs.lemmas.Bool.{false≢true}
+use Rattle.lemmas.proofs.Common.{◌∙◌, ap, is_some, sym, false≢true}
 use Rattle.module_box.specs.Locals.{is_among}
 use Rattle.module_box.proofs.WireLists.{place_among, place_same}
 use Rattle.module_box.proofs.locals.local_number.Goals as goal

@@ -1,4 +1,4 @@
-use Rattle.std.proofs.Common.{map}
+use Rattle.lemmas.proofs.Common.{map}
 use Rattle.circuit.specs.Bridge.{netlist_of}
 use Rattle.module_box.specs.LocalGates.{gate_of_local_gate}
 use Rattle.module_box.proofs.LocalNets.{IsPart}

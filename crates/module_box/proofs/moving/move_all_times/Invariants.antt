@@ -1,4 +1,4 @@
-use Rattle.std.proofs.Common.{◌≡◌, ◌++◌, map, take, drop}
+use Rattle.lemmas.proofs.Common.{◌++◌, ◌≡◌, drop, map, take}
 use Rattle.module_box.specs.Moves.{moved_all_times}
 use Rattle.module_box.proofs.moving.move_all_times.Given as goal
 

@@ -1,4 +1,4 @@
-use Rattle.std.proofs.Common.{◌≡◌, ◌++◌, map, take, drop}
+use Rattle.lemmas.proofs.Common.{◌++◌, ◌≡◌, drop, map, take}
 use Rattle.module_box.specs.Moves.{moved_event}
 use Rattle.module_box.proofs.moving.move_events.Given as goal
 

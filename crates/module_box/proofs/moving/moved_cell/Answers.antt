@@ -1,5 +1,4 @@
-use Rattle.std.proofs.Common.{◌≡◌, rules, arith, SFits, w32, to_z, of_z, ◌+ℤ◌}
-use Rattle.std.proofs.lemmas.Int.{ints}
+use Rattle.lemmas.proofs.Common.{◌+ℤ◌, ◌≡◌, SFits, arith, of_z, rules, to_z, w32, ints}
 use Rattle.module_box.proofs.moving.moved_cell.Goals as goal
 
 pub returns : goal.returns

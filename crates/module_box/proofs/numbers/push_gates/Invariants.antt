@@ -1,4 +1,4 @@
-use Rattle.std.proofs.Common.{◌≡◌, ◌++◌, map, take, flat_map}
+use Rattle.lemmas.proofs.Common.{◌++◌, ◌≡◌, flat_map, map, take}
 use Rattle.module_box.specs.LocalGates.{gate_of_local_gate}
 use Rattle.module_box.specs.Numbers.{gate_code_numbers}
 use Rattle.module_box.proofs.numbers.push_gates.Given as goal

@@ -1,5 +1,4 @@
-use Rattle.std.proofs.Common.{◌≡◌, ◌++◌}
-use Rattle.std.specs.List.{range_with_len}
+use Rattle.lemmas.proofs.Common.{◌++◌, ◌≡◌, range_with_len}
 use Rattle.module_box.proofs.numbers.push_wires_from.Given as goal
 
 abbrev pub invariant-loop-place : goal.invariant-loop-place

@@ -1,5 +1,4 @@
-use Rattle.std.proofs.Common.{arith}
-use Rattle.std.proofs.lemmas.Grind.{common_steps}
+use Rattle.lemmas.proofs.Common.{arith, common_steps}
 use Rattle.module_box.proofs.FromCorner.{abs_from}
 use Rattle.module_box.proofs.places.place_in.Goals as goal
 

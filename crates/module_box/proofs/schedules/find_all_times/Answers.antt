@@ -1,6 +1,4 @@
-use Rattle.std.proofs.Common.{◌+◌, ◌-◌, ◌/◌, ◌<◌, length, arith, sym}
-use Rattle.std.proofs.lemmas.Option.{slice_get-get_or}
-use Rattle.std.proofs.lemmas.Grind.{common_steps}
+use Rattle.lemmas.proofs.Common.{◌+◌, ◌-◌, ◌/◌, ◌<◌, arith, length, sym, common_steps, slice_get-get_or}
 use Rattle.module_box.proofs.Rising.{raise_low, drop_high, is_absent, is_first, cell_total, cell_exact, all_times_none}
 use Rattle.module_box.proofs.Rising.{all_times_found}
 use Rattle.module_box.proofs.schedules.find_all_times.Goals as goal

@@ -1,4 +1,4 @@
-use Rattle.std.proofs.Common.{◌-◌, ◌≤◌, length}
+use Rattle.lemmas.proofs.Common.{◌-◌, ◌≤◌, length}
 use Rattle.module_box.specs.Moments.{cell_cmp}
 use Rattle.module_box.specs.Schedules.{cell_of}
 use Rattle.module_box.proofs.Rising.{IsBetween}

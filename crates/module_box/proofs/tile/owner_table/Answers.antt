@@ -1,7 +1,5 @@
-use Rattle.std.proofs.Common.{◌≡◌, ℕ, ◌*◌, ◌/◌, ◌<◌, length, take, arith, refl, ap, ◌∙◌, slice_index}
-use Rattle.std.proofs.lemmas.List.{with_items_is}
-use Rattle.std.proofs.lemmas.Option.{slice_get-get_or}
-use Rattle.std.proofs.lemmas.Grind.{common_steps}
+use Rattle.lemmas.proofs.Common.{◌*◌, ◌/◌, ◌<◌, ◌∙◌, ◌≡◌, ap, arith, length, refl, slice_index, take, ℕ, common_steps}
+use Rattle.lemmas.proofs.Common.{slice_get-get_or, with_items_is}
 use Rattle.module_box.specs.Tiling.{Owning, IsTable}
 use Rattle.module_box.proofs.Tilings.{all_inside, bad_block, filled_from, owners_from, taken_by_all, taken_by_next}
 use Rattle.module_box.proofs.Tilings.{taken_gap, taken_all_times, taken_twice}

@@ -1,6 +1,4 @@
-use Rattle.std.proofs.Common.{arith}
-use Rattle.std.proofs.lemmas.List.{take_more, map_push}
-use Rattle.std.proofs.lemmas.Grind.{common_steps}
+use Rattle.lemmas.proofs.Common.{arith, common_steps, map_push, take_more}
 use Rattle.bbm_rule.specs.Bits.{bit}
 use Rattle.module_box.proofs.values.bits_at_place.Goals as goal
 

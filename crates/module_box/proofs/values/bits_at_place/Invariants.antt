@@ -1,4 +1,4 @@
-use Rattle.std.proofs.Common.{◌≡◌, take}
+use Rattle.lemmas.proofs.Common.{◌≡◌, take}
 use Rattle.module_box.specs.LocalValues.{lane}
 use Rattle.module_box.proofs.values.bits_at_place.Given as goal
 

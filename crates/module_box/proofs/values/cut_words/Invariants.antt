@@ -1,4 +1,4 @@
-use Rattle.std.proofs.Common.{◌≡◌, ℕ, ◌<◌, ◌+◌, ◌*◌, length, slice_index_or}
+use Rattle.lemmas.proofs.Common.{◌*◌, ◌+◌, ◌<◌, ◌≡◌, length, slice_index_or, ℕ}
 use Rattle.bbm_rule.specs.Bits.{bit}
 use Rattle.module_box.proofs.values.cut_words.Given as goal
 

@@ -1,5 +1,4 @@
-use Rattle.std.proofs.Common.{rules, arith}
-use Rattle.std.proofs.lemmas.Grind.{common_steps}
+use Rattle.lemmas.proofs.Common.{arith, rules, common_steps}
 use Rattle.bbm_rule.specs.Bits.{bit}
 use Rattle.module_box.proofs.LocalRows.{clear_more}
 use Rattle.module_box.proofs.values.first_word_with_bit.Goals as goal

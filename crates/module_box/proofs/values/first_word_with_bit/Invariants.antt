@@ -1,4 +1,4 @@
-use Rattle.std.proofs.Common.{◌≡◌, ◌<◌, ℕ, false, slice_index}
+use Rattle.lemmas.proofs.Common.{◌<◌, ◌≡◌, false, slice_index, ℕ}
 use Rattle.bbm_rule.specs.Bits.{bit}
 use Rattle.module_box.proofs.values.first_word_with_bit.Given as goal
 

@@ -1,4 +1,4 @@
-use Rattle.std.proofs.Common.{◌≡◌, ◌++◌, rules, length}
+use Rattle.lemmas.proofs.Common.{◌++◌, ◌≡◌, length, rules}
 use Rattle.module_box.specs.LocalValues.{word_of_in_wire, gate_out_words}
 use Rattle.module_box.proofs.WordRows.{gate_done}
 use Rattle.module_box.proofs.values.push_out_words.Goals as goal

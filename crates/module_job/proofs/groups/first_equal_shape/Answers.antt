@@ -1,7 +1,5 @@
-use Rattle.std.proofs.Common.{◌≡◌, [], map, Some, nat_eq, get_or, arith, below_more, sym, ap, ◌∙◌, slice_get}
-use Rattle.std.specs.Arc.{arc_value}
-use Rattle.std.proofs.lemmas.Bool.{false≢true}
-use Rattle.std.proofs.lemmas.Bool.Decides.{Decides-eqb}
+use Rattle.lemmas.proofs.Common.{[], ◌∙◌, ◌≡◌, Some, ap, arith, below_more, get_or, map, nat_eq, slice_get, sym}
+use Rattle.lemmas.proofs.Common.{Decides-eqb, arc_value, false≢true}
 use Rattle.module_box.proofs.EqualTests.{lists}
 use Rattle.module_job.proofs.EqualJobs.{shapes_decide}
 use Rattle.module_job.proofs.FirstShapes.{one_value, same_read, value_at}

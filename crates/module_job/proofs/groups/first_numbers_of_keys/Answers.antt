@@ -1,7 +1,6 @@
-use Rattle.std.proofs.Common.{◌+◌, List, [], ◌∷◌, ℕ, length, sym, ap, subst, arith, slice_index}
+use Rattle.lemmas.proofs.Common.{[], ◌+◌, ◌∷◌, List, ap, arith, length, length-append, slice_index, subst, sym, ℕ}
+use Rattle.lemmas.proofs.Common.{slice_get-get_or}
 use Rattle.indexmap.specs.IndexMap.{get}
-use Rattle.std.proofs.lemmas.List.{length-append}
-use Rattle.std.proofs.lemmas.Option.{slice_get-get_or}
 use Rattle.module_job.specs.Groups.{IsFirstLike, same_key}
 use Rattle.module_job.proofs.FirstKeys.{IsFirstOf, first_found, known_more}
 use Rattle.module_job.proofs.FirstShapes.{group_more}

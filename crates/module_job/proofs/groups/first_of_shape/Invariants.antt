@@ -1,6 +1,5 @@
 -- No job before has the same shape.
-use Rattle.std.proofs.Common.{ℕ, ◌<◌, map, ◌≢◌, slice_get}
-use Rattle.std.specs.Arc.{arc_value}
+use Rattle.lemmas.proofs.Common.{◌<◌, ◌≢◌, map, slice_get, ℕ, arc_value}
 use Rattle.module_job.specs.Shapes.{shape_of}
 use Rattle.module_job.proofs.groups.first_of_shape.Given as goal
 

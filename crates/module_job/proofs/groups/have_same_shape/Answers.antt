@@ -1,5 +1,4 @@
-use Rattle.std.proofs.Common.{◌≡◌, map, Some, sym, ap, ◌∙◌, slice_get}
-use Rattle.std.specs.Arc.{arc_value}
+use Rattle.lemmas.proofs.Common.{◌∙◌, ◌≡◌, Some, ap, map, slice_get, sym, arc_value}
 use Rattle.module_job.specs.Shapes.{shape_of}
 use Rattle.module_job.proofs.EqualJobs.{shapes_decide}
 use Rattle.module_job.proofs.FirstShapes.{one_value, value_twice}

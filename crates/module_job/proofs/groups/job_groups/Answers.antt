@@ -1,9 +1,7 @@
-use Rattle.std.proofs.Common.{◌≡◌, ◌+◌, ◌<◌, [], ◌∷◌, ℕ, List, map, length, Some, sym, ap, subst, ◌∙◌, arith}
-use Rattle.std.specs.Prelude.{slice_get, slice_index, unwrap_or}
-use Rattle.std.specs.Arc.{arc_value}
+use Rattle.lemmas.proofs.Common.{[], ◌+◌, ◌<◌, ◌∙◌, ◌∷◌, ◌≡◌, List, Some, ap, arith, length, length-append, map}
+use Rattle.lemmas.proofs.Common.{slice_get, slice_index, subst, sym, unwrap_or, ℕ, arc_value, false≢true, length-map}
+use Rattle.lemmas.proofs.Common.{mapped_at}
 use Rattle.indexmap.specs.IndexMap.{get}
-use Rattle.std.proofs.lemmas.Bool.{false≢true}
-use Rattle.std.proofs.lemmas.List.{length-append, length-map}
 use Rattle.module_job.specs.Groups.{IsFirstLike, same_key}
 use Rattle.module_job.specs.Keys.{shape_key}
 use Rattle.module_job.specs.Shapes.{shape_of}
@@ -11,7 +9,7 @@ use Rattle.module_job.specs.Summaries.{shape_summary}
 use Rattle.module_job.proofs.FirstKeys.{IsFirstOf, found_within, known_more}
 use Rattle.module_job.proofs.FirstShapes.{all_groups, group_more, value_twice}
 use Rattle.module_job.proofs.FirstSummaries.{first_equal_shape, head_like, head_same, heads_more, is_head, others_more}
-use Rattle.module_job.proofs.FirstSummaries.{AreHeadsBefore, value_of}
+use Rattle.module_job.proofs.FirstSummaries.{AreHeadsBefore}
 use Rattle.module_job.proofs.groups.job_groups.Goals as goal
 use Rattle.module_job.proofs.groups.job_groups.Goals.{then-not-have_same_shape+in_ok-key+in_ok-first}
 use Rattle.module_job.proofs.groups.job_groups.Goals.{else-not-have_same_shape}
@@ -79,7 +77,7 @@ jobs-preserved c =
       summaries = λ other. subst (IsFirstOf (map shape_summary shapes) (n + 1) other)
           (sym (c.in_ok-group.ensures.first_is_added other))
           (known_more _ n summary other (get same_key c.jobs.summaries summary) (get same_key c.jobs.summaries other)
-          head (value_of shape_summary shapes n t there ∙ ap Some (sym c.summary.ensures))
+          head (mapped_at shape_summary shapes n t there ∙ ap Some (sym c.summary.ensures))
           (c.jobs.invariant.summaries summary) is (c.jobs.invariant.summaries other));
       keys = elim c.if-not-have_same_shape.branch [
         | then-not-have_same_shape+in_ok-key+in_ok-first w ↦ others_more shape_summary shape_key shapes n

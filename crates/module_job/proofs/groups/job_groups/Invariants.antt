@@ -1,7 +1,6 @@
 -- The jobs before have their groups. The maps have the first number of each summary, and of each key of a shape that
 -- differs from the first with its summary.
-use Rattle.std.proofs.Common.{◌≡◌, ℕ, ◌<◌, List, map, length, slice_index}
-use Rattle.std.specs.Arc.{arc_value}
+use Rattle.lemmas.proofs.Common.{◌<◌, ◌≡◌, List, length, map, slice_index, ℕ, arc_value}
 use Rattle.indexmap.specs.IndexMap.{get}
 use Rattle.module_job.specs.Groups.{IsFirstLike, same_key}
 use Rattle.module_job.specs.Keys.{shape_key}

@@ -1,6 +1,4 @@
-use Rattle.std.proofs.Common.{ap, arith, length}
-use Rattle.std.proofs.lemmas.List.{length-append, length-map}
-use Rattle.std.proofs.lemmas.Grind.{common_steps}
+use Rattle.lemmas.proofs.Common.{ap, arith, length, length-append, common_steps, length-map}
 use Rattle.module_job.proofs.FirstShapes.{all_groups, group_more}
 use Rattle.module_job.proofs.groups.shape_groups.Goals as goal
 

@@ -1,6 +1,5 @@
 -- Those before have their groups.
-use Rattle.std.proofs.Common.{◌≡◌, ℕ, ◌<◌, map, length, slice_index}
-use Rattle.std.specs.Arc.{arc_value}
+use Rattle.lemmas.proofs.Common.{◌<◌, ◌≡◌, length, map, slice_index, ℕ, arc_value}
 use Rattle.module_job.specs.Groups.{IsFirstLike}
 use Rattle.module_job.proofs.groups.shape_groups.Given as goal
 

@@ -1,4 +1,4 @@
-use Rattle.std.proofs.Common.{◌≡◌, take, flat_map}
+use Rattle.lemmas.proofs.Common.{◌≡◌, flat_map, take}
 use Rattle.module_job.specs.Keys.{number_bytes}
 use Rattle.module_job.proofs.keys.bytes_of.Given as goal
 

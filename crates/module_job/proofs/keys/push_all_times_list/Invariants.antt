@@ -1,4 +1,4 @@
-use Rattle.std.proofs.Common.{◌≡◌, ◌++◌, take, flat_map}
+use Rattle.lemmas.proofs.Common.{◌++◌, ◌≡◌, flat_map, take}
 use Rattle.module_job.specs.Keys.{all_times_numbers}
 use Rattle.module_job.proofs.keys.push_all_times_list.Given as goal
 

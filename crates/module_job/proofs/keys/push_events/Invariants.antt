@@ -1,4 +1,4 @@
-use Rattle.std.proofs.Common.{◌≡◌, ◌++◌, take, flat_map}
+use Rattle.lemmas.proofs.Common.{◌++◌, ◌≡◌, flat_map, take}
 use Rattle.module_job.specs.Keys.{event_numbers}
 use Rattle.module_job.proofs.keys.push_events.Given as goal
 

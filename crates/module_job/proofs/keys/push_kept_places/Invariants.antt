@@ -1,4 +1,4 @@
-use Rattle.std.proofs.Common.{◌≡◌, ◌++◌, take}
+use Rattle.lemmas.proofs.Common.{◌++◌, ◌≡◌, take}
 use Rattle.module_job.proofs.keys.push_kept_places.Given as goal
 
 abbrev pub invariant-loop-place : goal.invariant-loop-place

@@ -1,4 +1,4 @@
-use Rattle.std.proofs.Common.{◌≡◌, map, take}
+use Rattle.lemmas.proofs.Common.{◌≡◌, map, take}
 use Rattle.module_job.specs.Shapes.{moved_stop}
 use Rattle.module_job.proofs.stops.moved_stops.Given as goal
 

@@ -1,4 +1,4 @@
-use Rattle.std.proofs.Common.{◌≡◌, true, subst, arith}
+use Rattle.lemmas.proofs.Common.{◌≡◌, arith, subst, true}
 use Rattle.pattern.specs.declared.layout_line.LayoutLine.{LayoutLine}
 use Rattle.pattern.specs.Lines.{is_inside}
 use Rattle.pattern.proofs.TakenLemmas.{is_sized, mirror_fits}

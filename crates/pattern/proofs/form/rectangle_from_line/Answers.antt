@@ -1,5 +1,4 @@
-use Rattle.std.proofs.Common.{arith}
-use Rattle.std.proofs.lemmas.Grind.{common_steps}
+use Rattle.lemmas.proofs.Common.{arith, common_steps}
 use Rattle.pattern.proofs.PortLines.{rectangle_found, rectangle_missed}
 use Rattle.pattern.proofs.form.rectangle_from_line.Goals as goal
 

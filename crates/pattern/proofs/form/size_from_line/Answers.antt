@@ -1,5 +1,4 @@
-use Rattle.std.proofs.Common.{arith}
-use Rattle.std.proofs.lemmas.Grind.{common_steps}
+use Rattle.lemmas.proofs.Common.{arith, common_steps}
 use Rattle.pattern.proofs.PortLines.{size_found, size_missed}
 use Rattle.pattern.proofs.form.size_from_line.Goals as goal
 

@@ -1,5 +1,5 @@
 -- The names so far are in the set, and no others.
-use Rattle.std.proofs.Common.{◌≡◌, ℕ, List, take}
+use Rattle.lemmas.proofs.Common.{◌≡◌, List, take, ℕ}
 use Rattle.section_text.specs.Words.{has}
 use Rattle.pattern.proofs.names.name_set.Given as goal
 

@@ -1,5 +1,5 @@
 -- The bits of the names so far.
-use Rattle.std.proofs.Common.{◌≡◌, ◌++◌, map, take}
+use Rattle.lemmas.proofs.Common.{◌++◌, ◌≡◌, map, take}
 use Rattle.section_text.specs.Words.{has}
 use Rattle.pattern.proofs.on.push_whether_on.Given as goal
 

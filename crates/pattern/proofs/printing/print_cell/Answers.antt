@@ -1,5 +1,4 @@
-use Rattle.std.proofs.Common.{arith, rules}
-use Rattle.std.proofs.lemmas.Grind.{common_steps}
+use Rattle.lemmas.proofs.Common.{arith, rules, common_steps}
 use Rattle.pattern.proofs.printing.print_cell.Goals as goal
 
 pub returns-in_err-print_number-clause-ok : goal.returns-in_err-print_number-clause-ok

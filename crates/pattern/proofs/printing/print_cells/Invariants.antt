@@ -1,5 +1,5 @@
 -- The lines so far are printed.
-use Rattle.std.proofs.Common.{◌≡◌, ◌++◌, take, flat_map}
+use Rattle.lemmas.proofs.Common.{◌++◌, ◌≡◌, flat_map, take}
 use Rattle.section_text.specs.Spelling.{line_text}
 use Rattle.pattern.specs.Text.{cell_words}
 use Rattle.pattern.proofs.printing.print_cells.Given as goal

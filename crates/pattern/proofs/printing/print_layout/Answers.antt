@@ -1,4 +1,4 @@
-use Rattle.std.proofs.Common.{List, ℕ, ap, ◌∙◌, ◌++◌, codes, flat_map}
+use Rattle.lemmas.proofs.Common.{◌++◌, ◌∙◌, List, ap, codes, flat_map, ℕ}
 use Rattle.section_text.specs.Spelling.{line_text}
 use Rattle.bbm_rule.specs.declared.block.Cell.{Cell}
 use Rattle.pattern.specs.declared.layout_line.Rectangle.{Rectangle}

@@ -1,5 +1,5 @@
 -- The lines so far are printed.
-use Rattle.std.proofs.Common.{◌≡◌, ◌++◌, take, codes, flat_map}
+use Rattle.lemmas.proofs.Common.{◌++◌, ◌≡◌, codes, flat_map, take}
 use Rattle.section_text.specs.Spelling.{line_text}
 use Rattle.pattern.specs.Text.{rectangle_words}
 use Rattle.pattern.proofs.printing.print_mirrors.Given as goal

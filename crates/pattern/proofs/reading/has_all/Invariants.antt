@@ -1,6 +1,5 @@
 -- The set has the names so far.
-use Rattle.std.proofs.Common.{◌≡◌, true, take}
-use Rattle.std.specs.List.{list_all}
+use Rattle.lemmas.proofs.Common.{◌≡◌, take, true, list_all}
 use Rattle.section_text.specs.Words.{has}
 use Rattle.pattern.proofs.reading.has_all.Given as goal
 

@@ -1,5 +1,5 @@
 -- The names of the ports are good.
-use Rattle.std.proofs.Common.{Option, subst, sym}
+use Rattle.lemmas.proofs.Common.{Option, subst, sym}
 use Rattle.section_text.specs.Ports.{Named, named_ports}
 use Rattle.section_text.proofs.Good.{reads_faultless}
 use Rattle.pattern.specs.Lines.{AreNamed}

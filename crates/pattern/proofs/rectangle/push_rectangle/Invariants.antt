@@ -1,5 +1,5 @@
-use Rattle.std.proofs.Common.{◌≡◌, ◌++◌, ◌-◌}
-use Rattle.std.specs.List.{flat_map, range_with_len}
+use Rattle.lemmas.proofs.Common.{◌++◌, ◌-◌, ◌≡◌, range_with_len}
+use Rattle.std.specs.List.{flat_map}
 use Rattle.pattern.specs.Layout.{row_cells}
 use Rattle.pattern.proofs.rectangle.push_rectangle.Given as goal
 

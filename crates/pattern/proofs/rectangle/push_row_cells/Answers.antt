@@ -1,5 +1,4 @@
-use Rattle.std.proofs.Common.{arith}
-use Rattle.std.proofs.lemmas.Grind.{common_steps}
+use Rattle.lemmas.proofs.Common.{arith, common_steps}
 use Rattle.pattern.proofs.CellLists.{row_pushed}
 use Rattle.pattern.proofs.rectangle.push_row_cells.Goals as goal
 

@@ -1,4 +1,4 @@
-use Rattle.std.proofs.Common.{◌≡◌, ◌++◌, ◌-◌}
+use Rattle.lemmas.proofs.Common.{◌++◌, ◌-◌, ◌≡◌}
 use Rattle.pattern.specs.Layout.{row_cells}
 use Rattle.pattern.proofs.rectangle.push_row_cells.Given as goal
 

@@ -1,5 +1,5 @@
-use Rattle.std.proofs.Common.{◌≡◌}
-use Rattle.std.specs.List.{flat_map, filter, range_with_len}
+use Rattle.lemmas.proofs.Common.{◌≡◌, range_with_len}
+use Rattle.std.specs.List.{flat_map, filter}
 use Rattle.bbm_rule.specs.Board.{live}
 use Rattle.pattern.specs.Layout.{row_cells}
 use Rattle.pattern.proofs.run.live_cells_in_order.Given as goal

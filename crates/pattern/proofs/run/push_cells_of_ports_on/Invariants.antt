@@ -1,4 +1,4 @@
-use Rattle.std.proofs.Common.{◌≡◌, ◌++◌, take, map, filter}
+use Rattle.lemmas.proofs.Common.{◌++◌, ◌≡◌, filter, map, take}
 use Rattle.section_text.specs.Words.{has}
 use Rattle.pattern.proofs.run.push_cells_of_ports_on.Given as goal
 

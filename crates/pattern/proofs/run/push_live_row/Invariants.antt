@@ -1,4 +1,4 @@
-use Rattle.std.proofs.Common.{◌≡◌, ◌++◌, filter}
+use Rattle.lemmas.proofs.Common.{◌++◌, ◌≡◌, filter}
 use Rattle.bbm_rule.specs.Board.{live}
 use Rattle.pattern.specs.Layout.{row_cells}
 use Rattle.pattern.proofs.run.push_live_row.Given as goal

@@ -1,4 +1,4 @@
-use Rattle.std.proofs.Common.{◌≡◌, ◌++◌, take, flat_map}
+use Rattle.lemmas.proofs.Common.{◌++◌, ◌≡◌, flat_map, take}
 use Rattle.pattern.specs.Layout.{rectangle_cells}
 use Rattle.pattern.proofs.run.push_mirror_cells.Given as goal
 

@@ -1,5 +1,4 @@
-use Rattle.std.proofs.Common.{arith, ◌≡◌, ℤ, sym, subst}
-use Rattle.std.proofs.lemmas.Grind.{common_steps}
+use Rattle.lemmas.proofs.Common.{◌≡◌, arith, subst, sym, ℤ, common_steps}
 use Rattle.bbm_rule.specs.Board.{live}
 use Rattle.pattern.specs.Layout.{Pattern, start}
 use Rattle.pattern.specs.LayoutView.{pattern_of}

@@ -1,4 +1,4 @@
-use Rattle.std.proofs.Common.{◌≡◌, ◌≤◌, ℕ, ℤ}
+use Rattle.lemmas.proofs.Common.{◌≡◌, ◌≤◌, ℕ, ℤ}
 use Rattle.pattern.specs.Layout.{IsDeadOutside}
 use Rattle.bbm_rule.specs.Board.{live, HasSameSize}
 use Rattle.bbm_rule.specs.Plane.{run}

@@ -1,4 +1,4 @@
-use Rattle.std.proofs.Common.{◌≡◌, ℕ, ◌<◌, ◌≤◌, ◌+◌, List, ◌++◌, map, length, get_or, subst, sym, ap, ◌∙◌}
+use Rattle.lemmas.proofs.Common.{◌++◌, ◌+◌, ◌<◌, ◌∙◌, ◌≡◌, ◌≤◌, List, ap, get_or, length, map, subst, sym, ℕ}
 use Rattle.std.specs.List.{flat_map, filter}
 use Rattle.bbm_rule.specs.declared.block.Cell.{Cell}
 use Rattle.pattern.specs.declared.layout_line.Rectangle.{Rectangle}

@@ -1,5 +1,4 @@
-use Rattle.std.proofs.Common.{◌≡◌, true, ℤ, arith, ap, ◌∙◌, sym, All}
-use Rattle.std.proofs.lemmas.List.Elements.{All-same}
+use Rattle.lemmas.proofs.Common.{◌∙◌, ◌≡◌, All, ap, arith, sym, true, ℤ, All-same}
 use Rattle.bbm_rule.specs.Board.{is_inside}
 use Rattle.bbm_rule.specs.declared.block.Cell.{Cell}
 use Rattle.pattern.specs.Layout.{Pattern, in_cells, start}

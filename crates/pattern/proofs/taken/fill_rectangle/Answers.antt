@@ -1,4 +1,4 @@
-use Rattle.std.proofs.Common.{arith, refl, ◌∙◌}
+use Rattle.lemmas.proofs.Common.{◌∙◌, arith, refl}
 use Rattle.bbm_rule.specs.Board.{live}
 use Rattle.pattern.proofs.RectangleLemmas.{filled_more, none_filled}
 use Rattle.pattern.proofs.taken.fill_rectangle.Goals as goal

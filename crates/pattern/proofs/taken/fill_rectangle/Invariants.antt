@@ -1,5 +1,5 @@
 -- The rows so far are live.
-use Rattle.std.proofs.Common.{◌≡◌, ◌||◌, ◌-◌, ℤ}
+use Rattle.lemmas.proofs.Common.{◌-◌, ◌||◌, ◌≡◌, ℤ}
 use Rattle.bbm_rule.specs.Board.{live, HasSameSize}
 use Rattle.bbm_rule.specs.Spans.{in_area}
 use Rattle.pattern.proofs.taken.fill_rectangle.Given as goal

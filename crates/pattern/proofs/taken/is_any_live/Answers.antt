@@ -1,5 +1,4 @@
-use Rattle.std.proofs.Common.{arith}
-use Rattle.std.proofs.lemmas.Grind.{common_steps}
+use Rattle.lemmas.proofs.Common.{arith, common_steps}
 use Rattle.pattern.proofs.taken.is_any_live.Goals as goal
 
 pub returns-then-get : goal.returns-then-get

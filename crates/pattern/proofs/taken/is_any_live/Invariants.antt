@@ -1,6 +1,5 @@
 -- None of the cells so far is taken.
-use Rattle.std.proofs.Common.{◌≡◌, false, take}
-use Rattle.std.specs.List.{list_any}
+use Rattle.lemmas.proofs.Common.{◌≡◌, false, take, list_any}
 use Rattle.bbm_rule.specs.Board.{live}
 use Rattle.pattern.proofs.taken.is_any_live.Given as goal
 

@@ -1,6 +1,6 @@
 -- What was found in the rows so far.
-use Rattle.std.proofs.Common.{◌≡◌, ◌-◌}
-use Rattle.std.specs.List.{flat_map, list_any, range_with_len}
+use Rattle.lemmas.proofs.Common.{◌-◌, ◌≡◌, list_any, range_with_len}
+use Rattle.std.specs.List.{flat_map}
 use Rattle.bbm_rule.specs.Board.{live}
 use Rattle.pattern.specs.Layout.{row_cells}
 use Rattle.pattern.proofs.taken.is_any_live_in.Given as goal

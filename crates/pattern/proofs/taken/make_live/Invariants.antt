@@ -1,5 +1,5 @@
 -- The cells so far are live.
-use Rattle.std.proofs.Common.{◌≡◌, ◌||◌, ℤ, take}
+use Rattle.lemmas.proofs.Common.{◌||◌, ◌≡◌, take, ℤ}
 use Rattle.bbm_rule.specs.Board.{live, HasSameSize}
 use Rattle.pattern.specs.Layout.{in_cells}
 use Rattle.pattern.proofs.taken.make_live.Given as goal

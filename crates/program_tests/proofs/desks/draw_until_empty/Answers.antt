@@ -1,4 +1,4 @@
-use Rattle.std.proofs.Common.{arith, ap, sym, ◌∙◌}
+use Rattle.lemmas.proofs.Common.{◌∙◌, ap, arith, sym}
 use Rattle.core_book.specs.Draws.{past_last}
 use Rattle.job_pool.proofs.Sums.{past_last-snoc}
 use Rattle.program_tests.proofs.desks.draw_until_empty.Goals as goal

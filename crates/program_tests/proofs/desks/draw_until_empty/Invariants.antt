@@ -1,4 +1,4 @@
-use Rattle.std.proofs.Common.{◌-◌}
+use Rattle.lemmas.proofs.Common.{◌-◌}
 use Rattle.core_book.specs.Draws.{past_last}
 use Rattle.job_pool.specs.Seats.{IsSeatOf}
 use Rattle.program_tests.proofs.desks.draw_until_empty.Given as goal

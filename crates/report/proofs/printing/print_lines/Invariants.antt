@@ -1,5 +1,5 @@
 -- The lines so far are printed.
-use Rattle.std.proofs.Common.{◌≡◌, ◌++◌, take, flat_map}
+use Rattle.lemmas.proofs.Common.{◌++◌, ◌≡◌, flat_map, take}
 use Rattle.report.specs.ReportText.{report_line_text}
 use Rattle.report.proofs.printing.print_lines.Given as goal
 

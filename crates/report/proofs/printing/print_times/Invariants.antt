@@ -1,4 +1,4 @@
-use Rattle.std.proofs.Common.{◌≡◌, ◌++◌, take, flat_map}
+use Rattle.lemmas.proofs.Common.{◌++◌, ◌≡◌, flat_map, take}
 use Rattle.core_book.specs.Verdicts.{timing_report}
 use Rattle.report.specs.ReportText.{report_line_text}
 use Rattle.report.proofs.printing.print_times.Given as goal

@@ -1,4 +1,4 @@
-use Rattle.std.proofs.Common.{◌≡◌, ◌∙◌, rules}
+use Rattle.lemmas.proofs.Common.{◌∙◌, ◌≡◌, rules}
 use Rattle.std.specs.String.{string_bytes}
 use Rattle.report.proofs.OpeningLines.{opening_made}
 use Rattle.report.proofs.printing.text_before_verdict.Goals as goal

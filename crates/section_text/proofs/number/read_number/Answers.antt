@@ -1,5 +1,4 @@
-use Rattle.std.proofs.lemmas.Grind.{common_steps}
-use Rattle.std.proofs.Common.{arith}
+use Rattle.lemmas.proofs.Common.{arith, common_steps}
 use Rattle.section_text.proofs.Numbers.{not_read, number_read, read_small}
 use Rattle.section_text.proofs.number.read_number.Goals as goal
 

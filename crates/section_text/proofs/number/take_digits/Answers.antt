@@ -1,7 +1,5 @@
 -- What is read of the digits, and what is left, make the number of the whole word.
-use Rattle.std.proofs.Common.{◌≡◌, ◌+◌, arith, get_or, true, rules}
-use Rattle.std.proofs.lemmas.List.{take_rest}
-use Rattle.std.proofs.lemmas.Grind.{common_steps}
+use Rattle.lemmas.proofs.Common.{◌+◌, ◌≡◌, arith, get_or, rules, true, common_steps, take_rest}
 use Rattle.section_text.specs.Words.{is_digit}
 use Rattle.section_text.proofs.Digits.{is_digit_is, one_more, room}
 use Rattle.section_text.proofs.Leading.{reads, reads_end, reads_full, reads_more, reads_none, reads_some, reads_whole}

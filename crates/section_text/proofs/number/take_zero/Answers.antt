@@ -1,5 +1,4 @@
-use Rattle.std.proofs.Common.{arith}
-use Rattle.std.proofs.lemmas.Grind.{common_steps}
+use Rattle.lemmas.proofs.Common.{arith, common_steps}
 use Rattle.section_text.proofs.Leading.{zero_else, zero_then}
 use Rattle.section_text.proofs.number.take_zero.Goals as goal
 

@@ -1,5 +1,4 @@
-use Rattle.std.proofs.Common.{arith, rules}
-use Rattle.std.proofs.lemmas.Grind.{common_steps}
+use Rattle.lemmas.proofs.Common.{arith, rules, common_steps}
 use Rattle.section_text.proofs.spelling.print_word.Goals as goal
 
 pub returns-in_err-push-clause-ok : goal.returns-in_err-push-clause-ok

@@ -1,5 +1,4 @@
-use Rattle.std.proofs.lemmas.Grind.{common_steps}
-use Rattle.std.proofs.Common.{arith}
+use Rattle.lemmas.proofs.Common.{arith, common_steps}
 use Rattle.section_text.proofs.Splitting.{is_alone, is_not_alone}
 use Rattle.section_text.proofs.words.is_one_word.Goals as goal
 

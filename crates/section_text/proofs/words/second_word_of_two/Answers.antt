@@ -1,5 +1,4 @@
-use Rattle.std.proofs.lemmas.Grind.{common_steps}
-use Rattle.std.proofs.Common.{arith}
+use Rattle.lemmas.proofs.Common.{arith, common_steps}
 use Rattle.section_text.proofs.Splitting.{no_second, past_second, second_is}
 use Rattle.section_text.proofs.words.second_word_of_two.Goals as goal
 

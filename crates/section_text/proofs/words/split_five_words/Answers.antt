@@ -1,5 +1,4 @@
-use Rattle.std.proofs.lemmas.Grind.{common_steps}
-use Rattle.std.proofs.Common.{arith}
+use Rattle.lemmas.proofs.Common.{arith, common_steps}
 use Rattle.section_text.proofs.Splitting.{five_are, lone_word, no_five}
 use Rattle.section_text.proofs.words.split_five_words.Goals as goal
 

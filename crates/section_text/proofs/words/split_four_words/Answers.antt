@@ -1,5 +1,4 @@
-use Rattle.std.proofs.lemmas.Grind.{common_steps}
-use Rattle.std.proofs.Common.{arith}
+use Rattle.lemmas.proofs.Common.{arith, common_steps}
 use Rattle.section_text.proofs.Splitting.{four_are, many_words, one_word, three_words, two_words}
 use Rattle.section_text.proofs.words.split_four_words.Goals as goal
 

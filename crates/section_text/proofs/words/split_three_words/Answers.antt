@@ -1,5 +1,4 @@
-use Rattle.std.proofs.lemmas.Grind.{common_steps}
-use Rattle.std.proofs.Common.{arith}
+use Rattle.lemmas.proofs.Common.{arith, common_steps}
 use Rattle.section_text.proofs.Splitting.{one_of_three, past_third, three_are, two_words_are_not_three}
 use Rattle.section_text.proofs.words.split_three_words.Goals as goal
 

@@ -1,4 +1,4 @@
-use Rattle.std.proofs.Common.{◌∙◌, sym}
+use Rattle.lemmas.proofs.Common.{◌∙◌, sym}
 use Rattle.section_text.proofs.Splitting.{split_none, split_some}
 use Rattle.section_text.proofs.words.split_word.Goals as goal
 

@@ -1,6 +1,4 @@
-use Rattle.std.proofs.Common.{◌∙◌, ◌+◌, sym, ap, arith, option_copied}
-use Rattle.std.proofs.lemmas.List.{length_push}
-use Rattle.std.proofs.lemmas.Grind.{common_steps}
+use Rattle.lemmas.proofs.Common.{◌+◌, ◌∙◌, ap, arith, option_copied, sym, common_steps, length_push}
 use Rattle.section_text.specs.Words.{words_of_rest, names_at}
 use Rattle.section_text.proofs.NamesAt.{goes_on, stops, is_done}
 use Rattle.section_text.proofs.WordsLeft.{name_by_word, no_name_at, one_further}

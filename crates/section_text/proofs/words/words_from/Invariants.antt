@@ -1,4 +1,4 @@
-use Rattle.std.proofs.Common.{◌≡◌, drop}
+use Rattle.lemmas.proofs.Common.{◌≡◌, drop}
 use Rattle.section_text.specs.Words.{words_of}
 use Rattle.section_text.proofs.words.words_from.Given as goal
 

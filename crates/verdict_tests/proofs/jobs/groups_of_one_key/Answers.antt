@@ -1,6 +1,4 @@
-use Rattle.std.proofs.Common.{◌≡◌, ℕ, List, map, sym, ap, subst, ◌∙◌}
-use Rattle.std.specs.Arc.{arc_value}
-use Rattle.std.proofs.lemmas.List.{take_all}
+use Rattle.lemmas.proofs.Common.{◌∙◌, ◌≡◌, List, ap, map, subst, sym, ℕ, arc_value, take_all}
 use Rattle.module_job.specs.Groups.{AreKeys}
 use Rattle.module_job.proofs.FirstShapes.{made_keys, map_twice}
 use Rattle.verdict_tests.proofs.jobs.groups_of_one_key.Goals as goal

@@ -1,5 +1,5 @@
 -- The key stands in the list once for each shape so far.
-use Rattle.std.proofs.Common.{◌≡◌, map, take}
+use Rattle.lemmas.proofs.Common.{◌≡◌, map, take}
 use Rattle.verdict_tests.proofs.jobs.groups_of_one_key.Given as goal
 
 abbrev pub invariant-shapes : goal.invariant-shapes

@@ -1,6 +1,4 @@
-use Rattle.std.proofs.Common.{◌*◌, ◌≡◌, length, ap, arith}
-use Rattle.std.specs.Vec.{with_items}
-use Rattle.std.proofs.lemmas.List.{with_items_is}
+use Rattle.lemmas.proofs.Common.{◌*◌, ◌≡◌, ap, arith, length, with_items, with_items_is}
 use Rattle.bbm_rule.proofs.BandLemmas.{even_fill, odd_fill}
 use Rattle.bbm_rule.proofs.GridLemmas.{plane_of, fill_plane, filled_cells, grid_of, board_of_words}
 use Rattle.bbm_rule.proofs.grid.Grid.fill_row.Goals as goal

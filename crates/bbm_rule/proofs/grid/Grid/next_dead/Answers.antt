@@ -1,4 +1,4 @@
-use Rattle.std.proofs.Common.{◌*◌, true, false}
+use Rattle.lemmas.proofs.Common.{◌*◌, false, true}
 use Rattle.bbm_rule.proofs.GridLemmas.{same_before, same_there}
 use Rattle.bbm_rule.proofs.grid.Grid.next_dead.Goals as goal
 

@@ -1,7 +1,5 @@
-use Rattle.std.proofs.Common.{◌*◌, ◌+◌, ◌-◌, ◌/◌, ◌%◌, ◌≡◌, length, ap, arith}
-use Rattle.std.specs.Vec.{with_items}
-use Rattle.std.proofs.lemmas.List.{with_items_is}
-use Rattle.std.proofs.lemmas.Grind.{common_steps}
+use Rattle.lemmas.proofs.Common.{◌%◌, ◌*◌, ◌+◌, ◌-◌, ◌/◌, ◌≡◌, ap, arith, length, common_steps, with_items}
+use Rattle.lemmas.proofs.Common.{with_items_is}
 use Rattle.bbm_rule.proofs.GridLemmas.{plane_of, grid_of, board_of_words, margin_kept, aligned_room, shifted_room}
 use Rattle.bbm_rule.proofs.BoardLemmas.{even_plane, even_step, odd_plane, odd_step, odd_leaves, undone, board_same}
 use Rattle.bbm_rule.proofs.BoardLemmas.{plane_same}

@@ -1,7 +1,6 @@
 -- The cells of the box have one owner, whose number is there.
-use Rattle.std.proofs.Common.{arith, ◌≡◌, ◌+◌, ◌≤◌, ◌<◌, ℕ, Some, length, subst, sym, slice_get}
-use Rattle.std.specs.Arc.{arc_value}
-use Rattle.std.proofs.lemmas.Grind.{common_steps}
+use Rattle.lemmas.proofs.Common.{◌+◌, ◌<◌, ◌≡◌, ◌≤◌, Some, arith, length, slice_get, subst, sym, ℕ, arc_value}
+use Rattle.lemmas.proofs.Common.{common_steps}
 use Rattle.module_box.specs.declared.boxes.Box2.{Box2}
 use Rattle.module_job.specs.Jobs.{IsJob, JobView}
 use Rattle.border_match.specs.Boards.{jobs_of}

@@ -1,6 +1,5 @@
 -- Each turn notes the cells of one module's box.
-use Rattle.std.proofs.Common.{rules, ap, arith}
-use Rattle.std.proofs.lemmas.Grind.{common_steps}
+use Rattle.lemmas.proofs.Common.{ap, arith, rules, common_steps}
 use Rattle.module_box.specs.declared.boxes.Box2.{Box2}
 use Rattle.border_match.proofs.Cells.{area_at, in_whole}
 use Rattle.border_match.proofs.NearModules.{all_columns, columns_more, no_column}

@@ -1,5 +1,5 @@
 -- The cells of the columns so far are noted, as far down as the boxes of their owners.
-use Rattle.std.proofs.Common.{◌<◌, ◌-◌}
+use Rattle.lemmas.proofs.Common.{◌-◌, ◌<◌}
 use Rattle.border_match.specs.Boards.{AreOwnersListedToColumn, AreModuleNumbers, KeepsAllNumbers}
 use Rattle.border_match.proofs.borders.Borders.add_owners_in_row.Given as goal
 

@@ -1,4 +1,4 @@
-use Rattle.std.proofs.Common.{◌≡◌, ℕ, Option, None, Some, SFits, w32, rules, of_z, to_z, to_z-of_z, ap, ◌∙◌, IfSome}
+use Rattle.lemmas.proofs.Common.{◌∙◌, ◌≡◌, IfSome, None, Option, SFits, Some, ap, of_z, rules, to_z, to_z-of_z, w32, ℕ}
 use Rattle.module_box.specs.declared.boxes.Box2.{Box2}
 use Rattle.module_job.specs.Shapes.{ShapeView, shift_to_origin}
 use Rattle.border_match.proofs.Marks.{local_place}

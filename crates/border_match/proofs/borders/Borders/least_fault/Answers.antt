@@ -1,5 +1,4 @@
-use Rattle.std.proofs.Common.{arith, subst, sym, ◌∙◌}
-use Rattle.std.proofs.lemmas.Grind.{common_steps}
+use Rattle.lemmas.proofs.Common.{◌∙◌, arith, subst, sym, common_steps}
 use Rattle.border_match.specs.Boards.{AreMarked}
 use Rattle.border_match.proofs.Least.{least_by_three}
 use Rattle.border_match.proofs.Marks.{fault_unmarked, unmarked_first, written_back}

@@ -1,5 +1,4 @@
-use Rattle.std.proofs.Common.{◌≡◌, ℕ, ◌+◌, List, Some, ap, subst, ◌∙◌, arith, pos, slice_get}
-use Rattle.std.proofs.lemmas.Int.{ints}
+use Rattle.lemmas.proofs.Common.{◌+◌, ◌∙◌, ◌≡◌, List, Some, ap, arith, pos, slice_get, subst, ℕ, ints}
 use Rattle.module_box.specs.Moments.{moment_cmp}
 use Rattle.module_box.specs.Schedules.{IsRising, Signals, moment_of}
 use Rattle.module_box.specs.Tiling.{owner_of}

@@ -1,4 +1,4 @@
-use Rattle.std.proofs.Common.{◌-◌, length}
+use Rattle.lemmas.proofs.Common.{◌-◌, length}
 use Rattle.border_match.specs.Boards.{AreMarked, IsFaultOfSearchedJob, IsNamedBelow}
 use Rattle.border_match.specs.Candidates.{IsBetter}
 use Rattle.border_match.proofs.borders.Borders.with_edge_events.Given as goal

@@ -1,5 +1,5 @@
 -- The faults that the edges of the modules so far name are covered.
-use Rattle.std.proofs.Common.{take}
+use Rattle.lemmas.proofs.Common.{take}
 use Rattle.border_match.specs.Boards.{AreMarked, IsFaultOfSearchedJob, IsAtEdgeEventOfAny}
 use Rattle.border_match.specs.Candidates.{IsBetter}
 use Rattle.border_match.proofs.borders.Borders.with_edges.Given as goal

@@ -1,5 +1,5 @@
 -- The cells of the lines so far are covered.
-use Rattle.std.proofs.Common.{map, pos}
+use Rattle.lemmas.proofs.Common.{map, pos}
 use Rattle.module_box.specs.Moves.{moved_all_times}
 use Rattle.border_match.specs.Boards.{IsFaultOfSearchedJob, IsStarredBelow}
 use Rattle.border_match.specs.Candidates.{IsBetter}

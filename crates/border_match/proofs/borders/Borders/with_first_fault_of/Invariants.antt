@@ -1,4 +1,4 @@
-use Rattle.std.proofs.Common.{◌≡◌, ◌<◌}
+use Rattle.lemmas.proofs.Common.{◌<◌, ◌≡◌}
 use Rattle.border_match.specs.Boards.{IsFaultOfSearchedJob}
 use Rattle.border_match.specs.declared.fault.BorderFault.{BorderFault}
 use Rattle.border_match.proofs.borders.Borders.with_first_fault_of.Given as goal

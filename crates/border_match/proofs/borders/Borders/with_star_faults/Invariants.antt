@@ -1,5 +1,5 @@
 -- The cells of halo lines, and of edge lines of the modules so far, are covered.
-use Rattle.std.proofs.Common.{take}
+use Rattle.lemmas.proofs.Common.{take}
 use Rattle.border_match.specs.Boards.{IsFaultOfSearchedJob, HasStarLineInModules}
 use Rattle.border_match.specs.Candidates.{IsBetter}
 use Rattle.border_match.proofs.borders.Borders.with_star_faults.Given as goal

@@ -1,4 +1,4 @@
-use Rattle.std.proofs.Common.{◌≡◌, ◌∙◌, map, sym, ap, ap₂, subst, IfOk}
+use Rattle.lemmas.proofs.Common.{◌∙◌, ◌≡◌, IfOk, ap, ap₂, map, subst, sym}
 use Rattle.circuit.specs.Bridge.{circuit_of}
 use Rattle.certificate_lines.specs.Entries.{modules_of}
 use Rattle.certificate.specs.Grammars.{CertView}

@@ -1,4 +1,4 @@
-use Rattle.std.proofs.Common.{◌≡◌, ◌++◌, drop}
+use Rattle.lemmas.proofs.Common.{◌++◌, ◌≡◌, drop}
 use Rattle.certificate_lines.specs.Entries.{modules_of}
 use Rattle.certificate_lines.specs.Settings.{setting_of}
 use Rattle.certificate.specs.Keeps.{unkept, unkept_from}

@@ -1,6 +1,5 @@
-use Rattle.std.proofs.Common.{◌≡◌, ◌∙◌, ◌-◌, ℕ, ap, arith, map}
-use Rattle.std.specs.List.{flat_map, range_with_len}
-use Rattle.std.proofs.lemmas.Grind.{common_steps}
+use Rattle.lemmas.proofs.Common.{◌-◌, ◌∙◌, ◌≡◌, ap, arith, map, ℕ, common_steps, range_with_len}
+use Rattle.std.specs.List.{flat_map}
 use Rattle.bbm_rule.specs.declared.block.Cell.{Cell}
 use Rattle.circuit.specs.Bridge.{circuit_of}
 use Rattle.pattern.specs.Layout.{row_cells, rectangle_cells}

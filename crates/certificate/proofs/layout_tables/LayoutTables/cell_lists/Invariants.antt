@@ -1,6 +1,6 @@
 -- What the cells of the rows so far carry and must be.
-use Rattle.std.proofs.Common.{◌≡◌, ◌-◌, map}
-use Rattle.std.specs.List.{All, flat_map, range_with_len}
+use Rattle.lemmas.proofs.Common.{◌-◌, ◌≡◌, map, range_with_len}
+use Rattle.std.specs.List.{All, flat_map}
 use Rattle.circuit.specs.Bridge.{circuit_of}
 use Rattle.circuit.specs.Meaning.{wires}
 use Rattle.module_box.specs.Locals.{circuit_wire}

@@ -1,5 +1,4 @@
-use Rattle.std.proofs.Common.{arith}
-use Rattle.std.proofs.lemmas.Grind.{common_steps}
+use Rattle.lemmas.proofs.Common.{arith, common_steps}
 use Rattle.certificate.proofs.LayoutTableLemmas.{end_dead, start_dead}
 use Rattle.certificate.proofs.layout_tables.LayoutTables.next_named_column.Goals as goal
 

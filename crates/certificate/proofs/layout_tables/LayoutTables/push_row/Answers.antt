@@ -1,5 +1,4 @@
-use Rattle.std.proofs.Common.{◌≡◌, ◌-◌, ℕ, arith, subst}
-use Rattle.std.proofs.lemmas.Grind.{common_steps}
+use Rattle.lemmas.proofs.Common.{◌-◌, ◌≡◌, arith, subst, ℕ, common_steps}
 use Rattle.circuit.specs.Bridge.{circuit_of}
 use Rattle.pattern.specs.Layout.{row_cells}
 use Rattle.certificate.specs.LayoutTablesView.{AddsCells}

@@ -1,5 +1,5 @@
 -- The cells of the row so far are in the lists.
-use Rattle.std.proofs.Common.{◌≤◌, ◌-◌}
+use Rattle.lemmas.proofs.Common.{◌-◌, ◌≤◌}
 use Rattle.circuit.specs.Bridge.{circuit_of}
 use Rattle.pattern.specs.Layout.{row_cells}
 use Rattle.certificate.specs.LayoutTablesView.{AddsCells}

@@ -1,6 +1,5 @@
 -- A mirror is live at the start and at the end, and where nothing stands the cell is dead.
-use Rattle.std.proofs.Common.{arith}
-use Rattle.std.proofs.lemmas.Grind.{common_steps}
+use Rattle.lemmas.proofs.Common.{arith, common_steps}
 use Rattle.certificate.proofs.LayoutTableLemmas.{end_live, end_nothing, start_mirror, start_nothing}
 use Rattle.certificate.proofs.layout_tables.LayoutTables.start_and_demand_at.Goals as goal
 

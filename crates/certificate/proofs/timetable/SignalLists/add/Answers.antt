@@ -1,5 +1,4 @@
-use Rattle.std.proofs.Common.{arith}
-use Rattle.std.proofs.lemmas.Grind.{common_steps}
+use Rattle.lemmas.proofs.Common.{arith, common_steps}
 use Rattle.circuit.specs.Bridge.{circuit_of}
 use Rattle.certificate.proofs.TimetableLemmas.{both_ok, with_border}
 use Rattle.certificate.proofs.timetable.SignalLists.add.Goals as goal

@@ -1,5 +1,4 @@
-use Rattle.std.proofs.Common.{arith, ℕ, List, subst}
-use Rattle.std.proofs.lemmas.Grind.{common_steps}
+use Rattle.lemmas.proofs.Common.{List, arith, subst, ℕ, common_steps}
 use Rattle.certificate_lines.specs.BuilderView.{NamesLocalOrCutWire}
 use Rattle.certificate_lines.proofs.Keeping.{small, good_line, with_inner, with_names}
 use Rattle.certificate_lines.proofs.LocalNames.{still_local}

@@ -1,5 +1,4 @@
-use Rattle.std.proofs.Common.{arith, None, ℕ, List, subst, sym}
-use Rattle.std.proofs.lemmas.Grind.{common_steps}
+use Rattle.lemmas.proofs.Common.{List, None, arith, subst, sym, ℕ, common_steps}
 use Rattle.certificate_lines.specs.Entries.{last_module}
 use Rattle.certificate_lines.specs.BuilderView.{NamesLocalOrCutWire}
 use Rattle.certificate_lines.proofs.Keeping.{border_is_inner, border_is_uncut, good_line, small, with_border}

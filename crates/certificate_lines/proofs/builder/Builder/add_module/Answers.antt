@@ -1,5 +1,4 @@
-use Rattle.std.proofs.Common.{◌≡◌, ◌∙◌, ◌&&◌, ℕ, Bool, List, None, map, subst, sym}
-use Rattle.std.specs.List.{list_any}
+use Rattle.lemmas.proofs.Common.{◌&&◌, ◌∙◌, ◌≡◌, Bool, List, None, map, subst, sym, ℕ, list_any}
 use Rattle.module_box.specs.Boxes.{in_box}
 use Rattle.certificate_lines.specs.Entries.{modules_of, last_module}
 use Rattle.certificate_lines.specs.Rules.{module_fault}

@@ -1,5 +1,4 @@
-use Rattle.std.proofs.Common.{arith, ◌≡◌, ◌∙◌, subst, ap, sym, Some}
-use Rattle.std.proofs.lemmas.Grind.{common_steps}
+use Rattle.lemmas.proofs.Common.{◌∙◌, ◌≡◌, Some, ap, arith, subst, sym, common_steps}
 use Rattle.certificate_lines.specs.Entries.{last_of, last_module}
 use Rattle.certificate_lines.specs.Rules.{body_line_code, content_code}
 use Rattle.certificate_lines.specs.BuilderView.{BuilderView, last_body_line}

@@ -1,5 +1,4 @@
-use Rattle.std.proofs.Common.{◌≡◌, ◌∙◌, ◌+◌, take, sym, ap, subst, arith}
-use Rattle.std.proofs.lemmas.Grind.{common_steps}
+use Rattle.lemmas.proofs.Common.{◌+◌, ◌∙◌, ◌≡◌, ap, arith, subst, sym, take, common_steps}
 use Rattle.certificate_lines.specs.BuilderView.{BuilderView}
 use Rattle.certificate_lines.specs.Entries.{areas, modules_of}
 use Rattle.certificate_lines.proofs.ModuleBoxes.{all_areas, more_areas}

@@ -1,5 +1,5 @@
 -- The boxes of the modules so far.
-use Rattle.std.proofs.Common.{◌≡◌, take}
+use Rattle.lemmas.proofs.Common.{◌≡◌, take}
 use Rattle.certificate_lines.specs.Entries.{areas, modules_of}
 use Rattle.certificate_lines.proofs.builder.Builder.boxes.Given as goal
 

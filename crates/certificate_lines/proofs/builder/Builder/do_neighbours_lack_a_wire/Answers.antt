@@ -1,6 +1,4 @@
-use Rattle.std.proofs.Common.{arith, ◌∙◌, sym, IsTrue, flat_map}
-use Rattle.std.proofs.lemmas.List.{take_all}
-use Rattle.std.proofs.lemmas.Grind.{common_steps}
+use Rattle.lemmas.proofs.Common.{◌∙◌, IsTrue, arith, flat_map, sym, common_steps, take_all}
 use Rattle.module_box.specs.Boxes.{in_box}
 use Rattle.certificate_lines.specs.Entries.{edge_in, modules_of}
 use Rattle.certificate_lines.specs.Rules.{whole}

@@ -1,11 +1,7 @@
-use Rattle.std.proofs.Common.{◌≡◌, ◌∙◌, ◌+◌, ◌<◌, ◌∷◌, [], ◌||◌, false, length, suc, take, get_or, sym}
-use Rattle.std.proofs.Common.{ap, ap₂, arith}
-use Rattle.std.specs.List.{flat_map, list_any}
-use Rattle.std.proofs.Math.Seq.{take-suc}
-use Rattle.std.proofs.lemmas.List.{length-map}
-use Rattle.std.proofs.lemmas.List.Folds.{list_any-append, list_any_at}
-use Rattle.std.proofs.lemmas.Option.{slice_get-get_or}
-use Rattle.std.proofs.lemmas.Grind.{common_steps}
+use Rattle.lemmas.proofs.Common.{[], ◌+◌, ◌<◌, ◌||◌, ◌∙◌, ◌∷◌, ◌≡◌, ap, ap₂, arith, false, get_or, length, suc, sym}
+use Rattle.lemmas.proofs.Common.{take, common_steps, length-map, list_any, list_any-append, list_any_at}
+use Rattle.lemmas.proofs.Common.{slice_get-get_or, take-suc}
+use Rattle.std.specs.List.{flat_map}
 use Rattle.certificate_lines.specs.BuilderView.{lacks_edge_wire}
 use Rattle.certificate_lines.specs.Entries.{ModuleLines, edge_in, modules_of}
 use Rattle.certificate_lines.proofs.builder.Builder.does_neighbour_lack_edge_wire.Goals as goal

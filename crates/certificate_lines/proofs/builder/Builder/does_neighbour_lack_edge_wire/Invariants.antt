@@ -1,6 +1,6 @@
 -- None of the modules so far.
-use Rattle.std.proofs.Common.{◌≡◌, false, take}
-use Rattle.std.specs.List.{flat_map, list_any}
+use Rattle.lemmas.proofs.Common.{◌≡◌, false, take, list_any}
+use Rattle.std.specs.List.{flat_map}
 use Rattle.certificate_lines.specs.BuilderView.{lacks_edge_wire}
 use Rattle.certificate_lines.specs.Entries.{edge_in, modules_of}
 use Rattle.certificate_lines.proofs.builder.Builder.does_neighbour_lack_edge_wire.Given as goal

@@ -1,5 +1,4 @@
-use Rattle.std.proofs.Common.{arith}
-use Rattle.std.proofs.lemmas.Grind.{common_steps}
+use Rattle.lemmas.proofs.Common.{arith, common_steps}
 use Rattle.certificate_lines.proofs.OddBlocks.{lacked_constant}
 use Rattle.certificate_lines.proofs.builder.Builder.does_neighbour_lack_wire.Goals as goal
 

@@ -1,5 +1,4 @@
-use Rattle.std.proofs.Common.{◌≡◌, ◌∙◌, subst, ap, not}
-use Rattle.std.specs.List.{list_any}
+use Rattle.lemmas.proofs.Common.{◌∙◌, ◌≡◌, ap, not, subst, list_any}
 use Rattle.certificate_lines.specs.Entries.{last_module}
 use Rattle.certificate_lines.specs.Rules.{is_last_module_incomplete, is_local}
 use Rattle.certificate_lines.specs.BuilderView.{BuilderView}

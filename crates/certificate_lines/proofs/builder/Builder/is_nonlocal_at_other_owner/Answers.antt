@@ -1,5 +1,4 @@
-use Rattle.std.proofs.Common.{arith, ◌≡◌, ◌∙◌, sym, ap, slice_get}
-use Rattle.std.proofs.lemmas.Grind.{common_steps}
+use Rattle.lemmas.proofs.Common.{◌∙◌, ◌≡◌, ap, arith, slice_get, sym, common_steps}
 use Rattle.module_box.specs.Boxes.{in_box}
 use Rattle.module_box.specs.Tiling.{rectangle}
 use Rattle.module_box.specs.declared.boxes.Box2.{Box2}

@@ -1,6 +1,5 @@
-use Rattle.std.proofs.Common.{arith, ◌≡◌, ◌∙◌, ◌&&◌, ◌||◌, Bool, ℤ, SFits, w32, rules, to_z-of_z, ap, ap₂}
-use Rattle.std.specs.List.{list_any}
-use Rattle.std.proofs.lemmas.Grind.{common_steps}
+use Rattle.lemmas.proofs.Common.{◌&&◌, ◌||◌, ◌∙◌, ◌≡◌, Bool, SFits, ap, ap₂, arith, rules, to_z-of_z, w32, ℤ}
+use Rattle.lemmas.proofs.Common.{common_steps, list_any}
 use Rattle.bbm_rule.specs.Plane.{partner}
 use Rattle.module_box.specs.Boxes.{in_box}
 use Rattle.certificate_lines.specs.BuilderView.{is_outside_and_nonlocal}

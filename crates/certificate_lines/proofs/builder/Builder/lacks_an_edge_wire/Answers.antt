@@ -1,8 +1,5 @@
-use Rattle.std.proofs.Common.{◌≡◌, ◌∙◌, ◌+◌, ◌<◌, ◌≤◌, ◌||◌, Bool, ℕ, true, false, get_or, drop, length, refl, sym, ap}
-use Rattle.std.proofs.Common.{subst, arith, nat_lt, flat_map}
-use Rattle.std.specs.List.{list_any}
-use Rattle.std.proofs.lemmas.Bool.Decides.{nat_tests}
-use Rattle.std.proofs.lemmas.Grind.{common_steps}
+use Rattle.lemmas.proofs.Common.{◌+◌, ◌<◌, ◌||◌, ◌∙◌, ◌≡◌, ◌≤◌, Bool, ap, arith, drop, false, flat_map, get_or, length}
+use Rattle.lemmas.proofs.Common.{nat_lt, refl, subst, sym, true, ℕ, common_steps, list_any, nat_tests, or_left}
 use Rattle.certificate_lines.specs.BuilderView.{BuilderView, lacks_edge_wire}
 use Rattle.certificate_lines.specs.Entries.{ModuleLines, edge_in, edges, modules_of}
 use Rattle.certificate_lines.specs.ModuleParts.{AreInBox, inner}
@@ -21,10 +18,6 @@ lacks b n = list_any (lacks_edge_wire b.setting.circuit (edges n)) (modules_of b
 
 long : (steps : ℕ) → 1 < steps → nat_lt 1 steps ≡ true
 long steps lt = grind (arith, nat_tests)
-
-first_true : (a b : Bool) → a ≡ true → (a || b) ≡ true
-first_true true b h = refl
-first_true false b h = absurd cc
 
 pub is_edge_wire_lacked_beside-requires : goal.is_edge_wire_lacked_beside-requires
 is_edge_wire_lacked_beside-requires c =
@@ -57,7 +50,7 @@ returns-then-is_edge_wire_lacked_beside c =
     grind (arith, common_steps) in
     sym (sym (lacked v.setting (modules_of es) many) ∙ c.lines.invariant
     ∙ any_module (lacks v) es c.lines.place c.in-Module.area
-    (subst (λ l. c.lines.place < length l) here c.lines-test.true) line_is ∙ first_true _ _ found)
+    (subst (λ l. c.lines.place < length l) here c.lines-test.true) line_is ∙ or_left _ _ found)
 
 pub lines-preserved : goal.lines-preserved
 lines-preserved c =

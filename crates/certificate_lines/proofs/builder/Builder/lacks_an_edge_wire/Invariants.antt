@@ -1,6 +1,5 @@
 -- None of the modules so far, and what is known of the others.
-use Rattle.std.proofs.Common.{◌≡◌, drop}
-use Rattle.std.specs.List.{list_any}
+use Rattle.lemmas.proofs.Common.{◌≡◌, drop, list_any}
 use Rattle.certificate_lines.specs.BuilderView.{lacks_edge_wire}
 use Rattle.certificate_lines.specs.Entries.{edges, modules_of}
 use Rattle.certificate_lines.proofs.builder.Builder.lacks_an_edge_wire.Given as goal

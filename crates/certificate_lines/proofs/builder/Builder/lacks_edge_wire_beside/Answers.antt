@@ -1,6 +1,4 @@
-use Rattle.std.proofs.Common.{◌≡◌, ◌≤◌, ℕ, false, arith, nat_lt}
-use Rattle.std.proofs.lemmas.Bool.Decides.{nat_tests}
-use Rattle.std.proofs.lemmas.Grind.{common_steps}
+use Rattle.lemmas.proofs.Common.{◌≡◌, ◌≤◌, arith, false, nat_lt, ℕ, common_steps, nat_tests}
 use Rattle.certificate_lines.proofs.LackedWires.{none_lacked}
 use Rattle.certificate_lines.proofs.builder.Builder.lacks_edge_wire_beside.Goals as goal
 

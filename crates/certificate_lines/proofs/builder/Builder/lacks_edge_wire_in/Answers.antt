@@ -1,7 +1,5 @@
-use Rattle.std.proofs.Common.{arith, ◌≡◌, ◌∙◌, false, Some, sym, ap, subst, slice_get, flat_map}
-use Rattle.std.specs.List.{list_any}
-use Rattle.std.proofs.lemmas.Option.{slice_get-map}
-use Rattle.std.proofs.lemmas.Grind.{common_steps}
+use Rattle.lemmas.proofs.Common.{◌∙◌, ◌≡◌, Some, ap, arith, false, flat_map, slice_get, subst, sym, common_steps}
+use Rattle.lemmas.proofs.Common.{list_any, slice_get-map}
 use Rattle.module_box.specs.Boxes.{is_near}
 use Rattle.certificate_lines.specs.BuilderView.{BuilderView}
 use Rattle.certificate_lines.specs.Entries.{edge_in, known, modules_of}

@@ -1,7 +1,5 @@
-use Rattle.std.proofs.Common.{◌≡◌, ◌∙◌, ◌+◌, Some, length, map, option_map, refl, ap, subst, arith, slice_get}
-use Rattle.std.proofs.lemmas.List.{length-map}
-use Rattle.std.proofs.lemmas.Option.{slice_get-map, slice_get_read}
-use Rattle.std.proofs.lemmas.Grind.{common_steps}
+use Rattle.lemmas.proofs.Common.{◌+◌, ◌∙◌, ◌≡◌, Some, ap, arith, length, map, option_map, refl, slice_get, subst}
+use Rattle.lemmas.proofs.Common.{common_steps, length-map, slice_get-map, slice_get_read}
 use Rattle.certificate_lines.specs.BuilderView.{BuilderView}
 use Rattle.certificate_lines.specs.Entries.{known, modules_of}
 use Rattle.certificate_lines.proofs.LackedWires.{earlier_wires, last_wires}

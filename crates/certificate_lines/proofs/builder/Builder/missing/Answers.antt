@@ -1,5 +1,4 @@
-use Rattle.std.proofs.Common.{◌≡◌, ◌∙◌, None, Some, not, subst, sym, ap}
-use Rattle.std.specs.List.{list_all}
+use Rattle.lemmas.proofs.Common.{◌∙◌, ◌≡◌, None, Some, ap, not, subst, sym, list_all}
 use Rattle.bbm_rule.specs.Board.{live}
 use Rattle.pattern.proofs.InsideLemmas.{size_sides}
 use Rattle.pattern.specs.declared.layout_line.LayoutHeader.{LayoutHeader}

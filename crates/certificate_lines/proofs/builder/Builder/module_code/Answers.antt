@@ -1,5 +1,4 @@
-use Rattle.std.proofs.Common.{arith, ◌≡◌, ◌∙◌, None, length, subst, sym}
-use Rattle.std.proofs.lemmas.Grind.{common_steps}
+use Rattle.lemmas.proofs.Common.{◌∙◌, ◌≡◌, None, arith, length, subst, sym, common_steps}
 use Rattle.certificate_lines.specs.Entries.{modules_of, areas, last_module}
 use Rattle.certificate_lines.specs.Rules.{box_fault}
 use Rattle.certificate_lines.specs.BuilderView.{BuilderView}

@@ -1,4 +1,4 @@
-use Rattle.std.proofs.Common.{arith, ap, ◌∙◌}
+use Rattle.lemmas.proofs.Common.{◌∙◌, ap, arith}
 use Rattle.pattern.specs.declared.layout_line.LayoutHeader.{LayoutHeader}
 use Rattle.pattern.proofs.InsideLemmas.{size_sides}
 use Rattle.certificate_lines.proofs.Keeping.{with_none}

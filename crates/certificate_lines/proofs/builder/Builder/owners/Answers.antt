@@ -1,4 +1,4 @@
-use Rattle.std.proofs.Common.{◌∙◌, ◌≤◌, sym, ap, subst}
+use Rattle.lemmas.proofs.Common.{◌∙◌, ◌≤◌, ap, subst, sym}
 use Rattle.pattern.specs.declared.layout_line.LayoutHeader.{LayoutHeader}
 use Rattle.module_box.specs.Tiling.{AreOwners}
 use Rattle.certificate_lines.specs.BuilderView.{BuilderView}

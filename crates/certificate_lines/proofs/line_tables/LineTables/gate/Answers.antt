@@ -1,4 +1,4 @@
-use Rattle.std.proofs.Common.{◌≤◌, arith}
+use Rattle.lemmas.proofs.Common.{◌≤◌, arith}
 use Rattle.circuit.specs.Bridge.{netlist_of}
 use Rattle.circuit.specs.Meaning.{Netlist, wires}
 use Rattle.circuit.specs.Wiring.{gate_of}

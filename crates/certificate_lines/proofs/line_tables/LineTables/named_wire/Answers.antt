@@ -1,6 +1,5 @@
-use Rattle.std.proofs.Common.{arith}
+use Rattle.lemmas.proofs.Common.{arith, common_steps}
 use Rattle.std.proofs.lemmas.List.Quantifiers.{position-Some}
-use Rattle.std.proofs.lemmas.Grind.{common_steps}
 use Rattle.circuit.proofs.Naming.{place_position}
 use Rattle.certificate_lines.proofs.line_tables.LineTables.named_wire.Goals as goal
 

@@ -1,6 +1,4 @@
-use Rattle.std.proofs.Common.{arith, ◌≡◌, ◌||◌, ◌&&◌, subst}
-use Rattle.std.specs.List.{list_any}
-use Rattle.std.proofs.lemmas.Grind.{common_steps}
+use Rattle.lemmas.proofs.Common.{◌&&◌, ◌||◌, ◌≡◌, arith, subst, common_steps, list_any}
 use Rattle.module_box.specs.Boxes.{in_box}
 use Rattle.certificate_lines.specs.Entries.{Setting}
 use Rattle.certificate_lines.proofs.TableLemmas.{ports_pushed}

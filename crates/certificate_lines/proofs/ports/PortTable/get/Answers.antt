@@ -1,16 +1,11 @@
-use Rattle.std.proofs.Common.{◌≡◌, ◌∙◌, List, Some, Option, get_or, ℕ, zero, suc, true, ◌<◌, ◌-◌, refl, ap, sym}
-use Rattle.std.proofs.Common.{arith}
-use Rattle.std.proofs.lemmas.Grind.{common_steps}
+use Rattle.lemmas.proofs.Common.{◌-◌, ◌<◌, ◌∙◌, ◌≡◌, List, Option, Some, ap, arith, get_or, refl, suc, sym, true, zero}
+use Rattle.lemmas.proofs.Common.{ℕ, common_steps, positive}
 use Rattle.certificate_lines.specs.PortTables.{IsPortTable, entry_place, number_at}
 use Rattle.certificate_lines.specs.declared.ports.PortTable.TheInside.{Inside}
 use Rattle.module_box.specs.Boxes.{in_box}
 use Rattle.bbm_rule.specs.declared.block.Cell.{Cell}
 use Rattle.certificate_lines.proofs.TableLemmas.{entry_is, numbered_below, placed, unnumbered, unplaced}
 use Rattle.certificate_lines.proofs.ports.PortTable.get.Goals as goal
-
-not_zero : (n : ℕ) → (n ≡ 0 → ⊥) → 0 < n
-not_zero zero h = absurd (h refl)
-not_zero (suc n) h = omega arith
 
 -- the place of a cell of the area, whose rows were read
 place_at : (a : Inside) (c : Cell) (rows : List ℕ) (o : Option ℕ) → rows ≡ a.rows.items →
@@ -32,7 +27,7 @@ pub returns-then-number-eq0 : goal.returns-then-number-eq0
 returns-then-number-eq0 c = grind (arith, common_steps, place_at, entry_at, unnumbered)
 
 pub bounds-self-inside-number : goal.bounds-self-inside-number
-bounds-self-inside-number c = grind (arith, common_steps, place_at, entry_at, numbered_below, not_zero)
+bounds-self-inside-number c = grind (arith, common_steps, place_at, entry_at, numbered_below, positive)
 
 pub returns : goal.returns
-returns c = grind (arith, common_steps, place_at, entry_at, numbered_below, not_zero)
+returns c = grind (arith, common_steps, place_at, entry_at, numbered_below, positive)

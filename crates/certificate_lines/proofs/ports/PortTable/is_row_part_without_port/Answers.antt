@@ -1,8 +1,5 @@
-use Rattle.std.proofs.Common.{◌≡◌, ◌∙◌, ◌+◌, ◌-◌, ◌<◌, ◌≤◌, None, ap, arith, pos, sym, true, length, List, ℕ}
-use Rattle.std.proofs.Common.{Option, Some, suc, zero, drop, nat_eq, take, to_z, w32}
-use Rattle.std.specs.List.{list_all}
-use Rattle.std.proofs.lemmas.Int.{ints}
-use Rattle.std.proofs.lemmas.Grind.{common_steps}
+use Rattle.lemmas.proofs.Common.{◌+◌, ◌-◌, ◌<◌, ◌∙◌, ◌≡◌, ◌≤◌, List, None, Option, Some, ap, arith, drop, length}
+use Rattle.lemmas.proofs.Common.{nat_eq, pos, suc, sym, take, to_z, true, w32, zero, ℕ, common_steps, ints, list_all}
 use Rattle.pattern.specs.Layout.{cell}
 use Rattle.bbm_rule.specs.declared.block.Cell.{Cell}
 use Rattle.module_box.specs.Boxes.{in_box}

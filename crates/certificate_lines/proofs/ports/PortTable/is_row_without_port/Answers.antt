@@ -1,9 +1,5 @@
-use Rattle.std.proofs.Common.{◌≡◌, ◌-◌, ◌<◌, None, ℕ, ℤ, arith, get_or, inl, inr, length, pos, rules}
-use Rattle.std.proofs.Common.{sym}
-use Rattle.std.proofs.lemmas.Bool.{cases_Bool, ltb-true}
-use Rattle.std.proofs.lemmas.Bool.Decides.{nat_tests}
-use Rattle.std.proofs.lemmas.List.{get_or_default}
-use Rattle.std.proofs.lemmas.Grind.{common_steps}
+use Rattle.lemmas.proofs.Common.{◌-◌, ◌<◌, ◌≡◌, None, arith, get_or, inl, inr, length, pos, rules, sym, ℕ, ℤ}
+use Rattle.lemmas.proofs.Common.{cases_Bool, common_steps, get_or_default, ltb-true, nat_tests}
 use Rattle.module_box.specs.Boxes.{in_box}
 use Rattle.certificate_lines.specs.PortTables.{IsPortTable, entry_place_by_row_number, port_at}
 use Rattle.certificate_lines.specs.declared.ports.PortTable.TheInside.{Inside}

@@ -1,4 +1,4 @@
-use Rattle.std.proofs.Common.{ℕ, List, sym, ap, ◌∙◌}
+use Rattle.lemmas.proofs.Common.{◌∙◌, List, ap, sym, ℕ}
 use Rattle.module_box.specs.Locals.{is_among}
 use Rattle.certificate_lines.proofs.WireListLemmas.{none_marked}
 use Rattle.certificate_lines.proofs.wire_list.WireList.new.Goals as goal

@@ -1,7 +1,5 @@
-use Rattle.std.proofs.Common.{rules, ◌≡◌, sym, ap, ◌∙◌, List, [], ◌∷◌, ◌++◌, ℕ, false, arith}
-use Rattle.std.proofs.Common.{length, map, subst, take, None}
-use Rattle.std.proofs.lemmas.List.{length-map}
-use Rattle.std.proofs.lemmas.Grind.{common_steps}
+use Rattle.lemmas.proofs.Common.{[], ◌++◌, ◌∙◌, ◌∷◌, ◌≡◌, List, None, ap, arith, false, length, map, rules, subst, sym}
+use Rattle.lemmas.proofs.Common.{take, ℕ, common_steps, length-map}
 use Rattle.circuit.specs.declared.circuit_line.CircuitLine.{CircuitLine}
 use Rattle.circuit.specs.Entries.{defined}
 use Rattle.circuit.specs.Rules.{consumed, consume, define, exceeds_limit}

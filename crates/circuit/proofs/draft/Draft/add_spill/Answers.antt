@@ -1,4 +1,4 @@
-use Rattle.std.proofs.Common.{rules}
+use Rattle.lemmas.proofs.Common.{rules}
 use Rattle.circuit.proofs.draft.Draft.add_spill.Goals as goal
 
 pub returns-clause-ok : goal.returns-clause-ok

@@ -1,4 +1,4 @@
-use Rattle.std.proofs.Common.{◌≡◌, drop}
+use Rattle.lemmas.proofs.Common.{◌≡◌, drop}
 use Rattle.circuit.specs.Entries.{defined}
 use Rattle.circuit.specs.Rules.{consumed, first_unconsumed}
 use Rattle.circuit.proofs.draft.Draft.missing.Given as goal

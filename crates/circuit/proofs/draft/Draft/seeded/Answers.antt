@@ -1,5 +1,4 @@
-use Rattle.std.proofs.Common.{arith}
-use Rattle.std.proofs.lemmas.Grind.{common_steps}
+use Rattle.lemmas.proofs.Common.{arith, common_steps}
 use Rattle.circuit.specs.Bridge.{AreGoodAfter}
 use Rattle.circuit.proofs.draft.Draft.seeded.Goals as goal
 

@@ -1,4 +1,4 @@
-use Rattle.std.proofs.Common.{rules}
+use Rattle.lemmas.proofs.Common.{rules}
 use Rattle.circuit.proofs.draft.Draft.takes_inputs.Goals as goal
 
 pub returns : goal.returns

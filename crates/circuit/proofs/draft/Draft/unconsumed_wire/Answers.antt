@@ -1,5 +1,4 @@
-use Rattle.std.proofs.Common.{arith}
-use Rattle.std.proofs.lemmas.Grind.{common_steps}
+use Rattle.lemmas.proofs.Common.{arith, common_steps}
 use Rattle.circuit.proofs.Places.{found_number}
 use Rattle.circuit.proofs.Drafts.{mark_of_line}
 use Rattle.circuit.proofs.draft.Draft.unconsumed_wire.Goals as goal

@@ -1,4 +1,4 @@
-use Rattle.std.proofs.Common.{rules, ◌∙◌, sym, arith, take}
+use Rattle.lemmas.proofs.Common.{◌∙◌, arith, rules, sym, take}
 use Rattle.circuit.specs.Entries.{defined}
 use Rattle.circuit.specs.Rules.{consumed}
 use Rattle.circuit.proofs.WireMarks.{Next, named_twice, consumed_next, wires_next}

@@ -1,4 +1,4 @@
-use Rattle.std.proofs.Common.{◌≡◌, ◌++◌, take, drop, map}
+use Rattle.lemmas.proofs.Common.{◌++◌, ◌≡◌, drop, map, take}
 use Rattle.circuit.specs.Entries.{defined}
 use Rattle.circuit.specs.Meaning.{number}
 use Rattle.circuit.specs.Rules.{consumed, consume}

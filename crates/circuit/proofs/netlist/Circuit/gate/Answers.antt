@@ -1,8 +1,6 @@
-use Rattle.std.proofs.Common.{◌≡◌, ◌<◌, ◌∙◌, List, Option, length, map, get_or, slice_get, sym, ap, ap₂, refl, arith}
+use Rattle.lemmas.proofs.Common.{◌<◌, ◌∙◌, ◌≡◌, List, Option, ap, ap₂, arith, get_or, length, map, option_map, refl}
+use Rattle.lemmas.proofs.Common.{slice_get, sym, length-map, slice_get-map, slice_get_read}
 use Rattle.circuit.specs.declared.circuit_line.CircuitLine.{CircuitLine}
-use Rattle.std.specs.Prelude.{option_map}
-use Rattle.std.proofs.lemmas.List.{length-map}
-use Rattle.std.proofs.lemmas.Option.{slice_get-map, slice_get_read}
 use Rattle.circuit.specs.Entries.{defined}
 use Rattle.circuit.specs.declared.wiring.GateWires.{GateWires}
 use Rattle.circuit.specs.Bridge.{gates_of}

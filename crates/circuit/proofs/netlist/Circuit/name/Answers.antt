@@ -1,6 +1,4 @@
-use Rattle.std.proofs.Common.{arith}
-use Rattle.std.proofs.lemmas.Option.{slice_get_read}
-use Rattle.std.proofs.lemmas.Grind.{common_steps}
+use Rattle.lemmas.proofs.Common.{arith, common_steps, slice_get_read}
 use Rattle.circuit.proofs.Naming.{names_are_own}
 use Rattle.circuit.proofs.netlist.Circuit.name.Goals as goal
 

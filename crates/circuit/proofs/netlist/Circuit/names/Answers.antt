@@ -1,5 +1,4 @@
-use Rattle.std.proofs.Common.{arith}
-use Rattle.std.proofs.lemmas.Grind.{common_steps}
+use Rattle.lemmas.proofs.Common.{arith, common_steps}
 use Rattle.circuit.proofs.Naming.{wires_are_named}
 use Rattle.circuit.proofs.netlist.Circuit.names.Goals as goal
 

@@ -1,4 +1,4 @@
-use Rattle.std.proofs.Common.{◌≡◌, subst, sym, ap, ◌∙◌, List, length, refl, Some, map}
+use Rattle.lemmas.proofs.Common.{◌∙◌, ◌≡◌, List, Some, ap, length, map, refl, subst, sym}
 use Rattle.circuit.specs.Entries.{defined}
 use Rattle.circuit.specs.declared.circuit_line.CircuitLine.{CircuitLine}
 use Rattle.circuit.specs.Meaning.{Gate}

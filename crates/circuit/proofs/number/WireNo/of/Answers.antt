@@ -1,4 +1,4 @@
-use Rattle.std.proofs.Common.{rules}
+use Rattle.lemmas.proofs.Common.{rules}
 use Rattle.circuit.proofs.number.WireNo.of.Goals as goal
 
 pub returns : goal.returns

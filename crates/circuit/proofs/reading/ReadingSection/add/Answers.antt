@@ -1,5 +1,4 @@
-use Rattle.std.proofs.Common.{◌≤◌, arith}
-use Rattle.std.proofs.lemmas.Grind.{common_steps}
+use Rattle.lemmas.proofs.Common.{◌≤◌, arith, common_steps}
 use Rattle.circuit.specs.Entries.{rank_of}
 use Rattle.circuit.specs.Rules.{gate_count}
 use Rattle.circuit.proofs.Orders.{last_rank_push}

@@ -1,4 +1,4 @@
-use Rattle.std.proofs.Common.{rules}
+use Rattle.lemmas.proofs.Common.{rules}
 use Rattle.circuit.proofs.reading.ReadingSection.missing.Goals as goal
 
 pub returns-in-Some : goal.returns-in-Some

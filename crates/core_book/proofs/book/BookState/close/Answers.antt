@@ -1,4 +1,4 @@
-use Rattle.std.proofs.Common.{◌≡◌, sym, subst, true}
+use Rattle.lemmas.proofs.Common.{◌≡◌, subst, sym, true}
 use Rattle.core_book.specs.Book.{BookView, IsBook, IsReplayed, after_closing}
 use Rattle.core_book.specs.BookView.{book_view}
 use Rattle.core_book.proofs.Filings.{IsBook-closed}

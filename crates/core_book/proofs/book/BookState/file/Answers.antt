@@ -1,4 +1,4 @@
-use Rattle.std.proofs.Common.{◌≡◌, ◌∙◌, ◌+◌, ◌<◌, ◌++◌, ◌∷◌, [], Some, set, ap, sym, subst, length, rules}
+use Rattle.lemmas.proofs.Common.{[], ◌++◌, ◌+◌, ◌<◌, ◌∙◌, ◌∷◌, ◌≡◌, Some, ap, length, rules, set, subst, sym}
 use Rattle.core_book.specs.Book.{BookView, IsBook, IsReplayed, accepted_in, after_filing, filing_of, reply_to}
 use Rattle.core_book.specs.BookView.{book_view}
 use Rattle.core_book.specs.declared.log_entry.LogEntry.TheVariants.{Filed}

@@ -1,4 +1,4 @@
-use Rattle.std.proofs.Common.{◌≡◌, rules, subst, option_copied}
+use Rattle.lemmas.proofs.Common.{◌≡◌, option_copied, rules, subst}
 use Rattle.core_book.specs.Book.{IsBook, found_in}
 use Rattle.core_book.proofs.Filings.{found-own}
 use Rattle.core_book.proofs.book.BookState.found.Goals as goal

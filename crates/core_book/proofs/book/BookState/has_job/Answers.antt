@@ -1,5 +1,4 @@
-use Rattle.std.proofs.Common.{ap}
-use Rattle.std.specs.Arc.{arc_value}
+use Rattle.lemmas.proofs.Common.{ap, arc_value}
 use Rattle.core_book.specs.Book.{BookView}
 use Rattle.core_book.proofs.Filings.{job-told, no_job-told}
 use Rattle.core_book.proofs.book.BookState.has_job.Goals as goal

@@ -1,6 +1,4 @@
-use Rattle.std.proofs.Common.{◌≡◌, ◌∙◌, sym, length, map, replicate, None, false, rules}
-use Rattle.std.specs.Arc.{arc_value}
-use Rattle.std.proofs.lemmas.List.{length-map}
+use Rattle.lemmas.proofs.Common.{◌∙◌, ◌≡◌, None, false, length, map, replicate, rules, sym, arc_value, length-map}
 use Rattle.core_book.specs.Book.{new_book}
 use Rattle.core_book.proofs.book.BookState.new.Goals as goal
 

@@ -1,7 +1,5 @@
-use Rattle.std.proofs.Common.{◌≡◌, ◌∙◌, ℕ, true, false, length, ap, sym, nat_eq, nat_lt, is_some}
-use Rattle.std.specs.Arc.{arc_value}
-use Rattle.std.specs.Cmp.Lexicographic.{pointwise}
-use Rattle.std.proofs.lemmas.List.{length-map}
+use Rattle.lemmas.proofs.Common.{◌∙◌, ◌≡◌, ap, false, is_some, length, nat_eq, nat_lt, sym, true, ℕ, arc_value}
+use Rattle.lemmas.proofs.Common.{length-map, pointwise}
 use Rattle.local_run.specs.Shown.{digest_of, number_of}
 use Rattle.core_book.specs.Book.{BookView, found_in}
 use Rattle.core_book.specs.declared.reply.Reply.TheVariants.{Double}

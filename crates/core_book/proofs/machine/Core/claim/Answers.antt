@@ -1,7 +1,5 @@
-use Rattle.std.proofs.Common.{◌≡◌, ◌∙◌, ◌<◌, ℕ, List, ap, sym, subst, length, set, arith, Vec, Global}
-use Rattle.std.specs.Arc.{arc_value}
-use Rattle.std.proofs.lemmas.List.{length-map, length-set, map-set}
-use Rattle.std.proofs.Math.Seq.{map-set_same}
+use Rattle.lemmas.proofs.Common.{◌<◌, ◌∙◌, ◌≡◌, Global, List, Vec, ap, arith, length, length-set, set, subst, sym, ℕ}
+use Rattle.lemmas.proofs.Common.{arc_value, length-map, map-set, map-set_same}
 use Rattle.core_book.specs.Claims.{draws_after_claim, next_after_claim}
 use Rattle.core_book.specs.Core.{CoreView, IsCore, after_claim, draws_of, job_count_of}
 use Rattle.core_book.specs.CoreView.{core_view, lists_of}

@@ -1,4 +1,4 @@
-use Rattle.std.proofs.Common.{◌≡◌, ◌≤◌, sym, subst, length}
+use Rattle.lemmas.proofs.Common.{◌≡◌, ◌≤◌, length, subst, sym}
 use Rattle.core_book.specs.Book.{BookView, after_filing}
 use Rattle.core_book.specs.Core.{CoreView, IsCore}
 use Rattle.core_book.specs.CoreView.{core_view, lists_of}

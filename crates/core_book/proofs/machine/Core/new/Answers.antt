@@ -1,6 +1,5 @@
-use Rattle.std.proofs.Common.{◌≡◌, ◌∙◌, ◌≤◌, ap, sym, subst, length, map, [], arith, rules}
-use Rattle.std.specs.Arc.{arc_value}
-use Rattle.std.proofs.lemmas.List.{length-map, length-replicate}
+use Rattle.lemmas.proofs.Common.{[], ◌∙◌, ◌≡◌, ◌≤◌, ap, arith, length, map, rules, subst, sym, arc_value, length-map}
+use Rattle.lemmas.proofs.Common.{length-replicate}
 use Rattle.core_book.specs.Book.{new_book}
 use Rattle.core_book.specs.Core.{IsCore, new_core}
 use Rattle.core_book.specs.CoreView.{lists_of}

@@ -1,5 +1,4 @@
-use Rattle.std.proofs.Common.{◌≡◌, ◌≤◌, ◌+◌, ap, sym, ◌∙◌, arith, [], ◌∷◌, ◌++◌}
-use Rattle.std.proofs.lemmas.Bool.Decides.{nat_tests}
+use Rattle.lemmas.proofs.Common.{[], ◌++◌, ◌+◌, ◌∙◌, ◌∷◌, ◌≡◌, ◌≤◌, ap, arith, sym, nat_tests}
 use Rattle.job_pool.specs.declared.rule.View.{View}
 use Rattle.core_book.specs.Draws.{past_last}
 use Rattle.job_pool.specs.Lists.{past_greatest}

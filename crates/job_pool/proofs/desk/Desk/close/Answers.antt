@@ -1,6 +1,5 @@
-use Rattle.std.proofs.Common.{◌≡◌, ◌≤◌, List, ℕ, length, get_or, map, All, arith, ap, sym, ◌∙◌, subst}
-use Rattle.std.proofs.lemmas.List.{length-map}
-use Rattle.std.proofs.lemmas.List.Elements.{All-map}
+use Rattle.lemmas.proofs.Common.{◌∙◌, ◌≡◌, ◌≤◌, All, List, ap, arith, get_or, length, map, subst, sym, ℕ, All-map}
+use Rattle.lemmas.proofs.Common.{length-map}
 use Rattle.job_pool.specs.declared.desk.DeskSeat.{DeskSeat}
 use Rattle.job_pool.specs.Lists.{past_greatest, front, joined}
 use Rattle.job_pool.specs.Seats.{drawn_by}

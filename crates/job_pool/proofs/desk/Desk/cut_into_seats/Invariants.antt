@@ -1,4 +1,4 @@
-use Rattle.std.proofs.Common.{◌≡◌, ◌-◌, ◌≤◌, [], vec_len, vec_capacity, All}
+use Rattle.lemmas.proofs.Common.{[], ◌-◌, ◌≡◌, ◌≤◌, All, vec_capacity, vec_len}
 use Rattle.job_pool.specs.Rule.{view}
 use Rattle.job_pool.specs.Seats.{IsNewSeatOf}
 use Rattle.job_pool.proofs.desk.Desk.cut_into_seats.Given as goal

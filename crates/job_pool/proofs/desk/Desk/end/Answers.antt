@@ -1,4 +1,4 @@
-use Rattle.std.proofs.Common.{◌≡◌, get_or, ap, ◌∙◌, subst}
+use Rattle.lemmas.proofs.Common.{◌∙◌, ◌≡◌, ap, get_or, subst}
 use Rattle.job_pool.specs.Rule.{IsDealt}
 use Rattle.job_pool.proofs.Sums.{at_head}
 use Rattle.job_pool.proofs.Moves.{ends}

@@ -1,6 +1,5 @@
-use Rattle.std.proofs.Common.{◌≡◌, [], ◌∷◌, ◌++◌, length, map, arith, ap, sym, ◌∙◌, vec_len, refl}
-use Rattle.std.specs.Vec.Iter.{into_iter_items, into_iter_len}
-use Rattle.std.proofs.lemmas.List.{map-append, append-nil}
+use Rattle.lemmas.proofs.Common.{[], ◌++◌, ◌∙◌, ◌∷◌, ◌≡◌, ap, append-nil, arith, length, map, refl, sym, vec_len}
+use Rattle.lemmas.proofs.Common.{into_iter_items, into_iter_len, map-append}
 use Rattle.job_pool.specs.Lists.{joined}
 use Rattle.job_pool.specs.Seats.{IsSeatOf, drawn_by}
 use Rattle.job_pool.proofs.Sums.{joined-snoc}

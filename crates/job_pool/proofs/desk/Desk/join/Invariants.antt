@@ -1,5 +1,5 @@
-use Rattle.std.proofs.Common.{◌≡◌, ◌+◌, ◌<◌, ◌≤◌, ◌++◌, map, vec_len, vec_capacity, All}
-use Rattle.std.specs.Vec.Iter.{into_iter_items, into_iter_len}
+use Rattle.lemmas.proofs.Common.{◌++◌, ◌+◌, ◌<◌, ◌≡◌, ◌≤◌, All, map, vec_capacity, vec_len, into_iter_items}
+use Rattle.lemmas.proofs.Common.{into_iter_len}
 use Rattle.job_pool.specs.Lists.{joined}
 use Rattle.job_pool.specs.Seats.{IsSeatOf, drawn_by}
 use Rattle.job_pool.proofs.desk.Desk.join.Given as goal

@@ -1,5 +1,4 @@
-use Rattle.std.proofs.Common.{◌≡◌, ◌+◌, ◌-◌, length, arith}
-use Rattle.std.proofs.lemmas.Bool.Decides.{nat_tests}
+use Rattle.lemmas.proofs.Common.{◌+◌, ◌-◌, ◌≡◌, arith, length, nat_tests}
 use Rattle.job_pool.proofs.Sums.{past_last-last}
 use Rattle.job_pool.proofs.desk.DeskSeat.has_seat_drawn_past_last.Goals as goal
 

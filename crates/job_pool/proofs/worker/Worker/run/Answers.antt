@@ -1,6 +1,5 @@
-use Rattle.std.proofs.Common.{rules, arith, ap, sym, ◌∙◌, ◌≡◌, ◌+◌, ◌<◌, All, length, map, subst}
-use Rattle.std.specs.Arc.{arc_value}
-use Rattle.std.proofs.lemmas.List.{length-map}
+use Rattle.lemmas.proofs.Common.{◌+◌, ◌<◌, ◌∙◌, ◌≡◌, All, ap, arith, length, map, rules, subst, sym, arc_value}
+use Rattle.lemmas.proofs.Common.{length-map}
 use Rattle.core_book.specs.Draws.{past_last, times}
 use Rattle.module_job.specs.Shapes.{shape_of}
 use Rattle.job_pool.specs.Seats.{drawn_by}

@@ -1,4 +1,4 @@
-use Rattle.std.proofs.Common.{◌≡◌, ◌+◌, ◌-◌, false}
+use Rattle.lemmas.proofs.Common.{◌+◌, ◌-◌, ◌≡◌, false}
 use Rattle.core_book.specs.Draws.{past_last}
 use Rattle.job_pool.specs.Seats.{IsSeatOf, drawn_by}
 use Rattle.job_pool.specs.Work.{HasRisen, due}

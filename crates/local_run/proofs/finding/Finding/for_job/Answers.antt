@@ -1,6 +1,4 @@
-use Rattle.std.proofs.Common.{arith}
-use Rattle.std.proofs.lemmas.Bool.{false≢true}
-use Rattle.std.proofs.lemmas.Grind.{common_steps}
+use Rattle.lemmas.proofs.Common.{arith, common_steps, false≢true}
 use Rattle.module_job.proofs.EqualJobs.{shapes_decide}
 use Rattle.local_run.proofs.MovedJobs.{least_keep_stays}
 use Rattle.local_run.proofs.finding.Finding.for_job.Goals as goal

@@ -1,5 +1,4 @@
-use Rattle.std.proofs.Common.{rules, ◌≡◌, true, below_more}
-use Rattle.std.proofs.lemmas.Bool.{not-false}
+use Rattle.lemmas.proofs.Common.{◌≡◌, below_more, rules, true, not-false}
 use Rattle.local_run.proofs.frozen.FrozenBlocks.are_even_blocks_held.Goals as goal
 
 pub loop-n-preserved : goal.loop-n-preserved

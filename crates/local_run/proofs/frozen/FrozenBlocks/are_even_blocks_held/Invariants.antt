@@ -1,4 +1,4 @@
-use Rattle.std.proofs.Common.{◌≡◌, ◌≢◌, ℕ, ◌<◌, ◌+◌, ◌%◌, true}
+use Rattle.lemmas.proofs.Common.{◌%◌, ◌+◌, ◌<◌, ◌≡◌, ◌≢◌, true, ℕ}
 use Rattle.bbm_rule.specs.Rows.{cell_at}
 use Rattle.local_run.specs.Frozen.{IsEvenBlockHeld}
 use Rattle.local_run.proofs.frozen.FrozenBlocks.are_even_blocks_held.Given as goal

@@ -1,5 +1,4 @@
-use Rattle.std.proofs.Common.{rules, ◌≡◌, true, below_more}
-use Rattle.std.proofs.lemmas.Bool.{not-false}
+use Rattle.lemmas.proofs.Common.{◌≡◌, below_more, rules, true, not-false}
 use Rattle.local_run.proofs.frozen.FrozenBlocks.are_odd_blocks_held.Goals as goal
 
 pub loop-u-preserved : goal.loop-u-preserved

@@ -1,4 +1,4 @@
-use Rattle.std.proofs.Common.{◌≡◌, false}
+use Rattle.lemmas.proofs.Common.{◌≡◌, false}
 use Rattle.local_run.specs.Frozen.{HasRoomForMarks}
 use Rattle.local_run.proofs.frozen.FrozenBlocks.find.Given as goal
 

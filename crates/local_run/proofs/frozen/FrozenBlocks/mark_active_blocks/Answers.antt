@@ -1,5 +1,4 @@
-use Rattle.std.proofs.Common.{arith}
-use Rattle.std.proofs.lemmas.Grind.{common_steps}
+use Rattle.lemmas.proofs.Common.{arith, common_steps}
 use Rattle.local_run.proofs.FrozenLemmas.{even_calm_but, odd_calm_but, room_found}
 use Rattle.local_run.proofs.MarkFlips.{in_both}
 use Rattle.local_run.proofs.frozen.FrozenBlocks.mark_active_blocks.Goals as goal

@@ -1,4 +1,4 @@
-use Rattle.std.proofs.Common.{arith, ◌*◌}
+use Rattle.lemmas.proofs.Common.{◌*◌, arith}
 use Rattle.local_run.proofs.FrozenLemmas.{dead_found}
 use Rattle.local_run.proofs.LiveLemmas.{marked_dead}
 use Rattle.local_run.proofs.frozen.FrozenBlocks.mark_live.Goals as goal

@@ -1,5 +1,4 @@
-use Rattle.std.proofs.Common.{arith}
-use Rattle.std.proofs.lemmas.Grind.{common_steps}
+use Rattle.lemmas.proofs.Common.{arith, common_steps}
 use Rattle.local_run.proofs.FieldLemmas.{odd_all}
 use Rattle.local_run.proofs.FrozenLemmas.{freezes_odd, odd_all_may, odd_calm_found}
 use Rattle.local_run.proofs.frozen.FrozenBlocks.odd_step.Goals as goal

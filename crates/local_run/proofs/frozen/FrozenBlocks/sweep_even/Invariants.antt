@@ -1,4 +1,4 @@
-use Rattle.std.proofs.Common.{◌≡◌, ◌≤◌}
+use Rattle.lemmas.proofs.Common.{◌≡◌, ◌≤◌}
 use Rattle.local_run.specs.Frozen.{HasRoomForMarks}
 use Rattle.local_run.proofs.frozen.FrozenBlocks.sweep_even.Given as goal
 

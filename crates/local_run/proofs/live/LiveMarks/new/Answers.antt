@@ -1,6 +1,5 @@
-use Rattle.std.proofs.Common.{arith, ◌≡◌, ◌/◌, ◌%◌, ℕ, List, get_or, length, replicate}
-use Rattle.std.proofs.lemmas.List.{get_or-replicate, get_or_past, length-replicate}
-use Rattle.std.proofs.lemmas.Grind.{common_steps}
+use Rattle.lemmas.proofs.Common.{◌%◌, ◌/◌, ◌≡◌, List, arith, get_or, length, replicate, ℕ, common_steps}
+use Rattle.lemmas.proofs.Common.{get_or-replicate, get_or_past, length-replicate}
 use Rattle.bbm_rule.specs.Marks.{IsUnmarked}
 use Rattle.bbm_rule.specs.Rows.{cell_at}
 use Rattle.bbm_rule.proofs.BitLemmas.{bit-zero, by_lt_or_le}

@@ -1,5 +1,4 @@
-use Rattle.std.proofs.Common.{arith, sym}
-use Rattle.std.proofs.lemmas.List.{get_or_read}
+use Rattle.lemmas.proofs.Common.{arith, sym, get_or_read}
 use Rattle.local_run.proofs.MarkSearch.{word_of}
 use Rattle.local_run.proofs.live.LiveMarks.word.Goals as goal
 

@@ -1,5 +1,4 @@
-use Rattle.std.proofs.Common.{◌≡◌, ◌<◌, ◌≤◌, ◌+◌, ◌*◌, inl, inr, arith, subst}
-use Rattle.std.proofs.Math.Nat.{mul-le-mul_left}
+use Rattle.lemmas.proofs.Common.{◌*◌, ◌+◌, ◌<◌, ◌≡◌, ◌≤◌, arith, inl, inr, subst, mul-le-mul_left}
 use Rattle.bbm_rule.specs.Marks.{IsUnmarked}
 use Rattle.local_run.proofs.LiveLemmas.{dead_at}
 use Rattle.local_run.proofs.marked_planes.MarkedPlanes.border_word.Goals as goal

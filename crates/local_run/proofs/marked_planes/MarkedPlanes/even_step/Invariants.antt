@@ -1,4 +1,4 @@
-use Rattle.std.proofs.Common.{◌≡◌, ◌*◌, ◌≤◌}
+use Rattle.lemmas.proofs.Common.{◌*◌, ◌≡◌, ◌≤◌}
 use Rattle.local_run.specs.Lanes.{HasWordsStrideRows}
 use Rattle.local_run.proofs.FieldLemmas.{TurnsEvenBelow}
 use Rattle.local_run.proofs.marked_planes.MarkedPlanes.even_step.Given as goal

@@ -1,4 +1,4 @@
-use Rattle.std.proofs.Common.{◌∙◌, sym, arith}
+use Rattle.lemmas.proofs.Common.{◌∙◌, arith, sym}
 use Rattle.local_run.proofs.InsideLemmas.{not_last}
 use Rattle.local_run.proofs.marked_planes.MarkedPlanes.is_last_of_row.Goals as goal
 

@@ -1,5 +1,4 @@
-use Rattle.std.proofs.Common.{arith}
-use Rattle.std.proofs.lemmas.Grind.{common_steps}
+use Rattle.lemmas.proofs.Common.{arith, common_steps}
 use Rattle.local_run.proofs.Silence.{dead_down, dead_even, dead_odd, dead_right}
 use Rattle.local_run.proofs.marked_planes.MarkedPlanes.may_be_live.Goals as goal
 

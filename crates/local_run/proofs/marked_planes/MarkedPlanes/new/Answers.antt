@@ -1,5 +1,4 @@
-use Rattle.std.proofs.Common.{List, ℕ, length, ap, arith, sym, subst}
-use Rattle.std.proofs.lemmas.List.{with_items_is}
+use Rattle.lemmas.proofs.Common.{List, ap, arith, length, subst, sym, ℕ, with_items_is}
 use Rattle.local_run.specs.Borders.{AreUnmarkedAwayFromBorder}
 use Rattle.local_run.proofs.LiveLemmas.{dead_all, dead_even, dead_odd}
 use Rattle.local_run.proofs.marked_planes.MarkedPlanes.new.Goals as goal

@@ -1,4 +1,4 @@
-use Rattle.std.proofs.Common.{◌≡◌, ◌+◌, ◌-◌, ◌*◌, ◌/◌, ◌%◌, ◌<◌, ◌≤◌, arith}
+use Rattle.lemmas.proofs.Common.{◌%◌, ◌*◌, ◌+◌, ◌-◌, ◌/◌, ◌<◌, ◌≡◌, ◌≤◌, arith}
 use Rattle.bbm_rule.proofs.BitLemmas.{by_eq_or_not}
 use Rattle.local_run.proofs.Silence.{dead_down, dead_even, dead_odd, dead_right}
 use Rattle.local_run.proofs.marked_planes.MarkedPlanes.next_live.Goals as goal

@@ -1,5 +1,4 @@
-use Rattle.std.proofs.Common.{◌≡◌, ◌*◌, ◌%◌, false, arith, subst, get_or, bit_and}
-use Rattle.std.proofs.lemmas.List.{get_or_read}
+use Rattle.lemmas.proofs.Common.{◌%◌, ◌*◌, ◌≡◌, arith, bit_and, false, get_or, subst, get_or_read}
 use Rattle.bbm_rule.specs.Bits.{bit}
 use Rattle.local_run.specs.Sweeps.{IsInRangeNotInWord}
 use Rattle.local_run.proofs.FieldLemmas.{odd_none}

@@ -1,6 +1,6 @@
-use Rattle.std.proofs.Common.{◌≡◌, ◌+◌, ◌*◌, inl, inr, List, ℕ, length, ap, ap₂, subst, arith, sym, ◌∙◌}
+use Rattle.lemmas.proofs.Common.{◌*◌, ◌+◌, ◌∙◌, ◌≡◌, List, ap, ap₂, arith, inl, inr, length, subst, sym, ℕ}
+use Rattle.lemmas.proofs.Common.{with_items_is}
 use Rattle.local_run.proofs.FieldLemmas.{odd_all, odd_below_all, odd_more, odd_more_none, none_more}
-use Rattle.std.proofs.lemmas.List.{with_items_is}
 use Rattle.bbm_rule.proofs.BitLemmas.{by_lt_or_le}
 use Rattle.local_run.specs.Calm.{AreUnmarkedEvenBlocksStable, AreUnmarkedOddBlocksStable}
 use Rattle.local_run.proofs.marked_planes.MarkedPlanes.odd_step.Goals as goal

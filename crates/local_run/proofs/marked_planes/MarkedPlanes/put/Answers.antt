@@ -1,7 +1,5 @@
-use Rattle.std.proofs.Common.{◌+◌, ◌*◌, ◌/◌, List, ℕ, length, ap, arith, sym, subst}
-use Rattle.std.proofs.lemmas.List.{with_items_is}
-use Rattle.std.proofs.Math.Nat.{mul-le-mul_left}
-use Rattle.std.proofs.lemmas.Grind.{common_steps}
+use Rattle.lemmas.proofs.Common.{◌*◌, ◌+◌, ◌/◌, List, ap, arith, length, subst, sym, ℕ, common_steps, mul-le-mul_left}
+use Rattle.lemmas.proofs.Common.{with_items_is}
 use Rattle.bbm_rule.specs.Marks.{IsUnmarked}
 use Rattle.local_run.specs.Calm.{AreUnmarkedOddBlocksStable, AreUnmarkedEvenBlocksStable}
 use Rattle.local_run.specs.declared.frozen.FrozenBlocks.{FrozenBlocks}

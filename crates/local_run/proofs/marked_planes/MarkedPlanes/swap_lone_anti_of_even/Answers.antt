@@ -1,5 +1,4 @@
-use Rattle.std.proofs.Common.{List, ℕ, true, false, ◌+◌, length, ap, arith, sym, subst, inl, inr}
-use Rattle.std.proofs.lemmas.List.{with_items_is}
+use Rattle.lemmas.proofs.Common.{◌+◌, List, ap, arith, false, inl, inr, length, subst, sym, true, ℕ, with_items_is}
 use Rattle.local_run.specs.Calm.{AreUnmarkedOddBlocksStable, AreUnmarkedEvenBlocksStable}
 use Rattle.local_run.proofs.CalmLemmas.{odd_kept_by_even, even_kept_by_even}
 use Rattle.local_run.proofs.LiveLemmas.{lone_anti, anti_cells, anti_dead, swap_back}

@@ -1,5 +1,4 @@
-use Rattle.std.proofs.Common.{List, ℕ, length, ap, arith, sym, subst}
-use Rattle.std.proofs.lemmas.List.{with_items_is}
+use Rattle.lemmas.proofs.Common.{List, ap, arith, length, subst, sym, ℕ, with_items_is}
 use Rattle.local_run.specs.Calm.{AreUnmarkedEvenBlocksStable}
 use Rattle.local_run.proofs.CalmLemmas.{last_unmarked}
 use Rattle.local_run.proofs.marked_planes.MarkedPlanes.turn_even_block.Goals as goal

@@ -1,5 +1,4 @@
-use Rattle.std.proofs.Common.{List, ℕ, ◌+◌, length, ap, arith, sym, subst}
-use Rattle.std.proofs.lemmas.List.{with_items_is}
+use Rattle.lemmas.proofs.Common.{◌+◌, List, ap, arith, length, subst, sym, ℕ, with_items_is}
 use Rattle.local_run.specs.Calm.{AreUnmarkedEvenBlocksStable}
 use Rattle.local_run.proofs.TurnLemmas.{calm_block}
 use Rattle.local_run.proofs.CalmLemmas.{even_unmarked}

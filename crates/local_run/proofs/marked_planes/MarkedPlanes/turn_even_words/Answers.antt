@@ -1,6 +1,4 @@
-use Rattle.std.proofs.Common.{List, ℕ, ◌+◌, length, ap, arith, sym, subst}
-use Rattle.std.proofs.lemmas.List.{with_items_is}
-use Rattle.std.proofs.lemmas.Grind.{common_steps}
+use Rattle.lemmas.proofs.Common.{◌+◌, List, ap, arith, length, subst, sym, ℕ, common_steps, with_items_is}
 use Rattle.local_run.specs.Calm.{AreUnmarkedOddBlocksStable, AreUnmarkedEvenBlocksStable}
 use Rattle.local_run.proofs.TurnLemmas.{calm_block}
 use Rattle.local_run.proofs.CalmLemmas.{even_cells, even_unmarked, odd_kept_by_even, even_kept_by_even}

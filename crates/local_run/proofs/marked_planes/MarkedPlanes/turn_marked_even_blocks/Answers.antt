@@ -1,4 +1,4 @@
-use Rattle.std.proofs.Common.{◌≢◌, ◌≤◌, ◌<◌, ◌+◌, ◌%◌, arith, ◌∙◌}
+use Rattle.lemmas.proofs.Common.{◌%◌, ◌+◌, ◌<◌, ◌∙◌, ◌≢◌, ◌≤◌, arith}
 use Rattle.local_run.proofs.FieldLemmas.{even_past, even_renamed, one_past, past_all, past_before}
 use Rattle.local_run.specs.Sweeps.{IsInRangeNotInWordNorRowEnd}
 use Rattle.local_run.proofs.marked_planes.MarkedPlanes.turn_marked_even_blocks.Goals as goal

@@ -1,4 +1,4 @@
-use Rattle.std.proofs.Common.{◌≤◌, ◌<◌, ◌+◌, arith, ◌∙◌}
+use Rattle.lemmas.proofs.Common.{◌+◌, ◌<◌, ◌∙◌, ◌≤◌, arith}
 use Rattle.local_run.proofs.FieldLemmas.{odd_next, odd_renamed, one_past, past_all, past_before}
 use Rattle.local_run.specs.Sweeps.{IsInRangeNotInWord}
 use Rattle.local_run.proofs.marked_planes.MarkedPlanes.turn_marked_odd_blocks.Goals as goal

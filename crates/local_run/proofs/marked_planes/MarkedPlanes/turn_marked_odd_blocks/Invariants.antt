@@ -1,5 +1,4 @@
-use Rattle.std.proofs.Common.{◌≡◌, ◌+◌, ◌-◌, ◌≤◌, w64}
-use Rattle.std.specs.Int.{trailing_zeros}
+use Rattle.lemmas.proofs.Common.{◌+◌, ◌-◌, ◌≡◌, ◌≤◌, w64, trailing_zeros}
 use Rattle.local_run.specs.Lanes.{HasWordsStrideRows}
 use Rattle.local_run.specs.Sweeps.{IsInRangeNotInWord, TurnsOddBlocksWhere}
 use Rattle.local_run.proofs.marked_planes.MarkedPlanes.turn_marked_odd_blocks.Given as goal

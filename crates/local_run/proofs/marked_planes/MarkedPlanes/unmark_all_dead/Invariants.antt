@@ -1,4 +1,4 @@
-use Rattle.std.proofs.Common.{◌≡◌}
+use Rattle.lemmas.proofs.Common.{◌≡◌}
 use Rattle.local_run.proofs.marked_planes.MarkedPlanes.unmark_all_dead.Given as goal
 
 abbrev pub invariant-loop-u : goal.invariant-loop-u

@@ -1,4 +1,4 @@
-use Rattle.std.proofs.Common.{arith, sym, ◌/◌}
+use Rattle.lemmas.proofs.Common.{◌/◌, arith, sym}
 use Rattle.local_run.proofs.LaneLemmas.{place_below}
 use Rattle.local_run.proofs.Scans.{lane_in_word, plane_odd, plane_down, plane_right, plane_even}
 use Rattle.local_run.proofs.planes.Planes.differs_from_word.Goals as goal

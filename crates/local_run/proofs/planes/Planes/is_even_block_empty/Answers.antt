@@ -1,5 +1,4 @@
-use Rattle.std.proofs.Common.{◌+◌, ◌*◌, arith}
-use Rattle.std.proofs.lemmas.Grind.{common_steps}
+use Rattle.lemmas.proofs.Common.{◌*◌, ◌+◌, arith, common_steps}
 use Rattle.local_run.proofs.HeldLemmas.{room_of}
 use Rattle.local_run.proofs.planes.Planes.is_even_block_empty.Goals as goal
 

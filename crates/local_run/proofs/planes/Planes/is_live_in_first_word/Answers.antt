@@ -1,6 +1,4 @@
-use Rattle.std.proofs.Common.{◌≤◌, ◌+◌, ◌*◌, arith}
-use Rattle.std.proofs.Math.Nat.{mul-le-mul_left}
-use Rattle.std.proofs.lemmas.List.{get_or_read}
+use Rattle.lemmas.proofs.Common.{◌*◌, ◌+◌, ◌≤◌, arith, get_or_read, mul-le-mul_left}
 use Rattle.local_run.proofs.TurnLemmas.{four_zero}
 use Rattle.local_run.proofs.planes.Planes.is_live_in_first_word.Goals as goal
 

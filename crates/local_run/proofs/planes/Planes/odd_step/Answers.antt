@@ -1,5 +1,4 @@
-use Rattle.std.proofs.Common.{refl, arith, ap, length}
-use Rattle.std.proofs.lemmas.List.{with_items_is}
+use Rattle.lemmas.proofs.Common.{ap, arith, length, refl, with_items_is}
 use Rattle.local_run.proofs.LaneLemmas.{odd_lane}
 use Rattle.local_run.proofs.planes.Planes.odd_step.Goals as goal
 

@@ -1,4 +1,4 @@
-use Rattle.std.proofs.Common.{◌-◌, ◌<◌, ◌≤◌}
+use Rattle.lemmas.proofs.Common.{◌-◌, ◌<◌, ◌≤◌}
 use Rattle.bbm_rule.specs.Marks.{IsUnmarked}
 use Rattle.local_run.specs.Lanes.{HasWordsStrideRows}
 use Rattle.local_run.specs.Sweeps.{TurnsOddBlocksBetween}

@@ -1,5 +1,4 @@
-use Rattle.std.proofs.Common.{arith, refl, ◌≡◌, ◌≢◌, ◌/◌, ◌%◌, ℕ}
-use Rattle.std.proofs.lemmas.Grind.{common_steps}
+use Rattle.lemmas.proofs.Common.{◌%◌, ◌/◌, ◌≡◌, ◌≢◌, arith, refl, ℕ, common_steps}
 use Rattle.local_run.proofs.LaneLemmas.{place_below}
 use Rattle.local_run.proofs.Scans.{sets_odd, sets_down, sets_right, sets_even, other_word}
 use Rattle.local_run.proofs.planes.Planes.set_word.Goals as goal

@@ -1,5 +1,4 @@
-use Rattle.std.proofs.Common.{◌+◌, arith, ap, length}
-use Rattle.std.proofs.lemmas.List.{with_items_is}
+use Rattle.lemmas.proofs.Common.{◌+◌, ap, arith, length, with_items_is}
 use Rattle.local_run.proofs.LiveLemmas.{part_of_one}
 use Rattle.local_run.proofs.planes.Planes.turn_even_block.Goals as goal
 

@@ -1,5 +1,4 @@
-use Rattle.std.proofs.Common.{◌≤◌, ◌+◌, ◌-◌, ◌*◌, arith, ap, length}
-use Rattle.std.proofs.Math.Nat.{mul-le-mul_left}
+use Rattle.lemmas.proofs.Common.{◌*◌, ◌+◌, ◌-◌, ◌≤◌, ap, arith, length, mul-le-mul_left}
 use Rattle.local_run.proofs.planes.Planes.turn_even_range.Goals as goal
 
 pub turn_part-requires-clause-upper : goal.turn_part-requires-clause-upper

@@ -1,4 +1,4 @@
-use Rattle.std.proofs.Common.{◌*◌, arith, ap, length}
+use Rattle.lemmas.proofs.Common.{◌*◌, ap, arith, length}
 use Rattle.local_run.proofs.HeldLemmas.{run_room}
 use Rattle.local_run.proofs.planes.Planes.turn_odd_range.Goals as goal
 

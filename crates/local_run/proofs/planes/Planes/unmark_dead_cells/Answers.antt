@@ -1,5 +1,4 @@
-use Rattle.std.proofs.Common.{◌≤◌, ◌+◌, ◌*◌, arith}
-use Rattle.std.proofs.Math.Nat.{mul-le-mul_left}
+use Rattle.lemmas.proofs.Common.{◌*◌, ◌+◌, ◌≤◌, arith, mul-le-mul_left}
 use Rattle.local_run.proofs.planes.Planes.unmark_dead_cells.Goals as goal
 
 pub unmark_if_dead-requires-clause-cell : goal.unmark_if_dead-requires-clause-cell

@@ -1,5 +1,4 @@
-use Rattle.std.proofs.Common.{◌≡◌, ◌<◌, ◌+◌, ◌*◌, arith, ℕ, Bool, sym, ◌∙◌}
-use Rattle.std.proofs.lemmas.Bool.{true≢false}
+use Rattle.lemmas.proofs.Common.{◌*◌, ◌+◌, ◌<◌, ◌∙◌, ◌≡◌, Bool, arith, sym, true≢false, ℕ}
 use Rattle.bbm_rule.specs.Bits.{bit}
 use Rattle.module_box.specs.LocalValues.{value_of}
 use Rattle.local_run.proofs.Scans.{block_clear, block_first, row_in_word}

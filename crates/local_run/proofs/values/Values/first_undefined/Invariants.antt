@@ -1,4 +1,4 @@
-use Rattle.std.proofs.Common.{◌≡◌, ℕ, ◌<◌, ◌*◌, false}
+use Rattle.lemmas.proofs.Common.{◌*◌, ◌<◌, ◌≡◌, false, ℕ}
 use Rattle.module_box.specs.LocalValues.{value_of}
 use Rattle.local_run.proofs.values.Values.first_undefined.Given as goal
 

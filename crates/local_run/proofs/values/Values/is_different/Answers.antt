@@ -1,4 +1,4 @@
-use Rattle.std.proofs.Common.{refl, arith, subst, sym, ◌∙◌}
+use Rattle.lemmas.proofs.Common.{◌∙◌, arith, refl, subst, sym}
 use Rattle.bbm_rule.proofs.BitLemmas.{bit-zero}
 use Rattle.bbm_rule.proofs.MarkLemmas.{bit_ones}
 use Rattle.module_box.specs.declared.schedules.Signal.{Signal}

@@ -1,4 +1,4 @@
-use Rattle.std.proofs.Common.{arith}
+use Rattle.lemmas.proofs.Common.{arith}
 use Rattle.local_run.specs.Scans.{is_defined_under}
 use Rattle.local_run.proofs.Scans.{block_clear, defined_in_word}
 use Rattle.local_run.proofs.values.Values.is_some_defined.Goals as goal

@@ -1,4 +1,4 @@
-use Rattle.std.proofs.Common.{◌≡◌, ℕ, ◌<◌, ◌*◌, false}
+use Rattle.lemmas.proofs.Common.{◌*◌, ◌<◌, ◌≡◌, false, ℕ}
 use Rattle.local_run.specs.Scans.{is_defined_under}
 use Rattle.local_run.proofs.values.Values.is_some_defined.Given as goal
 

@@ -1,8 +1,6 @@
-use Rattle.std.proofs.Common.{ℕ, subst, ap, ◌∙◌, arith, ◌^◌, ◌≡◌, ◌≤◌, ◌<◌, ◌*◌, ◌%◌}
+use Rattle.lemmas.proofs.Common.{◌%◌, ◌*◌, ◌<◌, ◌^◌, ◌∙◌, ◌≡◌, ◌≤◌, ap, arith, subst, ℕ, common_steps, div_ceil}
+use Rattle.lemmas.proofs.Common.{pow_pos}
 use Rattle.std.proofs.Math.Pow.{pow_mono}
-use Rattle.std.proofs.lemmas.Nat.{pow_pos}
-use Rattle.std.specs.Int.{div_ceil}
-use Rattle.std.proofs.lemmas.Grind.{common_steps}
 use Rattle.circuit.specs.Meaning.{AreOrdered, Netlist}
 use Rattle.module_box.specs.LocalValues.{AreValueRows}
 use Rattle.local_run.specs.Faults.{assignments}

@@ -1,4 +1,4 @@
-use Rattle.std.proofs.Common.{◌≡◌, ℕ, not, ◌<◌, ◌+◌, ◌*◌, ◌/◌}
+use Rattle.lemmas.proofs.Common.{◌*◌, ◌+◌, ◌/◌, ◌<◌, ◌≡◌, not, ℕ}
 use Rattle.module_job.specs.Signals.{is_live}
 use Rattle.local_run.specs.Calm.{ChangesCells}
 use Rattle.local_run.specs.Turns.{is_on_main_diagonal}

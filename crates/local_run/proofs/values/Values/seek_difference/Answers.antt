@@ -1,5 +1,4 @@
-use Rattle.std.proofs.Common.{◌≡◌, ◌<◌, ◌+◌, ◌*◌, arith, ℕ, Bool, bit_and, bit_xor}
-use Rattle.std.proofs.lemmas.Grind.{common_steps}
+use Rattle.lemmas.proofs.Common.{◌*◌, ◌+◌, ◌<◌, ◌≡◌, Bool, arith, bit_and, bit_xor, ℕ, common_steps}
 use Rattle.bbm_rule.specs.Bits.{bit}
 use Rattle.local_run.proofs.Scans.{block_clear, block_first, difference_small, differs, differs_bits, differs_is}
 use Rattle.local_run.proofs.Scans.{differs_not}

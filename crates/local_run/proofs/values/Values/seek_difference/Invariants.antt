@@ -1,4 +1,4 @@
-use Rattle.std.proofs.Common.{◌≡◌, ℕ, ◌<◌, ◌*◌, false}
+use Rattle.lemmas.proofs.Common.{◌*◌, ◌<◌, ◌≡◌, false, ℕ}
 use Rattle.local_run.proofs.Scans.{differs}
 use Rattle.local_run.proofs.values.Values.seek_difference.Given as goal
 

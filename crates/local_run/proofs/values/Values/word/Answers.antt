@@ -1,5 +1,4 @@
-use Rattle.std.proofs.Common.{ap, arith, sym, ◌∙◌, ◌+◌, ◌*◌}
-use Rattle.std.proofs.lemmas.Grind.{common_steps}
+use Rattle.lemmas.proofs.Common.{◌*◌, ◌+◌, ◌∙◌, ap, arith, sym, common_steps}
 use Rattle.bbm_rule.proofs.BitLemmas.{bit-zero}
 use Rattle.module_job.specs.Signals.{is_live}
 use Rattle.local_run.specs.Scans.{valuation}

@@ -1,4 +1,4 @@
-use Rattle.std.proofs.Common.{rules, SFits, w32, to_z-of_z}
+use Rattle.lemmas.proofs.Common.{SFits, rules, to_z-of_z, w32}
 use Rattle.module_box.proofs.boxes.Box2.in_halo.Goals as goal
 use Rattle.module_box.proofs.RingTests.{halo_read}
 

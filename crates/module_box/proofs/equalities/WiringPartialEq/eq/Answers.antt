@@ -1,5 +1,4 @@
-use Rattle.std.proofs.Common.{arith}
-use Rattle.std.proofs.lemmas.Grind.{common_steps}
+use Rattle.lemmas.proofs.Common.{arith, common_steps}
 use Rattle.module_box.proofs.EqualTests.{same_gates}
 use Rattle.module_box.proofs.equalities.WiringPartialEq.eq.Goals as goal
 

@@ -1,4 +1,4 @@
-use Rattle.std.proofs.Common.{◌≡◌, ℕ, get_or, ap, subst, ◌∙◌, is_some, IfSome}
+use Rattle.lemmas.proofs.Common.{◌∙◌, ◌≡◌, IfSome, ap, get_or, is_some, subst, ℕ}
 use Rattle.module_box.specs.Locals.{LocalNet, circuit_wire, is_among}
 use Rattle.module_box.proofs.WireLists.{place_among, place_holds}
 use Rattle.module_box.proofs.locals.Locals.local.Goals as goal

@@ -1,4 +1,4 @@
-use Rattle.std.proofs.Common.{rules}
+use Rattle.lemmas.proofs.Common.{rules}
 use Rattle.module_box.proofs.locals.Locals.wires.Goals as goal
 
 pub returns-clause-count : goal.returns-clause-count

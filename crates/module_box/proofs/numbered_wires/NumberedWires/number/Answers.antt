@@ -1,7 +1,5 @@
-use Rattle.std.proofs.Common.{◌≡◌, ◌==◌, ◌<◌, ◌≤◌, None, List, ℕ, Some, length, get_or, position, slice_get, take, sym}
-use Rattle.std.proofs.Common.{ap, subst, ◌∙◌, arith}
-use Rattle.std.proofs.lemmas.Bool.{ltb-false, ltb-true}
-use Rattle.std.proofs.lemmas.List.{get_or_default}
+use Rattle.lemmas.proofs.Common.{◌<◌, ◌==◌, ◌∙◌, ◌≡◌, ◌≤◌, List, None, Some, ap, arith, get_or, length, position}
+use Rattle.lemmas.proofs.Common.{slice_get, subst, sym, take, ℕ, get_or_default, ltb-false, ltb-true}
 use Rattle.module_box.proofs.WireLists.{no_entry, other_entry, place_found, scan_found}
 use Rattle.module_box.proofs.numbered_wires.NumberedWires.number.Goals as goal
 

@@ -1,4 +1,4 @@
-use Rattle.std.proofs.Common.{ℕ, ◌≡◌, List, length, false, ap, ◌∙◌, arith}
+use Rattle.lemmas.proofs.Common.{◌∙◌, ◌≡◌, List, ap, arith, false, length, ℕ}
 use Rattle.module_box.specs.Locals.{is_among}
 use Rattle.module_box.proofs.WireLists.{placed_more}
 use Rattle.module_box.proofs.numbered_wires.NumberedWires.push.Goals as goal

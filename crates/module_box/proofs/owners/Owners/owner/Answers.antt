@@ -1,6 +1,4 @@
-use Rattle.std.proofs.Common.{◌≡◌, IsTrue, arith, rules, SFits, w32, to_z-of_z}
-use Rattle.std.specs.Int.RustNames.{unsigned_abs}
-use Rattle.std.proofs.lemmas.Grind.{common_steps}
+use Rattle.lemmas.proofs.Common.{◌≡◌, IsTrue, SFits, arith, rules, to_z-of_z, w32, common_steps, unsigned_abs}
 use Rattle.module_box.specs.Boxes.{in_box}
 use Rattle.module_box.specs.Tiling.{rectangle}
 use Rattle.module_box.specs.OwnersView.{owners_view}

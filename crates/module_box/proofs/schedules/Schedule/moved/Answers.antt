@@ -1,5 +1,4 @@
-use Rattle.std.proofs.Common.{arith}
-use Rattle.std.proofs.lemmas.Grind.{common_steps}
+use Rattle.lemmas.proofs.Common.{arith, common_steps}
 use Rattle.module_box.proofs.MovedBoxes.{all_times_rising, events_rising}
 use Rattle.module_box.proofs.schedules.Schedule.moved.Goals as goal
 

@@ -1,6 +1,4 @@
-use Rattle.std.proofs.Common.{arith}
-use Rattle.std.proofs.lemmas.List.{length-map}
-use Rattle.std.proofs.lemmas.Grind.{common_steps}
+use Rattle.lemmas.proofs.Common.{arith, common_steps, length-map}
 use Rattle.module_box.proofs.LocalRows.{column_at}
 use Rattle.module_box.proofs.wiring.Wiring.column.Goals as goal
 

@@ -1,5 +1,5 @@
-use Rattle.std.proofs.Common.{◌≡◌, ℕ, ◌+◌, ◌*◌, ◌/◌, ◌%◌, ◌<◌, true, List, length, subst, sym, ap, ◌∙◌, refl, arith}
-use Rattle.std.specs.Prelude.{slice_index}
+use Rattle.lemmas.proofs.Common.{◌%◌, ◌*◌, ◌+◌, ◌/◌, ◌<◌, ◌∙◌, ◌≡◌, List, ap, arith, length, refl, slice_index, subst}
+use Rattle.lemmas.proofs.Common.{sym, true, ℕ}
 use Rattle.bbm_rule.specs.Bits.{bit}
 use Rattle.circuit.specs.Meaning.{Netlist}
 use Rattle.circuit.specs.Bridge.{AreValues}

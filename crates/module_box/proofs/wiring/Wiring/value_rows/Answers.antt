@@ -1,5 +1,5 @@
-use Rattle.std.proofs.Common.{◌≡◌, ℕ, ◌+◌, ◌++◌, List, take, drop, length, subst, sym, ap, ◌∙◌, rules}
-use Rattle.std.proofs.Math.Seq.{take-append_seam}
+use Rattle.lemmas.proofs.Common.{◌++◌, ◌+◌, ◌∙◌, ◌≡◌, List, ap, drop, length, rules, subst, sym, take, ℕ}
+use Rattle.lemmas.proofs.Common.{take-append_seam}
 use Rattle.circuit.specs.Meaning.{wires}
 use Rattle.module_box.proofs.LocalRows.{AreRowsBelow, rows_more, written}
 use Rattle.module_box.proofs.wiring.Wiring.value_rows.Goals as goal

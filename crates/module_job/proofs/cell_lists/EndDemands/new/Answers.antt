@@ -1,5 +1,4 @@
-use Rattle.std.proofs.Common.{◌<◌, ap, map, subst, sym, All}
-use Rattle.std.proofs.lemmas.List.Elements.{All-nil}
+use Rattle.lemmas.proofs.Common.{◌<◌, All, ap, map, subst, sym, All-nil}
 use Rattle.module_job.specs.CellLists.{demand_from_number}
 use Rattle.module_job.proofs.cell_lists.EndDemands.new.Goals as goal
 

@@ -1,4 +1,4 @@
-use Rattle.std.proofs.Common.{ap, sym, ◌∙◌, slice_get, unwrap_or}
+use Rattle.lemmas.proofs.Common.{◌∙◌, ap, slice_get, sym, unwrap_or}
 use Rattle.module_job.specs.declared.job.Demand.TheVariants.{Dead}
 use Rattle.module_job.specs.CellLists.{demand_from_number}
 use Rattle.module_job.proofs.NumberedCells.{demand_found}

@@ -1,5 +1,4 @@
-use Rattle.std.proofs.Common.{arith, ◌<◌, subst, sym, All}
-use Rattle.std.proofs.lemmas.Grind.{common_steps}
+use Rattle.lemmas.proofs.Common.{◌<◌, All, arith, subst, sym, common_steps}
 use Rattle.module_job.proofs.NumberedCells.{start_pushed}
 use Rattle.module_job.proofs.cell_lists.StartSignals.push.Goals as goal
 

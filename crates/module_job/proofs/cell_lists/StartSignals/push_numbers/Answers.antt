@@ -1,5 +1,4 @@
-use Rattle.std.proofs.Common.{arith}
-use Rattle.std.proofs.lemmas.Grind.{common_steps}
+use Rattle.lemmas.proofs.Common.{arith, common_steps}
 use Rattle.module_job.proofs.NumberedCells.{start_numbers}
 use Rattle.module_job.proofs.cell_lists.StartSignals.push_numbers.Goals as goal
 

@@ -1,4 +1,4 @@
-use Rattle.std.proofs.Common.{ap, sym, ◌∙◌, slice_get, unwrap_or}
+use Rattle.lemmas.proofs.Common.{◌∙◌, ap, slice_get, sym, unwrap_or}
 use Rattle.module_box.specs.declared.schedules.Signal.TheVariants.{Zero}
 use Rattle.module_job.specs.CellLists.{signal_from_number}
 use Rattle.module_job.proofs.NumberedCells.{start_found}

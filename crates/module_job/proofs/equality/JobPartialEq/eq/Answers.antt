@@ -1,6 +1,4 @@
-use Rattle.std.proofs.Common.{◌≡◌, ◌&&◌, nat_eq, rules, ap₂, ◌∙◌}
-use Rattle.std.specs.Arc.{arc_value}
-use Rattle.std.specs.Cmp.Lexicographic.{pointwise}
+use Rattle.lemmas.proofs.Common.{◌&&◌, ◌∙◌, ◌≡◌, ap₂, nat_eq, rules, arc_value, pointwise}
 use Rattle.module_job.specs.Equality.{same_job, same_shape}
 use Rattle.module_job.proofs.EqualJobs.{parts_tell}
 use Rattle.module_job.proofs.equality.JobPartialEq.eq.Goals as goal

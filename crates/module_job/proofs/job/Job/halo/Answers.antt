@@ -1,6 +1,4 @@
-use Rattle.std.proofs.Common.{arith}
-use Rattle.std.proofs.lemmas.Int.{ints}
-use Rattle.std.proofs.lemmas.Grind.{common_steps}
+use Rattle.lemmas.proofs.Common.{arith, common_steps, ints}
 use Rattle.module_job.proofs.ShapeParts.{carried}
 use Rattle.module_job.proofs.job.Job.halo.Goals as goal
 

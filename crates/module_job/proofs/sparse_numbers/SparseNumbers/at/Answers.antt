@@ -1,7 +1,5 @@
-use Rattle.std.proofs.Common.{◌≡◌, ◌+◌, ◌*◌, ◌<◌, ap, arith, length, sym, ◌∙◌, slice_get, unwrap_or}
-use Rattle.std.proofs.lemmas.List.{get_or_read}
-use Rattle.std.proofs.lemmas.Option.{unwrap_or-slice_get}
-use Rattle.std.proofs.lemmas.Grind.{common_steps}
+use Rattle.lemmas.proofs.Common.{◌*◌, ◌+◌, ◌<◌, ◌∙◌, ◌≡◌, ap, arith, length, slice_get, sym, unwrap_or, common_steps}
+use Rattle.lemmas.proofs.Common.{get_or_read, unwrap_or-slice_get}
 use Rattle.module_job.specs.SparseNumbers.{sparse_view}
 use Rattle.module_job.proofs.SparseLists.{count_numbers, none_left, none_there, number_found, past, rank}
 use Rattle.module_job.proofs.sparse_numbers.SparseNumbers.at.Goals as goal

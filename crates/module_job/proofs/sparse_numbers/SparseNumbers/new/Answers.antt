@@ -1,5 +1,4 @@
-use Rattle.std.proofs.Common.{arith}
-use Rattle.std.proofs.lemmas.Grind.{common_steps}
+use Rattle.lemmas.proofs.Common.{arith, common_steps}
 use Rattle.module_job.proofs.SparseLists.{no_entries, no_number, no_numbers}
 use Rattle.module_job.proofs.sparse_numbers.SparseNumbers.new.Goals as goal
 

@@ -1,6 +1,4 @@
-use Rattle.std.proofs.Common.{arith}
-use Rattle.std.proofs.lemmas.List.{with_items_is}
-use Rattle.std.proofs.lemmas.Grind.{common_steps}
+use Rattle.lemmas.proofs.Common.{arith, common_steps, with_items_is}
 use Rattle.module_job.proofs.SparseLists.{number_grows, number_unmarked}
 use Rattle.module_job.proofs.sparse_numbers.SparseNumbers.push.Goals as goal
 

@@ -1,5 +1,4 @@
-use Rattle.std.proofs.Common.{arith}
-use Rattle.std.proofs.lemmas.Grind.{common_steps}
+use Rattle.lemmas.proofs.Common.{arith, common_steps}
 use Rattle.module_job.proofs.SparseLists.{zeros_grow, zeros_unmarked}
 use Rattle.module_job.proofs.sparse_numbers.SparseNumbers.push_zeros.Goals as goal
 

@@ -1,5 +1,4 @@
-use Rattle.std.proofs.Common.{arith}
-use Rattle.std.proofs.lemmas.Grind.{common_steps}
+use Rattle.lemmas.proofs.Common.{arith, common_steps}
 use Rattle.module_job.proofs.SparseLists.{same_fields}
 use Rattle.module_job.proofs.sparse_numbers.SparseNumbersPartialEq.eq.Goals as goal
 

@@ -1,6 +1,5 @@
 -- The grids hold the cells that are taken, those of the line among them.
-use Rattle.std.proofs.Common.{arith, ◌||◌, ◌&&◌, sym, ap, ◌∙◌}
-use Rattle.std.proofs.lemmas.Grind.{common_steps}
+use Rattle.lemmas.proofs.Common.{◌&&◌, ◌||◌, ◌∙◌, ap, arith, sym, common_steps}
 use Rattle.pattern.specs.declared.layout_line.LayoutHeader.{LayoutHeader}
 use Rattle.bbm_rule.specs.Board.{live}
 use Rattle.pattern.specs.Layout.{in_cells, parts_of}

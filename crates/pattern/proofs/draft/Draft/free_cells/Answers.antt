@@ -1,7 +1,5 @@
 -- The grids hold the cells that are taken.
-use Rattle.std.proofs.Common.{arith, ◌≡◌, true, if◌then◌else◌, sym, ap, ◌∙◌}
-use Rattle.std.specs.List.{list_any}
-use Rattle.std.proofs.lemmas.Grind.{common_steps}
+use Rattle.lemmas.proofs.Common.{◌∙◌, ◌≡◌, ap, arith, if◌then◌else◌, sym, true, common_steps, list_any}
 use Rattle.bbm_rule.specs.Board.{live}
 use Rattle.pattern.specs.declared.layout_line.LayoutHeader.{LayoutHeader}
 use Rattle.pattern.specs.Layout.{parts_of}

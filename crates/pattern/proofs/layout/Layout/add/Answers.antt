@@ -1,6 +1,5 @@
 -- One more line of each kind.
-use Rattle.std.proofs.Common.{arith, ◌≡◌, [], ◌∷◌, ◌++◌, sym}
-use Rattle.std.proofs.lemmas.Grind.{common_steps}
+use Rattle.lemmas.proofs.Common.{[], ◌++◌, ◌∷◌, ◌≡◌, arith, sym, common_steps}
 use Rattle.pattern.specs.Layout.{parts_of}
 use Rattle.pattern.specs.LayoutView.{pattern_of}
 use Rattle.pattern.proofs.Added.{with_mirror, with_ball, with_in, with_out, with_waste, good_more}

@@ -1,4 +1,4 @@
-use Rattle.std.proofs.Common.{List, sym, subst}
+use Rattle.lemmas.proofs.Common.{List, subst, sym}
 use Rattle.pattern.specs.declared.layout_line.Port.{Port}
 use Rattle.pattern.specs.Layout.{HaveDistinctCells}
 use Rattle.pattern.specs.LayoutView.{pattern_of}

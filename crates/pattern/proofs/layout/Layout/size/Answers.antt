@@ -1,4 +1,4 @@
-use Rattle.std.proofs.Common.{rules}
+use Rattle.lemmas.proofs.Common.{rules}
 use Rattle.pattern.proofs.layout.Layout.size.Goals as goal
 
 pub returns-clause-size : goal.returns-clause-size

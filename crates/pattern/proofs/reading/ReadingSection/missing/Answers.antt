@@ -1,7 +1,6 @@
 -- Each name that is asked for was seen.
-use Rattle.std.proofs.Common.{arith, ◌≡◌, ◌&&◌, true, false, None, Some, List, ℕ, sym, ap, ap₂, subst, ◌∙◌}
-use Rattle.std.specs.List.{list_all}
-use Rattle.std.proofs.lemmas.Grind.{common_steps}
+use Rattle.lemmas.proofs.Common.{◌&&◌, ◌∙◌, ◌≡◌, List, None, Some, ap, ap₂, arith, false, subst, sym, true, ℕ}
+use Rattle.lemmas.proofs.Common.{common_steps, list_all}
 use Rattle.pattern.specs.Layout.{parts_of}
 use Rattle.pattern.specs.Readings.{ReadingView}
 use Rattle.section_text.specs.Words.{has}

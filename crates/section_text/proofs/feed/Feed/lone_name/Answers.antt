@@ -1,4 +1,4 @@
-use Rattle.std.proofs.Common.{◌∙◌, ap, sym, option_and_then, option_copied}
+use Rattle.lemmas.proofs.Common.{◌∙◌, ap, option_and_then, option_copied, sym}
 use Rattle.section_text.specs.Words.{name_of}
 use Rattle.section_text.proofs.Splitting.{second_name}
 use Rattle.section_text.proofs.feed.Feed.lone_name.Goals as goal

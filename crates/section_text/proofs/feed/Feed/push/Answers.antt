@@ -1,4 +1,4 @@
-use Rattle.std.proofs.Common.{rules}
+use Rattle.lemmas.proofs.Common.{rules}
 use Rattle.section_text.proofs.feed.Feed.push.Goals as goal
 
 pub returns-then-piece-len-clause-ok : goal.returns-then-piece-len-clause-ok

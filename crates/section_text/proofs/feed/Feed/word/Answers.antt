@@ -1,4 +1,4 @@
-use Rattle.std.proofs.Common.{rules}
+use Rattle.lemmas.proofs.Common.{rules}
 use Rattle.section_text.proofs.feed.Feed.word.Goals as goal
 
 pub returns : goal.returns

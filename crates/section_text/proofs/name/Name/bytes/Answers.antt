@@ -1,4 +1,4 @@
-use Rattle.std.proofs.Common.{rules}
+use Rattle.lemmas.proofs.Common.{rules}
 use Rattle.section_text.proofs.name.Name.bytes.Goals as goal
 
 pub returns-clause-bytes : goal.returns-clause-bytes

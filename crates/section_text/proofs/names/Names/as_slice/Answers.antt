@@ -1,4 +1,4 @@
-use Rattle.std.proofs.Common.{rules}
+use Rattle.lemmas.proofs.Common.{rules}
 use Rattle.section_text.proofs.names.Names.as_slice.Goals as goal
 
 pub returns-clause-names : goal.returns-clause-names

@@ -1,4 +1,4 @@
-use Rattle.std.proofs.Common.{rules}
+use Rattle.lemmas.proofs.Common.{rules}
 use Rattle.section_text.proofs.names.Names.new.Goals as goal
 
 pub invariant_of-result : goal.invariant_of-result

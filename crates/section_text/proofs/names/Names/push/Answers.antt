@@ -1,5 +1,4 @@
-use Rattle.std.proofs.Common.{arith, rules}
-use Rattle.std.proofs.lemmas.Grind.{common_steps}
+use Rattle.lemmas.proofs.Common.{arith, rules, common_steps}
 use Rattle.section_text.proofs.names.Names.push.Goals as goal
 
 pub invariant_of-self : goal.invariant_of-self

@@ -1,5 +1,4 @@
-use Rattle.std.proofs.Common.{◌≡◌, length}
-use Rattle.std.specs.Io.KnownBytes.{Keeps}
+use Rattle.lemmas.proofs.Common.{◌≡◌, length, Keeps}
 use Rattle.streams.proofs.retrying.RetryingRead.read.Given as goal
 
 -- no byte was read yet

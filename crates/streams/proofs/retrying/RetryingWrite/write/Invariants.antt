@@ -1,4 +1,4 @@
-use Rattle.std.specs.Io.KnownBytes.{Keeps}
+use Rattle.lemmas.proofs.Common.{Keeps}
 use Rattle.streams.proofs.retrying.RetryingWrite.write.Given as goal
 
 -- no byte was written yet

@@ -1,5 +1,4 @@
-use Rattle.std.proofs.Common.{◌≡◌, ℕ, List, ◌∷◌, ◌++◌, [], ◌+◌, ap, arith, ◌∙◌, replicate}
-use Rattle.std.proofs.lemmas.List.{replicate_more}
+use Rattle.lemmas.proofs.Common.{[], ◌++◌, ◌+◌, ◌∙◌, ◌∷◌, ◌≡◌, List, ap, arith, replicate, ℕ, replicate_more}
 use Rattle.verdict_book.specs.Counts.{Counts, no_counts}
 use Rattle.verdict_book.proofs.book.Book.open.Goals as goal
 

@@ -1,4 +1,4 @@
-use Rattle.std.proofs.Common.{◌≡◌, ◌+◌, replicate}
+use Rattle.lemmas.proofs.Common.{◌+◌, ◌≡◌, replicate}
 use Rattle.verdict_book.specs.Counts.{no_counts}
 use Rattle.verdict_book.proofs.book.Book.open.Given as goal
 

@@ -1,4 +1,4 @@
-use Rattle.std.proofs.Common.{◌≡◌, ◌∙◌, ◌+◌, ◌∷◌, [], ap, arith, length, length-append, sym, false}
+use Rattle.lemmas.proofs.Common.{[], ◌+◌, ◌∙◌, ◌∷◌, ◌≡◌, ap, arith, false, length, length-append, sym}
 use Rattle.core_book.specs.Book.{BookView, accepted_in, after_filing, accepted_count_after, filing_of}
 use Rattle.core_book.specs.Replay.{has_closing}
 use Rattle.core_book.specs.declared.log_entry.LogEntry.TheVariants.{Filed}

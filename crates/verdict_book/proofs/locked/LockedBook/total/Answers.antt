@@ -1,5 +1,4 @@
-use Rattle.std.proofs.Common.{◌≡◌, sum_by, [], arith, rules, ap, vec_len}
-use Rattle.std.proofs.lemmas.List.Sums.{sum_by_push}
+use Rattle.lemmas.proofs.Common.{[], ◌≡◌, ap, arith, rules, sum_by, vec_len, sum_by_push}
 use Rattle.verdict_book.specs.Counts.{Counts}
 use Rattle.verdict_book.proofs.locked.LockedBook.total.Goals as goal
 

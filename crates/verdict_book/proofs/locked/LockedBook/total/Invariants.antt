@@ -1,4 +1,4 @@
-use Rattle.std.proofs.Common.{◌≡◌, ◌+◌, ◌≤◌, sum_by, vec_len}
+use Rattle.lemmas.proofs.Common.{◌+◌, ◌≡◌, ◌≤◌, sum_by, vec_len}
 use Rattle.verdict_book.specs.Counts.{Counts}
 use Rattle.verdict_book.proofs.locked.LockedBook.total.Given as goal
 

@@ -1,0 +1,4 @@
+pub mod Booleans
+pub mod Numbers
+pub mod Lists
+pub mod Common
