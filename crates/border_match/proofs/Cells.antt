@@ -1,5 +1,5 @@
 -- Cells of a halo, and the modules that have them
-use Rattle.lemmas.proofs.Common.{◌&&◌, ◌+ℤ◌, ◌+◌, ◌-ℤ◌, ◌-◌, ◌<◌, ◌||◌, ◌∙◌, ◌≡◌, ◌≢◌, ◌≤◌, ◌⊎◌, List, Some, ap, ap₂}
+use Rattle.lemmas.proofs.Common.{◌&&◌, ◌+ℤ◌, ◌+◌, ◌-ℤ◌, ◌-◌, ◌<◌, ◌||◌, ◌∙◌, ◌≡◌, ◌≤◌, ◌⊎◌, List, Some, ap, ap₂}
 use Rattle.lemmas.proofs.Common.{arith, false, get_or, inl, inr, length, map, option_map, pos, slice_get, sym, true, ℕ}
 use Rattle.lemmas.proofs.Common.{ℤ, and_from, and_parts, cases_Bool, common_steps, false≢true, ints, length-map}
 use Rattle.lemmas.proofs.Common.{slice_get-get_or, slice_get-map, slice_get_within}

@@ -1,6 +1,6 @@
 -- Moments and events that a search for the cells around a box passes over
 use Rattle.lemmas.proofs.Common.{◌%◌, ◌+ℤ◌, ◌+◌, ◌<ℤ◌, ◌<◌, ◌∙◌, ◌≡◌, ◌≢◌, ◌≤ℤ◌, ◌≤◌, ◌⊎◌, Bool, Equal, Greater, Less}
-use Rattle.lemmas.proofs.Common.{List, Ordering, Some, ap, arith, false, get_or, inl, inr, int_cmp, length, nat_cmp}
+use Rattle.lemmas.proofs.Common.{List, Ordering, Some, ap, arith, false, get_or, inl, inr, length}
 use Rattle.lemmas.proofs.Common.{pos, refl, slice_get, true, ℕ, ℤ, common_steps, false≢true, ints, ordering_then}
 use Rattle.lemmas.proofs.Common.{slice_get-get_or, slice_get_within, below_or_from, below_or_same, int_equal, int_less}
 use Rattle.lemmas.proofs.Common.{nat_equal, nat_less, same_or_higher}
@@ -14,7 +14,7 @@ use Rattle.module_box.proofs.BoxCells.{same_some}
 use Rattle.module_box.proofs.Rising.{moment_total}
 use Rattle.border_match.specs.Surroundings.{AreEventsFar, AreMomentsFarBetween, IsInOrAroundFromCorner, IsEventFarAt}
 use Rattle.border_match.specs.Surroundings.{IsSeen, IsWindow}
-use Rattle.border_match.specs.declared.surroundings.Window.{Window}
+use Rattle.border_match.specs.declared.window.Window.{Window}
 
 -- ---- the order of moments by their parts
 

@@ -1,5 +1,5 @@
 -- Marks of the halo events that edges name
-use Rattle.lemmas.proofs.Common.{[], ◌++◌, ◌+◌, ◌∙◌, ◌≡◌, ◌≤◌, ◌⊎◌, Bool, List, Some, ap, ap₂, arith, false, inl, inr}
+use Rattle.lemmas.proofs.Common.{◌++◌, ◌+◌, ◌∙◌, ◌≡◌, ◌≤◌, ◌⊎◌, Bool, List, Some, ap, ap₂, arith, false, inl, inr}
 use Rattle.lemmas.proofs.Common.{length, map, pos, refl, replicate, slice_get, suc, sym, take, true, zero, ℕ, ℤ}
 use Rattle.lemmas.proofs.Common.{common_steps, false≢true, ints, slice_get_within, take-append_seam, below_or_same}
 use Rattle.lemmas.proofs.Common.{mapped_from, some_at}

@@ -1,6 +1,6 @@
 -- The boxes of the modules of a certificate
-use Rattle.lemmas.proofs.Common.{[], ◌++◌, ◌+◌, ◌<◌, ◌∙◌, ◌∷◌, ◌≡◌, ◌≤◌, List, None, Option, Some, ap, arith, length}
-use Rattle.lemmas.proofs.Common.{map, option_map, refl, slice_get, subst, suc, sym, take, zero, ℕ, common_steps}
+use Rattle.lemmas.proofs.Common.{[], ◌++◌, ◌+◌, ◌∙◌, ◌∷◌, ◌≡◌, ◌≤◌, List, None, Option, Some, ap, arith, length}
+use Rattle.lemmas.proofs.Common.{map, option_map, refl, slice_get, subst, sym, take, ℕ, common_steps}
 use Rattle.lemmas.proofs.Common.{get_or_from_slice_get, slice_get-map, slice_get_within, take_more, mapped_from}
 use Rattle.module_box.specs.Boxes.{IsEven, Tile}
 use Rattle.module_box.specs.Tiling.{IsTask, IsTileFault, rectangle_of}

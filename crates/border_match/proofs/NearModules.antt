@@ -1,6 +1,6 @@
 -- The numbers of the modules that have cells of a module's halo, noted box by box.
-use Rattle.lemmas.proofs.Common.{[], ◌++◌, ◌+◌, ◌-◌, ◌<◌, ◌==◌, ◌||◌, ◌∙◌, ◌∷◌, ◌≡◌, ◌≤◌, ◌⊎◌, Bool, List, Some, ap₂}
-use Rattle.lemmas.proofs.Common.{arith, false, inl, inr, length, pos, refl, slice_get, subst, sym, true, ℕ, ℤ}
+use Rattle.lemmas.proofs.Common.{[], ◌++◌, ◌+◌, ◌-◌, ◌<◌, ◌==◌, ◌∙◌, ◌∷◌, ◌≡◌, ◌≤◌, ◌⊎◌, Bool, List, Some, ap₂}
+use Rattle.lemmas.proofs.Common.{arith, false, inl, inr, length, pos, slice_get, subst, sym, true, ℕ, ℤ}
 use Rattle.lemmas.proofs.Common.{and_parts, cases_Bool, common_steps, cond-false, cond-true, false≢true}
 use Rattle.lemmas.proofs.Common.{list_any-append, nat_tests, below_or_from, or_cases, or_left, or_right}
 use Rattle.module_box.specs.Boxes.{in_box, in_halo}

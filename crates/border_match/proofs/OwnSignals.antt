@@ -1,5 +1,5 @@
 -- A wire that the signals of a job name is one of its own, at each cell and time
-use Rattle.lemmas.proofs.Common.{[], ◌∷◌, All, List, arith, inl, inr, subst, suc, unwrap_or, ℕ, ℤ, cases_Bool}
+use Rattle.lemmas.proofs.Common.{[], ◌∷◌, All, List, inl, inr, subst, unwrap_or, ℕ, ℤ, cases_Bool}
 use Rattle.lemmas.proofs.Common.{get_or_from_slice_get, slice_get_within, All-head, All-tail}
 use Rattle.bbm_rule.specs.Plane.{is_at}
 use Rattle.circuit.specs.Meaning.{wires}

@@ -1,6 +1,6 @@
 -- Signals by other numbers of their wires, and times without an event
 use Rattle.lemmas.proofs.Common.{[], ◌%◌, ◌&&◌, ◌++◌, ◌<◌, ◌==◌, ◌∙◌, ◌∷◌, ◌≡◌, All, Bool, IfSome, List, None, Option}
-use Rattle.lemmas.proofs.Common.{Some, ap, arith, false, flat_map, map, option_map, refl, suc, sym, unwrap_or, ℕ, ℤ}
+use Rattle.lemmas.proofs.Common.{Some, ap, arith, false, flat_map, map, option_map, refl, sym, unwrap_or, ℕ, ℤ}
 use Rattle.lemmas.proofs.Common.{cases_Bool, common_steps, cond-false, cond-true, nat_tests, All-head, All-tail}
 use Rattle.bbm_rule.specs.Plane.{is_at}
 use Rattle.module_box.specs.Schedules.{Signals, all_times_at, event_at, signal_at}

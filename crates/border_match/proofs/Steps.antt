@@ -1,8 +1,8 @@
 -- One more event, module or time
 use Rattle.lemmas.proofs.Common.{[], ◌%◌, ◌+◌, ◌<◌, ◌∙◌, ◌∷◌, ◌≡◌, ◌≢◌, ◌≤◌, ◌⊎◌, Bool, Greater, Less, List, None}
-use Rattle.lemmas.proofs.Common.{Option, Some, ap, ap₂, arith, false, get_or, inl, inr, length, map, nat_cmp}
+use Rattle.lemmas.proofs.Common.{Option, Some, ap, ap₂, arith, false, get_or, inl, inr, length, map}
 use Rattle.lemmas.proofs.Common.{option_map, pos, refl, slice_get, subst, suc, sym, take, true, unwrap_or, ℕ, ℤ}
-use Rattle.lemmas.proofs.Common.{cases_Bool, common_steps, cond-false, false≢true, ints, length-map, nat_tests}
+use Rattle.lemmas.proofs.Common.{cases_Bool, common_steps, cond-false, false≢true, ints, length-map}
 use Rattle.lemmas.proofs.Common.{slice_get-map, slice_get_within, take_all, take_more, tied_itself, below_or_from}
 use Rattle.lemmas.proofs.Common.{below_or_same, less_nat, three_ways}
 use Rattle.bbm_rule.specs.declared.block.Cell.{Cell}
@@ -25,7 +25,7 @@ use Rattle.border_match.specs.Boards.{AreHaloOwnersListed, jobs_of, AreReadyBord
 use Rattle.border_match.specs.Boards.{IsNamedBelow, IsAtEdgeEvent, IsAtEdgeEventOfAny, IsAtEdgeEventOf}
 use Rattle.border_match.specs.Boards.{CellDiffersWithoutEvent, IsAround}
 use Rattle.border_match.specs.Surroundings.{AreEventsFar, IsWindow}
-use Rattle.border_match.specs.declared.surroundings.Window.{Window}
+use Rattle.border_match.specs.declared.window.Window.{Window}
 use Rattle.border_match.proofs.FarEvents.{seen}
 use Rattle.border_match.specs.declared.borders.Borders.{Borders}
 use Rattle.border_match.specs.declared.fault.BorderFault.{BorderFault}

@@ -1,6 +1,6 @@
 -- Schedules in which no line has a star
-use Rattle.lemmas.proofs.Common.{[], ◌==◌, ◌∙◌, ◌≡◌, Bool, List, ap, arith, false, length, map, not, refl, sym, true, ℤ}
-use Rattle.lemmas.proofs.Common.{common_steps, false≢true, length-map, nat_tests, nil_from_length}
+use Rattle.lemmas.proofs.Common.{[], ◌==◌, ◌∙◌, ◌≡◌, Bool, List, ap, arith, length, map, sym, true, ℤ}
+use Rattle.lemmas.proofs.Common.{common_steps, length-map, nat_tests, nil_from_length}
 use Rattle.module_box.specs.Moves.{moved_signals}
 use Rattle.module_box.specs.Schedules.{Signals}
 

@@ -7,8 +7,10 @@ use Rattle.module_box.specs.Moments.{moment_cmp}
 use Rattle.module_box.specs.declared.boxes.Box2.{Box2}
 use Rattle.module_box.specs.declared.schedules.TimedSignal.{TimedSignal}
 use Rattle.module_box.specs.declared.schedules.Moment.{Moment}
+use Rattle.module_job.specs.Jobs.{JobView}
+use Rattle.module_job.specs.Shapes.{shape_of}
 use Rattle.border_match.specs.Boards.{IsAround}
-use Rattle.border_match.specs.declared.surroundings.Window.{Window}
+use Rattle.border_match.specs.declared.window.Window.{Window}
 
 -- the cell, which is counted from the corner of the second box, is around the first box
 abbrev pub IsInOrAroundFromCorner : Box2 → Box2 → Cell → Type 0
@@ -27,6 +29,20 @@ pub record IsSeen (w : Window) (c : Cell) : Type 0 where
   pub right : c.x ≤ℤ w.last.x
   pub top : w.first.y ≤ℤ c.y
   pub bottom : c.y ≤ℤ w.last.y
+
+-- the cells of the events are in the window's columns and rows
+abbrev pub IsExtent : List TimedSignal → Window → Type 0
+IsExtent events w = (k : ℕ) (e : TimedSignal) → slice_get events k ≡ Some e → IsSeen w e.at.cell
+
+-- the same of the events of a job's ring, counted from the corner of its box
+abbrev pub IsRingExtent : JobView → Window → Type 0
+IsRingExtent j = IsExtent (shape_of j).edges.events
+
+-- there is such a window for each job
+pub record AreRingExtents (jobs : List JobView) (extents : List Window) : Type 0 where
+  pub sized : length extents ≡ length jobs
+  pub holds : (k : ℕ) (w : Window) → slice_get extents k ≡ Some w → (j : JobView) → slice_get jobs k ≡ Some j →
+      IsRingExtent j w
 
 -- no moment after the first and before the second is at an odd time and at a cell of the window
 abbrev pub AreMomentsFarBetween : Window → Moment → Moment → Type 0

@@ -6,12 +6,16 @@ ghost use Rattle.module_box.specs.Moves.{IsInShiftRange};
 ghost use Rattle.module_box.specs.Tiling.{owner_of};
 ghost use Rattle.border_match.specs.Boards.{AddsMark, AreMarked, AreModuleNumbers, AreHaloOwnersListed, SignalsDifferAt, IsFaultOfSearchedJob, IsAtEdgeEvent, IsAtEdgeEventOf, IsAtEvent, IsListed, IsNamed, IsPlaceOf, IsUnmarked, AreReadyBorders, MayBeFault, job_signal, jobs_of};
 ghost use Rattle.border_match.specs.Candidates.{IsBetter, IsLeast};
+ghost use Rattle.border_match.specs.Surroundings.{AreRingExtents, IsRingExtent};
 ghost use Rattle.border_match.specs.declared.fault.BorderFault.{BorderFault};
 ghost use Rattle.border_match.specs.declared.signals.RingOrHalo.TheVariants.{Halo};
 
 use crate::fault::{BorderFault, is_less, lesser};
 use crate::signals::{RingOrHalo, signal_at, signal_at_event};
-use crate::surroundings::{EventWalk, LeapPlan, Window, find_event_place, next_place_near};
+use crate::surroundings::{
+    EventWalk, LeapPlan, find_event_place, first_place_near, next_place_near,
+};
+use crate::window::Window;
 use bbm_rule::Cell;
 use certificate::Job;
 use module_box::{Box2, Moment, Owners, Signal, TimedSignal, moved_cell};
@@ -240,9 +244,11 @@ impl<'a> Borders<'a> {
         best: Option<BorderFault>,
         number: usize,
         other: &Job,
+        extent: &Window,
         seen: &mut [bool],
     ) -> Option<BorderFault>
         requires ready { AreReadyBorders self.now }
+        requires extent { IsRingExtent other.now extent.now }
         requires numbered { slice_get (jobs_of self.now) number ≡ Some other.now }
         requires marked { AreMarked self.now seen.old }
         ensures better { IsBetter (IsFaultOfSearchedJob self.now) (IsNamed other.now.edges.events)
@@ -256,7 +262,7 @@ impl<'a> Borders<'a> {
         let mut leaps = LeapPlan::new();
         let mut least = best;
         // Most events of a long side are far from this module, so this test comes before all others.
-        let mut place = next_place_near(&window, events, 0, &mut leaps);
+        let mut place = first_place_near(&window, extent, events, &mut leaps);
         'events: while place < events.len() {
             let event = other.edge_event(place);
             // The events rise, so no fault of the rest is less either.
@@ -274,16 +280,18 @@ impl<'a> Borders<'a> {
         &self,
         best: Option<BorderFault>,
         number: usize,
+        extents: &[Window],
         seen: &mut [bool],
     ) -> Option<BorderFault>
         requires ready { AreReadyBorders self.now }
+        requires extents { AreRingExtents (jobs_of self.now) extents.now }
         requires number { number < length self.now.jobs.now }
         requires marked { AreMarked self.now seen.old }
         ensures better { IsBetter (IsFaultOfSearchedJob self.now) (IsAtEdgeEventOf number self.now)
             best result }
         ensures marked { AreMarked self.now seen.new }
     {
-        self.with_edge_events(best, number, &self.jobs[number], seen)
+        self.with_edge_events(best, number, &self.jobs[number], &extents[number], seen)
     }
 
     // The least of the candidate and the faults that the edges of the modules name, where these are the numbers of the
@@ -293,9 +301,11 @@ impl<'a> Borders<'a> {
         &self,
         best: Option<BorderFault>,
         near: &[usize],
+        extents: &[Window],
         seen: &mut [bool],
     ) -> Option<BorderFault>
         requires ready { AreReadyBorders self.now }
+        requires extents { AreRingExtents (jobs_of self.now) extents.now }
         requires noted { AreHaloOwnersListed self.now near.now }
         requires below { AreModuleNumbers self.now near.now }
         requires marked { AreMarked self.now seen.old }
@@ -305,19 +315,24 @@ impl<'a> Borders<'a> {
     {
         let mut least = best;
         'modules: for number in near {
-            least = self.with_edges_of(least, *number, seen);
+            least = self.with_edges_of(least, *number, extents, seen);
         }
         least
     }
 
-    // The module's least border fault.
-    pub(crate) fn least_fault(&self, alloc: Global) -> Result<Option<BorderFault>, AllocError>
-        requires { AreReadyBorders self.now }
+    // The module's least border fault, where `extents` are those of the jobs.
+    pub(crate) fn least_fault(
+        &self,
+        alloc: Global,
+        extents: &[Window],
+    ) -> Result<Option<BorderFault>, AllocError>
+        requires ready { AreReadyBorders self.now }
+        requires extents { AreRingExtents (jobs_of self.now) extents.now }
         ensures { IfOk result (IsLeast (IsFaultOfSearchedJob self.now)) }
     {
         let near = self.near_modules(alloc)?;
         let mut seen = vec![in alloc; false; self.job.halo_events()]?;
-        let by_edges = self.with_edges(None, &near, &mut seen);
+        let by_edges = self.with_edges(None, &near, extents, &mut seen);
         let by_halo = self.with_halo_events(by_edges, &seen);
         Ok(self.with_star_faults(by_halo, &near))
     }

@@ -10,6 +10,7 @@
 #![tactic(auto)]
 
 mod borders;
+mod extents;
 mod fault;
 pub mod laws;
 mod matching;
@@ -17,6 +18,7 @@ mod near_modules;
 mod signals;
 mod star_faults;
 mod surroundings;
+mod window;
 
 pub use fault::BorderFault;
 pub use matching::match_borders;

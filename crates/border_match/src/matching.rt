@@ -10,6 +10,7 @@ ghost use Rattle.module_box.specs.Tiling.{AreOwners};
 ghost use Rattle.border_match.specs.BorderFaults.{AreBorderFaultsOf};
 
 use crate::borders::Borders;
+use crate::extents::ring_extents;
 use crate::fault::BorderFault;
 use certificate::{Cert, Job};
 use module_box::{Box2, Owners, TileFault, owner_table};
@@ -58,8 +59,9 @@ fn no_fault_for_each(alloc: Global, count: usize) -> Result<Vec<Option<BorderFau
 /// There is one entry for each module, in their order. `specs/BorderFaults.antt` defines border faults. In version 2 no
 /// module has one. The jobs are the certificate's, as [`Cert::jobs`](certificate::Cert::jobs) makes them.
 ///
-/// It takes memory for the modules' boxes, a table of the rectangle's blocks of two by two cells, and the answer. For
-/// one module at a time it takes memory for the numbers of the modules near it, and for a mark for each halo line.
+/// It takes memory for the modules' boxes, a table of the rectangle's blocks of two by two cells, the columns and rows
+/// of each module's edge lines, and the answer. For one module at a time it takes memory for the numbers of the modules
+/// near it, and for a mark for each halo line.
 pub fn match_borders(
     alloc: Global,
     cert: &Cert,
@@ -83,6 +85,7 @@ pub fn match_borders(
     };
     let boxes = boxes_of(alloc, cert)?;
     let owners = owners_of(alloc, cert, &boxes)?;
+    let extents = ring_extents(alloc, jobs)?;
     let mut faults = Vec::new(alloc);
     'jobs: for job in jobs {
         let borders = Borders {
@@ -91,7 +94,7 @@ pub fn match_borders(
             jobs,
             job,
         };
-        faults.push(borders.least_fault(alloc)?)?;
+        faults.push(borders.least_fault(alloc, &extents)?)?;
     }
     Ok(faults)
 }

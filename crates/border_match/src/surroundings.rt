@@ -6,8 +6,9 @@ ghost use Rattle.module_box.specs.Moments.{moment_cmp};
 ghost use Rattle.module_box.specs.Moves.{moved_cell};
 ghost use Rattle.module_box.specs.Schedules.{IsRising, moment_of};
 ghost use Rattle.border_match.specs.Boards.{IsPlaceOf};
-ghost use Rattle.border_match.specs.Surroundings.{AreEventsFar, AreMomentsFarBetween, IsInOrAroundFromCorner, IsEventFarAt, IsFirstFrom, IsSeen, IsWindow};
+ghost use Rattle.border_match.specs.Surroundings.{AreEventsFar, AreMomentsFarBetween, IsInOrAroundFromCorner, IsEventFarAt, IsExtent, IsFirstFrom, IsSeen, IsWindow};
 
+use crate::window::Window;
 use bbm_rule::Cell;
 use module_box::{Box2, Moment, TimedSignal};
 use std::cmp::Ordering;
@@ -79,94 +80,6 @@ impl LeapPlan {
             length,
             length_before: self.length,
         }
-    }
-}
-
-/// The columns and rows around the box of a module, counted from the corner of another box.
-#[derive(Clone, Copy)]
-pub(crate) struct Window {
-    // The first column and the first row.
-    first: Cell,
-    // The last column and the last row.
-    last: Cell,
-}
-
-impl Window {
-    /// Returns the columns and rows around an area, counted from the corner of another box.
-    pub(crate) fn around(area: Box2, corner: Box2) -> Window
-        requires area { (area.x + area.w ≤ 512) × (area.y + area.h ≤ 512) }
-        requires corner { (corner.x ≤ 512) × (corner.y ≤ 512) }
-        ensures { IsWindow area corner result }
-    {
-        Window {
-            first: Cell {
-                x: area.x as i32 - corner.x as i32 - 1,
-                y: area.y as i32 - corner.y as i32 - 1,
-            },
-            last: Cell {
-                x: (area.x + area.w) as i32 - corner.x as i32,
-                y: (area.y + area.h) as i32 - corner.y as i32,
-            },
-        }
-    }
-
-    /// Returns whether the cell is in these columns and rows.
-    pub(crate) fn holds(self, cell: Cell) -> bool
-        ensures seen { IsSeen self cell → IsTrue result }
-        ensures bounds { IsTrue result → IsSeen self cell }
-    {
-        if cell.x < self.first.x {
-            return false;
-        }
-        if cell.x > self.last.x {
-            return false;
-        }
-        if cell.y < self.first.y {
-            return false;
-        }
-        cell.y <= self.last.y
-    }
-
-    // Returns a moment at the first column after one at a far cell. Between the two, no moment at an odd time is at a
-    // cell of the window. Border faults are at odd times.
-    fn next_moment_near(self, at: Moment) -> Moment
-        requires far { ¬ IsSeen self at.cell }
-        ensures column { result.cell.x ≡ self.first.x }
-        ensures passed { AreMomentsFarBetween self at result }
-    {
-        let Moment { time, cell } = at;
-        let later = Moment {
-            time: time.saturating_add(1 + time % 2),
-            cell: self.first,
-        };
-        if cell.y < self.first.y {
-            return Moment {
-                time,
-                cell: self.first,
-            };
-        }
-        if cell.y > self.last.y {
-            return later;
-        }
-        if cell.x < self.first.x {
-            return Moment {
-                time,
-                cell: Cell {
-                    x: self.first.x,
-                    y: cell.y,
-                },
-            };
-        }
-        if cell.y < self.last.y {
-            return Moment {
-                time,
-                cell: Cell {
-                    x: self.first.x,
-                    y: cell.y + 1,
-                },
-            };
-        }
-        later
     }
 }
 
@@ -294,6 +207,24 @@ pub(crate) fn next_place_near(
         place = leap(window, events, place - 1, leaps);
     }
     place
+}
+
+/// Returns the first place of an event at a cell of the window, as [`next_place_near`] does, where the cells of all
+/// events are in the columns and rows of `extent`.
+pub(crate) fn first_place_near(
+    window: &Window,
+    extent: &Window,
+    events: &[TimedSignal],
+    leaps: &mut LeapPlan,
+) -> usize
+    requires rising { IsRising moment_cmp moment_of events.now }
+    requires extent { IsExtent events.now extent.now }
+    ensures { AreEventsFar window.now events.now 0 result }
+{
+    if extent.misses(*window) {
+        return events.len();
+    }
+    next_place_near(window, events, 0, leaps)
 }
 
 // Returns whether the event at a place is at a moment.

@@ -294,7 +294,8 @@ good_border c count local placed signal e = grind (arith, common_steps, both_non
 edge_good : (g : Setting) (area : Box2) (local : List ℕ) (count : ℕ) (starred : Bool) (e : BorderLine) →
     IsGoodBorder g.circuit count local (is_edge_place_and_time g.size area starred e) e.signal → IsEdge g area local e
 unfolding is_edge_place_and_time
-edge_good g area local count starred e good = grind (arith, common_steps, and_parts, false_from_not, time_good, signal_good)
+edge_good g area local count starred e good =
+    grind (arith, common_steps, and_parts, false_from_not, time_good, signal_good)
 
 halo_good : (g : Setting) (area : Box2) (local : List ℕ) (count : ℕ) (starred : Bool) (e : BorderLine) →
     IsGoodBorder g.circuit count local (is_halo_place_and_time g.size area starred e) e.signal → IsHalo g area local e

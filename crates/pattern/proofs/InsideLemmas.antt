@@ -59,7 +59,8 @@ pub record BeginsInside (p : Pattern) : Type 0 where
   pub ins : list_all (λ q. is_inside p.size (In q)) p.ins ≡ true
 
 pub begins_inside : (p : Pattern) → AreGoodAfter p.size [] (parts_of p) → BeginsInside p
-begins_inside p h = grind (arith, common_steps, parts_inside, list_all-append, right_is_true, list_all-map, left_is_true)
+begins_inside p h =
+    grind (arith, common_steps, parts_inside, list_all-append, right_is_true, list_all-map, left_is_true)
 
 pub mirrors_fit : (s : LayoutHeader) (rs : List Rectangle) → list_all (λ r. is_inside s (Mirror r)) rs ≡ true →
     s.w ≤ 512 →

@@ -22,8 +22,8 @@ pub returns-then-version-eq2 : goal.returns-then-version-eq2
 unfolding modules_by_version
 returns-then-version-eq2 c = grind (arith, common_steps, told, none_for_each)
 
-pub least_fault-requires : goal.least_fault-requires
-least_fault-requires c =
+pub least_fault-requires-clause-ready : goal.least_fault-requires-clause-ready
+least_fault-requires-clause-ready c =
     let s = c.args.cert.now in
     let js = map arc_value c.args.jobs.now in
     let o = c.in_ok-owners.owners in

@@ -1,4 +1,4 @@
-use Rattle.lemmas.proofs.Common.{◌+◌, ◌∙◌, ◌≡◌, List, Some, ap, arith, pos, slice_get, subst, ℕ, ints}
+use Rattle.lemmas.proofs.Common.{◌+◌, ◌∙◌, ◌≡◌, List, Some, ap, arith, pos, slice_get, subst, sym, ℕ, ints}
 use Rattle.module_box.specs.Moments.{moment_cmp}
 use Rattle.module_box.specs.Schedules.{IsRising, Signals, moment_of}
 use Rattle.module_box.specs.Tiling.{owner_of}
@@ -8,10 +8,10 @@ use Rattle.module_job.specs.Jobs.{JobView}
 use Rattle.module_job.specs.Shapes.{ShapeView, shape_of, shift_to_origin}
 use Rattle.border_match.specs.Boards.{AreReadyBorders, IsFaultOfSearchedJob, IsNamedBelow, jobs_of}
 use Rattle.border_match.specs.Candidates.{HasCandidateAtMost}
-use Rattle.border_match.specs.Surroundings.{AreEventsFar, IsWindow}
+use Rattle.border_match.specs.Surroundings.{AreEventsFar, IsExtent, IsWindow}
 use Rattle.border_match.specs.declared.borders.Borders.{Borders}
 use Rattle.border_match.specs.declared.fault.BorderFault.{BorderFault}
-use Rattle.border_match.specs.declared.surroundings.Window.{Window}
+use Rattle.border_match.specs.declared.window.Window.{Window}
 use Rattle.border_match.proofs.EventSignals.{events_unmoved}
 use Rattle.border_match.proofs.Least.{better_for, better_rest, better_same, better_then}
 use Rattle.border_match.proofs.Steps.{cornered, cornered_all, far_step, named_step, named_all, rest_covered, same_fault}
@@ -26,13 +26,19 @@ passed b other a corner w es s sv i next f ea ec is same are shape far g h =
     far_step b other a corner w es i next f ea ec is
     (cornered other es s same (are ∙ ap (λ (s : ShapeView). s.edges) shape)) far g h
 
+pub first_place_near-place-requires-clause-extent : goal.first_place_near-place-requires-clause-extent
+first_place_near-place-requires-clause-extent c =
+    subst (λ (es : List TimedSignal). IsExtent es c.args.extent.now)
+    (sym (cornered c.args.other.now c.events-events.result.now c.edges.result.now c.events-events.ensures.same_list
+    (c.edges.ensures ∙ ap (λ (s : ShapeView). s.edges) (c.deref-shape.ensures ∙ c.shape.ensures)))) c.requires.extent
+
 pub events-init : goal.events-init
 events-init c = record {
   better = better_same _ _ _ (λ h f r. let k = passed c.args.self.now c.args.other.now _ _ c.around-window.result
       c.events-events.result.now c.edges.result.now _ 0 _ h c.area.ensures.area c.area-2.ensures.area
       c.around-window.ensures c.events-events.ensures.same_list c.edges.ensures
       (c.deref-shape.ensures ∙ c.shape.ensures)
-      c.next_place_near-place.ensures.far f r in let lt = k.below in omega (arith, lt));
+      c.first_place_near-place.ensures f r in let lt = k.below in omega (arith, lt));
   marked = c.requires.marked;
 }
 
@@ -45,7 +51,7 @@ events-preserved c = record {
       c.events-events.result.now c.edges.result.now _ (c.events.place + 1) _ h c.area.ensures.area c.area-2.ensures.area
       c.around-window.ensures c.events-events.ensures.same_list c.edges.ensures
       (c.deref-shape.ensures ∙ c.shape.ensures)
-      c.next_place_near-place-in-events.ensures.far f r));
+      c.next_place_near-place.ensures.far f r));
   marked = c.with_edge_event-least.ensures.marked;
 }
 

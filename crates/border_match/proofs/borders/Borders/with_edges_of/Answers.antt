@@ -1,4 +1,4 @@
-use Rattle.lemmas.proofs.Common.{◌≡◌, Some, slice_get, arc_value}
+use Rattle.lemmas.proofs.Common.{◌≡◌, Some, arith, slice_get, arc_value, length-map, slice_get-get_or}
 use Rattle.border_match.specs.Boards.{jobs_of}
 use Rattle.border_match.proofs.Cells.{job_at}
 use Rattle.border_match.proofs.Least.{better_for}
@@ -8,6 +8,13 @@ use Rattle.border_match.proofs.borders.Borders.with_edges_of.Goals as goal
 pub with_edge_events-requires-clause-numbered : goal.with_edge_events-requires-clause-numbered
 with_edge_events-requires-clause-numbered c =
     job_at arc_value c.args.self.now.jobs.now c.args.number _ c.deref.result.now c.requires.number c.deref.ensures
+
+pub with_edge_events-requires-clause-extent : goal.with_edge_events-requires-clause-extent
+with_edge_events-requires-clause-extent c =
+    c.requires.extents.holds c.args.number _
+    (slice_get-get_or c.args.extents.now c.args.number _ (omega (arith, c.requires.number, c.requires.extents.sized,
+    length-map c.args.self.now.jobs.now arc_value))) c.deref.result.now
+    (job_at arc_value c.args.self.now.jobs.now c.args.number _ _ c.requires.number c.deref.ensures)
 
 pub returns : goal.returns
 returns c =

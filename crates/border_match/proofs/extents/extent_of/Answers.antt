@@ -1,0 +1,25 @@
+use Rattle.lemmas.proofs.Common.{◌+◌, ◌<◌, ◌≡◌, List, Some, arith, inl, inr, slice_get, subst, ℕ, common_steps}
+use Rattle.lemmas.proofs.Common.{slice_get-get_or, slice_get_within, below_or_same}
+use Rattle.module_box.specs.declared.schedules.TimedSignal.{TimedSignal}
+use Rattle.module_box.proofs.BoxCells.{same_some}
+use Rattle.border_match.specs.Surroundings.{IsSeen}
+use Rattle.border_match.proofs.extents.extent_of.Goals as goal
+
+-- one more event
+one_more : (P : TimedSignal → Type 0) (events : List TimedSignal) (i : ℕ) (event : TimedSignal) →
+    slice_get events i ≡ Some event → P event →
+    ((k : ℕ) (e : TimedSignal) → k < i → slice_get events k ≡ Some e → P e) →
+    (k : ℕ) (e : TimedSignal) → k < i + 1 → slice_get events k ≡ Some e → P e
+one_more P events i event there holds before k e below got = elim (below_or_same k i below) [
+  | inl lower ↦ before k e lower got
+  | inr same ↦ subst P (same_some (slice_get events i) event e there (subst (λ n. slice_get events n ≡ Some e) same got))
+      holds
+]
+
+pub events-preserved : goal.events-preserved
+events-preserved c = one_more (λ (e : TimedSignal). IsSeen c.include.new.self e.at.cell) c.args.events.now
+    c.events.event-index _ (slice_get-get_or c.args.events.now c.events.event-index _ c.events-test.true)
+    c.include.ensures.cell (λ k e l g. c.include.ensures.kept e.at.cell (c.events.invariant k e l g))
+
+pub returns : goal.returns
+returns c = grind (arith, common_steps, slice_get_within)

@@ -1,0 +1,45 @@
+//! The columns and rows that the events of a module's ring take up.
+//!
+//! Most events are far from most neighbours of a module. A neighbour that these columns and rows do not touch need not
+//! look at any of them.
+ghost use Rattle.std.specs.Prelude.{map, IfOk};
+ghost use Rattle.std.specs.Arc.{arc_value};
+ghost use Rattle.border_match.specs.Surroundings.{AreRingExtents, IsExtent, IsRingExtent};
+
+use crate::window::Window;
+use certificate::Job;
+use module_box::TimedSignal;
+use module_job::Shape;
+use std::alloc::{AllocError, Global};
+use std::sync::Arc;
+
+// Returns columns and rows that hold the cells of all these events.
+fn extent_of(events: &[TimedSignal]) -> Window
+    ensures { IsExtent events.now result }
+{
+    let mut extent = Window::EMPTY;
+    'events: for event in events {
+        extent.include(event.at.cell);
+    }
+    extent
+}
+
+// Returns columns and rows that hold the cells of the events of a job's ring, counted from the corner of its box.
+fn ring_extent(job: &Job) -> Window
+    ensures { IsRingExtent job.now result }
+{
+    let shape: &Shape = job.shape();
+    extent_of(shape.edges().events())
+}
+
+/// Returns, for each job, columns and rows that hold the cells of the events of its ring, counted from the corner of
+/// its box.
+pub(crate) fn ring_extents(alloc: Global, jobs: &[Arc<Job>]) -> Result<Vec<Window>, AllocError>
+    ensures { IfOk result (λ extents. AreRingExtents (map arc_value jobs.now) extents.items) }
+{
+    let mut extents = Vec::with_capacity(alloc, jobs.len())?;
+    'jobs: for job in jobs {
+        extents.push(ring_extent(job))?;
+    }
+    Ok(extents)
+}
