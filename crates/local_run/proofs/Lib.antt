@@ -1,5 +1,4 @@
 pub mod NextCells
-pub mod Numbers
 pub mod Cleared
 pub mod OwnWires
 pub mod LocalRuns

@@ -72,6 +72,21 @@ def release_manifest(_):
         same(subprocess.run([top / "tools" / "package" / "release", "--check"], capture_output=True).returncode, 1, "--check with another fast program")
 
 
+def release_other_kit(_):
+    """A kit of the release's logic may check its sources, whatever its name; a kit of another logic may not."""
+    with tempfile.TemporaryDirectory(prefix="operations-") as room:
+        top = copy_of_checkout(room)
+        logic = re.search(r"^kit \S+ logic ([0-9a-f]+)$", (top / MANIFEST).read_text(), re.M)[1]
+        rt = Path(room) / "kit" / "rt"
+        rt.parent.mkdir()
+        for named, status in ((f"rattle-kit-other logic {logic}", 0), (f"rattle-kit-other logic {logic[::-1]}", 1)):
+            rt.write_text(f"#!/bin/sh\necho '{named}'\n")
+            rt.chmod(0o755)
+            environment = {**os.environ, "PATH": f"{rt.parent}:{os.environ['PATH']}"}
+            ended = subprocess.run([top / "tools" / "package" / "release", "--check-sources"], capture_output=True, text=True, env=environment)
+            same(ended.returncode, status, f"{named}: {ended.stderr}")
+
+
 def release_older_sources(_):
     """In this checkout: a changed byte of a source, or an older commit with older times, does not run the released program."""
     with tempfile.TemporaryDirectory(prefix="operations-") as room:

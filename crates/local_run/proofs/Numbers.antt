@@ -1,2 +1,0 @@
--- Two numbers in order
-use Rattle.lemmas.proofs.Common.{◌<◌, ◌≡◌, ◌⊎◌, arith, ℕ}
