@@ -1,20 +1,22 @@
 -- Blocks that some of their cells hold
-use Rattle.lemmas.proofs.Common.{◌*◌, ◌+◌, ◌-◌, ◌<◌, ◌^◌, ◌||◌, ◌∙◌, ◌≡◌, ◌≤◌, ◌⊎◌, Bool, List, ap, arith, false}
-use Rattle.lemmas.proofs.Common.{get_or, inl, inr, refl, true, ℕ, common_steps, false≢true, mul-le-mul_left, or_left}
-use Rattle.lemmas.proofs.Common.{or_right}
+use Rattle.lemmas.proofs.Common.{◌*◌, ◌+◌, ◌<◌, ◌||◌, ◌∙◌, ◌≡◌, ◌≤◌, ◌⊎◌, Bool, List, ap, arith, false, get_or, inl}
+use Rattle.lemmas.proofs.Common.{inr, refl, true, ℕ, common_steps, false≢true, mul-le-mul_left, or_left, or_right}
 use Rattle.bbm_rule.specs.Bits.{bit}
 use Rattle.bbm_rule.specs.Plane.{turned}
 use Rattle.bbm_rule.proofs.BitLemmas.{bit_above, bit-zero, by_lt_or_le}
 use Rattle.bbm_rule.proofs.MarkLemmas.{bit_ones}
-use Rattle.local_run.specs.Turns.{IsStableBlock}
-use Rattle.local_run.specs.Held.{HasValueUnderAll, IsEmptyBlock, IsBlockHeldByCorners, cell_word_bit}
+use Rattle.local_run.specs.Frozen.{AreWords}
+use Rattle.local_run.specs.Turns.{IsStable}
+use Rattle.local_run.specs.declared.blocks.BlockPlaces.{BlockPlaces}
+use Rattle.local_run.specs.declared.planes.Planes.{Planes}
+use Rattle.local_run.specs.Held.{HasLiveDiagonals, HasValueUnderAll, IsEmptyBlock, IsBlockHeldByCorners, cell_word_bit}
 
 -- ---- cells whose words are the same
 pub room_of : (w u n long : ℕ) → u < n → long ≡ w * n → w * u + w ≤ long
 room_of w u n long l e = let m : w * (u + 1) ≤ w * n = mul-le-mul_left w (omega arith) in omega (arith, m, e)
 
-pub run_room : (w first end n long : ℕ) → first ≤ end → end ≤ n → long ≡ w * n → w * first + w * (end - first) ≤ long
-run_room w first end n long l h e = grind (arith, common_steps, mul-le-mul_left)
+pub run_room : (w at n cells long : ℕ) → at + n ≤ cells → long ≡ w * cells → w * at + w * n ≤ long
+run_room w at n cells long l e = let m : w * (at + n) ≤ w * cells = mul-le-mul_left w l in omega (arith, m, e)
 
 pub all_live : (w at : ℕ) (cells : List ℕ) →
     ((k : ℕ) → k < w → get_or cells (w * at + k) 0 ≡ 18446744073709551615) →
@@ -100,24 +102,22 @@ held_calm w A B C D a b c d (inl h) k j lk lj =
 held_calm w A B C D a b c d (inr h) k j lk lj = grind (arith, common_steps, calm_dead)
 
 -- a block of words that is held
-pub held_block : (w a b c d : ℕ) (ul ur ll lr : List ℕ) (A B C D : Type 0) →
-    IsBlockHeldByCorners w A B C D (cell_word_bit w ul a) (cell_word_bit w ur b) (cell_word_bit w ll c)
-    (cell_word_bit w lr d) →
-    ((k : ℕ) → get_or ul k 0 < 2 ^ 64) → ((k : ℕ) → get_or ur k 0 < 2 ^ 64) → ((k : ℕ) → get_or ll k 0 < 2 ^ 64) →
-    ((k : ℕ) → get_or lr k 0 < 2 ^ 64) → IsStableBlock w a b c d ul ur ll lr
-held_block w a b c d ul ur ll lr A B C D held fa fb fc fd = (
+pub held_stable : (b : BlockPlaces) (p : Planes) (A B C D : Type 0) → AreWords p →
+    IsBlockHeldByCorners p.words A B C D (cell_word_bit p.words p.odd.items b.odd)
+    (cell_word_bit p.words p.right.items b.right) (cell_word_bit p.words p.down.items b.down)
+    (cell_word_bit p.words p.even.items b.even) → IsStable b p
+held_stable b p A B C D words held = (
   λ k l j. ((calm k j l).upper_left, (calm k j l).lower_right),
   λ k l j. ((calm k j l).upper_right, (calm k j l).lower_left),
 )
   where
-    calm : (k j : ℕ) → k < w →
-        IsCalmAt (bit (get_or ul (w * a + k) 0) j) (bit (get_or ur (w * b + k) 0) j) (bit (get_or ll (w * c + k) 0) j)
-        (bit (get_or lr (w * d + k) 0) j)
+    calm : (k j : ℕ) → k < p.words →
+        IsCalmAt (cell_word_bit p.words p.odd.items b.odd k j) (cell_word_bit p.words p.right.items b.right k j)
+        (cell_word_bit p.words p.down.items b.down k j) (cell_word_bit p.words p.even.items b.even k j)
     calm k j l = by_lt_or_le j 64
-        (λ h. held_calm w A B C D (cell_word_bit w ul a) (cell_word_bit w ur b) (cell_word_bit w ll c)
-        (cell_word_bit w lr d) held k j l h)
-        (λ g. calm_dead _ _ _ _ (bit_above _ 64 j (fa (w * a + k)) g) (bit_above _ 64 j (fb (w * b + k)) g)
-        (bit_above _ 64 j (fc (w * c + k)) g) (bit_above _ 64 j (fd (w * d + k)) g))
+        (λ h. held_calm p.words A B C D _ _ _ _ held k j l h)
+        (λ g. calm_dead _ _ _ _ (bit_above _ 64 j (words.odd _) g) (bit_above _ 64 j (words.right _) g)
+        (bit_above _ 64 j (words.down _) g) (bit_above _ 64 j (words.even _) g))
 
 -- a block that is held stays
 pub held_stays : (w : ℕ) (A B C D : Type 0) (a b c d a' b' c' d' : ℕ → ℕ → Bool) →
@@ -154,3 +154,11 @@ pub still_held : (w : ℕ) (A B C D : Type 0) (a b c d a' b' c' d' : ℕ → ℕ
 still_held w A B C D a b c d a' b' c' d' sa sb sc sd (inl h) = grind (arith, common_steps, one_still)
 still_held w A B C D a b c d a' b' c' d' sa sb sc sd (inr h) =
     inr (still_empty w A B C D a b c d a' b' c' d' sa sb sc sd h)
+
+-- each diagonal has a live cell that meets another condition, where that follows
+pub live_if : (w : ℕ) (A B C D A' B' C' D' : Type 0) (a b c d : ℕ → ℕ → Bool) → (A → A') → (B → B') → (C → C') →
+    (D → D') → HasLiveDiagonals w A B C D a b c d → HasLiveDiagonals w A' B' C' D' a b c d
+live_if w A B C D A' B' C' D' a b c d fa fb fc fd h = record {
+  main = elim h.main [ inl x ↦ inl (fa x.0, x.1) | inr x ↦ inr (fd x.0, x.1) ];
+  anti = elim h.anti [ inl x ↦ inl (fb x.0, x.1) | inr x ↦ inr (fc x.0, x.1) ];
+}

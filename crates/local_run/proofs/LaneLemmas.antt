@@ -1,5 +1,5 @@
 -- The cells of planes, by assignment.
-use Rattle.lemmas.proofs.Common.{◌%◌, ◌*◌, ◌+◌, ◌-◌, ◌/◌, ◌<◌, ◌∙◌, ◌≡◌, ◌≤◌, List, ap, arith, drop, get_or, length}
+use Rattle.lemmas.proofs.Common.{◌%◌, ◌*◌, ◌+◌, ◌/◌, ◌<◌, ◌∙◌, ◌≡◌, ◌≤◌, List, ap, arith, drop, get_or, length}
 use Rattle.lemmas.proofs.Common.{length-take-le, refl, ℕ, common_steps, get_or-append_right, get_or-drop, get_or-take}
 use Rattle.lemmas.proofs.Common.{get_or_append_left, mul-le-mul_left}
 use borrow.Rule.Slice.PartMut.{mid_of, put_mid, post_of}

@@ -1,17 +1,23 @@
 -- Cells that are known to be dead, and blocks of which one cell at most is live
 use Rattle.lemmas.proofs.Common.{◌*◌, ◌+◌, ◌-◌, ◌<◌, ◌∙◌, ◌≡◌, ◌≢◌, ◌≤◌, ◌⊎◌, Bool, List, ap, arith, false, get_or}
-use Rattle.lemmas.proofs.Common.{get_or-set_other, get_or-set_same, inl, inr, length, refl, set, sym, true, ℕ}
+use Rattle.lemmas.proofs.Common.{get_or-set_other, get_or-set_same, inl, inr, length, not, refl, set, sym, true, ℕ}
 use Rattle.lemmas.proofs.Common.{common_steps}
 use Rattle.bbm_rule.specs.Bits.{bit}
 use Rattle.bbm_rule.specs.Plane.{turned}
 use Rattle.bbm_rule.specs.Words.{AreTurned}
 use Rattle.bbm_rule.proofs.BitLemmas.{bit-zero, by_lt_or_le}
-use Rattle.local_run.specs.Calm.{AreAllCellsDead, ChangesCells, AreUnmarkedEvenBlocksStable, AreFourCellsDead}
-use Rattle.local_run.specs.Calm.{AreUnmarkedOddBlocksStable}
+use Rattle.bbm_rule.specs.Marks.{IsUnmarked}
+use Rattle.local_run.specs.Blocks.{AreCells, block_at, is_main}
+use Rattle.local_run.specs.Calm.{AreAllCellsDead, AreFourCellsDead, AreUnmarkedBlocksStable, ChangesCells}
 use Rattle.local_run.specs.Lanes.{HasWordsStrideRows}
-use Rattle.local_run.specs.Live.{AllUnmarkedDead, AreFirstCellsMarked, AreBlockCellsUnmarked, AreUnmarkedCellsDead}
-use Rattle.local_run.specs.Live.{UnmarksIfDead, IsDeadCell, MarksCellIf, TakesMarkOfOther}
-use Rattle.local_run.specs.Turns.{DiagonalStays, IsStableBlock, SameBeside, SwapsPart, TurnsPart}
+use Rattle.local_run.specs.Live.{AllUnmarkedDead, AreFirstCellsMarked, AreBlockCellsUnmarked, AreNumberCellsUnmarked}
+use Rattle.local_run.specs.Live.{AreUnmarkedCellsDead, IsDeadCell, IsLone, MarksCellIf, MarksCells, SwapsMarks}
+use Rattle.local_run.specs.Live.{TakesMarkOfOther, UnmarksDeadCells, UnmarksIfDead}
+use Rattle.local_run.specs.Turns.{AntiStays, DiagonalStays, IsStable, MainStays, SameBeside, SwapsDiagonal, SwapsPart, TurnsBlock, TurnsPart}
+use Rattle.local_run.specs.declared.block_marks.BlockMarks.{BlockMarks}
+use Rattle.local_run.specs.declared.blocks.BlockPlaces.{BlockPlaces}
+use Rattle.local_run.specs.declared.blocks.Diagonal.{Diagonal}
+use Rattle.local_run.specs.declared.blocks.Diagonal.TheVariants.{Anti, Main}
 use Rattle.local_run.specs.declared.live.LiveMarks.{LiveMarks}
 use Rattle.local_run.specs.declared.planes.Planes.{Planes}
 use Rattle.local_run.proofs.CalmLemmas.{other_cell}
@@ -45,9 +51,10 @@ none_turned = refl
 none_stays : (a b c d : ℕ) → a ≡ 0 → b ≡ 0 → c ≡ 0 → d ≡ 0 → DiagonalStays a b c d
 none_stays a b c d ea eb ec ed j = rw (ea, eb, ec, ed, bit-zero j) (none_turned, none_turned)
 
-pub dead_calm : (w a b c d : ℕ) (ul ur ll lr : List ℕ) → IsDeadCell w a ul → IsDeadCell w b ur → IsDeadCell w c ll →
-    IsDeadCell w d lr → IsStableBlock w a b c d ul ur ll lr
-dead_calm w a b c d ul ur ll lr da db dc dd = grind (arith, common_steps, none_stays)
+pub dead_stable : (b : BlockPlaces) (p : Planes) → IsDeadCell p.words b.odd p.odd.items →
+    IsDeadCell p.words b.right p.right.items → IsDeadCell p.words b.down p.down.items →
+    IsDeadCell p.words b.even p.even.items → IsStable b p
+dead_stable b p odd right down even = grind (arith, common_steps, none_stays)
 
 -- ---- blocks of which one cell at most is live
 lone_here : (a b : Bool) → (a ≡ false) ⊎ (b ≡ false) → turned a b false false ≡ b
@@ -87,35 +94,23 @@ one_word : (w a b k : ℕ) (xs ys : List ℕ) → k < w → IsDeadCell w a xs �
 one_word w a b k xs ys l (inl d) = inl (d k l)
 one_word w a b k xs ys l (inr d) = inr (d k l)
 
-pub lone_main : (w a b c d : ℕ) (ul ur ll lr ul' ur' ll' lr' : List ℕ) → SwapsPart (w * a) (w * d) w ul lr ul' lr' →
-    ur' ≡ ur → ll' ≡ ll → IsDeadCell w b ur → IsDeadCell w c ll → IsDeadCell w a ul ⊎ IsDeadCell w d lr →
-    TurnsPart (w * a) (w * b) (w * c) (w * d) w ul ur ll lr ul' ur' ll' lr'
-lone_main w a b c d ul ur ll lr ul' ur' ll' lr' s eb ec db dc one =
-    grind (arith, common_steps, main_moved, one_word, same_beside)
+either_dead : (w n a b : ℕ) (m o xs ys : List ℕ) → a < n → b < n → AreUnmarkedCellsDead w n m xs →
+    AreUnmarkedCellsDead w n o ys → IsUnmarked m a ⊎ IsUnmarked o b → IsDeadCell w a xs ⊎ IsDeadCell w b ys
+either_dead w n a b m o xs ys la lb dead others (inl free) = inl (dead a la free)
+either_dead w n a b m o xs ys la lb dead others (inr free) = inr (others b lb free)
 
-pub lone_anti : (w a b c d : ℕ) (ul ur ll lr ul' ur' ll' lr' : List ℕ) → SwapsPart (w * b) (w * c) w ur ll ur' ll' →
-    ul' ≡ ul → lr' ≡ lr → IsDeadCell w a ul → IsDeadCell w d lr → IsDeadCell w b ur ⊎ IsDeadCell w c ll →
-    TurnsPart (w * a) (w * b) (w * c) (w * d) w ul ur ll lr ul' ur' ll' lr'
-lone_anti w a b c d ul ur ll lr ul' ur' ll' lr' s ea ed da dd one =
-    grind (arith, common_steps, anti_moved, one_word, same_beside)
-
--- words that change places, the other way round
-pub swap_back : (a b long : ℕ) (xs ys xs' ys' : List ℕ) → SwapsPart a b long xs ys xs' ys' →
-    SwapsPart b a long ys xs ys' xs'
-swap_back a b long xs ys xs' ys' s = grind (arith, common_steps)
+pub lone_turned : (d : Diagonal) (b : BlockPlaces) (l : LiveMarks) (p q : Planes) → AreCells b p → IsLone d l b →
+    AllUnmarkedDead l p → SwapsDiagonal d b p q → TurnsBlock b p q
+lone_turned Main b l p q in_planes lone dead swap =
+    grind (arith, common_steps, main_moved, one_word, same_beside, either_dead)
+lone_turned Anti b l p q in_planes lone dead swap =
+    grind (arith, common_steps, anti_moved, one_word, same_beside, either_dead)
 
 -- ---- which cells change
-pub main_cells : (odd right down even : ℕ) (p q : Planes) →
-    SwapsPart (p.words * odd) (p.words * even) p.words p.odd.items p.even.items q.odd.items q.even.items →
-    q.right ≡ p.right → q.down ≡ p.down →
-    ChangesCells true false odd right down even p q
-main_cells odd right down even p q s er ed = grind (arith, common_steps, other_cell)
-
-pub anti_cells : (odd right down even : ℕ) (p q : Planes) →
-    SwapsPart (p.words * right) (p.words * down) p.words p.right.items p.down.items q.right.items q.down.items →
-    q.odd ≡ p.odd → q.even ≡ p.even →
-    ChangesCells false true odd right down even p q
-anti_cells odd right down even p q s eo ee = grind (arith, common_steps, other_cell)
+pub swapped_cells : (d : Diagonal) (b : BlockPlaces) (p q : Planes) → SwapsDiagonal d b p q →
+    ChangesCells (is_main d) (not (is_main d)) b p q
+swapped_cells Main b p q swap = grind (arith, common_steps, other_cell)
+swapped_cells Anti b p q swap = grind (arith, common_steps, other_cell)
 
 -- ---- which cells are dead afterwards
 -- those whose marks and words changed places
@@ -126,39 +121,26 @@ swap_dead : (w n a b : ℕ) (m o m' xs ys xs' : List ℕ) → b < n → AreUnmar
 swap_dead w n a b m o m' xs ys xs' lb dead others takes beside moved v l free k h =
     grind (arith, common_steps, other_cell)
 
-pub main_dead : (odd even : ℕ) (l l' : LiveMarks) (p q : Planes) → HasWordsStrideRows p.words p.stride p.rows q →
-    odd < p.stride * p.rows → even < p.stride * p.rows →
-    SwapsPart (p.words * odd) (p.words * even) p.words p.odd.items p.even.items q.odd.items q.even.items →
-    q.right ≡ p.right → q.down ≡ p.down →
-    TakesMarkOfOther odd even l.odd.items l.even.items l'.odd.items →
-    TakesMarkOfOther even odd l.even.items l.odd.items l'.even.items → l'.right ≡ l.right → l'.down ≡ l.down →
-    AllUnmarkedDead l p →
-    AllUnmarkedDead l' q
-main_dead odd even l l' p q size lo le s er ed to te mr md dead = rw (size.0, size.1, size.2, er, ed, mr, md) (
-  swap_dead p.words (p.stride * p.rows) odd even l.odd.items l.even.items l'.odd.items p.odd.items p.even.items
-      q.odd.items le dead.0 dead.3 to s.first_beside s.first,
-  dead.1,
-  dead.2,
-  swap_dead p.words (p.stride * p.rows) even odd l.even.items l.odd.items l'.even.items p.even.items p.odd.items
-      q.even.items lo dead.3 dead.0 te s.second_beside s.second,
-)
-
-pub anti_dead : (right down : ℕ) (l l' : LiveMarks) (p q : Planes) → HasWordsStrideRows p.words p.stride p.rows q →
-    right < p.stride * p.rows → down < p.stride * p.rows →
-    SwapsPart (p.words * right) (p.words * down) p.words p.right.items p.down.items q.right.items q.down.items →
-    q.odd ≡ p.odd → q.even ≡ p.even →
-    TakesMarkOfOther right down l.right.items l.down.items l'.right.items →
-    TakesMarkOfOther down right l.down.items l.right.items l'.down.items → l'.odd ≡ l.odd → l'.even ≡ l.even →
-    AllUnmarkedDead l p →
-    AllUnmarkedDead l' q
-anti_dead right down l l' p q size lr ld s eo ee tr td mo me dead = rw (size.0, size.1, size.2, eo, ee, mo, me) (
-  dead.0,
-  swap_dead p.words (p.stride * p.rows) right down l.right.items l.down.items l'.right.items p.right.items p.down.items
-      q.right.items ld dead.1 dead.2 tr s.first_beside s.first,
-  swap_dead p.words (p.stride * p.rows) down right l.down.items l.right.items l'.down.items p.down.items p.right.items
-      q.down.items lr dead.2 dead.1 td s.second_beside s.second,
-  dead.3,
-)
+pub swapped_dead : (d : Diagonal) (b : BlockPlaces) (l l' : LiveMarks) (p q : Planes) →
+    HasWordsStrideRows p.words p.stride p.rows q → AreCells b p → SwapsDiagonal d b p q → SwapsMarks d b l l' →
+    AllUnmarkedDead l p → AllUnmarkedDead l' q
+swapped_dead Main b l l' p q size room s m dead =
+    rw (size.0, size.1, size.2, s.1, s.2, m.2, m.3) (
+      swap_dead p.words (p.stride * p.rows) b.odd b.even _ _ _ _ _ _ room.3 dead.0 dead.3 m.0 s.0.first_beside s.0.first,
+      dead.1,
+      dead.2,
+      swap_dead p.words (p.stride * p.rows) b.even b.odd _ _ _ _ _ _ room.0 dead.3 dead.0 m.1 s.0.second_beside
+          s.0.second,
+    )
+swapped_dead Anti b l l' p q size room s m dead =
+    rw (size.0, size.1, size.2, s.1, s.2, m.2, m.3) (
+      dead.0,
+      swap_dead p.words (p.stride * p.rows) b.right b.down _ _ _ _ _ _ room.2 dead.1 dead.2 m.0 s.0.first_beside
+          s.0.first,
+      swap_dead p.words (p.stride * p.rows) b.down b.right _ _ _ _ _ _ room.1 dead.2 dead.1 m.1 s.0.second_beside
+          s.0.second,
+      dead.3,
+    )
 
 -- those of a block that was turned, where the cells that may have changed have marks
 kept_dead : (changes : Bool) (w n c : ℕ) (m m' xs ys : List ℕ) → MarksCellIf changes c m m' →
@@ -166,25 +148,19 @@ kept_dead : (changes : Bool) (w n c : ℕ) (m m' xs ys : List ℕ) → MarksCell
     AreUnmarkedCellsDead w n m xs → AreUnmarkedCellsDead w n m' ys
 kept_dead changes w n c m m' xs ys marks same dead u l free k h = grind (arith, common_steps)
 
-pub cells_dead : (main anti : Bool) (odd right down even : ℕ) (l l' : LiveMarks) (p q : Planes) →
-    HasWordsStrideRows p.words p.stride p.rows q → ChangesCells main anti odd right down even p q →
-    MarksCellIf main odd l.odd.items l'.odd.items → MarksCellIf anti right l.right.items l'.right.items →
-    MarksCellIf anti down l.down.items l'.down.items → MarksCellIf main even l.even.items l'.even.items →
-    AllUnmarkedDead l p →
-    AllUnmarkedDead l' q
-cells_dead main anti odd right down even l l' p q size ch mo mr md me dead = grind (arith, common_steps, kept_dead)
+pub cells_dead : (main anti : Bool) (b : BlockPlaces) (l l' : LiveMarks) (p q : Planes) →
+    HasWordsStrideRows p.words p.stride p.rows q → ChangesCells main anti b p q → MarksCells main anti b l l' →
+    AllUnmarkedDead l p → AllUnmarkedDead l' q
+cells_dead main anti b l l' p q size ch marks dead = grind (arith, common_steps, kept_dead)
 
 -- those without a mark, after marks were taken off dead ones
 unmark_dead_cells : (w n c : ℕ) (m m' xs : List ℕ) → UnmarksIfDead w c xs m m' → AreUnmarkedCellsDead w n m xs →
     AreUnmarkedCellsDead w n m' xs
 unmark_dead_cells w n c m m' xs drops dead u l free k h = grind (arith, common_steps)
 
-pub drops_dead : (odd right down even : ℕ) (l l' : LiveMarks) (p : Planes) →
-    UnmarksIfDead p.words odd p.odd.items l.odd.items l'.odd.items →
-    UnmarksIfDead p.words right p.right.items l.right.items l'.right.items →
-    UnmarksIfDead p.words down p.down.items l.down.items l'.down.items →
-    UnmarksIfDead p.words even p.even.items l.even.items l'.even.items → AllUnmarkedDead l p → AllUnmarkedDead l' p
-drops_dead odd right down even l l' p od rd dd ed dead = grind (arith, common_steps, unmark_dead_cells)
+pub drops_dead : (b : BlockPlaces) (l l' : LiveMarks) (p : Planes) → UnmarksDeadCells p b l l' → AllUnmarkedDead l p →
+    AllUnmarkedDead l' p
+drops_dead b l l' p drops dead = grind (arith, common_steps, unmark_dead_cells)
 
 -- none, where all have marks
 pub marked_dead : (n : ℕ) (l : LiveMarks) (p : Planes) → p.stride * p.rows ≤ n → AreFirstCellsMarked n l →
@@ -197,29 +173,19 @@ dead_all l p dead = grind (arith, common_steps)
 
 -- the four cells with a number, where none has a mark
 pub dead_at : (u : ℕ) (l : LiveMarks) (p : Planes) → u < p.stride * p.rows → AllUnmarkedDead l p →
-    AreBlockCellsUnmarked l u u u u →
-    AreFourCellsDead u p
+    AreNumberCellsUnmarked l u → AreFourCellsDead u p
 dead_at u l p h dead free k i = grind (arith, common_steps)
 
--- a block of the even partition of which no cell has a mark
-pub dead_block : (u : ℕ) (l : LiveMarks) (p : Planes) → u + p.stride + 1 < p.stride * p.rows → AllUnmarkedDead l p →
-    AreBlockCellsUnmarked l (u + p.stride + 1) (u + p.stride) (u + 1) u →
-    IsStableBlock p.words u (u + 1) (u + p.stride)
-    (u + p.stride + 1) p.even.items p.down.items p.right.items p.odd.items
-dead_block u l p room dead free =
-    dead_calm p.words u (u + 1) (u + p.stride) (u + p.stride + 1) p.even.items p.down.items p.right.items p.odd.items
-    (dead.3 u (omega arith) free.3) (dead.2 (u + 1) (omega arith) free.2) (dead.1 (u + p.stride) (omega arith) free.1)
-    (dead.0 (u + p.stride + 1) (omega arith) free.0)
+-- a block of which no cell has a mark
+pub dead_block : (b : BlockPlaces) (l : LiveMarks) (p : Planes) → AreCells b p → AllUnmarkedDead l p →
+    AreBlockCellsUnmarked l b → IsStable b p
+dead_block b l p room dead free = dead_stable b p (dead.0 b.odd room.0 free.0) (dead.1 b.right room.1 free.1)
+    (dead.2 b.down room.2 free.2) (dead.3 b.even room.3 free.3)
 
 -- each block stays, where all cells are dead
-pub dead_odd : (marks : List ℕ) (p : Planes) → AreAllCellsDead p → AreUnmarkedOddBlocksStable marks p
-dead_odd marks p dead u l free = dead_calm p.words u u u u p.odd.items p.right.items p.down.items p.even.items
-    (λ k h. (dead u k h).0) (λ k h. (dead u k h).1) (λ k h. (dead u k h).2) (λ k h. (dead u k h).3)
-
-pub dead_even : (marks : List ℕ) (p : Planes) → AreAllCellsDead p → AreUnmarkedEvenBlocksStable marks p
-dead_even marks p dead u l inside free = dead_calm p.words u (u + 1) (u + p.stride) (u + p.stride + 1) p.even.items
-    p.down.items p.right.items p.odd.items (λ k h. (dead u k h).3) (λ k h. (dead (u + 1) k h).2)
-    (λ k h. (dead (u + p.stride) k h).1) (λ k h. (dead (u + p.stride + 1) k h).0)
+pub dead_blocks : (m : BlockMarks) (p : Planes) → AreAllCellsDead p → AreUnmarkedBlocksStable m p
+dead_blocks m p dead part u is free = dead_stable (block_at part p.stride u) p (λ k h. (dead _ k h).0)
+    (λ k h. (dead _ k h).1) (λ k h. (dead _ k h).2) (λ k h. (dead _ k h).3)
 
 -- ---- blocks of one word
 pub one_turned : (a b c d a' b' c' d' : ℕ) (ul ur ll lr : List ℕ) → a < length ul → b < length ur → c < length ll →
@@ -228,10 +194,31 @@ pub one_turned : (a b c d a' b' c' d' : ℕ) (ul ur ll lr : List ℕ) → a < le
 one_turned a b c d a' b' c' d' ul ur ll lr la lb lc ld t =
     grind (arith, common_steps, get_or-set_same, get_or-set_other)
 
-times_one : (w a : ℕ) → w ≡ 1 → w * a ≡ a
+pub times_one : (w a : ℕ) → w ≡ 1 → w * a ≡ a
 times_one w a e = rw e (omega arith)
 
 pub part_of_one : (w a b c d : ℕ) (ul ur ll lr ul' ur' ll' lr' : List ℕ) → w ≡ 1 →
     TurnsPart a b c d 1 ul ur ll lr ul' ur' ll' lr' →
     TurnsPart (w * a) (w * b) (w * c) (w * d) w ul ur ll lr ul' ur' ll' lr'
 part_of_one w a b c d ul ur ll lr ul' ur' ll' lr' e t = grind (arith, common_steps, times_one)
+
+one_place : (w a k : ℕ) → w ≡ 1 → k < w → w * a + k ≡ a
+one_place w a k e l = let m = times_one w a e in omega (arith, m, e, l)
+
+pub one_main : (b : BlockPlaces) (p : Planes) → p.words ≡ 1 → DiagonalStays (get_or p.odd.items b.odd 0)
+    (get_or p.even.items b.even 0) (get_or p.right.items b.right 0) (get_or p.down.items b.down 0) → MainStays b p
+one_main b p e stays k l = rw (
+  one_place p.words b.odd k e l,
+  one_place p.words b.even k e l,
+  one_place p.words b.right k e l,
+  one_place p.words b.down k e l,
+) stays
+
+pub one_anti : (b : BlockPlaces) (p : Planes) → p.words ≡ 1 → DiagonalStays (get_or p.right.items b.right 0)
+    (get_or p.down.items b.down 0) (get_or p.odd.items b.odd 0) (get_or p.even.items b.even 0) → AntiStays b p
+one_anti b p e stays k l = rw (
+  one_place p.words b.odd k e l,
+  one_place p.words b.even k e l,
+  one_place p.words b.right k e l,
+  one_place p.words b.down k e l,
+) stays

@@ -5,7 +5,7 @@ use Rattle.bbm_rule.specs.Bits.{bit}
 use Rattle.bbm_rule.specs.Marks.{IsUnmarked}
 use Rattle.bbm_rule.specs.Rows.{cell_at}
 use Rattle.bbm_rule.proofs.BitLemmas.{bit-and, bit-or, bit-zero}
-use Rattle.local_run.specs.Live.{AreBlockCellsUnmarked}
+use Rattle.local_run.specs.Live.{AreNumberCellsUnmarked}
 use Rattle.local_run.specs.declared.live.LiveMarks.{LiveMarks}
 
 -- the word of 64 numbers, at a place of two lists and of the marks on live cells
@@ -13,11 +13,11 @@ abbrev pub joined : List ℕ → ℕ → List ℕ → ℕ → ℕ
 joined a w c q = bit_and (get_or a q 0) (bit_or w (get_or c q 0))
 
 abbrev pub LacksMark : List ℕ → LiveMarks → List ℕ → ℕ → Type 0
-LacksMark a l c u = IsUnmarked a u ⊎ (AreBlockCellsUnmarked l u u u u × IsUnmarked c u)
+LacksMark a l c u = IsUnmarked a u ⊎ (AreNumberCellsUnmarked l u × IsUnmarked c u)
 
 -- what a word of marks on live cells says
 abbrev pub IsWordOf : LiveMarks → ℕ → ℕ → Type 0
-IsWordOf l q w = (u : ℕ) → u / 64 ≡ q → bit w (u % 64) ≡ false → AreBlockCellsUnmarked l u u u u
+IsWordOf l q w = (u : ℕ) → u / 64 ≡ q → bit w (u % 64) ≡ false → AreNumberCellsUnmarked l u
 
 cell_is : (marks : List ℕ) (q u : ℕ) → u / 64 ≡ q → cell_at marks u ≡ bit (get_or marks q 0) (u % 64)
 unfolding cell_at
@@ -46,7 +46,7 @@ and_lacks true b e = inr e
 and_lacks false b e = inl refl
 
 pub lacks_live : (a : List ℕ) (l : LiveMarks) (w q u : ℕ) → IsWordOf l q w → u / 64 ≡ q →
-    bit (bit_and (get_or a q 0) w) (u % 64) ≡ false → IsUnmarked a u ⊎ AreBlockCellsUnmarked l u u u u
+    bit (bit_and (get_or a q 0) w) (u % 64) ≡ false → IsUnmarked a u ⊎ AreNumberCellsUnmarked l u
 lacks_live a l w q u says e word = grind (arith, common_steps, bit-and, and_lacks, cell_is)
 
 pub lacks_own : (a : List ℕ) (q u : ℕ) → u / 64 ≡ q → bit (get_or a q 0) (u % 64) ≡ false → IsUnmarked a u

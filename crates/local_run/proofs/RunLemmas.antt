@@ -1,15 +1,19 @@
 -- Steps that turn runs of blocks, and pass over the blocks between them
-use Rattle.lemmas.proofs.Common.{◌%◌, ◌*◌, ◌+◌, ◌-◌, ◌<◌, ◌≡◌, ◌≢◌, ◌≤◌, List, ap, arith, get_or, refl, true, ℕ}
+use Rattle.lemmas.proofs.Common.{◌*◌, ◌+◌, ◌-◌, ◌<◌, ◌≡◌, ◌≤◌, List, ap, arith, get_or, inl, inr, refl, true, ℕ}
 use Rattle.lemmas.proofs.Common.{common_steps, mul-le-mul_left}
 use Rattle.bbm_rule.specs.Rows.{cell_at}
 use Rattle.bbm_rule.specs.Words.{AreTurned}
 use Rattle.bbm_rule.proofs.BitLemmas.{by_lt_or_le}
-use Rattle.local_run.specs.Frozen.{AreMarkedEvenBlocksStable, AreMarkedOddBlocksStable, KeepsFirst}
+use Rattle.local_run.specs.Blocks.{IsNotRowEnd, block_at, block_count}
+use Rattle.local_run.specs.Frozen.{AreMarkedBlocksStable, KeepsFirst}
 use Rattle.local_run.specs.Lanes.{HasWordsStrideRows}
-use Rattle.local_run.specs.Sweeps.{TurnsEvenBlocksBetween, TurnsOddBlocksBetween}
-use Rattle.local_run.specs.Turns.{SameBeside, TurnsPart}
+use Rattle.local_run.specs.Sweeps.{TurnsBlocksBetween}
+use Rattle.local_run.specs.Turns.{SameBeside, TurnsFrom}
+use Rattle.local_run.specs.declared.blocks.BlockPlaces.{BlockPlaces}
+use Rattle.local_run.specs.declared.blocks.Partition.{Partition}
+use Rattle.local_run.specs.declared.blocks.Partition.TheVariants.{Even, Odd}
 use Rattle.local_run.specs.declared.planes.Planes.{Planes}
-use Rattle.local_run.proofs.TurnLemmas.{calm_turned}
+use Rattle.local_run.proofs.FieldLemmas.{named_join, named_stay}
 
 -- ---- the words of a run of cells
 below_end : (w m len k : ℕ) → m < len → k < w → w * m + k < w * len
@@ -30,124 +34,81 @@ placed : (ul ur ll lr ul' ur' ll' lr' : List ℕ) (a b c d a' b' c' d' : ℕ) �
     (get_or ll' c' 0) (get_or lr' d' 0)
 placed ul ur ll lr ul' ur' ll' lr' a b c d a' b' c' d' ea eb ec ed t = rw (ea, eb, ec, ed) at t
 
-unmoved : (a b c d e f g h : ℕ) → e ≡ a → f ≡ b → g ≡ c → h ≡ d → AreTurned a b c d a b c d → AreTurned a b c d e f g h
-unmoved a b c d e f g h ee ef eg eh t = rw (ee, ef, eg, eh) t
+-- ---- the blocks of a partition
+-- the cells of a block are as far on in their planes, from those of the first block, as its number is
+record IsFurther (n : ℕ) (b c : BlockPlaces) : Type 0 where
+  odd : b.odd ≡ c.odd + n
+  right : b.right ≡ c.right + n
+  down : b.down ≡ c.down + n
+  even : b.even ≡ c.even + n
 
--- ---- the odd partition
-pub odd_part : (p q : Planes) (first len end : ℕ) → first + len ≡ end →
-    TurnsPart (p.words * first) (p.words * first) (p.words * first) (p.words * first) (p.words * len) p.odd.items
-    p.right.items p.down.items p.even.items q.odd.items q.right.items q.down.items q.even.items →
-    TurnsOddBlocksBetween first end p q
-odd_part p q first len end e part = record {
-  turned = λ n k is l.
-      let m : p.words * first + (p.words * (n - first) + k) ≡ p.words * n + k =
-      let s : first + (n - first) ≡ n = omega (arith, is.0) in
-      let t : p.words * (first + (n - first)) ≡ p.words * n = ap (λ (i : ℕ). p.words * i) s in omega (arith, t) in
-      placed _ _ _ _ _ _ _ _ _ _ _ _ _ _ _ _ m m m m
-      (part.turned (p.words * (n - first) + k) (below_end p.words (n - first) len k (omega (arith, is.0, is.1)) l));
-  upper_left = λ n k miss l. beside_run p.words first len n k _ _ part.upper_left l (λ g h. miss (g, omega (arith, h)));
-  upper_right = λ n k miss l. beside_run p.words first len n k _ _ part.upper_right l
-      (λ g h. miss (g, omega (arith, h)));
-  lower_left = λ n k miss l. beside_run p.words first len n k _ _ part.lower_left l (λ g h. miss (g, omega (arith, h)));
-  lower_right = λ n k miss l. beside_run p.words first len n k _ _ part.lower_right l
-      (λ g h. miss (g, omega (arith, h)));
+further : (part : Partition) (s n : ℕ) → IsFurther n (block_at part s n) (block_at part s 0)
+further Odd s n = record { odd = omega arith; right = omega arith; down = omega arith; even = omega arith }
+further Even s n = record { odd = omega arith; right = omega arith; down = omega arith; even = omega arith }
+
+further_word : (w at b c first n k : ℕ) → b ≡ at + first → c ≡ at + n → first ≤ n →
+    w * b + (w * (n - first) + k) ≡ w * c + k
+further_word w at b c first n k eb ec l =
+    let t : w * c ≡ w * (b + (n - first)) = ap (λ (i : ℕ). w * i) (omega (arith, eb, ec, l)) in omega (arith, t)
+
+beside_block : (w at b c first len end n k : ℕ) (xs ys : List ℕ) → SameBeside (w * b) (w * len) xs ys → k < w →
+    b ≡ at + first → c ≡ at + n → first + len ≡ end → (first ≤ n → n < end → ⊥) →
+    get_or ys (w * c + k) 0 ≡ get_or xs (w * c + k) 0
+beside_block w at b c first len end n k xs ys same l eb ec e out =
+    beside_run w b len c k xs ys same l (λ g h. out (omega (arith, g, eb, ec)) (omega (arith, h, eb, ec, e)))
+
+pub run_turned : (part : Partition) (p q : Planes) (first len end : ℕ) → first + len ≡ end →
+    ((n : ℕ) → first ≤ n → n < end → IsNotRowEnd part p.stride n) →
+    TurnsFrom (block_at part p.stride first) (p.words * len) p q → TurnsBlocksBetween part first end p q
+run_turned part p q first len end e inside t = record {
+  turned = λ n k is l. let b = further part p.stride first in let c = further part p.stride n in
+      placed _ _ _ _ _ _ _ _ _ _ _ _ _ _ _ _
+      (further_word p.words _ _ _ first n k b.odd c.odd is.0) (further_word p.words _ _ _ first n k b.right c.right is.0)
+      (further_word p.words _ _ _ first n k b.down c.down is.0) (further_word p.words _ _ _ first n k b.even c.even is.0)
+      (t.turned (p.words * (n - first) + k) (below_end p.words (n - first) len k (omega (arith, is.0, is.1)) l));
+  same = λ n k miss l. let b = further part p.stride first in let c = further part p.stride n in
+      let out : first ≤ n → n < end → ⊥ = λ g h. miss (g, h, inside n g h) in record {
+        odd = beside_block p.words _ _ _ first len end n k _ _ t.upper_left l b.odd c.odd e out;
+        right = beside_block p.words _ _ _ first len end n k _ _ t.upper_right l b.right c.right e out;
+        down = beside_block p.words _ _ _ first len end n k _ _ t.lower_left l b.down c.down e out;
+        even = beside_block p.words _ _ _ first len end n k _ _ t.lower_right l b.even c.even e out;
+      };
 }
 
 -- the blocks up to a place are turned, and those from it on to another stay
-pub odd_skip : (p q : Planes) (marks : List ℕ) (at end : ℕ) → AreMarkedOddBlocksStable marks p →
-    end ≤ p.stride * p.rows →
-    ((n : ℕ) → at ≤ n → n < end → cell_at marks n ≡ true) → TurnsOddBlocksBetween 0 at p q → at ≤ end →
-    TurnsOddBlocksBetween 0 end p q
-odd_skip p q marks at end calm room marked t le = record {
-  turned = λ n k is l. by_lt_or_le n at (λ h. t.turned n k (is.0, h) l) (λ g.
-      let stay = calm n (omega (arith, is.1)) (marked n g is.1) in
-      unmoved _ _ _ _ _ _ _ _ (t.upper_left n k (out n g) l) (t.upper_right n k (out n g) l)
-      (t.lower_left n k (out n g) l) (t.lower_right n k (out n g) l)
-      (calm_turned _ _ _ _ (stay.0 k l) (stay.1 k l)));
-  upper_left = λ n k miss l. t.upper_left n k (λ is. miss (is.0, omega (arith, is.1))) l;
-  upper_right = λ n k miss l. t.upper_right n k (λ is. miss (is.0, omega (arith, is.1))) l;
-  lower_left = λ n k miss l. t.lower_left n k (λ is. miss (is.0, omega (arith, is.1))) l;
-  lower_right = λ n k miss l. t.lower_right n k (λ is. miss (is.0, omega (arith, is.1))) l;
-}
-  where
-    out : (n : ℕ) → at ≤ n → ((0 ≤ n) × (n < at) → ⊥)
-    out n g is = absurd (omega (arith, is.1))
+pub run_skipped : (part : Partition) (p q : Planes) (marks : List ℕ) (at end : ℕ) → AreMarkedBlocksStable part marks p →
+    end ≤ block_count part p → ((n : ℕ) → at ≤ n → n < end → cell_at marks n ≡ true) →
+    TurnsBlocksBetween part 0 at p q → at ≤ end → TurnsBlocksBetween part 0 end p q
+run_skipped part p q marks at end calm room marked t le =
+    named_join p.words p.stride part (λ n. (at ≤ n) × (n < end) × IsNotRowEnd part p.stride n)
+    (λ n. (0 ≤ n) × (n < at) × IsNotRowEnd part p.stride n) (λ n. (0 ≤ n) × (n < end) × IsNotRowEnd part p.stride n)
+    p p q (λ n g l. absurd (omega (arith, l.1, g.0)))
+    (λ n l. by_lt_or_le n at (λ h. inr (l.0, h, l.2)) (λ h. inl (h, l.1, l.2)))
+    (λ n g. (omega arith, g.1, g.2)) (λ n l. (l.0, omega (arith, l.1, le), l.2))
+    (named_stay part p (λ n. (at ≤ n) × (n < end) × IsNotRowEnd part p.stride n)
+    (λ n is. calm.calm n (omega (arith, is.1, room), is.2) (marked n is.0 is.1))) t
 
-pub odd_nothing : (p : Planes) → TurnsOddBlocksBetween 0 0 p p
-odd_nothing p = grind (arith, common_steps)
+pub none_turned : (part : Partition) (p : Planes) → TurnsBlocksBetween part 0 0 p p
+none_turned part p = named_stay part p (λ n. (0 ≤ n) × (n < 0) × IsNotRowEnd part p.stride n)
+    (λ n is. absurd (omega (arith, is.1)))
 
--- ---- the even partition
-pub even_part : (p q : Planes) (first len end : ℕ) → first + len ≡ end →
-    ((n : ℕ) → first ≤ n → n < end → (n + 1) % p.stride ≢ 0) →
-    TurnsPart (p.words * first) (p.words * (first + 1)) (p.words * (first + p.stride))
-    (p.words * (first + p.stride + 1)) (p.words * len) p.even.items p.down.items p.right.items p.odd.items q.even.items
-    q.down.items q.right.items q.odd.items → TurnsEvenBlocksBetween first end p q
-even_part p q first len end e inside part = record {
-  turned = λ n k is l.
-      let s : first + (n - first) ≡ n = omega (arith, is.0) in
-      let t : p.words * (first + (n - first)) ≡ p.words * n = ap (λ (i : ℕ). p.words * i) s in
-      let a : p.words * first + (p.words * (n - first) + k) ≡ p.words * n + k = omega (arith, t) in
-      let b : p.words * (first + 1) + (p.words * (n - first) + k) ≡ p.words * (n + 1) + k = omega (arith, t) in
-      let c : p.words * (first + p.stride) + (p.words * (n - first) + k) ≡ p.words * (n + p.stride) + k =
-      omega (arith, t) in
-      let d : p.words * (first + p.stride + 1) + (p.words * (n - first) + k) ≡ p.words * (n + p.stride + 1) + k =
-      omega (arith, t) in
-      placed _ _ _ _ _ _ _ _ _ _ _ _ _ _ _ _ a b c d
-      (part.turned (p.words * (n - first) + k) (below_end p.words (n - first) len k (omega (arith, is.0, is.1)) l));
-  upper_left = λ n k miss l. beside_run p.words first len n k _ _ part.upper_left l
-      (λ g h. miss (in_run n (omega (arith, g)) (omega (arith, h))));
-  upper_right = λ n k miss l. beside_run p.words (first + 1) len (n + 1) k _ _ part.upper_right l
-      (λ g h. miss (in_run n (omega (arith, g)) (omega (arith, h))));
-  lower_left = λ n k miss l. beside_run p.words (first + p.stride) len (n + p.stride) k _ _ part.lower_left l
-      (λ g h. miss (in_run n (omega (arith, g)) (omega (arith, h))));
-  lower_right = λ n k miss l. beside_run p.words (first + p.stride + 1) len (n + p.stride + 1) k _ _ part.lower_right l
-      (λ g h. miss (in_run n (omega (arith, g)) (omega (arith, h))));
-}
-  where
-    in_run : (n : ℕ) → first ≤ n → n < end → (first ≤ n) × (n < end) × ((n + 1) % p.stride ≢ 0)
-    in_run n g h = (g, h, inside n g h)
+-- ---- the cells that are in no block
+pub first_none : (part : Partition) (p : Planes) → KeepsFirst part p p
+first_none part p =
+    record { odd = λ u k h l. refl; right = λ u k h l. refl; down = λ u k h l. refl; even = λ u k h l. refl }
 
-pub even_skip : (p q : Planes) (marks : List ℕ) (at end : ℕ) → AreMarkedEvenBlocksStable marks p →
-    end + p.stride + 1 ≤ p.stride * p.rows → ((n : ℕ) → at ≤ n → n < end → cell_at marks n ≡ true) →
-    TurnsEvenBlocksBetween 0 at p q → at ≤ end → TurnsEvenBlocksBetween 0 end p q
-even_skip p q marks at end calm room marked t le = record {
-  turned = λ n k is l. by_lt_or_le n at (λ h. t.turned n k (is.0, h, is.2) l) (λ g.
-      let stay = calm.calm n (omega (arith, is.1)) is.2 (marked n g is.1) in
-      unmoved _ _ _ _ _ _ _ _ (t.upper_left n k (out n g) l) (t.upper_right n k (out n g) l)
-      (t.lower_left n k (out n g) l) (t.lower_right n k (out n g) l)
-      (calm_turned _ _ _ _ (stay.0 k l) (stay.1 k l)));
-  upper_left = λ n k miss l. t.upper_left n k (λ is. miss (is.0, omega (arith, is.1), is.2)) l;
-  upper_right = λ n k miss l. t.upper_right n k (λ is. miss (is.0, omega (arith, is.1), is.2)) l;
-  lower_left = λ n k miss l. t.lower_left n k (λ is. miss (is.0, omega (arith, is.1), is.2)) l;
-  lower_right = λ n k miss l. t.lower_right n k (λ is. miss (is.0, omega (arith, is.1), is.2)) l;
-}
-  where
-    out : (n : ℕ) → at ≤ n → ((0 ≤ n) × (n < at) × ((n + 1) % p.stride ≢ 0) → ⊥)
-    out n g is = absurd (omega (arith, is.1))
+before_word : (w b u k : ℕ) → u < b → k < w → w * u + k < w * b
+before_word w b u k h l = let m : w * (u + 1) ≤ w * b = mul-le-mul_left w (omega arith) in omega (arith, m)
 
-pub even_nothing : (p : Planes) → TurnsEvenBlocksBetween 0 0 p p
-even_nothing p = grind (arith, common_steps)
-
--- ---- the cells that are in no block of the even partition
-pub first_none : (p : Planes) → KeepsFirst p p
-first_none p = record { odd = λ u k h l. refl; right = λ u k h l. refl; down = λ u k h l. refl }
-
-pub first_part : (p q : Planes) (first long : ℕ) →
-    TurnsPart (p.words * first) (p.words * (first + 1)) (p.words * (first + p.stride))
-    (p.words * (first + p.stride + 1)) long p.even.items p.down.items p.right.items p.odd.items q.even.items
-    q.down.items q.right.items q.odd.items → KeepsFirst p q
-first_part p q first long part = record {
-  odd = λ u k h l.
-      let m : p.words * (u + 1) ≤ p.words * (first + p.stride + 1) = mul-le-mul_left p.words (omega arith) in
-      part.lower_right.below (p.words * u + k) (omega (arith, m));
-  right = λ u k h l.
-      let m : p.words * (u + 1) ≤ p.words * (first + p.stride) = mul-le-mul_left p.words (omega arith) in
-      part.lower_left.below (p.words * u + k) (omega (arith, m));
-  down = λ u k h l.
-      let m : p.words * (u + 1) ≤ p.words * (first + 1) = mul-le-mul_left p.words (omega arith) in
-      part.upper_right.below (p.words * u + k) (omega (arith, m));
+pub first_part : (part : Partition) (p q : Planes) (first long : ℕ) →
+    TurnsFrom (block_at part p.stride first) long p q → KeepsFirst part p q
+first_part part p q first long t = let b = further part p.stride first in record {
+  odd = λ u k h l. t.upper_left.below _ (before_word p.words _ u k (omega (arith, h, b.odd)) l);
+  right = λ u k h l. t.upper_right.below _ (before_word p.words _ u k (omega (arith, h, b.right)) l);
+  down = λ u k h l. t.lower_left.below _ (before_word p.words _ u k (omega (arith, h, b.down)) l);
+  even = λ u k h l. t.lower_right.below _ (before_word p.words _ u k (omega (arith, h, b.even)) l);
 }
 
-pub first_join : (p q r : Planes) → HasWordsStrideRows p.words p.stride p.rows q → KeepsFirst p q → KeepsFirst q r →
-    KeepsFirst p r
-first_join p q r size s t = grind (arith, common_steps)
+pub first_join : (part : Partition) (p q r : Planes) → HasWordsStrideRows p.words p.stride p.rows q →
+    KeepsFirst part p q → KeepsFirst part q r → KeepsFirst part p r
+first_join part p q r size s t = grind (arith, common_steps)

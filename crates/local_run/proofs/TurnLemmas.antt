@@ -1,15 +1,17 @@
 -- Parts of lists whose blocks are turned, and blocks that stay
-use Rattle.lemmas.proofs.Common.{◌*◌, ◌+◌, ◌<◌, ◌↔◌, ◌∙◌, ◌≡◌, ◌≤◌, List, ap, arith, bit_and, bit_or, bit_xor, false}
-use Rattle.lemmas.proofs.Common.{inl, inr, length, nat_eq, not, refl, sym, ℕ, and_or_self, and_zero_l, bit_at}
-use Rattle.lemmas.proofs.Common.{bit_at-lt, common_steps, eqb-true, false≢true, get_or-drop, get_or-take, not-false}
-use Rattle.lemmas.proofs.Common.{or_comm, same_from_bits, xor_assoc, xor_self, xor_zero_l, xor_zero_r}
+use Rattle.lemmas.proofs.Common.{◌+◌, ◌<◌, ◌↔◌, ◌∙◌, ◌≡◌, ◌≤◌, List, ap, arith, bit_and, bit_or, bit_xor, false, inl}
+use Rattle.lemmas.proofs.Common.{inr, length, nat_eq, not, refl, sym, ℕ, and_or_self, and_zero_l, bit_at, bit_at-lt}
+use Rattle.lemmas.proofs.Common.{common_steps, eqb-true, false≢true, get_or-drop, get_or-take, not-false, or_comm}
+use Rattle.lemmas.proofs.Common.{same_from_bits, xor_assoc, xor_self, xor_zero_l, xor_zero_r}
 use Rattle.std.proofs.lemmas.Slice.{take-put_mid_below, drop-put_mid}
 use borrow.Rule.Slice.PartMut.{mid_of, put_mid}
 use Rattle.bbm_rule.specs.Bits.{bit}
 use Rattle.bbm_rule.specs.Words.{AreTurned, AreTurnedAt}
 use Rattle.bbm_rule.proofs.BitLemmas.{xor, zero_or_one, bit-is, bit-xor, bit-zero}
 use Rattle.bbm_rule.proofs.Turning.{words_turned, flip_main_of, flip_anti_of}
-use Rattle.local_run.specs.Turns.{DiagonalStays, IsStableBlock, SameBeside, TurnsPart}
+use Rattle.local_run.specs.Turns.{DiagonalStays, IsStable, SameBeside, TurnsBlock, TurnsPart}
+use Rattle.local_run.specs.declared.blocks.BlockPlaces.{BlockPlaces}
+use Rattle.local_run.specs.declared.planes.Planes.{Planes}
 use Rattle.local_run.proofs.LaneLemmas.{part_read, part_written}
 
 -- ---- words without a difference
@@ -114,6 +116,14 @@ anti_words ul ur ll lr ul' ur' ll' lr' stays t =
     (word_of_bits ur' ur (λ j. t.upper_right j ∙ (stays j).0), word_of_bits ll' ll (λ j. t.lower_left j ∙ (stays j).1))
 
 -- one block that stays
-pub calm_block : (w a b c d : ℕ) (ul ur ll lr : List ℕ) → IsStableBlock w a b c d ul ur ll lr →
-    TurnsPart (w * a) (w * b) (w * c) (w * d) w ul ur ll lr ul ur ll lr
-calm_block w a b c d ul ur ll lr calm = grind (arith, common_steps, calm_turned, same_beside)
+pub stable_turned : (b : BlockPlaces) (p : Planes) → IsStable b p → TurnsBlock b p p
+stable_turned b p stable = grind (arith, common_steps, calm_turned, same_beside)
+
+-- the rule is the same after half a turn
+pub half_turned : (a b c d a' b' c' d' : ℕ) → AreTurned a b c d a' b' c' d' → AreTurned d c b a d' c' b' a'
+half_turned a b c d a' b' c' d' t = record {
+  upper_left = t.lower_right;
+  upper_right = t.lower_left;
+  lower_left = t.upper_right;
+  lower_right = t.upper_left;
+}

@@ -1,6 +1,10 @@
 -- The meaning of four planes of words: for each cell a bit under each assignment
 use Rattle.std.specs.Prelude.{◌≡◌, ◌==◌, if◌then◌else◌, Bool, ℕ, ◌+◌, ◌*◌, ◌/◌, ◌%◌, List, slice_index, ◌<◌}
 use Rattle.bbm_rule.specs.Bits.{bit}
+use Rattle.bbm_rule.specs.Plane.{turned}
+use Rattle.bbm_rule.specs.Rows.{mate}
+use Rattle.local_run.specs.declared.blocks.Partition.{Partition}
+use Rattle.local_run.specs.declared.blocks.Partition.TheVariants.{Even, Odd}
 use Rattle.local_run.specs.declared.planes.Planes.{Planes}
 
 -- how many words a cell has, and how many cells a row and rows a plane
@@ -16,6 +20,15 @@ plane_of p x y =
 -- whether the cell at column x and row y, counted from the halo, is live under assignment a
 unfoldable pub lane : Planes → ℕ → ℕ → ℕ → Bool
 lane p a x y = bit (slice_index (plane_of p x y) (p.words * (p.stride * (y / 2) + x / 2) + a / 64)) (a % 64)
+
+-- Each cell is turned in its block of the partition. Where that is the even one, these are the cells of the box, if the
+-- planes have one more cell on each side
+abbrev pub TurnsCells : Partition → Planes → Planes → Type 0
+TurnsCells Odd p q = (a x y : ℕ) → a < 64 * p.words → x < 2 * p.stride → y < 2 * p.rows →
+    lane q a x y ≡ turned (lane p a x y) (lane p a (mate x) (mate y)) (lane p a (mate x) y) (lane p a x (mate y))
+TurnsCells Even p q = (a x y : ℕ) → a < 64 * p.words → x + 2 < 2 * p.stride → y + 2 < 2 * p.rows →
+    lane q a (1 + x) (1 + y) ≡ turned (lane p a (1 + x) (1 + y)) (lane p a (1 + mate x) (1 + mate y))
+    (lane p a (1 + mate x) (1 + y)) (lane p a (1 + x) (1 + mate y))
 
 -- only the word k of the cell changes
 pub record SetsWord (x y k word : ℕ) (p q : Planes) : Type 0 where

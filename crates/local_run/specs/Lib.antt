@@ -4,6 +4,7 @@ pub mod Faults
 pub mod Shown
 pub mod Laws
 pub mod Across
+pub mod Blocks
 pub mod Turns
 pub mod Sweeps
 pub mod Borders

@@ -3,6 +3,9 @@ use Rattle.std.specs.Prelude.{◌≡◌, ◌≢◌, Bool, true, ℕ, ◌+◌, �
 use Rattle.std.proofs.Props.{props}
 use Rattle.bbm_rule.specs.Marks.{IsUnmarked}
 use Rattle.bbm_rule.specs.Rows.{cell_at}
+use Rattle.local_run.specs.declared.blocks.BlockPlaces.{BlockPlaces}
+use Rattle.local_run.specs.declared.blocks.Diagonal.{Diagonal}
+use Rattle.local_run.specs.declared.blocks.Diagonal.TheVariants.{Anti, Main}
 use Rattle.local_run.specs.declared.live.LiveMarks.{LiveMarks}
 use Rattle.local_run.specs.declared.planes.Planes.{Planes}
 
@@ -70,26 +73,45 @@ abbrev pub UnmarksIfDead : ℕ → ℕ → List ℕ → List ℕ → List ℕ �
 UnmarksIfDead words at cells old new =
     (u : ℕ) → IsUnmarked new u → IsUnmarked old u ⊎ ((u ≡ at) × IsDeadCell words at cells)
 
--- The cells of a block by their numbers in the planes: none but one at most of the diagonal of odd and even has a mark
-abbrev pub IsLoneMain : LiveMarks → ℕ → ℕ → ℕ → ℕ → Type 0
-IsLoneMain l odd right down even =
-    IsUnmarked l.right.items right × IsUnmarked l.down.items down
-    × (IsUnmarked l.odd.items odd ⊎ IsUnmarked l.even.items even)
+-- one more cell of each plane is marked, if the diagonal of the block that it is on changes
+pub record MarksCells (main anti : Bool) (b : BlockPlaces) (l l' : LiveMarks) : Type 0 where
+  pub odd : MarksCellIf main b.odd l.odd.items l'.odd.items
+  pub right : MarksCellIf anti b.right l.right.items l'.right.items
+  pub down : MarksCellIf anti b.down l.down.items l'.down.items
+  pub even : MarksCellIf main b.even l.even.items l'.even.items
 
--- none but one at most of the other diagonal has a mark
-abbrev pub IsLoneAnti : LiveMarks → ℕ → ℕ → ℕ → ℕ → Type 0
-IsLoneAnti l odd right down even =
-    IsUnmarked l.odd.items odd × IsUnmarked l.even.items even
-    × (IsUnmarked l.right.items right ⊎ IsUnmarked l.down.items down)
+-- no mark is taken off but those of the dead cells of a block
+pub record UnmarksDeadCells (p : Planes) (b : BlockPlaces) (l l' : LiveMarks) : Type 0 where
+  pub odd : UnmarksIfDead p.words b.odd p.odd.items l.odd.items l'.odd.items
+  pub right : UnmarksIfDead p.words b.right p.right.items l.right.items l'.right.items
+  pub down : UnmarksIfDead p.words b.down p.down.items l.down.items l'.down.items
+  pub even : UnmarksIfDead p.words b.even p.even.items l.even.items l'.even.items
+
+-- the marks of the cells of a diagonal change places
+abbrev pub SwapsMarks : Diagonal → BlockPlaces → LiveMarks → LiveMarks → Type 0
+SwapsMarks Main b l l' = TakesMarkOfOther b.odd b.even l.odd.items l.even.items l'.odd.items
+    × TakesMarkOfOther b.even b.odd l.even.items l.odd.items l'.even.items × (l'.right ≡ l.right) × (l'.down ≡ l.down)
+SwapsMarks Anti b l l' = TakesMarkOfOther b.right b.down l.right.items l.down.items l'.right.items
+    × TakesMarkOfOther b.down b.right l.down.items l.right.items l'.down.items × (l'.odd ≡ l.odd) × (l'.even ≡ l.even)
+
+-- no cell of a block has a mark but one at most of a diagonal
+abbrev pub IsLone : Diagonal → LiveMarks → BlockPlaces → Type 0
+IsLone Main l b = IsUnmarked l.right.items b.right × IsUnmarked l.down.items b.down
+    × (IsUnmarked l.odd.items b.odd ⊎ IsUnmarked l.even.items b.even)
+IsLone Anti l b = IsUnmarked l.odd.items b.odd × IsUnmarked l.even.items b.even
+    × (IsUnmarked l.right.items b.right ⊎ IsUnmarked l.down.items b.down)
 
 -- none has a mark
-abbrev pub AreBlockCellsUnmarked : LiveMarks → ℕ → ℕ → ℕ → ℕ → Type 0
-AreBlockCellsUnmarked l odd right down even =
-    IsUnmarked l.odd.items odd × IsUnmarked l.right.items right × IsUnmarked l.down.items down
-    × IsUnmarked l.even.items even
+abbrev pub AreBlockCellsUnmarked : LiveMarks → BlockPlaces → Type 0
+AreBlockCellsUnmarked l b = IsUnmarked l.odd.items b.odd × IsUnmarked l.right.items b.right
+    × IsUnmarked l.down.items b.down × IsUnmarked l.even.items b.even
+
+-- no cell with this number has one
+abbrev pub AreNumberCellsUnmarked : LiveMarks → ℕ → Type 0
+AreNumberCellsUnmarked l u =
+    IsUnmarked l.odd.items u × IsUnmarked l.right.items u × IsUnmarked l.down.items u × IsUnmarked l.even.items u
 
 -- the numbers of the cells of a block are among those that have marks
-abbrev pub HasRoomForBlockCells : LiveMarks → ℕ → ℕ → ℕ → ℕ → Type 0
-HasRoomForBlockCells l odd right down even =
-    (odd < 64 * vec_len l.odd) × (right < 64 * vec_len l.right) × (down < 64 * vec_len l.down)
-    × (even < 64 * vec_len l.even)
+abbrev pub HasRoomForBlockCells : LiveMarks → BlockPlaces → Type 0
+HasRoomForBlockCells l b = (b.odd < 64 * vec_len l.odd) × (b.right < 64 * vec_len l.right)
+    × (b.down < 64 * vec_len l.down) × (b.even < 64 * vec_len l.even)

@@ -1,46 +1,45 @@
 -- Blocks of a partition that are turned, by their numbers
-use Rattle.std.specs.Prelude.{◌≡◌, ◌≢◌, false, ℕ, ◌+◌, ◌*◌, ◌%◌, ◌<◌, ◌≤◌, List, slice_index}
+use Rattle.std.specs.Prelude.{◌≡◌, false, ℕ, ◌+◌, ◌*◌, ◌%◌, ◌<◌, ◌≤◌, slice_index}
 use Rattle.bbm_rule.specs.Bits.{bit}
 use Rattle.bbm_rule.specs.Words.{AreTurned}
+use Rattle.local_run.specs.Blocks.{IsNotRowEnd, block_at}
+use Rattle.local_run.specs.declared.blocks.BlockPlaces.{BlockPlaces}
+use Rattle.local_run.specs.declared.blocks.Partition.{Partition}
 use Rattle.local_run.specs.declared.planes.Planes.{Planes}
 
--- The words of four lists, w of each cell, are those of the corners of blocks: block n has the cells with the numbers
--- a n, b n, c n and d n. The named blocks are turned, and no cell of another block has changed
-pub record TurnsNamed (w : ℕ) (a b c d : ℕ → ℕ) (IsNamed : ℕ → Type 0) (ul ur ll lr ul' ur' ll' lr' : List ℕ) : Type 0
-  where
-    pub turned : (n k : ℕ) → IsNamed n → k < w →
-        AreTurned (slice_index ul (w * a n + k)) (slice_index ur (w * b n + k)) (slice_index ll (w * c n + k))
-        (slice_index lr (w * d n + k)) (slice_index ul' (w * a n + k)) (slice_index ur' (w * b n + k))
-        (slice_index ll' (w * c n + k)) (slice_index lr' (w * d n + k))
-    pub upper_left : (n k : ℕ) → (IsNamed n → ⊥) → k < w → slice_index ul' (w * a n + k) ≡ slice_index ul (w * a n + k)
-    pub upper_right : (n k : ℕ) → (IsNamed n → ⊥) → k < w → slice_index ur' (w * b n + k) ≡ slice_index ur (w * b n + k)
-    pub lower_left : (n k : ℕ) → (IsNamed n → ⊥) → k < w → slice_index ll' (w * c n + k) ≡ slice_index ll (w * c n + k)
-    pub lower_right : (n k : ℕ) → (IsNamed n → ⊥) → k < w → slice_index lr' (w * d n + k) ≡ slice_index lr (w * d n + k)
+-- word k of each cell of a block is turned, where a cell has w words
+abbrev pub IsWordTurned : ℕ → BlockPlaces → ℕ → Planes → Planes → Type 0
+IsWordTurned w b k p q =
+    AreTurned (slice_index p.odd.items (w * b.odd + k)) (slice_index p.right.items (w * b.right + k))
+    (slice_index p.down.items (w * b.down + k)) (slice_index p.even.items (w * b.even + k))
+    (slice_index q.odd.items (w * b.odd + k)) (slice_index q.right.items (w * b.right + k))
+    (slice_index q.down.items (w * b.down + k)) (slice_index q.even.items (w * b.even + k))
 
--- the named blocks of the odd partition are turned
-abbrev pub TurnsOddBlocksWhere : (ℕ → Type 0) → Planes → Planes → Type 0
-TurnsOddBlocksWhere IsNamed p q =
-    TurnsNamed p.words (λ n. n) (λ n. n) (λ n. n) (λ n. n) IsNamed p.odd.items p.right.items p.down.items p.even.items
-    q.odd.items q.right.items q.down.items q.even.items
+-- word k of each cell of a block stays
+pub record IsWordSame (w : ℕ) (b : BlockPlaces) (k : ℕ) (p q : Planes) : Type 0 where
+  pub odd : slice_index q.odd.items (w * b.odd + k) ≡ slice_index p.odd.items (w * b.odd + k)
+  pub right : slice_index q.right.items (w * b.right + k) ≡ slice_index p.right.items (w * b.right + k)
+  pub down : slice_index q.down.items (w * b.down + k) ≡ slice_index p.down.items (w * b.down + k)
+  pub even : slice_index q.even.items (w * b.even + k) ≡ slice_index p.even.items (w * b.even + k)
 
--- the named blocks of the even partition are turned
-abbrev pub TurnsEvenBlocksWhere : (ℕ → Type 0) → Planes → Planes → Type 0
-TurnsEvenBlocksWhere IsNamed p q =
-    TurnsNamed p.words (λ n. n) (λ n. n + 1) (λ n. n + p.stride) (λ n. n + p.stride + 1) IsNamed p.even.items
-    p.down.items p.right.items p.odd.items q.even.items q.down.items q.right.items q.odd.items
+-- the named blocks of a partition are turned, and no cell of another block has changed
+pub record TurnsNamed (w s : ℕ) (part : Partition) (IsNamed : ℕ → Type 0) (p q : Planes) : Type 0 where
+  pub turned : (n k : ℕ) → IsNamed n → k < w → IsWordTurned w (block_at part s n) k p q
+  pub same : (n k : ℕ) → (IsNamed n → ⊥) → k < w → IsWordSame w (block_at part s n) k p q
 
--- the blocks of the odd partition from one number to another are turned
-abbrev pub TurnsOddBlocksBetween : ℕ → ℕ → Planes → Planes → Type 0
-TurnsOddBlocksBetween from end p q = TurnsOddBlocksWhere (λ n. (from ≤ n) × (n < end)) p q
+-- so they are in planes whose cells have their words, and whose rows their cells
+abbrev pub TurnsBlocksWhere : Partition → (ℕ → Type 0) → Planes → Planes → Type 0
+TurnsBlocksWhere part IsNamed p q = TurnsNamed p.words p.stride part IsNamed p q
 
--- those of the even partition are turned, but for the last ones of the rows, which are not in the box
-abbrev pub TurnsEvenBlocksBetween : ℕ → ℕ → Planes → Planes → Type 0
-TurnsEvenBlocksBetween from end p q = TurnsEvenBlocksWhere (λ n. (from ≤ n) × (n < end) × ((n + 1) % p.stride ≢ 0)) p q
+-- the blocks from one number to another are turned, but for the last ones of the rows, which are not in the box
+abbrev pub TurnsBlocksBetween : Partition → ℕ → ℕ → Planes → Planes → Type 0
+TurnsBlocksBetween part from end p q =
+    TurnsBlocksWhere part (λ n. (from ≤ n) × (n < end) × IsNotRowEnd part p.stride n) p q
 
 -- the numbers from one to another whose marks, in one word, are not among the rest of that word
 abbrev pub IsInRangeNotInWord : ℕ → ℕ → ℕ → ℕ → Type 0
 IsInRangeNotInWord first end rest n = (first ≤ n) × (n < end) × (bit rest (n % 64) ≡ false)
 
 -- the same, but for the last blocks of the rows
-abbrev pub IsInRangeNotInWordNorRowEnd : ℕ → ℕ → ℕ → ℕ → ℕ → Type 0
-IsInRangeNotInWordNorRowEnd s first end rest n = IsInRangeNotInWord first end rest n × ((n + 1) % s ≢ 0)
+abbrev pub IsPassed : Partition → ℕ → ℕ → ℕ → ℕ → ℕ → Type 0
+IsPassed part s first end rest n = IsInRangeNotInWord first end rest n × IsNotRowEnd part s n

@@ -1,9 +1,12 @@
--- Blocks that a turn leaves as they are, parts of lists whose blocks are turned, and marks on blocks
-use Rattle.std.specs.Prelude.{◌≡◌, ◌≢◌, ◌==◌, Bool, true, ℕ, ◌+◌, ◌*◌, ◌%◌, ◌<◌, ◌≤◌, List, slice_index}
+-- Blocks that a turn leaves as they are, and blocks that are turned
+use Rattle.std.specs.Prelude.{◌≡◌, ◌==◌, Bool, ℕ, ◌+◌, ◌*◌, ◌%◌, ◌<◌, ◌≤◌, List, slice_index}
 use Rattle.bbm_rule.specs.Bits.{bit}
-use Rattle.bbm_rule.specs.Marks.{IsUnmarked}
 use Rattle.bbm_rule.specs.Plane.{turned}
 use Rattle.bbm_rule.specs.Words.{AreTurned}
+use Rattle.local_run.specs.declared.blocks.BlockPlaces.{BlockPlaces}
+use Rattle.local_run.specs.declared.blocks.Diagonal.{Diagonal}
+use Rattle.local_run.specs.declared.blocks.Diagonal.TheVariants.{Anti, Main}
+use Rattle.local_run.specs.declared.planes.Planes.{Planes}
 
 -- whether a cell, counted from the halo, is on the main diagonal of its block of the odd partition
 abbrev pub is_on_main_diagonal : ℕ → ℕ → Bool
@@ -16,22 +19,21 @@ DiagonalStays first last a b =
     (j : ℕ) → (turned (bit first j) (bit last j) (bit a j) (bit b j) ≡ bit first j)
     × (turned (bit last j) (bit first j) (bit b j) (bit a j) ≡ bit last j)
 
--- The words of four cells, w of each, which have these numbers in their lists, are the corners of a block whose main
--- diagonal stays
-abbrev pub MainStays : ℕ → ℕ → ℕ → ℕ → ℕ → List ℕ → List ℕ → List ℕ → List ℕ → Type 0
-MainStays w a b c d ul ur ll lr =
-    (k : ℕ) → k < w → DiagonalStays (slice_index ul (w * a + k)) (slice_index lr (w * d + k))
-    (slice_index ur (w * b + k)) (slice_index ll (w * c + k))
+-- the main diagonal of a block of four planes stays
+abbrev pub MainStays : BlockPlaces → Planes → Type 0
+MainStays b p = (k : ℕ) → k < p.words →
+    DiagonalStays (slice_index p.odd.items (p.words * b.odd + k)) (slice_index p.even.items (p.words * b.even + k))
+    (slice_index p.right.items (p.words * b.right + k)) (slice_index p.down.items (p.words * b.down + k))
 
--- the same of a block whose other diagonal stays
-abbrev pub AntiStays : ℕ → ℕ → ℕ → ℕ → ℕ → List ℕ → List ℕ → List ℕ → List ℕ → Type 0
-AntiStays w a b c d ul ur ll lr =
-    (k : ℕ) → k < w → DiagonalStays (slice_index ur (w * b + k)) (slice_index ll (w * c + k))
-    (slice_index ul (w * a + k)) (slice_index lr (w * d + k))
+-- so does the other one
+abbrev pub AntiStays : BlockPlaces → Planes → Type 0
+AntiStays b p = (k : ℕ) → k < p.words →
+    DiagonalStays (slice_index p.right.items (p.words * b.right + k)) (slice_index p.down.items (p.words * b.down + k))
+    (slice_index p.odd.items (p.words * b.odd + k)) (slice_index p.even.items (p.words * b.even + k))
 
--- and of one that stays
-abbrev pub IsStableBlock : ℕ → ℕ → ℕ → ℕ → ℕ → List ℕ → List ℕ → List ℕ → List ℕ → Type 0
-IsStableBlock w a b c d ul ur ll lr = MainStays w a b c d ul ur ll lr × AntiStays w a b c d ul ur ll lr
+-- and so does the block
+abbrev pub IsStable : BlockPlaces → Planes → Type 0
+IsStable b p = MainStays b p × AntiStays b p
 
 -- the words from place a on, as many as `long`, may change, and no others
 pub record SameBeside (a long : ℕ) (old new : List ℕ) : Type 0 where
@@ -57,15 +59,21 @@ pub record TurnsPart (a b c d long : ℕ) (ul ur ll lr ul' ur' ll' lr' : List �
   pub lower_left : SameBeside c long ll ll'
   pub lower_right : SameBeside d long lr lr'
 
--- marks are made at blocks of the even partition that share a cell with block `at` of the odd partition: a cell of its
--- main diagonal if that changes, and one of the other diagonal if that does
-abbrev pub MarksEvenNeighbours : Bool → Bool → ℕ → ℕ → List ℕ → List ℕ → Type 0
-MarksEvenNeighbours main anti stride at old new =
-    (u : ℕ) → IsUnmarked new u → IsUnmarked old u × (main ≡ true → (u ≢ at) × (u + stride + 1 ≢ at))
-    × (anti ≡ true → (u + 1 ≢ at) × (u + stride ≢ at))
+-- the words of four planes, as many as `long` from those of the cells of a block on, are turned
+abbrev pub TurnsFrom : BlockPlaces → ℕ → Planes → Planes → Type 0
+TurnsFrom b long p q =
+    TurnsPart (p.words * b.odd) (p.words * b.right) (p.words * b.down) (p.words * b.even) long p.odd.items p.right.items
+    p.down.items p.even.items q.odd.items q.right.items q.down.items q.even.items
 
--- so they are at the blocks of the odd partition that share such a cell with block `at` of the even partition
-abbrev pub MarksOddNeighbours : Bool → Bool → ℕ → ℕ → List ℕ → List ℕ → Type 0
-MarksOddNeighbours main anti stride at old new =
-    (u : ℕ) → IsUnmarked new u → IsUnmarked old u × (main ≡ true → (u ≢ at) × (u ≢ at + stride + 1))
-    × (anti ≡ true → (u ≢ at + 1) × (u ≢ at + stride))
+-- one block of four planes is turned
+abbrev pub TurnsBlock : BlockPlaces → Planes → Planes → Type 0
+TurnsBlock b p q = TurnsFrom b p.words p q
+
+-- the cells of a diagonal change places
+abbrev pub SwapsDiagonal : Diagonal → BlockPlaces → Planes → Planes → Type 0
+SwapsDiagonal Main b p q =
+    SwapsPart (p.words * b.odd) (p.words * b.even) p.words p.odd.items p.even.items q.odd.items q.even.items
+    × (q.right ≡ p.right) × (q.down ≡ p.down)
+SwapsDiagonal Anti b p q =
+    SwapsPart (p.words * b.right) (p.words * b.down) p.words p.right.items p.down.items q.right.items q.down.items
+    × (q.odd ≡ p.odd) × (q.even ≡ p.even)

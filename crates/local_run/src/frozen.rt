@@ -6,13 +6,16 @@
 
 ghost use Rattle.bbm_rule.specs.Marks.{IsUnmarked};
 ghost use Rattle.bbm_rule.specs.Rows.{cell_at};
-ghost use Rattle.local_run.specs.Frozen.{AreFrozenIfFound, HasRoomForMarks, IsEvenBlockHeld, IsFrozen, IsNumberBeforeMarked, IsOddBlockEmpty, IsOddBlockHeld};
-ghost use Rattle.std.specs.Prelude.{ℕ, ◌≡◌, ◌≢◌, ◌+◌, ◌*◌, ◌/◌, ◌%◌, ◌<◌, ◌≤◌, length, vec_len, true, false};
+ghost use Rattle.local_run.specs.Blocks.{IsNotRowEnd, block_count, marks_of};
+ghost use Rattle.local_run.specs.Frozen.{AreBlocksHeld, AreFrozenIfFound, HasRoomForMarks, IsBlockEmpty, IsBlockHeld, IsFrozen, IsMarkedAround, IsNumberBeforeMarked};
+ghost use Rattle.std.specs.Prelude.{ℕ, ◌≡◌, ◌+◌, ◌*◌, ◌/◌, ◌<◌, ◌≤◌, length, vec_len, true, false};
 
-use crate::held_cells::CornerConditions;
-use crate::marks::is_marked;
+use crate::block_marks::BlockMarks;
+use crate::blocks::Partition;
+use crate::held_cells::CellConditions;
+use crate::marks::{fill, is_marked};
 use crate::planes::Planes;
-use bbm_rule::marks::{mark, mark_all, unmark};
+use bbm_rule::marks::mark;
 use std::alloc::Global;
 
 /// Marks on the blocks of a set that no step changes, if it was looked for and found.
@@ -20,11 +23,9 @@ use std::alloc::Global;
 pub struct FrozenBlocks {
     // whether the marks are those of such a set
     pub(crate) is_found: bool,
-    // a bit for each block of the odd partition, and for each block of the even partition; the last blocks of rows of
-    // the even partition, which are not turned, have one too
-    pub(crate) odd: Vec<u64>,
-    pub(crate) even: Vec<u64>,
-    // and for those blocks of the odd partition that are empty
+    // the last blocks of rows of the even partition, which are not turned, have marks too
+    pub(crate) marks: BlockMarks,
+    // a bit for each block of the odd partition that is empty
     pub(crate) empty: Vec<u64>,
     // about how many blocks of a partition have no mark
     pub(crate) active_block_count: usize,
@@ -32,14 +33,6 @@ pub struct FrozenBlocks {
 
 // Up to how many times all blocks are looked at. In a box of 64 by 64 cells with walls 20 times are enough.
 const MAX_SWEEPS: u32 = 64;
-
-// Fills marks with as many copies of a word, and returns whether there was memory for it.
-fn fill(marks: &mut Vec<u64>, long: usize, word: u64) -> bool
-    ensures { result ≡ true → vec_len marks.new ≡ long }
-{
-    marks.clear();
-    marks.resize(long, word).is_ok()
-}
 
 // Whether the number that is less than `at` by the distance has a mark, if there is one.
 #[inline(always)]
@@ -57,8 +50,10 @@ impl FrozenBlocks {
     {
         FrozenBlocks {
             is_found: false,
-            odd: Vec::new(alloc),
-            even: Vec::new(alloc),
+            marks: BlockMarks {
+                odd: Vec::new(alloc),
+                even: Vec::new(alloc),
+            },
             empty: Vec::new(alloc),
             active_block_count: 0,
         }
@@ -97,11 +92,11 @@ impl FrozenBlocks {
 
     /// Gives the set up, if block u of the odd partition is in it.
     pub fn give_up_if_frozen(&mut self, u: usize)
-        requires room { self.old.is_found ≡ true → u / 64 < vec_len self.old.odd }
+        requires room { self.old.is_found ≡ true → u / 64 < vec_len self.old.marks.odd }
         ensures { self.new.is_found ≡ true →
-            (self.new ≡ self.old) × IsUnmarked self.old.odd.items u }
+            (self.new ≡ self.old) × IsUnmarked self.old.marks.odd.items u }
     {
-        if self.is_found && is_marked(&self.odd, u) {
+        if self.is_found && is_marked(&self.marks.odd, u) {
             self.is_found = false;
         }
     }
@@ -116,124 +111,94 @@ impl FrozenBlocks {
             return;
         }
         'sweeps: for _ in 0..MAX_SWEEPS {
-            if !self.sweep(planes) {
+            let is_odd = self.sweep(planes, Partition::Odd);
+            let is_even = self.sweep(planes, Partition::Even);
+            if !is_odd && !is_even {
                 break;
             }
         }
         self.mark_empty(planes);
-        self.is_found = self.are_marked_blocks_held(planes);
+        self.is_found = self.are_marks_correct(planes);
     }
 
     /// Marks all blocks, in as many words, and none as empty. Returns whether there was memory for it.
     pub(crate) fn mark_all(&mut self, long: usize) -> bool
         ensures found { self.new.is_found ≡ self.old.is_found }
-        ensures room { result ≡ true → (vec_len self.new.odd ≡ long)
-            × (vec_len self.new.even ≡ long) × (vec_len self.new.empty ≡ long) }
+        ensures room { result ≡ true → (vec_len self.new.marks.odd ≡ long)
+            × (vec_len self.new.marks.even ≡ long) × (vec_len self.new.empty ≡ long) }
     {
-        fill(&mut self.odd, long, 0xFFFF_FFFF_FFFF_FFFF)
-            && fill(&mut self.even, long, 0xFFFF_FFFF_FFFF_FFFF)
-            && fill(&mut self.empty, long, 0)
+        self.marks.fill(long) && fill(&mut self.empty, long, 0)
     }
 
-    // For each corner of block u of the odd partition, whether its block of the even partition has a mark.
-    fn odd_corners(&self, planes: &Planes, u: usize) -> CornerConditions
+    // For each cell of block u of a partition, whether its block of the other partition has a mark, if there is one.
+    fn marked_around(&self, planes: &Planes, partition: Partition, u: usize) -> CellConditions
         requires room { HasRoomForMarks self.now planes.now }
-        requires place { u < planes.now.stride * planes.now.rows }
-        ensures upper_left { result.upper_left ≡ true →
-            IsNumberBeforeMarked self.now.even.items (planes.now.stride + 1) u }
-        ensures upper_right { result.upper_right ≡ true →
-            IsNumberBeforeMarked self.now.even.items planes.now.stride u }
-        ensures lower_left { result.lower_left ≡ true →
-            IsNumberBeforeMarked self.now.even.items 1 u }
-        ensures lower_right { result.lower_right ≡ true →
-            IsNumberBeforeMarked self.now.even.items 0 u }
+        requires place { u < block_count partition planes.now }
+        ensures odd { result.odd ≡ true → IsMarkedAround partition self.now.marks planes.now
+            (λ b. b.odd) u }
+        ensures right { result.right ≡ true → IsMarkedAround partition self.now.marks planes.now
+            (λ b. b.right) u }
+        ensures down { result.down ≡ true → IsMarkedAround partition self.now.marks planes.now
+            (λ b. b.down) u }
+        ensures even { result.even ≡ true → IsMarkedAround partition self.now.marks planes.now
+            (λ b. b.even) u }
     {
         let stride = planes.stride();
-        CornerConditions {
-            upper_left: is_number_before_marked(&self.even, u, stride + 1),
-            upper_right: is_number_before_marked(&self.even, u, stride),
-            lower_left: is_number_before_marked(&self.even, u, 1),
-            lower_right: is_number_before_marked(&self.even, u, 0),
+        match partition {
+            Partition::Odd => CellConditions {
+                odd: is_number_before_marked(&self.marks.even, u, stride + 1),
+                right: is_number_before_marked(&self.marks.even, u, stride),
+                down: is_number_before_marked(&self.marks.even, u, 1),
+                even: is_number_before_marked(&self.marks.even, u, 0),
+            },
+            Partition::Even => CellConditions {
+                odd: is_marked(&self.marks.odd, u + stride + 1),
+                right: is_marked(&self.marks.odd, u + stride),
+                down: is_marked(&self.marks.odd, u + 1),
+                even: is_marked(&self.marks.odd, u),
+            },
         }
     }
 
-    // Whether block u of the odd partition is empty, and stays so if the blocks with marks stay.
-    fn is_odd_block_empty(&self, planes: &Planes, u: usize) -> bool
+    // Whether block u of a partition is empty, and stays so if the blocks with marks stay.
+    fn is_block_empty(&self, planes: &Planes, u: usize) -> bool
         requires room { HasRoomForMarks self.now planes.now }
         requires place { u < planes.now.stride * planes.now.rows }
-        ensures { result ≡ true → IsOddBlockEmpty self.now.even.items planes.now u }
+        ensures { result ≡ true → IsBlockEmpty Partition.Odd self.now.marks planes.now u }
     {
-        planes.is_odd_block_empty(u, self.odd_corners(planes, u))
+        planes.is_block_empty(
+            planes.block(Partition::Odd, u),
+            self.marked_around(planes, Partition::Odd, u),
+        )
     }
 
-    // Whether block u of the odd partition stays if the blocks with marks stay.
-    fn is_odd_block_held(&self, planes: &Planes, u: usize) -> bool
+    // Whether block u of a partition stays if the blocks with marks stay.
+    fn is_block_held(&self, planes: &Planes, partition: Partition, u: usize) -> bool
         requires room { HasRoomForMarks self.now planes.now }
-        requires place { u < planes.now.stride * planes.now.rows }
-        ensures { result ≡ true → IsOddBlockHeld self.now.even.items planes.now u }
+        requires place { u < block_count partition planes.now }
+        ensures { result ≡ true → IsBlockHeld partition self.now.marks planes.now u }
     {
-        let corners = self.odd_corners(planes, u);
-        planes.has_always_live_odd_diagonals(u, corners) || planes.is_odd_block_empty(u, corners)
+        let block = planes.block(partition, u);
+        let met = self.marked_around(planes, partition, u);
+        planes.has_always_live_diagonals(block, met) || planes.is_block_empty(block, met)
     }
 
-    // Whether block n of the even partition stays if the blocks with marks stay.
-    fn is_even_block_held(&self, planes: &Planes, n: usize) -> bool
-        requires room { HasRoomForMarks self.now planes.now }
-        requires place { n + planes.now.stride + 1 < planes.now.stride * planes.now.rows }
-        ensures { result ≡ true → IsEvenBlockHeld self.now.odd.items planes.now n }
-    {
-        let stride = planes.stride();
-        let corners = CornerConditions {
-            upper_left: is_marked(&self.odd, n),
-            upper_right: is_marked(&self.odd, n + 1),
-            lower_left: is_marked(&self.odd, n + stride),
-            lower_right: is_marked(&self.odd, n + stride + 1),
-        };
-        planes.has_always_live_even_diagonals(n, corners) || planes.is_even_block_empty(n, corners)
-    }
-
-    // Takes the marks off the blocks that are not held, and returns whether there were some.
-    fn sweep(&mut self, planes: &Planes) -> bool
+    // Takes the marks off the blocks of a partition that are not held, and returns whether there were some. It counts
+    // the blocks without a mark.
+    fn sweep(&mut self, planes: &Planes, partition: Partition) -> bool
         requires room { HasRoomForMarks self.old planes.now }
         ensures room { HasRoomForMarks self.new planes.now }
         ensures found { self.new.is_found ≡ self.old.is_found }
     {
-        let is_odd = self.sweep_odd(planes);
-        let is_even = self.sweep_even(planes);
-        is_odd || is_even
-    }
-
-    // Takes the marks off the blocks of the odd partition that are not held, and returns whether there were some.
-    fn sweep_odd(&mut self, planes: &Planes) -> bool
-        requires room { HasRoomForMarks self.old planes.now }
-        ensures room { HasRoomForMarks self.new planes.now }
-        ensures found { self.new.is_found ≡ self.old.is_found }
-    {
-        let mut is_some = false;
-        for u in 0..planes.cells() {
-            if is_marked(&self.odd, u) && !self.is_odd_block_held(planes, u) {
-                unmark(&mut self.odd, u);
-                is_some = true;
-            }
-        }
-        is_some
-    }
-
-    // Takes the marks off the blocks of the even partition that are not held, and returns whether there were some. It
-    // counts the blocks without a mark.
-    fn sweep_even(&mut self, planes: &Planes) -> bool
-        requires room { HasRoomForMarks self.old planes.now }
-        ensures room { HasRoomForMarks self.new planes.now }
-        ensures found { self.new.is_found ≡ self.old.is_found }
-    {
-        let stride = planes.stride();
         let mut is_some = false;
         let mut active_block_count = 0;
-        for n in 0..planes.cells() - stride - 1 {
-            if !is_marked(&self.even, n) {
+        for u in 0..planes.block_count(partition) {
+            if !is_marked(self.marks.of(partition), u) {
                 active_block_count += 1;
-            } else if (n + 1) % stride != 0 && !self.is_even_block_held(planes, n) {
-                unmark(&mut self.even, n);
+            } else if !planes.is_row_end(partition, u)
+                && !self.is_block_held(planes, partition, u)
+            {
+                self.marks.unmark(partition, u);
                 is_some = true;
             }
         }
@@ -248,86 +213,63 @@ impl FrozenBlocks {
         ensures found { self.new.is_found ≡ self.old.is_found }
     {
         for u in 0..planes.cells() {
-            if is_marked(&self.odd, u) && self.is_odd_block_empty(planes, u) {
+            if is_marked(&self.marks.odd, u) && self.is_block_empty(planes, u) {
                 mark(&mut self.empty, u);
             }
         }
     }
 
-    // Whether block u of the odd partition stays if those with marks do, where it has a mark, and is empty then, where
-    // it is marked as empty.
-    fn is_odd_mark_correct(&self, planes: &Planes, u: usize) -> bool
-        requires room { HasRoomForMarks self.now planes.now }
-        requires place { u < planes.now.stride * planes.now.rows }
-        ensures held { result ≡ true → cell_at self.now.odd.items u ≡ true →
-            IsOddBlockHeld self.now.even.items planes.now u }
-        ensures empty { result ≡ true → cell_at self.now.empty.items u ≡ true →
-            IsOddBlockEmpty self.now.even.items planes.now u }
-    {
-        if is_marked(&self.odd, u) && !self.is_odd_block_held(planes, u) {
-            return false;
-        }
-        !is_marked(&self.empty, u) || self.is_odd_block_empty(planes, u)
-    }
-
-    // Whether block n of the even partition stays if those with marks do, where it has a mark, and has one if it is the
-    // last of its row.
-    fn is_even_mark_correct(&self, planes: &Planes, n: usize) -> bool
-        requires room { HasRoomForMarks self.now planes.now }
-        requires place { n + planes.now.stride + 1 < planes.now.stride * planes.now.rows }
-        ensures held { result ≡ true → (n + 1) % planes.now.stride ≢ 0 →
-            cell_at self.now.even.items n ≡ true → IsEvenBlockHeld self.now.odd.items planes.now n }
-        ensures last { result ≡ true → (n + 1) % planes.now.stride ≡ 0 →
-            cell_at self.now.even.items n ≡ true }
-    {
-        if (n + 1) % planes.stride() == 0 {
-            return is_marked(&self.even, n);
-        }
-        !is_marked(&self.even, n) || self.is_even_block_held(planes, n)
-    }
-
-    // Whether each block with a mark is frozen.
-    fn are_marked_blocks_held(&self, planes: &Planes) -> bool
+    // Whether each block with a mark is frozen, and each with a mark as empty is empty.
+    fn are_marks_correct(&self, planes: &Planes) -> bool
         requires { HasRoomForMarks self.now planes.now }
         ensures { result ≡ true → IsFrozen self.now planes.now }
     {
-        if !self.are_odd_blocks_held(planes) {
-            return false;
-        }
-        self.are_even_blocks_held(planes)
+        self.are_blocks_held(planes, Partition::Odd)
+            && self.are_blocks_held(planes, Partition::Even)
+            && self.are_blocks_empty(planes)
     }
 
-    // Whether each block of the odd partition with a mark stays if those of the even partition do.
-    fn are_odd_blocks_held(&self, planes: &Planes) -> bool
-        requires { HasRoomForMarks self.now planes.now }
-        ensures held { result ≡ true → (u : ℕ) → u < planes.now.stride * planes.now.rows →
-            cell_at self.now.odd.items u ≡ true → IsOddBlockHeld self.now.even.items planes.now u }
-        ensures empty { result ≡ true → (u : ℕ) → u < planes.now.stride * planes.now.rows →
-            cell_at self.now.odd.items u ≡ true → cell_at self.now.empty.items u ≡ true →
-            IsOddBlockEmpty self.now.even.items planes.now u }
+    // Whether block u of a partition stays if those with marks do, where it has a mark, and has one if it is the last of
+    // its row.
+    fn is_mark_correct(&self, planes: &Planes, partition: Partition, u: usize) -> bool
+        requires room { HasRoomForMarks self.now planes.now }
+        requires place { u < block_count partition planes.now }
+        ensures held { result ≡ true → IsNotRowEnd partition planes.now.stride u →
+            cell_at (marks_of partition self.now.marks) u ≡ true →
+            IsBlockHeld partition self.now.marks planes.now u }
+        ensures last { result ≡ true → (IsNotRowEnd partition planes.now.stride u → ⊥) →
+            cell_at (marks_of partition self.now.marks) u ≡ true }
     {
-        for u in 0..planes.cells() {
-            if !self.is_odd_mark_correct(planes, u) {
+        let is_marked = is_marked(self.marks.of(partition), u);
+        if planes.is_row_end(partition, u) {
+            return is_marked;
+        }
+        !is_marked || self.is_block_held(planes, partition, u)
+    }
+
+    // Whether each block of a partition with a mark stays if those with marks do, and the last ones of the rows have
+    // marks.
+    fn are_blocks_held(&self, planes: &Planes, partition: Partition) -> bool
+        requires { HasRoomForMarks self.now planes.now }
+        ensures { result ≡ true → AreBlocksHeld partition self.now.marks planes.now }
+    {
+        for u in 0..planes.block_count(partition) {
+            if !self.is_mark_correct(planes, partition, u) {
                 return false;
             }
         }
         true
     }
 
-    // Whether each block of the even partition with a mark stays if those of the odd partition do, and the last ones of
-    // the rows have marks.
-    fn are_even_blocks_held(&self, planes: &Planes) -> bool
+    // Whether each block that is marked as empty is empty.
+    fn are_blocks_empty(&self, planes: &Planes) -> bool
         requires { HasRoomForMarks self.now planes.now }
-        ensures held { result ≡ true → (n : ℕ) →
-            n + planes.now.stride + 1 < planes.now.stride * planes.now.rows →
-            (n + 1) % planes.now.stride ≢ 0 → cell_at self.now.even.items n ≡ true →
-            IsEvenBlockHeld self.now.odd.items planes.now n }
-        ensures last { result ≡ true → (n : ℕ) →
-            n + planes.now.stride + 1 < planes.now.stride * planes.now.rows →
-            (n + 1) % planes.now.stride ≡ 0 → cell_at self.now.even.items n ≡ true }
+        ensures { result ≡ true → (u : ℕ) → u < planes.now.stride * planes.now.rows →
+            cell_at self.now.empty.items u ≡ true →
+            IsBlockEmpty Partition.Odd self.now.marks planes.now u }
     {
-        for n in 0..planes.cells() - planes.stride() - 1 {
-            if !self.is_even_mark_correct(planes, n) {
+        for u in 0..planes.cells() {
+            if is_marked(&self.empty, u) && !self.is_block_empty(planes, u) {
                 return false;
             }
         }

@@ -1,35 +1,30 @@
 //! Steps of whole planes that pass over frozen blocks, and the marks after them.
 
-ghost use Rattle.bbm_rule.specs.Plane.{turned};
-ghost use Rattle.bbm_rule.specs.Rows.{mate};
-ghost use Rattle.local_run.specs.Calm.{AreUnmarkedEvenBlocksStable, AreUnmarkedOddBlocksStable};
+ghost use Rattle.local_run.specs.Calm.{AreUnmarkedBlocksStable, HasRoomForBlockMarks, HasSameBlockRoom};
 ghost use Rattle.local_run.specs.Frozen.{AreFrozenIfFound};
-ghost use Rattle.local_run.specs.Lanes.{HasWordsStrideRows, lane};
+ghost use Rattle.local_run.specs.Lanes.{HasWordsStrideRows, TurnsCells};
 ghost use Rattle.local_run.specs.Live.{AllUnmarkedDead, HasRoomForCellMarks, HasSameRoom};
-ghost use Rattle.std.specs.Prelude.{ℕ, ◌≡◌, ◌+◌, ◌*◌, ◌/◌, ◌<◌, ◌≤◌, length};
+ghost use Rattle.std.specs.Prelude.{◌*◌, ◌≤◌};
 
+use crate::block_marks::BlockMarks;
+use crate::blocks::Partition;
 use crate::frozen::FrozenBlocks;
 use crate::live::LiveMarks;
-use crate::marks::set_marks_to_not_both;
 use crate::planes::Planes;
-use bbm_rule::marks::mark_all;
 
 impl FrozenBlocks {
     /// Marks the blocks of both partitions, but for the frozen ones.
-    pub fn mark_active_blocks(&self, planes: &Planes, odd_marks: &mut [u64], even_marks: &mut [u64])
+    pub fn mark_active_blocks(&self, planes: &Planes, marks: &mut BlockMarks)
         requires frozen { AreFrozenIfFound self.now planes.now }
-        requires odd_room { planes.now.stride * planes.now.rows ≤ 64 * length odd_marks.old }
-        requires even_room { planes.now.stride * planes.now.rows ≤ 64 * length even_marks.old }
-        ensures odd { AreUnmarkedOddBlocksStable odd_marks.new planes.now }
-        ensures even { AreUnmarkedEvenBlocksStable even_marks.new planes.now }
+        requires room { HasRoomForBlockMarks (planes.now.stride * planes.now.rows) marks.old }
+        ensures calm { AreUnmarkedBlocksStable marks.new planes.now }
+        ensures same_room { HasSameBlockRoom marks.old marks.new }
     {
         if self.is_found {
             planes.prove_planes_are_words();
-            set_marks_to_not_both(odd_marks, &self.odd, &self.odd);
-            set_marks_to_not_both(even_marks, &self.even, &self.even);
+            marks.set_to_unmarked_of(&self.marks);
         } else {
-            mark_all(odd_marks);
-            mark_all(even_marks);
+            marks.mark_all();
         }
     }
 
@@ -42,48 +37,28 @@ impl FrozenBlocks {
     {
         if self.is_found {
             planes.prove_planes_are_words();
-            live.set_marks_to_not_both(&self.odd, &self.empty);
+            live.set_marks_to_not_both(&self.marks.odd, &self.empty);
         } else {
             live.mark_all();
         }
     }
 
-    /// Turns the blocks of the odd partition, and passes over the frozen ones.
-    pub fn odd_step(&self, planes: &mut Planes)
+    /// Turns the blocks of a partition, and passes over the frozen ones.
+    pub fn step(&self, partition: Partition, planes: &mut Planes)
         requires frozen { AreFrozenIfFound self.now planes.old }
-        ensures turned { (a x y : ℕ) → a < 64 * planes.old.words → x < 2 * planes.old.stride →
-            y < 2 * planes.old.rows → lane planes.new a x y
-            ≡ turned (lane planes.old a x y) (lane planes.old a (mate x) (mate y))
-            (lane planes.old a (mate x) y) (lane planes.old a x (mate y)) }
+        ensures turned { TurnsCells partition planes.old planes.new }
         ensures size { HasWordsStrideRows planes.old.words planes.old.stride planes.old.rows
             planes.new }
         ensures frozen { AreFrozenIfFound self.now planes.new }
     {
         if self.is_found {
             planes.prove_planes_are_words();
-            planes.odd_step_between_marks(&self.odd);
-        } else {
-            planes.odd_step();
+            planes.step_between_marks(partition, self.marks.of(partition));
+            return;
         }
-    }
-
-    /// Turns the blocks of the even partition in the box, and passes over the frozen ones.
-    pub fn even_step(&self, planes: &mut Planes)
-        requires frozen { AreFrozenIfFound self.now planes.old }
-        ensures turned { (a x y : ℕ) → a < 64 * planes.old.words → x + 2 < 2 * planes.old.stride →
-            y + 2 < 2 * planes.old.rows → lane planes.new a (1 + x) (1 + y)
-            ≡ turned (lane planes.old a (1 + x) (1 + y))
-            (lane planes.old a (1 + mate x) (1 + mate y))
-            (lane planes.old a (1 + mate x) (1 + y)) (lane planes.old a (1 + x) (1 + mate y)) }
-        ensures size { HasWordsStrideRows planes.old.words planes.old.stride planes.old.rows
-            planes.new }
-        ensures frozen { AreFrozenIfFound self.now planes.new }
-    {
-        if self.is_found {
-            planes.prove_planes_are_words();
-            planes.even_step_between_marks(&self.even);
-        } else {
-            planes.even_step();
+        match partition {
+            Partition::Odd => planes.odd_step(),
+            Partition::Even => planes.even_step(),
         }
     }
 }

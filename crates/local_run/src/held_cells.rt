@@ -1,24 +1,25 @@
 //! Cells that are always the same, and runs of blocks between the blocks that they hold.
 
+ghost use Rattle.local_run.specs.Blocks.{AreCells, block_count};
 ghost use Rattle.local_run.specs.Held.{HasValueUnderAll, HasLiveDiagonals, IsEmptyBlock, cell_word_bit};
-ghost use Rattle.local_run.specs.Turns.{TurnsPart};
 ghost use Rattle.std.specs.Prelude.{ℕ, ◌≡◌, ◌+◌, ◌-◌, ◌*◌, ◌/◌, ◌^◌, ◌<◌, ◌≤◌, length, slice_index, false, true};
 
+use crate::blocks::{BlockPlaces, Partition};
 use crate::planes::Planes;
-use crate::words::{Places, has_word_other_than, turn_part};
+use crate::words::has_word_other_than;
 use bbm_rule::marks::{next_marked, next_unmarked};
 
-/// For each corner of a block whether its cell meets a condition.
+/// For each cell of a block whether it meets a condition.
 #[derive(Clone, Copy)]
-pub struct CornerConditions {
-    /// Whether the upper left cell meets it.
-    pub upper_left: bool,
-    /// Whether the upper right cell meets it.
-    pub upper_right: bool,
-    /// Whether the lower left cell meets it.
-    pub lower_left: bool,
-    /// Whether the lower right cell meets it.
-    pub lower_right: bool,
+pub struct CellConditions {
+    /// Whether the cell in the plane `odd` meets it.
+    pub odd: bool,
+    /// Whether the cell in the plane `right` meets it.
+    pub right: bool,
+    /// Whether the cell in the plane `down` meets it.
+    pub down: bool,
+    /// Whether the cell in the plane `even` meets it.
+    pub even: bool,
 }
 
 // Shows that words have 64 bits each. It does nothing.
@@ -50,80 +51,42 @@ fn is_always_dead(is_met: bool, cells: &[u64], at: usize, words: usize) -> bool
 }
 
 impl Planes {
-    ghost use Rattle.local_run.specs.Frozen.{AreWords, AreMarkedEvenBlocksStable, AreMarkedOddBlocksStable, KeepsFirst};
+    ghost use Rattle.local_run.specs.Frozen.{AreWords, AreMarkedBlocksStable, KeepsFirst};
     ghost use Rattle.local_run.specs.Lanes.{HasWordsStrideRows};
-    ghost use Rattle.local_run.specs.Sweeps.{TurnsEvenBlocksBetween, TurnsOddBlocksBetween};
+    ghost use Rattle.local_run.specs.Sweeps.{TurnsBlocksBetween};
 
-    /// Returns whether each diagonal of block u of the odd partition has a cell that meets its condition and is live
-    /// under each assignment.
-    pub fn has_always_live_odd_diagonals(&self, u: usize, met: CornerConditions) -> bool
-        requires { u < self.now.stride * self.now.rows }
-        ensures { result ≡ true → HasLiveDiagonals self.now.words (met.upper_left ≡ true)
-            (met.upper_right ≡ true) (met.lower_left ≡ true) (met.lower_right ≡ true)
-            (cell_word_bit self.now.words self.now.odd.items u)
-            (cell_word_bit self.now.words self.now.right.items u)
-            (cell_word_bit self.now.words self.now.down.items u)
-            (cell_word_bit self.now.words self.now.even.items u) }
+    /// Returns whether each diagonal of a block has a cell that meets its condition and is live under each assignment.
+    pub fn has_always_live_diagonals(&self, block: BlockPlaces, met: CellConditions) -> bool
+        requires { AreCells block self.now }
+        ensures { result ≡ true → HasLiveDiagonals self.now.words (met.odd ≡ true)
+            (met.right ≡ true) (met.down ≡ true) (met.even ≡ true)
+            (cell_word_bit self.now.words self.now.odd.items block.odd)
+            (cell_word_bit self.now.words self.now.right.items block.right)
+            (cell_word_bit self.now.words self.now.down.items block.down)
+            (cell_word_bit self.now.words self.now.even.items block.even) }
     {
         let words = self.words;
-        (is_always_live(met.upper_left, &self.odd, u, words)
-            || is_always_live(met.lower_right, &self.even, u, words))
-            && (is_always_live(met.upper_right, &self.right, u, words)
-                || is_always_live(met.lower_left, &self.down, u, words))
+        (is_always_live(met.odd, &self.odd, block.odd, words)
+            || is_always_live(met.even, &self.even, block.even, words))
+            && (is_always_live(met.right, &self.right, block.right, words)
+                || is_always_live(met.down, &self.down, block.down, words))
     }
 
-    /// Returns whether the cells of block u of the odd partition meet their conditions and are dead under each
-    /// assignment.
-    pub fn is_odd_block_empty(&self, u: usize, met: CornerConditions) -> bool
-        requires { u < self.now.stride * self.now.rows }
-        ensures { result ≡ true → IsEmptyBlock self.now.words (met.upper_left ≡ true)
-            (met.upper_right ≡ true) (met.lower_left ≡ true) (met.lower_right ≡ true)
-            (cell_word_bit self.now.words self.now.odd.items u)
-            (cell_word_bit self.now.words self.now.right.items u)
-            (cell_word_bit self.now.words self.now.down.items u)
-            (cell_word_bit self.now.words self.now.even.items u) }
+    /// Returns whether the cells of a block meet their conditions and are dead under each assignment.
+    pub fn is_block_empty(&self, block: BlockPlaces, met: CellConditions) -> bool
+        requires { AreCells block self.now }
+        ensures { result ≡ true → IsEmptyBlock self.now.words (met.odd ≡ true) (met.right ≡ true)
+            (met.down ≡ true) (met.even ≡ true)
+            (cell_word_bit self.now.words self.now.odd.items block.odd)
+            (cell_word_bit self.now.words self.now.right.items block.right)
+            (cell_word_bit self.now.words self.now.down.items block.down)
+            (cell_word_bit self.now.words self.now.even.items block.even) }
     {
         let words = self.words;
-        is_always_dead(met.upper_left, &self.odd, u, words)
-            && is_always_dead(met.upper_right, &self.right, u, words)
-            && is_always_dead(met.lower_left, &self.down, u, words)
-            && is_always_dead(met.lower_right, &self.even, u, words)
-    }
-
-    /// Returns the same as [`Planes::has_always_live_odd_diagonals`] of block n of the even partition.
-    pub fn has_always_live_even_diagonals(&self, n: usize, met: CornerConditions) -> bool
-        requires { n + self.now.stride + 1 < self.now.stride * self.now.rows }
-        ensures { result ≡ true → HasLiveDiagonals self.now.words (met.upper_left ≡ true)
-            (met.upper_right ≡ true) (met.lower_left ≡ true) (met.lower_right ≡ true)
-            (cell_word_bit self.now.words self.now.even.items n)
-            (cell_word_bit self.now.words self.now.down.items (n + 1))
-            (cell_word_bit self.now.words self.now.right.items (n + self.now.stride))
-            (cell_word_bit self.now.words self.now.odd.items (n + self.now.stride + 1)) }
-    {
-        let words = self.words;
-        let stride = self.stride;
-        (is_always_live(met.upper_left, &self.even, n, words)
-            || is_always_live(met.lower_right, &self.odd, n + stride + 1, words))
-            && (is_always_live(met.upper_right, &self.down, n + 1, words)
-                || is_always_live(met.lower_left, &self.right, n + stride, words))
-    }
-
-    /// Returns the same as [`Planes::is_odd_block_empty`] of block n of the even partition.
-    pub fn is_even_block_empty(&self, n: usize, met: CornerConditions) -> bool
-        requires { n + self.now.stride + 1 < self.now.stride * self.now.rows }
-        ensures { result ≡ true → IsEmptyBlock self.now.words (met.upper_left ≡ true)
-            (met.upper_right ≡ true) (met.lower_left ≡ true) (met.lower_right ≡ true)
-            (cell_word_bit self.now.words self.now.even.items n)
-            (cell_word_bit self.now.words self.now.down.items (n + 1))
-            (cell_word_bit self.now.words self.now.right.items (n + self.now.stride))
-            (cell_word_bit self.now.words self.now.odd.items (n + self.now.stride + 1)) }
-    {
-        let words = self.words;
-        let stride = self.stride;
-        is_always_dead(met.upper_left, &self.even, n, words)
-            && is_always_dead(met.upper_right, &self.down, n + 1, words)
-            && is_always_dead(met.lower_left, &self.right, n + stride, words)
-            && is_always_dead(met.lower_right, &self.odd, n + stride + 1, words)
+        is_always_dead(met.odd, &self.odd, block.odd, words)
+            && is_always_dead(met.right, &self.right, block.right, words)
+            && is_always_dead(met.down, &self.down, block.down, words)
+            && is_always_dead(met.even, &self.even, block.even, words)
     }
 
     /// Shows that the words of the planes have 64 bits each. It does nothing.
@@ -137,89 +100,21 @@ impl Planes {
         prove_cells_are_words(&self.even);
     }
 
-    // Turns the blocks of the odd partition from `first` on to below `end`.
-    fn turn_odd_range(&mut self, first: usize, end: usize)
-        requires { (first ≤ end) × (end ≤ self.old.stride * self.old.rows) }
-        ensures part { let at = self.old.words * first in
-            TurnsPart at at at at (self.old.words * (end - first)) self.old.odd.items
-            self.old.right.items self.old.down.items self.old.even.items self.new.odd.items
-            self.new.right.items self.new.down.items self.new.even.items }
-        ensures size { HasWordsStrideRows self.old.words self.old.stride self.old.rows self.new }
-    {
-        let at = self.words * first;
-        turn_part(
-            &mut self.odd,
-            &mut self.right,
-            &mut self.down,
-            &mut self.even,
-            Places {
-                upper_left: at,
-                upper_right: at,
-                lower_left: at,
-                lower_right: at,
-            },
-            self.words * (end - first),
-        );
-    }
-
-    // Turns the blocks of the even partition from `first` on to below `end`.
-    fn turn_even_range(&mut self, first: usize, end: usize)
-        requires { (first ≤ end) × (end + self.old.stride + 1 ≤ self.old.stride * self.old.rows) }
-        ensures part { let w = self.old.words in TurnsPart (w * first) (w * (first + 1))
-            (w * (first + self.old.stride)) (w * (first + self.old.stride + 1)) (w * (end - first))
-            self.old.even.items self.old.down.items self.old.right.items self.old.odd.items
-            self.new.even.items self.new.down.items self.new.right.items self.new.odd.items }
-        ensures size { HasWordsStrideRows self.old.words self.old.stride self.old.rows self.new }
-    {
-        let words = self.words;
-        let stride = self.stride;
-        turn_part(
-            &mut self.even,
-            &mut self.down,
-            &mut self.right,
-            &mut self.odd,
-            Places {
-                upper_left: words * first,
-                upper_right: words * (first + 1),
-                lower_left: words * (first + stride),
-                lower_right: words * (first + stride + 1),
-            },
-            words * (end - first),
-        );
-    }
-
-    /// Turns the blocks of the odd partition. Those with a mark stay, and are passed over.
-    pub fn odd_step_between_marks(&mut self, marks: &[u64])
+    /// Turns the blocks of a partition. Those with a mark stay, and are passed over.
+    pub fn step_between_marks(&mut self, partition: Partition, marks: &[u64])
         requires room { self.old.stride * self.old.rows ≤ 64 * length marks.now }
-        requires calm { AreMarkedOddBlocksStable marks.now self.old }
-        ensures turned { TurnsOddBlocksBetween 0 (self.old.stride * self.old.rows) self.old
+        requires calm { AreMarkedBlocksStable partition marks.now self.old }
+        ensures turned { TurnsBlocksBetween partition 0 (block_count partition self.old) self.old
             self.new }
+        ensures first { KeepsFirst partition self.old self.new }
         ensures size { HasWordsStrideRows self.old.words self.old.stride self.old.rows self.new }
     {
-        let cells = self.cells();
-        let mut at = next_unmarked(marks, 0, cells);
-        'runs: while at < cells {
-            let end = next_marked(marks, at, cells);
-            self.turn_odd_range(at, end);
-            at = next_unmarked(marks, end, cells);
-        }
-    }
-
-    /// Turns the blocks of the even partition in the box. Those with a mark stay, and are passed over.
-    pub fn even_step_between_marks(&mut self, marks: &[u64])
-        requires room { self.old.stride * self.old.rows ≤ 64 * length marks.now }
-        requires calm { AreMarkedEvenBlocksStable marks.now self.old }
-        ensures turned { (n : ℕ) → n + self.old.stride + 1 ≡ self.old.stride * self.old.rows →
-            TurnsEvenBlocksBetween 0 n self.old self.new }
-        ensures first { KeepsFirst self.old self.new }
-        ensures size { HasWordsStrideRows self.old.words self.old.stride self.old.rows self.new }
-    {
-        let cells = self.cells() - self.stride() - 1;
-        let mut at = next_unmarked(marks, 0, cells);
-        'runs: while at < cells {
-            let end = next_marked(marks, at, cells);
-            self.turn_even_range(at, end);
-            at = next_unmarked(marks, end, cells);
+        let blocks = self.block_count(partition);
+        let mut at = next_unmarked(marks, 0, blocks);
+        'runs: while at < blocks {
+            let end = next_marked(marks, at, blocks);
+            self.turn_range(partition, at, end);
+            at = next_unmarked(marks, end, blocks);
         }
     }
 }

@@ -21,7 +21,9 @@
 //! The step is that of Norman Margolus's billiard ball model (Physics-like Models of Computation, 1984).
 #![tactic(auto)]
 
+mod block_marks;
 mod block_turns;
+mod blocks;
 mod border;
 mod fault;
 mod finding;

@@ -1,14 +1,13 @@
 //! Marks on the cells of planes that may be live.
 //!
-//! A cell without a mark is dead, so its words need not be read. The cells of a block are given by their numbers in the
-//! planes `odd`, `right`, `down` and `even`. The first and the last are on one diagonal of the block, its main one, and
-//! the two others on the other one, whichever partition it belongs to.
+//! A cell without a mark is dead, so its words need not be read.
 
 ghost use Rattle.bbm_rule.specs.Bits.{bit};
 ghost use Rattle.bbm_rule.specs.Marks.{IsUnmarked};
-ghost use Rattle.local_run.specs.Live.{AreFirstCellsMarked, AreCellsMarkedUnlessInBoth, AreBlockCellsUnmarked, HasRoomForBlockCells, HasRoomForCellMarks, HasSameRoom, IsLoneAnti, IsLoneMain, MarksCellIf, TakesMarkOfOther};
+ghost use Rattle.local_run.specs.Live.{AreFirstCellsMarked, AreCellsMarkedUnlessInBoth, AreBlockCellsUnmarked, AreNumberCellsUnmarked, HasRoomForBlockCells, HasRoomForCellMarks, HasSameRoom, IsLone, MarksCells, SwapsMarks};
 ghost use Rattle.std.specs.Prelude.{ℕ, ◌≡◌, ◌/◌, ◌<◌, ◌≤◌, ◌%◌, ◌+◌, ◌*◌, ◌^◌, ◌⊎◌, length, vec_len, IfOk, true, false};
 
+use crate::blocks::{BlockPlaces, Diagonal};
 use crate::marks::{is_marked, mark_if, next_marked_in_either, set_marks_to_not_both, swap_marks};
 use crate::words::Changes;
 use bbm_rule::marks::mark_all;
@@ -32,7 +31,7 @@ impl LiveMarks {
     pub fn new(alloc: Global, long: usize) -> Result<LiveMarks, AllocError>
         requires { long ≤ 64 }
         ensures size { IfOk result (λ l. HasRoomForCellMarks (64 * long) l) }
-        ensures none { IfOk result (λ l. (u : ℕ) → AreBlockCellsUnmarked l u u u u) }
+        ensures none { IfOk result (λ l. (u : ℕ) → AreNumberCellsUnmarked l u) }
     {
         Ok(LiveMarks {
             odd: vec![in alloc; 0u64; long]?,
@@ -69,9 +68,9 @@ impl LiveMarks {
     /// Returns a word of marks on the numbers of which a cell has a mark.
     #[inline(always)]
     pub fn word(&self, k: usize) -> u64
-        requires { HasRoomForBlockCells self.now (64 * k) (64 * k) (64 * k) (64 * k) }
+        requires { HasRoomForCellMarks (64 * k + 1) self.now }
         ensures { (u : ℕ) → u / 64 ≡ k → bit result (u % 64) ≡ false →
-            AreBlockCellsUnmarked self.now u u u u }
+            AreNumberCellsUnmarked self.now u }
     {
         (self.odd[k] | self.right[k]) | (self.down[k] | self.even[k])
     }
@@ -96,91 +95,59 @@ impl LiveMarks {
 
     /// Returns whether no cell of a block has a mark.
     #[inline(always)]
-    pub fn are_block_cells_unmarked(
-        &self,
-        odd: usize,
-        right: usize,
-        down: usize,
-        even: usize,
-    ) -> bool
-        requires { HasRoomForBlockCells self.now odd right down even }
-        ensures { result ≡ true → AreBlockCellsUnmarked self.now odd right down even }
+    pub fn are_block_cells_unmarked(&self, block: BlockPlaces) -> bool
+        requires { HasRoomForBlockCells self.now block }
+        ensures { result ≡ true → AreBlockCellsUnmarked self.now block }
     {
-        !is_marked(&self.odd, odd)
-            && !is_marked(&self.right, right)
-            && !is_marked(&self.down, down)
-            && !is_marked(&self.even, even)
+        !is_marked(&self.odd, block.odd)
+            && !is_marked(&self.right, block.right)
+            && !is_marked(&self.down, block.down)
+            && !is_marked(&self.even, block.even)
     }
 
-    /// Returns whether no cell of a block has a mark but one of its main diagonal.
+    /// Returns whether no cell of a block has a mark but one of a diagonal.
     #[inline(always)]
-    pub fn is_lone_main(&self, odd: usize, right: usize, down: usize, even: usize) -> bool
-        requires { HasRoomForBlockCells self.now odd right down even }
-        ensures { result ≡ true → IsLoneMain self.now odd right down even }
+    pub fn is_lone(&self, diagonal: Diagonal, block: BlockPlaces) -> bool
+        requires { HasRoomForBlockCells self.now block }
+        ensures { result ≡ true → IsLone diagonal self.now block }
     {
-        !is_marked(&self.right, right)
-            && !is_marked(&self.down, down)
-            && !(is_marked(&self.odd, odd) && is_marked(&self.even, even))
-    }
-
-    /// Returns whether no cell of a block has a mark but one of its other diagonal.
-    #[inline(always)]
-    pub fn is_lone_anti(&self, odd: usize, right: usize, down: usize, even: usize) -> bool
-        requires { HasRoomForBlockCells self.now odd right down even }
-        ensures { result ≡ true → IsLoneAnti self.now odd right down even }
-    {
-        !is_marked(&self.odd, odd)
-            && !is_marked(&self.even, even)
-            && !(is_marked(&self.right, right) && is_marked(&self.down, down))
+        match diagonal {
+            Diagonal::Main => {
+                !is_marked(&self.right, block.right)
+                    && !is_marked(&self.down, block.down)
+                    && !(is_marked(&self.odd, block.odd) && is_marked(&self.even, block.even))
+            }
+            Diagonal::Anti => {
+                !is_marked(&self.odd, block.odd)
+                    && !is_marked(&self.even, block.even)
+                    && !(is_marked(&self.right, block.right) && is_marked(&self.down, block.down))
+            }
+        }
     }
 
     /// Marks the cells of a block that are on a diagonal that changes.
-    pub fn mark_cells(
-        &mut self,
-        odd: usize,
-        right: usize,
-        down: usize,
-        even: usize,
-        changes: Changes,
-    )
-        requires { HasRoomForBlockCells self.old odd right down even }
-        ensures odd { MarksCellIf changes.main odd self.old.odd.items self.new.odd.items }
-        ensures right { MarksCellIf changes.anti right self.old.right.items self.new.right.items }
-        ensures down { MarksCellIf changes.anti down self.old.down.items self.new.down.items }
-        ensures even { MarksCellIf changes.main even self.old.even.items self.new.even.items }
+    #[inline(always)]
+    pub fn mark_cells(&mut self, block: BlockPlaces, changes: Changes)
+        requires { HasRoomForBlockCells self.old block }
+        ensures cells { MarksCells changes.main changes.anti block self.old self.new }
         ensures same_room { HasSameRoom self.old self.new }
     {
-        mark_if(&mut self.odd, odd, changes.main);
-        mark_if(&mut self.right, right, changes.anti);
-        mark_if(&mut self.down, down, changes.anti);
-        mark_if(&mut self.even, even, changes.main);
+        mark_if(&mut self.odd, block.odd, changes.main);
+        mark_if(&mut self.right, block.right, changes.anti);
+        mark_if(&mut self.down, block.down, changes.anti);
+        mark_if(&mut self.even, block.even, changes.main);
     }
 
-    /// Exchanges the marks of the cells of a block's main diagonal.
-    pub fn swap_main(&mut self, odd: usize, even: usize)
-        requires { (odd < 64 * vec_len self.old.odd) × (even < 64 * vec_len self.old.even) }
-        ensures odd { TakesMarkOfOther odd even self.old.odd.items self.old.even.items
-            self.new.odd.items }
-        ensures right { self.new.right ≡ self.old.right }
-        ensures down { self.new.down ≡ self.old.down }
-        ensures even { TakesMarkOfOther even odd self.old.even.items self.old.odd.items
-            self.new.even.items }
+    /// Exchanges the marks of the cells of a block's diagonal.
+    #[inline(always)]
+    pub fn swap(&mut self, diagonal: Diagonal, block: BlockPlaces)
+        requires { HasRoomForBlockCells self.old block }
+        ensures swapped { SwapsMarks diagonal block self.old self.new }
         ensures same_room { HasSameRoom self.old self.new }
     {
-        swap_marks(&mut self.odd, &mut self.even, odd, even);
-    }
-
-    /// Exchanges the marks of the cells of a block's other diagonal.
-    pub fn swap_anti(&mut self, right: usize, down: usize)
-        requires { (right < 64 * vec_len self.old.right) × (down < 64 * vec_len self.old.down) }
-        ensures odd { self.new.odd ≡ self.old.odd }
-        ensures right { TakesMarkOfOther right down self.old.right.items self.old.down.items
-            self.new.right.items }
-        ensures down { TakesMarkOfOther down right self.old.down.items self.old.right.items
-            self.new.down.items }
-        ensures even { self.new.even ≡ self.old.even }
-        ensures same_room { HasSameRoom self.old self.new }
-    {
-        swap_marks(&mut self.right, &mut self.down, right, down);
+        match diagonal {
+            Diagonal::Main => swap_marks(&mut self.odd, &mut self.even, block.odd, block.even),
+            Diagonal::Anti => swap_marks(&mut self.right, &mut self.down, block.right, block.down),
+        }
     }
 }

@@ -6,22 +6,24 @@
 //! After a step in which many blocks change, some steps turn whole planes.
 
 ghost use Rattle.local_run.specs.Borders.{AreUnmarkedAwayFromBorder, AreUnmarkedAwayFromBorder-prop, AreSkippableBetween};
-ghost use Rattle.local_run.specs.Calm.{AreUnmarkedOddBlocksStable, AreUnmarkedOddBlocksStable-prop, AreUnmarkedEvenBlocksStable, AreUnmarkedEvenBlocksStable-prop};
+ghost use Rattle.local_run.specs.Calm.{AreUnmarkedBlocksStable, AreUnmarkedBlocksStable-prop, HasRoomForBlockMarks};
+ghost use Rattle.local_run.specs.Blocks.{AreCells};
 ghost use Rattle.local_run.specs.Frozen.{AreFrozenIfFound};
 ghost use Rattle.local_run.specs.Live.{AllUnmarkedDead, AllUnmarkedDead-prop, HasRoomForCellMarks};
 ghost use Rattle.std.specs.Int.{div_ceil};
 ghost use Rattle.std.specs.Prelude.{ℕ, ◌≡◌, ◌+◌, ◌*◌, ◌/◌, ◌%◌, ◌<◌, ◌≤◌, vec_len, IfOk, true, false};
 
+use crate::block_marks::BlockMarks;
+use crate::blocks::{BlockPlaces, Partition};
 use crate::frozen::FrozenBlocks;
 use crate::lines::{CELL_WORDS, LinePlaces, mark_lines, own_mark_number};
 use crate::live::LiveMarks;
 use crate::marked_steps::STEPS_TO_SEARCH;
-use crate::marks::{is_marked, mark_border, mark_even_neighbours, marked_in_first_and_other};
+use crate::marks::{is_marked, mark_border, marked_in_first_and_other};
 use crate::phases::WholePlaneSteps;
 use crate::planes::Planes;
 use crate::values::Values;
 use crate::words::Changes;
-use bbm_rule::marks::mark;
 use module_box::Signal;
 use module_job::Job;
 use std::alloc::{AllocError, Global};
@@ -30,10 +32,8 @@ use std::alloc::{AllocError, Global};
 #[derive(Drop)]
 pub struct MarkedPlanes {
     pub(crate) planes: Planes,
-    // a bit for each block of the odd partition, and for each block of the even partition
-    pub(crate) odd_marks: Vec<u64>,
-    pub(crate) even_marks: Vec<u64>,
-    // and for each cell: those without a mark are dead
+    pub(crate) block_marks: BlockMarks,
+    // a bit for each cell: those without a mark are dead
     pub(crate) live_marks: LiveMarks,
     // whether each cell with a mark is known to be live, so that one that is alone in its block may move unread
     pub(crate) is_exact: bool,
@@ -54,13 +54,11 @@ pub struct MarkedPlanes {
     // often they may be looked for
     pub(crate) until_search: u32,
     pub(crate) searches: u32,
-    ghost odd_room: { planes.stride * planes.rows ≤ 64 * vec_len odd_marks },
-    ghost even_room: { planes.stride * planes.rows ≤ 64 * vec_len even_marks },
+    ghost block_room: { HasRoomForBlockMarks (planes.stride * planes.rows) block_marks },
     ghost live_room: { HasRoomForCellMarks (planes.stride * planes.rows) live_marks },
     ghost border_room: { planes.stride * planes.rows ≤ 64 * vec_len border_marks },
     ghost line_long: { vec_len line_marks ≡ div_ceil (planes.stride * planes.rows) 64 + 72 },
-    ghost odd_calm: { AreUnmarkedOddBlocksStable odd_marks.items planes } by { AreUnmarkedOddBlocksStable-prop odd_marks.items planes },
-    ghost even_calm: { AreUnmarkedEvenBlocksStable even_marks.items planes } by { AreUnmarkedEvenBlocksStable-prop even_marks.items planes },
+    ghost calm: { AreUnmarkedBlocksStable block_marks planes } by { AreUnmarkedBlocksStable-prop block_marks planes },
     ghost all_dead: { AllUnmarkedDead live_marks planes } by { AllUnmarkedDead-prop live_marks planes },
     ghost freezes: { AreFrozenIfFound frozen planes },
     ghost all_inner: { AreUnmarkedAwayFromBorder planes.stride planes.rows border_marks.items } by { AreUnmarkedAwayFromBorder-prop planes.stride planes.rows border_marks.items },
@@ -82,16 +80,14 @@ impl MarkedPlanes {
         ensures { IfOk result (λ f. f.planes ≡ planes) }
     {
         let long = planes.cells().div_ceil(64);
-        let odd_marks = vec![in alloc; 0u64; long]?;
-        let even_marks = vec![in alloc; 0u64; long]?;
+        let block_marks = BlockMarks::new(alloc, long)?;
         let live_marks = LiveMarks::new(alloc, long)?;
         let mut border_marks = vec![in alloc; 0u64; long]?;
         let line_marks = vec![in alloc; 0u64; long + CELL_WORDS]?;
         mark_border(&mut border_marks, planes.stride(), planes.rows());
         Ok(MarkedPlanes {
             planes,
-            odd_marks,
-            even_marks,
+            block_marks,
             live_marks,
             is_exact: true,
             busy: 0,
@@ -212,16 +208,12 @@ impl MarkedPlanes {
     }
 
     /// Takes the marks off the cells of a block that are dead.
-    pub(crate) fn unmark_dead_cells(&mut self, odd: usize, right: usize, down: usize, even: usize)
-        requires main { (odd < self.old.planes.stride * self.old.planes.rows)
-            × (even < self.old.planes.stride * self.old.planes.rows) }
-        requires anti { (right < self.old.planes.stride * self.old.planes.rows)
-            × (down < self.old.planes.stride * self.old.planes.rows) }
+    pub(crate) fn unmark_dead_cells(&mut self, block: BlockPlaces)
+        requires { AreCells block self.old.planes }
         ensures planes { self.new.planes ≡ self.old.planes }
         ensures lines { self.new.line_marks ≡ self.old.line_marks }
     {
-        self.planes
-            .unmark_dead_cells(&mut self.live_marks, odd, right, down, even);
+        self.planes.unmark_dead_cells(&mut self.live_marks, block);
     }
 
     // Takes the marks off all cells that are dead.
@@ -229,7 +221,8 @@ impl MarkedPlanes {
         ensures planes { self.new.planes ≡ self.old.planes }
     {
         for u in 0..self.planes.cells() {
-            self.unmark_dead_cells(u, u, u, u);
+            let block = self.planes.block(Partition::Odd, u);
+            self.unmark_dead_cells(block);
         }
         self.is_exact = true;
     }
@@ -246,14 +239,14 @@ impl MarkedPlanes {
         ensures put { PutsCell values.now x y signal self.old.planes self.new.planes }
         ensures lines { self.new.line_marks ≡ self.old.line_marks }
     {
-        let stride = self.planes.stride();
-        let u = stride * (y / 2) + x / 2;
-        mark(&mut self.odd_marks, u);
+        let u = self.planes.number(x, y);
+        let block = self.planes.block(Partition::Odd, u);
         let changes = Changes::of_cell(x, y);
-        self.live_marks.mark_cells(u, u, u, u, changes);
-        mark_even_neighbours(&mut self.even_marks, u, stride, changes);
+        self.block_marks
+            .mark_changes(Partition::Odd, u, self.planes.stride(), changes);
+        self.live_marks.mark_cells(block, changes);
         self.frozen.give_up_if_frozen(u);
         values.put(&mut self.planes, x, y, signal);
-        self.unmark_dead_cells(u, u, u, u);
+        self.unmark_dead_cells(block);
     }
 }

@@ -1,9 +1,8 @@
 //! The steps of the planes, by marks or of whole planes.
 
-ghost use Rattle.bbm_rule.specs.Plane.{turned};
-ghost use Rattle.bbm_rule.specs.Rows.{mate};
 ghost use Rattle.std.specs.Prelude.{ℕ, ◌≡◌, ◌+◌, ◌*◌, ◌/◌, ◌%◌, ◌<◌, ◌≤◌, true, false};
 
+use crate::blocks::Partition;
 use crate::marked_planes::MarkedPlanes;
 use crate::marks::take_first;
 use crate::phases::{WholePlaneSteps, is_turning_all_cheaper};
@@ -17,8 +16,9 @@ pub(crate) const STEPS_TO_SEARCH: u32 = 128;
 const ALWAYS_FEW: usize = 4;
 
 impl MarkedPlanes {
-    ghost use Rattle.local_run.specs.Sweeps.{IsInRangeNotInWord, IsInRangeNotInWordNorRowEnd, TurnsEvenBlocksBetween, TurnsEvenBlocksWhere, TurnsOddBlocksBetween, TurnsOddBlocksWhere};
-    ghost use Rattle.local_run.specs.Lanes.{HasWordsStrideRows, AreSameInBox, lane};
+    ghost use Rattle.local_run.specs.Blocks.{block_count};
+    ghost use Rattle.local_run.specs.Sweeps.{IsPassed, TurnsBlocksBetween, TurnsBlocksWhere};
+    ghost use Rattle.local_run.specs.Lanes.{HasWordsStrideRows, AreSameInBox, TurnsCells};
 
     // Looks whether the next steps are to turn whole planes, after a step by marks in which `changed` blocks changed.
     // Where few did, they are not, even if most blocks are frozen.
@@ -79,74 +79,41 @@ impl MarkedPlanes {
         self.frozen.find(&self.planes);
     }
 
-    // Returns a word of marks on the blocks of the odd partition that may change.
+    // Returns a word of marks on the blocks of a partition that may change.
     #[inline(always)]
-    fn odd_blocks_to_turn(&self, k: usize) -> u64
-        requires { 64 * k < self.now.planes.stride * self.now.planes.rows }
-        ensures calm { (end : ℕ) → end ≤ 64 * k + 64 →
-            end ≤ self.now.planes.stride * self.now.planes.rows →
-            TurnsOddBlocksWhere (IsInRangeNotInWord (64 * k) end result) self.now.planes
+    fn blocks_to_turn(&self, partition: Partition, k: usize) -> u64
+        requires { 64 * k < block_count partition self.now.planes }
+        ensures calm { (end : ℕ) → end ≤ 64 * k + 64 → end ≤ block_count partition self.now.planes →
+            TurnsBlocksWhere partition
+            (IsPassed partition self.now.planes.stride (64 * k) end result) self.now.planes
             self.now.planes }
     {
-        self.odd_marks[k] & self.live_marks.word(k)
+        let word = self.block_marks.of(partition)[k];
+        match partition {
+            Partition::Odd => word & self.live_marks.word(k),
+            Partition::Even => word,
+        }
     }
 
-    // Turns the blocks of the odd partition from `first` on to below `end` that have a mark in a word, where the others
-    // stay, and returns how many it turned.
+    // Turns the blocks of a partition from `first` on to below `end` that have a mark in a word, where the others stay,
+    // and returns how many it turned.
     //
     // The word was read before: the turn of a block changes marks of its partition and live marks at its own number
     // alone.
-    fn turn_marked_odd_blocks(&mut self, word: u64, first: usize, end: usize) -> usize
-        requires word { (first % 64 ≡ 0) × (first < end) × (end ≤ first + 64) }
-        requires within { end ≤ self.old.planes.stride * self.old.planes.rows }
-        requires calm { TurnsOddBlocksWhere (IsInRangeNotInWord first end word) self.old.planes
-            self.old.planes }
-        ensures turned { TurnsOddBlocksBetween first end self.old.planes self.new.planes }
-        ensures size { HasWordsStrideRows self.old.planes.words self.old.planes.stride
-            self.old.planes.rows self.new.planes }
-        ensures stays { result ≡ 0 → self.new.planes ≡ self.old.planes }
-        ensures count { first + result ≤ end }
-    {
-        let mut rest = word;
-        let mut changed = 0;
-        'marked: while rest != 0 {
-            let (place, others) = take_first(rest);
-            let u = first + place;
-            if u >= end {
-                return changed;
-            }
-            rest = others;
-            if self.turn_odd_block(u) {
-                changed += 1;
-            }
-        }
-        changed
-    }
-
-    // Returns a word of marks on the blocks of the even partition that may change.
     #[inline(always)]
-    fn even_blocks_to_turn(&self, k: usize) -> u64
-        requires { 64 * k + self.now.planes.stride + 1 < self.now.planes.stride
-            * self.now.planes.rows }
-        ensures calm { (end : ℕ) → end ≤ 64 * k + 64 →
-            end + self.now.planes.stride + 1 ≤ self.now.planes.stride * self.now.planes.rows →
-            TurnsEvenBlocksWhere
-            (IsInRangeNotInWordNorRowEnd self.now.planes.stride (64 * k) end result) self.now.planes
-            self.now.planes }
-    {
-        self.even_marks[k]
-    }
-
-    // Turns the blocks of the even partition from `first` on to below `end` that have a mark in a word, where the
-    // others stay, and returns how many it turned.
-    fn turn_marked_even_blocks(&mut self, word: u64, first: usize, end: usize) -> usize
+    fn turn_marked_blocks(
+        &mut self,
+        partition: Partition,
+        word: u64,
+        first: usize,
+        end: usize,
+    ) -> usize
         requires word { (first % 64 ≡ 0) × (first < end) × (end ≤ first + 64) }
-        requires within { end + self.old.planes.stride + 1 ≤ self.old.planes.stride
-            * self.old.planes.rows }
-        requires calm { TurnsEvenBlocksWhere
-            (IsInRangeNotInWordNorRowEnd self.old.planes.stride first end word) self.old.planes
+        requires within { end ≤ block_count partition self.old.planes }
+        requires calm { TurnsBlocksWhere partition
+            (IsPassed partition self.old.planes.stride first end word) self.old.planes
             self.old.planes }
-        ensures turned { TurnsEvenBlocksBetween first end self.old.planes self.new.planes }
+        ensures turned { TurnsBlocksBetween partition first end self.old.planes self.new.planes }
         ensures size { HasWordsStrideRows self.old.planes.words self.old.planes.stride
             self.old.planes.rows self.new.planes }
         ensures stays { result ≡ 0 → self.new.planes ≡ self.old.planes }
@@ -161,44 +128,62 @@ impl MarkedPlanes {
                 return changed;
             }
             rest = others;
-            if self.turn_even_block(u) {
+            if self.turn_block(partition, u) {
                 changed += 1;
             }
         }
         changed
+    }
+
+    // Turns the blocks of a partition that have marks, and returns how many it turned.
+    #[inline(always)]
+    fn step_by_marks(&mut self, partition: Partition) -> usize
+        ensures turned { TurnsCells partition self.old.planes self.new.planes }
+        ensures size { HasWordsStrideRows self.old.planes.words self.old.planes.stride
+            self.old.planes.rows self.new.planes }
+        ensures stays { result ≡ 0 → self.new.planes ≡ self.old.planes }
+        ensures at_most_4096 { result ≤ 4096 }
+    {
+        let blocks = self.planes.block_count(partition);
+        let mut changed = 0;
+        'words: for k in 0..blocks.div_ceil(64) {
+            let word = self.blocks_to_turn(partition, k);
+            if word == 0 {
+                continue;
+            }
+            let end = (64 * k + 64).min(blocks);
+            changed += self.turn_marked_blocks(partition, word, 64 * k, end);
+        }
+        changed
+    }
+
+    // Turns whole planes, but for the frozen blocks.
+    fn step_of_whole_planes(&mut self, partition: Partition)
+        ensures turned { TurnsCells partition self.old.planes self.new.planes }
+        ensures size { HasWordsStrideRows self.old.planes.words self.old.planes.stride
+            self.old.planes.rows self.new.planes }
+    {
+        self.whole_plane_steps.left = self.whole_plane_steps.left.saturating_sub(1);
+        self.is_exact = false;
+        self.frozen.step(partition, &mut self.planes);
+        self.frozen
+            .mark_active_blocks(&self.planes, &mut self.block_marks);
+        self.frozen.mark_live(&self.planes, &mut self.live_marks);
     }
 
     /// Turns the blocks whose upper left corner is odd, which fill box and halo. Returns whether a block may have
     /// changed.
     pub fn odd_step(&mut self) -> bool
-        ensures turned { (a x y : ℕ) → a < 64 * self.old.planes.words →
-            x < 2 * self.old.planes.stride → y < 2 * self.old.planes.rows →
-            lane self.new.planes a x y
-            ≡ turned (lane self.old.planes a x y) (lane self.old.planes a (mate x) (mate y))
-            (lane self.old.planes a (mate x) y) (lane self.old.planes a x (mate y)) }
+        ensures turned { TurnsCells Partition.Odd self.old.planes self.new.planes }
         ensures size { HasWordsStrideRows self.old.planes.words self.old.planes.stride
             self.old.planes.rows self.new.planes }
         ensures stays { result ≡ false → self.new.planes ≡ self.old.planes }
     {
         if self.whole_plane_steps.left > 0 {
-            self.whole_plane_steps.left -= 1;
-            self.is_exact = false;
-            self.frozen.odd_step(&mut self.planes);
-            self.frozen
-                .mark_active_blocks(&self.planes, &mut self.odd_marks, &mut self.even_marks);
-            self.frozen.mark_live(&self.planes, &mut self.live_marks);
+            self.step_of_whole_planes(Partition::Odd);
             return true;
         }
-        let cells = self.planes.cells();
-        let mut changed = 0;
-        'words: for k in 0..cells.div_ceil(64) {
-            let word = self.odd_blocks_to_turn(k);
-            if word == 0 {
-                continue;
-            }
-            let end = (64 * k + 64).min(cells);
-            changed += self.turn_marked_odd_blocks(word, 64 * k, end);
-        }
+        let changed = self.step_by_marks(Partition::Odd);
         // Where nothing was known all blocks had marks, and these fill box and halo.
         self.is_exact = self.busy == 0;
         self.plan_next_steps(changed);
@@ -209,36 +194,16 @@ impl MarkedPlanes {
     ///
     /// It does not read the cells of the halo.
     pub fn even_step(&mut self) -> bool
-        ensures turned { (a x y : ℕ) → a < 64 * self.old.planes.words →
-            x + 2 < 2 * self.old.planes.stride → y + 2 < 2 * self.old.planes.rows →
-            lane self.new.planes a (1 + x) (1 + y)
-            ≡ turned (lane self.old.planes a (1 + x) (1 + y))
-            (lane self.old.planes a (1 + mate x) (1 + mate y))
-            (lane self.old.planes a (1 + mate x) (1 + y))
-            (lane self.old.planes a (1 + x) (1 + mate y)) }
+        ensures turned { TurnsCells Partition.Even self.old.planes self.new.planes }
         ensures size { HasWordsStrideRows self.old.planes.words self.old.planes.stride
             self.old.planes.rows self.new.planes }
         ensures stays { result ≡ false → AreSameInBox self.old.planes self.new.planes }
     {
         if self.whole_plane_steps.left > 0 {
-            self.whole_plane_steps.left -= 1;
-            self.is_exact = false;
-            self.frozen.even_step(&mut self.planes);
-            self.frozen
-                .mark_active_blocks(&self.planes, &mut self.odd_marks, &mut self.even_marks);
-            self.frozen.mark_live(&self.planes, &mut self.live_marks);
+            self.step_of_whole_planes(Partition::Even);
             return true;
         }
-        let cells = self.planes.cells() - self.planes.stride() - 1;
-        let mut changed = 0;
-        'words: for k in 0..cells.div_ceil(64) {
-            let word = self.even_blocks_to_turn(k);
-            if word == 0 {
-                continue;
-            }
-            let end = (64 * k + 64).min(cells);
-            changed += self.turn_marked_even_blocks(word, 64 * k, end);
-        }
+        let changed = self.step_by_marks(Partition::Even);
         self.plan_next_steps(changed);
         changed > 0
     }

@@ -4,11 +4,13 @@ ghost use Rattle.bbm_rule.specs.Bits.{bit};
 ghost use Rattle.bbm_rule.specs.Marks.{IsUnmarked};
 ghost use Rattle.bbm_rule.specs.Rows.{cell_at};
 ghost use Rattle.local_run.specs.Borders.{AreUnmarkedAwayFromBorder};
-ghost use Rattle.local_run.specs.Live.{AreBlockCellsUnmarked, UnmarksIfDead, HasRoomForCellMarks, HasRoomForBlockCells, IsDeadCell, MarksCellIf, TakesMarkOfOther};
-ghost use Rattle.local_run.specs.Turns.{MarksEvenNeighbours, MarksOddNeighbours};
+ghost use Rattle.local_run.specs.Live.{AreNumberCellsUnmarked, UnmarksIfDead, HasRoomForCellMarks, IsDeadCell, MarksCellIf, TakesMarkOfOther};
+ghost use Rattle.local_run.specs.Blocks.{block_at};
+ghost use Rattle.local_run.specs.Calm.{MarksSharing};
 ghost use Rattle.std.specs.Int.{trailing_zeros, w64};
-ghost use Rattle.std.specs.Prelude.{ℕ, ◌≡◌, ◌≢◌, ◌+◌, ◌*◌, ◌/◌, ◌%◌, ◌^◌, ◌<◌, ◌≤◌, ◌⊎◌, ◌&&◌, length, not, true, false};
+ghost use Rattle.std.specs.Prelude.{ℕ, ◌≡◌, ◌≢◌, ◌+◌, ◌*◌, ◌/◌, ◌%◌, ◌^◌, ◌<◌, ◌≤◌, ◌⊎◌, ◌&&◌, length, vec_len, not, true, false};
 
+use crate::blocks::Partition;
 use crate::live::LiveMarks;
 use crate::words::Changes;
 use bbm_rule::marks::{mark, mark_number_before, next_marked, unmark};
@@ -31,6 +33,14 @@ pub fn mark_if(marks: &mut [u64], at: usize, changes: bool)
     if changes {
         mark(marks, at);
     }
+}
+
+/// Fills marks with as many copies of a word, and returns whether there was memory for it.
+pub fn fill(marks: &mut Vec<u64>, long: usize, word: u64) -> bool
+    ensures { result ≡ true → vec_len marks.new ≡ long }
+{
+    marks.clear();
+    marks.resize(long, word).is_ok()
 }
 
 /// Marks the numbers that have no mark in one of two other lists, as far as both lists reach, and unmarks the others.
@@ -102,7 +112,8 @@ pub fn unmark_if_dead(marks: &mut [u64], at: usize, cells: &[u64], words: usize)
 /// Marks the blocks of the even partition that share a cell of a changed diagonal with block `at` of the odd partition.
 pub fn mark_even_neighbours(marks: &mut [u64], at: usize, stride: usize, changes: Changes)
     requires { (at / 64 < length marks.old) × (stride ≤ 64) }
-    ensures { MarksEvenNeighbours changes.main changes.anti stride at marks.old marks.new }
+    ensures { MarksSharing Partition.Even changes.main changes.anti stride
+        (block_at Partition.Odd stride at) marks.old marks.new }
 {
     if changes.main {
         mark(marks, at);
@@ -117,7 +128,8 @@ pub fn mark_even_neighbours(marks: &mut [u64], at: usize, stride: usize, changes
 /// Marks the blocks of the odd partition that share a cell of a changed diagonal with block `at` of the even partition.
 pub fn mark_odd_neighbours(marks: &mut [u64], at: usize, stride: usize, changes: Changes)
     requires { ((at + stride + 1) / 64 < length marks.old) × (at + stride + 1 < 2 ^ 32) }
-    ensures { MarksOddNeighbours changes.main changes.anti stride at marks.old marks.new }
+    ensures { MarksSharing Partition.Odd changes.main changes.anti stride
+        (block_at Partition.Even stride at) marks.old marks.new }
 {
     if changes.main {
         mark(marks, at);
@@ -149,11 +161,11 @@ pub fn mark_border(marks: &mut [u64], stride: usize, rows: usize)
 /// of live cells.
 #[inline(always)]
 pub fn marked_in_first_and_other(first: &[u64], live: &LiveMarks, others: &[u64], k: usize) -> u64
-    requires live { HasRoomForBlockCells live.now (64 * k) (64 * k) (64 * k) (64 * k) }
+    requires live { HasRoomForCellMarks (64 * k + 1) live.now }
     requires room { (k < length first.now) × (k < length others.now) }
     ensures { (u : ℕ) → u / 64 ≡ k → bit result (u % 64) ≡ false →
         IsUnmarked first.now u
-        ⊎ (AreBlockCellsUnmarked live.now u u u u × IsUnmarked others.now u) }
+        ⊎ (AreNumberCellsUnmarked live.now u × IsUnmarked others.now u) }
 {
     first[k] & (live.word(k) | others[k])
 }

@@ -3,12 +3,10 @@
 //! They lie in four planes by the parities of their coordinates, so that a block of either partition has one cell in
 //! each plane, and each step turns whole planes.
 
-ghost use Rattle.bbm_rule.specs.Plane.{turned};
-ghost use Rattle.bbm_rule.specs.Rows.{mate};
 ghost use Rattle.local_run.specs.Across.{TurnsAcross};
-ghost use Rattle.local_run.specs.Turns.{is_on_main_diagonal};
-ghost use Rattle.std.specs.Prelude.{ℕ, ◌≡◌, ◌+◌, ◌-◌, ◌*◌, ◌/◌, ◌%◌, ◌<◌, ◌≤◌, ◌↔◌, length, slice_index, vec_len, IfOk, false, not};
+ghost use Rattle.std.specs.Prelude.{ℕ, ◌≡◌, ◌+◌, ◌-◌, ◌*◌, ◌/◌, ◌%◌, ◌<◌, ◌≤◌, ◌↔◌, length, slice_index, vec_len, IfOk, true, false, not};
 
+use crate::blocks::{BlockPlaces, Partition};
 use crate::words::{are_words_different, has_word_other_than};
 use bbm_rule::turn_lanes;
 use std::alloc::{AllocError, Global};
@@ -39,7 +37,7 @@ pub struct Planes {
 
 impl Planes {
     ghost use Rattle.local_run.specs.Calm.{AreAllCellsDead};
-    ghost use Rattle.local_run.specs.Lanes.{HasWordsStrideRows, lane};
+    ghost use Rattle.local_run.specs.Lanes.{HasWordsStrideRows, TurnsCells};
 
     /// Creates planes of dead cells, for a box of `width` by `height` cells.
     pub fn new(
@@ -71,10 +69,7 @@ impl Planes {
 
     /// Turns the blocks whose upper left corner is odd, which fill box and halo.
     pub fn odd_step(&mut self)
-        ensures turned { (a x y : ℕ) → a < 64 * self.old.words → x < 2 * self.old.stride →
-            y < 2 * self.old.rows →
-            lane self.new a x y ≡ turned (lane self.old a x y) (lane self.old a (mate x) (mate y))
-            (lane self.old a (mate x) y) (lane self.old a x (mate y)) }
+        ensures turned { TurnsCells Partition.Odd self.old self.new }
         ensures size { HasWordsStrideRows self.old.words self.old.stride self.old.rows self.new }
     {
         turn_lanes(
@@ -87,11 +82,7 @@ impl Planes {
 
     /// Turns the blocks of the box whose upper left corner is even. It does not read the cells of the halo.
     pub fn even_step(&mut self)
-        ensures turned { (a x y : ℕ) → a < 64 * self.old.words → x + 2 < 2 * self.old.stride →
-            y + 2 < 2 * self.old.rows →
-            lane self.new a (1 + x) (1 + y)
-            ≡ turned (lane self.old a (1 + x) (1 + y)) (lane self.old a (1 + mate x) (1 + mate y))
-            (lane self.old a (1 + mate x) (1 + y)) (lane self.old a (1 + x) (1 + mate y)) }
+        ensures turned { TurnsCells Partition.Even self.old self.new }
         ensures size { HasWordsStrideRows self.old.words self.old.stride self.old.rows self.new }
     {
         turn_blocks_at_offsets(
@@ -131,6 +122,7 @@ fn turn_blocks_at_offsets(
 }
 
 impl Planes {
+    ghost use Rattle.local_run.specs.Blocks.{AreCells, IsNotRowEnd, block_at, block_count};
     ghost use Rattle.local_run.specs.Live.{AreWordsZeroAt};
 
     /// Returns how many cells a plane has. A block of the odd partition has the number of its cells, counted row by
@@ -141,6 +133,42 @@ impl Planes {
             × (self.now.stride + self.now.stride ≤ result) }
     {
         self.stride * self.rows
+    }
+
+    /// Returns how many numbers the blocks of a partition have.
+    #[inline(always)]
+    pub fn block_count(&self, partition: Partition) -> usize
+        ensures count_is_exact { result ≡ block_count partition self.now }
+        ensures at_most_4096 { (result ≤ 4096) × (result ≤ self.now.stride * self.now.rows) }
+    {
+        match partition {
+            Partition::Odd => self.cells(),
+            Partition::Even => self.cells() - self.stride - 1,
+        }
+    }
+
+    /// Returns whether block u of a partition is the last of its row, and not in the box.
+    #[inline(always)]
+    pub fn is_row_end(&self, partition: Partition, u: usize) -> bool
+        requires { u < self.now.stride * self.now.rows }
+        ensures last { result ≡ true → IsNotRowEnd partition self.now.stride u → ⊥ }
+        ensures other { result ≡ false → IsNotRowEnd partition self.now.stride u }
+    {
+        match partition {
+            Partition::Odd => false,
+            Partition::Even => (u + 1) % self.stride == 0,
+        }
+    }
+
+    /// Returns the cells of block u of a partition.
+    #[inline(always)]
+    pub fn block(&self, partition: Partition, u: usize) -> BlockPlaces
+        requires { u < block_count partition self.now }
+        ensures block { result ≡ block_at partition self.now.stride u }
+        ensures cells { AreCells result self.now }
+        ensures below_4096 { result.odd < 4096 }
+    {
+        partition.block(u, self.stride)
     }
 
     /// Returns how many words a cell has.
@@ -205,7 +233,9 @@ impl Planes {
 
 impl Planes {
     ghost use Rattle.bbm_rule.specs.Bits.{bit};
+    ghost use Rattle.local_run.specs.Blocks.{block_at};
     ghost use Rattle.local_run.specs.Calm.{ChangesCells};
+    ghost use Rattle.local_run.specs.Turns.{is_on_main_diagonal};
     ghost use Rattle.local_run.specs.Lanes.{HasWordsStrideRows, lane, SetsWord};
 
     /// Returns word k of a cell, counted from the halo.
@@ -274,8 +304,9 @@ impl Planes {
     pub fn set_word(&mut self, x: usize, y: usize, k: usize, word: u64)
         requires { (x / 2 < self.old.stride) × (y / 2 < self.old.rows) × (k < self.old.words) }
         ensures set { SetsWord x y k word self.old self.new }
-        ensures cells { let u = self.old.stride * (y / 2) + x / 2 in ChangesCells
-            (is_on_main_diagonal x y) (not (is_on_main_diagonal x y)) u u u u self.old self.new }
+        ensures cells { ChangesCells (is_on_main_diagonal x y) (not (is_on_main_diagonal x y))
+            (block_at Partition.Odd self.old.stride (self.old.stride * (y / 2) + x / 2)) self.old
+            self.new }
         ensures size { HasWordsStrideRows self.old.words self.old.stride self.old.rows self.new }
     {
         let at = self.words * (self.stride * (y / 2) + x / 2) + k;

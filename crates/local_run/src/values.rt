@@ -3,7 +3,9 @@ ghost use Rattle.std.specs.Prelude.{ℕ, ◌≡◌, ◌≢◌, ◌+◌, ◌*◌,
 ghost use Rattle.bbm_rule.specs.Bits.{bit};
 ghost use Rattle.module_job.specs.Jobs.{IsJob};
 ghost use Rattle.module_job.specs.Signals.{is_live};
+ghost use Rattle.local_run.specs.Blocks.{block_at};
 ghost use Rattle.local_run.specs.Calm.{ChangesCells};
+ghost use Rattle.local_run.specs.declared.blocks.Partition.TheVariants.{Odd};
 ghost use Rattle.local_run.specs.Turns.{is_on_main_diagonal};
 ghost use Rattle.local_run.specs.Lanes.{lane};
 ghost use Rattle.local_run.specs.Scans.{HasValueRow, IsLeastBelow, IsReady, IsCellAsSignalUnderWords, KeepsDefinedValues, PutsCell, is_defined_under, valuation};
@@ -232,9 +234,9 @@ impl Values {
         requires words { (self.now.words ≡ planes.old.words) × (self.now.words ≤ 64) }
         requires row { HasValueRow self.now signal }
         ensures put { PutsCell self.now x y signal planes.old planes.new }
-        ensures cells { let u = planes.old.stride * (y / 2) + x / 2 in ChangesCells
-            (is_on_main_diagonal x y) (not (is_on_main_diagonal x y)) u u u u planes.old
-            planes.new }
+        ensures cells { ChangesCells (is_on_main_diagonal x y) (not (is_on_main_diagonal x y))
+            (block_at Odd planes.old.stride (planes.old.stride * (y / 2) + x / 2))
+            planes.old planes.new }
     {
         for k in 0..self.words {
             planes.set_word(x, y, k, self.word(signal, k));

@@ -1,43 +1,36 @@
 //! Blocks of words: what a turn changes of them.
 
 ghost use Rattle.bbm_rule.specs.Words.{AreTurned};
+ghost use Rattle.local_run.specs.Blocks.{is_main};
 ghost use Rattle.local_run.specs.Turns.{DiagonalStays, SwapsPart, TurnsPart, is_on_main_diagonal};
 ghost use Rattle.std.specs.Prelude.{ℕ, ◌≡◌, ◌+◌, ◌-◌, ◌/◌, ◌%◌, ◌^◌, ◌<◌, ◌≤◌, ◌⊎◌, length, bit_xor, slice_index, false, true, not};
 
+use crate::blocks::{BlockPlaces, Diagonal};
 use bbm_rule::turn_lanes;
 
-/// The place of each corner of a block in the slice that it lies in.
-#[derive(Clone, Copy)]
-pub(crate) struct Places {
-    pub(crate) upper_left: usize,
-    pub(crate) upper_right: usize,
-    pub(crate) lower_left: usize,
-    pub(crate) lower_right: usize,
-}
-
-/// Turns blocks whose corners begin at a place of their own in each slice.
+/// Turns blocks whose cells have their words from a place of their own on in each plane.
 #[inline(always)]
 pub(crate) fn turn_part(
-    upper_left: &mut [u64],
-    upper_right: &mut [u64],
-    lower_left: &mut [u64],
-    lower_right: &mut [u64],
-    at: Places,
+    odd: &mut [u64],
+    right: &mut [u64],
+    down: &mut [u64],
+    even: &mut [u64],
+    at: BlockPlaces,
     long: usize,
 )
-    requires upper { (at.upper_left + long ≤ length upper_left.old)
-        × (at.upper_right + long ≤ length upper_right.old) }
-    requires lower { (at.lower_left + long ≤ length lower_left.old)
-        × (at.lower_right + long ≤ length lower_right.old) }
-    ensures { TurnsPart at.upper_left at.upper_right at.lower_left at.lower_right long
-        upper_left.old upper_right.old lower_left.old lower_right.old upper_left.new upper_right.new
-        lower_left.new lower_right.new }
+    requires first { (at.odd + long ≤ length odd.old)
+        × (at.right + long ≤ length right.old) }
+    requires last { (at.down + long ≤ length down.old)
+        × (at.even + long ≤ length even.old) }
+    ensures { TurnsPart at.odd at.right at.down at.even long
+        odd.old right.old down.old even.old odd.new right.new
+        down.new even.new }
 {
     turn_lanes(
-        &mut upper_left[at.upper_left..at.upper_left + long],
-        &mut upper_right[at.upper_right..at.upper_right + long],
-        &mut lower_left[at.lower_left..at.lower_left + long],
-        &mut lower_right[at.lower_right..at.lower_right + long],
+        &mut odd[at.odd..at.odd + long],
+        &mut right[at.right..at.right + long],
+        &mut down[at.down..at.down + long],
+        &mut even[at.even..at.even + long],
     );
 }
 
@@ -147,17 +140,15 @@ pub struct Changes {
 }
 
 impl Changes {
-    /// The turn that changes the main diagonal alone.
-    pub const MAIN: Changes = Changes {
-        main: true,
-        anti: false,
-    };
-
-    /// The turn that changes the other diagonal alone.
-    pub const ANTI: Changes = Changes {
-        main: false,
-        anti: true,
-    };
+    /// Returns the change of one diagonal alone.
+    #[inline(always)]
+    pub fn of(diagonal: Diagonal) -> Changes
+        ensures main { result.main ≡ is_main diagonal }
+        ensures anti { result.anti ≡ not (is_main diagonal) }
+    {
+        let main = matches!(diagonal, Diagonal::Main);
+        Changes { main, anti: !main }
+    }
 
     /// Returns the change of the diagonal alone that a cell, counted from the halo, is on in its block of the odd
     /// partition.
@@ -179,33 +170,28 @@ impl Changes {
     }
 }
 
-/// Turns the blocks of one word in each slice.
+/// Turns the blocks of one word in each plane.
 #[inline(always)]
 pub(crate) fn turn_word(
-    upper_left: &mut [u64],
-    upper_right: &mut [u64],
-    lower_left: &mut [u64],
-    lower_right: &mut [u64],
-    at: Places,
+    odd: &mut [u64],
+    right: &mut [u64],
+    down: &mut [u64],
+    even: &mut [u64],
+    at: BlockPlaces,
 )
-    requires upper { (at.upper_left < length upper_left.old)
-        × (at.upper_right < length upper_right.old) }
-    requires lower { (at.lower_left < length lower_left.old)
-        × (at.lower_right < length lower_right.old) }
-    ensures { TurnsPart at.upper_left at.upper_right at.lower_left at.lower_right 1 upper_left.old
-        upper_right.old lower_left.old lower_right.old upper_left.new upper_right.new lower_left.new
-        lower_right.new }
+    requires first { (at.odd < length odd.old)
+        × (at.right < length right.old) }
+    requires last { (at.down < length down.old)
+        × (at.even < length even.old) }
+    ensures { TurnsPart at.odd at.right at.down at.even 1 odd.old
+        right.old down.old even.old odd.new right.new down.new
+        even.new }
 {
-    let (main, anti) = flips_of(
-        upper_left[at.upper_left],
-        upper_right[at.upper_right],
-        lower_left[at.lower_left],
-        lower_right[at.lower_right],
-    );
-    upper_left[at.upper_left] ^= main;
-    upper_right[at.upper_right] ^= anti;
-    lower_left[at.lower_left] ^= anti;
-    lower_right[at.lower_right] ^= main;
+    let (main, anti) = flips_of(odd[at.odd], right[at.right], down[at.down], even[at.even]);
+    odd[at.odd] ^= main;
+    right[at.right] ^= anti;
+    down[at.down] ^= anti;
+    even[at.even] ^= main;
 }
 
 /// Returns which diagonals a turn of the blocks of one word changes under some assignment.
@@ -231,37 +217,37 @@ pub(crate) fn word_changes(
 /// Returns which diagonals a turn changes under some assignment.
 #[inline(always)]
 pub(crate) fn part_changes(
-    upper_left: &[u64],
-    upper_right: &[u64],
-    lower_left: &[u64],
-    lower_right: &[u64],
-    at: Places,
+    odd: &[u64],
+    right: &[u64],
+    down: &[u64],
+    even: &[u64],
+    at: BlockPlaces,
     long: usize,
 ) -> Changes
-    requires upper { (at.upper_left + long ≤ length upper_left.now)
-        × (at.upper_right + long ≤ length upper_right.now) }
-    requires lower { (at.lower_left + long ≤ length lower_left.now)
-        × (at.lower_right + long ≤ length lower_right.now) }
+    requires first { (at.odd + long ≤ length odd.now)
+        × (at.right + long ≤ length right.now) }
+    requires last { (at.down + long ≤ length down.now)
+        × (at.even + long ≤ length even.now) }
     ensures main { result.main ≡ false → (k : ℕ) → k < long →
-        DiagonalStays (slice_index upper_left.now (at.upper_left + k))
-        (slice_index lower_right.now (at.lower_right + k))
-        (slice_index upper_right.now (at.upper_right + k))
-        (slice_index lower_left.now (at.lower_left + k)) }
+        DiagonalStays (slice_index odd.now (at.odd + k))
+        (slice_index even.now (at.even + k))
+        (slice_index right.now (at.right + k))
+        (slice_index down.now (at.down + k)) }
     ensures anti { result.anti ≡ false → (k : ℕ) → k < long →
-        DiagonalStays (slice_index upper_right.now (at.upper_right + k))
-        (slice_index lower_left.now (at.lower_left + k))
-        (slice_index upper_left.now (at.upper_left + k))
-        (slice_index lower_right.now (at.lower_right + k)) }
+        DiagonalStays (slice_index right.now (at.right + k))
+        (slice_index down.now (at.down + k))
+        (slice_index odd.now (at.odd + k))
+        (slice_index even.now (at.even + k)) }
 {
     let mut main = 0;
     let mut anti = 0;
     // Over all words, so that some are taken at once.
     for k in 0..long {
         let (main_flips, anti_flips) = flips_of(
-            upper_left[at.upper_left + k],
-            upper_right[at.upper_right + k],
-            lower_left[at.lower_left + k],
-            lower_right[at.lower_right + k],
+            odd[at.odd + k],
+            right[at.right + k],
+            down[at.down + k],
+            even[at.even + k],
         );
         main |= main_flips;
         anti |= anti_flips;

@@ -1,4 +1,4 @@
-use Rattle.lemmas.proofs.Common.{◌∙◌, ◌≡◌, IsTrue, ap, arith, false, length, rules, true, common_steps}
+use Rattle.lemmas.proofs.Common.{◌∙◌, ◌≡◌, IsTrue, ap, arith, length, rules, common_steps}
 use Rattle.circuit.specs.Meaning.{Netlist}
 use Rattle.module_box.specs.Locals.{is_among}
 use Rattle.local_run.proofs.Leasts.{keep_found, keep_free_more, keep_none}

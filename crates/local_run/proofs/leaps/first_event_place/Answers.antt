@@ -1,4 +1,4 @@
-use Rattle.lemmas.proofs.Common.{◌-◌, arith, common_steps, slice_get-get_or}
+use Rattle.lemmas.proofs.Common.{arith, common_steps, slice_get-get_or}
 use Rattle.local_run.proofs.LeapLemmas.{raise_time, drop_time, met}
 use Rattle.local_run.proofs.leaps.first_event_place.Goals as goal
 

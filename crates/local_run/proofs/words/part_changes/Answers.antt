@@ -9,20 +9,20 @@ loop-k-preserved c = record {
     | inl lt ↦ c.loop-k.invariant.main (none_first _ _ h) k lt
     | inr ge ↦
         let e : c.loop-k.k ≡ k = omega arith in
-        subst (λ (n : ℕ). DiagonalStays (slice_index c.args.upper_left.now (c.args.at.upper_left + n))
-        (slice_index c.args.lower_right.now (c.args.at.lower_right + n))
-        (slice_index c.args.upper_right.now (c.args.at.upper_right + n))
-        (slice_index c.args.lower_left.now (c.args.at.lower_left + n))) e
+        subst (λ (n : ℕ). DiagonalStays (slice_index c.args.odd.now (c.args.at.odd + n))
+        (slice_index c.args.even.now (c.args.at.even + n))
+        (slice_index c.args.right.now (c.args.at.right + n))
+        (slice_index c.args.down.now (c.args.at.down + n))) e
         (c.flips_of-main_flips.ensures.main (none_last _ _ h))
   ];
   anti = λ h k l. elim (cases_lt k c.loop-k.k) [
     | inl lt ↦ c.loop-k.invariant.anti (none_first _ _ h) k lt
     | inr ge ↦
         let e : c.loop-k.k ≡ k = omega arith in
-        subst (λ (n : ℕ). DiagonalStays (slice_index c.args.upper_right.now (c.args.at.upper_right + n))
-        (slice_index c.args.lower_left.now (c.args.at.lower_left + n))
-        (slice_index c.args.upper_left.now (c.args.at.upper_left + n))
-        (slice_index c.args.lower_right.now (c.args.at.lower_right + n))) e
+        subst (λ (n : ℕ). DiagonalStays (slice_index c.args.right.now (c.args.at.right + n))
+        (slice_index c.args.down.now (c.args.at.down + n))
+        (slice_index c.args.odd.now (c.args.at.odd + n))
+        (slice_index c.args.even.now (c.args.at.even + n))) e
         (c.flips_of-main_flips.ensures.anti (none_last _ _ h))
   ];
 }

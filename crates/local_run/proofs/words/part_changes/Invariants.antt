@@ -6,9 +6,9 @@ use Rattle.local_run.proofs.words.part_changes.Given as goal
 abbrev pub invariant-loop-k : goal.invariant-loop-k
 invariant-loop-k l = record {
   main : l.main ≡ 0 → (k : ℕ) → k < l.k →
-      DiagonalStays (slice_index l.upper_left (l.at.upper_left + k)) (slice_index l.lower_right (l.at.lower_right + k))
-      (slice_index l.upper_right (l.at.upper_right + k)) (slice_index l.lower_left (l.at.lower_left + k));
+      DiagonalStays (slice_index l.odd (l.at.odd + k)) (slice_index l.even (l.at.even + k))
+      (slice_index l.right (l.at.right + k)) (slice_index l.down (l.at.down + k));
   anti : l.anti ≡ 0 → (k : ℕ) → k < l.k →
-      DiagonalStays (slice_index l.upper_right (l.at.upper_right + k)) (slice_index l.lower_left (l.at.lower_left + k))
-      (slice_index l.upper_left (l.at.upper_left + k)) (slice_index l.lower_right (l.at.lower_right + k));
+      DiagonalStays (slice_index l.right (l.at.right + k)) (slice_index l.down (l.at.down + k))
+      (slice_index l.odd (l.at.odd + k)) (slice_index l.even (l.at.even + k));
 }

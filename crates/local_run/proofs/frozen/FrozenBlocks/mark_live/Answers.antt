@@ -9,7 +9,7 @@ returns-then-self-clause-dead c =
     let p = c.args.planes.now in
     let but = rw (c.deref.ensures.value, c.deref-then-self.ensures.value) at c.set_marks_to_not_both.ensures.marked in
     dead_found b c.set_marks_to_not_both.new.self p c.prove_planes_are_words.ensures c.requires.frozen c.if-self.true
-    (λ room. but (p.stride * p.rows) c.requires.room (omega (arith, room.odd, b.odd.ok.0))
+    (λ room. but (p.stride * p.rows) c.requires.room (omega (arith, room.odd, b.marks.odd.ok.0))
     (omega (arith, room.empty, b.empty.ok.0)))
 
 pub returns-else-self-clause-dead : goal.returns-else-self-clause-dead

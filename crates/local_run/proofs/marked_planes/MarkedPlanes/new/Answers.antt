@@ -1,16 +1,13 @@
 use Rattle.lemmas.proofs.Common.{List, ap, arith, length, subst, sym, ℕ, with_items_is}
 use Rattle.local_run.specs.Borders.{AreUnmarkedAwayFromBorder}
-use Rattle.local_run.proofs.LiveLemmas.{dead_all, dead_even, dead_odd}
+use Rattle.local_run.proofs.LiveLemmas.{dead_all, dead_blocks}
 use Rattle.local_run.proofs.marked_planes.MarkedPlanes.new.Goals as goal
 
 pub invariant_of-result-clause-all_dead : goal.invariant_of-result-clause-all_dead
 invariant_of-result-clause-all_dead c = dead_all c.in_ok-live_marks.live_marks c.args.planes c.requires
 
-pub invariant_of-result-clause-odd_calm : goal.invariant_of-result-clause-odd_calm
-invariant_of-result-clause-odd_calm c = dead_odd c.in_ok-odd_marks.odd_marks.items c.args.planes c.requires
-
-pub invariant_of-result-clause-even_calm : goal.invariant_of-result-clause-even_calm
-invariant_of-result-clause-even_calm c = dead_even c.in_ok-even_marks.even_marks.items c.args.planes c.requires
+pub invariant_of-result-clause-calm : goal.invariant_of-result-clause-calm
+invariant_of-result-clause-calm c = dead_blocks c.in_ok-block_marks.block_marks c.args.planes c.requires
 
 pub invariant_of-result-clause-all_inner : goal.invariant_of-result-clause-all_inner
 invariant_of-result-clause-all_inner c =

@@ -1,18 +1,22 @@
-use Rattle.lemmas.proofs.Common.{List, ap, arith, length, subst, sym, ℕ, with_items_is}
-use Rattle.local_run.specs.Calm.{AreUnmarkedEvenBlocksStable}
-use Rattle.local_run.proofs.CalmLemmas.{even_unmarked}
+use Rattle.local_run.specs.Blocks.{block_at}
+use Rattle.local_run.specs.declared.blocks.Partition.TheVariants.{Even}
+use Rattle.local_run.proofs.CalmLemmas.{cells_of, still_stable_unmarked}
 use Rattle.local_run.proofs.LiveLemmas.{dead_block}
+use Rattle.local_run.proofs.TurnLemmas.{stable_turned}
 use Rattle.local_run.proofs.marked_planes.MarkedPlanes.unmark_even_block_if_dead.Goals as goal
 
-pub invariant_of-self-clause-even_calm : goal.invariant_of-self-clause-even_calm
-invariant_of-self-clause-even_calm c =
+pub invariant_of-self-clause-calm : goal.invariant_of-self-clause-calm
+invariant_of-self-clause-calm c =
     let f = c.args.self.now in
-    let p = f.planes in
-    let n = c.args.n in
-    let v = c.deref_mut.ensures.value in
-    let items = with_items_is f.even_marks c.unmark.new.marks (omega (arith, ap length v, f.even_marks.ok.0)) in
-    let sets = rw v at c.unmark.ensures in
-    subst (λ (m : List ℕ). AreUnmarkedEvenBlocksStable m p) (sym items)
-    (even_unmarked n f.even_marks.items c.unmark.new.marks p sets
-    (dead_block n f.live_marks p c.requires f.all_dead (c.is_even_block_dead.ensures c.if-is_even_block_dead.true))
-    f.even_calm)
+    let free = rw c.block.ensures.block at (c.is_dead-is_dead.ensures c.if-is_dead.true) in
+    still_stable_unmarked Even c.args.n f.block_marks c.unmark.new.self f.planes c.unmark.ensures.unmarked
+    (λ inside. dead_block (block_at Even f.planes.stride c.args.n) f.live_marks f.planes
+    (cells_of Even f.planes c.args.n c.requires) f.all_dead free) f.calm
+
+pub returns-then-is_dead-clause-turned : goal.returns-then-is_dead-clause-turned
+returns-then-is_dead-clause-turned c =
+    let f = c.args.self.now in
+    let free = rw c.block.ensures.block at (c.is_dead-is_dead.ensures c.if-is_dead.true) in
+    λ e. stable_turned (block_at Even f.planes.stride c.args.n) f.planes
+    (dead_block (block_at Even f.planes.stride c.args.n) f.live_marks f.planes
+    (cells_of Even f.planes c.args.n c.requires) f.all_dead free)

@@ -1,0 +1,14 @@
+use Rattle.lemmas.proofs.Common.{◌<◌, ◌≡◌, true, ℕ}
+use Rattle.bbm_rule.specs.Rows.{cell_at}
+use Rattle.local_run.specs.Blocks.{IsNotRowEnd, marks_of}
+use Rattle.local_run.specs.Frozen.{IsBlockHeld}
+use Rattle.local_run.proofs.frozen.FrozenBlocks.are_blocks_held.Given as goal
+
+-- the blocks so far are held, and the last ones of the rows have marks
+abbrev pub invariant-loop-u : goal.invariant-loop-u
+invariant-loop-u l = record {
+  held : (u : ℕ) → u < l.u → IsNotRowEnd l.partition l.planes.stride u →
+      cell_at (marks_of l.partition l.self.marks) u ≡ true → IsBlockHeld l.partition l.self.marks l.planes u;
+  last : (u : ℕ) → u < l.u → (IsNotRowEnd l.partition l.planes.stride u → ⊥) →
+      cell_at (marks_of l.partition l.self.marks) u ≡ true;
+}

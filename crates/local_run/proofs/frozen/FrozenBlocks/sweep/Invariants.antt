@@ -1,0 +1,11 @@
+use Rattle.lemmas.proofs.Common.{◌≡◌, ◌≤◌}
+use Rattle.local_run.specs.Frozen.{HasRoomForMarks}
+use Rattle.local_run.proofs.frozen.FrozenBlocks.sweep.Given as goal
+
+-- there is still room for all marks, and no more blocks are counted than were looked at
+abbrev pub invariant-loop-u : goal.invariant-loop-u
+invariant-loop-u l = record {
+  room : HasRoomForMarks l.self l.planes;
+  found : l.self.is_found ≡ l.fn.self.is_found;
+  few : l.active_block_count ≤ l.u;
+}

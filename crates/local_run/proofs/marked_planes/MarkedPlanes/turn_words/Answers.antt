@@ -1,0 +1,53 @@
+use Rattle.lemmas.proofs.Common.{sym}
+use Rattle.local_run.specs.Blocks.{block_at}
+use Rattle.local_run.proofs.CalmLemmas.{block_cells, still_stable, still_stable_unmarked}
+use Rattle.local_run.proofs.LiveLemmas.{cells_dead}
+use Rattle.local_run.proofs.TurnLemmas.{stable_turned}
+use Rattle.local_run.proofs.FrozenLemmas.{one_may_turn, still_frozen}
+use Rattle.local_run.proofs.marked_planes.MarkedPlanes.turn_words.Goals as goal
+
+pub invariant_of-self-clause-calm : goal.invariant_of-self-clause-calm
+invariant_of-self-clause-calm c =
+    let f = c.args.self.now in
+    let main = rw c.block-block.ensures.block at (c.block_changes-changes.ensures.main (c.is_none.ensures.main
+    c.if-is_none.true)) in
+    let anti = rw c.block-block.ensures.block at (c.block_changes-changes.ensures.anti (c.is_none.ensures.anti
+    c.if-is_none.true)) in
+    still_stable_unmarked c.args.partition c.args.u f.block_marks c.unmark.new.self f.planes c.unmark.ensures.unmarked
+    (λ inside. (main, anti)) f.calm
+
+pub returns-then-is_none-clause-turned : goal.returns-then-is_none-clause-turned
+returns-then-is_none-clause-turned c =
+    let f = c.args.self.now in
+    let main = rw c.block-block.ensures.block at (c.block_changes-changes.ensures.main (c.is_none.ensures.main
+    c.if-is_none.true)) in
+    let anti = rw c.block-block.ensures.block at (c.block_changes-changes.ensures.anti (c.is_none.ensures.anti
+    c.if-is_none.true)) in
+    stable_turned (block_at c.args.partition f.planes.stride c.args.u) f.planes (main, anti)
+
+pub invariant_of-self-2-clause-calm : goal.invariant_of-self-2-clause-calm
+invariant_of-self-2-clause-calm c =
+    let f = c.args.self.now in
+    let e = c.block_changes-changes.ensures in
+    let marks = rw (c.stride-stride.ensures.stride_is_exact, sym c.block-block.ensures.block)
+    at c.mark_changes.ensures.marked in
+    still_stable _ _ c.block-block.result f.block_marks c.mark_changes.new.self f.planes c.turn_block.new.self
+    c.turn_block.ensures.size
+    (block_cells _ _ c.block-block.result f.planes c.turn_block.new.self e.main e.anti c.turn_block.ensures.turned)
+    marks f.calm
+
+pub invariant_of-self-2-clause-all_dead : goal.invariant_of-self-2-clause-all_dead
+invariant_of-self-2-clause-all_dead c =
+    let f = c.args.self.now in
+    let e = c.block_changes-changes.ensures in
+    cells_dead _ _ c.block-block.result f.live_marks c.mark_cells.new.self f.planes c.turn_block.new.self
+    c.turn_block.ensures.size
+    (block_cells _ _ c.block-block.result f.planes c.turn_block.new.self e.main e.anti c.turn_block.ensures.turned)
+    c.mark_cells.ensures.cells f.all_dead
+
+pub invariant_of-self-2-clause-freezes : goal.invariant_of-self-2-clause-freezes
+invariant_of-self-2-clause-freezes c =
+    let f = c.args.self.now in
+    let turned = rw c.block-block.ensures.block at c.turn_block.ensures.turned in
+    still_frozen c.args.partition f.frozen f.planes c.turn_block.new.self c.turn_block.ensures.size
+    (one_may_turn c.args.partition f.planes c.turn_block.new.self c.args.u c.requires turned) f.freezes
