@@ -10,10 +10,8 @@ use Rattle.module_box.specs.Boxes.{in_box}
 use Rattle.module_box.specs.Locals.{LocalNet, circuit_wire}
 use Rattle.module_box.specs.declared.boxes.Box2.{Box2}
 use Rattle.module_box.specs.declared.schedules.Signal.{Signal}
-use Rattle.module_box.specs.declared.schedules.Signal.TheVariants.{Zero}
 use Rattle.module_job.specs.Signals.{IsSignalWireBelow, IsDemandWireBelow, renumber_demand, renumber_signal}
 use Rattle.module_job.specs.declared.job.Demand.{Demand}
-use Rattle.module_job.specs.declared.job.Demand.TheVariants as Demanded
 use Rattle.certificate.specs.Jobs.{end_demand, start_signal}
 use Rattle.certificate.specs.LayoutTablesView.{AddsCells}
 use Rattle.certificate.specs.declared.layout_tables.CellLists.{CellLists}
@@ -94,12 +92,13 @@ module _ (c : Circuit) (p : Pattern) (l : LocalNet) (first old new : CellLists) 
   abbrev demands_at : Cell → Demand
   demands_at d = end_demand c p d.x d.y
 
-  pub add_dead : (n : ℕ) → k ≤ n → new.starts ≡ old.starts ++ replicate (n - k) Zero →
-      new.demands ≡ old.demands ++ replicate (n - k) Demanded.Dead →
-      ((j : ℕ) → k ≤ j → j < n → start_signal c p (pos j) (pos y) ≡ Zero) →
-      ((j : ℕ) → k ≤ j → j < n → end_demand c p (pos j) (pos y) ≡ Demanded.Dead) →
+  pub add_same : (start : Signal) (demand : Demand) (n : ℕ) → k ≤ n → new.starts ≡ old.starts ++ replicate (n - k) start →
+      new.demands ≡ old.demands ++ replicate (n - k) demand →
+      ((j : ℕ) → k ≤ j → j < n → start_signal c p (pos j) (pos y) ≡ renumber_signal (circuit_wire l) start) →
+      ((j : ℕ) → k ≤ j → j < n → end_demand c p (pos j) (pos y) ≡ renumber_demand (circuit_wire l) demand) →
+      IsSignalWireBelow (wires l.netlist) start → IsDemandWireBelow (wires l.netlist) demand →
       AddsCells c p l (row_cells x (n - x) y) first new
-  add_dead n le starts demands no_start no_demand =
+  add_same start demand n le starts demands starts_are demands_are start_below demand_below =
       grind (arith, common_steps, grow_same, starts_at, all_same, demands_at)
 
   pub add_cell : (start : Signal) (demand : Demand) → k < 512 → y < 512 →

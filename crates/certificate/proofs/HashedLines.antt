@@ -1,5 +1,5 @@
 -- Lines that are hashed one after the other
-use Rattle.lemmas.proofs.Common.{[], ◌++◌, ◌+◌, ◌∷◌, ◌≡◌, List, codes, flat_map, refl, ℕ}
+use Rattle.lemmas.proofs.Common.{[], ◌++◌, ◌∷◌, ◌≡◌, List, codes, flat_map, refl, ℕ}
 use Rattle.std.proofs.Common.{decimal}
 use Rattle.section_text.specs.Spelling.{line_text}
 use Rattle.certificate.specs.Grammars.{CertView}

@@ -1,10 +1,10 @@
 -- Lines in order rise by rank, and the lines of one kind lie on one side of a split.
-use Rattle.lemmas.proofs.Common.{[], ◌&&◌, ◌++◌, ◌+◌, ◌-◌, ◌<◌, ◌∙◌, ◌∷◌, ◌≡◌, ◌≢◌, ◌≤◌, Bool, Greater, List, ap}
-use Rattle.lemmas.proofs.Common.{append-nil, ap₂, arith, drop, false, get_or, length, ltb, refl, subst, suc, sym, take}
-use Rattle.lemmas.proofs.Common.{take-append-drop, true, zero, ℕ, All-head, All-tail, AllPass-from_list_all}
+use Rattle.lemmas.proofs.Common.{[], ◌&&◌, ◌++◌, ◌+◌, ◌-◌, ◌<◌, ◌∙◌, ◌∷◌, ◌≡◌, ◌≢◌, ◌≤◌, Bool, Greater, List, Some, ap}
+use Rattle.lemmas.proofs.Common.{append-nil, ap₂, arith, drop, false, get_or, length, ltb, refl, slice_get, subst, suc}
+use Rattle.lemmas.proofs.Common.{sym, take, take-append-drop, true, zero, ℕ, All-head, All-tail, AllPass-from_list_all}
 use Rattle.lemmas.proofs.Common.{IsNonDecreasingBy, IsPartitionPoint, and_parts, common_steps, flat_map-append}
-use Rattle.lemmas.proofs.Common.{get_or-drop, get_or-take, length-drop, length-take, list_all, ltb-false, ltb-true}
-use Rattle.lemmas.proofs.Common.{nat_cmp_is, take_all}
+use Rattle.lemmas.proofs.Common.{get_or-drop, get_or-take, length-drop, length-take, list_all, lt-ltb, ltb-false}
+use Rattle.lemmas.proofs.Common.{ltb-true, nat_cmp_is, same_Some, slice_get-get_or, take_all}
 use Rattle.std.specs.List.{All, flat_map}
 use Rattle.bbm_rule.proofs.BitLemmas.{by_lt_or_le}
 use Rattle.certificate_lines.specs.Entries.{cut_in, edge_in, halo_in, keep_in, stop_in, use_in}
@@ -47,6 +47,20 @@ ranks_rise (x ∷ xs) h zero (suc j) d le lt =
     rank_rises x (get_or xs j d) (AllPass-from_list_all (may_precede x) xs h.0 j d (omega (arith, lt)))
 ranks_rise (x ∷ xs) h (suc i) zero d le lt = absurd (omega (arith, le))
 ranks_rise (x ∷ xs) h (suc i) (suc j) d le lt = ranks_rise xs h.1 i j d (omega (arith, le)) (omega (arith, lt))
+
+-- if the last line has a lower rank, all lines have
+pub all_below : (r : ℕ) (lines : List CertificateLine) (last : CertificateLine) → AreInOrder lines →
+    slice_get lines (length lines - 1) ≡ Some last → rank_of last < r →
+    IsPartitionPoint (λ i. ltb (rank_of i) r ≡ true) (λ i. ltb (rank_of i) r ≡ false) lines (length lines)
+all_below r lines last order at low = (
+  λ k d le lt.
+      let within : length lines - 1 < length lines = omega (arith, lt) in
+      let is : get_or lines (length lines - 1) d ≡ last =
+      same_Some _ _ (sym (slice_get-get_or lines (length lines - 1) d within) ∙ at) in
+      let rises = ranks_rise lines order k (length lines - 1) d (omega (arith, lt)) within in
+      lt-ltb _ _ (omega (arith, rises, ap rank_of is, low)),
+  λ k d le lt. absurd (omega (arith, le, lt)),
+)
 
 -- ---- order of a part
 

@@ -1,21 +1,21 @@
 -- The indexes of a layout's cells, and the ports in a module's box.
-use Rattle.lemmas.proofs.Common.{[], ◌++◌, ◌+◌, ◌<◌, ◌||◌, ◌∙◌, ◌∷◌, ◌≡◌, ◌≤◌, Bool, IfSome, IsTrue, List, None, Option}
-use Rattle.lemmas.proofs.Common.{Some, ap, arith, false, flat_map, get_or, if◌then◌else◌, length, map, refl, slice_get}
-use Rattle.lemmas.proofs.Common.{subst, sym, true, ℕ, ℤ, All-append, common_steps, list_any-append, slice_get-get_or}
-use Rattle.lemmas.proofs.Common.{slice_get-map, or_parts}
+use Rattle.lemmas.proofs.Common.{[], ◌&&◌, ◌++◌, ◌+◌, ◌||◌, ◌∙◌, ◌∷◌, ◌≡◌, ◌≤◌, All, Bool, IfSome, IsTrue, List, None}
+use Rattle.lemmas.proofs.Common.{Option, Some, ap, arith, false, if◌then◌else◌, length, map, refl, slice_get, subst}
+use Rattle.lemmas.proofs.Common.{suc, sym, true, zero, ℕ, ℤ, All-append, common_steps, list_all, list_any-append}
+use Rattle.lemmas.proofs.Common.{slice_get-get_or, slice_get-map, and_parts, or_parts}
 use Rattle.bbm_rule.specs.Plane.{is_at}
 use Rattle.bbm_rule.specs.declared.block.Cell.{Cell}
 use Rattle.circuit.specs.Bridge.{circuit_of}
 use Rattle.circuit.specs.Meaning.{Circuit}
 use Rattle.circuit.specs.declared.circuit_line.CircuitLine.{CircuitLine}
-use Rattle.pattern.specs.Layout.{Pattern, in_cells, in_layout, in_rectangles, rectangle_cells, parts_of, start}
+use Rattle.pattern.specs.Layout.{Pattern, in_cells, in_layout, in_rectangles, parts_of}
 use Rattle.pattern.specs.declared.layout_line.Port.{Port}
 use Rattle.pattern.specs.declared.layout_line.Rectangle.{Rectangle}
 use Rattle.pattern.specs.declared.layout_line.LayoutHeader.{LayoutHeader}
-use Rattle.pattern.specs.Lines.{AreGoodAfter, size_fault}
-use Rattle.pattern.proofs.InsideLemmas.{BeginsInside, size_sides, begins_inside, mirrors_fit, start_inside}
-use Rattle.pattern.proofs.PlaneRuns.{among}
-use Rattle.pattern.proofs.RectangleLemmas.{in_rectangle_cells}
+use Rattle.pattern.specs.Lines.{AreGoodAfter, is_inside, size_fault}
+use Rattle.pattern.proofs.InsideLemmas.{size_sides, begins_inside}
+use Rattle.pattern.proofs.TakenLemmas.{mirror_fits}
+use Rattle.pattern.specs.declared.layout_line.LayoutLine.TheVariants.{Mirror}
 use Rattle.module_box.specs.Boxes.{in_box}
 use Rattle.module_box.specs.declared.schedules.Signal.TheVariants.{One, Zero}
 use Rattle.certificate_lines.specs.Entries.{ModuleLines, known}
@@ -25,9 +25,8 @@ use Rattle.certificate.specs.Jobs.{wire_of_optional_name, wire_or_zero, start_si
 use Rattle.certificate.specs.Jobs.{end_demand}
 use Rattle.module_job.specs.declared.job.Demand.TheVariants as Demanded
 use Rattle.certificate_lines.specs.Modules.{HasPorts}
-use Rattle.bbm_rule.specs.Board.{live}
-use Rattle.certificate.specs.declared.layout_tables.LayoutTables.TheInside.{Inside}
-use Rattle.certificate.specs.LayoutTablesView.{AreLayoutTables, HasMirrorOrNothing, ArePortWiresLocalIn}
+use Rattle.bbm_rule.specs.Board.{Board}
+use Rattle.certificate.specs.LayoutTablesView.{ArePortWiresLocalIn, HasNothing, IsOnGrid}
 use Rattle.certificate.specs.LayoutTablesView.{non_mirror_cells}
 use Rattle.certificate_lines.specs.Rules.{is_local}
 use Rattle.certificate_lines.proofs.BoxPlaces.{skipped}
@@ -35,13 +34,6 @@ use Rattle.certificate_lines.proofs.Lists.{kept}
 use Rattle.bbm_rule.proofs.SameCells.{cell_same}
 use Rattle.certificate_lines.proofs.LayoutPorts.{AllInLayout, balls_on_layout, port_stands, ports_on_layout}
 use Rattle.certificate_lines.proofs.LayoutPorts.{wastes_on_layout}
-
--- ---- the cells of mirrors
-
-pub in_mirrors : (rs : List Rectangle) (x y : ℤ) → in_cells (flat_map rectangle_cells rs) x y ≡ in_rectangles rs x y
-in_mirrors [] x y = refl
-in_mirrors (r ∷ rs) x y = list_any-append (λ (c : Cell). is_at c x y) (rectangle_cells r) (flat_map rectangle_cells rs)
-    ∙ rw (in_rectangle_cells r x y, in_mirrors rs x y) refl
 
 -- ---- the ports in the box of a module
 
@@ -96,27 +88,14 @@ pub end_port : (c : Circuit) (p : Pattern) (x y : ℤ) (a : Bool) → a ≡ in_r
 unfolding end_demand
 end_port c p x y a mirror h o port = rw (sym mirror, h, sym port) refl
 
--- ---- one cell more
+-- ---- a cell without anything
 
--- ---- a cell without ball, waste cell or port
+pub start_dead : (c : Circuit) (p : Pattern) (x y : ℤ) → HasNothing p x y → start_signal c p x y ≡ Zero
+start_dead c p x y h = sym (start_port c p x y false false (sym h.mirrors) (sym h.balls) refl None (sym h.ins))
 
-pub start_nothing : (c : Circuit) (p : Pattern) (x y : ℤ) → in_rectangles p.mirrors x y ≡ false →
-    HasMirrorOrNothing p x y → Zero ≡ start_signal c p x y
-start_nothing c p x y mirror h = start_port c p x y false false (sym mirror) (sym h.balls) refl None (sym h.ins)
-
-pub end_nothing : (c : Circuit) (p : Pattern) (x y : ℤ) → in_rectangles p.mirrors x y ≡ false →
-    HasMirrorOrNothing p x y → Demanded.Dead ≡ end_demand c p x y
-end_nothing c p x y mirror h =
-    ap (demand_outside_mirrors c None) (sym h.wastes) ∙ end_port c p x y false (sym mirror) refl None (sym h.outs)
-
--- the cells of a row that no grid has
-pub start_dead : (c : Circuit) (a : Inside) → AreLayoutTables a → (x y : ℤ) → live a.mirrors x y ≡ false →
-    live a.others x y ≡ false → start_signal c a.layout.now x y ≡ Zero
-start_dead c a are x y mirror other = grind (arith, common_steps, start_nothing)
-
-pub end_dead : (c : Circuit) (a : Inside) → AreLayoutTables a → (x y : ℤ) → live a.mirrors x y ≡ false →
-    live a.others x y ≡ false → end_demand c a.layout.now x y ≡ Demanded.Dead
-end_dead c a are x y mirror other = grind (arith, common_steps, end_nothing)
+pub end_dead : (c : Circuit) (p : Pattern) (x y : ℤ) → HasNothing p x y → end_demand c p x y ≡ Demanded.Dead
+end_dead c p x y h = sym (ap (demand_outside_mirrors c None) (sym h.wastes)
+    ∙ end_port c p x y false (sym h.mirrors) refl None (sym h.outs))
 
 pub start_mirror : (c : Circuit) (p : Pattern) (x y : ℤ) → in_rectangles p.mirrors x y ≡ true →
     One ≡ start_signal c p x y
@@ -158,32 +137,32 @@ apart : (xs ys : List Cell) (x y : ℤ) → in_cells (xs ++ ys) x y ≡ false �
     (in_cells xs x y ≡ false) × (in_cells ys x y ≡ false)
 apart xs ys x y e = grind (arith, common_steps, or_parts, list_any-append)
 
-pub no_others : (p : Pattern) (x y : ℤ) → in_cells (non_mirror_cells p) x y ≡ false → HasMirrorOrNothing p x y
-no_others p x y e = grind (arith, common_steps, apart, no_port)
+pub nothing_here : (p : Pattern) (x y : ℤ) → (in_cells (non_mirror_cells p) x y || in_rectangles p.mirrors x y) ≡ false →
+    HasNothing p x y
+nothing_here p x y e =
+    let parts = or_parts (in_cells (non_mirror_cells p) x y) (in_rectangles p.mirrors x y) e in
+    grind (arith, common_steps, parts, apart, no_port)
 
 -- ---- the mirrors of a layout
 
-pub fit_in_layout : (p : Pattern) (s : LayoutHeader) → s ≡ p.size → size_fault s ≡ None → AreGoodAfter s [] (parts_of p)
-    → (k : ℕ) (d : Rectangle) → k < length p.mirrors →
-    ((get_or p.mirrors k d).x + (get_or p.mirrors k d).w ≤ 512)
-    × ((get_or p.mirrors k d).y + (get_or p.mirrors k d).h ≤ 512)
-fit_in_layout p s is limits good =
-    let sides = size_sides p.size (ap size_fault (sym is) ∙ limits) in
+all_on_grid : (s : LayoutHeader) (b : Board) → (b.width ≡ s.w) × (b.height ≡ s.h) → s.w ≤ 512 → s.h ≤ 512 →
+    (rs : List Rectangle) → list_all (λ r. is_inside s (Mirror r)) rs ≡ true → All (IsOnGrid b) rs
+all_on_grid s b size w h [] e k d lt = absurd (omega arith)
+all_on_grid s b size w h (r ∷ rs) e zero d lt =
+    let fits = mirror_fits s r (and_parts (is_inside s (Mirror r)) (list_all (λ r. is_inside s (Mirror r)) rs) e).0 in
+    grind (arith, common_steps, fits)
+all_on_grid s b size w h (r ∷ rs) e (suc k) d lt =
+    all_on_grid s b size w h rs (and_parts (is_inside s (Mirror r)) (list_all (λ r. is_inside s (Mirror r)) rs) e).1
+    k d (omega arith)
+
+pub mirrors_on_grid : (p : Pattern) (s : LayoutHeader) (b : Board) (mirrors : List Rectangle) → s ≡ p.size →
+    (b.width ≡ s.w) × (b.height ≡ s.h) → size_fault s ≡ None → AreGoodAfter s [] (parts_of p) →
+    mirrors ≡ p.mirrors → All (IsOnGrid b) mirrors
+mirrors_on_grid p s b mirrors is size limits good are =
+    let sides = size_sides s limits in
     let all = begins_inside p (subst (λ (t : LayoutHeader). AreGoodAfter t [] (parts_of p)) is good) in
-    mirrors_fit p.size p.mirrors all.mirrors sides.0.most sides.1.most
-
--- ---- the parts of a layout lie inside it
-
-in_mirrors_inside : (p : Pattern) → BeginsInside p → (x y : ℤ) → in_rectangles p.mirrors x y ≡ true →
-    in_layout p.size x y ≡ true
-unfolding start
-in_mirrors_inside p all x y h = start_inside p (λ name. true) all x y (rw h refl)
-
-pub mirrors_on_board : (p : Pattern) (s : LayoutHeader) → s ≡ p.size → AreGoodAfter s [] (parts_of p) →
-    (cells : List Cell) →
-    cells ≡ flat_map rectangle_cells p.mirrors → AllInLayout s cells
-mirrors_on_board p s is good cells are k d lt =
-    grind (arith, common_steps, begins_inside, in_mirrors, among, in_mirrors_inside)
+    subst (All (IsOnGrid b)) (sym are) (all_on_grid s b size sides.0.most sides.1.most p.mirrors
+    (subst (λ (t : LayoutHeader). list_all (λ r. is_inside t (Mirror r)) p.mirrors ≡ true) (sym is) all.mirrors))
 
 -- ---- the box of a module
 

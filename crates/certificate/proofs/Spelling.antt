@@ -9,7 +9,6 @@ use Rattle.section_text.proofs.Spellings.{chosen, passed, number_at_spelled, one
 use Rattle.section_text.proofs.WordPlaces.{is_at_is, name_at_is, line_from_words}
 use Rattle.bbm_rule.specs.declared.block.Cell.{Cell}
 use Rattle.module_box.specs.declared.boxes.Box2.{Box2}
-use Rattle.pattern.specs.Layout.{cell}
 use Rattle.pattern.specs.Forms.{cell_of_words_from}
 use Rattle.pattern.specs.Text.{coordinate}
 use Rattle.certificate_lines.specs.declared.certificate_line.BorderLine.{BorderLine}

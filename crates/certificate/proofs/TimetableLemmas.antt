@@ -1,8 +1,7 @@
 -- The signals of a module after one more line.
-use Rattle.lemmas.proofs.Common.{[], ◌++◌, ◌+◌, ◌<◌, ◌∷◌, ◌≡◌, ◌≤◌, All, IfSome, List, None, Option, Some, append-nil}
-use Rattle.lemmas.proofs.Common.{arith, flat_map, get_or, length, map, refl, replicate, subst, sym, take, ℕ, All-cons}
-use Rattle.lemmas.proofs.Common.{All-nil, All-replicate, common_steps, flat_map-append, flat_map_more, map-append}
-use Rattle.lemmas.proofs.Common.{take_all, take_more}
+use Rattle.lemmas.proofs.Common.{[], ◌++◌, ◌+◌, ◌<◌, ◌∷◌, ◌≡◌, ◌≤◌, All, List, None, Option, Some, append-nil, arith}
+use Rattle.lemmas.proofs.Common.{flat_map, get_or, length, map, refl, take, ℕ, All-cons, All-nil, common_steps}
+use Rattle.lemmas.proofs.Common.{flat_map-append, flat_map_more, map-append, take_all, take_more}
 use Rattle.std.specs.Result.{OnOk}
 use Rattle.std.specs.declared.result.Result.{Result}
 use Rattle.std.specs.declared.result.Result.TheVariants.{Ok, Err}
@@ -16,11 +15,9 @@ use Rattle.module_box.specs.declared.schedules.Signal.{Signal}
 use Rattle.certificate.specs.Jobs.{all_times_of_line, events_of_line, one_or_named_wire}
 use Rattle.certificate_lines.specs.Orders.{AreInOrder}
 use Rattle.module_job.specs.Signals.{IsSignalWireBelow, renumber_signal, renumber_all_times, renumber_event}
-use Rattle.certificate.specs.NamedWires.{AreNamedWires, IsWireOf}
 use Rattle.certificate.specs.Timetables.{AreSignalLists, borders_in}
 use Rattle.certificate_lines.specs.declared.certificate_line.BorderLine.{BorderLine}
 use Rattle.certificate_lines.specs.declared.certificate_line.CertificateLine.{CertificateLine}
-use Rattle.certificate.specs.declared.named_wires.NamedWire.{NamedWire}
 use Rattle.certificate.specs.declared.timetable.RingOrHalo.{RingOrHalo}
 use Rattle.certificate.specs.declared.timetable.RingOrHalo.TheVariants.{Ring, Halo}
 use Rattle.certificate.specs.declared.timetable.SignalLists.{SignalLists}
@@ -84,19 +81,13 @@ module _ (c : Circuit) (l : LocalNet) where
   pub with_border : (es : List BorderLine) (e : BorderLine) (s : Signal) (old new : SignalLists) →
       renumber_signal (circuit_wire l) s ≡ one_or_named_wire c e.signal → IsSignalWireBelow (wires l.netlist) s →
       new.all_times.items ≡ old.all_times.items ++ all_times_of_line e e.time s →
-      new.events.items ≡ old.events.items ++ events_of_line e e.time s → AreNamedWires c l new.slots →
+      new.events.items ≡ old.events.items ++ events_of_line e e.time s →
       AreSignalLists c l es old → AreSignalLists c l (es ++ e ∷ []) new
-  with_border es e s old new same own all_times events slots t =
+  with_border es e s old new same own all_times events t =
       grind (arith, common_steps, more_all_times, more_events, own_all_times, own_event)
 
-  pub no_names : (slots : List (Option NamedWire)) → slots ≡ replicate 64 None → AreNamedWires c l slots
-  no_names slots e =
-      let named : Option NamedWire → Type 0 = λ slot. IfSome slot (λ w. IsWireOf c l w.name.now w.wire) in
-      subst (All named) (sym e) (All-replicate named 64 None tt)
-
-  pub no_lines : (t : SignalLists) → t.all_times.items ≡ [] → t.events.items ≡ [] → AreNamedWires c l t.slots →
-      AreSignalLists c l [] t
-  no_lines t h e slots = grind (arith, common_steps, own_all_times)
+  pub no_lines : (t : SignalLists) → t.all_times.items ≡ [] → t.events.items ≡ [] → AreSignalLists c l [] t
+  no_lines t h e = grind (arith, common_steps, own_all_times)
 
   pub next_table : (side : RingOrHalo) (lines : List CertificateLine) (i : ℕ) (line : CertificateLine)
       (t : SignalLists) →

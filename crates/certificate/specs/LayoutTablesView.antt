@@ -1,5 +1,5 @@
 -- A circuit and a layout with tables of the layout's cells, and their view
-use Rattle.std.specs.Prelude.{◌≡◌, ◌++◌, ℕ, ℤ, List, None, false, map, IsTrue, IfSome}
+use Rattle.std.specs.Prelude.{◌≡◌, ◌+◌, ◌≤◌, ◌++◌, ℕ, ℤ, List, None, false, map, IsTrue, IfSome}
 use Rattle.std.specs.List.{All}
 use Rattle.bbm_rule.specs.Board.{Board, live}
 use Rattle.bbm_rule.specs.declared.block.Cell.{Cell}
@@ -7,6 +7,7 @@ use Rattle.circuit.specs.Meaning.{Circuit, wires}
 use Rattle.circuit.specs.declared.circuit_line.CircuitLine.{CircuitLine}
 use Rattle.pattern.specs.Layout.{Pattern, in_cells, in_rectangles}
 use Rattle.pattern.specs.declared.layout_line.Port.{Port}
+use Rattle.pattern.specs.declared.layout_line.Rectangle.{Rectangle}
 use Rattle.module_box.specs.Boxes.{in_box}
 use Rattle.module_box.specs.Locals.{LocalNet, circuit_wire}
 use Rattle.module_box.specs.declared.boxes.Box2.{Box2}
@@ -30,8 +31,9 @@ layout_tables_view a = record { circuit = a.circuit.now; layout = a.layout.now }
 abbrev pub non_mirror_cells : Pattern → List Cell
 non_mirror_cells p = ((p.balls ++ p.wastes) ++ map (λ q. q.cell) p.ins) ++ map (λ q. q.cell) p.outs
 
--- the layout has no ball, waste cell or port at the cell (x, y)
-pub record HasMirrorOrNothing (p : Pattern) (x y : ℤ) : Type 0 where
+-- the layout has no mirror, ball, waste cell or port at the cell (x, y)
+pub record HasNothing (p : Pattern) (x y : ℤ) : Type 0 where
+  pub mirrors : in_rectangles p.mirrors x y ≡ false
   pub balls : in_cells p.balls x y ≡ false
   pub wastes : in_cells p.wastes x y ≡ false
   pub ins : port_at p.ins x y ≡ None
@@ -41,15 +43,20 @@ pub record HasMirrorOrNothing (p : Pattern) (x y : ℤ) : Type 0 where
 abbrev pub HasLayoutSize : Pattern → Board → Type 0
 HasLayoutSize p b = (b.width ≡ p.size.w) × (b.height ≡ p.size.h)
 
--- The live cells of each grid are those of the mirrors, balls or wastes. If `others` is dead at a cell, the cell has
--- nothing but mirrors. Each table is of the layout's ports.
+-- the rectangle lies on the grid, which has at most 512 columns and rows
+abbrev pub IsOnGrid : Board → Rectangle → Type 0
+IsOnGrid b r =
+    ((r.x + r.w ≤ b.width) × (r.x + r.w ≤ 512)) × ((r.y + r.h ≤ b.height) × (r.y + r.h ≤ 512))
+
+-- The live cells of each grid are those of the mirrors, balls or wastes. If `named` is dead at a cell, the cell has
+-- nothing. Each table is of the layout's ports.
 pub record AreLayoutTables (a : Inside) : Type 0 where
   pub mirrors_size : HasLayoutSize a.layout.now a.mirrors
-  pub others_size : HasLayoutSize a.layout.now a.others
+  pub named_size : HasLayoutSize a.layout.now a.named
   pub mirrors : (x y : ℤ) → live a.mirrors x y ≡ in_rectangles a.layout.now.mirrors x y
   pub balls : (x y : ℤ) → live a.balls x y ≡ in_cells a.layout.now.balls x y
   pub wastes : (x y : ℤ) → live a.wastes x y ≡ in_cells a.layout.now.wastes x y
-  pub others : (x y : ℤ) → live a.others x y ≡ false → HasMirrorOrNothing a.layout.now x y
+  pub named : (x y : ℤ) → live a.named x y ≡ false → HasNothing a.layout.now x y
   pub ins : a.ins ≡ a.layout.now.ins
   pub outs : a.outs ≡ a.layout.now.outs
 

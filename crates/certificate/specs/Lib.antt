@@ -3,7 +3,6 @@ pub mod Grammars
 pub mod CertView
 pub mod Text
 pub mod Jobs
-pub mod NamedWires
 pub mod Timetables
 pub mod StopLists
 pub mod Times

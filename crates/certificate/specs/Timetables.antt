@@ -6,7 +6,6 @@ use Rattle.circuit.specs.Meaning.{Circuit, wires}
 use Rattle.module_box.specs.Locals.{LocalNet, circuit_wire}
 use Rattle.certificate_lines.specs.Entries.{edge_in, halo_in}
 use Rattle.certificate.specs.Jobs.{line_signals}
-use Rattle.certificate.specs.NamedWires.{AreNamedWires}
 use Rattle.certificate_lines.specs.Rules.{is_local}
 use Rattle.module_job.specs.Signals.{IsSignalWireBelow, renumber_all_times, renumber_event}
 use Rattle.certificate_lines.specs.declared.certificate_line.BorderLine.{BorderLine}
@@ -29,10 +28,9 @@ pub record IsLow (c : Cell) : Type 0 where
   pub column : (pos 0 ≤ℤ c.x) × (c.x ≤ℤ pos 511)
   pub row : (pos 0 ≤ℤ c.y) × (c.y ≤ℤ pos 511)
 
--- what is held and what happens is what the lines say, each wire is one of the module's, and so are those in slots
+-- what is held and what happens is what the lines say, and each wire is one of the module's
 pub record AreSignalLists (c : Circuit) (l : LocalNet) (es : List BorderLine) (t : SignalLists) : Type 0 where
   pub all_times : map (renumber_all_times (circuit_wire l)) t.all_times.items ≡ (line_signals c es).all_times
   pub events : map (renumber_event (circuit_wire l)) t.events.items ≡ (line_signals c es).events
   pub own_all_times : All (λ h. IsSignalWireBelow (wires l.netlist) h.signal) t.all_times.items
   pub own_events : All (λ e. IsSignalWireBelow (wires l.netlist) e.signal) t.events.items
-  pub slots : AreNamedWires c l t.slots

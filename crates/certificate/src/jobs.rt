@@ -70,7 +70,7 @@ fn locals_and_kept_places(
     let cuts = cut_list(alloc, circuit, wiring)?;
     let gates = used_gates(alloc, wiring)?;
     let kept = kept_places(alloc, gates.as_slice(), wiring)?;
-    let locals = Locals::new(alloc, circuit, cuts.as_slice(), gates.as_slice())?;
+    let locals = Locals::with_gates(alloc, circuit, cuts.as_slice(), gates)?;
     Ok((locals, kept))
 }
 

@@ -1,16 +1,15 @@
 //! The cells of a module: what they carry at time 0, and what they must be at the last time.
-ghost use Rattle.std.specs.Prelude.{◌≡◌, ◌+◌, ◌*◌, ◌<◌, ◌≤◌, ◌++◌, [], ◌∷◌, ℕ, ℤ, pos, false, true, replicate, None, Some, All, length, map, unwrap_or, slice_get, IsTrue, IfOk, OnOk};
-ghost use Rattle.std.specs.List.{flat_map};
-ghost use Rattle.bbm_rule.specs.Board.{live};
+ghost use Rattle.std.specs.Prelude.{◌≡◌, ◌+◌, ◌*◌, ◌<◌, ◌≤◌, ◌++◌, ◌||◌, [], ◌∷◌, ℕ, ℤ, pos, false, true, replicate, None, Some, All, length, map, unwrap_or, slice_get, IsTrue, IfOk, OnOk};
+ghost use Rattle.bbm_rule.specs.Board.{HasSameSize, live};
 ghost use Rattle.circuit.specs.Bridge.{circuit_of};
 ghost use Rattle.circuit.specs.Meaning.{wire_of, wires};
-ghost use Rattle.pattern.specs.Layout.{row_cells, rectangle_cells, in_cells, in_layout, in_rectangles};
+ghost use Rattle.pattern.specs.Layout.{row_cells, in_cells, in_layout, in_rectangles};
 ghost use Rattle.pattern.specs.Lines.{size_fault};
 ghost use Rattle.module_box.specs.Boxes.{in_box};
 ghost use Rattle.module_box.specs.Locals.{circuit_wire, is_among};
 ghost use Rattle.certificate.specs.Jobs.{end_demand, start_signal};
 ghost use Rattle.module_box.specs.Places.{place_in};
-ghost use Rattle.certificate.specs.LayoutTablesView.{AddsCells, HasLayoutSize, HasMirrorOrNothing, IsPortWireLocalAt, ArePortWiresLocalIn, non_mirror_cells};
+ghost use Rattle.certificate.specs.LayoutTablesView.{AddsCells, HasLayoutSize, HasNothing, IsOnGrid, IsPortWireLocalAt, ArePortWiresLocalIn, non_mirror_cells};
 ghost use Rattle.certificate_lines.specs.Rules.{is_local};
 ghost use Rattle.module_job.specs.Signals.{IsSignalWireBelow, IsDemandWireBelow, renumber_demand, renumber_signal};
 
@@ -19,15 +18,15 @@ use certificate_lines::{PortTable, is_live, port_tables};
 use circuit::{Circuit, WireNo};
 use module_box::{Box2, Locals, Signal};
 use module_job::{Demand, EndDemands, StartSignals};
-use pattern::{Layout, LayoutHeader, Port, Rectangle, make_live, push_rectangle};
+use pattern::{Layout, LayoutHeader, Port, Rectangle, fill_rectangle, make_live};
 use section_text::Name;
 use std::alloc::{AllocError, Global};
 use std::marker::Model;
 
 /// A circuit and a layout, with tables by which each cell of the layout is looked up in constant time. Contracts see
 /// the circuit and the layout, as a `LayoutTablesView`.
-// The mirrors' cells, the balls and the waste cells are the live cells of grids. `others` has the cells of all that is
-// no mirror: most cells are dead in it, and need no other look.
+// The mirrors' cells, the balls and the waste cells are the live cells of grids. `named` has the cells of all of them and
+// of ports: most cells are dead in it, and need no other look.
 #[derive(Drop)]
 pub(crate) struct LayoutTables<'a> {
     circuit: &'a Circuit,
@@ -35,7 +34,7 @@ pub(crate) struct LayoutTables<'a> {
     mirrors: Grid,
     balls: Grid,
     wastes: Grid,
-    others: Grid,
+    named: Grid,
     ins: PortTable<'a>,
     outs: PortTable<'a>,
 }
@@ -80,6 +79,19 @@ impl CellLists {
         Ok(())
     }
 
+    // Adds cells of mirrors.
+    fn push_mirrors(&mut self, count: u32) -> Result<(), AllocError>
+        ensures starts { OnOk result (self.new.starts
+            ≡ self.old.starts ++ replicate count Signal.One) }
+        ensures demands { OnOk result (self.new.demands
+            ≡ self.old.demands ++ replicate count Demand.Live) }
+    {
+        'mirrors: for _mirror in 0..count {
+            self.push(Signal::One, Demand::Live)?;
+        }
+        Ok(())
+    }
+
     // Adds cells that are dead at time 0 and at the last time.
     fn push_dead(&mut self, count: u32) -> Result<(), AllocError>
         ensures starts { OnOk result (self.new.starts
@@ -105,16 +117,16 @@ fn grid_of(alloc: Global, size: LayoutHeader, cells: &[Cell]) -> Result<Grid, Al
     Ok(grid)
 }
 
-// The cells of rectangles, one after the other.
-fn cells_of_mirrors(alloc: Global, mirrors: &[Rectangle]) -> Result<Vec<Cell>, AllocError>
-    requires { All (λ r. (r.x + r.w ≤ 512) × (r.y + r.h ≤ 512)) mirrors.now }
-    ensures { IfOk result (λ cells. cells.items ≡ flat_map rectangle_cells mirrors.now) }
+// Makes the cells of mirrors live.
+fn fill_mirrors(grid: &mut Grid, mirrors: &[Rectangle])
+    requires { All (IsOnGrid grid.old) mirrors.now }
+    ensures cells { (x y : ℤ) →
+        live grid.new x y ≡ (live grid.old x y || in_rectangles mirrors.now x y) }
+    ensures size { HasSameSize grid.old grid.new }
 {
-    let mut cells = Vec::new(alloc);
     for mirror in mirrors {
-        push_rectangle(&mut cells, *mirror)?;
+        fill_rectangle(grid, *mirror);
     }
-    Ok(cells)
 }
 
 // Adds the cells of ports.
@@ -139,15 +151,28 @@ fn non_mirror_cells(alloc: Global, layout: &Layout) -> Result<Vec<Cell>, AllocEr
     Ok(cells)
 }
 
-// A grid on which the cells of balls, waste cells and ports are live.
-fn non_mirror_grid(alloc: Global, layout: &Layout) -> Result<Grid, AllocError>
+// A grid of the layout's size on which these cells and those of the mirrors are live.
+fn grid_with_mirrors(alloc: Global, layout: &Layout, cells: &[Cell]) -> Result<Grid, AllocError>
+    requires { All (λ c. in_layout layout.now.size c.x c.y ≡ true) cells.now }
     ensures cells { IfOk result (λ grid. (x y : ℤ) →
-        live grid x y ≡ false → HasMirrorOrNothing layout.now x y) }
+        live grid x y ≡ (in_cells cells.now x y || in_rectangles layout.now.mirrors x y)) }
     ensures size { IfOk result (HasLayoutSize layout.now) }
 {
     let size = layout.size();
+    let mut grid = grid_of(alloc, size, cells)?;
+    fill_mirrors(&mut grid, layout.mirrors());
+    Ok(grid)
+}
+
+// A grid on which the cells of mirrors, balls, waste cells and ports are live.
+fn named_grid(alloc: Global, layout: &Layout) -> Result<Grid, AllocError>
+    ensures cells { IfOk result (λ grid. (x y : ℤ) →
+        live grid x y ≡ false → HasNothing layout.now x y) }
+    ensures size { IfOk result (HasLayoutSize layout.now) }
+{
+    let _size = layout.size();
     let cells = non_mirror_cells(alloc, layout)?;
-    let grid = grid_of(alloc, size, &cells)?;
+    let grid = grid_with_mirrors(alloc, layout, &cells)?;
     Ok(grid)
 }
 
@@ -162,8 +187,7 @@ fn mirror_ball_waste_grids(alloc: Global, layout: &Layout) -> Result<(Grid, Grid
         live grids.2 x y ≡ in_cells layout.now.wastes x y) }
 {
     let size = layout.size();
-    let cells = cells_of_mirrors(alloc, layout.mirrors())?;
-    let mirrors = grid_of(alloc, size, &cells)?;
+    let mirrors = grid_with_mirrors(alloc, layout, &[])?;
     let balls = grid_of(alloc, size, layout.balls())?;
     let wastes = grid_of(alloc, size, layout.wastes())?;
     Ok((mirrors, balls, wastes))
@@ -210,14 +234,14 @@ impl<'a> LayoutTables<'a> {
     {
         let (ins, outs) = port_tables(alloc, layout)?;
         let (mirrors, balls, wastes) = mirror_ball_waste_grids(alloc, layout)?;
-        let others = non_mirror_grid(alloc, layout)?;
+        let named = named_grid(alloc, layout)?;
         Ok(LayoutTables {
             circuit,
             layout,
             mirrors,
             balls,
             wastes,
-            others,
+            named,
             ins,
             outs,
         })
@@ -279,29 +303,6 @@ impl<'a> LayoutTables<'a> {
         }
     }
 
-    // What a cell carries at time 0, and what it is to be at the last time, where the module knows the wires of ports
-    // there.
-    fn start_and_demand_at(&self, locals: &Locals, cell: Cell) -> (Signal, Demand)
-        requires ins { IsPortWireLocalAt (circuit_of self.now.circuit) locals.now.circuit_wires
-            self.now.layout.ins cell.x cell.y }
-        requires outs { IsPortWireLocalAt (circuit_of self.now.circuit) locals.now.circuit_wires
-            self.now.layout.outs cell.x cell.y }
-        ensures start { renumber_signal (circuit_wire locals.now) result.0
-            ≡ start_signal (circuit_of self.now.circuit) self.now.layout cell.x cell.y }
-        ensures start_below { IsSignalWireBelow (wires locals.now.netlist) result.0 }
-        ensures demand { renumber_demand (circuit_wire locals.now) result.1
-            ≡ end_demand (circuit_of self.now.circuit) self.now.layout cell.x cell.y }
-        ensures demand_below { IsDemandWireBelow (wires locals.now.netlist) result.1 }
-    {
-        if is_live(&self.mirrors, cell) {
-            return (Signal::One, Demand::Live);
-        }
-        if !is_live(&self.others, cell) {
-            return (Signal::Zero, Demand::Dead);
-        }
-        (self.start_at(locals, cell), self.demand_at(locals, cell))
-    }
-
     // The first column from `from` on whose cell in row `y` the layout may name, or `end` if it names none before it.
     fn next_named_column(&self, y: u32, from: u32, end: u32) -> u32
         requires row { y < self.now.layout.size.h }
@@ -314,8 +315,22 @@ impl<'a> LayoutTables<'a> {
             end_demand (circuit_of self.now.circuit) self.now.layout (pos x) (pos y)
             ≡ Demand.Dead }
     {
-        let mirror = self.mirrors.next_live(y, from, end);
-        self.others.next_live(y, from, mirror)
+        self.named.next_live(y, from, end)
+    }
+
+    // The first column from `from` on whose cell in row `y` has no mirror, or `end` if all cells before it have one.
+    fn mirrors_end(&self, y: u32, from: u32, end: u32) -> u32
+        requires row { y < self.now.layout.size.h }
+        requires columns { (from ≤ end) × (end ≤ self.now.layout.size.w) }
+        ensures range { (from ≤ result) × (result ≤ end) }
+        ensures starts { (x : ℕ) → from ≤ x → x < result →
+            start_signal (circuit_of self.now.circuit) self.now.layout (pos x) (pos y)
+            ≡ Signal.One }
+        ensures demands { (x : ℕ) → from ≤ x → x < result →
+            end_demand (circuit_of self.now.circuit) self.now.layout (pos x) (pos y)
+            ≡ Demand.Live }
+    {
+        self.mirrors.next_dead(y, from, end)
     }
 
     // Adds what the cells of a row of a box carry and must be.
@@ -339,18 +354,21 @@ impl<'a> LayoutTables<'a> {
         let end = area.x + area.w;
         let mut x = area.x;
         'cells: while x < end {
-            let next = self.next_named_column(y, x, end);
-            lists.push_dead(next - x)?;
-            if next == end {
+            let named = self.next_named_column(y, x, end);
+            lists.push_dead(named - x)?;
+            if named == end {
                 return Ok(());
             }
-            let cell = Cell {
-                x: next as i32,
-                y: y as i32,
-            };
-            let (start, demand) = self.start_and_demand_at(locals, cell);
-            lists.push(start, demand)?;
-            x = next + 1;
+            x = self.mirrors_end(y, named, end);
+            lists.push_mirrors(x - named)?;
+            if x == named {
+                let cell = Cell {
+                    x: named as i32,
+                    y: y as i32,
+                };
+                lists.push(self.start_at(locals, cell), self.demand_at(locals, cell))?;
+                x = named + 1;
+            }
         }
         Ok(())
     }

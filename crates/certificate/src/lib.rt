@@ -15,7 +15,6 @@ mod keep_lines;
 pub mod laws;
 mod layout_tables;
 mod line_kinds;
-mod named_wires;
 mod printing;
 mod reading;
 mod stops;

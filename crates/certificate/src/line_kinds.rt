@@ -2,8 +2,9 @@
 //!
 //! A module's lines are in order, so those of one kind are neighbours: cut, use and keep lines, edge lines, halo lines,
 //! stops. A search by halves finds where a kind begins, so no line of another kind is read.
-ghost use Rattle.std.specs.Prelude.{◌≡◌, ◌≢◌, ◌<◌, [], List};
+ghost use Rattle.std.specs.Prelude.{◌≡◌, ◌≢◌, ◌<◌, ◌≤◌, [], List, false, true, length, nat_lt};
 ghost use Rattle.std.specs.List.{flat_map};
+ghost use Rattle.std.specs.List.Sorted.{IsPartitionPoint};
 ghost use Rattle.certificate.specs.LineKinds.{IsSplitAt};
 ghost use Rattle.certificate.specs.Timetables.{borders_in};
 ghost use Rattle.certificate_lines.specs.Entries.{cut_in, keep_in, stop_in, use_in};
@@ -21,6 +22,22 @@ const HALO_RANK: u8 = 5;
 
 const STOP_RANK: u8 = 6;
 
+// How many lines come before the first one of this rank or a higher one.
+fn count_below_rank(lines: &[StoredLine], first: u8) -> usize
+    requires { AreInOrder lines.now }
+    ensures bound { result ≤ length lines.now }
+    ensures place { IsPartitionPoint (λ i. nat_lt (rank_of i) first ≡ true)
+        (λ i. nat_lt (rank_of i) first ≡ false) lines.now result }
+{
+    // Most modules have no line of the last kind, so the last line is worth a look.
+    if let Some(last) = lines.last() {
+        if rank(&last.line()) < first {
+            return lines.len();
+        }
+    }
+    lines.partition_point(|line| rank(&line.line()) < first)
+}
+
 // The lines before the first one of this rank or a higher one, and the others.
 fn split_at_rank<'b, 'a>(
     lines: &'b [StoredLine<'a>],
@@ -29,7 +46,7 @@ fn split_at_rank<'b, 'a>(
     requires { AreInOrder lines.now }
     ensures { IsSplitAt first lines.now result.0.now result.1.now }
 {
-    let place = lines.partition_point(|line| rank(&line.line()) < first);
+    let place = count_below_rank(lines, first);
     (&lines[..place], &lines[place..])
 }
 

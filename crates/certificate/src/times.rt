@@ -89,7 +89,7 @@ fn note_stop(table: &mut [Option<u32>], circuit: &Circuit, choice: FirstOrLast, 
         IsStopTimeTable choice (circuit_of circuit.now) (ss ++ stop.now ∷ []) table.new }
     ensures long { length table.new ≡ length table.old }
 {
-    if let Some(wire) = circuit.wire(stop.wire()) {
+    if let Some(wire) = stop.wire_in(circuit) {
         let at = wire.number() as usize;
         table[at] = chosen(choice, table[at], stop.time());
     }

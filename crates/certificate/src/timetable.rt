@@ -1,23 +1,19 @@
 //! The signals of a module's edge and halo lines, over the wires that the module knows.
-ghost use Rattle.std.specs.Prelude.{◌≡◌, ◌++◌, [], ◌∷◌, List, IfOk, IfSome, IsTrue, OnOk};
+ghost use Rattle.std.specs.Prelude.{◌≡◌, ◌++◌, [], ◌∷◌, List, IfOk, OnOk};
 ghost use Rattle.std.specs.List.{All, flat_map};
-ghost use Rattle.std.specs.Option.{option_map};
 ghost use Rattle.circuit.specs.Bridge.{circuit_of};
 ghost use Rattle.circuit.specs.Meaning.{wires};
 ghost use Rattle.module_box.specs.Locals.{circuit_wire};
 ghost use Rattle.certificate.specs.Jobs.{events_of_line, all_times_of_line, one_or_named_wire, line_signals};
 ghost use Rattle.certificate_lines.specs.Orders.{AreInOrder};
-ghost use Rattle.certificate_lines.specs.Rules.{is_local};
 ghost use Rattle.module_job.specs.Signals.{IsSignalWireBelow, renumber_signal, renumber_signals};
 ghost use Rattle.certificate.specs.Timetables.{AreSignalLists, borders_in, HasLocalWire};
-ghost use Rattle.certificate.specs.NamedWires.{AreNamedWires};
 ghost use Rattle.certificate_lines.specs.declared.certificate_line.BorderLine.{BorderLine};
 
-use crate::named_wires::{NamedWire, SLOT_COUNT, empty_slots, local_wire_through_slot};
+use crate::layout_tables::local_wire;
 use certificate_lines::{StoredBorder, StoredLine};
 use circuit::Circuit;
 use module_box::{AllTimes, Locals, Moment, Schedule, Signal, TimedSignal};
-use section_text::Name;
 use std::alloc::{AllocError, Global};
 
 /// The cells that a line is about: of the ring of a module's box, or of its halo.
@@ -27,44 +23,33 @@ pub(crate) enum RingOrHalo {
     Halo,
 }
 
-// What the lines so far say: at all odd times, and at single ones. And wires that they named, in slots.
+// What the lines so far say: at all odd times, and at single ones.
 #[derive(Drop)]
-struct SignalLists<'a> {
+struct SignalLists {
     all_times: Vec<AllTimes>,
     events: Vec<TimedSignal>,
-    slots: [Option<NamedWire<'a>>; SLOT_COUNT],
 }
 
-// The signal of a line. If it names a wire, this gets its slot.
-fn one_or_local_wire<'a>(
-    circuit: &Circuit,
-    locals: &Locals,
-    slots: &mut [Option<NamedWire<'a>>; SLOT_COUNT],
-    signal: Option<&'a Name>,
-) -> Signal
-    requires { IfSome signal
-        (λ name. IsTrue (is_local (circuit_of circuit.now) locals.now.circuit_wires name.now)) }
-    ensures same_signal { AreNamedWires (circuit_of circuit.now) locals.now slots.old →
-        renumber_signal (circuit_wire locals.now) result
-        ≡ one_or_named_wire (circuit_of circuit.now) (option_map (λ name. name.now) signal.entry) }
-    ensures own_wire { AreNamedWires (circuit_of circuit.now) locals.now slots.old →
-        IsSignalWireBelow (wires locals.now.netlist) result }
-    ensures slots { AreNamedWires (circuit_of circuit.now) locals.now slots.old →
-        AreNamedWires (circuit_of circuit.now) locals.now slots.new }
+// The signal of a line.
+#[inline(always)]
+fn signal_of(circuit: &Circuit, locals: &Locals, border: &StoredBorder) -> Signal
+    requires { HasLocalWire (circuit_of circuit.now) locals.now border.now }
+    ensures same_signal { renumber_signal (circuit_wire locals.now) result
+        ≡ one_or_named_wire (circuit_of circuit.now) border.now.signal }
+    ensures own_wire { IsSignalWireBelow (wires locals.now.netlist) result }
 {
-    match signal {
+    match border.wire_in(circuit) {
         None => Signal::One,
-        Some(name) => Signal::Wire(local_wire_through_slot(circuit, locals, slots, name)),
+        Some(wire) => Signal::Wire(local_wire(locals, wire)),
     }
 }
 
-impl<'a> SignalLists<'a> {
+impl SignalLists {
     fn push(&mut self, border: &StoredBorder, signal: Signal) -> Result<(), AllocError>
         ensures all_times { OnOk result (self.new.all_times.items
             ≡ self.old.all_times.items ++ all_times_of_line border.now border.now.time signal) }
         ensures events { OnOk result (self.new.events.items
             ≡ self.old.events.items ++ events_of_line border.now border.now.time signal) }
-        ensures slots { self.new.slots ≡ self.old.slots }
     {
         let cell = border.cell();
         match border.time() {
@@ -77,20 +62,20 @@ impl<'a> SignalLists<'a> {
         Ok(())
     }
 
-    // Adds an edge or halo line. Inlined, since a call costs as much as a line whose wire is remembered.
+    // Adds an edge or halo line. Inlined, since it runs for each line of each job.
     #[inline(always)]
     fn add(
         &mut self,
         circuit: &Circuit,
         locals: &Locals,
-        border: &StoredBorder<'a>,
+        border: &StoredBorder,
     ) -> Result<(), AllocError>
         requires { HasLocalWire (circuit_of circuit.now) locals.now border.now }
         ensures { OnOk result ((es : List BorderLine) →
             AreSignalLists (circuit_of circuit.now) locals.now es self.old →
             AreSignalLists (circuit_of circuit.now) locals.now (es ++ border.now ∷ []) self.new) }
     {
-        let signal = one_or_local_wire(circuit, locals, &mut self.slots, border.signal());
+        let signal = signal_of(circuit, locals, border);
         self.push(border, signal)
     }
 
@@ -100,7 +85,7 @@ impl<'a> SignalLists<'a> {
         circuit: &Circuit,
         locals: &Locals,
         side: RingOrHalo,
-        line: &StoredLine<'a>,
+        line: &StoredLine,
     ) -> Result<(), AllocError>
         requires { All (HasLocalWire (circuit_of circuit.now) locals.now)
             (borders_in side line.now) }
@@ -143,7 +128,6 @@ pub(crate) fn signals_of(
     let mut table = SignalLists {
         all_times: Vec::new(alloc),
         events: Vec::with_capacity(alloc, lines.len())?,
-        slots: empty_slots(),
     };
     'lines: for line in lines {
         table.add_line(circuit, locals, side, line)?;

@@ -9,7 +9,6 @@ use Rattle.section_text.specs.Codes.{code_if, or_else}
 use Rattle.bbm_rule.specs.Spans.{in_area}
 use Rattle.circuit.specs.Meaning.{Circuit}
 use Rattle.certificate_lines.specs.declared.local_names.CutWire.{CutWire}
-use Rattle.certificate_lines.specs.declared.local_names.LocalName.{LocalName}
 use Rattle.module_box.specs.Boxes.{in_box}
 use Rattle.module_box.specs.Locals.{is_among}
 use Rattle.module_box.specs.declared.boxes.Box2.{Box2}
@@ -425,7 +424,7 @@ border_wires c (Stop s) border = refl
 -- ---- with the wires of all modules
 
 pub with_none : (g : Setting) (covered : Board) → covered.width ≡ g.size.w → covered.height ≡ g.size.h →
-    ((x y : ℤ) → live covered x y ≡ false) → (e h : List Cell) → (slots : List (Option LocalName)) →
+    ((x y : ℤ) → live covered x y ≡ false) → (e h : List Cell) → (slots : List (Option CutWire)) →
     slots ≡ replicate 64 None → IsTrackedWith g [] covered [] (last_body_line []) [] [] [] e h slots
 unfolding modules_of last_of
 with_none g covered w high dead e h slots none = grind (arith, common_steps, kept_none, no_names)
@@ -433,7 +432,7 @@ with_none g covered w high dead e h slots none = grind (arith, common_steps, kep
 module _ (g : Setting) (es : List CertificateLine) (covered : Board) (counts : List Counts)
     (last : Option CertificateLine)
     (names : List (List ℕ)) (earlier : List (List ℕ)) (local : List ℕ) (e h : List Cell)
-    (slots : List (Option LocalName))
+    (slots : List (Option CutWire))
     (was : IsTrackedWith g es covered counts last names earlier local e h slots) where
   pub with_inner : (i : CertificateLine) → IsBodyLine i → (good : IsGoodLine g es i) → (after : List Counts) →
       after ≡ change_last (counted i) counts → (e' h' : List Cell)
@@ -477,7 +476,7 @@ module _ (g : Setting) (es : List CertificateLine) (covered : Board) (counts : L
       ((x y : ℤ) → live new_covered x y ≡ (live covered x y || in_area b.x b.y b.w b.h x y)) →
       HasSameSize covered new_covered
       → ((f : List ℕ → Bool) → list_any f new_names ≡ list_any (λ p. in_box b p.cell.x p.cell.y && f p.name) g.ports)
-      → (slots' : List (Option LocalName)) → slots' ≡ replicate 64 None
+      → (slots' : List (Option CutWire)) → slots' ≡ replicate 64 None
       → IsTrackedWith g (es ++ Module b ∷ []) new_covered
       (counts ++ record { area = b; cuts = 0; gates = 0; edges = 0; halos = 0; stops = 0 } ∷ [])
       (last_body_line (es ++ Module b ∷ [])) new_names (earlier ++ local ∷ []) [] [] [] slots'
@@ -495,7 +494,7 @@ module _ (g : Setting) (es : List CertificateLine) (covered : Board) (counts : L
 -- the same with other names in slots
 pub with_names : (g : Setting) (es : List CertificateLine) (covered : Board) (counts : List Counts)
     (last : Option CertificateLine) (names : List (List ℕ)) (earlier : List (List ℕ)) (local : List ℕ) (e h : List Cell)
-    (slots slots' : List (Option LocalName)) →
+    (slots slots' : List (Option CutWire)) →
     IsTrackedWith g es covered counts last names earlier local e h slots → AreLocalNames g.circuit local slots' →
     IsTrackedWith g es covered counts last names earlier local e h slots'
 with_names g es covered counts last names earlier local e h slots slots' was named = grind (arith, common_steps)

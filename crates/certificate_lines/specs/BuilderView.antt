@@ -9,7 +9,6 @@ use Rattle.bbm_rule.specs.Board.{Board, live}
 use Rattle.bbm_rule.specs.declared.block.Cell.{Cell}
 use Rattle.module_box.specs.Boxes.{in_box, in_halo, IsEven}
 use Rattle.certificate_lines.specs.declared.local_names.CutWire.{CutWire}
-use Rattle.certificate_lines.specs.declared.local_names.LocalName.{LocalName}
 use Rattle.module_box.specs.Tiling.{AreOwners, Owning}
 use Rattle.module_box.specs.declared.boxes.Box2.{Box2}
 use Rattle.certificate_lines.specs.Entries.{Setting, ModuleLines, modules_of, last_of, areas, counts_of, known, edges}
@@ -112,14 +111,14 @@ abbrev pub AreLocalWiresOfModules : Circuit → List ModuleLines → List (List 
 AreLocalWiresOfModules c ms earlier local = earlier ++ local ∷ [] ≡ [] ∷ map (known c) ms
 
 -- each name in a slot is that of a wire of the circuit whose number is in `local`
-abbrev pub AreLocalNames : Circuit → List ℕ → List (Option LocalName) → Type 0
+abbrev pub AreLocalNames : Circuit → List ℕ → List (Option CutWire) → Type 0
 AreLocalNames c local slots = All (λ slot. IfSome slot (λ n. is_local c local n.name.now ≡ true)) slots
 
 -- what is kept of the lines, of the wires of all modules, and of the names of local wires
 pub record IsTrackedWith (g : Setting) (es : List CertificateLine) (covered : Board) (counts : List Counts)
     (last : Option CertificateLine)
     (names : List (List ℕ)) (earlier : List (List ℕ)) (local : List ℕ) (e h : List Cell)
-    (slots : List (Option LocalName)) : Type 0 where
+    (slots : List (Option CutWire)) : Type 0 where
   pub kept : IsTracked g es covered counts last names local e h
   pub wires : AreLocalWiresOfModules g.circuit (modules_of es) earlier local
   pub local_names : AreLocalNames g.circuit local slots

@@ -80,8 +80,8 @@ fn push_cut(wires: &mut Vec<WireNo>, circuit: &Circuit, line: &StoredLine) -> Re
         ≡ wires.old.items ++ flat_map (λ n. option_to_list (wire_of (circuit_of circuit.now) n))
         (cut_in line.now)) }
 {
-    if let Some(name) = line.cut() {
-        if let Some(wire) = circuit.wire(name) {
+    if let Some(cut) = line.cut() {
+        if let Some(wire) = circuit.wire_at(cut.wire, cut.name) {
             wires.push(wire)?;
         }
     }
@@ -113,7 +113,7 @@ pub fn cut_list(
         ≡ flat_map (λ n. option_to_list (wire_of (circuit_of circuit.now) n))
         (flat_map cut_in lines.now)) }
 {
-    let mut wires = Vec::new(alloc);
+    let mut wires = Vec::with_capacity(alloc, lines.len())?;
     push_cuts(&mut wires, circuit, lines)?;
     Ok(wires)
 }
@@ -133,7 +133,7 @@ pub fn used_gates(alloc: Global, lines: &[StoredLine]) -> Result<Vec<GateNo>, Al
     requires { All (λ k. k < 2 ^ 16) (flat_map use_in lines.now) }
     ensures { IfOk result (λ gates. gates.items ≡ flat_map use_in lines.now) }
 {
-    let mut gates = Vec::new(alloc);
+    let mut gates = Vec::with_capacity(alloc, lines.len())?;
     for line in lines {
         push_use(&mut gates, line)?;
     }

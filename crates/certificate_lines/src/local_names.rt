@@ -14,12 +14,6 @@ use section_text::Name;
 // The count of slots.
 const SLOT_COUNT: usize = 64;
 
-/// The name of a wire that is local, as the circuit has it.
-#[derive(Clone, Copy)]
-pub(crate) struct LocalName<'a> {
-    name: &'a Name,
-}
-
 /// A wire of the circuit: its number, and its name as the circuit has it.
 #[derive(Clone, Copy)]
 pub(crate) struct CutWire<'a> {
@@ -43,7 +37,7 @@ pub(crate) fn cut_wire<'a>(tables: &LineTables<'a>, line: &CertificateLine) -> O
 /// Names of wires that are local in a module, in slots by their last bytes.
 #[derive(Drop)]
 pub(crate) struct LocalNames<'a> {
-    slots: [Option<LocalName<'a>>; SLOT_COUNT],
+    slots: [Option<CutWire<'a>>; SLOT_COUNT],
 }
 
 // The slot of a name, by its last two bytes, in which the names of a module's wires mostly differ.
@@ -62,7 +56,7 @@ fn slot_of(name: &Name) -> usize
 fn look_up_local_name<'a>(
     tables: &LineTables<'a>,
     known: &WireList,
-    slots: &mut [Option<LocalName<'a>>; SLOT_COUNT],
+    slots: &mut [Option<CutWire<'a>>; SLOT_COUNT],
     slot: usize,
     name: &Name,
 ) -> Option<&'a Name>
@@ -72,14 +66,12 @@ fn look_up_local_name<'a>(
     ensures same_name { IfSome result (λ own. own.now ≡ name.now) }
     ensures names { AreLocalNames tables.now.circuit known.now.wires slots.new }
 {
-    let (wire, circuit_name_of_line) = tables.named_wire(name)?;
+    let (wire, name) = tables.named_wire(name)?;
     if !known.contains(wire) {
         return None;
     }
-    slots[slot] = Some(LocalName {
-        name: circuit_name_of_line,
-    });
-    Some(circuit_name_of_line)
+    slots[slot] = Some(CutWire { wire, name });
+    Some(name)
 }
 
 // Returns the circuit's name of the wire of this name, if it is local. It looks the name up only if its slot does not
@@ -88,7 +80,7 @@ fn look_up_local_name<'a>(
 fn find_name_in_slots<'a>(
     tables: &LineTables<'a>,
     known: &WireList,
-    slots: &mut [Option<LocalName<'a>>; SLOT_COUNT],
+    slots: &mut [Option<CutWire<'a>>; SLOT_COUNT],
     name: &Name,
 ) -> Option<&'a Name>
     requires names { AreLocalNames tables.now.circuit known.now.wires slots.old }
@@ -111,7 +103,7 @@ fn find_name_in_slots<'a>(
 fn put_cut_name_in_slot<'a>(
     tables: &LineTables<'a>,
     known: &WireList,
-    slots: &mut [Option<LocalName<'a>>; SLOT_COUNT],
+    slots: &mut [Option<CutWire<'a>>; SLOT_COUNT],
     cut: CutWire<'a>,
 )
     requires wire { wire_of tables.now.circuit cut.name.now ≡ Some cut.wire }
@@ -119,7 +111,7 @@ fn put_cut_name_in_slot<'a>(
     ensures names { AreLocalNames tables.now.circuit known.now.wires slots.new }
 {
     if known.contains(cut.wire) {
-        slots[slot_of(cut.name)] = Some(LocalName { name: cut.name });
+        slots[slot_of(cut.name)] = Some(cut);
     }
 }
 
@@ -172,28 +164,28 @@ impl<'a> LocalNames<'a> {
         find_name_in_slots(tables, known, &mut self.slots, name)
     }
 
-    /// Returns the circuit's name of the wire of this name.
+    /// Returns the circuit's wire of this name.
     ///
     /// The name is looked up only if its slot does not hold it.
     #[inline(always)]
-    pub(crate) fn circuit_name_of_line(&self, tables: &LineTables<'a>, name: &Name) -> &'a Name
+    pub(crate) fn circuit_name_of_line(&self, tables: &LineTables<'a>, name: &Name) -> CutWire<'a>
         requires { IsTrue (is_some (wire_of tables.now.circuit name.now)) }
-        ensures { result.now ≡ name.now }
+        ensures { result.name.now ≡ name.now }
     {
         let slots = &self.slots[..];
         if let Some(local) = slots[slot_of(name)] {
             if *local.name == *name {
-                return local.name;
+                return local;
             }
         }
         match tables.named_wire(name) {
-            Some((_, circuit_name_of_line)) => circuit_name_of_line,
+            Some((wire, name)) => CutWire { wire, name },
             None => unreachable!(),
         }
     }
 }
 
-/// Returns the name in a line as the circuit has it, if the line has one.
+/// Returns the wire that a line names, if it names one.
 #[inline(always)]
 pub(crate) fn circuit_name_of_line<'a>(
     tables: &LineTables<'a>,
@@ -201,14 +193,14 @@ pub(crate) fn circuit_name_of_line<'a>(
     names: &LocalNames<'a>,
     line: &CertificateLine,
     cut: Option<CutWire<'a>>,
-) -> Option<&'a Name>
+) -> Option<CutWire<'a>>
     requires wire { NamesLocalOrCutWire tables.now.circuit known.now.wires line.now }
     requires cut { IsCutWire tables.now.circuit line.now cut }
-    ensures { option_map (λ n. n.now) result ≡ name_in line.now }
+    ensures { option_map (λ w. w.name.now) result ≡ name_in line.now }
 {
     match line {
         CertificateLine::Cut(_) => match cut {
-            Some(cut) => Some(cut.name),
+            Some(cut) => Some(cut),
             None => unreachable!(),
         },
         CertificateLine::Edge(border) => circuit_signal_name(tables, known, names, &border.signal),
@@ -218,16 +210,16 @@ pub(crate) fn circuit_name_of_line<'a>(
     }
 }
 
-// The name of a signal as the circuit has it, if the signal is a wire.
+// The circuit's wire of a signal, if the signal is a wire.
 #[inline(always)]
 fn circuit_signal_name<'a>(
     tables: &LineTables<'a>,
     known: &WireList,
     names: &LocalNames<'a>,
     signal: &Option<Name>,
-) -> Option<&'a Name>
+) -> Option<CutWire<'a>>
     requires { IfSome signal.now (λ n. IsTrue (is_local tables.now.circuit known.now.wires n)) }
-    ensures { option_map (λ n. n.now) result ≡ signal.now }
+    ensures { option_map (λ w. w.name.now) result ≡ signal.now }
 {
     match signal {
         Some(name) => Some(names.circuit_name_of_line(tables, name)),

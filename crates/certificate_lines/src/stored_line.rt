@@ -1,32 +1,48 @@
-//! A line of a certificate as a certificate keeps it: with a reference to the name of its wire.
-ghost use Rattle.std.specs.Prelude.{◌≡◌};
-ghost use Rattle.std.specs.Option.{option_map, option_to_list};
+//! A line of a certificate as a certificate keeps it: with a reference to the name of its wire, and the wire's number.
+ghost use Rattle.std.specs.Prelude.{◌≡◌, ◌<◌, IfSome};
+ghost use Rattle.std.specs.Option.{option_and_then, option_map, option_to_list};
+ghost use Rattle.circuit.specs.Bridge.{circuit_of, netlist_of};
+ghost use Rattle.circuit.specs.Meaning.{wire_of, wires};
 ghost use Rattle.certificate_lines.specs.Entries.{cut_in, edge_in, halo_in, name_in, stop_in};
 ghost use Rattle.certificate_lines.specs.Versions.{is_halo};
 ghost use Rattle.certificate_lines.specs.declared.certificate_line.CertificateLine.TheVariants.{Module, Halo};
 
 use crate::certificate_line::{BorderLine, CertificateLine, StopLine};
+use crate::local_names::CutWire;
 use bbm_rule::Cell;
+use circuit::{Circuit, WireNo};
 use module_box::Box2;
 use section_text::Name;
 use std::marker::Model;
+use std::mem::size_of;
 
 // A line, by its kind. Most lines are edge and halo lines. Those of the constant `1` are kinds of their own, since an
-// optional reference takes as much room as two references.
+// optional reference takes as much room as two references. The number of a wire comes first: it has room behind the tag.
 #[derive(Clone, Copy)]
 enum Content<'a> {
     Module(Box2),
-    Cut(&'a Name),
+    Cut(u16, &'a Name),
     Use(u32),
     Keep(u32),
-    EdgeOfWire(Option<u32>, Cell, &'a Name),
+    EdgeOfWire(u16, Option<u32>, Cell, &'a Name),
     EdgeOfOne(Option<u32>, Cell),
-    HaloOfWire(Option<u32>, Cell, &'a Name),
+    HaloOfWire(u16, Option<u32>, Cell, &'a Name),
     HaloOfOne(Option<u32>, Cell),
-    Stop(u32, Cell, &'a Name),
+    Stop(u16, u32, Cell, &'a Name),
+}
+
+const _: () = prove!(size_of::<Content>() == 32);
+
+// The signal of an edge or halo line: the constant `1`, or a wire by its number and its name.
+#[derive(Clone, Copy)]
+enum StoredSignal<'a> {
+    One,
+    Wire(u16, &'a Name),
 }
 
 /// A line of a certificate, with a reference to its wire's name. Contracts see the line with the name.
+///
+/// It also has the wire's number, of which no contract speaks: who uses it compares the wire's name.
 ///
 /// It takes 32 bytes. A line with a copy of the name takes 56, and a certificate may have a million lines.
 #[derive(Drop)]
@@ -49,7 +65,7 @@ impl<'a> Model for StoredLine<'a> {
 pub struct StoredBorder<'a> {
     time: Option<u32>,
     cell: Cell,
-    signal: Option<&'a Name>,
+    signal: StoredSignal<'a>,
 }
 
 impl<'a> Model for StoredBorder<'a> {
@@ -67,6 +83,7 @@ impl<'a> Model for StoredBorder<'a> {
 pub struct StoredStop<'a> {
     time: u32,
     cell: Cell,
+    number: u16,
     wire: &'a Name,
 }
 
@@ -97,26 +114,28 @@ impl<'a> StoredLine<'a> {
         }
     }
 
-    /// Returns the line, with this reference in place of its name, if it has one.
+    /// Returns the line, with this wire in place of its name, if it has one.
     #[inline(always)]
-    pub(crate) fn of(line: &CertificateLine, name: Option<&'a Name>) -> StoredLine<'a>
-        requires { option_map (λ n. n.now) name ≡ name_in line.now }
+    pub(crate) fn of(line: &CertificateLine, wire: Option<CutWire<'a>>) -> StoredLine<'a>
+        requires { option_map (λ w. w.name.now) wire ≡ name_in line.now }
         ensures { result ≡ line.now }
     {
-        let content = match (line, name) {
+        let content = match (line, wire) {
             (CertificateLine::Module(area), _) => Content::Module(*area),
-            (CertificateLine::Cut(_), Some(name)) => Content::Cut(name),
+            (CertificateLine::Cut(_), Some(cut)) => Content::Cut(cut.wire, cut.name),
             (CertificateLine::Use(number), _) => Content::Use(*number),
             (CertificateLine::Keep(number), _) => Content::Keep(*number),
-            (CertificateLine::Edge(border), Some(name)) => {
-                Content::EdgeOfWire(border.time, border.cell, name)
+            (CertificateLine::Edge(border), Some(own)) => {
+                Content::EdgeOfWire(own.wire, border.time, border.cell, own.name)
             }
             (CertificateLine::Edge(border), None) => Content::EdgeOfOne(border.time, border.cell),
-            (CertificateLine::Halo(border), Some(name)) => {
-                Content::HaloOfWire(border.time, border.cell, name)
+            (CertificateLine::Halo(border), Some(own)) => {
+                Content::HaloOfWire(own.wire, border.time, border.cell, own.name)
             }
             (CertificateLine::Halo(border), None) => Content::HaloOfOne(border.time, border.cell),
-            (CertificateLine::Stop(stop), Some(name)) => Content::Stop(stop.time, stop.cell, name),
+            (CertificateLine::Stop(stop), Some(own)) => {
+                Content::Stop(own.wire, stop.time, stop.cell, own.name)
+            }
             _ => unreachable!(),
         };
         StoredLine { content }
@@ -128,8 +147,8 @@ impl<'a> StoredLine<'a> {
     {
         let StoredBorder { time, cell, signal } = border;
         let content = match *signal {
-            Some(name) => Content::HaloOfWire(*time, *cell, name),
-            None => Content::HaloOfOne(*time, *cell),
+            StoredSignal::Wire(number, name) => Content::HaloOfWire(number, *time, *cell, name),
+            StoredSignal::One => Content::HaloOfOne(*time, *cell),
         };
         StoredLine { content }
     }
@@ -141,18 +160,18 @@ impl<'a> StoredLine<'a> {
     {
         match self.content {
             Content::Module(area) => CertificateLine::Module(area),
-            Content::Cut(name) => CertificateLine::Cut(*name),
+            Content::Cut(_, name) => CertificateLine::Cut(*name),
             Content::Use(number) => CertificateLine::Use(number),
             Content::Keep(number) => CertificateLine::Keep(number),
-            Content::EdgeOfWire(time, cell, name) => {
+            Content::EdgeOfWire(_, time, cell, name) => {
                 CertificateLine::Edge(border(time, cell, Some(*name)))
             }
             Content::EdgeOfOne(time, cell) => CertificateLine::Edge(border(time, cell, None)),
-            Content::HaloOfWire(time, cell, name) => {
+            Content::HaloOfWire(_, time, cell, name) => {
                 CertificateLine::Halo(border(time, cell, Some(*name)))
             }
             Content::HaloOfOne(time, cell) => CertificateLine::Halo(border(time, cell, None)),
-            Content::Stop(time, cell, wire) => CertificateLine::Stop(StopLine {
+            Content::Stop(_, time, cell, wire) => CertificateLine::Stop(StopLine {
                 time,
                 wire: *wire,
                 cell,
@@ -160,13 +179,13 @@ impl<'a> StoredLine<'a> {
         }
     }
 
-    /// Returns the name of the wire that the line cuts, if it is a cut.
+    /// Returns the wire that the line cuts, if it is a cut.
     #[inline(always)]
-    pub(crate) fn cut(&self) -> Option<&'a Name>
-        ensures { option_to_list (option_map (λ n. n.now) result) ≡ cut_in self.now }
+    pub(crate) fn cut(&self) -> Option<CutWire<'a>>
+        ensures { option_to_list (option_map (λ w. w.name.now) result) ≡ cut_in self.now }
     {
         match self.content {
-            Content::Cut(name) => Some(name),
+            Content::Cut(wire, name) => Some(CutWire { wire, name }),
             _ => None,
         }
     }
@@ -177,15 +196,15 @@ impl<'a> StoredLine<'a> {
         ensures { option_to_list result ≡ edge_in self.now }
     {
         match self.content {
-            Content::EdgeOfWire(time, cell, name) => Some(StoredBorder {
+            Content::EdgeOfWire(number, time, cell, name) => Some(StoredBorder {
                 time,
                 cell,
-                signal: Some(name),
+                signal: StoredSignal::Wire(number, name),
             }),
             Content::EdgeOfOne(time, cell) => Some(StoredBorder {
                 time,
                 cell,
-                signal: None,
+                signal: StoredSignal::One,
             }),
             _ => None,
         }
@@ -197,15 +216,15 @@ impl<'a> StoredLine<'a> {
         ensures { option_to_list result ≡ halo_in self.now }
     {
         match self.content {
-            Content::HaloOfWire(time, cell, name) => Some(StoredBorder {
+            Content::HaloOfWire(number, time, cell, name) => Some(StoredBorder {
                 time,
                 cell,
-                signal: Some(name),
+                signal: StoredSignal::Wire(number, name),
             }),
             Content::HaloOfOne(time, cell) => Some(StoredBorder {
                 time,
                 cell,
-                signal: None,
+                signal: StoredSignal::One,
             }),
             _ => None,
         }
@@ -218,7 +237,7 @@ impl<'a> StoredLine<'a> {
         ensures { result ≡ is_halo self.now }
     {
         match self.content {
-            Content::HaloOfWire(_, _, _) => true,
+            Content::HaloOfWire(_, _, _, _) => true,
             Content::HaloOfOne(_, _) => true,
             _ => false,
         }
@@ -230,7 +249,12 @@ impl<'a> StoredLine<'a> {
         ensures { option_to_list result ≡ stop_in self.now }
     {
         match self.content {
-            Content::Stop(time, cell, wire) => Some(StoredStop { time, cell, wire }),
+            Content::Stop(number, time, cell, wire) => Some(StoredStop {
+                time,
+                cell,
+                number,
+                wire,
+            }),
             _ => None,
         }
     }
@@ -267,7 +291,22 @@ impl<'a> StoredBorder<'a> {
     pub fn signal(&self) -> Option<&'a Name>
         ensures { option_map (λ n. n.now) result ≡ self.now.signal }
     {
-        self.signal
+        match self.signal {
+            StoredSignal::Wire(_, name) => Some(name),
+            StoredSignal::One => None,
+        }
+    }
+
+    /// Returns the wire in the circuit, or `None` for the constant `1`. Only if the circuit has another wire at the
+    /// number of the line, it is looked up by its hash.
+    #[inline(always)]
+    pub fn wire_in(&self, circuit: &Circuit) -> Option<WireNo>
+        ensures { result ≡ option_and_then (wire_of (circuit_of circuit.now)) self.now.signal }
+    {
+        match self.signal {
+            StoredSignal::Wire(number, name) => circuit.wire_at(number, name),
+            StoredSignal::One => None,
+        }
     }
 }
 
@@ -291,5 +330,14 @@ impl<'a> StoredStop<'a> {
         ensures { result.now ≡ self.now.wire }
     {
         self.wire
+    }
+
+    /// Returns the wire in the circuit. Only if the circuit has another wire at the number of the line, it is looked up
+    /// by its hash.
+    pub fn wire_in(&self, circuit: &Circuit) -> Option<WireNo>
+        ensures wire { result ≡ wire_of (circuit_of circuit.now) self.now.wire }
+        ensures below { IfSome result (λ w. w < wires (netlist_of circuit.now)) }
+    {
+        circuit.wire_at(self.number, self.wire)
     }
 }

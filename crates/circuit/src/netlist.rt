@@ -1,5 +1,5 @@
 //! Circuits: their wires, their gates, and their values.
-ghost use Rattle.std.specs.Prelude.{◌≡◌, ◌<◌, ◌≤◌, Some, length, take, slice_get, IfErr, IfOk, IfSome};
+ghost use Rattle.std.specs.Prelude.{◌≡◌, ◌<◌, ◌≤◌, Some, true, length, take, slice_get, IfErr, IfOk, IfSome};
 ghost use Rattle.std.specs.Option.{option_map};
 ghost use Rattle.circuit.specs.Entries.{defined};
 ghost use Rattle.circuit.specs.Bridge.{AreValues, IsValuesFault, circuit_of, input_count, input_names, is_input, netlist_of, read};
@@ -76,6 +76,18 @@ fn count_inputs(entries: &[CircuitLine]) -> usize
         .count()
 }
 
+// Whether the list has the name at this place.
+#[inline(always)]
+fn is_name_at(names: &[Name], place: usize, name: &Name) -> bool
+    ensures name { result ≡ true → slice_get names.now place ≡ Some name.now }
+    ensures within { result ≡ true → place < length names.now }
+{
+    match names.get(place) {
+        Some(found) => *found == *name,
+        None => false,
+    }
+}
+
 impl Circuit {
     // The lines of the circuit.
     pub(crate) fn entries(&self) -> &[CircuitLine]
@@ -117,6 +129,20 @@ impl Circuit {
     {
         let index = self.wires.get_index_of(name)?;
         Some(WireNo::of(index as u16))
+    }
+
+    /// Returns the wire of this name, if there is one. Its number is below `wires()`.
+    ///
+    /// If the wire of the number `likely` has the name, the name is compared, and not looked up by its hash.
+    #[inline(always)]
+    pub fn wire_at(&self, likely: u16, name: &Name) -> Option<WireNo>
+        ensures wire { result ≡ wire_of (circuit_of self.now) name.now }
+        ensures below { IfSome result (λ w. w < wires (netlist_of self.now)) }
+    {
+        if is_name_at(self.wires.as_slice(), likely as usize, name) {
+            return Some(WireNo::of(likely));
+        }
+        self.wire(name)
     }
 
     /// Returns the wire of this name, and the name as the circuit holds it, if there is one.

@@ -19,8 +19,8 @@ pub use Rattle.std.proofs.Math.Logic.{∥∥₁_elim, ∥∥₁_map}
 pub use Rattle.std.proofs.Math.Nat.{div-add-mod, div-le_self, div-mul-le_self, lt-div-mul-add, lt_of_mul-lt-mul_right}
 pub use Rattle.std.proofs.Math.Nat.{mod-eq_of_lt, mod-lt, mul-add-mod_self_left, mul-le-mul_left, mul-le-mul_right}
 pub use Rattle.std.proofs.Math.Nat.{mul_comm, pow-le-pow_right, pow-succ'}
-pub use Rattle.std.proofs.Math.Seq.{drop-append_seam, get_or-append_seam, map-set_same, set-append_seam, take-add}
-pub use Rattle.std.proofs.Math.Seq.{take-append_seam, take-length, take-suc}
+pub use Rattle.std.proofs.Math.Seq.{drop-append_seam, map-set_same, set-append_seam, take-add, take-append_seam}
+pub use Rattle.std.proofs.Math.Seq.{take-length, take-suc}
 pub use Rattle.std.proofs.Props.{props}
 pub use Rattle.std.proofs.lemmas.Bool.{OnTrue_from, and_from, and_parts, cases_Bool, cases_eq, cases_lt, cases_order}
 pub use Rattle.std.proofs.lemmas.Bool.{cond-false, cond-true, eqb-false, eqb-true, false_from_ne_true, false≢true}
@@ -61,7 +61,7 @@ pub use Rattle.std.proofs.lemmas.Nat.Bits.{bit_at-lt, bit_at-suc, bit_at-trailin
 pub use Rattle.std.proofs.lemmas.Nat.Bits.{bit_at_and, bit_at_cat_high, bit_at_cat_low, bit_at_clear_other}
 pub use Rattle.std.proofs.lemmas.Nat.Bits.{bit_at_clear_same, bit_at_lowest, bit_at_not, bit_at_ones, bit_at_or}
 pub use Rattle.std.proofs.lemmas.Nat.Bits.{bit_at_set_other, bit_at_set_same, bit_at_xor, same_from_bits, shr_and_one}
-pub use Rattle.std.proofs.lemmas.Option.{cond_some, get_or_from_slice_get, none-some, option_and_then_some, same_Some}
+pub use Rattle.std.proofs.lemmas.Option.{cond_some, get_or_from_slice_get, option_and_then_some, same_Some}
 pub use Rattle.std.proofs.lemmas.Option.{slice_get-get_or, slice_get-map, slice_get_cases, slice_get_past}
 pub use Rattle.std.proofs.lemmas.Option.{slice_get_read, slice_get_within, unwrap_or-slice_get}
 pub use Rattle.std.proofs.lemmas.Result.{IfOk-weaker, err_from_is_err_and}

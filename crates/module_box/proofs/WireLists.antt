@@ -1,13 +1,11 @@
 -- Lists of wires: the place of a wire, and wires that are added
-use Rattle.lemmas.proofs.Common.{[], ◌++◌, ◌+◌, ◌<◌, ◌==◌, ◌||◌, ◌∙◌, ◌∷◌, ◌≡◌, ◌≢◌, ◌≤◌, Contains, IfSome, List, None}
+use Rattle.lemmas.proofs.Common.{[], ◌++◌, ◌+◌, ◌<◌, ◌==◌, ◌||◌, ◌∙◌, ◌∷◌, ◌≡◌, ◌≤◌, Contains, IfSome, List, None}
 use Rattle.lemmas.proofs.Common.{Option, Some, ap, append_assoc, ap₂, arith, drop, eq-eqb, false, get_or}
-use Rattle.lemmas.proofs.Common.{get_or-append-add, get_or-set_other, get_or-set_same, if◌then◌else◌, inl, inr, is_some}
-use Rattle.lemmas.proofs.Common.{length, length-append, length-set, min, nat_eq, nat_lt, ne_eqb, position, refl, set}
-use Rattle.lemmas.proofs.Common.{slice_get, subst, suc, sym, take, take-append-drop, true, zero, ℕ, cases_lt}
-use Rattle.lemmas.proofs.Common.{common_steps, drop_more, eqb-false, eqb-true, fails_before_first, false_from_ne_true}
-use Rattle.lemmas.proofs.Common.{false≢true, get_or-append_seam, get_or-take, get_or_append_left, length-take, list_any}
-use Rattle.lemmas.proofs.Common.{list_any_at, none-some, position_or_len_is, same_Some, slice_get-get_or}
-use Rattle.lemmas.proofs.Common.{slice_get_past, slice_get_within, take_more, eq_itself, eq_sym}
+use Rattle.lemmas.proofs.Common.{get_or-append-add, inl, inr, is_some, length, length-append, nat_eq, ne_eqb, position}
+use Rattle.lemmas.proofs.Common.{refl, slice_get, subst, suc, sym, take, take-append-drop, true, zero, ℕ, cases_lt}
+use Rattle.lemmas.proofs.Common.{common_steps, drop_more, eqb-true, false_from_ne_true, false≢true, get_or_append_left}
+use Rattle.lemmas.proofs.Common.{list_any, list_any_at, position_or_len_is, same_Some, slice_get-get_or}
+use Rattle.lemmas.proofs.Common.{slice_get_within, take_more, eq_itself, eq_sym}
 use Rattle.std.proofs.lemmas.List.Quantifiers.{position-Some}
 use Rattle.std.proofs.lemmas.Map.Views.{Contains-from_any}
 use Rattle.module_box.specs.Locals.{AreDifferent, is_among}
@@ -73,91 +71,49 @@ module _ (old ws : List ℕ) (i w : ℕ) (different : AreDifferent (old ++ ws)) 
       new ≡ old ++ take (i + 1) ws
   wire_added known new so_far added = grind (arith, common_steps, take_more)
 
--- ---- a table of the places of wires, from a place on
-abbrev AreAt : ℕ → List ℕ → List ℕ → Type 0
-AreAt m ws places = (i : ℕ) → m ≤ i → i < length ws → slice_get places (get_or ws i 0) ≡ Some i
+-- ---- the place of a wire among different ones
 
-place_at : (m : ℕ) (ws places : List ℕ) (w i : ℕ) → AreAt m ws places → m ≤ i → i < length ws → get_or ws i 0 ≡ w →
-    slice_get places w ≡ Some i
-place_at m ws places w i at g l e = ap (slice_get places) (sym e) ∙ at i g l
-
--- the place of a wire that stands nowhere before it
-place_first : (ws : List ℕ) (w n : ℕ) → n < length ws → get_or ws n 0 ≡ w → ((k : ℕ) → k < n → get_or ws k 0 ≢ w) →
+-- the place at which it stands
+pub place_of_different : (ws : List ℕ) (w n : ℕ) → AreDifferent ws → slice_get ws n ≡ Some w →
     Some n ≡ position (λ v. v == w) ws
-place_first ws w n l e none = grind (arith, common_steps, position_or_len_is, ne_eqb, eq_itself)
+place_of_different ws w n different at =
+    let l : n < length ws = slice_get_within ws n w at in
+    let here : get_or ws n 0 ≡ w = same_Some _ _ (sym (slice_get-get_or ws n 0 l) ∙ at) in
+    let none : (k : ℕ) → k < n → (get_or ws k 0 == w) ≡ false = λ k lt.
+    let within : k < length ws = omega (arith, lt, l) in
+    ne_eqb (get_or ws k 0) w (λ e.
+    let same : k ≡ n = different k n w (slice_get-get_or ws k 0 within ∙ ap Some e) at in
+    omega (arith, lt, same)) in
+    grind (arith, common_steps, position_or_len_is, eq_itself)
 
--- a wire that stands nowhere has no place
-place_missing : (ws : List ℕ) (w : ℕ) → ((k : ℕ) → k < length ws → get_or ws k 0 ≢ w) → None ≡ position (λ v. v == w) ws
-place_missing ws w nowhere =
-    let none = position_or_len_is (λ v. v == w) ws (length ws) 0 (omega arith)
-    (λ k lt. ne_eqb (get_or ws k 0) w (nowhere k lt)) (λ l. absurd (omega arith)) in
-    rw none (is_none (length ws))
-  where
-    is_none : (m : ℕ) → None ≡ (if nat_lt m m then Some m else None)
-    is_none m = grind arith
+-- what stands in a list with one more wire
+front_wire : (ws : List ℕ) (w i v : ℕ) → i < length ws → slice_get (ws ++ w ∷ []) i ≡ Some v → slice_get ws i ≡ Some v
+front_wire [] w i v l at = absurd (omega arith)
+front_wire (u ∷ ws) w zero v l at = at
+front_wire (u ∷ ws) w (suc i) v l at = front_wire ws w i v (omega arith) at
 
--- a wire that has no place stands nowhere
-no_place : (ws : List ℕ) (w : ℕ) → None ≡ position (λ v. v == w) ws → (k : ℕ) → k < length ws → get_or ws k 0 ≢ w
-no_place ws w none k l = grind (arith, common_steps, eqb-false, fails_before_first)
+last_wire : (ws : List ℕ) (w i v : ℕ) → length ws ≤ i → slice_get (ws ++ w ∷ []) i ≡ Some v →
+    (i ≡ length ws) × (w ≡ v)
+last_wire [] w zero v l at = (refl, same_Some w v at)
+last_wire [] w (suc i) v l at = absurd cc
+last_wire (u ∷ ws) w zero v l at = absurd (omega arith)
+last_wire (u ∷ ws) w (suc i) v l at = let r = last_wire ws w i v (omega arith) at in (omega (arith, r.0), r.1)
 
--- what a scan of the first wires finds is the place among all
-pub scan_found : (m : ℕ) (ws : List ℕ) (w i : ℕ) → Some i ≡ position (λ v. v == w) (take m ws) →
-    Some i ≡ position (λ v. v == w) ws
-scan_found m ws w i e =
-    let is = position-Some (λ v. v == w) (take m ws) i 0 (sym e) in
-    let within : (i < m) × (i < length ws) = in_front (length (take m ws)) (length-take m ws) is.0 in
-    place_first ws w i within.1 (sym (get_or-take m ws i 0 within.0) ∙ eqb-true (get_or (take m ws) i 0) w is.1)
-    (λ k lt f. false≢true (sym (is.2 k lt) ∙ ap (λ v. v == w) (get_or-take m ws k 0 (omega (arith, lt, within.0)) ∙ f)
-    ∙ eq_itself w))
-  where
-    in_front : (n : ℕ) → n ≡ min m (length ws) → i < n → (i < m) × (i < length ws)
-    in_front n e l = (omega (arith, e, l), omega (arith, e, l))
-
-module _ (m : ℕ) (ws places : List ℕ) (w : ℕ) (at : AreAt m ws places)
-    (scanned : None ≡ position (λ v. v == w) (take m ws)) where
-  -- it is not among the first
-  past_first : (k : ℕ) → k < length ws → get_or ws k 0 ≡ w → m ≤ k
-  past_first k l e = elim (cases_lt k m) [
-    | inl lt ↦ absurd (no_place (take m ws) w scanned k (omega (arith, lt, l, length-take m ws))
-        (get_or-take m ws k 0 lt ∙ e))
-    | inr ge ↦ ge
+-- one more wire that is not among them
+pub different_push : (ws : List ℕ) (w : ℕ) → AreDifferent ws → is_among ws w ≡ false → AreDifferent (ws ++ w ∷ [])
+different_push ws w different new i j v at there = elim (cases_lt i (length ws)) [
+  | inl a ↦ elim (cases_lt j (length ws)) [
+    | inl b ↦ different i j v (front_wire ws w i v a at) (front_wire ws w j v b there)
+    | inr b ↦ absurd (apart i v (front_wire ws w i v a at) (last_wire ws w j v b there).1)
   ]
-
-  -- the table has its place
-  pub place_found : (n : ℕ) → n < length ws → get_or ws n 0 ≡ w → Some n ≡ position (λ v. v == w) ws
-  place_found n l e = place_first ws w n l e (λ k lt f.
-      let within : k < length ws = omega (arith, lt, l) in
-      let same = same_Some k n (sym (place_at m ws places w k at (past_first k within f) within f)
-      ∙ place_at m ws places w n at (past_first n l e) l e) in
-      omega (arith, lt, same))
-
-  -- it has none, where it is past the entries, or its entry is past the wires or of another wire
-  pub no_entry : length places ≤ w → None ≡ position (λ v. v == w) ws
-  no_entry past = grind (arith, common_steps, place_missing, none-some, slice_get_past, place_at, past_first)
-
-  pub other_entry : (n : ℕ) → w < length places → n ≡ get_or places w 0 → (n < length ws → get_or ws n 0 ≢ w) →
-      None ≡ position (λ v. v == w) ws
-  other_entry n within entry other =
-      grind (arith, common_steps, place_missing, same_Some, place_at, past_first, slice_get-get_or)
-
--- the table with the place of one more wire
-pub placed_more : (m : ℕ) (ws places longer : List ℕ) (w : ℕ) → AreAt m ws places → is_among ws w ≡ false →
-    ((v i : ℕ) → slice_get places v ≡ Some i → slice_get longer v ≡ Some i) → w < length longer →
-    AreAt m (ws ++ w ∷ []) (set longer w (length ws))
-placed_more m ws places longer w at new kept entry i g l = elim (cases_lt i (length ws)) [
-  | inl lt ↦
-      let v : ℕ = get_or ws i 0 in
-      let old : slice_get longer v ≡ Some i = kept v i (at i g lt) in
-      let other : v ≢ w = λ e. false≢true (sym new ∙ list_any_at (λ u. u == w) ws i 0 lt
-      (ap (λ u. u == w) e ∙ eq_itself w)) in
-      let within : v < length longer = slice_get_within longer v i old in
-      ap (slice_get (set longer w (length ws))) (get_or_append_left ws (w ∷ []) 0 i lt)
-      ∙ slice_get-get_or (set longer w (length ws)) v 0 (omega (arith, within, length-set longer w (length ws)))
-      ∙ ap Some (get_or-set_other longer w v (length ws) 0 other) ∙ sym (slice_get-get_or longer v 0 within) ∙ old
-  | inr ge ↦
-      let last : i ≡ length ws = omega (arith, l, ge, length-append ws (w ∷ [])) in
-      ap (slice_get (set longer w (length ws)))
-      (ap (λ m. get_or (ws ++ w ∷ []) m 0) last ∙ get_or-append_seam ws w [] 0)
-      ∙ slice_get-get_or (set longer w (length ws)) w 0 (omega (arith, entry, length-set longer w (length ws)))
-      ∙ ap Some (get_or-set_same longer w (length ws) 0 entry ∙ sym last)
+  | inr a ↦ elim (cases_lt j (length ws)) [
+    | inl b ↦ absurd (apart j v (front_wire ws w j v b there) (last_wire ws w i v a at).1)
+    | inr b ↦ (last_wire ws w i v a at).0 ∙ sym (last_wire ws w j v b there).0
+  ]
 ]
+  where
+    apart : (k v : ℕ) → slice_get ws k ≡ Some v → w ≡ v → ⊥
+    apart k v at e =
+        let l : k < length ws = slice_get_within ws k v at in
+        let here : get_or ws k 0 ≡ w = same_Some _ _ (sym (slice_get-get_or ws k 0 l) ∙ at) ∙ sym e in
+        false≢true (sym new ∙ list_any_at (λ u. u == w) ws k 0 l (ap (λ u. u == w) here ∙ eq_itself w))

@@ -147,14 +147,34 @@ impl Locals {
         ensures given { IfOk result (λ l. l.netlist.given ≡ length cuts.now) }
     {
         let circuit_gates = gates.to_vec(alloc)?;
+        Locals::with_gates(alloc, circuit, cuts, circuit_gates)
+    }
+
+    /// Creates them like [`Locals::new`], from a list of gates that it keeps.
+    pub fn with_gates(
+        alloc: Global,
+        circuit: &Circuit,
+        cuts: &[WireNo],
+        circuit_gates: Vec<GateNo>,
+    ) -> Result<Locals, AllocError>
+        requires { AreLocalLines (netlist_of circuit.now) cuts.now circuit_gates.items }
+        ensures locals { IfOk result (λ l. AreLocalsOf (netlist_of circuit.now) l) }
+        ensures wires { IfOk result (λ l. l.circuit_wires
+            ≡ local_wires (netlist_of circuit.now) cuts.now circuit_gates.items) }
+        ensures gates { IfOk result (λ l. l.circuit_gates ≡ circuit_gates.items) }
+        ensures count { IfOk result (λ l. length l.netlist.gates ≡ length circuit_gates.items) }
+        ensures given { IfOk result (λ l. l.netlist.given ≡ length cuts.now) }
+    {
         // Room for most modules: a gate mostly defines one to three wires.
-        let room = cuts.len().saturating_add(gates.len().saturating_mul(3));
-        let mut circuit_wires = NumberedWires::with_capacity(alloc, room)?;
-        let gates = number_cuts_and_gates(alloc, &mut circuit_wires, circuit, cuts, gates)?;
+        let room = cuts
+            .len()
+            .saturating_add(circuit_gates.len().saturating_mul(3));
+        let mut wires = NumberedWires::with_capacity(alloc, room)?;
+        let gates = number_cuts_and_gates(alloc, &mut wires, circuit, cuts, &circuit_gates)?;
         Ok(Locals {
             given: cuts.len(),
             gates,
-            circuit_wires,
+            circuit_wires: wires,
             circuit_gates,
         })
     }

@@ -1,22 +1,24 @@
 //! Wires of a circuit that are numbered anew.
 
-ghost use Rattle.std.specs.Prelude.{ℕ, ◌≡◌, ◌==◌, ◌<◌, ◌^◌, ◌++◌, ◌∷◌, [], false, length, position, slice_get, IfOk, OnErr, OnOk, Some};
+ghost use Rattle.std.specs.Prelude.{◌≡◌, ◌==◌, ◌<◌, ◌^◌, ◌++◌, ◌∷◌, [], false, true, length, position, slice_get, IfOk, OnErr, OnOk, Some};
 ghost use Rattle.module_box.specs.Locals.{is_among};
 
 use std::alloc::{AllocError, Global};
 use std::marker::Model;
 
-// How many wires are looked up by comparing each of them. Most modules know fewer, and make no table.
-const SCAN_COUNT: usize = 32;
+// The count of entries of the table. The wires of a module mostly have near numbers, so few have one entry.
+const ENTRY_COUNT: usize = 256;
 
 /// Different wires of a circuit, numbered from 0 in the order in which they were added.
 ///
-/// To look a wire's new number up compares at most 32 wires, and then reads a table.
+/// To look a wire's new number up reads a table. Only if the wire shares its entry with a later one, it is compared with
+/// each of the wires.
 #[derive(Debug, Drop)]
 pub(crate) struct NumberedWires {
     wires: Vec<u16>,
-    // The new number of each wire from number 32 on, by the wire's number in the circuit. Other entries mean nothing.
-    numbers: Vec<u16>,
+    // By the last bits of a wire's number in the circuit, the new number of the wire that was added last of those with
+    // these bits.
+    numbers: [u16; ENTRY_COUNT],
 }
 
 impl Model for NumberedWires {
@@ -38,20 +40,14 @@ fn place_in(wires: &[u16], wire: u16) -> Option<usize>
     wires.iter().position(|w| *w == wire)
 }
 
-// How many entries the table gets at once: wires that are added later mostly have near numbers.
-const ENTRY_COUNT: usize = 512;
-
-// Makes the table long enough for an entry of this wire.
-fn make_room_for_entry(numbers: &mut Vec<u16>, wire: u16) -> Result<(), AllocError>
-    ensures entry { OnOk result (wire < length numbers.new.items) }
-    ensures kept { OnOk result ((v i : ℕ) → slice_get numbers.old.items v ≡ Some i →
-        slice_get numbers.new.items v ≡ Some i) }
-    ensures unchanged_on_error { OnErr result (numbers.new.items ≡ numbers.old.items) }
+// Whether the wire stands at this place of a list.
+fn is_wire_at(wires: &[u16], place: u16, wire: u16) -> bool
+    ensures { result ≡ true → slice_get wires.now place ≡ Some wire }
 {
-    if numbers.len() > wire as usize {
-        return Ok(());
+    match wires.get(place as usize) {
+        Some(found) => *found == wire,
+        None => false,
     }
-    numbers.resize((wire as usize / ENTRY_COUNT + 1) * ENTRY_COUNT, 0)
 }
 
 impl NumberedWires {
@@ -62,7 +58,7 @@ impl NumberedWires {
         let wires = Vec::with_capacity(alloc, room)?;
         Ok(NumberedWires {
             wires,
-            numbers: Vec::new(alloc),
+            numbers: [0; ENTRY_COUNT],
         })
     }
 
@@ -84,18 +80,14 @@ impl NumberedWires {
     pub(crate) fn number(&self, wire: u16) -> Option<u16>
         ensures { result ≡ position (λ w. w == wire) self.now }
     {
-        let scanned = self.wires.len().min(SCAN_COUNT);
-        if let Some(place) = place_in(&self.wires[..scanned], wire) {
-            return Some(place as u16);
+        let number = self.numbers[wire as usize % ENTRY_COUNT];
+        if is_wire_at(&self.wires, number, wire) {
+            return Some(number);
         }
-        let Some(number) = self.numbers.get(wire as usize) else {
-            return None;
-        };
-        let Some(found) = self.wires.get(*number as usize) else {
-            return None;
-        };
-        // The entry of a wire that is not one of these means nothing.
-        if *found == wire { Some(*number) } else { None }
+        match place_in(&self.wires, wire) {
+            Some(place) => Some(place as u16),
+            None => None,
+        }
     }
 
     /// Adds a wire that is not one of these yet. It gets the next number.
@@ -105,14 +97,9 @@ impl NumberedWires {
         ensures added { OnOk result (self.new ≡ self.old ++ wire ∷ []) }
         ensures unchanged_on_error { OnErr result (self.new ≡ self.old) }
     {
-        let number = self.wires.len();
-        if number < SCAN_COUNT {
-            self.wires.push(wire)?;
-            return Ok(());
-        }
-        make_room_for_entry(&mut self.numbers, wire)?;
+        let number = self.wires.len() as u16;
         self.wires.push(wire)?;
-        self.numbers[wire as usize] = number as u16;
+        self.numbers[wire as usize % ENTRY_COUNT] = number;
         Ok(())
     }
 

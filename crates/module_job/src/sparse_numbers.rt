@@ -34,7 +34,7 @@ impl Model for SparseNumbers {
 }
 
 // For how many words the first allocation of entries has room. Most lists are short, and are not moved then.
-const FIRST_ROOM: usize = 32;
+const FIRST_ROOM: usize = 64;
 
 // Adds an entry: a place plus one, and its number.
 fn push_entry(entries: &mut Vec<u64>, place: u64, number: u64) -> Result<(), AllocError>
@@ -112,6 +112,7 @@ impl SparseNumbers {
     }
 
     /// Adds a number.
+    #[inline(always)]
     pub(crate) fn push(&mut self, number: u64) -> Result<(), AllocError>
         ensures added { OnOk result (self.new ≡ self.old ++ number ∷ []) }
         ensures unchanged { OnErr result (self.new ≡ self.old) }

@@ -1,6 +1,6 @@
 //! Summaries of shapes: some of their numbers, which take few steps to find.
 ghost use Rattle.std.specs.Prelude.{◌≡◌};
-ghost use Rattle.module_job.specs.Summaries.{last_all_times, last_event, shape_summary};
+ghost use Rattle.module_job.specs.Summaries.{last_all_times, event_at_place, shape_summary};
 
 use crate::keys::{signal_number, zigzag_number};
 use crate::shape::Shape;
@@ -10,11 +10,11 @@ use module_box::{AllTimes, Moment, Signal, TimedSignal};
 // The cell of a signal that a list does not have.
 const CORNER: Cell = Cell { x: 0, y: 0 };
 
-// The last event, or that the corner is dead at time 0 if there is none.
-fn last_event(events: &[TimedSignal]) -> TimedSignal
-    ensures { result ≡ last_event events.now }
+// The event at this place, or that the corner is dead at time 0 if there is none.
+fn event_at_place(events: &[TimedSignal], place: usize) -> TimedSignal
+    ensures { result ≡ event_at_place events.now place }
 {
-    match events.last() {
+    match events.get(place) {
         Some(event) => *event,
         None => TimedSignal {
             at: Moment {
@@ -44,11 +44,14 @@ impl Shape {
     ///
     /// The time that it takes does not depend on the lengths of the lists.
     #[tactic(auto, unfolding(crate::specs::Summaries::shape_summary))]
-    pub(crate) fn summary(&self) -> [u64; 19]
+    pub(crate) fn summary(&self) -> [u64; 23]
         ensures { result ≡ shape_summary self.now }
     {
-        let edge = last_event(self.edges.events());
-        let halo = last_event(self.halos.events());
+        let edges = self.edges.events();
+        let halos = self.halos.events();
+        let edge = event_at_place(edges, edges.len().saturating_sub(1));
+        let halo = event_at_place(halos, halos.len().saturating_sub(1));
+        let third = event_at_place(halos, halos.len() / 3);
         let always = last_all_times(self.edges.all_times());
         [
             self.width as u64,
@@ -56,9 +59,9 @@ impl Shape {
             self.wiring.gates() as u64,
             self.stops.len() as u64,
             self.edges.all_times().len() as u64,
-            self.edges.events().len() as u64,
+            edges.len() as u64,
             self.halos.all_times().len() as u64,
-            self.halos.events().len() as u64,
+            halos.len() as u64,
             zigzag_number(always.cell.x),
             zigzag_number(always.cell.y),
             signal_number(always.signal),
@@ -70,6 +73,10 @@ impl Shape {
             zigzag_number(halo.at.cell.x),
             zigzag_number(halo.at.cell.y),
             signal_number(halo.signal),
+            third.at.time as u64,
+            zigzag_number(third.at.cell.x),
+            zigzag_number(third.at.cell.y),
+            signal_number(third.signal),
         ]
     }
 }

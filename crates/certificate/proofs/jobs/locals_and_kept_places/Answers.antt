@@ -14,10 +14,9 @@ used_gates-requires c =
 pub kept_places-requires-clause-at_most_64 : goal.kept_places-requires-clause-at_most_64
 kept_places-requires-clause-at_most_64 c = grind (arith, common_steps, few_gates)
 
-pub new-requires : goal.new-requires
-new-requires c =
+pub with_gates-requires : goal.with_gates-requires
+with_gates-requires c =
     let n = netlist_of c.args.circuit.now in
-    subst (λ cs. AreLocalLines n cs c.as_slice-3.result.now) (sym (c.as_slice-2.ensures.value ∙ c.in_ok-cuts.ensures))
-    (subst (AreLocalLines n _)
-    (sym (c.as_slice-3.ensures.value ∙ c.in_ok-gates.ensures ∙ c.wiring_lines-wiring.ensures.uses))
+    subst (λ cs. AreLocalLines n cs c.in_ok-gates.gates.items) (sym (c.as_slice-2.ensures.value ∙ c.in_ok-cuts.ensures))
+    (subst (AreLocalLines n _) (sym (c.in_ok-gates.ensures ∙ c.wiring_lines-wiring.ensures.uses))
     (rw c.wiring_lines-wiring.ensures.cuts c.requires.lines))

@@ -1,8 +1,8 @@
 use Rattle.lemmas.proofs.Common.{◌<◌, ◌∙◌, ◌≡◌, ◌≤◌, All, List, ap, arith, get_or, map, refl, slice_index, subst, sym}
 use Rattle.lemmas.proofs.Common.{true, ℕ, arc_value, common_steps}
 use Rattle.circuit.specs.Bridge.{circuit_of, netlist_of}
-use Rattle.circuit.specs.Meaning.{Netlist, wires}
-use Rattle.certificate_lines.specs.Entries.{gates, keeps, ModuleLines, edges, halos, stops}
+use Rattle.circuit.specs.Meaning.{Netlist}
+use Rattle.certificate_lines.specs.Entries.{keeps, ModuleLines, edges, halos, stops}
 use Rattle.certificate.proofs.JobLemmas.{keeps_used, within_512, within_layout, edges_named, halos_named, lists_local}
 use Rattle.certificate.proofs.JobLemmas.{wires_known, cut_count}
 use Rattle.module_box.specs.Boxes.{in_box}

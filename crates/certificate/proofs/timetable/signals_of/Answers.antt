@@ -2,12 +2,12 @@ use Rattle.lemmas.proofs.Common.{arith, common_steps}
 use Rattle.circuit.specs.Bridge.{circuit_of}
 use Rattle.certificate.specs.Timetables.{HasLocalWire, borders_in}
 use Rattle.certificate_lines.proofs.FlatParts.{flat_at}
-use Rattle.certificate.proofs.TimetableLemmas.{no_lines, no_names, next_table, all_lines, table_all_times_rises}
+use Rattle.certificate.proofs.TimetableLemmas.{no_lines, next_table, all_lines, table_all_times_rises}
 use Rattle.certificate.proofs.TimetableLemmas.{table_events_rise}
 use Rattle.certificate.proofs.timetable.signals_of.Goals as goal
 
 pub lines-init : goal.lines-init
-lines-init c = grind (arith, common_steps, no_lines, no_names)
+lines-init c = grind (arith, common_steps, no_lines)
 
 pub add_line-requires : goal.add_line-requires
 add_line-requires c = flat_at (HasLocalWire (circuit_of c.args.circuit.now) c.args.locals.now)

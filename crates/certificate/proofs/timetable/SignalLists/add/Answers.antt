@@ -5,7 +5,7 @@ use Rattle.certificate.proofs.timetable.SignalLists.add.Goals as goal
 
 pub returns : goal.returns
 returns c =
-    let s = c.one_or_local_wire-signal in
+    let s = c.signal_of-signal in
     let circuit = circuit_of c.args.circuit.now in
     let locals = c.args.locals.now in
     both_ok c.push.result _ _ _ (grind (arith, common_steps, with_border))

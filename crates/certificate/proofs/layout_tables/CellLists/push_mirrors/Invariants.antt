@@ -1,0 +1,11 @@
+-- The cells of the mirrors so far are in the lists.
+use Rattle.lemmas.proofs.Common.{◌++◌, ◌≡◌, replicate}
+use Rattle.module_box.specs.declared.schedules.Signal.TheVariants.{One}
+use Rattle.module_job.specs.declared.job.Demand.TheVariants.{Live}
+use Rattle.certificate.proofs.layout_tables.CellLists.push_mirrors.Given as goal
+
+abbrev pub invariant-mirrors : goal.invariant-mirrors
+invariant-mirrors l = record {
+  starts : l.self.starts ≡ l.fn.self.starts ++ replicate l._mirror One;
+  demands : l.self.demands ≡ l.fn.self.demands ++ replicate l._mirror Live;
+}
