@@ -7,7 +7,7 @@ use Rattle.lemmas.proofs.Common.{nat_tests, onto_first, slice_split-cons_no, tak
 use Rattle.section_text.specs.Leading.{leading_number}
 use Rattle.section_text.specs.Words.{is_lower, is_name, is_name_byte, is_space, is_word_at, name_at, name_of, number_at}
 use Rattle.section_text.specs.Words.{number_of, words_of, ◌>>=◌}
-use Rattle.section_text.proofs.Splitting.{some_words}
+use Rattle.section_text.proofs.Splitting.{lone_name_is, lone_number_is, some_words}
 use Rattle.pattern.specs.Forms.{cell_of_words_from}
 use Rattle.pattern.specs.Layout.{cell}
 use Rattle.certificate_lines.specs.BorderWords.{leading_star_or_time, one_or_name_of_one_word, one_or_name_from_word}
@@ -17,7 +17,7 @@ use Rattle.certificate_lines.proofs.BorderLines.{edge_form, halo_form, stop_form
 use Rattle.certificate_lines.specs.Forms.{border_of, form_of, signal_at, stop_of, star_or_time_at_word}
 use Rattle.certificate_lines.specs.Forms.{border_of_five_words}
 use Rattle.certificate_lines.specs.declared.certificate_line.BorderLine.{BorderLine}
-use Rattle.certificate_lines.specs.declared.certificate_line.CertificateLine.TheVariants.{Edge, Halo, Stop}
+use Rattle.certificate_lines.specs.declared.certificate_line.CertificateLine.TheVariants.{Cut, Edge, Halo, Stop, Use}
 use Rattle.certificate_lines.specs.declared.certificate_line.StopLine.{StopLine}
 
 -- ---- the first word of a line
@@ -32,6 +32,14 @@ edge_words l e = ap words_of (begins_with (codes "edge ") l 5 e)
 halo_words : (l : List ℕ) → bytes_eq (take 5 l) (codes "halo ") ≡ true →
     words_of l ≡ codes "halo" ∷ words_of (drop 5 l)
 halo_words l e = ap words_of (begins_with (codes "halo ") l 5 e)
+
+cut_words : (l : List ℕ) → bytes_eq (take 4 l) (codes "cut ") ≡ true →
+    words_of l ≡ codes "cut" ∷ words_of (drop 4 l)
+cut_words l e = ap words_of (begins_with (codes "cut ") l 4 e)
+
+use_words : (l : List ℕ) → bytes_eq (take 4 l) (codes "use ") ≡ true →
+    words_of l ≡ codes "use" ∷ words_of (drop 4 l)
+use_words l e = ap words_of (begins_with (codes "use ") l 4 e)
 
 stop_words : (l : List ℕ) → bytes_eq (take 5 l) (codes "stop ") ≡ true →
     words_of l ≡ codes "stop" ∷ words_of (drop 5 l)
@@ -216,3 +224,19 @@ pub stop_line : (l : List ℕ) (o : Option StopLine) → bytes_eq (take 5 l) (co
     o ≡ stop_of (words_of l) → (o >>= λ s. Some (Item (Stop s))) ≡ form_of (words_of l)
 unfolding is_word_at
 stop_line l o stop is = grind (arith, common_steps, stop_form, stop_words)
+
+pub cut_line : (l : List ℕ) (o : Option (List ℕ)) → bytes_eq (take 4 l) (codes "cut ") ≡ true →
+    o ≡ name_of (take (length l - 4) (drop 4 l)) → (o >>= λ n. Some (Item (Cut n))) ≡ form_of (words_of l)
+unfolding form_of is_word_at
+cut_line l o cut is =
+    ap (λ r. r >>= λ n. Some (Item (Cut n)))
+    (is ∙ ap name_of (take_rest l 4) ∙ sym (lone_name_is (codes "cut") (drop 4 l)))
+    ∙ ap form_of (sym (cut_words l cut))
+
+pub use_line : (l : List ℕ) (o : Option ℕ) → bytes_eq (take 4 l) (codes "use ") ≡ true →
+    o ≡ number_of (take (length l - 4) (drop 4 l)) → (o >>= λ n. Some (Item (Use n))) ≡ form_of (words_of l)
+unfolding form_of is_word_at
+use_line l o use_ is =
+    ap (λ r. r >>= λ n. Some (Item (Use n)))
+    (is ∙ ap number_of (take_rest l 4) ∙ sym (lone_number_is (codes "use") (drop 4 l)))
+    ∙ ap form_of (sym (use_words l use_))

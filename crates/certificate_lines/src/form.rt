@@ -163,9 +163,9 @@ fn not_five_words_line_form(feed: &Feed, line: &Line) -> Option<Form<u32, Certif
     }
 }
 
-// The form of a line that begins with no `edge `, no `halo ` and no `stop `.
+// The form of a line that begins with no `edge `, no `halo ` and no `stop `, by its words.
 #[inline(never)]
-fn other_line_form(feed: &Feed, line: &Line) -> Option<Form<u32, CertificateLine>>
+fn line_form_by_words(feed: &Feed, line: &Line) -> Option<Form<u32, CertificateLine>>
     requires line { IsLine feed.now line.now }
     requires no_edge { bytes_eq (take 5 (line_bytes feed.now line.now)) (codes "edge ") ≡ false }
     requires no_halo { bytes_eq (take 5 (line_bytes feed.now line.now)) (codes "halo ") ≡ false }
@@ -176,6 +176,48 @@ fn other_line_form(feed: &Feed, line: &Line) -> Option<Form<u32, CertificateLine
         Some(words) => five_word_line_form(words),
         None => not_five_words_line_form(feed, line),
     }
+}
+
+// Whether a line begins with `cut` and a space.
+fn is_cut_line(line: &[u8]) -> bool
+    ensures { result ≡ bytes_eq (take 4 line.now) (codes "cut ") }
+{
+    match line {
+        [b'c', b'u', b't', b' ', ..] => true,
+        _ => false,
+    }
+}
+
+// Whether a line begins with `use` and a space.
+fn is_use_line(line: &[u8]) -> bool
+    ensures { result ≡ bytes_eq (take 4 line.now) (codes "use ") }
+{
+    match line {
+        [b'u', b's', b'e', b' ', ..] => true,
+        _ => false,
+    }
+}
+
+// The form of a line that begins with no `edge `, no `halo ` and no `stop `. A name and a number have no space, so a
+// line of one of them is not split into words.
+#[inline(never)]
+fn other_line_form(feed: &Feed, line: &Line) -> Option<Form<u32, CertificateLine>>
+    requires line { IsLine feed.now line.now }
+    requires no_edge { bytes_eq (take 5 (line_bytes feed.now line.now)) (codes "edge ") ≡ false }
+    requires no_halo { bytes_eq (take 5 (line_bytes feed.now line.now)) (codes "halo ") ≡ false }
+    requires no_stop { bytes_eq (take 5 (line_bytes feed.now line.now)) (codes "stop ") ≡ false }
+    ensures { result ≡ form_of (words_of (line_bytes feed.now line.now)) }
+{
+    let bytes = feed.line(line);
+    if is_use_line(bytes) {
+        let number = read_number(&bytes[4..])?;
+        return Some(Form::Item(CertificateLine::Use(number)));
+    }
+    if is_cut_line(bytes) {
+        let name = Name::of(&bytes[4..])?;
+        return Some(Form::Item(CertificateLine::Cut(name)));
+    }
+    line_form_by_words(feed, line)
 }
 
 // The content of a stop line.

@@ -69,7 +69,7 @@ pub use Rattle.std.proofs.lemmas.Simd.{get_or-chunk, get_or-put_chunk_above, get
 pub use Rattle.std.proofs.lemmas.Simd.{get_or-put_chunk_below, get_or-zip2, length-zip2, map-map}
 pub use Rattle.std.proofs.lemmas.Slice.Eq.{bytes_eq-Decides, slice_eq-Decides}
 pub use Rattle.std.specs.Arc.{arc_value}
-pub use Rattle.std.specs.Bool.{Decides, beq}
+pub use Rattle.std.specs.Bool.{Decides, beq, one_answer}
 pub use Rattle.std.specs.Cmp.{IsTotalOrder, booleans_Decides, nat_cmp_is}
 pub use Rattle.std.specs.Cmp.Lexicographic.{bytes_decides, pointwise, same_text}
 pub use Rattle.std.specs.Fmt.{decimal, digit_glyph, digits, digits_onto, signed_decimal}

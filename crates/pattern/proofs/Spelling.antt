@@ -12,7 +12,6 @@ use Rattle.pattern.specs.declared.layout_line.Rectangle.{Rectangle}
 use Rattle.pattern.specs.declared.layout_line.Port.{Port}
 use Rattle.pattern.specs.declared.layout_line.LayoutHeader.{LayoutHeader}
 use Rattle.pattern.specs.declared.layout_line.LayoutLine.TheVariants.{Mirror, Ball, In, Out, Waste}
-use Rattle.pattern.specs.Layout.{cell}
 use Rattle.pattern.specs.Forms.{Line, cell_of_words_from, cell_after_keyword, port_after_keyword, port_of}
 use Rattle.pattern.specs.Forms.{corner_and_sides, rectangle_of, sides_and_steps, size_of, form_of}
 use Rattle.pattern.specs.Text.{coordinate, cell_words, rectangle_words, port_words, size_words, form_text}

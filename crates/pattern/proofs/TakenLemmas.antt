@@ -11,10 +11,12 @@ use Rattle.pattern.specs.declared.layout_line.Rectangle.{Rectangle}
 use Rattle.pattern.specs.declared.layout_line.LayoutHeader.{LayoutHeader}
 use Rattle.pattern.specs.declared.layout_line.LayoutLine.{LayoutLine}
 use Rattle.pattern.specs.declared.layout_line.LayoutLine.TheVariants.{Mirror, Ball, In, Out, Waste}
+use Rattle.pattern.specs.DraftBoards.{LiesOn}
 use Rattle.pattern.specs.Layout.{row_cells, rectangle_cells, in_cells, in_layout}
 use Rattle.pattern.specs.Lines.{is_layout_side, size_fault, is_inside, cells_of, begins, ends, cells_taken_at_start}
 use Rattle.pattern.specs.Lines.{ended, is_taken, cell_fault}
 use Rattle.pattern.proofs.Added.{no_code, begun_push, ended_push}
+use Rattle.section_text.specs.Codes.{code_if}
 use Rattle.section_text.specs.declared.code.RefusalCode.TheVariants.{TakenCell}
 
 -- ---- a size within its limits
@@ -97,6 +99,49 @@ cells_on_board b s w h part cells same inside =
     subst P (sym same) (All-from_recursion (λ c. is_on_board b c.x c.y ≡ true) (cells_of part)
     (all_on_board b s w h (cells_of part) (cells_inside_by s part inside)))
 
+same_sides : (w h : ℕ) (s : LayoutHeader) → w ≡ s.w → h ≡ s.h → (part : LayoutLine) →
+    is_inside (record { w = w; h = h; steps = 0 }) part ≡ is_inside s part
+unfolding is_inside
+same_sides w h s e f (Mirror r) = rw (e, f) refl
+same_sides w h s e f (Ball c) = rw (e, f) refl
+same_sides w h s e f (In p) = rw (e, f) refl
+same_sides w h s e f (Out p) = rw (e, f) refl
+same_sides w h s e f (Waste c) = rw (e, f) refl
+
+-- the cells of a line that lies inside are on a board of the layout's size
+pub lies_on : (b : Board) (s : LayoutHeader) → size_fault s ≡ None → b.width ≡ s.w → b.height ≡ s.h →
+    (part : LayoutLine) → is_inside s part ≡ true → LiesOn b part
+lies_on b s good w h part inside =
+    let sized = is_sized s good in
+    record {
+      inside = same_sides b.width b.height s w h part ∙ inside;
+      width = omega (arith, w, sized.width.1);
+      height = omega (arith, h, sized.height.1);
+    }
+
+pub cells_lie_on : (b : Board) (part : LayoutLine) → LiesOn b part →
+    All (λ c. is_on_board b c.x c.y ≡ true) (cells_of part)
+cells_lie_on b part on =
+    cells_on_board b (record { w = b.width; h = b.height; steps = 0 }) refl refl part (cells_of part) refl on.inside
+
+pub one_lies_on : (b : Board) (part : LayoutLine) (c : Cell) → cells_of part ≡ c ∷ [] → LiesOn b part →
+    All (λ k. is_on_board b k.x k.y ≡ true) (c ∷ [])
+one_lies_on b part c are on =
+    subst (λ (cells : List Cell). All (λ k. is_on_board b k.x k.y ≡ true) cells) are (cells_lie_on b part on)
+
+-- where the corner of a mirror on a board is
+pub mirror_lies_on : (b : Board) (part : LayoutLine) (r : Rectangle) → part ≡ Mirror r → LiesOn b part →
+    ((r.x + r.w ≤ b.width) × (r.x + r.w ≤ 512)) × ((r.y + r.h ≤ b.height) × (r.y + r.h ≤ 512))
+mirror_lies_on b part r is on =
+    let size : LayoutHeader = record { w = b.width; h = b.height; steps = 0 } in
+    let fits = mirror_fits size r (subst (λ (p : LayoutLine). is_inside size p ≡ true) is on.inside) in
+    omega (arith, fits.0, fits.1, on.width, on.height)
+
+pub among_cells_of : (p q : Cell → Bool) (part : LayoutLine) (cells : List Cell) (b : Bool) → begins part ≡ b →
+    cells_of part ≡ cells → (if b then list_any p cells else list_any q cells)
+    ≡ (if begins part then list_any p (cells_of part) else list_any q (cells_of part))
+among_cells_of p q part cells b begin are = rw (begin, are) refl
+
 -- ---- cells that are taken
 
 any_same : (p q : Cell → Bool) → ((c : Cell) → p c ≡ q c) → (cells : List Cell) → list_any p cells ≡ list_any q cells
@@ -143,3 +188,17 @@ pub cells_taken : (s : LayoutHeader) (parts : List LayoutLine) (part : LayoutLin
     is_taken parts part ≡ true → cell_fault s parts part ≡ Some TakenCell
 unfolding cell_fault
 cells_taken s parts part inside taken = rw (inside, taken) refl
+
+pub outside_is_fault : (s : LayoutHeader) (parts : List LayoutLine) (part : LayoutLine) → is_inside s part ≡ false →
+    cell_fault s parts part ≡ Some TakenCell
+unfolding cell_fault
+outside_is_fault s parts part outside = rw outside refl
+
+pub faultless_is_inside : (s : LayoutHeader) (parts : List LayoutLine) (part : LayoutLine) →
+    cell_fault s parts part ≡ None → is_inside s part ≡ true
+unfolding cell_fault
+faultless_is_inside s parts part none = by (is_inside s part) (is_taken parts part) none
+  where
+    by : (inside taken : Bool) → code_if (not inside || taken) TakenCell ≡ None → inside ≡ true
+    by true taken e = refl
+    by false taken e = absurd cc

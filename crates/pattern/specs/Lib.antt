@@ -4,6 +4,7 @@ pub mod LayoutView
 pub mod Forms
 pub mod PortWords
 pub mod Assign
+pub mod DraftBoards
 pub mod DraftView
 pub mod Grammars
 pub mod Readings

@@ -1,15 +1,13 @@
 //! A layout to which lines are added.
-ghost use Rattle.std.specs.Prelude.{◌≡◌, ◌++◌, [], ◌∷◌, None, OnOk, OnErr, IfOk, IfErr, All, true};
+ghost use Rattle.std.specs.Prelude.{◌≡◌, ◌++◌, [], ◌∷◌, None, OnOk, OnErr, IfOk, IfErr};
 ghost use Rattle.section_text.specs.Adding.{HasRefusalCode};
-ghost use Rattle.bbm_rule.specs.Board.{is_inside as is_on_board};
 ghost use Rattle.pattern.specs.Layout.{parts_of};
-ghost use Rattle.pattern.specs.Lines.{cells_of, cell_fault, is_inside, limit_fault, order_fault, size_fault};
+ghost use Rattle.pattern.specs.Lines.{cell_fault, limit_fault, order_fault, size_fault};
 
 use crate::layout::Layout;
 use crate::layout_line::{LayoutHeader, LayoutLine};
-use crate::rectangle::push_rectangle;
-use crate::taken::{is_any_taken, take_cells_if};
-use bbm_rule::{Cell, Grid};
+use crate::taken::{is_any_cell_taken, take_cells_if};
+use bbm_rule::Grid;
 use section_text::{LineFault, RefusalCode};
 use std::alloc::{AllocError, Global};
 use std::marker::Model;
@@ -32,24 +30,6 @@ impl Model for Draft {
     ghost view = { pattern_of };
 
     ghost invariant = { IsDraft };
-}
-
-// The cells of a line that lies inside.
-#[tactic(auto, unfolding(crate::specs::Lines::cells_of, crate::specs::Lines::is_inside))]
-fn cells_in(alloc: Global, part: &LayoutLine, size: LayoutHeader) -> Result<Vec<Cell>, AllocError>
-    requires inside { is_inside size part.now ≡ true }
-    requires good { size_fault size ≡ None }
-    ensures { IfOk result (λ cells. cells.items ≡ cells_of part.now) }
-{
-    let mut cells = Vec::new(alloc);
-    match part {
-        LayoutLine::Mirror(r) => push_rectangle(&mut cells, *r)?,
-        LayoutLine::Ball(cell) => cells.push(*cell)?,
-        LayoutLine::In(port) => cells.push(port.cell)?,
-        LayoutLine::Out(port) => cells.push(port.cell)?,
-        LayoutLine::Waste(cell) => cells.push(*cell)?,
-    }
-    Ok(cells)
 }
 
 impl Draft {
@@ -87,35 +67,21 @@ impl Draft {
         self.layout.order_code(part)
     }
 
-    // The cells of a line, where they are inside and free.
-    #[tactic(auto, unfolding(crate::specs::Lines::cell_fault))]
-    fn free_cells(&self, alloc: Global, part: &LayoutLine) -> Result<Vec<Cell>, LineFault>
-        ensures cells { IfOk result (λ cells. cells.items ≡ cells_of part.now) }
-        ensures inside { OnOk result (is_inside self.now.size part.now ≡ true) }
-        ensures free { OnOk result (cell_fault self.now.size (parts_of self.now) part.now ≡ None) }
-        ensures fault { IfErr result (λ e. HasRefusalCode e
-            (cell_fault self.now.size (parts_of self.now) part.now)) }
+    // The code of a line with a cell that is outside or taken.
+    fn cell_code(&self, part: &LayoutLine) -> Option<RefusalCode>
+        ensures { result ≡ cell_fault self.now.size (parts_of self.now) part.now }
     {
-        let size = self.layout.size();
-        if !part.is_inside(size) {
-            return Err(LineFault::Code(RefusalCode::TakenCell));
+        if !part.is_inside(self.layout.size()) {
+            return Some(RefusalCode::TakenCell);
         }
-        let Ok(cells) = cells_in(alloc, part, size) else {
-            return Err(LineFault::Memory);
-        };
-        if is_any_taken(
-            part.begins(),
-            &self.cells_taken_at_start,
-            &self.ended,
-            &cells,
-        ) {
-            return Err(LineFault::Code(RefusalCode::TakenCell));
+        if is_any_cell_taken(&self.cells_taken_at_start, &self.ended, part) {
+            return Some(RefusalCode::TakenCell);
         }
-        Ok(cells)
+        None
     }
 
     /// Adds a line that is in its place and keeps the limits. A fault changes nothing.
-    pub(crate) fn add(&mut self, alloc: Global, part: LayoutLine) -> Result<(), LineFault>
+    pub(crate) fn add(&mut self, part: LayoutLine) -> Result<(), LineFault>
         requires order { order_fault (parts_of self.old) part ≡ None }
         requires limit { limit_fault part ≡ None }
         ensures free { OnOk result (cell_fault self.old.size (parts_of self.old) part ≡ None) }
@@ -125,14 +91,16 @@ impl Draft {
         ensures fault { IfErr result (λ e. HasRefusalCode e
             (cell_fault self.old.size (parts_of self.old) part)) }
     {
-        let cells = self.free_cells(alloc, &part)?;
-        let begins = part.begins();
-        let ends = part.ends();
+        // A side is at most 512.
+        let _size = self.layout.size();
+        if let Some(code) = self.cell_code(&part) {
+            return Err(LineFault::Code(code));
+        }
         let Ok(()) = self.layout.add(part) else {
             return Err(LineFault::Memory);
         };
-        take_cells_if(begins, &mut self.cells_taken_at_start, &cells);
-        take_cells_if(ends, &mut self.ended, &cells);
+        take_cells_if(part.begins(), &mut self.cells_taken_at_start, &part);
+        take_cells_if(part.ends(), &mut self.ended, &part);
         Ok(())
     }
 }

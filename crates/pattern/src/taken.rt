@@ -3,8 +3,10 @@ ghost use Rattle.std.specs.Prelude.{◌≡◌, ◌+◌, ◌≤◌, ◌||◌, ◌
 ghost use Rattle.std.specs.List.{list_any};
 ghost use Rattle.bbm_rule.specs.Board.{live, is_inside, HasSameSize};
 ghost use Rattle.pattern.specs.Layout.{in_cells, in_rectangle, rectangle_cells};
+ghost use Rattle.pattern.specs.Lines.{begins, cells_of};
+ghost use Rattle.pattern.specs.DraftBoards.{LiesOn};
 
-use crate::layout_line::Rectangle;
+use crate::layout_line::{LayoutLine, Rectangle};
 use bbm_rule::{Cell, Grid};
 
 /// Returns whether one of the cells is live. All of them are on the grid.
@@ -58,29 +60,48 @@ pub fn fill_rectangle(grid: &mut Grid, r: Rectangle)
     }
 }
 
-/// Returns whether one of the cells is taken: in the first grid if `first` is true, else in the second.
-pub(crate) fn is_any_taken(first: bool, one: &Grid, other: &Grid, cells: &[Cell]) -> bool
-    requires one { All (λ c. is_inside one.now c.x c.y ≡ true) cells.now }
-    requires other { All (λ c. is_inside other.now c.x c.y ≡ true) cells.now }
+/// Returns whether a cell of the line is taken: in the first grid if the line takes its cells at the start, else in the
+/// second.
+pub(crate) fn is_any_cell_taken(at_start: &Grid, at_end: &Grid, part: &LayoutLine) -> bool
+    requires at_start { LiesOn at_start.now part.now }
+    requires at_end { LiesOn at_end.now part.now }
     ensures { result
-        ≡ (if first then list_any (λ c. live one.now c.x c.y) cells.now else list_any
-        (λ c. live other.now c.x c.y) cells.now) }
+        ≡ (if begins part.now then list_any (λ c. live at_start.now c.x c.y) (cells_of part.now)
+        else list_any (λ c. live at_end.now c.x c.y) (cells_of part.now)) }
 {
-    if first {
-        is_any_live(one, cells)
-    } else {
-        is_any_live(other, cells)
+    match part {
+        LayoutLine::Mirror(r) => is_any_live_in(at_start, *r),
+        LayoutLine::Ball(cell) => is_any_live(at_start, &[*cell]),
+        LayoutLine::In(port) => is_any_live(at_start, &[port.cell]),
+        LayoutLine::Out(port) => is_any_live(at_end, &[port.cell]),
+        LayoutLine::Waste(cell) => is_any_live(at_end, &[*cell]),
     }
 }
 
-/// Takes the cells if `takes` is true.
-pub(crate) fn take_cells_if(takes: bool, grid: &mut Grid, cells: &[Cell])
-    requires { All (λ c. is_inside grid.old c.x c.y ≡ true) cells.now }
+// Makes the cells of the line live, and leaves the others as they are.
+fn take_cells(grid: &mut Grid, part: &LayoutLine)
+    requires { LiesOn grid.old part.now }
     ensures taken { (x y : ℤ) →
-        live grid.new x y ≡ (live grid.old x y || (takes && in_cells cells.now x y)) }
+        live grid.new x y ≡ (live grid.old x y || in_cells (cells_of part.now) x y) }
+    ensures size { HasSameSize grid.old grid.new }
+{
+    match part {
+        LayoutLine::Mirror(r) => fill_rectangle(grid, *r),
+        LayoutLine::Ball(cell) => make_live(grid, &[*cell]),
+        LayoutLine::In(port) => make_live(grid, &[port.cell]),
+        LayoutLine::Out(port) => make_live(grid, &[port.cell]),
+        LayoutLine::Waste(cell) => make_live(grid, &[*cell]),
+    }
+}
+
+/// Takes the cells of the line if `takes` is true.
+pub(crate) fn take_cells_if(takes: bool, grid: &mut Grid, part: &LayoutLine)
+    requires { LiesOn grid.old part.now }
+    ensures taken { (x y : ℤ) →
+        live grid.new x y ≡ (live grid.old x y || (takes && in_cells (cells_of part.now) x y)) }
     ensures size { HasSameSize grid.old grid.new }
 {
     if takes {
-        make_live(grid, cells);
+        take_cells(grid, part);
     }
 }

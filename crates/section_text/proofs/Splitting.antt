@@ -1,11 +1,13 @@
 -- The words of a line, one after the other.
-use Rattle.lemmas.proofs.Common.{[], ◌+◌, ◌-◌, ◌<◌, ◌==◌, ◌∷◌, ◌≡◌, ◌≤◌, Bool, List, None, Option, Some, arith, cond}
-use Rattle.lemmas.proofs.Common.{drop, false, if◌then◌else◌, length, nat_lt, option_and_then, position, refl, slice_get}
-use Rattle.lemmas.proofs.Common.{suc, take, true, ℕ, common_steps, fails_before_first, length-drop, length-slice_split}
-use Rattle.lemmas.proofs.Common.{nat_tests, same_Some, slice_split_first, slice_split_none, take_all, below_by_test}
+use Rattle.lemmas.proofs.Common.{[], ◌&&◌, ◌+◌, ◌-◌, ◌<◌, ◌==◌, ◌∙◌, ◌∷◌, ◌≡◌, ◌≤◌, ◌⊎◌, Bool, List, None, Option, Some}
+use Rattle.lemmas.proofs.Common.{ap, arith, cond, drop, false, if◌then◌else◌, inl, inr, length, nat_lt, option_and_then}
+use Rattle.lemmas.proofs.Common.{position, refl, slice_get, suc, sym, take, true, ℕ, cases_Bool, common_steps}
+use Rattle.lemmas.proofs.Common.{cond-false, fails_before_first, join_with_byte, join_with_byte-slice_split}
+use Rattle.lemmas.proofs.Common.{length-drop, length-slice_split, list_all, nat_tests, onto_first, same_Some}
+use Rattle.lemmas.proofs.Common.{slice_split-cons_no, slice_split_first, slice_split_none, take_all, below_by_test}
 use Rattle.lemmas.proofs.Common.{not_below_by_test, test_failed}
-use Rattle.section_text.specs.Words.{is_space, words_of, second_word_of_two, three, four, five, number_of, name_of}
-use Rattle.section_text.specs.Words.{number_at, name_at, lone_number, lone_name}
+use Rattle.section_text.specs.Words.{is_space, words_of, three, four, five, number_of, name_of, is_name, is_number}
+use Rattle.section_text.specs.Words.{number_at, name_at, lone_number, lone_name, is_digit, is_name_byte}
 
 -- where the first space is
 found_by : (b : Bool) (p i : ℕ) → cond b (Some p) None ≡ Some i → (b ≡ true) × (p ≡ i)
@@ -102,20 +104,6 @@ is_alone l a = rw a refl
 pub is_not_alone : (l w r : List ℕ) → words_of l ≡ w ∷ words_of r → false ≡ (length (words_of l) == 1)
 is_not_alone l w r a = rw (a, not_one (length (words_of r)) (some_words r)) refl
 
-pub no_second : (l : List ℕ) → words_of l ≡ l ∷ [] → None ≡ second_word_of_two (words_of l)
-unfolding second_word_of_two
-no_second l a = rw a refl
-
-pub second_is : (l w r : List ℕ) → words_of l ≡ w ∷ words_of r → words_of r ≡ r ∷ [] →
-    Some r ≡ second_word_of_two (words_of l)
-unfolding second_word_of_two
-second_is l w r a b = rw (a, b) refl
-
-pub past_second : (l w r v s : List ℕ) → words_of l ≡ w ∷ words_of r → words_of r ≡ v ∷ words_of s →
-    None ≡ second_word_of_two (words_of l)
-unfolding second_word_of_two
-past_second l w r v s a b = rw (a, b, not_two (length (words_of s)) (some_words s)) refl
-
 pub one_of_three : (l : List ℕ) → words_of l ≡ l ∷ [] → None ≡ three (words_of l)
 unfolding three
 one_of_three l a = rw a refl
@@ -135,17 +123,64 @@ pub past_third : (l w r v s u t : List ℕ) → words_of l ≡ w ∷ words_of r 
 unfolding three
 past_third l w r v s u t a b c = rw (a, b, c, not_three (length (words_of t)) (some_words t)) refl
 
--- a word of a line of two, read in some way
+-- ---- the second word of a line of two, which has no space
 
-read_if : {A B : Type 0} (b : Bool) (o : Option A) (f : A → Option B) →
-    option_and_then f (if b then o else None) ≡ (if b then option_and_then f o else None)
-read_if true o f = refl
-read_if false o f = refl
+letters_alone : (is_letter : ℕ → Bool) → ((b : ℕ) → is_letter b ≡ true → is_space b ≡ false) → (bs : List ℕ) →
+    list_all is_letter bs ≡ true → words_of bs ≡ bs ∷ []
+letters_alone is_letter no_space [] e = refl
+letters_alone is_letter no_space (b ∷ bs) e =
+    let all = both (is_letter b) (list_all is_letter bs) e in
+    slice_split-cons_no is_space b bs (no_space b all.0)
+    ∙ ap (onto_first b) (letters_alone is_letter no_space bs all.1)
+  where
+    both : (a b : Bool) → (a && b) ≡ true → (a ≡ true) × (b ≡ true)
+    both true b e = (refl, e)
+    both false b e = absurd cc
 
-pub second_number : (ws : List (List ℕ)) → option_and_then number_of (second_word_of_two ws) ≡ lone_number ws
-unfolding second_word_of_two lone_number number_at
-second_number ws = read_if (length ws == 2) (slice_get ws 1) number_of
+letter_is_no_space : (b : ℕ) → is_name_byte b ≡ true → is_space b ≡ false
+letter_is_no_space b e = grind (arith, nat_tests)
 
-pub second_name : (ws : List (List ℕ)) → option_and_then name_of (second_word_of_two ws) ≡ lone_name ws
-unfolding second_word_of_two lone_name name_at
-second_name ws = read_if (length ws == 2) (slice_get ws 1) name_of
+digit_is_no_space : (b : ℕ) → is_digit b ≡ true → is_space b ≡ false
+digit_is_no_space b e = grind (arith, nat_tests)
+
+name_letters : (w : List ℕ) → is_name w ≡ true → list_all is_name_byte w ≡ true
+name_letters [] e = refl
+name_letters (b ∷ bs) e = grind (arith, nat_tests)
+
+number_digits : (w : List ℕ) → is_number w ≡ true → list_all is_digit w ≡ true
+number_digits [] e = refl
+number_digits (b ∷ bs) e = grind (arith, nat_tests)
+
+-- the second of two words, read by f, where a text of several words gives none
+read_alone : {A : Type 0} (f : List ℕ → Option A) (k l : List ℕ) (ws : List (List ℕ)) → words_of l ≡ ws →
+    (words_of l ≡ l ∷ []) ⊎ (f l ≡ None) →
+    (if length (k ∷ ws) == 2 then option_and_then f (slice_get (k ∷ ws) 1) else None) ≡ f l
+read_alone f k l ws e (inl alone) = rw (sym e, alone) refl
+read_alone f k l [] e (inr none) = sym none
+read_alone f k l (w ∷ []) e (inr none) = ap f (sym (ap (join_with_byte 32) e) ∙ join_with_byte-slice_split 32 l)
+read_alone f k l (w ∷ v ∷ vs) e (inr none) = rw (more (length vs)) (sym none)
+  where
+    more : (n : ℕ) → (suc (suc (suc n)) == 2) ≡ false
+    more n = grind arith
+
+pub lone_name_is : (k l : List ℕ) → lone_name (k ∷ words_of l) ≡ name_of l
+unfolding lone_name name_at name_of
+lone_name_is k l = read_alone name_of k l (words_of l) refl (elim (cases_Bool (is_name l)) [
+  | inl name ↦ inl (letters_alone is_name_byte letter_is_no_space l (name_letters l name))
+  | inr none ↦ inr (cond-false _ _ _ none)
+])
+
+pub lone_number_is : (k l : List ℕ) → lone_number (k ∷ words_of l) ≡ number_of l
+unfolding lone_number number_at number_of
+lone_number_is k l = read_alone number_of k l (words_of l) refl (elim (cases_Bool (is_number l)) [
+  | inl number ↦ inl (letters_alone is_digit digit_is_no_space l (number_digits l number))
+  | inr none ↦ inr (cond-false _ _ _ none)
+])
+
+pub one_word_is_no_name : (l : List ℕ) → words_of l ≡ l ∷ [] → None ≡ lone_name (words_of l)
+unfolding lone_name
+one_word_is_no_name l a = rw a refl
+
+pub one_word_is_no_number : (l : List ℕ) → words_of l ≡ l ∷ [] → None ≡ lone_number (words_of l)
+unfolding lone_number
+one_word_is_no_number l a = rw a refl

@@ -2,7 +2,7 @@
 ghost use Rattle.std.specs.Prelude.{drop, take, ◌≡◌, ◌==◌, ◌+◌, ◌-◌, ◌^◌, ◌<◌, ◌≤◌, ◌↔◌, true, false, [], ◌++◌, length, Option, Some, None, Ok, Err, IfOk, IfErr, ◌≢◌, OnOk, OnErr, IfSome, unwrap_or, slice_get};
 ghost use Rattle.std.specs.Option.{option_copied, option_map, ForSome};
 ghost use Rattle.std.specs.List.{flat_map, position};
-ghost use Rattle.section_text.specs.Words.{lines_of, is_word_at, is_line_feed, bytes_after_last_line_feed, words_of, number_at, names_beside_arrow, lone, lone_number, lone_name, second_word_of_two, three, four, five};
+ghost use Rattle.section_text.specs.Words.{lines_of, is_word_at, is_line_feed, bytes_after_last_line_feed, words_of, number_at, names_beside_arrow, lone, lone_number, lone_name, three, four, five};
 ghost use Rattle.section_text.specs.declared.code.RefusalCode.TheVariants.{TextCut};
 ghost use Rattle.section_text.specs.declared.fault.ReadFault.TheVariants.{Memory};
 ghost use Rattle.section_text.specs.Listed.{list_of_three_words, list_of_four_words, list_of_five_words};
@@ -17,8 +17,8 @@ use crate::names::Names;
 use crate::number::read_number;
 use crate::seed::Seed;
 use crate::words::{
-    FiveWords, FourWords, ThreeWords, count_words_in, is_one_word, names_beside_arrow_in,
-    next_word, second_word_of_two, split_five_words, split_four_words, split_three_words, word_in,
+    FiveWords, FourWords, ThreeWords, count_words_in, is_one_word, lone_name_in, lone_number_in,
+    names_beside_arrow_in, next_word, split_five_words, split_four_words, split_three_words, word_in,
 };
 use memchr::memchr;
 use std::alloc::Global;
@@ -287,22 +287,20 @@ impl Feed {
     }
 
     /// Returns the number of a line of two words, a keyword and a number, or `None` for any other line.
-    #[tactic(auto, unfolding(crate::specs::Words::lone_number))]
     pub fn lone_number(&self, line: &Line) -> Option<u32>
         requires { IsLine self.now line.now }
         ensures number { result ≡ lone_number (words_of (line_bytes self.now line.now)) }
         ensures small { IfSome result (λ n. n < 10 ^ 9) }
     {
-        read_number(second_word_of_two(self.line(line))?)
+        lone_number_in(self.line(line))
     }
 
     /// Returns the name of a line of two words, a keyword and a name, or `None` for any other line.
-    #[tactic(auto, unfolding(crate::specs::Words::lone_name))]
     pub fn lone_name(&self, line: &Line) -> Option<Name>
         requires { IsLine self.now line.now }
         ensures { result ≡ lone_name (words_of (line_bytes self.now line.now)) }
     {
-        Name::of(second_word_of_two(self.line(line))?)
+        lone_name_in(self.line(line))
     }
 
     /// Returns the names on both sides of an arrow: `before` from index `from` on, and `after` to the line's end.

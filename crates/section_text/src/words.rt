@@ -1,12 +1,14 @@
 //! The words of a line.
-ghost use Rattle.std.specs.Prelude.{drop, ◌≡◌, ◌==◌, ◌+◌, ◌-◌, ◌<◌, ◌≤◌, true, false, [], ◌∷◌, length, Option, Some, None, IfSome, slice_get};
+ghost use Rattle.std.specs.Prelude.{drop, ◌≡◌, ◌==◌, ◌+◌, ◌-◌, ◌^◌, ◌<◌, ◌≤◌, true, false, [], ◌∷◌, length, Option, Some, None, IfSome, slice_get};
 ghost use Rattle.std.specs.Option.{option_copied, option_map};
 ghost use Rattle.std.specs.List.{position};
-ghost use Rattle.section_text.specs.Words.{is_space, words_of, names_at, names_beside_arrow, second_word_of_two, three, four, five, words_of_rest};
+ghost use Rattle.section_text.specs.Words.{is_space, words_of, names_at, names_beside_arrow, lone_name, lone_number, three, four, five, words_of_rest};
 ghost use Rattle.section_text.specs.Listed.{list_of_three_words, list_of_four_words, list_of_five_words};
 
 use crate::name::Name;
 use crate::names::Names;
+use crate::number::read_number;
+use memchr::memchr;
 
 /// The words of a line of three, in order.
 #[derive(Clone, Copy)]
@@ -35,13 +37,37 @@ pub struct FiveWords<'a> {
     pub fifth: &'a [u8],
 }
 
+// A word has rarely more bytes, and a vector costs more than a look at so few.
+const MOST_SHORT_BYTES: usize = 8;
+
+fn first_space_byte_by_byte(line: &[u8]) -> Option<usize>
+    ensures { result ≡ position is_space line.now }
+{
+    line.iter().position(|b| *b == b' ')
+}
+
+// Where the first space of a long line is.
+fn first_space_by_vectors(line: &[u8]) -> Option<usize>
+    ensures { result ≡ position is_space line.now }
+{
+    memchr(b' ', line)
+}
+
 // Where the first space of a line is. Inlined, the loop takes twice the instructions for a byte, since the compiler
 // keeps a count for each word that follows.
 #[inline(never)]
 fn first_space(line: &[u8]) -> Option<usize>
     ensures { result ≡ position is_space line.now }
 {
-    line.iter().position(|b| *b == b' ')
+    if line.len() <= MOST_SHORT_BYTES {
+        return first_space_byte_by_byte(line);
+    }
+    let near = first_space_byte_by_byte(&line[..MOST_SHORT_BYTES]);
+    if near.is_some() {
+        return near;
+    }
+    let at = first_space_by_vectors(&line[MOST_SHORT_BYTES..])?;
+    Some(MOST_SHORT_BYTES + at)
 }
 
 // The first word of a line that has more, and what stands behind its space.
@@ -86,17 +112,23 @@ pub(crate) fn is_one_word(line: &[u8]) -> bool
     }
 }
 
-// The second word of a line of two, or `None` for any other line.
-pub(crate) fn second_word_of_two(line: &[u8]) -> Option<&[u8]>
-    ensures { option_copied result ≡ second_word_of_two (words_of line.now) }
+// The name of a line of two words. A name has no space, so what stands behind the first word is not split.
+#[tactic(auto, using(crate::proofs::Splitting::lone_name_is, crate::proofs::Splitting::one_word_is_no_name))]
+pub(crate) fn lone_name_in(line: &[u8]) -> Option<Name>
+    ensures { result ≡ lone_name (words_of line.now) }
 {
-    let Some((_, rest)) = split_word(line) else {
-        return None;
-    };
-    match split_word(rest) {
-        Some(_) => None,
-        None => Some(rest),
-    }
+    let (_, rest) = split_word(line)?;
+    Name::of(rest)
+}
+
+// The number of a line of two words. A number has no space, so what stands behind the first word is not split.
+#[tactic(auto, using(crate::proofs::Splitting::lone_number_is, crate::proofs::Splitting::one_word_is_no_number))]
+pub(crate) fn lone_number_in(line: &[u8]) -> Option<u32>
+    ensures number { result ≡ lone_number (words_of line.now) }
+    ensures small { IfSome result (λ n. n < 10 ^ 9) }
+{
+    let (_, rest) = split_word(line)?;
+    read_number(rest)
 }
 
 // The words of a line of three.

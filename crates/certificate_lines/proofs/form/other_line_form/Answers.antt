@@ -1,35 +1,25 @@
-use Rattle.lemmas.proofs.Common.{[], ◌∷◌, arith, codes, refl, common_steps}
-use Rattle.section_text.specs.Feeds.{line_bytes}
-use Rattle.certificate_lines.proofs.BorderLines.{five_words_are, long_form_is, short_form_is}
-use Rattle.certificate_lines.proofs.BorderText.{other_first}
+use Rattle.lemmas.proofs.Common.{◌∙◌, None, Some, ap, sym}
+use Rattle.section_text.specs.Words.{words_of}
+use Rattle.certificate_lines.specs.Forms.{form_of}
+use Rattle.certificate_lines.proofs.BorderText.{cut_line, use_line}
 use Rattle.certificate_lines.proofs.form.other_line_form.Goals as goal
 
-pub five_word_line_form-requires-clause-no_edge : goal.five_word_line_form-requires-clause-no_edge
-five_word_line_form-requires-clause-no_edge c =
-    let w = c.in-Some.words in
-    other_first (codes "edge") (codes "edge ") (line_bytes c.args.feed.now c.args.line.now) 5 (λ rest. refl)
-    c.requires.no_edge
-    w.first.now w.second.now (w.third.now ∷ w.fourth.now ∷ w.fifth.now ∷ [])
-    (grind (arith, common_steps, five_words_are))
+pub returns-in_err-number : goal.returns-in_err-number
+returns-in_err-number c = c.from_residual.ensures
+    ∙ use_line c.line-bytes.result.now None (sym c.is_use_line.ensures ∙ c.if-is_use_line.true)
+    c.in_err-number.ensures.number ∙ ap (λ t. form_of (words_of t)) c.line-bytes.ensures
 
-pub five_word_line_form-requires-clause-no_halo : goal.five_word_line_form-requires-clause-no_halo
-five_word_line_form-requires-clause-no_halo c =
-    let w = c.in-Some.words in
-    other_first (codes "halo") (codes "halo ") (line_bytes c.args.feed.now c.args.line.now) 5 (λ rest. refl)
-    c.requires.no_halo
-    w.first.now w.second.now (w.third.now ∷ w.fourth.now ∷ w.fifth.now ∷ [])
-    (grind (arith, common_steps, five_words_are))
+pub returns-then-is_use_line : goal.returns-then-is_use_line
+returns-then-is_use_line c =
+    use_line c.line-bytes.result.now (Some c.in_ok-number.number) (sym c.is_use_line.ensures ∙ c.if-is_use_line.true)
+    c.in_ok-number.ensures.number ∙ ap (λ t. form_of (words_of t)) c.line-bytes.ensures
 
-pub five_word_line_form-requires-clause-no_stop : goal.five_word_line_form-requires-clause-no_stop
-five_word_line_form-requires-clause-no_stop c =
-    let w = c.in-Some.words in
-    other_first (codes "stop") (codes "stop ") (line_bytes c.args.feed.now c.args.line.now) 5 (λ rest. refl)
-    c.requires.no_stop
-    w.first.now w.second.now (w.third.now ∷ w.fourth.now ∷ w.fifth.now ∷ [])
-    (grind (arith, common_steps, five_words_are))
+pub returns-in_err-name : goal.returns-in_err-name
+returns-in_err-name c = c.from_residual-in_err-name.ensures
+    ∙ cut_line c.line-bytes.result.now None (sym c.is_cut_line.ensures ∙ c.if-is_cut_line.true)
+    c.in_err-name.ensures ∙ ap (λ t. form_of (words_of t)) c.line-bytes.ensures
 
-pub returns-in-None : goal.returns-in-None
-returns-in-None c = grind (arith, common_steps, short_form_is)
-
-pub returns-in-Some : goal.returns-in-Some
-returns-in-Some c = grind (arith, common_steps, long_form_is)
+pub returns-then-is_cut_line : goal.returns-then-is_cut_line
+returns-then-is_cut_line c =
+    cut_line c.line-bytes.result.now (Some c.in_ok-name.name) (sym c.is_cut_line.ensures ∙ c.if-is_cut_line.true)
+    c.in_ok-name.ensures ∙ ap (λ t. form_of (words_of t)) c.line-bytes.ensures

@@ -1,4 +1,4 @@
-use Rattle.lemmas.proofs.Common.{◌-◌, arith, common_steps}
+use Rattle.lemmas.proofs.Common.{arith, common_steps}
 use Rattle.pattern.specs.Layout.{rectangle_cells}
 use Rattle.pattern.proofs.CellLists.{row_found, rows_found}
 use Rattle.pattern.proofs.taken.is_any_live_in.Goals as goal

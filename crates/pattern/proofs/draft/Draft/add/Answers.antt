@@ -1,16 +1,29 @@
 -- The grids hold the cells that are taken, those of the line among them.
-use Rattle.lemmas.proofs.Common.{◌&&◌, ◌||◌, ◌∙◌, ap, arith, sym, common_steps}
+use Rattle.lemmas.proofs.Common.{◌&&◌, ◌||◌, ◌∙◌, ap, refl, sym}
 use Rattle.pattern.specs.declared.layout_line.LayoutHeader.{LayoutHeader}
 use Rattle.bbm_rule.specs.Board.{live}
-use Rattle.pattern.specs.Layout.{in_cells, parts_of}
-use Rattle.pattern.proofs.TakenLemmas.{cells_on_board, begun_more, ended_more}
+use Rattle.pattern.specs.Layout.{Pattern, in_cells, parts_of}
+use Rattle.pattern.specs.Lines.{cell_fault, cells_of, size_fault}
+use Rattle.pattern.proofs.TakenLemmas.{begun_more, ended_more, faultless_is_inside, lies_on}
 use Rattle.pattern.proofs.draft.Draft.add.Goals as goal
 
 pub take_cells_if-requires : goal.take_cells_if-requires
-take_cells_if-requires c = grind (arith, common_steps, cells_on_board)
+take_cells_if-requires c =
+    lies_on c.self.inside.cells_taken_at_start c.self.inside.layout.size
+    (ap size_fault (sym c.size-size.ensures.size) ∙ c.size-size.ensures.limits)
+    c.self.invariant.begun_width c.self.invariant.begun_height c.args.part
+    (faultless_is_inside c.self.inside.layout.size (parts_of c.self.inside.layout) c.args.part
+    (ap (λ (p : Pattern). cell_fault p.size (parts_of p) c.args.part) c.self.view_is
+    ∙ sym c.cell_code.ensures ∙ c.in_default.is))
 
 pub take_cells_if-requires-2 : goal.take_cells_if-requires-2
-take_cells_if-requires-2 c = grind (arith, common_steps, cells_on_board)
+take_cells_if-requires-2 c =
+    lies_on c.self.inside.ended c.self.inside.layout.size
+    (ap size_fault (sym c.size-size.ensures.size) ∙ c.size-size.ensures.limits)
+    c.self.invariant.ended_width c.self.invariant.ended_height c.args.part
+    (faultless_is_inside c.self.inside.layout.size (parts_of c.self.inside.layout) c.args.part
+    (ap (λ (p : Pattern). cell_fault p.size (parts_of p) c.args.part) c.self.view_is
+    ∙ sym c.cell_code.ensures ∙ c.in_default.is))
 
 pub invariant_of-self-2 : goal.invariant_of-self-2
 invariant_of-self-2 c =
@@ -23,15 +36,13 @@ invariant_of-self-2 c =
       ended_height = c.take_cells_if-2.ensures.size.1 ∙ c.self.invariant.ended_height ∙ high;
       cells_taken_at_start = begun_more c.self.inside.cells_taken_at_start c.take_cells_if.new.grid
           (parts_of c.self.inside.layout)
-          (parts_of c.add.new.self) c.args.part c.deref.result.now
-          (c.deref.ensures.value ∙ c.in_ok-cells.ensures.cells) c.in-Ok.ensures.parts
+          (parts_of c.add.new.self) c.args.part (cells_of c.args.part) refl c.in-Ok.ensures.parts
           c.self.invariant.cells_taken_at_start
           (λ x y. c.take_cells_if.ensures.taken x y
-          ∙ ap (λ b. live c.self.inside.cells_taken_at_start x y || (b && in_cells c.deref.result.now x y))
-          c.begins-begins.ensures);
+          ∙ ap (λ b. live c.self.inside.cells_taken_at_start x y || (b && in_cells (cells_of c.args.part) x y))
+          c.begins.ensures);
       ended = ended_more c.self.inside.ended c.take_cells_if-2.new.grid (parts_of c.self.inside.layout)
-          (parts_of c.add.new.self) c.args.part c.deref-2.result.now
-          (c.deref-2.ensures.value ∙ c.in_ok-cells.ensures.cells) c.in-Ok.ensures.parts c.self.invariant.ended
+          (parts_of c.add.new.self) c.args.part (cells_of c.args.part) refl c.in-Ok.ensures.parts c.self.invariant.ended
           (λ x y. c.take_cells_if-2.ensures.taken x y
-          ∙ ap (λ b. live c.self.inside.ended x y || (b && in_cells c.deref-2.result.now x y)) c.ends-ends.ensures);
+          ∙ ap (λ b. live c.self.inside.ended x y || (b && in_cells (cells_of c.args.part) x y)) c.ends.ensures);
     }
