@@ -17,7 +17,7 @@ use crate::number::WireNo;
 use crate::sets::{define_wires, mark_wires};
 use crate::wiring::{GateWires, push_gate_of_line};
 use indexmap::IndexSet;
-use section_text::{LineFault, Name, NameHash, Names, RefusalCode, Seed};
+use section_text::{LineFault, Name, Names, RefusalCode, Seed};
 use std::alloc::{AllocError, Global};
 use std::marker::Model;
 
@@ -30,7 +30,7 @@ const MAX_GATES: usize = 1024;
 /// A circuit to which lines are added: inputs, then gates, outputs and spills. Contracts see the lines so far.
 #[derive(Drop)]
 pub struct Draft {
-    wires: IndexSet<Name, NameHash>,
+    wires: IndexSet<Name, Seed>,
     // for each wire, by its number, whether a line consumes it
     consumed: Vec<bool>,
     entries: Vec<CircuitLine>,
@@ -113,7 +113,7 @@ impl Draft {
         ensures { result ≡ [] }
     {
         Draft {
-            wires: IndexSet::with_hasher(alloc, NameHash::of(seed)),
+            wires: IndexSet::with_hasher(alloc, seed),
             consumed: Vec::new(alloc),
             entries: Vec::new(alloc),
             wired: Vec::new(alloc),

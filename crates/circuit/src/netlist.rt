@@ -10,7 +10,7 @@ use crate::circuit_line::{CircuitLine, Kind};
 use crate::number::{GateNo, WireNo};
 use crate::wiring::{GateWires, values_of};
 use indexmap::IndexSet;
-use section_text::{Name, NameHash};
+use section_text::{Name, Seed};
 use std::alloc::{AllocError, Global};
 use std::marker::Model;
 
@@ -20,7 +20,7 @@ use std::marker::Model;
 /// wires and 1024 gates.
 #[derive(Drop)]
 pub struct Circuit {
-    pub(crate) wires: IndexSet<Name, NameHash>,
+    pub(crate) wires: IndexSet<Name, Seed>,
     pub(crate) entries: Vec<CircuitLine>,
     pub(crate) wired: Vec<GateWires>,
 }

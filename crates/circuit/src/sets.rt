@@ -8,9 +8,9 @@ ghost use Rattle.section_text.specs.Adding.{HasRefusalCode};
 
 use crate::number::WireNo;
 use indexmap::IndexSet;
-use section_text::{LineFault, Name, NameHash, RefusalCode};
+use section_text::{LineFault, Name, RefusalCode, Seed};
 
-fn define_one(wires: &mut IndexSet<Name, NameHash>, name: Name) -> Result<(), LineFault>
+fn define_one(wires: &mut IndexSet<Name, Seed>, name: Name) -> Result<(), LineFault>
     ensures ok { OnOk result ((has wires.old.keys name ≡ false)
         × (wires.new.keys ≡ wires.old.keys ++ name ∷ [])) }
     ensures err { OnErr result (wires.new.keys ≡ wires.old.keys) }
@@ -24,7 +24,7 @@ fn define_one(wires: &mut IndexSet<Name, NameHash>, name: Name) -> Result<(), Li
 }
 
 // Defines names from left to right. An error changes nothing.
-fn define_all(wires: &mut IndexSet<Name, NameHash>, names: &[Name]) -> Result<(), LineFault>
+fn define_all(wires: &mut IndexSet<Name, Seed>, names: &[Name]) -> Result<(), LineFault>
     ensures ok { OnOk result ((define wires.old.keys names.now ≡ None)
         × (wires.new.keys ≡ wires.old.keys ++ names.now)) }
     ensures err { OnErr result (wires.new.keys ≡ wires.old.keys) }
@@ -42,7 +42,7 @@ fn define_all(wires: &mut IndexSet<Name, NameHash>, names: &[Name]) -> Result<()
 
 /// Defines names from left to right, and gives each an unset mark. An error changes nothing.
 pub(crate) fn define_wires(
-    wires: &mut IndexSet<Name, NameHash>,
+    wires: &mut IndexSet<Name, Seed>,
     consumed: &mut Vec<bool>,
     names: &[Name],
 ) -> Result<(), LineFault>

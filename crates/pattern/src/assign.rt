@@ -8,7 +8,7 @@ ghost use Rattle.pattern.specs.Assign.{form_in_assign_section, assign_grammar, a
 use crate::names::name_set;
 use indexmap::IndexSet;
 use section_text::{
-    Feed, Form, Line, LineFault, Name, NameHash, ReadFault, RefusalCode, Section, is_keyword,
+    Feed, Form, Line, LineFault, Name, ReadFault, RefusalCode, Section, Seed, is_keyword,
     read_section,
 };
 use std::alloc::Global;
@@ -34,8 +34,8 @@ fn line_form(feed: &Feed, line: &Line) -> Option<Form<(), Name>>
 #[derive(Drop)]
 struct AssignReader<'a> {
     ins: &'a [Name],
-    known: IndexSet<Name, NameHash>,
-    on: IndexSet<Name, NameHash>,
+    known: IndexSet<Name, Seed>,
+    on: IndexSet<Name, Seed>,
     ghost indexed: { (n : List ℕ) → has known.keys n ≡ has ins.now n },
 }
 
@@ -115,7 +115,7 @@ pub fn read_assign(alloc: Global, feed: &mut Feed, ins: &[Name]) -> Result<Vec<N
     let Ok(known) = name_set(alloc, feed.seed(), ins) else {
         return Err(feed.starve());
     };
-    let on = IndexSet::with_hasher(alloc, NameHash::of(feed.seed()));
+    let on = IndexSet::with_hasher(alloc, feed.seed());
     let mut reading = AssignReader { ins, known, on };
     read_names(alloc, feed, &mut reading)
 }

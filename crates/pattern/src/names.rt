@@ -5,12 +5,12 @@ ghost use Rattle.indexmap.specs.IndexSet.{spare};
 ghost use Rattle.section_text.specs.Words.{has};
 
 use indexmap::IndexSet;
-use section_text::{Name, NameHash, Seed};
+use section_text::{Name, Seed};
 use std::alloc::{AllocError, Global};
 
 /// Adds a name, if it is not there.
 #[tactic(auto, using(crate::proofs::NameSets::has_push, crate::proofs::NameSets::has_again))]
-pub(crate) fn add_name(index: &mut IndexSet<Name, NameHash>, name: Name) -> Result<(), AllocError>
+pub(crate) fn add_name(index: &mut IndexSet<Name, Seed>, name: Name) -> Result<(), AllocError>
     ensures ok { OnOk result ((n : List ℕ) →
         has index.new.keys n ≡ (has index.old.keys n || bytes_eq n name)) }
     ensures err { OnErr result (index.new.keys ≡ index.old.keys) }
@@ -24,7 +24,7 @@ pub(crate) fn add_name(index: &mut IndexSet<Name, NameHash>, name: Name) -> Resu
 
 /// Adds a name if it is not there and there is room.
 #[tactic(auto, using(crate::proofs::NameSets::has_push, crate::proofs::NameSets::has_again))]
-pub(crate) fn put_name_if_room(index: &mut IndexSet<Name, NameHash>, name: Name)
+pub(crate) fn put_name_if_room(index: &mut IndexSet<Name, Seed>, name: Name)
     requires { 0 < spare index.old }
     ensures { (n : List ℕ) → has index.new.keys n ≡ (has index.old.keys n || bytes_eq n name) }
 {
@@ -40,10 +40,10 @@ pub(crate) fn name_set(
     alloc: Global,
     seed: Seed,
     names: &[Name],
-) -> Result<IndexSet<Name, NameHash>, AllocError>
+) -> Result<IndexSet<Name, Seed>, AllocError>
     ensures { IfOk result (λ index. (n : List ℕ) → has index.keys n ≡ has names.now n) }
 {
-    let mut index = IndexSet::with_hasher(alloc, NameHash::of(seed));
+    let mut index = IndexSet::with_hasher(alloc, seed);
     for name in names {
         add_name(&mut index, *name)?;
     }

@@ -4,13 +4,13 @@ ghost use Rattle.section_text.specs.Words.{has};
 
 use crate::names::name_set;
 use indexmap::IndexSet;
-use section_text::{Name, NameHash, Seed};
+use section_text::{Name, Seed};
 use std::alloc::{AllocError, Global};
 
 fn push_whether_on(
     bits: &mut Vec<bool>,
     names: &[Name],
-    on: &IndexSet<Name, NameHash>,
+    on: &IndexSet<Name, Seed>,
 ) -> Result<(), AllocError>
     ensures { OnOk result (bits.new.items
         ≡ bits.old.items ++ map (λ n. has on.now.keys n) names.now) }

@@ -16,7 +16,7 @@ use crate::layout_line::{LayoutHeader, LayoutLine};
 use crate::names::{name_set, put_name_if_room};
 use indexmap::IndexSet;
 use section_text::{
-    Feed, Form, Line, LineFault, Name, NameHash, PortNames, ReadFault, RefusalCode, Section, Seed,
+    Feed, Form, Line, LineFault, Name, PortNames, ReadFault, RefusalCode, Section, Seed,
     read_section,
 };
 use std::alloc::{AllocError, Global};
@@ -28,11 +28,11 @@ struct Reading<'a> {
     alloc: Global,
     ports: &'a PortNames,
     // the names that ports may have, where not all are good
-    known_ins: IndexSet<Name, NameHash>,
-    known_outs: IndexSet<Name, NameHash>,
+    known_ins: IndexSet<Name, Seed>,
+    known_outs: IndexSet<Name, Seed>,
     // those that have a port, where not all are good
-    seen_ins: IndexSet<Name, NameHash>,
-    seen_outs: IndexSet<Name, NameHash>,
+    seen_ins: IndexSet<Name, Seed>,
+    seen_outs: IndexSet<Name, Seed>,
     draft: Draft,
 }
 
@@ -58,7 +58,7 @@ fn allows_any_name(ports: &PortNames) -> bool
 }
 
 // Whether the set has all these names.
-fn has_all(set: &IndexSet<Name, NameHash>, names: &[Name]) -> bool
+fn has_all(set: &IndexSet<Name, Seed>, names: &[Name]) -> bool
     ensures { result ≡ list_all (λ n. has set.now.keys n) names.now }
 {
     for name in names {
@@ -71,8 +71,8 @@ fn has_all(set: &IndexSet<Name, NameHash>, names: &[Name]) -> bool
 
 // Notes that the name of a port has one.
 fn note_port_name_seen(
-    ins: &mut IndexSet<Name, NameHash>,
-    outs: &mut IndexSet<Name, NameHash>,
+    ins: &mut IndexSet<Name, Seed>,
+    outs: &mut IndexSet<Name, Seed>,
     part: &LayoutLine,
 )
     requires room_in { 0 < spare ins.old }
@@ -99,9 +99,8 @@ impl<'a> Reading<'a> {
         ensures parts { IfOk result (λ reading. parts_of reading.layout ≡ []) }
     {
         let (known_ins, known_outs) = allowed_port_names(alloc, seed, ports)?;
-        let hash = NameHash::of(seed);
-        let seen_ins = IndexSet::with_hasher(alloc, hash);
-        let seen_outs = IndexSet::with_hasher(alloc, hash);
+        let seen_ins = IndexSet::with_hasher(alloc, seed);
+        let seen_outs = IndexSet::with_hasher(alloc, seed);
         let smallest = LayoutHeader {
             w: 2,
             h: 2,
@@ -177,7 +176,7 @@ fn allowed_port_names(
     alloc: Global,
     seed: Seed,
     ports: &PortNames,
-) -> Result<(IndexSet<Name, NameHash>, IndexSet<Name, NameHash>), AllocError>
+) -> Result<(IndexSet<Name, Seed>, IndexSet<Name, Seed>), AllocError>
     ensures ins { IfOk result (λ known. (n : List ℕ) →
         may_name_input (named_ports ports.now) n
         ≡ (allows_any_name (named_ports ports.now) || has known.0.keys n)) }

@@ -13,7 +13,7 @@ use crate::rectangle::push_rectangle;
 use crate::taken::make_live;
 use bbm_rule::{Cell, Grid};
 use indexmap::IndexSet;
-use section_text::{Name, NameHash, Seed};
+use section_text::{Name, Seed};
 use std::alloc::{AllocError, Global};
 
 /// The end of the whole run of a layout.
@@ -38,7 +38,7 @@ fn push_mirror_cells(out: &mut Vec<Cell>, mirrors: &[Rectangle]) -> Result<(), A
 fn push_cells_of_ports_on(
     out: &mut Vec<Cell>,
     ports: &[Port],
-    on: &IndexSet<Name, NameHash>,
+    on: &IndexSet<Name, Seed>,
 ) -> Result<(), AllocError>
     ensures { OnOk result (out.new.items
         ≡ out.old.items ++ map (λ q. q.cell) (filter (λ q. has on.now.keys q.name) ports.now)) }

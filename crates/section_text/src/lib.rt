@@ -26,6 +26,6 @@ pub use number::{read_number, take_number};
 pub use ports::PortNames;
 pub use reader::{Section, read_section};
 pub use section::{Form, LineFault};
-pub use seed::{NameHash, Seed};
+pub use seed::Seed;
 pub use spelling::{print_number, print_word};
 pub use words::{FiveWords, FourWords, ThreeWords};

@@ -1,11 +1,11 @@
 //! How tables hash names that the writer of a text chose.
 ghost use Rattle.std.specs.Prelude.{◌≡◌, replicate};
-ghost use Rattle.section_text.specs.Seeding.{first_hasher, initial_hasher, name_hash_of, seed_of, seed_text};
+ghost use Rattle.section_text.specs.Seeding.{initial_hasher, seed_of, seed_text};
 ghost use Rattle.sha2.specs.Sha512.{sha512};
 
 use crate::name::Name;
 use sha2::{Digest, Sha512};
-use std::hash::{BuildHasher, DefaultHasher, FoldHasher, Hasher};
+use std::hash::{BuildHasher, DefaultHasher, Hasher};
 use std::random::RandomSource;
 
 /// The seed by which a table hashes: SipHash over some bytes, and then over the name. A seed changes no result.
@@ -60,34 +60,5 @@ impl BuildHasher for Seed {
 
     fn build_hasher(&self) -> DefaultHasher {
         self.initial
-    }
-}
-
-/// The hash of a table of names: the kit's `FoldHasher`, begun with a number that SipHash makes of a seed.
-///
-/// For a name it takes a fifth of the instructions of SipHash. A hash changes no result.
-#[derive(Clone, Copy)]
-pub struct NameHash {
-    first: FoldHasher,
-}
-
-impl NameHash {
-    /// Returns the hash of a table whose seed this is.
-    pub fn of(seed: Seed) -> NameHash
-        ensures { result ≡ name_hash_of seed }
-    {
-        let mut first = FoldHasher::default();
-        first.write_u64(seed.build_hasher().finish());
-        NameHash { first }
-    }
-}
-
-impl BuildHasher for NameHash {
-    type Hasher = FoldHasher;
-
-    ghost build_hasher = { first_hasher };
-
-    fn build_hasher(&self) -> FoldHasher {
-        self.first
     }
 }
