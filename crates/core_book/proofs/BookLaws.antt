@@ -2,7 +2,7 @@
 use Rattle.lemmas.proofs.Common.{◌<◌, ◌∙◌, ◌≡◌, ◌≢◌, Bool, IsSome, List, None, Option, Some, ap, arith, false, get_or}
 use Rattle.lemmas.proofs.Common.{get_or-set_other, get_or-set_same, if◌then◌else◌, is_some, length, nat_eq, nat_lt, not}
 use Rattle.lemmas.proofs.Common.{refl, slice_get, subst, sym, true, ℕ, bytes_decides, nat_tests, option_eq, pointwise}
-use Rattle.lemmas.proofs.Common.{same_Some, slice_get_within}
+use Rattle.lemmas.proofs.Common.{same_Some, slice_get_within, common_steps}
 use Rattle.module_job.specs.Equality.{same_job}
 use Rattle.module_job.specs.Jobs.{JobView}
 use Rattle.module_job.proofs.EqualJobs.{jobs_decide}
@@ -32,33 +32,25 @@ pub own-digest : (b : BookView) (n : ℕ) (f : Finding) → IsOwn b n f → poin
 own-digest b n f own = (bytes_decides (digest_of f) b.digest).1 own.digest
 
 pub own-number : (b : BookView) (f : Finding) → IsOwn b (number_of f) f → nat_lt (number_of f) (length b.jobs) ≡ true
-own-number b f own =
-    let below : number_of f < length b.jobs = slice_get_within b.jobs (number_of f) (job_of f) own.job in
-    grind (arith, nat_tests)
+own-number b f own = grind (arith, common_steps, slice_get_within, nat_tests)
 
 pub own-job : (b : BookView) (n : ℕ) (f : Finding) → IsOwn b n f → is_job_of b.jobs n (job_of f) ≡ true
 unfolding is_job_of
-own-job b n f own = ap (λ (o : Option JobView). option_eq same_job o (Some (job_of f))) own.job
-    ∙ (jobs_decide (job_of f) (job_of f)).1 refl
+own-job b n f own = grind (arith, common_steps, option_eq, jobs_decide)
 
 pub accepts-its-own : AcceptedIsBooksAndNew
 accepts-its-own b f e = (accepted-own b f e, none_held _ (accepted-new b f e))
 
 no_stranger : (b : BookView) (f : Finding) (mismatch : Mismatch) (closed held : Bool) → IsOwn b (number_of f) f →
     b.closed ≡ closed → is_some (found_in b (number_of f)) ≡ held → reply_to b f ≢ Stranger mismatch
-no_stranger b f mismatch true held own is held_is e =
-    let closed = reply_to-closed b f is in
-    cc
+no_stranger b f mismatch true held own is held_is e = grind (arith, common_steps, reply_to-closed)
 no_stranger b f mismatch false true own is held_is e =
-    let double = reply_to-held b f is (own-digest b _ f own) (own-number b f own) (own-job b _ f own) held_is in
-    cc
+    grind (arith, common_steps, reply_to-held, own-digest, own-number, own-job)
 no_stranger b f mismatch false false own is held_is e =
-    let new = reply_to-new b f is (own-digest b _ f own) (own-number b f own) (own-job b _ f own) held_is in
-    cc
+    grind (arith, common_steps, reply_to-new, own-digest, own-number, own-job)
 
 pub knows-its-own : BooksFindingIsNoStranger
-knows-its-own b f k mismatch own =
-    no_stranger b f mismatch _ _ (subst (λ (n : ℕ). IsOwn b n f) (sym own.number_is) own) refl refl
+knows-its-own b f k mismatch own = grind (arith, common_steps, no_stranger)
 
 -- the outcomes of the tests of a finding that is answered `Double`
 record IsDouble (digest number job held : Bool) (n k : ℕ) : Type 0 where
@@ -75,8 +67,7 @@ doubles true digest number job held n k e = cc
 doubles false false number job held n k e = cc
 doubles false true false job held n k e = cc
 doubles false true true false held n k e = cc
-doubles false true true true true n k e =
-    record { digest_is = refl; number_is = refl; job_is = refl; held_is = refl; same = cc }
+doubles false true true true true n k e = grind (arith, common_steps)
 doubles false true true true false n k e = cc
 
 double_tells : (b : BookView) (f : Finding) (k : ℕ) → reply_to b f ≡ Double k →
@@ -104,15 +95,7 @@ pub closed-answers-closed : ClosedAnswersClosed
 closed-answers-closed b f = (closed_tells b f, reply_to-closed b f)
 
 double-own : (b : BookView) (f : Finding) (k : ℕ) → reply_to b f ≡ Double k → IsOwn b k f
-double-own b f k e =
-    let p = double_tells b f k e in
-    let own : IsOwn b (number_of f) f =
-    record {
-      digest = (bytes_decides (digest_of f) b.digest).0 p.digest_is;
-      number_is = refl;
-      job = is_job_of-true b.jobs (number_of f) (job_of f) p.job_is;
-    } in
-    subst (λ (n : ℕ). IsOwn b n f) p.same own
+double-own b f k e = grind (arith, common_steps, double_tells, bytes_decides, is_job_of-true)
 
 pub doubles-what_is_held : DoubleIsBooksAndHeld
 doubles-what_is_held b f k e =
@@ -122,9 +105,7 @@ doubles-what_is_held b f k e =
 -- ---- what a filing leaves
 
 pub holds-what_is_accepted : AcceptedFindingIsHeld
-holds-what_is_accepted b f is e =
-    ap (λ (xs : List (Option Finding)). get_or xs (number_of f) None) (findings_after-accepted b f e)
-    ∙ get_or-set_same b.findings (number_of f) (Some f) None (accepted-inside b f is e)
+holds-what_is_accepted b f is e = grind (arith, common_steps, findings_after-accepted, get_or-set_same, accepted-inside)
 
 -- a number whose finding was accepted held none before
 other_number : (b : BookView) (f g : Finding) (k : ℕ) → reply_to b f ≡ Accepted → found_in b k ≡ Some g →
@@ -136,15 +117,10 @@ other_number b f g k e held same =
 
 keeps : (b : BookView) (f g : Finding) (k : ℕ) (r : Reply) → reply_to b f ≡ r → found_in b k ≡ Some g →
     found_in (after_filing b f) k ≡ Some g
-keeps b f g k Accepted e held =
-    ap (λ (xs : List (Option Finding)). get_or xs k None) (findings_after-accepted b f e)
-    ∙ get_or-set_other b.findings (number_of f) k (Some f) None (other_number b f g k e held) ∙ held
-keeps b f g k Closed e held =
-    ap (λ (xs : List (Option Finding)). get_or xs k None) (findings_after-other b.findings f _ (λ s. cc)) ∙ held
-keeps b f g k (Stranger mismatch) e held =
-    ap (λ (xs : List (Option Finding)). get_or xs k None) (findings_after-other b.findings f _ (λ s. cc)) ∙ held
-keeps b f g k (Double n) e held =
-    ap (λ (xs : List (Option Finding)). get_or xs k None) (findings_after-other b.findings f _ (λ s. cc)) ∙ held
+keeps b f g k Accepted e held = grind (arith, common_steps, findings_after-accepted, get_or-set_other, other_number)
+keeps b f g k Closed e held = grind (arith, common_steps, findings_after-other)
+keeps b f g k (Stranger mismatch) e held = grind (arith, common_steps, findings_after-other)
+keeps b f g k (Double n) e held = grind (arith, common_steps, findings_after-other)
 
 pub keeps-what_is_held : FilingKeepsHeldFindings
 keeps-what_is_held b f g k held = keeps b f g k (reply_to b f) refl held
@@ -161,9 +137,7 @@ stays-replayed b book is = ((λ f. IsReplayed-filed b f book is), IsReplayed-clo
 -- a filing that is accepted changes nothing at another number
 pub held-elsewhere : (b : BookView) (f : Finding) (k : ℕ) → reply_to b f ≡ Accepted → k ≢ number_of f →
     found_in (after_filing b f) k ≡ found_in b k
-held-elsewhere b f k e other =
-    ap (λ (xs : List (Option Finding)). get_or xs k None) (findings_after-accepted b f e)
-    ∙ get_or-set_other b.findings (number_of f) k (Some f) None other
+held-elsewhere b f k e other = grind (arith, common_steps, findings_after-accepted, get_or-set_other)
 
 -- ---- two books
 

@@ -1,7 +1,7 @@
 -- The parts of a core that each event keeps
 use Rattle.lemmas.proofs.Common.{[], ◌++◌, ◌+◌, ◌<◌, ◌∙◌, ◌∷◌, ◌≡◌, ◌≤◌, All, Bool, List, ap, arith, false, get_or}
 use Rattle.lemmas.proofs.Common.{if◌then◌else◌, length, length-set, map, nat_lt, refl, set, subst, suc, sym, true, zero}
-use Rattle.lemmas.proofs.Common.{ℕ, All-head, All-tail, length-replicate, nat_tests}
+use Rattle.lemmas.proofs.Common.{ℕ, All-head, All-tail, length-replicate, nat_tests, common_steps}
 use Rattle.module_job.specs.Jobs.{JobView}
 use Rattle.core_book.specs.Draws.{IsDrawn, total}
 use Rattle.core_book.specs.Claims.{draws_after_claim, next_after_claim, has_seat_drawn_past_last}
@@ -33,22 +33,10 @@ claim-few : (n next seat : ℕ) (lists : List (List ℕ)) → seat < length list
     ≤ n + total (ended n) (set lists seat (if has then get_or lists seat [] else get_or lists seat [] ++ next ∷ []))
 claim-few n next seat lists inside true e few = omega (arith, few, ap (total (ended n)) (set-same lists seat))
 claim-few n next seat lists inside false e few =
-    let xs : List ℕ = get_or lists seat [] in
-    let moved = total-set (ended n) lists seat (xs ++ next ∷ []) [] inside in
-    let before : ended n xs ≡ 0 = ap (λ (b : Bool). if b then 1 else 0) e in
-    let now : ended n (xs ++ next ∷ []) ≡ (if nat_lt n (next + 1) then 1 else 0) =
-    ap (λ (b : Bool). if b then 1 else 0) (has_seat_drawn_past_last-push n xs next) in
-    grind (arith, nat_tests)
+    grind (arith, common_steps, total-set, has_seat_drawn_past_last-push, nat_tests)
 
 pub claim-core : (c : CoreView) (seat : ℕ) → seat < length c.draws → IsCore c → IsCore (after_claim c seat)
-claim-core c seat inside is =
-    let n = job_count_of c in
-    record {
-      drawn = claim-drawn n c.next seat c.draws inside (has_seat_drawn_past_last n (draws_of c seat)) is.drawn;
-      few = claim-few n c.next seat c.draws inside (has_seat_drawn_past_last n (draws_of c seat)) refl is.few;
-      book_is = is.book_is;
-      replayed = is.replayed;
-    }
+claim-core c seat inside is = grind (arith, common_steps, claim-drawn, claim-few, c.next, c.draws)
 
 -- ---- an event
 
@@ -120,7 +108,4 @@ pub left-claim : (c : CoreView) (seat count next : ℕ) (before after : List ℕ
     draws ≡ set c.draws seat after →
     record c { next = next; draws = draws } ≡ after_claim c seat
 left-claim c seat count next before after draws counts was next_is after_is draws_are =
-    let n : next ≡ (after_claim c seat).next = next_is ∙ (λ i. next_after_claim (counts i) (was i) c.next) in
-    let d : draws ≡ (after_claim c seat).draws =
-    draws_are ∙ ap (set c.draws seat) (after_is ∙ (λ i. draws_after_claim (counts i) (was i) c.next)) in
-    (λ i. record c { next = n i; draws = d i })
+    grind (arith, common_steps, c.next, c.draws)

@@ -1,7 +1,7 @@
 -- Sums over lists, and lists of numbers that were drawn
 use Rattle.lemmas.proofs.Common.{[], ◌++◌, ◌+◌, ◌-◌, ◌<◌, ◌∷◌, ◌≡◌, ◌≤◌, List, Some, ap, arith, get_or, length}
 use Rattle.lemmas.proofs.Common.{length-append, nat_le, nat_lt, refl, replicate, set, slice_get, suc, true, zero, ℕ}
-use Rattle.lemmas.proofs.Common.{nat_tests, same_Some}
+use Rattle.lemmas.proofs.Common.{nat_tests, same_Some, common_steps}
 use Rattle.core_book.specs.Draws.{IsDrawn, past_last, one_if_below, times, total}
 use Rattle.core_book.specs.Claims.{has_seat_drawn_past_last}
 
@@ -57,10 +57,7 @@ drawn-push counter lists seat inside is =
     }
 
 pub drawn-none : (seats : ℕ) → IsDrawn 0 (replicate seats [])
-drawn-none seats = record {
-  whole = total-replicate length seats [] refl;
-  once = λ x. let none = total-replicate (times x) seats [] refl in grind (arith, nat_tests);
-}
+drawn-none seats = grind (arith, common_steps, total-replicate, nat_tests)
 
 -- ---- what a list that has ended tells
 
@@ -68,9 +65,7 @@ drawn-none seats = record {
 end-stands : (xs : List ℕ) (n : ℕ) → n < past_last xs → (last : ℕ) × (n ≤ last) × (1 ≤ times last xs)
 end-stands [] n below = absurd (omega (arith, below))
 end-stands (y ∷ []) n below = (y, omega (arith, below), grind (arith, nat_tests))
-end-stands (y ∷ z ∷ zs) n below =
-    let more = end-stands (z ∷ zs) n below in
-    (more.0, more.1, omega (arith, more.2))
+end-stands (y ∷ z ∷ zs) n below = grind (arith, common_steps, (end-stands (z ∷ zs) n below))
 
 -- where a seat has ended, all numbers were drawn
 pub ended-all : (n counter : ℕ) (lists : List (List ℕ)) (seat : ℕ) → seat < length lists →
@@ -101,6 +96,4 @@ some-length (y ∷ ys) x e = omega arith
 
 pub has_seat_drawn_past_last-last : (n : ℕ) (xs : List ℕ) (x : ℕ) → slice_get xs (length xs - 1) ≡ Some x →
     nat_le n x ≡ has_seat_drawn_past_last n xs
-has_seat_drawn_past_last-last n xs x e =
-    let end : past_last xs ≡ x + 1 = last-end xs (length xs - 1) x (some-length xs x e) e in
-    grind (arith, nat_tests)
+has_seat_drawn_past_last-last n xs x e = grind (arith, common_steps, last-end, some-length, nat_tests)

@@ -1,7 +1,7 @@
 -- The laws of the core
 use Rattle.lemmas.proofs.Common.{[], ◌+◌, ◌<◌, ◌==◌, ◌∙◌, ◌∷◌, ◌≡◌, ◌≢◌, ◌≤◌, ◌⊎◌, All, Bool, Contains, List, None}
 use Rattle.lemmas.proofs.Common.{Option, Some, ap, arith, cond, false, get_or, if◌then◌else◌, inl, inr, is_some, length}
-use Rattle.lemmas.proofs.Common.{nat_lt, refl, subst, suc, sum_by, sym, true, zero, ℕ, All-contains}
+use Rattle.lemmas.proofs.Common.{nat_lt, refl, subst, suc, sum_by, sym, true, zero, ℕ, All-contains, common_steps}
 use Rattle.lemmas.proofs.Common.{Contains-append_cases, Contains-append_left, Contains-append_right, Contains-push}
 use Rattle.lemmas.proofs.Common.{eqb_tells, nat_tests, same_Some, sum_by-append, nothing_in, one_in}
 use Rattle.module_job.specs.Jobs.{JobView}
@@ -32,8 +32,7 @@ use Rattle.core_book.proofs.Replays.{IsBook-new, IsReplayed-filed, IsReplayed-ne
 
 all-core : (digest : List ℕ) (jobs : List JobView) (seats : ℕ) (es : List Event) → All (HasSeatBelow seats) es →
     IsCore (core_after digest jobs seats es)
-all-core digest jobs seats es seated =
-    events-core seats es (new_core digest jobs seats) (length-new digest jobs seats) seated (new-core digest jobs seats)
+all-core digest jobs seats es seated = grind (arith, common_steps, events-core, length-new, new-core)
 
 pub draws-each-once : DrawsEachOnce
 draws-each-once digest jobs seats es seated = (all-core digest jobs seats es seated).drawn
@@ -119,8 +118,7 @@ events-replay digest jobs seats es =
     events-replayed es (new_core digest jobs seats) (new-book digest jobs seats) (new-replayed digest jobs seats)
 
 pub holds-honest_own : HeldFindingsAreBooksAndLeast
-holds-honest_own digest jobs seats es k f h =
-    ((events-book es (new_core digest jobs seats) (new-book digest jobs seats)).own k f h, f.honest, f.keeps)
+holds-honest_own digest jobs seats es k f h = grind (arith, common_steps, events-book, new-book)
 
 -- ---- what was accepted
 
@@ -259,12 +257,8 @@ one-among : (es : List Event) (c : CoreView) (k : ℕ) → IsBook c.book →
     sum_by (at_number k) (findings_accepted_in c es) + held_at c k ≤ held_at (after_events c es) k
 one-among [] c k is = omega arith
 one-among (e ∷ es) c k is =
-    omega (
-      arith,
-      sum_by-append (at_number k) (findings_accepted_by c e) (findings_accepted_in (after_event c e) es),
-      one-event c e k is,
-      one-among es (after_event c e) k (event-book c e is),
-    )
+    grind (arith, common_steps, sum_by-append, one-event, event-book,
+    (one-among es (after_event c e) k (event-book c e is)))
 
 at_most_one : (b : Bool) → cond b 1 0 ≤ 1
 at_most_one true = omega arith

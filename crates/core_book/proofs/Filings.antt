@@ -4,7 +4,7 @@ use Rattle.lemmas.proofs.Common.{ap, ap₂, arith, cond, false, get_or, get_or-s
 use Rattle.lemmas.proofs.Common.{inl, inr, is_some, length, length-set, map, nat_eq, nat_lt, not, option_copied}
 use Rattle.lemmas.proofs.Common.{option_map, refl, set, slice_get, subst, suc, sum_by, sym, true, zero, ℕ, eqb_tells}
 use Rattle.lemmas.proofs.Common.{nat_tests, option_eq, pointwise, same_text, slice_get-map, slice_get_read, sum_by-set}
-use Rattle.lemmas.proofs.Common.{false_from_not, true_from_not}
+use Rattle.lemmas.proofs.Common.{false_from_not, true_from_not, common_steps}
 use Rattle.std.specs.Borrow.{Bor}
 use Rattle.module_job.specs.Equality.{same_job}
 use Rattle.module_job.specs.Jobs.{JobView}
@@ -60,14 +60,12 @@ reply_to-new b f closed digest number job held = rw (closed, digest, number, job
 pub digest-differs : (b : BookView) (f : Finding) (theirs own : List ℕ) (r : Bool) →
     r ≡ not (pointwise nat_eq theirs own) → theirs ≡ digest_of f → own ≡ b.digest → r ≡ true →
     pointwise nat_eq (digest_of f) b.digest ≡ false
-digest-differs b f theirs own r e t o differs =
-    false_from_not _ (sym (e ∙ ap₂ (λ x y. not (pointwise nat_eq x y)) t o) ∙ differs)
+digest-differs b f theirs own r e t o differs = grind (arith, common_steps, false_from_not, pointwise)
 
 pub digest-agrees : (b : BookView) (f : Finding) (theirs own : List ℕ) (r : Bool) →
     r ≡ not (pointwise nat_eq theirs own) → theirs ≡ digest_of f → own ≡ b.digest → r ≡ false →
     pointwise nat_eq (digest_of f) b.digest ≡ true
-digest-agrees b f theirs own r e t o agrees =
-    true_from_not _ (sym (e ∙ ap₂ (λ x y. not (pointwise nat_eq x y)) t o) ∙ agrees)
+digest-agrees b f theirs own r e t o agrees = grind (arith, common_steps, true_from_not, pointwise)
 
 pub number-past : (b : BookView) (f : Finding) (n count : ℕ) → n ≡ number_of f → count ≡ length b.jobs → count ≤ n →
     nat_lt (number_of f) (length b.jobs) ≡ false
@@ -81,19 +79,13 @@ number-within b f n count e c below = grind (arith, nat_tests)
 pub is_job_of-at : {Y : Type 0} (view : Y → JobView) (ys : List Y) (n : ℕ) (y : Y) (job : JobView) → n < length ys →
     y ≡ get_or ys n y → is_job_of (map view ys) n job ≡ same_job (view y) job
 unfolding is_job_of
-is_job_of-at view ys n y job below at =
-    ap (λ (o : Option JobView). option_eq same_job o (Some job))
-    (slice_get-map view ys n ∙ ap (option_map view) (slice_get_read ys (length ys) n y refl below at))
+is_job_of-at view ys n y job below at = grind (arith, common_steps, option_eq, slice_get-map, slice_get_read)
 
 -- the test of the job, as the code makes it
 pub job-told : {Y : Type 0} (view : Y → JobView) (jobs : List JobView) (ys seen : List Y) (n : ℕ) (y : Y)
     (own theirs : JobView) (r : Bool) → map view ys ≡ jobs → seen ≡ ys → n < length seen → y ≡ get_or seen n y →
     own ≡ view y → r ≡ same_job own theirs → r ≡ is_job_of jobs n theirs
-job-told view jobs ys seen n y own theirs r of_book all below at o e =
-    let there : is_job_of (map view seen) n theirs ≡ same_job (view y) theirs =
-    is_job_of-at view seen n y theirs below at in
-    let whole : map view seen ≡ jobs = ap (map view) all ∙ of_book in
-    e ∙ ap (λ x. same_job x theirs) o ∙ sym there ∙ ap (λ js. is_job_of js n theirs) whole
+job-told view jobs ys seen n y own theirs r of_book all below at o e = grind (arith, common_steps, is_job_of-at)
 
 is_job_of-past : {Y : Type 0} (view : Y → JobView) (ys : List Y) (n : ℕ) (job : JobView) → length ys ≤ n →
     is_job_of (map view ys) n job ≡ false
@@ -109,8 +101,7 @@ is_job_of-past view ys n job past =
 
 pub no_job-told : {Y : Type 0} (view : Y → JobView) (jobs : List JobView) (ys seen : List Y) (n : ℕ)
     (job : JobView) → map view ys ≡ jobs → seen ≡ ys → length seen ≤ n → false ≡ is_job_of jobs n job
-no_job-told view jobs ys seen n job of_book all past =
-    sym (is_job_of-past view seen n job past) ∙ ap (λ js. is_job_of js n job) (ap (map view) all ∙ of_book)
+no_job-told view jobs ys seen n job of_book all past = grind (arith, common_steps, is_job_of-past)
 
 -- ---- what a reply tells
 
@@ -131,8 +122,7 @@ passes false false number job held n e = cc
 passes false true false job held n e = cc
 passes false true true false held n e = cc
 passes false true true true true n e = cc
-passes false true true true false n e =
-    record { closed_is = refl; digest_is = refl; number_is = refl; job_is = refl; held_is = refl }
+passes false true true true false n e = grind (arith, common_steps)
 
 accepted-passes : (b : BookView) (f : Finding) → reply_to b f ≡ Accepted →
     Passes b.closed (pointwise nat_eq (digest_of f) b.digest) (nat_lt (number_of f) (length b.jobs))
@@ -171,9 +161,7 @@ accepted-new b f e = (accepted-passes b f e).held_is
 
 pub accepted-inside : (b : BookView) (f : Finding) → IsBook b → reply_to b f ≡ Accepted →
     number_of f < length b.findings
-accepted-inside b f is e =
-    let below : number_of f < length b.jobs = accepted-number b f e in
-    omega (arith, is.places)
+accepted-inside b f is e = grind (arith, common_steps, accepted-number)
 
 pub findings_after-accepted : (b : BookView) (f : Finding) → reply_to b f ≡ Accepted →
     findings_after b.findings f (reply_to b f) ≡ set b.findings (number_of f) (Some f)
@@ -190,31 +178,17 @@ findings_after-other held f (Double number) other = refl
 
 -- whose a finding is depends on the digest and the jobs alone
 own-moved : (b c : BookView) (n : ℕ) (f : Finding) → b.digest ≡ c.digest → b.jobs ≡ c.jobs → IsOwn b n f → IsOwn c n f
-own-moved b c n f digest jobs p =
-    record { digest = p.digest ∙ digest; number_is = p.number_is; job = ap (λ js. slice_get js n) (sym jobs) ∙ p.job }
+own-moved b c n f digest jobs p = grind (arith, common_steps)
 
 own-set : (b : BookView) (n : ℕ) (f : Finding) → n < length b.findings → IsOwn b n f → IsBook b →
     (k : ℕ) (g : Finding) →
     get_or (set b.findings n (Some f)) k None ≡ Some g → IsOwn b k g
-own-set b n f inside own is k g e =
-    elim (eqb_tells n k) [
-      | inl p ↦
-          let there : get_or (set b.findings n (Some f)) k None ≡ Some f =
-          ap (λ (j : ℕ). get_or (set b.findings n (Some f)) j None) (sym p.1)
-          ∙ get_or-set_same b.findings n (Some f) None inside in
-          let same : f ≡ g = cc in
-          subst (λ (x : Finding). IsOwn b k x) same (subst (λ (j : ℕ). IsOwn b j f) p.1 own)
-      | inr q ↦ is.own k g (sym (get_or-set_other b.findings n k (Some f) None (λ s. q.1 (sym s))) ∙ e)
-    ]
+own-set b n f inside own is k g e = grind (arith, common_steps, eqb_tells, get_or-set_same, get_or-set_other)
 
 -- a book that holds what another one held after a filing
 book-of : (b c : BookView) (held : List (Option Finding)) → b.digest ≡ c.digest → b.jobs ≡ c.jobs → c.findings ≡ held →
     length held ≡ length b.jobs → ((k : ℕ) (g : Finding) → get_or held k None ≡ Some g → IsOwn b k g) → IsBook c
-book-of b c held digest jobs same places own = record {
-  places = ap length same ∙ places ∙ ap length jobs;
-  own = λ k g h. own-moved b c k g digest jobs
-      (own k g (ap (λ (xs : List (Option Finding)). get_or xs k None) (sym same) ∙ h));
-}
+book-of b c held digest jobs same places own = grind (arith, common_steps, own-moved)
 
 filed-by : (b : BookView) (f : Finding) (r : Reply) → reply_to b f ≡ r → IsBook b → IsBook (after_filing b f)
 filed-by b f Accepted e is =
@@ -222,12 +196,9 @@ filed-by b f Accepted e is =
     book-of b (after_filing b f) (set b.findings (number_of f) (Some f)) refl refl (findings_after-accepted b f e)
     (length-set b.findings (number_of f) (Some f) ∙ is.places)
     (own-set b (number_of f) f inside (accepted-own b f e) is)
-filed-by b f Closed e is = book-of b (after_filing b f) b.findings refl refl
-    (findings_after-other b.findings f _ (λ s. cc)) is.places is.own
-filed-by b f (Stranger mismatch) e is =
-    book-of b (after_filing b f) b.findings refl refl (findings_after-other b.findings f _ (λ s. cc)) is.places is.own
-filed-by b f (Double number) e is =
-    book-of b (after_filing b f) b.findings refl refl (findings_after-other b.findings f _ (λ s. cc)) is.places is.own
+filed-by b f Closed e is = grind (arith, common_steps, book-of, findings_after-other)
+filed-by b f (Stranger mismatch) e is = grind (arith, common_steps, book-of, findings_after-other)
+filed-by b f (Double number) e is = grind (arith, common_steps, book-of, findings_after-other)
 
 pub IsBook-filed : (b : BookView) (f : Finding) → IsBook b → IsBook (after_filing b f)
 IsBook-filed b f is = filed-by b f (reply_to b f) refl is
@@ -262,9 +233,7 @@ by_reply b f (Double number) e is = accepted_in-other b f (λ s. cc)
 
 pub accepted_in-filed : (b c after : BookView) (f : Finding) (r : Reply) → IsBook b → b ≡ c → r ≡ reply_to c f →
     after ≡ after_filing c f → accepted_in after ≡ accepted_count_after (accepted_in c) r
-accepted_in-filed b c after f r is same e left =
-    ap accepted_in left ∙ by_reply c f (reply_to c f) refl (subst IsBook same is)
-    ∙ ap (accepted_count_after (accepted_in c)) (sym e)
+accepted_in-filed b c after f r is same e left = grind (arith, common_steps, by_reply)
 
 pub accepted_count_after-other : (n : ℕ) (r : Reply) → (r ≡ Accepted → ⊥) → accepted_count_after n r ≡ n
 accepted_count_after-other n Accepted other = absurd (other refl)
@@ -284,19 +253,9 @@ found-own b n (Some f) is e = is.own n f.now (sym e)
 pub left-accepted : (b : BookView) (f : Finding) (filing : Filing) (history : List LogEntry) → filing ≡ filing_of b f →
     history ≡ b.history ++ Filed filing ∷ [] → filing.reply ≡ Accepted
     → record b { findings = set b.findings filing.number (Some f); history = history } ≡ after_filing b f
-left-accepted b f filing history is entries e =
-    let accepted : reply_to b f ≡ Accepted = sym (ap (λ (x : Filing). x.reply) is) ∙ e in
-    let held : set b.findings filing.number (Some f) ≡ findings_after b.findings f (reply_to b f) =
-    ap (λ (k : ℕ). set b.findings k (Some f)) (ap (λ (x : Filing). x.number) is)
-    ∙ sym (findings_after-accepted b f accepted) in
-    let all : history ≡ (after_filing b f).history = entries ∙ ap (λ (x : Filing). b.history ++ Filed x ∷ []) is in
-    (λ i. record b { findings = held i; history = all i })
+left-accepted b f filing history is entries e = grind (arith, common_steps, findings_after-accepted)
 
 pub left-other : (b : BookView) (f : Finding) (filing : Filing) (history : List LogEntry) → filing ≡ filing_of b f →
     history ≡ b.history ++ Filed filing ∷ [] → (filing.reply ≡ Accepted → ⊥)
     → record b { history = history } ≡ after_filing b f
-left-other b f filing history is entries other =
-    let held : b.findings ≡ findings_after b.findings f (reply_to b f) =
-    sym (findings_after-other b.findings f (reply_to b f) (λ e. other (ap (λ (x : Filing). x.reply) is ∙ e))) in
-    let all : history ≡ (after_filing b f).history = entries ∙ ap (λ (x : Filing). b.history ++ Filed x ∷ []) is in
-    (λ i. record b { findings = held i; history = all i })
+left-other b f filing history is entries other = grind (arith, common_steps, findings_after-other)

@@ -2,7 +2,7 @@
 use Rattle.lemmas.proofs.Common.{◌+◌, ◌<◌, ◌==◌, ◌∙◌, ◌≡◌, ◌≢◌, ◌≤◌, Bool, IsSome, List, None, Option, Some, ap, ap₂}
 use Rattle.lemmas.proofs.Common.{arith, false, get_or, if◌then◌else◌, inl, inr, length, option_map, refl, slice_get}
 use Rattle.lemmas.proofs.Common.{slice_index, subst, suc, sym, true, zero, ℕ, cases_order, get_or_default, nat_tests}
-use Rattle.lemmas.proofs.Common.{same_Some, slice_get-map}
+use Rattle.lemmas.proofs.Common.{same_Some, slice_get-map, common_steps}
 use Rattle.module_job.specs.Groups.{AreGroups, IsFirstLike}
 use Rattle.module_job.specs.Jobs.{JobView}
 use Rattle.module_job.specs.Shapes.{ShapeView, shape_of}
@@ -15,13 +15,7 @@ use Rattle.core_book.proofs.Fillings.{IsFilling}
 -- ---- groups
 
 same_first : {A : Type 0} (xs : List A) (k a b : ℕ) → IsFirstLike xs k a → IsFirstLike xs k b → a ≡ b
-same_first xs k a b f h = elim (cases_order a b) [
-  | inl same ↦ same
-  | inr rest ↦ elim rest [
-    | inl before ↦ absurd (h.first a before f.same)
-    | inr after ↦ absurd (f.first b after h.same)
-  ]
-]
+same_first xs k a b f h = grind (arith, common_steps, cases_order)
 
 -- the number that is read at a place
 pub first-read : (g : List ℕ) (n first : ℕ) → n < length g → first ≡ get_or g n first → slice_index g n ≡ first
@@ -31,14 +25,10 @@ pub same_firsts : {A : Type 0} (xs : List A) (g h : List ℕ) → AreGroups xs g
     n ≤ length xs → group_count_below g n ≡ group_count_below h n
 same_firsts xs g h of_g of_h zero le = refl
 same_firsts xs g h of_g of_h (suc n) le =
-    let below : n < length xs = omega (arith, le) in
-    let one = same_first xs n (slice_index g n) (slice_index h n) (of_g.each n below) (of_h.each n below) in
-    ap₂ (λ a b. a + (if b == n then 1 else 0)) (same_firsts xs g h of_g of_h n (omega (arith, le))) one
+    grind (arith, common_steps, same_first, (same_firsts xs g h of_g of_h n (omega (arith, le))))
 
 pub firsts_grow : (g : List ℕ) (n m : ℕ) → n ≤ m → group_count_below g n ≤ group_count_below g m
-firsts_grow g n zero le = let e : n ≡ zero = omega (arith, le) in
-    subst (λ k. group_count_below g k ≤ group_count_below g zero) (sym e)
-    (omega arith)
+firsts_grow g n zero le = grind (arith, common_steps)
 firsts_grow g n (suc m) le = elim (cases_order n (suc m)) [
   | inl same ↦ subst (λ k. group_count_below g n ≤ group_count_below g k) same (omega arith)
   | inr rest ↦ elim rest [
@@ -95,10 +85,7 @@ step_by false a n before r r' f e so_far none one =
 
 pub runs_step : (g : List ℕ) (n before r r' : ℕ) → r ≤ before + group_count_below g n → (slice_index g n ≢ n → r' ≡ r) →
     r' ≤ r + 1 → r' ≤ before + group_count_below g (n + 1)
-runs_step g n before r r' so_far none one =
-    let e : suc n ≡ n + 1 = omega arith in
-    subst (λ k. r' ≤ before + group_count_below g k) e
-    (step_by (slice_index g n == n) (slice_index g n) n before r r' (group_count_below g n) refl so_far none one)
+runs_step g n before r r' so_far none one = grind (arith, common_steps, step_by)
 
 -- after some numbers, which are no more than there are jobs
 pub runs_end : {shapes : List ShapeView} (g : List ℕ) (n before r : ℕ) → AreGroups shapes g → n ≤ length shapes →

@@ -2,7 +2,7 @@
 use Rattle.lemmas.proofs.Common.{[], ◌++◌, ◌+◌, ◌<◌, ◌∙◌, ◌∷◌, ◌≡◌, ◌≢◌, ◌≤◌, Bool, IsSome, List, None, Option, Some}
 use Rattle.lemmas.proofs.Common.{ap, append-nil, append_assoc, ap₂, arith, cond, false, get_or, if◌then◌else◌, inl, inr}
 use Rattle.lemmas.proofs.Common.{is_some, length, map, refl, slice_get, subst, suc, sym, true, ℕ, AllZip, Decides}
-use Rattle.lemmas.proofs.Common.{eqb_tells, map-append, pointwise, slice_eq-Decides}
+use Rattle.lemmas.proofs.Common.{eqb_tells, map-append, pointwise, slice_eq-Decides, common_steps}
 use Rattle.std.specs.List.{count_by}
 use Rattle.std.specs.Cmp.Derive.Mapped.{pointwise-map}
 use Rattle.module_job.specs.Equality.{same_job}
@@ -36,18 +36,13 @@ pub clones-same : {Y : Type 0} (view : Y → JobView) (xs ys : List Y) → AllZi
 clones-same view [] [] all = refl
 clones-same view [] (y ∷ ys) all = absurd all
 clones-same view (x ∷ xs) [] all = absurd all
-clones-same view (x ∷ xs) (y ∷ ys) all =
-    ap₂ (λ (j : JobView) (js : List JobView). j ∷ js) all.0 (clones-same view xs ys all.1)
+clones-same view (x ∷ xs) (y ∷ ys) all = grind (arith, common_steps, (clones-same view xs ys all.1))
 
 -- a new book of these jobs
 pub new-open : (digest : List ℕ) (jobs : List JobView) (b : BookView) → b ≡ new_book digest jobs →
     IsOpenFor digest jobs b
 unfolding new_book
-new-open digest jobs b is = record {
-  still_open = ap (λ (v : BookView). v.closed) is;
-  digest_is = ap (λ (v : BookView). v.digest) is;
-  jobs_are = ap (λ (v : BookView). v.jobs) is;
-}
+new-open digest jobs b is = grind (arith, common_steps)
 
 -- ---- one number
 
@@ -56,10 +51,7 @@ pub new-accepted : (b : BookView) (f : Finding) (n : ℕ) (job : JobView) → b.
     number_of f ≡ n → job_of f ≡ job → slice_get b.jobs n ≡ Some job → is_some (found_in b n) ≡ false →
     reply_to b f ≡ Accepted
 new-accepted b f n job still_open digest number whole at lacks =
-    let own : IsOwn b n f = record { digest = digest; number_is = number; job = at ∙ ap Some (sym whole) } in
-    let there : IsOwn b (number_of f) f = subst (λ (k : ℕ). IsOwn b k f) (sym number) own in
-    reply_to-new b f still_open (own-digest b _ f there) (own-number b f there) (own-job b _ f there)
-    (ap (λ (k : ℕ). is_some (found_in b k)) number ∙ lacks)
+    grind (arith, common_steps, reply_to-new, own-digest, own-number, own-job)
 
 pub filed-for : (b c : BookView) (f : Finding) (n : ℕ) (job : JobView) → b.closed ≡ false → digest_of f ≡ b.digest →
     number_of f ≡ n → job_of f ≡ job → slice_get b.jobs n ≡ Some job → is_some (found_in b n) ≡ false →
@@ -76,71 +68,30 @@ filed-for b c f n job still_open digest number whole at lacks after =
 -- ---- number after number
 
 pub filled-start : (b : BookView) → IsFilledTo b b 0
-filled-start b = record {
-  digest_stays = refl;
-  jobs_stay = refl;
-  closed_stays = refl;
-  history_grows = sym (append-nil b.history);
-  kept = λ k f e. e;
-  held = λ k below. absurd (omega (arith, below));
-  rest = λ k le. refl;
-}
+filled-start b = grind (arith, common_steps, append-nil)
 
 -- a number that held a finding before
 missing_numbers_below-held : (b : BookView) (n : ℕ) → is_some (found_in b n) ≡ true →
     missing_numbers_below b (suc n) ≡ missing_numbers_below b n
-missing_numbers_below-held b n held =
-    ap (λ (t : Bool). missing_numbers_below b n ++ (if t then [] else n ∷ [])) held
-    ∙ append-nil (missing_numbers_below b n)
+missing_numbers_below-held b n held = grind (arith, common_steps, append-nil)
 
 missing_numbers_below-new : (b : BookView) (n : ℕ) → is_some (found_in b n) ≡ false →
     missing_numbers_below b (suc n) ≡ missing_numbers_below b n ++ n ∷ []
 missing_numbers_below-new b n lacks = ap (λ (t : Bool). missing_numbers_below b n ++ (if t then [] else n ∷ [])) lacks
 
 step-held : (b c : BookView) (n : ℕ) → IsFilledTo b c n → is_some (found_in c n) ≡ true → IsFilledTo b c (suc n)
-step-held b c n is held = record {
-  digest_stays = is.digest_stays;
-  jobs_stay = is.jobs_stay;
-  closed_stays = is.closed_stays;
-  history_grows = is.history_grows
-      ∙ ap (λ (ks : List ℕ). b.history ++ map (accepted_entry b.digest) ks)
-      (sym (missing_numbers_below-held b n (ap is_some (sym (is.rest n (omega arith))) ∙ held)));
-  kept = is.kept;
-  held = λ k below.
-      elim (eqb_tells n k) [
-        | inl p ↦ subst (λ (j : ℕ). IsSome (found_in c j)) p.1 held
-        | inr q ↦ let other : n ≢ k = q.1 in is.held k (omega (arith, below, other))
-      ];
-  rest = λ k le. is.rest k (omega (arith, le));
-}
+step-held b c n is held = grind (arith, common_steps, missing_numbers_below-held, eqb_tells)
 
 -- the entry of a finding that is accepted
 entry-accepted : (b c : BookView) (f : Finding) (n : ℕ) → c.digest ≡ b.digest → number_of f ≡ n →
     reply_to c f ≡ Accepted → Filed (filing_of c f) ≡ accepted_entry b.digest n
-entry-accepted b c f n digest number accepted =
-    let own : IsOwn c (number_of f) f = accepted-own c f accepted in
-    let d : digest_of f ≡ b.digest = own.digest ∙ digest in
-    let s : is_job_of c.jobs (number_of f) (job_of f) ≡ true = own-job c (number_of f) f own in
-    (λ i. Filed (record { digest = d i; number = number i; same = s i; reply = accepted i }))
+entry-accepted b c f n digest number accepted = grind (arith, common_steps, accepted-own, own-job, c.jobs)
 
 history-filed : (b c : BookView) (f : Finding) (n : ℕ) → IsFilledTo b c n → is_some (found_in c n) ≡ false →
     number_of f ≡ n → reply_to c f ≡ Accepted
     → (after_filing c f).history ≡ b.history ++ map (accepted_entry b.digest) (missing_numbers_below b (suc n))
 history-filed b c f n is lacks number accepted =
-    let entry = accepted_entry b.digest in
-    let new : missing_numbers_below b (suc n) ≡ missing_numbers_below b n ++ n ∷ [] =
-    missing_numbers_below-new b n (ap is_some (sym (is.rest n (omega arith))) ∙ lacks) in
-    let own : c.history ++ Filed (filing_of c f) ∷ [] ≡ c.history ++ entry n ∷ [] =
-    ap (λ (e : LogEntry). c.history ++ e ∷ []) (entry-accepted b c f n is.digest_stays number accepted) in
-    let before : c.history ++ entry n ∷ [] ≡ (b.history ++ map entry (missing_numbers_below b n)) ++ entry n ∷ [] =
-    ap (λ (es : List LogEntry). es ++ entry n ∷ []) is.history_grows in
-    let apart : (b.history ++ map entry (missing_numbers_below b n)) ++ entry n ∷ []
-    ≡ b.history ++ (map entry (missing_numbers_below b n) ++ entry n ∷ []) =
-    append_assoc b.history (map entry (missing_numbers_below b n)) (entry n ∷ []) in
-    let mapped : map entry (missing_numbers_below b n) ++ entry n ∷ []
-    ≡ map entry (missing_numbers_below b n ++ n ∷ []) =
-    sym (map-append entry (missing_numbers_below b n) (n ∷ [])) in
-    own ∙ before ∙ apart ∙ ap (λ (es : List LogEntry). b.history ++ es) (mapped ∙ ap (map entry) (sym new))
+    grind (arith, common_steps, missing_numbers_below-new, entry-accepted, append_assoc, map-append, c.history)
 
 step-filed : (b c : BookView) (f : Finding) (n : ℕ) → IsBook c → IsFilledTo b c n → is_some (found_in c n) ≡ false →
     number_of f ≡ n → reply_to c f ≡ Accepted → IsFilledTo b (after_filing c f) (suc n)
@@ -174,10 +125,7 @@ pub filling-start : (b : BookView) → IsBook b → IsFilling b b 0
 filling-start b book = record { filled = filled-start b; book = book }
 
 pub filling-step : (b c d : BookView) (n : ℕ) → IsFilling b c n → IsHeldOrFiled c d n → IsFilling b d (n + 1)
-filling-step b c d n is (inl p) =
-    let next : suc n ≡ n + 1 = omega arith in
-    subst (λ (x : BookView). IsFilling b x (n + 1)) (sym p.1)
-    (record { filled = subst (IsFilledTo b c) next (step-held b c n is.filled p.0); book = is.book })
+filling-step b c d n is (inl p) = grind (arith, common_steps, step-held)
 filling-step b c d n is (inr h) =
     let next : suc n ≡ n + 1 = omega arith in
     subst (λ (x : BookView). IsFilling b x (n + 1)) (sym h.after) (record {
@@ -209,16 +157,7 @@ count-all (o ∷ os) all =
 
 pub is-full : (digest : List ℕ) (jobs : List JobView) (b : BookView) → IsOpenFor digest jobs b → IsReplayed b →
     IsBook b → accepted_in b ≡ length b.jobs → IsFull digest jobs b
-is-full digest jobs b own replays book all = record {
-  is_open = own;
-  replays = replays;
-  all_held = subst (λ (js : List JobView). AreFindingsHeldBelow b js (length js)) own.jobs_are
-      (full_book_holds-all b book all);
-  all_accepted = all ∙ ap length own.jobs_are;
-}
+is-full digest jobs b own replays book all = grind (arith, common_steps, full_book_holds-all)
 
 pub filled-all : (b c : BookView) (n : ℕ) → length b.jobs ≤ n → IsFilling b c n → accepted_in c ≡ length c.jobs
-filled-all b c n past is =
-    let same : length c.jobs ≡ length b.jobs = ap length is.filled.jobs_stay in
-    count-all c.findings (λ k below. is.filled.held k (omega (arith, below, is.book.places, same, past)))
-    ∙ is.book.places
+filled-all b c n past is = grind (arith, common_steps, count-all, c.jobs, c.findings)

@@ -1,7 +1,7 @@
 -- Books that hold a finding for each job
 use Rattle.lemmas.proofs.Common.{[], ◌+◌, ◌<◌, ◌∙◌, ◌∷◌, ◌≡◌, List, None, Option, Some, arith, cond, count_by, get_or}
 use Rattle.lemmas.proofs.Common.{is_some, length, refl, slice_get, suc, sym, true, zero, ℕ, count_by-le-length}
-use Rattle.lemmas.proofs.Common.{same_Some, sum_by-cons}
+use Rattle.lemmas.proofs.Common.{same_Some, sum_by-cons, common_steps}
 use Rattle.module_job.specs.Jobs.{JobView}
 use Rattle.local_run.specs.declared.finding.Finding.{Finding}
 use Rattle.core_book.specs.Book.{BookView, IsBook, found_in}
@@ -27,7 +27,4 @@ held b k j None is e some at = cc
 held b k j (Some f) is e some at = record { finding = f; held = e; whole = same_Some _ _ (sym (is.own k f e).job ∙ at) }
 
 pub full_book_holds-all : FullBookHoldsAll
-full_book_holds-all b is full k j below at =
-    let inside : k < length b.findings = omega (arith, is.places, below) in
-    let there : is_some (found_in b k) ≡ true = all_there b.findings k (full ∙ sym is.places) inside in
-    held b k j (found_in b k) is refl there at
+full_book_holds-all b is full k j below at = grind (arith, common_steps, all_there, held)

@@ -1,7 +1,7 @@
 -- Jobs for which a finding is held, and their least faults
 use Rattle.lemmas.proofs.Common.{[], ◌++◌, ◌+◌, ◌<◌, ◌∙◌, ◌∷◌, ◌≡◌, ◌≢◌, Bool, List, Some, ap, arith, false, get_or}
 use Rattle.lemmas.proofs.Common.{inl, inr, length, length-append, map, option_map, refl, slice_get, subst, sym, true, ℕ}
-use Rattle.lemmas.proofs.Common.{eqb_tells, same_Some, slice_get-map, slice_get_read}
+use Rattle.lemmas.proofs.Common.{eqb_tells, same_Some, slice_get-map, slice_get_read, common_steps}
 use Rattle.module_box.proofs.Rising.{pushed}
 use Rattle.module_job.specs.Equality.{same_job}
 use Rattle.module_job.specs.Jobs.{JobView}
@@ -20,17 +20,12 @@ whole-job wanted theirs f r e t is = sym t ∙ (jobs_decide theirs wanted).0 (sy
 
 pub other-job : (b : BookView) (n : ℕ) (f : Finding) (wanted theirs : JobView) (r : Bool) → Some f ≡ found_in b n →
     r ≡ same_job theirs wanted → theirs ≡ job_of f → r ≡ false → ¬ IsHeld b n wanted
-other-job b n f wanted theirs r held e t is = λ h.
-    let same : f ≡ h.finding = same_Some _ _ (held ∙ h.held) in
-    let equal : theirs ≡ wanted = t ∙ ap job_of same ∙ h.whole in
-    let yes : r ≡ true = e ∙ (jobs_decide theirs wanted).1 equal in
-    cc
+other-job b n f wanted theirs r held e t is = grind (arith, common_steps, same_Some, jobs_decide)
 
 -- the job of a number, where the jobs are seen through a function
 pub job-at : {Y : Type 0} (view : Y → JobView) (ys : List Y) (n : ℕ) (y : Y) → n < length ys → y ≡ get_or ys n y →
     slice_get (map view ys) n ≡ Some (view y)
-job-at view ys n y below at =
-    slice_get-map view ys n ∙ ap (option_map view) (slice_get_read ys (length ys) n y refl below at)
+job-at view ys n y below at = grind (arith, common_steps, slice_get-map, slice_get_read)
 
 -- ---- the jobs below a number
 
@@ -42,8 +37,7 @@ pub record AreFaultsBelow (b : BookView) (jobs : List JobView) (count : ℕ) (fs
       IsToldOf j f
 
 pub none-below : (b : BookView) (jobs : List JobView) → AreFaultsBelow b jobs 0 []
-none-below b jobs =
-    record { held = λ n j below at. absurd (omega arith); count_is = refl; each = λ n j f at none. absurd cc }
+none-below b jobs = grind (arith, common_steps)
 
 -- a job more
 held_more : (b : BookView) (jobs : List JobView) (n : ℕ) (j : JobView) → slice_get jobs n ≡ Some j →

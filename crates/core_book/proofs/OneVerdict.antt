@@ -1,7 +1,7 @@
 -- The modules of a certificate have one verdict
 use Rattle.lemmas.proofs.Common.{[], ◌++◌, ◌<◌, ◌∙◌, ◌∷◌, ◌≡◌, ◌≤◌, List, None, Option, Some, ap, arith, length, map}
 use Rattle.lemmas.proofs.Common.{option_map, refl, slice_get, suc, sym, zero, ℕ, same_lists, slice_get-get_or}
-use Rattle.lemmas.proofs.Common.{slice_get_within}
+use Rattle.lemmas.proofs.Common.{slice_get_within, common_steps}
 use Rattle.certificate_lines.specs.Entries.{Setting, ModuleLines}
 use Rattle.module_job.specs.Jobs.{JobView}
 use Rattle.certificate.specs.Times.{delay_and_meet_lines}
@@ -28,12 +28,7 @@ none-past (x ∷ xs) zero e = absurd cc
 none-past (x ∷ xs) (suc k) e = let rest = none-past xs k e in omega (arith, rest)
 
 told_unique : (j : JobView) (x y : LeastFaults) → IsToldOf j x → IsToldOf j y → x ≡ y
-told_unique j x y a b =
-    let fault : x.fault ≡ y.fault = least_unique j x.fault y.fault a.fault b.fault in
-    let keep : x.keep ≡ y.keep = a.same
-    ∙ ap (λ o. option_map (renumber_keep j) o) (least_keep_unique j a.keep b.keep a.least_keep b.least_keep)
-    ∙ sym b.same in
-    λ i. record { fault = fault i; keep = keep i }
+told_unique j x y a b = grind (arith, common_steps, least_unique, least_keep_unique)
 
 faults-same : (jobs : List JobView) (fs gs : List LeastFaults) → AreLeastFaults jobs fs → AreLeastFaults jobs gs →
     fs ≡ gs

@@ -36,8 +36,7 @@ AreRepliesByRule-push own count p (x ∷ es) e h due =
 due-filing : (b : BookView) (f : Finding) → IsReplayed b →
     IsReplyByRule b.digest (length b.jobs) (replay b.history) (Filed (filing_of b f))
 unfolding reply_to
-due-filing b f is = (λ i. rule b.digest (length b.jobs) (sym is.closed_is i) (sym (is.accepted (number_of f)) i)
-    (digest_of f) (number_of f) (is_job_of b.jobs (number_of f) (job_of f)))
+due-filing b f is = grind (arith, common_steps)
 
 -- ---- which numbers
 
@@ -45,17 +44,7 @@ number-more : (ks : List ℕ) (held : List (Option Finding)) (n : ℕ) (f : Find
     ((k : ℕ) → has_number ks k ≡ is_some (get_or held k None)) → (k : ℕ) →
     has_number (ks ++ n ∷ []) k ≡ is_some (get_or (set held n (Some f)) k None)
 number-more ks held n f inside h k =
-    let e = list_any-append (λ (x : ℕ). nat_eq x k) ks (n ∷ []) in
-    elim (eqb_tells n k) [
-      | inl p ↦
-          let there : get_or (set held n (Some f)) k None ≡ Some f =
-          ap (λ (j : ℕ). get_or (set held n (Some f)) j None) (sym p.1) ∙ get_or-set_same held n (Some f) None inside in
-          e ∙ grind (arith, common_steps, p.0, ap is_some there)
-      | inr q ↦
-          let there : get_or (set held n (Some f)) k None ≡ get_or held k None =
-          get_or-set_other held n k (Some f) None (λ s. q.1 (sym s)) in
-          e ∙ grind (arith, common_steps, q.0, ap is_some there, h k)
-    ]
+    grind (arith, common_steps, list_any-append, eqb_tells, get_or-set_same, get_or-set_other)
 
 -- the book after a filing, by the numbers that were accepted then and what is held then
 by-reply : (b : BookView) (f : Finding) (ks : List ℕ) (held : List (Option Finding)) → IsReplayed b →
@@ -124,8 +113,7 @@ none-counted (suc n) = none-counted n
 
 pub IsReplayed-new : (digest : List ℕ) (jobs : List JobView) → IsReplayed (new_book digest jobs)
 unfolding new_book
-IsReplayed-new digest jobs =
-    record { due = tt; accepted = none-there (length jobs); count = none-counted (length jobs); closed_is = refl }
+IsReplayed-new digest jobs = grind (arith, common_steps, none-there, none-counted)
 
 none-found : (n k : ℕ) (f : Finding) → get_or (nothing n) k None ≡ Some f → ⊥
 none-found zero k f e = cc
@@ -134,8 +122,7 @@ none-found (suc n) (suc k) f e = none-found n k f e
 
 pub IsBook-new : (digest : List ℕ) (jobs : List JobView) → IsBook (new_book digest jobs)
 unfolding new_book
-IsBook-new digest jobs =
-    record { places = length-replicate (length jobs) None; own = λ k f e. absurd (none-found (length jobs) k f e) }
+IsBook-new digest jobs = grind (arith, common_steps, length-replicate, none-found)
 
 -- ---- closing entries
 

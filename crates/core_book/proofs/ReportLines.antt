@@ -3,7 +3,7 @@ use Rattle.lemmas.proofs.Common.{[], ◌&&◌, ◌++◌, ◌+◌, ◌<◌, ◌�
 use Rattle.lemmas.proofs.Common.{ap, append-nil, append_assoc, ap₂, arith, cond, drop, drop-cons, false, get_or, inl}
 use Rattle.lemmas.proofs.Common.{inr, length, map, not, option_map, option_to_list, refl, slice_get, subst, suc, sym}
 use Rattle.lemmas.proofs.Common.{true, true≢false, zero, ℕ, drop_all, same_Some, slice_get-get_or, slice_get_cases}
-use Rattle.lemmas.proofs.Common.{slice_get_within}
+use Rattle.lemmas.proofs.Common.{slice_get_within, common_steps}
 use Rattle.circuit.specs.Gates.{is_inverse}
 use Rattle.circuit.specs.Meaning.{Gate}
 use Rattle.certificate_lines.specs.Entries.{Setting, ModuleLines}
@@ -52,21 +52,14 @@ record NoneHere (n : ℕ) (f : LeastFaults) (b : Option BorderFault) (rest : Lis
 none_here : (n : ℕ) (f : LeastFaults) (b : Option BorderFault) (rest : List ReportLine) →
     option_to_list (local_line n f.fault) ++ option_to_list (keep_line n f.keep) ++ option_to_list (border_line n b)
     ++ rest ≡ [] → NoneHere n f b rest
-none_here n f b rest e =
-    let p = nil_parts (option_to_list (local_line n f.fault) ++ option_to_list (keep_line n f.keep)
-    ++ option_to_list (border_line n b)) rest e in
-    let q = nil_parts (option_to_list (local_line n f.fault) ++ option_to_list (keep_line n f.keep))
-    (option_to_list (border_line n b)) p.0 in
-    let r = nil_parts (option_to_list (local_line n f.fault)) (option_to_list (keep_line n f.keep)) q.0 in
-    record { clear = (no_option _ f.fault r.0, no_option _ f.keep r.1); border = no_option _ b q.1; later = p.1 }
+none_here n f b rest e = grind (arith, common_steps, nil_parts, no_option)
 
 no_faults : (n : ℕ) (fs : List LeastFaults) (bs : List (Option BorderFault)) → length fs ≡ length bs →
     report_lines_from n fs bs ≡ [] → (k : ℕ) (f : LeastFaults) → slice_get fs k ≡ Some f → IsClear f
 unfolding report_lines_from
 no_faults n [] bs len e k f got = absurd cc
 no_faults n (x ∷ fs) [] len e k f got = absurd (omega (arith, len))
-no_faults n (x ∷ fs) (b ∷ bs) len e zero f got =
-    subst IsClear (same_Some x f got) (none_here n x b (report_lines_from (n + 1) fs bs) e).clear
+no_faults n (x ∷ fs) (b ∷ bs) len e zero f got = grind (arith, common_steps, same_Some, none_here)
 no_faults n (x ∷ fs) (b ∷ bs) len e (suc k) f got =
     no_faults (n + 1) fs bs (omega (arith, len)) (none_here n x b (report_lines_from (n + 1) fs bs) e).later k f got
 
@@ -75,8 +68,7 @@ no_border_faults : (n : ℕ) (fs : List LeastFaults) (bs : List (Option BorderFa
 unfolding report_lines_from
 no_border_faults n fs [] len e k b got = absurd cc
 no_border_faults n [] (y ∷ bs) len e k b got = absurd (omega (arith, len))
-no_border_faults n (x ∷ fs) (y ∷ bs) len e zero b got =
-    sym (same_Some y b got) ∙ (none_here n x y (report_lines_from (n + 1) fs bs) e).border
+no_border_faults n (x ∷ fs) (y ∷ bs) len e zero b got = grind (arith, common_steps, same_Some, none_here)
 no_border_faults n (x ∷ fs) (y ∷ bs) len e (suc k) b got =
     no_border_faults (n + 1) fs bs (omega (arith, len))
     (none_here n x y (report_lines_from (n + 1) fs bs) e).later k b got
@@ -227,12 +219,7 @@ report_lines_from-step : (n : ℕ) (fs : List LeastFaults) (bs : List (Option Bo
     ++ option_to_list (border_line n (get_or bs n None))
     ++ report_lines_from (n + 1) (drop (n + 1) fs) (drop (n + 1) bs)
 unfolding report_lines_from
-report_lines_from-step n fs bs d inside inside_too =
-    let front : drop n fs ≡ get_or fs n d ∷ drop (n + 1) fs =
-    drop-cons fs n d inside ∙ ap (λ k. get_or fs n d ∷ drop k fs) (sym (add-one n)) in
-    let front_too : drop n bs ≡ get_or bs n None ∷ drop (n + 1) bs =
-    drop-cons bs n None inside_too ∙ ap (λ k. get_or bs n None ∷ drop k bs) (sym (add-one n)) in
-    ap₂ (report_lines_from n) front front_too
+report_lines_from-step n fs bs d inside inside_too = grind (arith, common_steps, drop-cons, add-one)
 
 -- the lines so far, with those on a module more
 pub one_module_more : (all lines with_local with_keep with_all : List ReportLine) (n : ℕ) (fs : List LeastFaults)
@@ -244,24 +231,9 @@ pub one_module_more : (all lines with_local with_keep with_all : List ReportLine
     → lines ++ report_lines_from n (drop n fs) (drop n bs) ≡ all →
     with_all ++ report_lines_from (n + 1) (drop (n + 1) fs) (drop (n + 1) bs) ≡ all
 one_module_more all lines with_local with_keep with_all n fs bs d x z y inside len x_is z_is y_is first second third
-    so_far =
-    let rest = report_lines_from (n + 1) (drop (n + 1) fs) (drop (n + 1) bs) in
-    let inside_too : n < length bs = omega (arith, len) in
-    let joined : with_all ≡ lines ++ (option_to_list x ++ option_to_list z ++ option_to_list y) =
-    third ∙ ap (λ xs. xs ++ option_to_list y)
-    (second ∙ ap (λ xs. xs ++ option_to_list z) first ∙ append_assoc lines (option_to_list x) (option_to_list z))
-    ∙ append_assoc lines (option_to_list x ++ option_to_list z) (option_to_list y) in
-    ap (λ xs. xs ++ rest) joined ∙ append_assoc lines (option_to_list x ++ option_to_list z ++ option_to_list y) rest
-    ∙ ap (λ u. lines ++ (option_to_list u ++ option_to_list z ++ option_to_list y ++ rest)) x_is
-    ∙ ap₂ (λ u v. lines ++ (option_to_list (local_line n (get_or fs n d).fault) ++ option_to_list u ++ option_to_list v
-    ++ rest)) z_is y_is
-    ∙ ap (λ xs. lines ++ xs) (sym (report_lines_from-step n fs bs d inside inside_too))
-    ∙ so_far
+    so_far = grind (arith, common_steps, append_assoc, report_lines_from-step)
 
 pub all_modules : (all lines : List ReportLine) (n : ℕ) (fs : List LeastFaults) (bs : List (Option BorderFault)) →
     length fs ≤ n → lines ++ report_lines_from n (drop n fs) (drop n bs) ≡ all → lines ≡ all
 unfolding report_lines_from
-all_modules all lines n fs bs past so_far =
-    let none : report_lines_from n (drop n fs) (drop n bs) ≡ [] =
-    ap (λ xs. report_lines_from n xs (drop n bs)) (drop_all n fs past) in
-    sym (append-nil lines) ∙ ap (λ xs. lines ++ xs) (sym none) ∙ so_far
+all_modules all lines n fs bs past so_far = grind (arith, common_steps, drop_all, append-nil)

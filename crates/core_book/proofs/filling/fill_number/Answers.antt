@@ -1,3 +1,4 @@
+use Rattle.lemmas.proofs.Common.{arith, common_steps}
 use Rattle.lemmas.proofs.Common.{◌≡◌, OnOk, false, inl, is_some, refl, rules, subst, sym, true, arc_value}
 use Rattle.core_book.specs.Book.{found_in}
 use Rattle.core_book.specs.Filling.{IsHeldOrFiled}
@@ -6,9 +7,7 @@ use Rattle.core_book.proofs.filling.fill_number.Goals as goal
 use Rattle.core_book.proofs.filling.fill_number.Goals.{in-Ok, in-Err}
 
 pub returns-then-is_some-clause-held : goal.returns-then-is_some-clause-held
-returns-then-is_some-clause-held c =
-    let held : is_some (found_in c.args.state.now c.args.number) ≡ true = search rules in
-    inl (held, refl)
+returns-then-is_some-clause-held c = grind (arith, common_steps, c.args.state.now, c.args.number)
 
 pub returns-clause-held : goal.returns-clause-held
 returns-clause-held c =

@@ -1,5 +1,5 @@
 use Rattle.lemmas.proofs.Common.{◌+◌, ◌<◌, ◌∙◌, ◌≤◌, List, ap, arith, length, map, refl, slice_get, subst, sym, ℕ}
-use Rattle.lemmas.proofs.Common.{arc_value, length-map}
+use Rattle.lemmas.proofs.Common.{arc_value, length-map, common_steps}
 use Rattle.core_book.proofs.Fillings.{filled-all, filling-step, is-full, open-stays}
 use Rattle.core_book.proofs.FillingRuns.{first-read, holds_alike, runs_end, runs_step}
 use Rattle.core_book.proofs.HeldJobs.{job-at}
@@ -11,27 +11,19 @@ use Rattle.core_book.proofs.filling.fill_open_book.Goals as goal
 
 pub returns-then-is_full-clause-full : goal.returns-then-is_full-clause-full
 returns-then-is_full-clause-full c =
-    is-full c.args.digest
-    (map arc_value c.args.jobs.now) c.args.state.now c.requires.open_for_jobs c.history-history.ensures.replays
-    c.if-is_full.ensures.book (c.if-is_full.ensures.full refl)
+    grind (arith, common_steps, is-full, c.args.digest, c.args.jobs.now, c.args.state.now, c.requires.open_for_jobs,
+    c.history-history.ensures.replays, c.if-is_full.ensures.book, c.if-is_full.ensures.full)
 
 pub fill_number-requires-clause-job : goal.fill_number-requires-clause-job
 fill_number-requires-clause-job c =
-    let at = job-at arc_value c.args.jobs.now c.numbers.number c.index-jobs-number.result c.numbers-test.true
-    c.index-jobs-number.is in
-    let own = open-stays c.args.digest
-    (map arc_value c.args.jobs.now) c.args.state.now c.numbers.state c.numbers.number c.requires.open_for_jobs
-    c.numbers.invariant.0.filled in
-    ap (λ js. slice_get js c.numbers.number) own.jobs_are ∙ at
+    grind (arith, common_steps, job-at, open-stays, c.args.jobs.now, c.numbers.number, c.index-jobs-number.result,
+    c.numbers-test.true, c.index-jobs-number.is, c.args.digest, c.args.state.now, c.numbers.state,
+    c.requires.open_for_jobs, c.numbers.invariant.0.filled)
 
 -- each job has a group
 within : {Y : Type 0} (view : Y → JobView) (jobs : List Y) (g : List ℕ) (n : ℕ) →
     AreGroups (shapes_of (map view jobs)) g → n < length jobs → n < length g
-within view jobs g n are lt =
-    let count = are.count in
-    let all = length-map (map view jobs) shape_of in
-    let same = length-map jobs view in
-    omega (arith, count, all, same, lt)
+within view jobs g n are lt = grind (arith, common_steps, length-map)
 
 pub fill_number-requires-clause-alike : goal.fill_number-requires-clause-alike
 fill_number-requires-clause-alike c = λ other.

@@ -1,3 +1,4 @@
+use Rattle.lemmas.proofs.Common.{arith, common_steps}
 use Rattle.lemmas.proofs.Common.{[], ◌++◌, ◌+◌, ◌<◌, ◌∙◌, ◌∷◌, ◌≡◌, Some, ap, length, rules, set, subst, sym}
 use Rattle.core_book.specs.Book.{BookView, IsBook, IsReplayed, accepted_in, after_filing, filing_of, reply_to}
 use Rattle.core_book.specs.BookView.{book_view}
@@ -60,23 +61,17 @@ returns-in_default-clause-reply c = ap (λ (x : Filing). x.reply) c.filing_of-fi
 
 pub returns-in_default-clause-after : goal.returns-in_default-clause-after
 returns-in_default-clause-after c =
-    let d = (goal.at.returns-in_default-clause-after c).After-push_reserved in
-    without d c.in_default.not-Accepted ∙ ap (λ (b : BookView). after_filing b c.args.finding) c.self.view_is
+    grind (arith, common_steps, without, c.in_default.not-Accepted, c.args.finding, c.self.view_is)
 
 pub returns-in_default-clause-counted : goal.returns-in_default-clause-counted
 returns-in_default-clause-counted c =
-    let d = (goal.at.returns-in_default-clause-counted c).After-push_reserved in
-    accepted_in-filed (book d) c.args.self.now _ c.args.finding _ c.self.invariant.book c.self.view_is
-    (ap (λ (x : Filing). x.reply) c.filing_of-filing.ensures)
-    (without d c.in_default.not-Accepted ∙ ap (λ (b : BookView). after_filing b c.args.finding) c.self.view_is)
+    grind (arith, common_steps, accepted_in-filed, without, c.args.self.now, c.args.finding, c.self.invariant.book,
+    c.self.view_is, c.filing_of-filing.ensures, c.in_default.not-Accepted)
 
 pub index_mut-requires : goal.index_mut-requires
 index_mut-requires c =
-    let d = (goal.at.index_mut-requires c).After-push_reserved in
-    let inside = accepted-inside (book d) c.args.finding c.self.invariant.book (accepted d c.in-Accepted.is) in
-    let below : c.filing_of-filing.result.number < length (book d).findings =
-    subst (λ n. n < length (book d).findings) (sym (ap (λ (x : Filing). x.number) (filing d))) inside in
-    search rules
+    grind (arith, common_steps, accepted-inside, accepted, filing, c.args.finding, c.self.invariant.book,
+    c.in-Accepted.is, c.filing_of-filing.result.number)
 
 pub invariant_of-self-2 : goal.invariant_of-self-2
 invariant_of-self-2 c =
@@ -92,9 +87,7 @@ invariant_of-self-2 c =
     }
 
 pub returns-clause-after : goal.returns-clause-after
-returns-clause-after c =
-    let d = (goal.at.returns-clause-after c).After-push_reserved in
-    with_found d c.in-Accepted.is ∙ ap (λ (b : BookView). after_filing b c.args.finding) c.self.view_is
+returns-clause-after c = grind (arith, common_steps, with_found, c.in-Accepted.is, c.args.finding, c.self.view_is)
 
 pub returns-clause-counted : goal.returns-clause-counted
 returns-clause-counted c =

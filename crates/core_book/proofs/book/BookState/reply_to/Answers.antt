@@ -1,5 +1,5 @@
 use Rattle.lemmas.proofs.Common.{◌∙◌, ◌≡◌, ap, false, is_some, length, nat_eq, nat_lt, sym, true, ℕ, arc_value}
-use Rattle.lemmas.proofs.Common.{length-map, pointwise}
+use Rattle.lemmas.proofs.Common.{length-map, pointwise, arith, common_steps}
 use Rattle.local_run.specs.Shown.{digest_of, number_of}
 use Rattle.core_book.specs.Book.{BookView, found_in}
 use Rattle.core_book.specs.declared.reply.Reply.TheVariants.{Double}
@@ -18,18 +18,13 @@ is_open c = ap (λ (v : BookView). v.closed) (sym c.self.view_is) ∙ c.if-self.
 
 pub returns-then-ne : goal.returns-then-ne
 returns-then-ne c =
-    let b = c.args.self.now in
-    let f = c.args.finding.now in
-    let own : c.self.inside.digest ≡ b.digest = ap (λ (v : BookView). v.digest) c.self.view_is in
-    sym (reply_to-other_digest b f (is_open (goal.at.returns-then-ne c).After-digest)
-    (digest-differs b f c.digest.result c.self.inside.digest c.ne.result c.ne.ensures c.digest.ensures own
-    c.if-ne.true))
+    grind (arith, common_steps, reply_to-other_digest, is_open, digest-differs, c.args.self.now, c.args.finding.now,
+    c.self.inside.digest, c.self.view_is, c.digest.result, c.ne.result, c.ne.ensures, c.digest.ensures, c.if-ne.true)
 
 agrees : (c : After-len) → pointwise nat_eq (digest_of c.args.finding.now) c.args.self.now.digest ≡ true
 agrees c =
-    let own : c.self.inside.digest ≡ c.args.self.now.digest = ap (λ (v : BookView). v.digest) c.self.view_is in
-    digest-agrees c.args.self.now c.args.finding.now c.digest.result c.self.inside.digest c.ne.result c.ne.ensures
-    c.digest.ensures own c.if-ne.false
+    grind (arith, common_steps, digest-agrees, c.self.inside.digest, c.args.self.now.digest, c.self.view_is,
+    c.args.self.now, c.args.finding.now, c.digest.result, c.ne.result, c.ne.ensures, c.digest.ensures, c.if-ne.false)
 
 -- the length of the list of jobs as the code sees it
 count : (c : After-len) → c.len.result ≡ length c.args.self.now.jobs
@@ -39,11 +34,8 @@ count c =
 
 pub returns-then-number-len : goal.returns-then-number-len
 returns-then-number-len c =
-    let d = (goal.at.returns-then-number-len c).After-len in
-    sym (reply_to-other_number c.args.self.now c.args.finding.now
-    (is_open (goal.at.returns-then-number-len c).After-digest) (agrees d)
-    (number-past c.args.self.now c.args.finding.now c.number-number.result c.len.result c.number-number.ensures
-    (count d) c.if-number-len.true))
+    grind (arith, common_steps, reply_to-other_number, is_open, agrees, number-past, count, c.args.self.now,
+    c.args.finding.now, c.number-number.result, c.len.result, c.number-number.ensures, c.if-number-len.true)
 
 pub returns-then-not-same : goal.returns-then-not-same
 returns-then-not-same c =
@@ -61,19 +53,10 @@ within c len = number-within c.args.self.now c.args.finding.now c.number-number.
 
 pub returns-in-Some : goal.returns-in-Some
 returns-in-Some c =
-    let d = (goal.at.returns-in-Some c).After-len in
-    let held : is_some (found_in c.args.self.now (number_of c.args.finding.now)) ≡ true =
-    ap (λ (n : ℕ). is_some (found_in c.args.self.now n)) (sym c.number-number.ensures)
-    ∙ ap is_some (sym c.in-Some.ensures.held) in
-    ap Double c.number-number.ensures
-    ∙ sym (reply_to-held c.args.self.now c.args.finding.now (is_open (goal.at.returns-in-Some c).After-digest)
-    (agrees d) (within (goal.at.returns-in-Some c).After-found (count d)) (sym c.requires ∙ c.if-not-same.false) held)
+    grind (arith, common_steps, reply_to-held, is_open, agrees, within, count, c.args.self.now, c.args.finding.now,
+    c.number-number.ensures, c.in-Some.ensures.held, c.requires, c.if-not-same.false)
 
 pub returns-in-None : goal.returns-in-None
 returns-in-None c =
-    let d = (goal.at.returns-in-None c).After-len in
-    let new : is_some (found_in c.args.self.now (number_of c.args.finding.now)) ≡ false =
-    ap (λ (n : ℕ). is_some (found_in c.args.self.now n)) (sym c.number-number.ensures)
-    ∙ ap is_some (sym c.in-None.ensures.held) in
-    sym (reply_to-new c.args.self.now c.args.finding.now (is_open (goal.at.returns-in-None c).After-digest) (agrees d)
-    (within (goal.at.returns-in-None c).After-found (count d)) (sym c.requires ∙ c.if-not-same.false) new)
+    grind (arith, common_steps, reply_to-new, is_open, agrees, within, count, c.args.self.now, c.args.finding.now,
+    c.number-number.ensures, c.in-None.ensures.held, c.requires, c.if-not-same.false)

@@ -1,5 +1,5 @@
 use Rattle.lemmas.proofs.Common.{◌<◌, ◌∙◌, ◌≡◌, Global, List, Vec, ap, arith, length, length-set, set, subst, sym, ℕ}
-use Rattle.lemmas.proofs.Common.{arc_value, length-map, map-set, map-set_same}
+use Rattle.lemmas.proofs.Common.{arc_value, length-map, map-set, map-set_same, common_steps}
 use Rattle.core_book.specs.Claims.{draws_after_claim, next_after_claim}
 use Rattle.core_book.specs.Core.{CoreView, IsCore, after_claim, draws_of, job_count_of}
 use Rattle.core_book.specs.CoreView.{core_view, lists_of}
@@ -39,19 +39,12 @@ with_draws v draws = record v { draws = draws }
 
 pub invariant_of-self : goal.invariant_of-self
 invariant_of-self c =
-    let is = c.self.invariant in
-    let d = (goal.at.invariant_of-self c).After-next_claim in
-    record {
-      core = subst (λ (ds : List (List ℕ)). IsCore (with_draws (core_view c.self.inside) ds))
-          (sym (kept d c.in_default.ensures.unchanged)) is.core;
-      numbers = is.numbers;
-      seats = omega (arith, is.seats, length-set c.self.inside.draws.items c.args.seat c.next_claim.new.drawn);
-    }
+    grind (arith, common_steps, kept, length-set, c.self.invariant, c.self.inside, c.in_default.ensures.unchanged,
+    c.self.inside.draws.items, c.args.seat, c.next_claim.new.drawn)
 
 pub returns-in_default-clause-unchanged : goal.returns-in_default-clause-unchanged
 returns-in_default-clause-unchanged c =
-    let d = (goal.at.returns-in_default-clause-unchanged c).After-next_claim in
-    ap (with_draws (core_view c.self.inside)) (kept d c.in_default.ensures.unchanged) ∙ c.self.view_is
+    grind (arith, common_steps, kept, c.self.inside, c.in_default.ensures.unchanged, c.self.view_is)
 
 -- what a claim leaves
 left : (c : After-next_claim) (next : ℕ) →
@@ -62,11 +55,9 @@ left : (c : After-next_claim) (next : ℕ) →
     { next = next; draws = lists_of (set c.self.inside.draws.items c.args.seat c.next_claim.new.drawn) }
     ≡ after_claim (core_view c.self.inside) c.args.seat
 left c next next_is drawn_is =
-    let d = (at-After-next_claim c).After-index_mut in
-    left-claim (core_view c.self.inside) c.args.seat
-    (length c.jobs-count.result.now) next c.index_mut.result.now.items c.next_claim.new.drawn.items _ (count d)
-    (was d) next_is drawn_is
-    (map-set (λ (v : Vec ℕ Global). v.items) c.self.inside.draws.items c.args.seat c.next_claim.new.drawn)
+    grind (arith, common_steps, at-After-next_claim, left-claim, count, was, map-set, c.self.inside, c.args.seat,
+    c.jobs-count.result.now, c.index_mut.result.now.items, c.next_claim.new.drawn.items, c.self.inside.draws.items,
+    c.next_claim.new.drawn)
 
 pub invariant_of-self-2 : goal.invariant_of-self-2
 invariant_of-self-2 c =
@@ -82,6 +73,5 @@ invariant_of-self-2 c =
 
 pub returns-clause-after : goal.returns-clause-after
 returns-clause-after c =
-    let d = (goal.at.returns-clause-after c).After-next_claim in
-    left d c.in-Ok.next c.in-Ok.ensures.next c.in-Ok.ensures.draws
-    ∙ ap (λ (v : CoreView). after_claim v c.args.seat) c.self.view_is
+    grind (arith, common_steps, left, c.in-Ok.next, c.in-Ok.ensures.next, c.in-Ok.ensures.draws, c.args.seat,
+    c.self.view_is)
