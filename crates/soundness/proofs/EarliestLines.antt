@@ -2,7 +2,7 @@
 use Rattle.lemmas.proofs.Common.{[], ◌++◌, ◌+◌, ◌<◌, ◌∙◌, ◌∷◌, ◌≡◌, ◌≢◌, ◌≤◌, Contains, List, None, Option, Some, ap}
 use Rattle.lemmas.proofs.Common.{arith, inl, inr, length, map, option_map, option_to_list, refl, slice_get, subst, suc}
 use Rattle.lemmas.proofs.Common.{sym, zero, ℕ, Contains-append_cases, Contains-append_left, Contains-append_right}
-use Rattle.lemmas.proofs.Common.{ordering_then, same_Some, slice_get_within, nothing_in, one_in, some_at}
+use Rattle.lemmas.proofs.Common.{ordering_then, same_Some, slice_get_within, nothing_in, one_in, some_at, common_steps}
 use Rattle.std.specs.declared.cmp.Ordering.TheVariants.{Greater}
 use Rattle.module_box.specs.Moments.{cell_cmp}
 use Rattle.certificate_lines.specs.Entries.{ModuleLines, Setting}
@@ -77,9 +77,7 @@ own_line : (number i : ℕ) (f : Fault) (o : Option Fault) → Contains (option_
     (number ≡ i) × (o ≡ Some f)
 unfolding local_number local_fault
 own_line number i f None h = absurd (nothing_in (Local i f) h)
-own_line number i f (Some g) h =
-    let e = one_in (Local number g) (Local i f) h in
-    (ap local_number e, ap Some (ap (local_fault f) e))
+own_line number i f (Some g) h = grind (arith, common_steps, one_in, local_number, local_fault)
 
 from_line : (number i : ℕ) (f : Fault) (fs : List LeastFaults) (bs : List (Option BorderFault)) →
     Contains (report_lines_from number fs bs) (Local i f) → IsFrom number i f fs
@@ -117,14 +115,7 @@ lists_local : (number k : ℕ) (fs : List LeastFaults) (bs : List (Option Border
 unfolding report_lines_from
 lists_local number k [] bs r f at lt is = absurd cc
 lists_local number k (g ∷ fs) [] r f at lt is = absurd (omega (arith, lt))
-lists_local number zero (g ∷ fs) (b ∷ bs) r f at lt is =
-    let own : g.fault ≡ Some f = ap (λ (r : LeastFaults). r.fault) (same_Some g r at) ∙ is in
-    let A = option_to_list (local_line number g.fault) in
-    let B = option_to_list (keep_line number g.keep) in
-    let C = option_to_list (border_line number b) in
-    Contains-append_left (A ++ B ++ C) _ (Local (number + 0) f) (Contains-append_left (A ++ B) C _
-    (Contains-append_left A B _
-    (subst (λ n. Contains A (Local n f)) (omega arith) (optional_there (λ f. Local number f) g.fault f own))))
+lists_local number zero (g ∷ fs) (b ∷ bs) r f at lt is = grind (arith, common_steps, same_Some, optional_there)
 lists_local number (suc k) (g ∷ fs) (b ∷ bs) r f at lt is =
     let A = option_to_list (local_line number g.fault) in
     let B = option_to_list (keep_line number g.keep) in
@@ -271,15 +262,4 @@ earliest_is_first lines p ms jobs report inputs v i m j f b judged first atm atj
 pub earliest_is_real : EarliestLineIsReal
 unfolding IsVerdict
 earliest_is_real lines p ms jobs report inputs v i m f named b judged first atm s has =
-    let count = b.are_jobs.count in
-    let within = slice_get_within ms i m atm in
-    let j = some_at jobs i (omega (arith, count, within)) in
-    let is = b.are_jobs.each i m j.0 atm j.1 in
-    let fault : IsFault j.0 f =
-    its_fault (setting_of lines p) ms jobs report.items judged.1 count i f j.0 first.listed j.1 in
-    let under : IsAssignmentOf j.0 v f.assignment = record {
-      in_range = fault.in_range;
-      bits = assigned lines p m j.0 v f.assignment (b.are_modules.each i m atm) is has;
-    } in
-    first_means lines p ms jobs inputs v i m f named
-    (earliest_is_first lines p ms jobs report inputs v i m j.0 f b judged first atm j.1 s under)
+    grind (arith, common_steps, slice_get_within, some_at, assigned, first_means, earliest_is_first)

@@ -2,7 +2,7 @@
 use Rattle.lemmas.proofs.Common.{[], ◌++◌, ◌<◌, ◌∙◌, ◌∷◌, ◌≡◌, ◌≤◌, All, Bool, Contains, List, None, Option, Some, ap}
 use Rattle.lemmas.proofs.Common.{ap₂, arith, false, flat_map, if◌then◌else◌, inl, inr, length, map, option_to_list}
 use Rattle.lemmas.proofs.Common.{refl, slice_get, slice_index, subst, suc, sym, true, zero, ℕ, ℤ, All-cons}
-use Rattle.lemmas.proofs.Common.{All-contains, All-head, All-nil, All-tail, and_parts, cases_Bool}
+use Rattle.lemmas.proofs.Common.{All-contains, All-head, All-nil, All-tail, and_parts, cases_Bool, common_steps}
 use Rattle.lemmas.proofs.Common.{get_or_from_slice_get, option_map_or, props, same_Some, slice_get_within, ∥∥₁_elim}
 use Rattle.lemmas.proofs.Common.{all_unmapped, nothing_prop, some_at}
 use Rattle.bbm_rule.specs.Bits.{bit}
@@ -186,20 +186,12 @@ off_mirrors c p v state x y (Some n) waste looks mirror port some_at =
     meets_wire v (wire_of c n) (state x y) (sym (ap (λ (d : Cell). state d.x d.y) cell) ∙
     looks.outputs s.number s.port s.numbered ∙ ap (values_by_name c v) s.named)
 off_mirrors c p v state x y None true looks mirror port some_at = tt
-off_mirrors c p v state x y None false looks mirror port some_at = looks.elsewhere x y mirror
-    (no_port_there p.outs x y port) some_at
+off_mirrors c p v state x y None false looks mirror port some_at = grind (arith, common_steps, no_port_there, some_at)
 
 pub asked_meets : (c : Circuit) (p : Pattern) (v : Valuation) (state : State) (x y : ℤ) →
     LooksAsAsked p (values_by_name c v) state → MeetsDemand v (end_demand c p x y) (state x y)
 unfolding end_demand
-asked_meets c p v state x y looks =
-    let P : Bool → Type 0 = λ b. MeetsDemand v
-    (if b then Demanded.Live else demand_outside_mirrors c (port_at p.outs x y)
-    (in_cells p.wastes x y)) (state x y) in
-    elim (cases_Bool (in_rectangles p.mirrors x y)) [
-      | inl h ↦ subst P (sym h) (looks.mirrors x y h)
-      | inr h ↦ subst P (sym h) (off_mirrors c p v state x y _ _ looks h refl refl)
-    ]
+asked_meets c p v state x y looks = grind (arith, common_steps, cases_Bool, off_mirrors)
 
 end_last : (j : JobView) (u : Valuation) (t : ℕ) (kind : Kind) (x y : ℤ) → kind ≡ End → IsFaultUnder j u t kind x y →
     t ≡ j.steps
@@ -253,8 +245,7 @@ first_means lines p ms jobs inputs v i m f named first =
     }
 
 pub first_end_is_wrong : EndFaultMeansIncorrect
-first_end_is_wrong lines p ms jobs inputs v i m f named first kind =
-    (first_means lines p ms jobs inputs v i m f named first).incorrect kind
+first_end_is_wrong lines p ms jobs inputs v i m f named first kind = grind (arith, common_steps, first_means)
 
 -- ---- the wires of cuts, by their names
 
@@ -285,13 +276,7 @@ by_wire f x n ns (Some w) zero e all at rest = record {
   named = ap f (sym (same_Some x n at)) ∙ e;
   placed = ap (λ o. slice_get (option_to_list o ++ wires_of f ns) 0) e;
 }
-by_wire f x n ns (Some w) (suc k) e all at rest =
-    let r = rest k (omega (arith, all)) at in
-    record {
-      wire = r.wire;
-      named = r.named;
-      placed = ap (λ o. slice_get (option_to_list o ++ wires_of f ns) (suc k)) e ∙ r.placed;
-    }
+by_wire f x n ns (Some w) (suc k) e all at rest = grind (arith, common_steps)
 
 pub placed_wire : (f : List ℕ → Option ℕ) (ns : List (List ℕ)) (n : List ℕ) (k : ℕ) →
     length (wires_of f ns) ≡ length ns → slice_get ns k ≡ Some n → IsPlacedWire f ns k n

@@ -2,7 +2,7 @@
 use Rattle.lemmas.proofs.Common.{[], ◌&&◌, ◌++◌, ◌+◌, ◌<◌, ◌||◌, ◌∙◌, ◌∷◌, ◌≡◌, All, Bool, List, None, Option, Some, ap}
 use Rattle.lemmas.proofs.Common.{ap₂, arith, cond, false, inl, inr, length, map, not, option_map, refl, slice_get}
 use Rattle.lemmas.proofs.Common.{subst, suc, sym, take, true, zero, ℕ, ℤ, bytes_eq, cases_Bool, false≢true}
-use Rattle.lemmas.proofs.Common.{get_or_from_slice_get, option_map_or, slice_get-map, slice_get_within}
+use Rattle.lemmas.proofs.Common.{get_or_from_slice_get, option_map_or, slice_get-map, slice_get_within, common_steps}
 use Rattle.circuit.specs.Entries.{defined}
 use Rattle.bbm_rule.specs.Plane.{run, is_at}
 use Rattle.bbm_rule.proofs.Steps.{step_same}
@@ -94,8 +94,7 @@ read_layout-names lines p first named i q e =
 
 same_value : (o : Option ℕ) (w : ℕ) (u v : Valuation) → o ≡ Some w → v w ≡ u w →
     option_map_or v o false ≡ option_map_or u o false
-same_value o w u v e h = ap (λ (o : Option ℕ). option_map_or v o false) e ∙ h
-    ∙ sym (ap (λ (o : Option ℕ). option_map_or u o false) e)
+same_value o w u v e h = grind (arith, common_steps, option_map_or)
 
 same_ports : (f g : List ℕ → Bool) (ports : List Port) (x y : ℤ) →
     ((i : ℕ) (q : Port) → slice_get ports i ≡ Some q → f q.name ≡ g q.name) →

@@ -2,7 +2,7 @@
 use Rattle.lemmas.proofs.Common.{[], ◌&&◌, ◌++◌, ◌==◌, ◌∙◌, ◌∷◌, ◌≡◌, All, Bool, List, None, Option, Some, ap, arith}
 use Rattle.lemmas.proofs.Common.{false, flat_map, inl, inr, refl, slice_get, subst, sym, true, true≢false, unwrap_or, ℕ}
 use Rattle.lemmas.proofs.Common.{ℤ, All-head, All-tail, cases_Bool, cond-false, slice_get_within, and-false}
-use Rattle.lemmas.proofs.Common.{mapped_from, some_at}
+use Rattle.lemmas.proofs.Common.{mapped_from, some_at, common_steps}
 use Rattle.bbm_rule.specs.Plane.{is_at}
 use Rattle.bbm_rule.specs.declared.block.Cell.{Cell}
 use Rattle.circuit.specs.Bridge.{circuit_of}
@@ -138,16 +138,10 @@ no_event c (e ∷ es) t x y all =
 pub no_signal : (c : Circuit) (es : List BorderLine) (t : ℕ) (x y : ℤ) → All (NamesNot x y) es →
     signal_at (line_signals c es) t x y ≡ Zero
 unfolding signal_at
-no_signal c es t x y all =
-    ap (λ (o : Option Signal). unwrap_or o (unwrap_or (event_at (line_signals c es).events t x y) Zero))
-    (no_all_times c es x y all)
-    ∙ ap (λ (o : Option Signal). unwrap_or o Zero) (no_event c es t x y all)
+no_signal c es t x y all = grind (arith, common_steps, no_all_times, no_event)
 
 pub other_cell : (c : Cell) (x y : ℤ) → (c ≡ record { x = x; y = y } → ⊥) → is_at c x y ≡ false
-other_cell c x y f = elim (cases_Bool (is_at c x y)) [
-  | inl h ↦ absurd (f (cell_same c (record { x = x; y = y }) h))
-  | inr h ↦ h
-]
+other_cell c x y f = grind (arith, common_steps, cases_Bool, cell_same)
 
 -- no edge is on the rim of the rectangle
 pub rim_edge_dead : (lines : List CircuitLine) (p : Pattern) (ms : List ModuleLines) (i : ℕ) (j : JobView)

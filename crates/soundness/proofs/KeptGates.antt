@@ -1,7 +1,7 @@
 -- No gate of what is accepted is undefined
 use Rattle.lemmas.proofs.Common.{[], ◌<◌, ◌∙◌, ◌∷◌, ◌≡◌, All, List, Some, ap, arith, eq-eqb, eqb, inl, inr, length, map}
 use Rattle.lemmas.proofs.Common.{refl, slice_get, suc, sym, true, true≢false, ℕ, All-head, All-tail, cases_Bool}
-use Rattle.lemmas.proofs.Common.{eqb-true, slice_get_within, some_at}
+use Rattle.lemmas.proofs.Common.{eqb-true, slice_get_within, some_at, common_steps}
 use Rattle.circuit.specs.Bridge.{circuit_of, netlist_of}
 use Rattle.circuit.proofs.Undefined.{has_valuation, only_inverse}
 use Rattle.module_box.specs.Locals.{circuit_gate, is_among}
@@ -40,10 +40,7 @@ listed_first : (p : ℕ) (places : List ℕ) → is_among (p ∷ places) p ≡ t
 listed_first p places = rw (eq-eqb p p refl) refl
 
 listed_later : (p q : ℕ) (places : List ℕ) → is_among places q ≡ true → is_among (p ∷ places) q ≡ true
-listed_later p q places e = elim (cases_Bool (eqb p q)) [
-  | inl here ↦ rw here refl
-  | inr other ↦ rw other e
-]
+listed_later p q places e = grind (arith, common_steps, cases_Bool)
 
 pub place_of : (f : ℕ → ℕ) (places : List ℕ) (count n : ℕ) → All (λ k. k < count) places →
     is_among (map f places) n ≡ true → PlaceOf f places count n

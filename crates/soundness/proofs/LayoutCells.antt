@@ -2,7 +2,7 @@
 use Rattle.lemmas.proofs.Common.{[], ◌&&◌, ◌++◌, ◌||◌, ◌∙◌, ◌∷◌, ◌≡◌, Bool, List, None, Option, Some, ap, append-nil}
 use Rattle.lemmas.proofs.Common.{append_assoc, false, if◌then◌else◌, map, not, option_map, refl, slice_get, subst, suc}
 use Rattle.lemmas.proofs.Common.{sym, true, true≢false, zero, ℕ, ℤ, and_from, and_parts, false≢true, option_map_or}
-use Rattle.lemmas.proofs.Common.{same_Some, slice_get-map, left_is_false, same_truth}
+use Rattle.lemmas.proofs.Common.{same_Some, slice_get-map, left_is_false, same_truth, arith, common_steps}
 use Rattle.bbm_rule.specs.Plane.{is_at}
 use Rattle.bbm_rule.specs.declared.block.Cell.{Cell}
 use Rattle.section_text.specs.Codes.{code_if}
@@ -39,9 +39,7 @@ use Rattle.section_text.specs.declared.code.RefusalCode.TheVariants.{TakenCell}
 -- ---- the ports at a cell
 
 same_cells : (c d : Cell) (x y : ℤ) → is_at c x y ≡ true → is_at d x y ≡ true → c ≡ d
-same_cells c d x y h k =
-    let here : Cell = record { x = x; y = y } in
-    cell_same c here h ∙ sym (cell_same d here k)
+same_cells c d x y h k = grind (arith, common_steps, cell_same)
 
 only_port : (ports : List Port) (x y : ℤ) (name : List ℕ) → HaveDistinctCells ports → port_at ports x y ≡ Some name →
     (i : ℕ) (q : Port) → slice_get ports i ≡ Some q → is_at q.cell x y ≡ true → q.name ≡ name
@@ -110,10 +108,7 @@ start_cases c v false false (Some n) = live_cases v (wire_of c n)
 pub live_start : (c : Circuit) (p : Pattern) (v : Valuation) (x y : ℤ) → AreGoodAfter p.size [] (parts_of p) →
     is_live v (start_signal c p x y) ≡ start p (values_by_name c v) x y
 unfolding start_signal start
-live_start c p v x y good =
-    start_cases c v (in_rectangles p.mirrors x y) (in_cells p.balls x y) (port_at p.ins x y)
-    ∙ ap (λ b. in_rectangles p.mirrors x y || in_cells p.balls x y || b)
-    (sym (on_by (values_by_name c v) p.ins x y _ (ins_apart p good) refl))
+live_start c p v x y good = grind (arith, common_steps, start_cases, on_by, ins_apart)
 
 pub whole_inside : (s : LayoutHeader) (x y : ℤ) → in_box (whole s) x y ≡ in_layout s x y
 unfolding in_box
@@ -130,8 +125,7 @@ absent false b f e = refl
 -- nothing begins outside the rectangle
 pub start_outside : (p : Pattern) (on : List ℕ → Bool) (x y : ℤ) → AreGoodAfter p.size [] (parts_of p) →
     in_box (whole p.size) x y ≡ false → start p on x y ≡ false
-start_outside p on x y good out =
-    absent _ _ (start_inside p on (begins_inside p good) x y) (sym (whole_inside p.size x y) ∙ out)
+start_outside p on x y good out = grind (arith, common_steps, absent, start_inside, begins_inside, whole_inside)
 
 mirror_starts : (p : Pattern) (x y : ℤ) → in_rectangles p.mirrors x y ≡ true → start p (λ n. false) x y ≡ true
 unfolding start
@@ -147,11 +141,9 @@ mirror_inside p x y good h = whole_inside p.size x y
 
 good_behind : (s : LayoutHeader) (before front back : List LayoutLine) → AreGoodAfter s before (front ++ back) →
     AreGoodAfter s (before ++ front) back
-good_behind s before [] back good =
-    subst (λ (l : List LayoutLine). AreGoodAfter s l back) (sym (append-nil before)) good
+good_behind s before [] back good = grind (arith, common_steps, append-nil)
 good_behind s before (part ∷ front) back good =
-    subst (λ (l : List LayoutLine). AreGoodAfter s l back) (append_assoc before (part ∷ []) front)
-    (good_behind s (before ++ part ∷ []) front back good.2)
+    grind (arith, common_steps, append_assoc, (good_behind s (before ++ part ∷ []) front back good.2))
 
 record IsFree (s : LayoutHeader) (before : List LayoutLine) (q : Port) : Type 0 where
   inside : in_layout s q.cell.x q.cell.y ≡ true
@@ -165,22 +157,15 @@ two_tests false b e = absurd cc
 free_here : (s : LayoutHeader) (before : List LayoutLine) (q : Port) → cell_fault s before (Out q) ≡ None →
     IsFree s before q
 unfolding cell_fault is_taken cells_of begins is_inside
-free_here s before q e =
-    let r = two_tests (in_layout s q.cell.x q.cell.y) (ended before q.cell.x q.cell.y) e in
-    record { inside = r.0; free = r.1 }
+free_here s before q e = grind (arith, common_steps, two_tests)
 
 all_free : (s : LayoutHeader) (before : List LayoutLine) (ports : List Port) (rest : List LayoutLine) →
     AreGoodAfter s before (map Out ports ++ rest) →
     (i : ℕ) (q : Port) → slice_get ports i ≡ Some q → IsFree s before q
 all_free s before [] rest good i q e = absurd cc
-all_free s before (p ∷ ports) rest good zero q e =
-    subst (IsFree s before) (same_Some p q e) (free_here s before p good.1)
+all_free s before (p ∷ ports) rest good zero q e = grind (arith, common_steps, same_Some, free_here)
 all_free s before (p ∷ ports) rest good (suc i) q e =
-    let later = all_free s (before ++ Out p ∷ []) ports rest good.2 i q e in
-    record {
-      inside = later.inside;
-      free = left_is_false _ _ (sym (ended_push before (Out p) q.cell.x q.cell.y) ∙ later.free);
-    }
+    grind (arith, common_steps, left_is_false, ended_push, (all_free s (before ++ Out p ∷ []) ports rest good.2 i q e))
 
 before_outs : Pattern → List LayoutLine
 before_outs p = (map Mirror p.mirrors ++ map Ball p.balls) ++ map In p.ins
@@ -232,10 +217,7 @@ pub met_mirror : (c : Circuit) (p : Pattern) (v : Valuation) (x y : ℤ) (live :
     in_rectangles p.mirrors x y ≡ true →
     MeetsDemand v (end_demand c p x y) live → live ≡ true
 unfolding end_demand
-met_mirror c p v x y live e h =
-    let P : Bool → Type 0 = λ b. MeetsDemand v
-    (if b then Demanded.Live else demand_outside_mirrors c (port_at p.outs x y) (in_cells p.wastes x y)) live in
-    subst P e h
+met_mirror c p v x y live e h = grind (arith, common_steps)
 
 by_wire : (v : Valuation) (o : Option ℕ) (live : Bool) → MeetsDemand v (wire_or_dead o) live →
     live ≡ option_map_or v o false
@@ -246,19 +228,10 @@ pub met_output : (c : Circuit) (p : Pattern) (v : Valuation) (x y : ℤ) (n : Li
     in_rectangles p.mirrors x y ≡ false →
     port_at p.outs x y ≡ Some n → MeetsDemand v (end_demand c p x y) live → live ≡ values_by_name c v n
 unfolding end_demand
-met_output c p v x y n live e port h =
-    let P : Bool → Type 0 = λ b. MeetsDemand v
-    (if b then Demanded.Live else demand_outside_mirrors c (port_at p.outs x y) (in_cells p.wastes x y)) live in
-    let Q : Option (List ℕ) → Type 0 = λ o. MeetsDemand v (demand_outside_mirrors c o (in_cells p.wastes x y)) live in
-    by_wire v (wire_of c n) live (subst Q port (subst P e h))
+met_output c p v x y n live e port h = grind (arith, common_steps, by_wire)
 
 pub met_other : (c : Circuit) (p : Pattern) (v : Valuation) (x y : ℤ) (live : Bool) →
     in_rectangles p.mirrors x y ≡ false →
     in_ports p.outs x y ≡ false → in_cells p.wastes x y ≡ false → MeetsDemand v (end_demand c p x y) live → live ≡ false
 unfolding end_demand
-met_other c p v x y live e none waste h =
-    let P : Bool → Type 0 = λ b. MeetsDemand v
-    (if b then Demanded.Live else demand_outside_mirrors c (port_at p.outs x y) (in_cells p.wastes x y)) live in
-    let Q : Option (List ℕ) → Type 0 = λ o. MeetsDemand v (demand_outside_mirrors c o (in_cells p.wastes x y)) live in
-    let R : Bool → Type 0 = λ b. MeetsDemand v (demand_outside_mirrors c None b) live in
-    subst R waste (subst Q (no_port p.outs x y _ none refl) (subst P e h))
+met_other c p v x y live e none waste h = grind (arith, common_steps, no_port)

@@ -3,7 +3,7 @@ use Rattle.lemmas.proofs.Common.{[], ◌%◌, ◌<◌, ◌==◌, ◌∙◌, ◌�
 use Rattle.lemmas.proofs.Common.{ap, arith, false, inl, inr, length, map, nat_lt, not, refl, slice_get, slice_index}
 use Rattle.lemmas.proofs.Common.{slice_index_or, subst, sym, true, true≢false, ℕ, ℤ, cases_Bool, length-map, list_any}
 use Rattle.lemmas.proofs.Common.{nat_tests, slice_get-get_or, slice_get_within, eq_test, mapped_at, mapped_from}
-use Rattle.lemmas.proofs.Common.{some_at}
+use Rattle.lemmas.proofs.Common.{some_at, common_steps}
 use Rattle.std.specs.List.{All}
 use Rattle.bbm_rule.specs.declared.block.Cell.{Cell}
 use Rattle.circuit.specs.Bridge.{circuit_of}
@@ -84,8 +84,7 @@ wire_behind f n (Wire i) w b e = (i, b, ap named e)
     named (Wire v) = v
 
 among_at : (ws : List ℕ) (i w : ℕ) → i < length ws → slice_index ws i ≡ w → is_among ws w ≡ true
-among_at ws i w lt e = any_at (λ v. v == w) ws i (slice_index ws i) (slice_get-get_or ws i 0 lt)
-    (eq_test (slice_index ws i) w e)
+among_at ws i w lt e = grind (arith, common_steps, any_at, slice_get-get_or, eq_test)
 
 module _ (lines : List CircuitLine) (p : Pattern) (ms : List ModuleLines) (jobs : List JobView)
     (good : AreModules (setting_of lines p) ms) (own : AreJobsOf (circuit_of lines) p ms jobs)

@@ -1,7 +1,7 @@
 -- The wires that signals name, by their places in a list of wires
 use Rattle.lemmas.proofs.Common.{[], ◌++◌, ◌<◌, ◌==◌, ◌||◌, ◌∷◌, ◌≡◌, Bool, IfSome, IsTrue, List, None, Option, Some}
 use Rattle.lemmas.proofs.Common.{ap, ap₂, arith, false, if◌then◌else◌, length, map, refl, slice_index, suc, true, ℕ}
-use Rattle.lemmas.proofs.Common.{false≢true, nat_tests}
+use Rattle.lemmas.proofs.Common.{false≢true, nat_tests, common_steps}
 use Rattle.circuit.specs.Meaning.{Circuit, wire_of}
 use Rattle.module_box.specs.Locals.{is_among}
 use Rattle.module_box.specs.Schedules.{Signals}
@@ -32,11 +32,7 @@ place_step : (v w : ℕ) (ws : List ℕ) (b : Bool) → (v == w) ≡ b → (b ||
     (is_among ws w ≡ true → IsPlace ws w (place_among ws w))
     → IsPlace (v ∷ ws) w (if b then 0 else suc (place_among ws w))
 place_step v w ws true same e more = record { below = omega arith; there = same_number v w same }
-place_step v w ws false other e more = let p = more e in record {
-  below = let b = p.below in omega
-      (arith, b);
-  there = p.there;
-}
+place_step v w ws false other e more = grind (arith, common_steps)
 
 pub is_place : (ws : List ℕ) (w : ℕ) → is_among ws w ≡ true → IsPlace ws w (place_among ws w)
 unfolding place_among

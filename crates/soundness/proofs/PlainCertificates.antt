@@ -4,7 +4,7 @@ use Rattle.lemmas.proofs.Common.{None, Option, Some, ap, append-nil, ap₂, arit
 use Rattle.lemmas.proofs.Common.{inr, length, map, nat_cmp, not, option_map, option_to_list, refl, slice_get, subst}
 use Rattle.lemmas.proofs.Common.{suc, sym, true, true≢false, zero, ℕ, ℤ, All-append, All-cons, All-contains, All-head}
 use Rattle.lemmas.proofs.Common.{All-nil, All-tail, Contains-append_left, and_from, cases_Bool, eqb-true, false≢true}
-use Rattle.lemmas.proofs.Common.{list_all, option_map_or, ordering_then, props, range_with_len, same_Some}
+use Rattle.lemmas.proofs.Common.{list_all, option_map_or, ordering_then, props, range_with_len, same_Some, common_steps}
 use Rattle.lemmas.proofs.Common.{slice_get_within, ∥∥₁_elim, nothing_prop, some_at}
 use Rattle.std.specs.declared.cmp.Ordering.TheVariants.{Greater}
 use Rattle.bbm_rule.specs.Bits.{bit}
@@ -80,10 +80,7 @@ nat_greater a b lt = grind arith
 
 pub greater : (f g : Fault) → g.time < f.time → fault_cmp f g ≡ Greater
 unfolding fault_cmp
-greater f g lt =
-    ap (λ o. ordering_then o (ordering_then (nat_cmp (kind_number f.kind) (kind_number g.kind))
-    (ordering_then (cell_cmp f.cell g.cell) (nat_cmp f.assignment g.assignment))))
-    (nat_greater f.time g.time lt)
+greater f g lt = grind (arith, common_steps, ordering_then, nat_greater)
 
 -- ---- inputs that have the values of an assignment
 
@@ -128,16 +125,10 @@ cuts_are_inputs lines m all =
 -- ---- what is on time keeps the rules on times
 
 last_one : (c : Circuit) (ss : List StopLine) (w s t : ℕ) → IsLastTime c ss w s → IsLastTime c ss w t → s ≡ t
-last_one c ss w s t a b =
-    let down = All-contains (λ u. u ≤ s) (stop_times_of_wire c ss w) t a.greatest b.seen in
-    let up = All-contains (λ u. u ≤ t) (stop_times_of_wire c ss w) s b.greatest a.seen in
-    omega (arith, up, down)
+last_one c ss w s t a b = grind (arith, common_steps)
 
 first_one : (c : Circuit) (ss : List StopLine) (w s t : ℕ) → IsFirstTime c ss w s → IsFirstTime c ss w t → s ≡ t
-first_one c ss w s t a b =
-    let down = All-contains (λ u. s ≤ u) (stop_times_of_wire c ss w) t a.least b.seen in
-    let up = All-contains (λ u. t ≤ u) (stop_times_of_wire c ss w) s b.least a.seen in
-    omega (arith, up, down)
+first_one c ss w s t a b = grind (arith, common_steps)
 
 -- a delay uses one wire and defines one
 record HasOneWire (g : Gate) : Type 0 where
@@ -169,17 +160,11 @@ delay_wires m n (f ∷ gs) zero g ordered at is =
 delay_wires m n (f ∷ gs) (suc k) g ordered at is = delay_wires (m + defines f.kind) n gs k g ordered.3 at is
 
 same_steps : (c : Circuit) (ss : List StopLine) (m n a b : ℕ) → TakesSteps c ss m a b → TakesSteps c ss n a b → m ≡ n
-same_steps c ss m n a b s t =
-    let from = last_one c ss a s.leaves t.leaves s.last t.last in
-    let to = first_one c ss b (s.leaves + m) (t.leaves + n) s.first t.first in
-    omega (arith, from, to)
+same_steps c ss m n a b s t = grind (arith, common_steps, last_one, first_one)
 
 not_before : (c : Circuit) (ss : List StopLine) (n a b s t : ℕ) → TakesSteps c ss n a b → IsLastTime c ss a s →
     IsFirstTime c ss b t → t < s → ⊥
-not_before c ss n a b s t takes last first lt =
-    let from = last_one c ss a s takes.leaves last takes.last in
-    let to = first_one c ss b t (takes.leaves + n) first takes.first in
-    omega (arith, from, to, lt)
+not_before c ss n a b s t takes last first lt = grind (arith, common_steps, last_one, first_one)
 
 kept_gap : (c : Circuit) (ss : List StopLine) (k n a b : ℕ) (gap : StopGap) → TakesSteps c ss n a b →
     IsDelayGapTrue c ss gap a b → is_obeyed (times.Delay k n gap) ≡ true
@@ -203,8 +188,7 @@ kept_line lines ss (times.Delay k n gap) ordered timed (g, at, is, tells) =
     } in
     kept_gap (circuit_of lines) ss k n a b gap (timed.delays k n a b (at ∙ ap Some same)) (tells a b w.ins w.outs)
 kept_line lines ss (times.Meet k (Some t)) ordered timed tells = refl
-kept_line lines ss (times.Meet k None) ordered timed (g, at, tells) = let m = timed.meetings k g at in
-    absurd (tells m.0 m.1)
+kept_line lines ss (times.Meet k None) ordered timed (g, at, tells) = grind (arith, common_steps)
 
 all_true : (P : TimeLine → Type 0) (test : TimeLine → Bool) (ls : List TimeLine) →
     ((l : TimeLine) → P l → test l ≡ true) → All P ls → list_all test ls ≡ true

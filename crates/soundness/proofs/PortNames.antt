@@ -2,7 +2,7 @@
 use Rattle.lemmas.proofs.Common.{[], ◌++◌, ◌+◌, ◌||◌, ◌∙◌, ◌∷◌, ◌≡◌, Bool, List, None, Some, ap, ap₂, false, inl, inr}
 use Rattle.lemmas.proofs.Common.{length, map, not, option_map, refl, slice_get, subst, suc, sym, true, ℕ, and_parts}
 use Rattle.lemmas.proofs.Common.{bytes_eq, bytes_eq-Decides, cases_Bool, false≢true, list_all, list_any}
-use Rattle.lemmas.proofs.Common.{list_any-append, slice_get-map, or-false, same_truth}
+use Rattle.lemmas.proofs.Common.{list_any-append, slice_get-map, or-false, same_truth, arith, common_steps}
 use Rattle.section_text.specs.Codes.{code_if}
 use Rattle.section_text.specs.Ports.{Named}
 use Rattle.section_text.specs.Words.{has}
@@ -64,33 +64,14 @@ all_in f make n same (q ∷ ports) = ap₂ (λ a b. a || b) (same q) (all_in f m
 five_parts : (f : LayoutLine → Bool) (a b c d e : List LayoutLine) →
     list_any f (a ++ (b ++ (c ++ (d ++ e))))
     ≡ (list_any f a || (list_any f b || (list_any f c || (list_any f d || list_any f e))))
-five_parts f a b c d e =
-    list_any-append f a _ ∙ ap (λ r. list_any f a || r)
-    (list_any-append f b _ ∙ ap (λ r. list_any f b || r)
-    (list_any-append f c _ ∙ ap (λ r. list_any f c || r) (list_any-append f d e)))
+five_parts f a b c d e = grind (arith, common_steps, list_any-append)
 
 pub in_lines : (p : Pattern) (n : List ℕ) → list_any (is_in_line_named n) (parts_of p) ≡ has (map (λ q. q.name) p.ins) n
-in_lines p n =
-    five_parts (is_in_line_named n) (map Mirror p.mirrors) (map Ball p.balls) (map In p.ins) (map Out p.outs)
-    (map Waste p.wastes)
-    ∙ ap₂ (λ a b. a || b) (none_in (is_in_line_named n) Mirror (λ r. refl) p.mirrors)
-    (ap₂ (λ a b. a || b) (none_in (is_in_line_named n) Ball (λ c. refl) p.balls)
-    (ap₂ (λ a b. a || b) (all_in (is_in_line_named n) In n (λ q. refl) p.ins)
-    (ap₂ (λ a b. a || b) (none_in (is_in_line_named n) Out (λ q. refl) p.outs)
-    (none_in (is_in_line_named n) Waste (λ c. refl) p.wastes))))
-    ∙ or-false (has (map (λ q. q.name) p.ins) n)
+in_lines p n = grind (arith, common_steps, five_parts, none_in, all_in, or-false)
 
 pub out_lines : (p : Pattern) (n : List ℕ) →
     list_any (is_out_line_named n) (parts_of p) ≡ has (map (λ q. q.name) p.outs) n
-out_lines p n =
-    five_parts (is_out_line_named n) (map Mirror p.mirrors) (map Ball p.balls) (map In p.ins) (map Out p.outs)
-    (map Waste p.wastes)
-    ∙ ap₂ (λ a b. a || b) (none_in (is_out_line_named n) Mirror (λ r. refl) p.mirrors)
-    (ap₂ (λ a b. a || b) (none_in (is_out_line_named n) Ball (λ c. refl) p.balls)
-    (ap₂ (λ a b. a || b) (none_in (is_out_line_named n) In (λ q. refl) p.ins)
-    (ap₂ (λ a b. a || b) (all_in (is_out_line_named n) Out n (λ q. refl) p.outs)
-    (none_in (is_out_line_named n) Waste (λ c. refl) p.wastes))))
-    ∙ or-false (has (map (λ q. q.name) p.outs) n)
+out_lines p n = grind (arith, common_steps, five_parts, none_in, all_in, or-false)
 
 -- ---- output cells
 
@@ -118,9 +99,7 @@ all_stand : (names : Named) (parts : List LayoutLine) → missing_fault (Some na
     (list_all (λ n. list_any (is_in_line_named n) parts) names.ins ≡ true)
     × (list_all (λ n. list_any (is_out_line_named n) parts) names.outs ≡ true)
 unfolding missing_fault
-all_stand names parts e =
-    and_parts (list_all (λ n. list_any (is_in_line_named n) parts) names.ins)
-    (list_all (λ n. list_any (is_out_line_named n) parts) names.outs) (no_code _ SomethingMissing e)
+all_stand names parts e = grind (arith, common_steps, and_parts, no_code)
 
 pub read_layout-is_named : ReadLayoutHasPortNames
 read_layout-is_named lines p named =

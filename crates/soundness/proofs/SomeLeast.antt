@@ -2,7 +2,7 @@
 use Rattle.lemmas.proofs.Common.{[], ◌+◌, ◌<◌, ◌||◌, ◌∙◌, ◌∷◌, ◌≡◌, ◌≢◌, ◌⊎◌, Bool, Equal, Greater, Less, List, None}
 use Rattle.lemmas.proofs.Common.{Option, Ordering, Some, ap, arith, eqb, false, inl, inr, is_gt, map, refl, slice_get}
 use Rattle.lemmas.proofs.Common.{subst, suc, sym, true, true≢false, zero, ℕ, IsTotalOrder, cases_lt, eqb-true}
-use Rattle.lemmas.proofs.Common.{false≢true, ordering_reverse, range_with_len, tied_itself, upto}
+use Rattle.lemmas.proofs.Common.{false≢true, ordering_reverse, range_with_len, tied_itself, upto, common_steps}
 use Rattle.module_box.specs.Locals.{is_among}
 use Rattle.certificate_lines.proofs.LineOrder.{In}
 
@@ -43,10 +43,7 @@ numbers_decided (suc a) zero = inr (λ e. omega (arith, e))
 numbers_decided (suc a) (suc b) = decided_by (λ e. ap suc e) (λ e. omega (arith, e)) (numbers_decided a b)
 
 pub below_decided : (a b : ℕ) → Decided (a < b)
-below_decided a b = elim (cases_lt a b) [
-  | inl lt ↦ inl lt
-  | inr ge ↦ inr (λ lt. omega (arith, lt, ge))
-]
+below_decided a b = grind (arith, common_steps, cases_lt)
 
 -- an element of a list for which it holds
 pub record HasOne {A : Type 0} (P : A → Type 0) (xs : List A) : Type 0 where
@@ -84,9 +81,7 @@ in_range_from : (n a k : ℕ) → k < n → In (a + k) (range_with_len a n)
 unfolding In
 in_range_from zero a k lt = absurd (omega (arith, lt))
 in_range_from (suc n) a zero lt = inl (omega arith)
-in_range_from (suc n) a (suc k) lt =
-    let e : (a + 1) + k ≡ a + suc k = omega arith in
-    inr (subst (λ m. In m (range_with_len (a + 1) n)) e (in_range_from n (a + 1) k (omega (arith, lt))))
+in_range_from (suc n) a (suc k) lt = grind (arith, common_steps, (in_range_from n (a + 1) k (omega (arith, lt))))
 
 pub in_range : (n k : ℕ) → k < n → In k (range_with_len 0 n)
 in_range n k lt = subst (λ m. In m (range_with_len 0 n)) (from_zero k) (in_range_from n 0 k lt)

@@ -1,4 +1,5 @@
 -- The modules of a certificate have jobs and a verdict
+use Rattle.lemmas.proofs.Common.{common_steps}
 use Rattle.lemmas.proofs.Common.{[], ◌&&◌, ◌*◌, ◌++◌, ◌+◌, ◌<◌, ◌^◌, ◌||◌, ◌∙◌, ◌∷◌, ◌≡◌, ◌≤◌, Bool, Global, List, None}
 use Rattle.lemmas.proofs.Common.{Option, Some, Vec, ap, append-nil, append_assoc, arith, cond, false, get_or, inl, inr}
 use Rattle.lemmas.proofs.Common.{length, length-append, map, nat_le, nat_lt, not, option_map, option_to_list, refl}
@@ -63,18 +64,7 @@ three_each : (n : ℕ) (fs : List LeastFaults) (bs : List (Option BorderFault)) 
 unfolding report_lines_from
 three_each n [] bs = omega arith
 three_each n (f ∷ fs) [] = omega arith
-three_each n (f ∷ fs) (b ∷ bs) =
-    let more = three_each (n + 1) fs bs in
-    let a = few_of (local_line n f.fault) in
-    let k = few_of (keep_line n f.keep) in
-    let c = few_of (border_line n b) in
-    let sum = length-append
-    (option_to_list (local_line n f.fault) ++ option_to_list (keep_line n f.keep) ++ option_to_list
-    (border_line n b)) (report_lines_from (n + 1) fs bs) in
-    let two = length-append (option_to_list (local_line n f.fault) ++ option_to_list (keep_line n f.keep))
-    (option_to_list (border_line n b)) in
-    let one = length-append (option_to_list (local_line n f.fault)) (option_to_list (keep_line n f.keep)) in
-    omega (arith, more, a, k, c, sum, two, one)
+three_each n (f ∷ fs) (b ∷ bs) = grind (arith, common_steps, few_of, length-append, (three_each (n + 1) fs bs))
 
 one_each : (ms : List ModuleLines) (n : ℕ) (gs : List Gate) → length (unkept_from ms n gs) ≤ length gs
 unfolding unkept_from
@@ -94,11 +84,7 @@ line_each : (f : ℕ → Gate → List TimeLine) → ((k : ℕ) (g : Gate) → l
     length (numbered f k gs) ≤ length gs
 unfolding numbered
 line_each f few k [] = omega arith
-line_each f few k (g ∷ gs) =
-    let more = line_each f few (k + 1) gs in
-    let sum = length-append (f k g) (numbered f (k + 1) gs) in
-    let here = few k g in
-    omega (arith, more, sum, here)
+line_each f few k (g ∷ gs) = grind (arith, common_steps, length-append, (line_each f few (k + 1) gs))
 
 few_delays : (k : ℕ) (kind : GateKind) (gap : StopGap) → length (delay_line_of_kind k kind gap) ≤ 1
 few_delays k (Source b) gap = omega arith
@@ -118,12 +104,7 @@ few_meetings k ts = by (nat_le 2 (length ts)) (common_time ts)
     by false o = omega arith
 
 two_each : (first last : ℕ → Option ℕ) (gs : List Gate) → length (time_lines_of_gates first last gs) ≤ 2 * length gs
-two_each first last gs =
-    let a = line_each (delay_line first last)
-    (λ k g. few_delays k g.kind (gap_between (first_wire_time last g.ins) (first_wire_time first g.outs))) 0 gs in
-    let b = line_each (meet_line last) (λ k g. few_meetings k (last_times last g.ins)) 0 gs in
-    let sum = length-append (numbered (delay_line first last) 0 gs) (numbered (meet_line last) 0 gs) in
-    omega (arith, a, b, sum)
+two_each first last gs = grind (arith, common_steps, line_each, few_delays, few_meetings, length-append)
 
 -- ---- a circuit has at most 1024 gates
 
@@ -160,9 +141,7 @@ gates_below before (r ∷ rest) good h =
     (gates_below (before ++ r ∷ []) rest good.1 more)
 
 few_gates : (lines : List CircuitLine) → AreGoodCircuitLines lines → length (netlist_of lines).gates ≤ 1024
-few_gates lines good =
-    let all = gates_below [] lines good (omega arith) in
-    subst (λ n. n ≤ 1024) (sym (gates_counted (defined lines) lines)) all
+few_gates lines good = grind (arith, common_steps, gates_below, gates_counted)
 
 -- ---- a vector of some elements
 

@@ -2,7 +2,7 @@
 use Rattle.lemmas.proofs.Common.{◌%◌, ◌&&◌, ◌<◌, ◌||◌, ◌∙◌, ◌≡◌, ◌≢◌, ◌≤◌, All, Bool, Contains, List, Some, ap, ap₂}
 use Rattle.lemmas.proofs.Common.{arith, false, inl, inr, not, refl, slice_get, subst, suc, sym, true, true≢false, zero}
 use Rattle.lemmas.proofs.Common.{ℕ, ℤ, All-contains_itself, and_parts, cases_Bool, false≢true, not-true, not_from_false}
-use Rattle.lemmas.proofs.Common.{option_map_or, slice_get-get_or, slice_get_within, or-false, some_at}
+use Rattle.lemmas.proofs.Common.{option_map_or, slice_get-get_or, slice_get_within, or-false, some_at, common_steps}
 use Rattle.bbm_rule.specs.Plane.{State, step, run}
 use Rattle.bbm_rule.proofs.Steps.{step_dead}
 use Rattle.circuit.specs.Bridge.{circuit_of, netlist_of}
@@ -156,11 +156,9 @@ local_stays : (lines : List CircuitLine) (p : Pattern) (ms : List ModuleLines) (
     (t : ℕ) → Known lines p ms i j → LiesInBox j.area (local_run j u t)
 unfolding local_run
 local_stays lines p ms i j u zero k x y out = ap (is_live u) (own.start_outside j x y out)
-local_stays lines p ms i j u (suc t) k x y out = elim (even_or_odd t) [
-  | inl e ↦ local_even j u t _ x y e
-      ∙ even_stays j.area t _ (job_even lines p ms i j k) e (local_stays lines p ms i j u t k) x y out
-  | inr o ↦ local_odd j u t _ x y o ∙ ap (λ q. q && step t (with_halo j u t (local_run j u t)) x y) out
-]
+local_stays lines p ms i j u (suc t) k x y out =
+    grind (arith, common_steps, even_or_odd, local_even, even_stays, job_even, local_odd,
+    (local_stays lines p ms i j u t k))
 
 -- ---- an even step
 
@@ -192,12 +190,8 @@ even_inside lines p ms jobs inputs v t i j set e now at x y h =
 outer : (lines : List CircuitLine) (p : Pattern) (ms : List ModuleLines) (jobs : List JobView) (x y : ℤ)
     (o : Owner lines p ms jobs x y) → BelongTogether lines p ms jobs → (x' y' : ℤ) →
     not (in_box (whole p.size) x' y') ≡ true → not (in_box o.job.area x' y') ≡ true
-outer lines p ms jobs x y o b x' y' out = elim (cases_Bool (in_box o.job.area x' y')) [
-  | inl h ↦ absurd (false≢true (sym (not-true _ out)
-      ∙ b.are_modules.tile.inside x' y' o.number o.known.of.area (area_at ms o.number o.known.of o.known.numbered)
-      (ap (λ a. in_box a x' y') (sym o.known.is_job.area) ∙ h)))
-  | inr h ↦ not_from_false _ h
-]
+outer lines p ms jobs x y o b x' y' out =
+    grind (arith, common_steps, cases_Bool, false≢true, not-true, area_at, not_from_false)
 
 -- a cell with a neighbour outside the rectangle is dead
 rim_dead : (lines : List CircuitLine) (p : Pattern) (ms : List ModuleLines) (jobs : List JobView) (inputs v : Valuation)
@@ -235,9 +229,7 @@ odd_outside lines p ms jobs inputs v t set odd early now x y out =
 with_halo_inside : (j : JobView) (u : Valuation) (t : ℕ) (s : State) (x y : ℤ) → in_box j.area x y ≡ true →
     with_halo j u t s x y ≡ s x y
 unfolding with_halo in_halo
-with_halo_inside j u t s x y h =
-    ap (λ q. s x y || ((not q && some_neighbour (in_box j.area) x y) && is_live u (signal_at j.halos t x y))) h
-    ∙ or-false (s x y)
+with_halo_inside j u t s x y h = grind (arith, common_steps, or-false)
 
 with_halo_outside : (j : JobView) (u : Valuation) (t : ℕ) (s : State) (x y : ℤ) → s x y ≡ false →
     in_halo j.area x y ≡ true → with_halo j u t s x y ≡ is_live u (signal_at j.halos t x y)
@@ -301,17 +293,7 @@ odd_inside lines p ms jobs inputs v t i j set odd early now at x y h =
 
 pub steps_with_good_borders : StepsWithGoodBorders
 steps_with_good_borders lines p ms jobs inputs v t b s early right now =
-    let set : Setting lines p ms jobs inputs v t = record { bundle = b; right = right; satisfied = s } in
-    elim (even_or_odd t) [
-      | inl e ↦ record {
-        outside = even_outside lines p ms jobs inputs v t set e now;
-        inside = λ i j at. even_inside lines p ms jobs inputs v t i j set e now at;
-      }
-      | inr o ↦ record {
-        outside = odd_outside lines p ms jobs inputs v t set o early now;
-        inside = λ i j at. odd_inside lines p ms jobs inputs v t i j set o early now at;
-      }
-    ]
+    grind (arith, common_steps, even_or_odd, even_outside, even_inside, odd_outside, odd_inside)
 
 -- where some_at is no fault, borders are good at all times
 pub good_borders : (lines : List CircuitLine) (p : Pattern) (ms : List ModuleLines) (jobs : List JobView)
@@ -366,17 +348,12 @@ all_times : (lines : List CircuitLine) (p : Pattern) (ms : List ModuleLines) (jo
     Satisfies (netlist_of lines) inputs v → t ≤ p.size.steps → IsRunOfJobs lines p jobs v t
 all_times lines p ms jobs inputs v zero all s h = starts lines p ms jobs v all.bundle
 all_times lines p ms jobs inputs v (suc t) all s h =
-    steps lines p ms jobs inputs v t all.bundle (right_of lines p ms jobs all) s (omega arith)
-    (all_times lines p ms jobs inputs v t all s (omega arith))
+    grind (arith, common_steps, steps, right_of, (all_times lines p ms jobs inputs v t all s (omega arith)))
 
 -- what looks as asked looks so wherever the same cells are live
 looks_same : (p : Pattern) (value : List ℕ → Bool) (now then : State) → ((x y : ℤ) → now x y ≡ then x y) →
     LooksAsAsked p value now → LooksAsAsked p value then
-looks_same p value now then same looks = record {
-  mirrors = λ x y h. sym (same x y) ∙ looks.mirrors x y h;
-  outputs = λ i q e. sym (same q.cell.x q.cell.y) ∙ looks.outputs i q e;
-  elsewhere = λ x y mirror port waste. sym (same x y) ∙ looks.elsewhere x y mirror port waste;
-}
+looks_same p value now then same looks = grind (arith, common_steps)
 
 pub correct : AcceptedIsCorrect
 correct lines p ms jobs named ports all = record {

@@ -1,5 +1,5 @@
 -- From a yes to the whole pattern
-use Rattle.lemmas.proofs.Common.{[], ◌≡◌, List, None, Some, subst, take}
+use Rattle.lemmas.proofs.Common.{[], ◌≡◌, List, None, Some, subst, take, arith, common_steps}
 use Rattle.circuit.specs.Entries.{defined}
 use Rattle.pattern.specs.Layout.{parts_of}
 use Rattle.circuit.specs.Bridge.{circuit_of, input_names, netlist_of}
@@ -33,13 +33,7 @@ pub record IsRead (s : CertView) (size : LayoutHeader) : Type 0 where
 pub bundle_read : (s : CertView) (size : LayoutHeader) (jobs : List JobView) → IsRead s size →
     AreJobsOfCertificate s jobs →
     BelongTogether s.circuit s.layout (modules s) jobs
-bundle_read s size jobs is own = record {
-  ordered = is.ordered;
-  limits = subst (λ (z : LayoutHeader). size_fault z ≡ None) is.same is.limits;
-  laid_out = subst (λ (z : LayoutHeader). AreGoodAfter z [] (parts_of s.layout)) is.same is.laid_out;
-  are_modules = is.are_modules;
-  are_jobs = own;
-}
+bundle_read s size jobs is own = grind (arith, common_steps)
 
 accepted_bundle : (s : CertView) (size : LayoutHeader) (jobs : List JobView) → IsRead s size →
     AreJobsOfCertificate s jobs →
