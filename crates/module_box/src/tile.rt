@@ -65,6 +65,10 @@ fn first_free_place(table: &[usize], free: usize) -> usize
     ensures before { (k : ℕ) → k < result → ¬ (slice_index table.now k ≡ free) }
     ensures found { result < length table.now → slice_index table.now result ≡ free }
 {
+    // Most tables have no free place, and this search tests several places at once.
+    if !table.iter().any(|number| *number == free) {
+        return table.len();
+    }
     'places: for place in 0..table.len() {
         if table[place] == free {
             return place;
