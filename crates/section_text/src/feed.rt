@@ -18,7 +18,8 @@ use crate::number::read_number;
 use crate::seed::Seed;
 use crate::words::{
     FiveWords, FourWords, ThreeWords, count_words_in, is_one_word, lone_name_in, lone_number_in,
-    names_beside_arrow_in, next_word, split_five_words, split_four_words, split_three_words, word_in,
+    names_beside_arrow_in, next_word, split_five_words, split_four_words, split_three_words,
+    word_in,
 };
 use memchr::memchr;
 use std::alloc::Global;
