@@ -14,7 +14,7 @@ use Rattle.module_box.specs.Locals.{is_among}
 use Rattle.module_box.specs.declared.boxes.Box2.{Box2}
 use Rattle.certificate_lines.specs.Entries.{Setting, ModuleLines, module_with_line, change_last, last_of, add_line}
 use Rattle.certificate_lines.specs.Entries.{modules_of, last_module, counts_of, cut_in, use_in, edge_in, halo_in}
-use Rattle.certificate_lines.specs.Entries.{cuts, gates, edges, halos, stops, known}
+use Rattle.certificate_lines.specs.Entries.{cuts, gates, known}
 use Rattle.certificate_lines.specs.Orders.{AreInOrder, may_follow}
 use Rattle.certificate_lines.specs.Rules.{same_cell, is_starred_line_at, are_new_and_distinct}
 use Rattle.certificate_lines.specs.Rules.{is_last_module_incomplete, is_local, has_nonlocal_port, content_code}

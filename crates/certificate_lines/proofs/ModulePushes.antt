@@ -1,6 +1,6 @@
 -- A module that is good stays so after one more line that is good.
-use Rattle.lemmas.proofs.Common.{[], ◌%◌, ◌&&◌, ◌++◌, ◌+◌, ◌<◌, ◌||◌, ◌∙◌, ◌∷◌, ◌≡◌, ◌≤◌, All, Bool, IfSome, IsTrue}
-use Rattle.lemmas.proofs.Common.{List, None, Option, Some, ap, ap₂, arith, false, flat_map, length, nat_le, nat_lt, not}
+use Rattle.lemmas.proofs.Common.{[], ◌%◌, ◌&&◌, ◌++◌, ◌<◌, ◌||◌, ◌∙◌, ◌∷◌, ◌≡◌, ◌≤◌, All, Bool, IfSome, IsTrue, List}
+use Rattle.lemmas.proofs.Common.{None, Option, Some, ap, ap₂, arith, false, flat_map, length, nat_le, nat_lt, not}
 use Rattle.lemmas.proofs.Common.{option_to_list, refl, slice_get, subst, sym, true, ℕ, All-nil, and_parts, common_steps}
 use Rattle.lemmas.proofs.Common.{eqb-true, length_push, list_all, list_any, nat_tests, at_most_by_test, below_by_test}
 use Rattle.lemmas.proofs.Common.{false_from_not, true_from_not}

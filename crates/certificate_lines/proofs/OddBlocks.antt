@@ -1,8 +1,8 @@
 -- The modules beside the cell of an edge line, by the cells of its block at odd times
-use Rattle.lemmas.proofs.Common.{[], ◌%◌, ◌&&◌, ◌+ℤ◌, ◌+◌, ◌-ℤ◌, ◌<◌, ◌||◌, ◌∙◌, ◌∷◌, ◌≡◌, ◌≤ℤ◌, ◌≤◌, ◌⊎◌, Bool, List}
-use Rattle.lemmas.proofs.Common.{None, Option, Some, ap, ap₂, arith, eq-eqb, false, inl, inr, length, map, ne_eqb}
-use Rattle.lemmas.proofs.Common.{negsuc, not, pos, refl, slice_get, suc, sym, true, zero, ℕ, ℤ, cases_Bool}
-use Rattle.lemmas.proofs.Common.{common_steps, cond-false, cond-true, eqb-false, eqb-true, false≢true, ints, list_any}
+use Rattle.lemmas.proofs.Common.{[], ◌%◌, ◌&&◌, ◌+ℤ◌, ◌-ℤ◌, ◌<◌, ◌||◌, ◌∙◌, ◌∷◌, ◌≡◌, ◌≤ℤ◌, ◌≤◌, ◌⊎◌, Bool, List, None}
+use Rattle.lemmas.proofs.Common.{Option, Some, ap, ap₂, arith, eq-eqb, false, inl, inr, length, map, ne_eqb, negsuc}
+use Rattle.lemmas.proofs.Common.{not, pos, refl, slice_get, suc, sym, true, zero, ℕ, ℤ, cases_Bool, common_steps}
+use Rattle.lemmas.proofs.Common.{cond-false, cond-true, eqb-false, eqb-true, false≢true, ints, list_any}
 use Rattle.lemmas.proofs.Common.{slice_get_within, and-false, mapped_from, or-false}
 use Rattle.bbm_rule.specs.Plane.{parity, partner}
 use Rattle.bbm_rule.specs.Spans.{in_span}

@@ -14,3 +14,4 @@ pub mod Counting
 pub mod GateLaws
 pub mod GateLines
 pub mod WireMarks
+mod LoneNames

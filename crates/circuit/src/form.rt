@@ -1,13 +1,17 @@
 //! The line forms of the circuit section.
-ghost use Rattle.std.specs.Prelude.{◌≡◌, ◌+◌, ◌≤◌, Some, None, codes, slice_get, if◌then◌else◌};
+ghost use Rattle.std.specs.Prelude.{◌≡◌, ◌+◌, ◌≤◌, Some, None, [], ◌∷◌, codes, slice_get, take, if◌then◌else◌};
+ghost use Rattle.std.specs.Option.{option_map};
 ghost use Rattle.std.specs.Str.{bytes_eq};
-ghost use Rattle.section_text.specs.Words.{words_of};
+ghost use Rattle.section_text.specs.Words.{name_of, words_of};
+ghost use Rattle.section_text.specs.declared.section.Form.TheVariants.{Item};
+ghost use Rattle.circuit.specs.Entries.{entry};
+ghost use Rattle.circuit.specs.Bridge.{is_input};
 ghost use Rattle.circuit.specs.declared.circuit_line.Kind.TheVariants.{Input, Output, Spill};
 ghost use Rattle.section_text.specs.Feeds.{IsLine, line_bytes};
 ghost use Rattle.circuit.specs.Forms.{bit_at, gate_kind, words_before_names, gate_entry, form_of};
 
 use crate::circuit_line::{CircuitLine, GateKind, Kind};
-use section_text::{Feed, Form, Line, is_keyword};
+use section_text::{Feed, Form, Line, Name, is_keyword};
 
 #[tactic(auto, unfolding(crate::specs::Forms::bit_at, section_text::specs::Words::is_word_at))]
 fn bit_of(feed: &Feed, line: &Line, index: usize) -> Option<bool>
@@ -100,9 +104,9 @@ fn kind_of_keyword(keyword: &[u8]) -> Option<Kind>
     }
 }
 
-/// Returns the form of a line, if it has one.
+// The form of a line by its words, if it has one.
 #[tactic(auto, unfolding(crate::specs::Forms::form_of, section_text::specs::Words::is_word_at))]
-pub fn line_form(feed: &Feed, line: &Line) -> Option<Form<(), CircuitLine>>
+fn line_form_by_words(feed: &Feed, line: &Line) -> Option<Form<(), CircuitLine>>
     requires { IsLine feed.now line.now }
     ensures { result ≡ form_of (words_of (line_bytes feed.now line.now)) }
 {
@@ -117,4 +121,63 @@ pub fn line_form(feed: &Feed, line: &Line) -> Option<Form<(), CircuitLine>>
         Some(kind) => Some(Form::Item(CircuitLine::lone(kind, feed.lone_name(line)?))),
         None => Some(Form::Item(gate_entry_of(feed, line, keyword)?)),
     }
+}
+
+// The form of an input, output or spill line, by what stands behind its keyword and a space.
+#[inline(always)]
+fn lone_name_form(kind: Kind, name: &[u8]) -> Option<Form<(), CircuitLine>>
+    ensures { result ≡ option_map
+        (λ n. Item (entry kind (if is_input kind then [] else n ∷ [])
+        (if is_input kind then n ∷ [] else []))) (name_of name.now) }
+{
+    let name = Name::of(name)?;
+    Some(Form::Item(CircuitLine::lone(kind, name)))
+}
+
+// Whether a line begins with `input` and a space.
+fn is_input_line(line: &[u8]) -> bool
+    ensures { result ≡ bytes_eq (take 6 line.now) (codes "input ") }
+{
+    match line {
+        [b'i', b'n', b'p', b'u', b't', b' ', ..] => true,
+        _ => false,
+    }
+}
+
+// Whether a line begins with `output` and a space.
+fn is_output_line(line: &[u8]) -> bool
+    ensures { result ≡ bytes_eq (take 7 line.now) (codes "output ") }
+{
+    match line {
+        [b'o', b'u', b't', b'p', b'u', b't', b' ', ..] => true,
+        _ => false,
+    }
+}
+
+// Whether a line begins with `spill` and a space.
+fn is_spill_line(line: &[u8]) -> bool
+    ensures { result ≡ bytes_eq (take 6 line.now) (codes "spill ") }
+{
+    match line {
+        [b's', b'p', b'i', b'l', b'l', b' ', ..] => true,
+        _ => false,
+    }
+}
+
+/// Returns the form of a line, if it has one. A name has no space, so an input, output or spill line is not split.
+pub fn line_form(feed: &Feed, line: &Line) -> Option<Form<(), CircuitLine>>
+    requires { IsLine feed.now line.now }
+    ensures { result ≡ form_of (words_of (line_bytes feed.now line.now)) }
+{
+    let bytes = feed.line(line);
+    if is_output_line(bytes) {
+        return lone_name_form(Kind::Output, &bytes[7..]);
+    }
+    if is_input_line(bytes) {
+        return lone_name_form(Kind::Input, &bytes[6..]);
+    }
+    if is_spill_line(bytes) {
+        return lone_name_form(Kind::Spill, &bytes[6..]);
+    }
+    line_form_by_words(feed, line)
 }

@@ -47,8 +47,12 @@ pub fn port_names(alloc: Global, circuit: &Circuit) -> Result<PortNames, AllocEr
         ≡ Some (record { ins = input_names circuit.now; outs = output_names circuit.now })) }
     ensures count { length (input_names circuit.now) ≡ (netlist_of circuit.now).given }
 {
-    let mut ins = Vec::with_capacity(alloc, circuit.inputs())?;
-    let mut outs = Vec::new(alloc);
+    let inputs = circuit.inputs();
+    let lines = circuit.entries().len();
+    let mut ins = Vec::with_capacity(alloc, inputs)?;
+    // The lines that are no inputs and no gates are outputs and spills.
+    let most_outs = lines.saturating_sub(inputs).saturating_sub(circuit.gates());
+    let mut outs = Vec::with_capacity(alloc, most_outs)?;
     push_port_names_of_lines(&mut ins, &mut outs, circuit.entries())?;
     Ok(PortNames::Only { ins, outs })
 }

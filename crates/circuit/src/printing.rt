@@ -92,6 +92,9 @@ pub fn print_circuit(alloc: Global, circuit: &Circuit) -> Result<Vec<u8>, AllocE
     Ok(out)
 }
 
+// A name, a space, a bit and a line feed.
+const MAX_VALUE_LINE_BYTES: usize = 35;
+
 #[tactic(auto, unfolding(crate::specs::Text::value_line))]
 fn print_value(out: &mut Vec<u8>, name: &Name, value: bool) -> Result<(), AllocError>
     ensures { OnOk result (out.new.items ≡ out.old.items ++ value_line name.now value) }
@@ -123,7 +126,7 @@ pub fn print_values(
     requires { length values.now ≤ wires (netlist_of circuit.now) }
     ensures { IfOk result (λ text. text.items ≡ value_lines (defined circuit.now) values.now) }
 {
-    let mut out = Vec::new(alloc);
+    let mut out = Vec::with_capacity(alloc, values.len().saturating_mul(MAX_VALUE_LINE_BYTES))?;
     print_value_lines(&mut out, circuit.names(), values)?;
     Ok(out)
 }

@@ -1,6 +1,7 @@
 -- The names of a set after one more.
-use Rattle.lemmas.proofs.Common.{[], ◌++◌, ◌||◌, ◌∙◌, ◌∷◌, ◌≡◌, Bool, List, arith, false, true, ℕ, bytes_eq}
-use Rattle.lemmas.proofs.Common.{bytes_eq-Decides, cases_Bool, common_steps, list_any-append, or_last}
+use Rattle.lemmas.proofs.Common.{[], ◌++◌, ◌<◌, ◌||◌, ◌∙◌, ◌∷◌, ◌≡◌, Bool, List, arith, false, get_or, length, suc}
+use Rattle.lemmas.proofs.Common.{true, zero, ℕ, bytes_eq, bytes_eq-Decides, cases_Bool, common_steps, list_any-append}
+use Rattle.lemmas.proofs.Common.{or_last}
 use Rattle.section_text.specs.Words.{has}
 
 pub has_push : (d : List (List ℕ)) (m n : List ℕ) → has (d ++ m ∷ []) n ≡ (has d n || bytes_eq n m)
@@ -14,3 +15,13 @@ or_false a b e = grind arith
 
 pub has_again : (d : List (List ℕ)) (m n : List ℕ) → has d m ≡ true → has d n ≡ (has d n || bytes_eq n m)
 has_again d m n h = grind (arith, common_steps, cases_Bool, or_true, bytes_eq-Decides, or_false)
+
+pub has_at : (d : List (List ℕ)) (i : ℕ) (m n : List ℕ) → i < length d → m ≡ get_or d i [] → bytes_eq m n ≡ true →
+    has d n ≡ true
+has_at [] i m n below at same = absurd (omega (arith, below))
+has_at (x ∷ d) zero m n below at same = grind (arith, common_steps, bytes_eq-Decides)
+has_at (x ∷ d) (suc i) m n below at same =
+    or_right_true (bytes_eq n x) (has d n) (has_at d i m n (omega (arith, below)) at same)
+  where
+    or_right_true : (a b : Bool) → b ≡ true → (a || b) ≡ true
+    or_right_true a b e = grind arith

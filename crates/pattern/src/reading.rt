@@ -57,12 +57,22 @@ fn allows_any_name(ports: &PortNames) -> bool
     }
 }
 
+// Whether the set has the name, which is likely the one of this index: ports mostly come in the order of the circuit.
+fn has_name_near(set: &IndexSet<Name, NameHash>, index: usize, name: &Name) -> bool
+    ensures { result ≡ has set.now.keys name.now }
+{
+    match set.as_slice().get(index) {
+        Some(likely) if *likely == *name => true,
+        _ => set.contains(name),
+    }
+}
+
 // Whether the set has all these names.
 fn has_all(set: &IndexSet<Name, Seed>, names: &[Name]) -> bool
     ensures { result ≡ list_all (λ n. has set.now.keys n) names.now }
 {
-    for name in names {
-        if !set.contains(name) {
+    'names: for (index, name) in names.iter().enumerate() {
+        if !has_name_near(set, index, name) {
             return false;
         }
     }
@@ -141,13 +151,13 @@ impl<'a> Reading<'a> {
         let any = allows_any_name(self.ports);
         match part {
             LayoutLine::In(port) => {
-                if any || self.known_ins.contains(&port.name) {
+                if any || has_name_near(&self.known_ins, self.seen_ins.len(), &port.name) {
                     return None;
                 }
                 Some(RefusalCode::UnknownName)
             }
             LayoutLine::Out(port) => {
-                if any || self.known_outs.contains(&port.name) {
+                if any || has_name_near(&self.known_outs, self.seen_outs.len(), &port.name) {
                     return None;
                 }
                 Some(RefusalCode::UnknownName)

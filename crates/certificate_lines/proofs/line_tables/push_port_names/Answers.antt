@@ -1,4 +1,4 @@
-use Rattle.lemmas.proofs.Common.{◌-◌, arith, common_steps}
+use Rattle.lemmas.proofs.Common.{arith, common_steps}
 use Rattle.pattern.specs.Layout.{rectangle_cells}
 use Rattle.certificate_lines.proofs.TableLemmas.{rows_named}
 use Rattle.certificate_lines.proofs.line_tables.push_port_names.Goals as goal

@@ -3,5 +3,5 @@ use Rattle.lemmas.proofs.Common.{◌≡◌, take, true, list_all}
 use Rattle.section_text.specs.Words.{has}
 use Rattle.pattern.proofs.reading.has_all.Given as goal
 
-abbrev pub invariant-loop-name : goal.invariant-loop-name
-invariant-loop-name l = list_all (λ n. has l.set.keys n) (take l.name-index l.names) ≡ true
+abbrev pub invariant-names : goal.invariant-names
+invariant-names l = list_all (λ n. has l.set.keys n) (take l.index l.names) ≡ true

@@ -1,5 +1,4 @@
 use Rattle.lemmas.proofs.Common.{List, None, arith, subst, sym, ℕ, common_steps}
-use Rattle.certificate_lines.specs.Entries.{last_module}
 use Rattle.certificate_lines.specs.BuilderView.{NamesLocalOrCutWire}
 use Rattle.certificate_lines.proofs.Keeping.{border_is_inner, border_is_uncut, good_line, small, with_border}
 use Rattle.certificate_lines.proofs.NamedLines.{named_words}

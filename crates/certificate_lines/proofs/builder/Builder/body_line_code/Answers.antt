@@ -1,6 +1,6 @@
 use Rattle.lemmas.proofs.Common.{◌∙◌, ◌≡◌, Some, ap, arith, subst, sym, common_steps}
 use Rattle.certificate_lines.specs.Entries.{last_of, last_module}
-use Rattle.certificate_lines.specs.Rules.{body_line_code, content_code}
+use Rattle.certificate_lines.specs.Rules.{body_line_code}
 use Rattle.certificate_lines.specs.BuilderView.{BuilderView, last_body_line}
 use Rattle.certificate_lines.proofs.Keeping.{no_module, small, too_late, in_place}
 use Rattle.certificate_lines.proofs.builder.Builder.body_line_code.Goals as goal

@@ -1,5 +1,5 @@
-use Rattle.lemmas.proofs.Common.{◌-◌, ◌<◌, ◌∙◌, ◌≡◌, List, Option, Some, ap, arith, get_or, refl, suc, sym, true, zero}
-use Rattle.lemmas.proofs.Common.{ℕ, common_steps, positive}
+use Rattle.lemmas.proofs.Common.{◌<◌, ◌∙◌, ◌≡◌, List, Option, Some, ap, arith, get_or, refl, suc, sym, true, zero, ℕ}
+use Rattle.lemmas.proofs.Common.{common_steps, positive}
 use Rattle.certificate_lines.specs.PortTables.{IsPortTable, entry_place, number_at}
 use Rattle.certificate_lines.specs.declared.ports.PortTable.TheInside.{Inside}
 use Rattle.module_box.specs.Boxes.{in_box}

@@ -1,0 +1,44 @@
+-- The form of a line of a keyword and a name, by what stands behind the keyword.
+use Rattle.lemmas.proofs.Common.{[], ◌++◌, ◌-◌, ◌∙◌, ◌∷◌, ◌≡◌, List, None, Option, Some, ap, codes, drop, length}
+use Rattle.lemmas.proofs.Common.{option_map, refl, sym, take, take-append-drop, true, ℕ, bytes_eq, bytes_eq-Decides}
+use Rattle.lemmas.proofs.Common.{take_rest}
+use Rattle.section_text.specs.Words.{is_word_at, lone_name, name_of, words_of, ◌>>=◌}
+use Rattle.section_text.specs.declared.section.Form.{Form}
+use Rattle.section_text.specs.declared.section.Form.TheVariants.{Item}
+use Rattle.section_text.proofs.Splitting.{lone_name_is}
+use Rattle.circuit.specs.declared.circuit_line.CircuitLine.{CircuitLine}
+use Rattle.circuit.specs.declared.circuit_line.Kind.TheVariants.{Input, Output, Spill}
+use Rattle.circuit.specs.Entries.{entry}
+use Rattle.circuit.specs.Forms.{form_of}
+
+begins_with : (m l : List ℕ) (n : ℕ) → bytes_eq (take n l) m ≡ true → l ≡ m ++ drop n l
+begins_with m l n e = sym (take-append-drop n l) ∙ ap (λ t. t ++ drop n l) ((bytes_eq-Decides (take n l) m).0 e)
+
+behind : (keyword l : List ℕ) (n : ℕ) (f : List ℕ → Form (Unit {0}) CircuitLine) →
+    option_map f (name_of (take (length l - n) (drop n l)))
+    ≡ (lone_name (keyword ∷ words_of (drop n l)) >>= λ name. Some (f name))
+behind keyword l n f =
+    mapped (name_of (take (length l - n) (drop n l)))
+    ∙ ap (λ o. o >>= λ name. Some (f name)) (ap name_of (take_rest l n) ∙ sym (lone_name_is keyword (drop n l)))
+  where
+    mapped : (o : Option (List ℕ)) → option_map f o ≡ (o >>= λ name. Some (f name))
+    mapped None = refl
+    mapped (Some name) = refl
+
+pub input_line : (l : List ℕ) → bytes_eq (take 6 l) (codes "input ") ≡ true →
+    option_map (λ n. Item (entry Input [] (n ∷ []))) (name_of (take (length l - 6) (drop 6 l))) ≡ form_of (words_of l)
+unfolding form_of is_word_at
+input_line l e = behind (codes "input") l 6 (λ n. Item (entry Input [] (n ∷ [])))
+    ∙ ap (λ t. form_of (words_of t)) (sym (begins_with (codes "input ") l 6 e))
+
+pub output_line : (l : List ℕ) → bytes_eq (take 7 l) (codes "output ") ≡ true →
+    option_map (λ n. Item (entry Output (n ∷ []) [])) (name_of (take (length l - 7) (drop 7 l))) ≡ form_of (words_of l)
+unfolding form_of is_word_at
+output_line l e = behind (codes "output") l 7 (λ n. Item (entry Output (n ∷ []) []))
+    ∙ ap (λ t. form_of (words_of t)) (sym (begins_with (codes "output ") l 7 e))
+
+pub spill_line : (l : List ℕ) → bytes_eq (take 6 l) (codes "spill ") ≡ true →
+    option_map (λ n. Item (entry Spill (n ∷ []) [])) (name_of (take (length l - 6) (drop 6 l))) ≡ form_of (words_of l)
+unfolding form_of is_word_at
+spill_line l e = behind (codes "spill") l 6 (λ n. Item (entry Spill (n ∷ []) []))
+    ∙ ap (λ t. form_of (words_of t)) (sym (begins_with (codes "spill ") l 6 e))
