@@ -117,19 +117,6 @@ pub seen : (area corner : Box2) (w : Window) (c : Cell) → IsWindow area corner
     IsSeen w c
 seen area corner w c is g = grind (arith, common_steps, ints)
 
--- The events behind one at a far cell are at far cells as long as they are before the next moment that may be at a
--- cell of the window.
-pub far_to : (w : Window) (events : List TimedSignal) (place next : ℕ) (d : TimedSignal) (moment : Moment) →
-    IsRising moment_cmp moment_of events → place < length events → IsEventFarAt w events place →
-    AreMomentsFarBetween w (get_or events place d).at moment → ArePassed events (place + 1) next moment →
-    AreEventsFar w events place next
-far_to w events place next d moment rising within far between passed i e from lt got odd =
-    elim (same_or_higher i place from) [
-      | inr same ↦ far e (ap (slice_get events) same ∙ got)
-      | inl l ↦ between e.at (rising.rises place i _ e l (slice_get-get_or events place d within) got)
-          (passed i e (omega (arith, l)) lt got) odd
-    ]
-
 pub far_none : (w : Window) (events : List TimedSignal) (place : ℕ) → AreEventsFar w events place place
 far_none w events place i e from lt got odd = absurd (omega (arith, from, lt))
 

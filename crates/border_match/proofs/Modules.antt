@@ -17,11 +17,6 @@ use Rattle.certificate_lines.specs.Entries.{Setting, ModuleLines, areas, counts_
 use Rattle.certificate_lines.specs.Modules.{AreModules}
 use Rattle.certificate_lines.specs.declared.certificate_line.Counts.{Counts}
 
-some_value : {A B : Type 0} (v : A → B) (o : Option A) (b : B) → option_map v o ≡ Some b →
-    (a : A) × (o ≡ Some a) × (v a ≡ b)
-some_value v None b e = grind (arith, common_steps)
-some_value v (Some a) b e = (a, refl, same_some (Some (v a)) (v a) b refl e)
-
 -- if boxes tile the rectangle, a table of owners fails only out of memory
 pub only_memory : (w h : ℕ) (boxes : List Box2) (fault : TileFault) → IsTask w h boxes → IsTileFault w h boxes fault →
     Tile (rectangle_of w h) boxes → fault ≡ Memory

@@ -92,7 +92,8 @@ module _ (c : Circuit) (p : Pattern) (l : LocalNet) (first old new : CellLists) 
   abbrev demands_at : Cell → Demand
   demands_at d = end_demand c p d.x d.y
 
-  pub add_same : (start : Signal) (demand : Demand) (n : ℕ) → k ≤ n → new.starts ≡ old.starts ++ replicate (n - k) start →
+  pub add_same : (start : Signal) (demand : Demand) (n : ℕ) → k ≤ n →
+      new.starts ≡ old.starts ++ replicate (n - k) start →
       new.demands ≡ old.demands ++ replicate (n - k) demand →
       ((j : ℕ) → k ≤ j → j < n → start_signal c p (pos j) (pos y) ≡ renumber_signal (circuit_wire l) start) →
       ((j : ℕ) → k ≤ j → j < n → end_demand c p (pos j) (pos y) ≡ renumber_demand (circuit_wire l) demand) →

@@ -58,11 +58,6 @@ pairs_by_place R (x ∷ xs) h = (
   pairs_by_place R xs (λ i j a b lt e f. h (suc i) (suc j) a b (omega (arith, lt)) e f),
 )
 
-from_some : {X Y : Type 0} (f : X → Y) (o : Option X) (y : Y) → option_map f o ≡ Some y →
-    (x : X) × (o ≡ Some x) × (f x ≡ y)
-from_some f None y e = absurd cc
-from_some f (Some x) y e = (x, refl, some_is (f x) y e)
-
 -- ---- the lines of a module with other halo lines
 
 -- what lines other than halo lines say is said without these

@@ -137,7 +137,8 @@ apart : (xs ys : List Cell) (x y : ℤ) → in_cells (xs ++ ys) x y ≡ false �
     (in_cells xs x y ≡ false) × (in_cells ys x y ≡ false)
 apart xs ys x y e = grind (arith, common_steps, or_parts, list_any-append)
 
-pub nothing_here : (p : Pattern) (x y : ℤ) → (in_cells (non_mirror_cells p) x y || in_rectangles p.mirrors x y) ≡ false →
+pub nothing_here : (p : Pattern) (x y : ℤ) →
+    (in_cells (non_mirror_cells p) x y || in_rectangles p.mirrors x y) ≡ false →
     HasNothing p x y
 nothing_here p x y e =
     let parts = or_parts (in_cells (non_mirror_cells p) x y) (in_rectangles p.mirrors x y) e in

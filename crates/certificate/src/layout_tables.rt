@@ -25,8 +25,8 @@ use std::marker::Model;
 
 /// A circuit and a layout, with tables by which each cell of the layout is looked up in constant time. Contracts see
 /// the circuit and the layout, as a `LayoutTablesView`.
-// The mirrors' cells, the balls and the waste cells are the live cells of grids. `named` has the cells of all of them and
-// of ports: most cells are dead in it, and need no other look.
+// The mirrors' cells, the balls and the waste cells are the live cells of grids. `named` has the cells of all of them
+// and of ports: most cells are dead in it, and need no other look.
 #[derive(Drop)]
 pub(crate) struct LayoutTables<'a> {
     circuit: &'a Circuit,

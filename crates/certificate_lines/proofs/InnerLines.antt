@@ -53,15 +53,3 @@ pub inner_prefix : (es : List CertificateLine) (n : ℕ) → n ≤ length (inner
 inner_prefix es zero le = refl
 inner_prefix [] (suc n) le = grind (arith, common_steps, nothing_inner)
 inner_prefix (e ∷ es) (suc n) le = prefix_after (is_module e) e es n refl (inner_prefix es n) le
-
-shorter_after : (b : Bool) (e : CertificateLine) (es : List CertificateLine) → is_module e ≡ b →
-    length (inner es) ≤ length es → length (inner (e ∷ es)) ≤ suc (length es)
-shorter_after true e es m h =
-    subst (λ xs. length xs ≤ suc (length es)) (sym (inner_module e es m)) (omega arith)
-shorter_after false e es m h =
-    subst (λ xs. length xs ≤ suc (length es)) (sym (inner_other e es m)) (omega (arith, h))
-
--- a module has at most all lines
-pub inner_shorter : (es : List CertificateLine) → length (inner es) ≤ length es
-inner_shorter [] = subst (λ xs. length xs ≤ 0) (sym nothing_inner) (omega arith)
-inner_shorter (e ∷ es) = shorter_after (is_module e) e es refl (inner_shorter es)

@@ -17,7 +17,8 @@ use std::marker::Model;
 use std::mem::size_of;
 
 // A line, by its kind. Most lines are edge and halo lines. Those of the constant `1` are kinds of their own, since an
-// optional reference takes as much room as two references. The number of a wire comes first: it has room behind the tag.
+// optional reference takes as much room as two references. The number of a wire comes first: it has room behind the
+// tag.
 #[derive(Clone, Copy)]
 enum Content<'a> {
     Module(Box2),

@@ -99,8 +99,3 @@ audit_of s digest jobs b c of_text own is =
           (subst (λ (js : List JobView). AreFindingsHeldBelow is.full js (length js)) same full.all_held);
       all_accepted = full.all_accepted ∙ ap length same;
     })
-
--- new shares have filed nothing
-pub none_filed : (n : ℕ) → sum_of_filed (replicate n no_counts) ≡ 0
-none_filed zero = refl
-none_filed (suc n) = none_filed n

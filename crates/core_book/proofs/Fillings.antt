@@ -67,9 +67,6 @@ filed-for b c f n job still_open digest number whole at lacks after =
 
 -- ---- number after number
 
-pub filled-start : (b : BookView) → IsFilledTo b b 0
-filled-start b = grind (arith, common_steps, append-nil)
-
 -- a number that held a finding before
 missing_numbers_below-held : (b : BookView) (n : ℕ) → is_some (found_in b n) ≡ true →
     missing_numbers_below b (suc n) ≡ missing_numbers_below b n
@@ -120,9 +117,6 @@ step-filed b c f n book is lacks number accepted = record {
 pub record IsFilling (b c : BookView) (n : ℕ) : Type 0 where
   pub filled : IsFilledTo b c n
   pub book : IsBook c
-
-pub filling-start : (b : BookView) → IsBook b → IsFilling b b 0
-filling-start b book = record { filled = filled-start b; book = book }
 
 pub filling-step : (b c d : BookView) (n : ℕ) → IsFilling b c n → IsHeldOrFiled c d n → IsFilling b d (n + 1)
 filling-step b c d n is (inl p) = grind (arith, common_steps, step-held)

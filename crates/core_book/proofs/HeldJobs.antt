@@ -36,9 +36,6 @@ pub record AreFaultsBelow (b : BookView) (jobs : List JobView) (count : ℕ) (fs
   pub each : (n : ℕ) (j : JobView) (f : LeastFaults) → slice_get jobs n ≡ Some j → slice_get fs n ≡ Some f →
       IsToldOf j f
 
-pub none-below : (b : BookView) (jobs : List JobView) → AreFaultsBelow b jobs 0 []
-none-below b jobs = grind (arith, common_steps)
-
 -- a job more
 held_more : (b : BookView) (jobs : List JobView) (n : ℕ) (j : JobView) → slice_get jobs n ≡ Some j →
     AreFindingsHeldBelow b jobs n → IsHeld b n j → AreFindingsHeldBelow b jobs (n + 1)
@@ -75,7 +72,3 @@ one-more b jobs n fs j f r below at held whole told = record {
 pub first-missing : (b : BookView) (jobs : List JobView) (n : ℕ) (fs : List LeastFaults) (j : JobView) →
     AreFaultsBelow b jobs n fs → slice_get jobs n ≡ Some j → ¬ IsHeld b n j → IsFirstMissing b jobs n
 first-missing b jobs n fs j below at missing = record { job = j; numbered = at; missing = missing; before = below.held }
-
-pub all-least : (b : BookView) (jobs : List JobView) (n : ℕ) (fs : List LeastFaults) → n ≡ length jobs →
-    AreFaultsBelow b jobs n fs → AreLeastFaults jobs fs
-all-least b jobs n fs all below = record { count = below.count_is ∙ all; each = below.each }

@@ -16,9 +16,6 @@ not_lower count Closed = omega arith
 not_lower count (Stranger mismatch) = omega arith
 not_lower count (Double number) = omega arith
 
-pub at_first : (a : Counts) → HasRisen a a
-at_first a = record { filed = omega arith; accepted = omega arith }
-
 -- a share that has risen is as it was
 pub risen_still : (a b c : Counts) → HasRisen a b → c ≡ b → HasRisen a c
 risen_still a b c before same = subst (HasRisen a) (sym same) before

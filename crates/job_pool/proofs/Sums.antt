@@ -177,13 +177,3 @@ joined_drawn counter lists r = record {
   whole = let w = r.whole in let l = length-joined lists in omega arith;
   once = λ x. let o = r.once x in let t = times-joined x lists in omega arith;
 }
-
-pub count_less_than-append : (n : ℕ) (xs ys : List ℕ) →
-    count_less_than n (xs ++ ys) ≡ count_less_than n xs + count_less_than n ys
-count_less_than-append n [] ys = omega arith
-count_less_than-append n (y ∷ xs) ys = let h = count_less_than-append n xs ys in omega arith
-
-pub early_more : (n i : ℕ) (xs ys : List ℕ) → ys ≡ xs ++ i ∷ [] → i < n →
-    count_less_than n ys ≡ count_less_than n xs + 1
-early_more n i xs ys is below = let e = ap (count_less_than n) is in let a = count_less_than-append n xs (i ∷ []) in
-    grind (arith, nat_tests)

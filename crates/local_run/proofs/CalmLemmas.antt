@@ -91,7 +91,8 @@ block_cells main anti b p q main_stays anti_stays part = record {
 -- ---- after cells changed
 -- the blocks without a mark are not those with a cell that changed
 pub still_stable : (main anti : Bool) (b : BlockPlaces) (m m' : BlockMarks) (p q : Planes) →
-    HasWordsStrideRows p.words p.stride p.rows q → ChangesCells main anti b p q → MarksBlocks main anti p.stride b m m' →
+    HasWordsStrideRows p.words p.stride p.rows q → ChangesCells main anti b p q →
+    MarksBlocks main anti p.stride b m m' →
     AreUnmarkedBlocksStable m p → AreUnmarkedBlocksStable m' q
 still_stable main anti b m m' p q size ch marks calm part u is free =
     let count = rw (same_count part p q size) at is.0 in

@@ -13,7 +13,8 @@ use Rattle.local_run.specs.Lanes.{HasWordsStrideRows}
 use Rattle.local_run.specs.Live.{AllUnmarkedDead, AreFirstCellsMarked, AreBlockCellsUnmarked, AreNumberCellsUnmarked}
 use Rattle.local_run.specs.Live.{AreUnmarkedCellsDead, IsDeadCell, IsLone, MarksCellIf, MarksCells, SwapsMarks}
 use Rattle.local_run.specs.Live.{TakesMarkOfOther, UnmarksDeadCells, UnmarksIfDead}
-use Rattle.local_run.specs.Turns.{AntiStays, DiagonalStays, IsStable, MainStays, SameBeside, SwapsDiagonal, SwapsPart, TurnsBlock, TurnsPart}
+use Rattle.local_run.specs.Turns.{AntiStays, DiagonalStays, IsStable, MainStays, SameBeside, SwapsDiagonal, SwapsPart}
+use Rattle.local_run.specs.Turns.{TurnsBlock, TurnsPart}
 use Rattle.local_run.specs.declared.block_marks.BlockMarks.{BlockMarks}
 use Rattle.local_run.specs.declared.blocks.BlockPlaces.{BlockPlaces}
 use Rattle.local_run.specs.declared.blocks.Diagonal.{Diagonal}
@@ -126,7 +127,8 @@ pub swapped_dead : (d : Diagonal) (b : BlockPlaces) (l l' : LiveMarks) (p q : Pl
     AllUnmarkedDead l p → AllUnmarkedDead l' q
 swapped_dead Main b l l' p q size room s m dead =
     rw (size.0, size.1, size.2, s.1, s.2, m.2, m.3) (
-      swap_dead p.words (p.stride * p.rows) b.odd b.even _ _ _ _ _ _ room.3 dead.0 dead.3 m.0 s.0.first_beside s.0.first,
+      swap_dead p.words (p.stride * p.rows) b.odd b.even _ _ _ _ _ _ room.3 dead.0 dead.3 m.0 s.0.first_beside
+          s.0.first,
       dead.1,
       dead.2,
       swap_dead p.words (p.stride * p.rows) b.even b.odd _ _ _ _ _ _ room.0 dead.3 dead.0 m.1 s.0.second_beside

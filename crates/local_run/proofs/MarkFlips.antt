@@ -156,11 +156,6 @@ lacking_bit first second marks u e =
     ∙ true_xor (bit (bit_and a b) (u % 64))
     ∙ ap not (bit-and a b (u % 64))
 
--- a number that lacks no mark
-pub in_both : (first second marks : List ℕ) (u : ℕ) →
-    cell_at marks u ≡ not (cell_at first u && cell_at second u) → IsUnmarked marks u → IsInBoth first second u
-in_both first second marks u e free = grind (arith, common_steps, false≢true)
-
 -- a word without bits
 pub zero_word : (n : ℕ) → n < 2 ^ 64 → ((j : ℕ) → j < 64 → bit n j ≡ false) → n ≡ 0
 zero_word n small none = by_eq_or_not n 0 (λ e. e)

@@ -63,8 +63,10 @@ pub run_turned : (part : Partition) (p q : Planes) (first len end : ℕ) → fir
 run_turned part p q first len end e inside t = record {
   turned = λ n k is l. let b = further part p.stride first in let c = further part p.stride n in
       placed _ _ _ _ _ _ _ _ _ _ _ _ _ _ _ _
-      (further_word p.words _ _ _ first n k b.odd c.odd is.0) (further_word p.words _ _ _ first n k b.right c.right is.0)
-      (further_word p.words _ _ _ first n k b.down c.down is.0) (further_word p.words _ _ _ first n k b.even c.even is.0)
+      (further_word p.words _ _ _ first n k b.odd c.odd is.0)
+      (further_word p.words _ _ _ first n k b.right c.right is.0)
+      (further_word p.words _ _ _ first n k b.down c.down is.0)
+      (further_word p.words _ _ _ first n k b.even c.even is.0)
       (t.turned (p.words * (n - first) + k) (below_end p.words (n - first) len k (omega (arith, is.0, is.1)) l));
   same = λ n k miss l. let b = further part p.stride first in let c = further part p.stride n in
       let out : first ≤ n → n < end → ⊥ = λ g h. miss (g, h, inside n g h) in record {

@@ -44,7 +44,8 @@ MarksSharing part main anti s b old new =
 
 -- so they are at the blocks of both partitions
 abbrev pub MarksBlocks : Bool → Bool → ℕ → BlockPlaces → BlockMarks → BlockMarks → Type 0
-MarksBlocks main anti s b m m' = (part : Partition) → MarksSharing part main anti s b (marks_of part m) (marks_of part m')
+MarksBlocks main anti s b m m' =
+    (part : Partition) → MarksSharing part main anti s b (marks_of part m) (marks_of part m')
 
 -- no mark is taken off but that of one block
 abbrev pub UnmarksBlock : Partition → ℕ → BlockMarks → BlockMarks → Type 0

@@ -58,8 +58,8 @@ impl BlockMarks {
 
     /// Marks the blocks that have no mark among other marks, as far as both reach, and unmarks the others.
     pub fn set_to_unmarked_of(&mut self, other: &BlockMarks)
-        ensures marked { (n : ℕ) → HasRoomForBlockMarks n self.old → HasRoomForBlockMarks n other.now →
-            AreMarkedUnlessIn n other.now self.new }
+        ensures marked { (n : ℕ) → HasRoomForBlockMarks n self.old →
+            HasRoomForBlockMarks n other.now → AreMarkedUnlessIn n other.now self.new }
         ensures room { HasSameBlockRoom self.old self.new }
     {
         set_marks_to_not_both(&mut self.odd, &other.odd, &other.odd);

@@ -229,8 +229,8 @@ impl FrozenBlocks {
             && self.are_blocks_empty(planes)
     }
 
-    // Whether block u of a partition stays if those with marks do, where it has a mark, and has one if it is the last of
-    // its row.
+    // Whether block u of a partition stays if those with marks do, where it has a mark, and has one if it is the last
+    // of its row.
     fn is_mark_correct(&self, planes: &Planes, partition: Partition, u: usize) -> bool
         requires room { HasRoomForMarks self.now planes.now }
         requires place { u < block_count partition planes.now }

@@ -179,8 +179,8 @@ impl MarkedPlanes {
         }
     }
 
-    // Turns a block, unless it stays, and tells whether it turned it. Its words are read only if two of its cells may be
-    // live.
+    // Turns a block, unless it stays, and tells whether it turned it. Its words are read only if two of its cells may
+    // be live.
     #[inline(always)]
     fn turn_block_in_box(&mut self, partition: Partition, u: usize) -> bool
         requires { IsBlock partition self.old.planes u }

@@ -11,8 +11,8 @@ const ENTRY_COUNT: usize = 256;
 
 /// Different wires of a circuit, numbered from 0 in the order in which they were added.
 ///
-/// To look a wire's new number up reads a table. Only if the wire shares its entry with a later one, it is compared with
-/// each of the wires.
+/// To look a wire's new number up reads a table. Only if the wire shares its entry with a later one, it is compared
+/// with each of the wires.
 #[derive(Debug, Drop)]
 pub(crate) struct NumberedWires {
     wires: Vec<u16>,

@@ -58,7 +58,7 @@ fn allows_any_name(ports: &PortNames) -> bool
 }
 
 // Whether the set has the name, which is likely the one of this index: ports mostly come in the order of the circuit.
-fn has_name_near(set: &IndexSet<Name, NameHash>, index: usize, name: &Name) -> bool
+fn has_name_near(set: &IndexSet<Name, Seed>, index: usize, name: &Name) -> bool
     ensures { result ≡ has set.now.keys name.now }
 {
     match set.as_slice().get(index) {

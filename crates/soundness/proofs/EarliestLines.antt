@@ -31,9 +31,6 @@ use Rattle.soundness.proofs.PlainCertificates.{greater, nat_greater}
 at_head : {X : Type 0} (x : X) (xs : List X) → Contains (x ∷ xs) x
 at_head x xs = (zero, omega arith, refl)
 
-in_tail : {X : Type 0} (x y : X) (xs : List X) (k : ℕ) → (lt : suc k < length (x ∷ xs)) → Contains xs y → Contains xs y
-in_tail x y xs k lt h = h
-
 not_mapped : {X Y : Type 0} (f : X → Y) (xs : List X) (y : Y) → ((x : X) → ¬ (f x ≡ y)) → ¬ Contains (map f xs) y
 not_mapped f [] y never h = nothing_in y h
 not_mapped f (x ∷ xs) y never (zero, lt, e) = never x e

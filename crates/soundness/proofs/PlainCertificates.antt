@@ -109,19 +109,6 @@ value_there : (ws : List ℕ) (a k w : ℕ) → AreDifferent ws → slice_get ws
 unfolding inputs_of
 value_there ws a k w different e = ap (bit a) (different (place ws w) k w (place_has ws k w e) e)
 
--- each cut is an input
-some_wire : (P : ℕ → Type 0) (o : Option ℕ) (w : ℕ) → o ≡ Some w → P w → All P (option_to_list o)
-some_wire P None w e h = absurd cc
-some_wire P (Some u) w e h = All-cons P u [] (subst P (sym (same_Some u w e)) h) (All-nil P)
-
-cuts_are_inputs : (lines : List CircuitLine) (m : ModuleLines) → All (IsInputName lines) (cuts m) →
-    All (λ w. w < (netlist_of lines).given) (cut_wires (circuit_of lines) m)
-cuts_are_inputs lines m all =
-    all_flat (λ w. w < (netlist_of lines).given) (λ n. option_to_list (wire_of (circuit_of lines) n)) (cuts m)
-    (λ k n at.
-    let is : IsInputName lines n = at_place (IsInputName lines) (cuts m) k n all at in
-    some_wire (λ w. w < (netlist_of lines).given) (wire_of (circuit_of lines) n) is.wire is.named is.is_given)
-
 -- ---- what is on time keeps the rules on times
 
 last_one : (c : Circuit) (ss : List StopLine) (w s t : ℕ) → IsLastTime c ss w s → IsLastTime c ss w t → s ≡ t

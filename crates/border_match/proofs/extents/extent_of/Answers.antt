@@ -12,7 +12,8 @@ one_more : (P : TimedSignal → Type 0) (events : List TimedSignal) (i : ℕ) (e
     (k : ℕ) (e : TimedSignal) → k < i + 1 → slice_get events k ≡ Some e → P e
 one_more P events i event there holds before k e below got = elim (below_or_same k i below) [
   | inl lower ↦ before k e lower got
-  | inr same ↦ subst P (same_some (slice_get events i) event e there (subst (λ n. slice_get events n ≡ Some e) same got))
+  | inr same ↦ subst P (same_some (slice_get events i) event e there
+      (subst (λ n. slice_get events n ≡ Some e) same got))
       holds
 ]
 

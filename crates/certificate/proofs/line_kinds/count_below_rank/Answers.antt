@@ -12,4 +12,5 @@ returns-clause-place c =
 
 pub returns-then-rank-first-clause-place : goal.returns-then-rank-first-clause-place
 returns-then-rank-first-clause-place c =
-    all_below c.args.first c.args.lines.now c.line.result c.requires (grind (arith, common_steps)) (grind (arith, common_steps))
+    all_below c.args.first c.args.lines.now c.line.result c.requires (grind (arith, common_steps))
+    (grind (arith, common_steps))

@@ -12,8 +12,12 @@ with_edge_events-requires-clause-numbered c =
 pub with_edge_events-requires-clause-extent : goal.with_edge_events-requires-clause-extent
 with_edge_events-requires-clause-extent c =
     c.requires.extents.holds c.args.number _
-    (slice_get-get_or c.args.extents.now c.args.number _ (omega (arith, c.requires.number, c.requires.extents.sized,
-    length-map c.args.self.now.jobs.now arc_value))) c.deref.result.now
+    (slice_get-get_or c.args.extents.now c.args.number _ (omega (
+      arith,
+      c.requires.number,
+      c.requires.extents.sized,
+      length-map c.args.self.now.jobs.now arc_value,
+    ))) c.deref.result.now
     (job_at arc_value c.args.self.now.jobs.now c.args.number _ _ c.requires.number c.deref.ensures)
 
 pub returns : goal.returns

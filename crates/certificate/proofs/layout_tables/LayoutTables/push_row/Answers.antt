@@ -37,7 +37,8 @@ cells-preserved c =
     c.next_named_column-named.ensures.range.0 c.in_ok-push_dead.ensures.starts c.in_ok-push_dead.ensures.demands
     c.next_named_column-named.ensures.starts c.next_named_column-named.ensures.demands tt tt in
     record {
-      from = omega (arith, c.cells.invariant.from, c.next_named_column-named.ensures.range, c.mirrors_end-x.ensures.range);
+      from =
+          omega (arith, c.cells.invariant.from, c.next_named_column-named.ensures.range, c.mirrors_end-x.ensures.range);
       most = c.mirrors_end-x.ensures.range.1;
       added = add_same circuit c.args.self.now.layout c.args.locals.now c.args.lists.now c.push_dead.new.self
           c.push_mirrors.new.self c.args.area.x named c.args.y
