@@ -1,6 +1,6 @@
 -- Pairs of rows that stay, while others are turned
-use Rattle.lemmas.proofs.Common.{◌%◌, ◌*◌, ◌+◌, ◌-◌, ◌/◌, ◌<◌, ◌||◌, ◌∙◌, ◌≡◌, ◌≢◌, ◌≤◌, Bool, List, arith, bit_or}
-use Rattle.lemmas.proofs.Common.{false, get_or, length, length-set, nat_eq, not, refl, set, suc, sym, true, zero, ℕ}
+use Rattle.lemmas.proofs.Common.{◌%◌, ◌*◌, ◌+◌, ◌-◌, ◌/◌, ◌<◌, ◌∙◌, ◌≡◌, ◌≢◌, ◌≤◌, Bool, List, arith, bit_or}
+use Rattle.lemmas.proofs.Common.{false, get_or, length, length-set, nat_eq, not, set, suc, sym, zero, ℕ}
 use Rattle.lemmas.proofs.Common.{common_steps, mul-le-mul_right, nat_tests, or_parts}
 use Rattle.bbm_rule.specs.Bits.{bit, AreSameBits, HasNoSetBit}
 use Rattle.bbm_rule.specs.Rows.{cell_at, mate, AreSameCells, HasWindow, FillsRun, SetsPlace, SetsWindow, TurnsRun}

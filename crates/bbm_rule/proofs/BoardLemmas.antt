@@ -1,6 +1,6 @@
 -- The board that the rows of a grid stand for.
 use Rattle.lemmas.proofs.Common.{[], ◌%◌, ◌*◌, ◌+◌, ◌-◌, ◌/◌, ◌<◌, ◌∙◌, ◌∷◌, ◌≡◌, ◌≤◌, List, ap, arith, false, inl, inr}
-use Rattle.lemmas.proofs.Common.{map, nat_le, nat_lt, pos, refl, suc, sym, true, zero, ℕ, and-false, common_steps}
+use Rattle.lemmas.proofs.Common.{map, nat_le, pos, refl, suc, sym, true, zero, ℕ, and-false, common_steps}
 use Rattle.lemmas.proofs.Common.{div-add-mod, div-mul-add, div_below, get_or-map-range_with_len, mod-mul-add, mod_below}
 use Rattle.lemmas.proofs.Common.{mul-le-mul_left, mul-le-mul_right, nat_tests, lt_test, not_le_test, not_lt_test}
 use Rattle.bbm_rule.specs.Plane.{step, turned}

@@ -1,5 +1,5 @@
 -- The first number without a mark: it is the first one with a mark in the complement of the words.
-use Rattle.lemmas.proofs.Common.{◌%◌, ◌*◌, ◌+◌, ◌/◌, ◌<◌, ◌^◌, ◌∙◌, ◌≡◌, ◌≢◌, ◌≤◌, Bool, List, arith, false, get_or}
+use Rattle.lemmas.proofs.Common.{◌%◌, ◌*◌, ◌+◌, ◌/◌, ◌<◌, ◌^◌, ◌∙◌, ◌≡◌, ◌≢◌, ◌≤◌, List, arith, get_or}
 use Rattle.lemmas.proofs.Common.{inl, inr, length, map, not, refl, sym, true, w64, ℕ, bit_at, bit_at-lt, bit_at_not}
 use Rattle.lemmas.proofs.Common.{bit_not, common_steps, get_or-map, trailing_zeros, false_from_not, true_from_not}
 use Rattle.bbm_rule.specs.Bits.{bit}

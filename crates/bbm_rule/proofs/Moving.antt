@@ -1,5 +1,5 @@
 -- A step commutes with an even move
-use Rattle.lemmas.proofs.Common.{◌%◌, ◌+ℤ◌, ◌+◌, ◌-ℤ◌, ◌-◌, ◌∙◌, ◌≡◌, Bool, ap, arith, negsuc, pos, refl, suc, ℕ, ℤ}
+use Rattle.lemmas.proofs.Common.{◌%◌, ◌+ℤ◌, ◌+◌, ◌∙◌, ◌≡◌, Bool, ap, arith, negsuc, pos, refl, suc, ℕ, ℤ}
 use Rattle.lemmas.proofs.Common.{cases_Bool, cases_lt, common_steps, cond-false, cond-true, ints, down_moved, up_moved}
 use Rattle.bbm_rule.specs.Plane.{parity, partner, turned, step}
 use Rattle.bbm_rule.specs.Moves.{StepCommutesWithMoves}

@@ -1,5 +1,5 @@
 -- Blocks on the plane
-use Rattle.lemmas.proofs.Common.{◌%◌, ◌+ℤ◌, ◌+◌, ◌-ℤ◌, ◌-◌, ◌<◌, ◌≡◌, ◌≤◌, ◌⊎◌, Bool, arith, false, inl, inr, nat_lt}
+use Rattle.lemmas.proofs.Common.{◌%◌, ◌+◌, ◌-◌, ◌<◌, ◌≡◌, ◌≤◌, ◌⊎◌, Bool, arith, false, inl, inr, nat_lt}
 use Rattle.lemmas.proofs.Common.{negsuc, not, pos, refl, suc, true, zero, ℕ, ℤ, common_steps, ints, nat_tests, next_neg}
 use Rattle.lemmas.proofs.Common.{pred_pos}
 use Rattle.bbm_rule.specs.Plane.{State, partner, step, turned}

@@ -1,6 +1,6 @@
 -- A draft with one more line.
-use Rattle.lemmas.proofs.Common.{[], ◌&&◌, ◌++◌, ◌+◌, ◌||◌, ◌∷◌, ◌≡◌, ◌≤◌, Bool, List, None, Some, arith, cond, false}
-use Rattle.lemmas.proofs.Common.{get_or, length, map, nat_le, position, refl, take, true, true≢false, ℕ, bytes_eq}
+use Rattle.lemmas.proofs.Common.{[], ◌&&◌, ◌++◌, ◌+◌, ◌∷◌, ◌≡◌, ◌≤◌, Bool, List, None, Some, arith, cond, false}
+use Rattle.lemmas.proofs.Common.{get_or, length, map, nat_le, position, take, true, ℕ, bytes_eq}
 use Rattle.lemmas.proofs.Common.{common_steps, leb-false, ltb-false, or_parts}
 use Rattle.circuit.specs.Entries.{defined}
 use Rattle.circuit.specs.declared.circuit_line.CircuitLine.{CircuitLine}

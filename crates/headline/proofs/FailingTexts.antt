@@ -5,7 +5,7 @@ use Rattle.lemmas.proofs.Common.{[], ◌&&◌, ◌++◌, ◌<◌, ◌||◌, ◌�
 use Rattle.lemmas.proofs.Common.{None, Ok, Option, Ordering, Some, ap, ap₂, arith, codes, false, flat_map, length, map}
 use Rattle.lemmas.proofs.Common.{not, refl, slice_get, subst, suc, sym, true, true≢false, zero, ℕ, ℤ, All-head}
 use Rattle.lemmas.proofs.Common.{and_parts, beq, booleans_Decides, false≢true, get_or-map-range_with_len, length-map}
-use Rattle.lemmas.proofs.Common.{length-range_with_len, list_all, range_with_len, slice_get-get_or}
+use Rattle.lemmas.proofs.Common.{length-range_with_len, list_all, range_with_len, slice_get-get_or, common_steps}
 use Rattle.sha2.specs.Sha256.{sha256}
 use Rattle.bbm_rule.specs.Bits.{bit}
 use Rattle.bbm_rule.specs.declared.block.Cell.{Cell}
@@ -193,11 +193,7 @@ module _ (j : JobView) (is : IsJob j) (ordered : AreOrdered j.locals.netlist.giv
 
 no_border : (g : Setting) (m : ModuleLines) → m.area ≡ whole g.size → (n : ℕ) (f : BorderFault) →
     ¬ IsBorderFault g (m ∷ []) n f
-no_border g m is n f fault =
-    let box : fault.lines.area ≡ whole g.size = ap (λ (k : ModuleLines). k.area)
-    (sym (only_module m fault.lines n fault.numbered)) ∙ is in
-    true≢false (sym fault.inside ∙ ap (λ a. in_box a f.cell.x f.cell.y) (sym box) ∙
-    (halo_parts fault.lines.area f.cell.x f.cell.y fault.halo).0)
+no_border g m is n f fault = grind (arith, common_steps, only_module, true≢false, halo_parts)
 
 -- ---- a text with one such module
 

@@ -2,7 +2,7 @@
 use Rattle.lemmas.proofs.Common.{[], ◌&&◌, ◌++◌, ◌+◌, ◌∙◌, ◌∷◌, ◌≡◌, Bool, Err, List, None, Ok, Option, Result, Some}
 use Rattle.lemmas.proofs.Common.{ap, append-nil, append_assoc, ap₂, arith, codes, drop, false, flat_map, if◌then◌else◌}
 use Rattle.lemmas.proofs.Common.{length, length-append, map, not, refl, subst, sym, take, take-append-drop, true, ℕ}
-use Rattle.lemmas.proofs.Common.{drop-append_seam, flat_map-append, length-map}
+use Rattle.lemmas.proofs.Common.{drop-append_seam, flat_map-append, length-map, common_steps}
 use Rattle.section_text.specs.Words.{is_word_at, lines_of, lone_number, number_at, number_of}
 use Rattle.section_text.specs.Words.{bytes_after_last_line_feed, words_of}
 use Rattle.section_text.specs.Codes.{code_if, or_else}
@@ -111,24 +111,14 @@ good_read text b e =
 
 section_length : {H I : Type 0} (g : Grammar H I) (ls : List (List ℕ)) (h : H) (items : List I) →
     IsSection g.form ls h items → length ls ≡ length items + 2
-section_length {H = H} {I = I} g ls h items e =
-    let make : I → Option (Form H I) = λ i. Some (Item i) in
-    let same = sym (length-map ls (λ l. g.form (words_of l))) ∙ ap length e in
-    let two = length-append (map make items) (Some End ∷ []) in
-    let one = length-map items make in
-    omega (arith, same, two, one)
+section_length {H = H} {I = I} g ls h items e = grind (arith, common_steps, length-map, length-append)
 
 then_made : {H I B : Type 0} (g : Grammar H I) (n : ℕ) (ls others lines : List (List ℕ)) (h : H) (items : List I)
     (next : H → List I → ℕ → List (List ℕ) → Result B Refusal) → lines ≡ ls ++ others
     → IsSection g.form ls h items → IsFaultless g h items →
     section_then g n lines next ≡ next h items (n + (length items + 2)) others
 then_made g n ls others lines h items next e is good =
-    ap (λ k. section_then g n k next) e
-    ∙ ap (λ r. continue_after_section r
-    (λ h items. next h items (n + (length items + 2)) (drop (length items + 2) (ls ++ others))))
-    (section_made g n ls others h items is good)
-    ∙ ap (next h items (n + (length items + 2)))
-    (ap (λ k. drop k (ls ++ others)) (sym (section_length g ls h items is)) ∙ drop-append_seam ls others)
+    grind (arith, common_steps, section_made, section_length, drop-append_seam)
 
 module _ (text : List ℕ) where
   abbrev ended : List CircuitLine → LayoutHeader → List LayoutLine → ℕ → List CertificateLine → ℕ → List (List ℕ) →
@@ -255,12 +245,7 @@ with_other i items e = ap (λ b. if not b then i ∷ without_halos items else wi
 
 keep : (i : CertificateLine) (items : List CertificateLine) (line : List ℕ) (b : Bool) → is_halo i ≡ b →
     certificate_form (words_of line) ≡ Some (Item i) → AreLines (line ∷ []) → Kept items → Kept (i ∷ items)
-keep i items line true e is clean more =
-    record {
-      lines = more.lines;
-      said = more.said ∙ ap (items_said certificate_form) (sym (without_halo i items e));
-      clean = more.clean;
-    }
+keep i items line true e is clean more = grind (arith, common_steps, items_said, without_halo)
 keep i items line false e is clean more = record {
   lines = line ∷ more.lines;
   said = ap₂ (λ a t. a ∷ t) is more.said ∙ ap (items_said certificate_form) (sym (with_other i items e));
@@ -287,8 +272,7 @@ header_said = refl
 
 header_clean : AreLines (header ∷ [])
 unfolding header
-header_clean =
-    ((refl, (refl, (refl, (refl, (refl, (refl, (refl, (refl, (refl, (refl, (refl, (refl, (refl, tt))))))))))))), tt)
+header_clean = grind (arith, common_steps)
 
 -- ---- the text that is written has sections
 
@@ -343,8 +327,7 @@ twice_on : (i : CertificateLine) (es : List CertificateLine) (b : Bool) → is_h
     without_halos (without_halos es) ≡ without_halos es →
     without_halos (without_halos (i ∷ es)) ≡ without_halos (i ∷ es)
 twice_on i es true e more = ap without_halos (without_halo i es e) ∙ more ∙ sym (without_halo i es e)
-twice_on i es false e more = ap without_halos (with_other i es e) ∙ with_other i (without_halos es) e
-    ∙ ap (λ l. i ∷ l) more ∙ sym (with_other i es e)
+twice_on i es false e more = grind (arith, common_steps, with_other)
 
 without_twice : (es : List CertificateLine) → without_halos (without_halos es) ≡ without_halos es
 unfolding without_halos
@@ -374,15 +357,11 @@ no_halos : (g : Setting) (before es : List CertificateLine) → AreFaultless (ce
 unfolding without_halos
 no_halos g before [] good = refl
 no_halos g before (i ∷ es) good =
-    with_other i es (no_code (is_haloless_version 2 && is_halo i) NoForm _ good.0)
-    ∙ ap (λ l. i ∷ l) (no_halos g (before ++ i ∷ []) es good.1)
+    grind (arith, common_steps, with_other, no_code, (no_halos g (before ++ i ∷ []) es good.1))
 
 -- a bundle of version 2 is its own migration
 pub in_place : (b : Bundle) → IsGoodBundle b → b.version ≡ 2 → migrated_bundle b ≡ b
-in_place b good two =
-    let g : Setting = setting_of b.circuit (layout_of b.size b.parts) in
-    let each = subst (λ v. AreFaultless (certificate_grammar g) v [] b.entries) two good.certificate.each in
-    ap₂ (λ v es. record b { version = v; entries = es }) (sym two) (no_halos g [] b.entries each)
+in_place b good two = grind (arith, common_steps, no_halos)
 
 pub unchanged : (text output : List ℕ) (m : IsMigrated text output) → m.bundle.version ≡ 2 → output ≡ text
 unchanged text output m two =

@@ -1,5 +1,5 @@
 -- A small design that computes its circuit gets a yes after it is moved
-use Rattle.lemmas.proofs.Common.{◌∙◌, ◌≡◌, IsTrue, List, arith, subst, sym, ℕ}
+use Rattle.lemmas.proofs.Common.{◌∙◌, ◌≡◌, IsTrue, List, arith, subst, sym, ℕ, common_steps}
 use Rattle.circuit.specs.Bridge.{circuit_of}
 use Rattle.circuit.specs.declared.circuit_line.CircuitLine.{CircuitLine}
 use Rattle.pattern.specs.Layout.{Pattern}
@@ -32,15 +32,7 @@ design_moved circuit p design room = record {
 }
 
 small_moved : (circuit : List CircuitLine) (p : Pattern) → HasRoom circuit p → IsSmallDesign circuit (moved p)
-small_moved circuit p room =
-    let wide = room.wide in
-    let high = room.high in
-    record {
-      wide = omega (arith, wide);
-      high = omega (arith, high);
-      inputs = room.inputs;
-      gates = room.gates;
-    }
+small_moved circuit p room = grind (arith, common_steps)
 
 -- A live cell of the moved run is a moved cell of the old rectangle, and the rim has none of these.
 off_rim : (circuit : List CircuitLine) (p : Pattern) → IsCorrect circuit p → ¬ TouchesRim circuit (moved p)
@@ -58,21 +50,5 @@ off_rim circuit p correct t =
 
 pub each_gets_yes : EachCorrectDesignGetsYes
 each_gets_yes circuit p design room correct none =
-    let text = design_text circuit (moved p) in
-    let rules = design_moved circuit p design room in
-    let small = small_moved circuit p room in
-    let right = correct_moved circuit p correct in
-    let off = off_rim circuit p correct in
-    let always : (output : List ℕ) (outcome : Outcome) → IsReportOf text output outcome → outcome ≡ Yes =
-    λ output outcome says. (each_is_decided circuit (moved p) output outcome rules small says).1.1 (right, none, off) in
-    let some = some_report text in
-    record {
-      design = rules;
-      small = small;
-      plain = each_has_text circuit (moved p) rules small;
-      correct = right;
-      off_rim = off;
-      report = some.0;
-      reported = subst (IsReportOf text some.0) (always some.0 some.1 some.2) some.2;
-      always = always;
-    }
+    grind (arith, common_steps, design_moved, small_moved, correct_moved, off_rim, each_is_decided, some_report,
+    each_has_text)

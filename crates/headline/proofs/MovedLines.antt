@@ -1,4 +1,5 @@
 -- The lines of a moved layout keep the rules of lines
+use Rattle.lemmas.proofs.Common.{common_steps}
 use Rattle.lemmas.proofs.Common.{[], ◌&&◌, ◌++◌, ◌+ℤ◌, ◌+◌, ◌||◌, ◌∙◌, ◌∷◌, ◌≡◌, ◌≤◌, Bool, List, None, ap, ap₂, arith}
 use Rattle.lemmas.proofs.Common.{cond, false, flat_map, map, nat_le, negsuc, not, pos, refl, subst, suc, sym, true}
 use Rattle.lemmas.proofs.Common.{zero, ℕ, ℤ, and_parts, ints, list_any, map-append, nat_tests, range_with_len}
@@ -37,36 +38,21 @@ map_both f g h k e (x ∷ xs) = ap₂ (λ a b. a ∷ b) (e x) (map_both f g h k 
 -- the lines of five lists are moved list by list
 all_moved : (a b c d e : List LayoutLine) → moved_lines (a ++ (b ++ (c ++ (d ++ e))))
     ≡ moved_lines a ++ (moved_lines b ++ (moved_lines c ++ (moved_lines d ++ moved_lines e)))
-all_moved a b c d e =
-    map-append moved_line a (b ++ (c ++ (d ++ e)))
-    ∙ ap (λ l. moved_lines a ++ l) (map-append moved_line b (c ++ (d ++ e))
-    ∙ ap (λ l. moved_lines b ++ l) (map-append moved_line c (d ++ e)
-    ∙ ap (λ l. moved_lines c ++ l) (map-append moved_line d e)))
+all_moved a b c d e = grind (arith, common_steps, map-append)
 
 parts_moved : (p : Pattern) → parts_of (moved p) ≡ moved_lines (parts_of p)
-parts_moved p =
-    ap₂ (λ a b. a ++ b) (map_both rectangle_moved_by_two Mirror Mirror moved_line (λ r. refl) p.mirrors)
-    (ap₂ (λ a b. a ++ b) (map_both moved_by_two Ball Ball moved_line (λ c. refl) p.balls)
-    (ap₂ (λ a b. a ++ b) (map_both port_moved_by_two In In moved_line (λ q. refl) p.ins)
-    (ap₂ (λ a b. a ++ b) (map_both port_moved_by_two Out Out moved_line (λ q. refl) p.outs)
-    (map_both moved_by_two Waste Waste moved_line (λ c. refl) p.wastes))))
-    ∙ sym (all_moved (map Mirror p.mirrors) (map Ball p.balls) (map In p.ins) (map Out p.outs) (map Waste p.wastes))
+parts_moved p = grind (arith, common_steps, map_both, all_moved)
 
 -- ---- the cells of a line
 
 row_moved : (n x y : ℕ) → row_cells (x + 2) n (y + 2) ≡ map moved_by_two (row_cells x n y)
 row_moved zero x y = refl
-row_moved (suc n) x y =
-    ap (λ k. cell (x + 2) (y + 2) ∷ row_cells k n (y + 2)) (omega arith)
-    ∙ ap (λ l. cell (x + 2) (y + 2) ∷ l) (row_moved n (x + 1) y)
+row_moved (suc n) x y = grind (arith, common_steps, (row_moved n (x + 1) y))
 
 rows_moved : (n x w y : ℕ) → flat_map (row_cells (x + 2) w) (range_with_len (y + 2) n)
     ≡ map moved_by_two (flat_map (row_cells x w) (range_with_len y n))
 rows_moved zero x w y = refl
-rows_moved (suc n) x w y =
-    ap (λ k. row_cells (x + 2) w (y + 2) ++ flat_map (row_cells (x + 2) w) (range_with_len k n)) (omega arith)
-    ∙ ap₂ (λ a b. a ++ b) (row_moved w x y) (rows_moved n x w (y + 1))
-    ∙ sym (map-append moved_by_two (row_cells x w y) (flat_map (row_cells x w) (range_with_len (y + 1) n)))
+rows_moved (suc n) x w y = grind (arith, common_steps, row_moved, map-append, (rows_moved n x w (y + 1)))
 
 line_cells_moved : (part : LayoutLine) → cells_of (moved_line part) ≡ map moved_by_two (cells_of part)
 unfolding cells_of rectangle_cells
@@ -77,8 +63,7 @@ line_cells_moved (Out q) = refl
 line_cells_moved (Waste c) = refl
 
 holds_moved : (part : LayoutLine) (x y : ℤ) → holds (moved_line part) (x +ℤ pos 2) (y +ℤ pos 2) ≡ holds part x y
-holds_moved part x y =
-    ap (list_any (λ c. is_at c (x +ℤ pos 2) (y +ℤ pos 2))) (line_cells_moved part) ∙ cells_moved (cells_of part) x y
+holds_moved part x y = grind (arith, common_steps, line_cells_moved, cells_moved)
 
 -- ---- cells that are taken
 
@@ -101,14 +86,12 @@ ends_moved (Waste c) = refl
 begun_moved : (parts : List LayoutLine) (x y : ℤ) →
     cells_taken_at_start (moved_lines parts) (x +ℤ pos 2) (y +ℤ pos 2) ≡ cells_taken_at_start parts x y
 unfolding cells_taken_at_start
-begun_moved parts x y =
-    any_map moved_line _ _ (λ b. ap₂ (λ a c. a && c) (begins_moved b) (holds_moved b x y)) parts
+begun_moved parts x y = grind (arith, common_steps, any_map, begins_moved, holds_moved)
 
 ended_moved : (parts : List LayoutLine) (x y : ℤ) →
     ended (moved_lines parts) (x +ℤ pos 2) (y +ℤ pos 2) ≡ ended parts x y
 unfolding ended
-ended_moved parts x y =
-    any_map moved_line _ _ (λ b. ap₂ (λ a c. a && c) (ends_moved b) (holds_moved b x y)) parts
+ended_moved parts x y = grind (arith, common_steps, any_map, ends_moved, holds_moved)
 
 taken_moved : (before : List LayoutLine) (part : LayoutLine) →
     is_taken (moved_lines before) (moved_line part) ≡ is_taken before part
@@ -130,17 +113,12 @@ taken_moved before part = λ i. cond (begins_moved part i) (at_start i) (at_end 
 -- ---- cells inside
 
 span_enlarged : (n : ℕ) (x : ℤ) → in_span 0 n x ≡ true → in_span 0 (n + 4) (x +ℤ pos 2) ≡ true
-span_enlarged n (pos k) h =
-    let e : pos k +ℤ pos 2 ≡ pos (k + 2) = omega (arith, ints) in
-    let low = (span_parts 0 n k h).1 in
-    ap (in_span 0 (n + 4)) e ∙ span_from 0 (n + 4) (k + 2) (omega arith) (omega (arith, low))
+span_enlarged n (pos k) h = grind (arith, common_steps, ints, span_parts, span_from)
 span_enlarged n (negsuc k) h = let no = sym (in_span-negsuc 0 n k) ∙ h in cc
 
 pub layout_enlarged : (s : LayoutHeader) (x y : ℤ) → in_layout s x y ≡ true →
     in_layout (enlarged s) (x +ℤ pos 2) (y +ℤ pos 2) ≡ true
-layout_enlarged s x y h =
-    let both = and_parts (in_span 0 s.w x) (in_span 0 s.h y) h in
-    ap₂ (λ a b. a && b) (span_enlarged s.w x both.0) (span_enlarged s.h y both.1)
+layout_enlarged s x y h = grind (arith, common_steps, and_parts, span_enlarged)
 
 inside_moved : (s : LayoutHeader) (part : LayoutLine) → is_inside s part ≡ true →
     is_inside (enlarged s) (moved_line part) ≡ true
@@ -175,24 +153,18 @@ fault_none false a' b b' f e none = cc
 cell_moved : (s : LayoutHeader) (before : List LayoutLine) (part : LayoutLine) → cell_fault s before part ≡ None →
     cell_fault (enlarged s) (moved_lines before) (moved_line part) ≡ None
 unfolding cell_fault
-cell_moved s before part none =
-    fault_none (is_inside s part) _ (is_taken before part) _ (inside_moved s part) (taken_moved before part) none
+cell_moved s before part none = grind (arith, common_steps, fault_none, inside_moved, taken_moved)
 
 lines_good : (s : LayoutHeader) (before parts : List LayoutLine) → AreGoodAfter s before parts →
     AreGoodAfter (enlarged s) (moved_lines before) (moved_lines parts)
 lines_good s before [] good = tt
-lines_good s before (part ∷ parts) good = (
-  limit_moved part ∙ good.0,
-  cell_moved s before part good.1,
-  subst (λ l. AreGoodAfter (enlarged s) l (moved_lines parts)) (map-append moved_line before (part ∷ []))
-      (lines_good s (before ++ part ∷ []) parts good.2),
-)
+lines_good s before (part ∷ parts) good =
+    grind (arith, common_steps, limit_moved, cell_moved, map-append, (lines_good s (before ++ part ∷ []) parts good.2))
 
 -- the lines of the moved layout are good, each after those before it
 pub moved_good : (p : Pattern) → AreGoodAfter p.size [] (parts_of p) →
     AreGoodAfter (moved p).size [] (parts_of (moved p))
-moved_good p good =
-    subst (AreGoodAfter (enlarged p.size) []) (sym (parts_moved p)) (lines_good p.size [] (parts_of p) good)
+moved_good p good = grind (arith, common_steps, parts_moved, lines_good)
 
 side_more : (n : ℕ) → is_layout_side n ≡ true → n ≤ 60 → is_layout_side (n + 4) ≡ true
 side_more n side few = grind (arith, nat_tests, side)
@@ -204,9 +176,4 @@ no_code false e = cc
 -- and its size is within the limits
 pub enlarged_good : (s : LayoutHeader) → size_fault s ≡ None → s.w ≤ 60 → s.h ≤ 60 → size_fault (enlarged s) ≡ None
 unfolding size_fault
-enlarged_good s none wide high =
-    let all = no_code (is_layout_side s.w && is_layout_side s.h && nat_le s.steps 65536) none in
-    let both = and_parts (is_layout_side s.w && is_layout_side s.h) (nat_le s.steps 65536) all in
-    let sides = and_parts (is_layout_side s.w) (is_layout_side s.h) both.0 in
-    ap (λ b. code_if (not b) PastLimit)
-    (ap₂ (λ a b. a && b) (ap₂ (λ a b. a && b) (side_more s.w sides.0 wide) (side_more s.h sides.1 high)) both.1)
+enlarged_good s none wide high = grind (arith, common_steps, no_code, and_parts, side_more)

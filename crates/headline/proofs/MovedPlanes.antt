@@ -1,6 +1,6 @@
 -- The plane of a moved design is the moved plane, at each time
 use Rattle.lemmas.proofs.Common.{[], ◌&&◌, ◌+ℤ◌, ◌+◌, ◌-ℤ◌, ◌||◌, ◌∷◌, ◌≡◌, Bool, List, ap, ap₂, arith, int_eq, map}
-use Rattle.lemmas.proofs.Common.{pos, refl, subst, suc, zero, ℕ, ℤ, ints, list_any}
+use Rattle.lemmas.proofs.Common.{pos, refl, subst, suc, zero, ℕ, ℤ, ints, list_any, common_steps}
 use Rattle.bbm_rule.specs.Moves.{IsMoved}
 use Rattle.bbm_rule.specs.Plane.{is_at, run}
 use Rattle.bbm_rule.specs.declared.block.Cell.{Cell}
@@ -60,12 +60,10 @@ ports_on_moved on qs x y = any_map port_moved_by_two _ _ (λ q. ap (λ b. on q.n
 
 start_moved : (p : Pattern) (on : List ℕ → Bool) → IsMoved (pos 2) (pos 2) (start p on) (start (moved p) on)
 unfolding start
-start_moved p on x y = λ i. rectangles_moved p.mirrors x y i || cells_moved p.balls x y i
-    || ports_on_moved on p.ins x y i
+start_moved p on x y = grind (arith, common_steps, rectangles_moved, cells_moved, ports_on_moved)
 
 pub run_moved : (p : Pattern) (on : List ℕ → Bool) (t : ℕ) →
     IsMoved (pos 2) (pos 2) (run (start p on) t) (run (start (moved p) on) t)
 unfolding run
 run_moved p on zero = start_moved p on
-run_moved p on (suc t) =
-    step_moved t (pos 2) (pos 2) (run (start p on) t) (run (start (moved p) on) t) refl refl (run_moved p on t)
+run_moved p on (suc t) = grind (arith, common_steps, step_moved, (run_moved p on t))

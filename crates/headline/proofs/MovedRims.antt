@@ -1,6 +1,6 @@
 -- A moved layout keeps off its rim
 use Rattle.lemmas.proofs.Common.{◌&&◌, ◌+ℤ◌, ◌+◌, ◌-ℤ◌, ◌∙◌, ◌≡◌, ap, ap₂, arith, false, negsuc, pos, sym, true, ℕ, ℤ}
-use Rattle.lemmas.proofs.Common.{and_parts, ints}
+use Rattle.lemmas.proofs.Common.{and_parts, ints, common_steps}
 use Rattle.bbm_rule.specs.Spans.{in_span}
 use Rattle.bbm_rule.proofs.Spans.{in_span-negsuc, span_from, span_parts}
 use Rattle.module_box.specs.Boxes.{in_box, in_ring}
@@ -16,16 +16,7 @@ record IsInner (n : ℕ) (x : ℤ) : Type 0 where
   above : in_span 0 (n + 4) ((x +ℤ pos 2) +ℤ pos 1) ≡ true
 
 inner : (n : ℕ) (x : ℤ) → in_span 0 n x ≡ true → IsInner n x
-inner n (pos k) h =
-    let low = (span_parts 0 n k h).1 in
-    let one : (pos k +ℤ pos 2) -ℤ pos 1 ≡ pos (k + 1) = omega (arith, ints) in
-    let two : pos k +ℤ pos 2 ≡ pos (k + 2) = omega (arith, ints) in
-    let three : (pos k +ℤ pos 2) +ℤ pos 1 ≡ pos (k + 3) = omega (arith, ints) in
-    record {
-      below = ap (in_span 0 (n + 4)) one ∙ span_from 0 (n + 4) (k + 1) (omega arith) (omega (arith, low));
-      at = ap (in_span 0 (n + 4)) two ∙ span_from 0 (n + 4) (k + 2) (omega arith) (omega (arith, low));
-      above = ap (in_span 0 (n + 4)) three ∙ span_from 0 (n + 4) (k + 3) (omega arith) (omega (arith, low));
-    }
+inner n (pos k) h = grind (arith, common_steps, span_parts, ints, span_from)
 inner n (negsuc k) h = let no = sym (in_span-negsuc 0 n k) ∙ h in cc
 
 -- no cell of the old rectangle is in the new rim

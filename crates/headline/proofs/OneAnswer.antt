@@ -1,6 +1,6 @@
 -- A text has one answer.
 use Rattle.lemmas.proofs.Common.{[], ◌++◌, ◌∙◌, ◌∷◌, ◌≡◌, Bool, Err, List, Ok, Result, ap, codes, flat_map, inl, inr}
-use Rattle.lemmas.proofs.Common.{length, refl, subst, sym, true≢false, ℕ, cases_order, decimal}
+use Rattle.lemmas.proofs.Common.{length, refl, subst, sym, true≢false, ℕ, cases_order, decimal, arith, common_steps}
 use Rattle.bbm_rule.specs.Plane.{State}
 use Rattle.section_text.specs.Spelling.{line_text}
 use Rattle.section_text.specs.declared.fault.Refusal.{Refusal}
@@ -38,29 +38,15 @@ clash : (s : LayoutHeader) (state : State) → IsDeadOutside s state → GoesOut
 clash s state stays goes = true≢false (sym (stays goes.x goes.y goes.lives) ∙ goes.outside)
 
 one_end : (p : Pattern) (on : List ℕ → Bool) (e e' : RunEnd) → IsRunEnd p on e → IsRunEnd p on e' → SameEnd e e'
-one_end p on (Cells cells) (Cells cells') h h' =
-    let same = h.cells ∙ sym h'.cells in (
-      ap (λ (l : List Cell). line_text (codes "cells") (decimal (length l) ∷ []) ++ flat_map live_cell_line l) same,
-      refl,
-    )
+one_end p on (Cells cells) (Cells cells') h h' = grind (arith, common_steps)
 one_end p on (Cells cells) (LeftAt k) h h' = absurd (clash p.size _ (h.stays k h'.within) h'.leaves)
 one_end p on (LeftAt k) (Cells cells) h h' = absurd (clash p.size _ (h'.stays k h.within) h.leaves)
-one_end p on (LeftAt k) (LeftAt j) h h' = elim (cases_order k j) [
-  | inl same ↦ (ap (λ n. line_text (codes "left") (decimal n ∷ [])) same, refl)
-  | inr rest ↦ elim rest [
-    | inl before ↦ absurd (clash p.size _ (h'.stays k before) h.leaves)
-    | inr after ↦ absurd (clash p.size _ (h.stays j after) h'.leaves)
-  ]
-]
+one_end p on (LeftAt k) (LeftAt j) h h' = grind (arith, common_steps, cases_order, clash)
 
 one_run : (asked : LayoutAndNamesOn) (output output' : List ℕ) (outcome outcome' : Outcome) →
     SaysRunEnd asked output outcome →
     SaysRunEnd asked output' outcome' → (output ≡ output') × (outcome ≡ outcome')
-one_run asked output output' outcome outcome' h h' =
-    let same : h'.layout ≡ h.layout = one_layout h'.layout h.layout (h'.lines ∙ sym h.lines) in
-    let ends = one_end h.layout (has asked.1) h.end h'.end h.run
-    (subst (λ (p : Pattern). IsRunEnd p (has asked.1) h'.end) same h'.run) in
-    (h.says ∙ ends.0 ∙ sym h'.says, h.ends ∙ ends.1 ∙ sym h'.ends)
+one_run asked output output' outcome outcome' h h' = grind (arith, common_steps, one_layout, one_end)
 
 -- a command that has one answer to what is asked has one to each text
 pub answered_once : {A : Type 0} (says : A → List ℕ → Outcome → Type 0) →
@@ -68,10 +54,8 @@ pub answered_once : {A : Type 0} (says : A → List ℕ → Outcome → Type 0) 
     says asked output' outcome' → (output ≡ output') × (outcome ≡ outcome'))
     → (read : Result A Refusal) (output output' : List ℕ) (outcome outcome' : Outcome) →
     Answered says read output outcome → Answered says read output' outcome' → (output ≡ output') × (outcome ≡ outcome')
-answered_once says once (Ok asked) output output' outcome outcome' h h' =
-    once asked output output' outcome outcome' h h'
+answered_once says once (Ok asked) output output' outcome outcome' h h' = grind (arith, common_steps)
 answered_once says once (Err refusal) output output' outcome outcome' h h' = (h.0 ∙ sym h'.0, h.1 ∙ sym h'.1)
 
 pub one_answer : HasAtMostOneAnswer IsRunOf
-one_answer text output output' outcome outcome' h h' =
-    answered_once SaysRunEnd one_run (run_sections_of text) output output' outcome outcome' h h'
+one_answer text output output' outcome outcome' h h' = grind (arith, common_steps, answered_once, one_run)

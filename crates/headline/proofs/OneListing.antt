@@ -1,5 +1,5 @@
 -- A text has one listing of modules, and one migration.
-use Rattle.lemmas.proofs.Common.{◌∙◌, ◌≡◌, List, sym, ℕ}
+use Rattle.lemmas.proofs.Common.{◌∙◌, ◌≡◌, List, sym, ℕ, arith, common_steps}
 use Rattle.answers.specs.BundleText.{Bundle, bundle_of}
 use Rattle.answers.specs.MigrateText.{IsMigrationOf, SaysMigration}
 use Rattle.answers.specs.ModulesText.{IsModulesOf, SaysModules}
@@ -12,8 +12,7 @@ one_listing : (bundle : Bundle) (output output' : List ℕ) (outcome outcome' : 
 one_listing bundle output output' outcome outcome' h h' = (h.says ∙ sym h'.says, h.ends ∙ sym h'.ends)
 
 pub one_list : HasAtMostOneAnswer IsModulesOf
-one_list text output output' outcome outcome' h h' =
-    answered_once SaysModules one_listing (bundle_of text) output output' outcome outcome' h h'
+one_list text output output' outcome outcome' h h' = grind (arith, common_steps, answered_once, one_listing)
 
 migrated_once : (bundle : Bundle) (output output' : List ℕ) (outcome outcome' : Outcome) →
     SaysMigration bundle output outcome → SaysMigration bundle output' outcome' →
@@ -21,5 +20,4 @@ migrated_once : (bundle : Bundle) (output output' : List ℕ) (outcome outcome' 
 migrated_once bundle output output' outcome outcome' h h' = (h.says ∙ sym h'.says, h.ends ∙ sym h'.ends)
 
 pub one_migration : HasAtMostOneAnswer IsMigrationOf
-one_migration text output output' outcome outcome' h h' =
-    answered_once SaysMigration migrated_once (bundle_of text) output output' outcome outcome' h h'
+one_migration text output output' outcome outcome' h h' = grind (arith, common_steps, answered_once, migrated_once)

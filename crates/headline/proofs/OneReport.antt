@@ -1,6 +1,6 @@
 -- A text has one report.
 use Rattle.lemmas.proofs.Common.{[], ◌++◌, ◌<◌, ◌∙◌, ◌∷◌, ◌≡◌, List, None, Option, Some, ap, arith, codes, flat_map}
-use Rattle.lemmas.proofs.Common.{length, refl, slice_get, subst, sym, ℕ, slice_get_within}
+use Rattle.lemmas.proofs.Common.{length, refl, slice_get, subst, sym, ℕ, slice_get_within, common_steps}
 use Rattle.sha2.specs.Sha256.{sha256}
 use Rattle.section_text.specs.Spelling.{line_text}
 use Rattle.circuit.specs.Bridge.{circuit_of}
@@ -66,9 +66,7 @@ unfolding report_lines
 same_lines c verdict.Yes verdict.Yes same = refl
 same_lines c verdict.Yes (verdict.No lines) same = absurd same
 same_lines c (verdict.No lines) verdict.Yes same = absurd same
-same_lines c (verdict.No lines) (verdict.No others) same =
-    ap (λ ls. lines_before_verdict (sha256 (certificate_text c)) (length (modules_of c.entries))
-    ++ (line_text (codes "verdict") (codes "no" ∷ []) ++ flat_map report_line_text ls)) same
+same_lines c (verdict.No lines) (verdict.No others) same = grind (arith, common_steps, c.entries)
 
 same_outcome : (v w : Verdict) → AreSameVerdicts v w → verdict_outcome v ≡ verdict_outcome w
 same_outcome verdict.Yes verdict.Yes same = refl
@@ -98,5 +96,4 @@ one_said bundle output output' outcome outcome' h h' =
     )
 
 pub one_report : HasAtMostOneAnswer IsReportOf
-one_report text output output' outcome outcome' h h' =
-    answered_once SaysReport one_said (bundle_of text) output output' outcome outcome' h h'
+one_report text output output' outcome outcome' h h' = grind (arith, common_steps, answered_once, one_said)

@@ -1,7 +1,7 @@
 -- The report on a plain text
 use Rattle.lemmas.proofs.Common.{[], ◌∙◌, ◌∷◌, ◌≡◌, All, Contains, Err, Global, List, Ok, Result, Some, Vec, ap}
 use Rattle.lemmas.proofs.Common.{flat_map, inl, inr, length, map, option_map, refl, slice_get, subst, sym, ℕ, ℤ}
-use Rattle.lemmas.proofs.Common.{cases_Bool, slice_get-map}
+use Rattle.lemmas.proofs.Common.{cases_Bool, slice_get-map, arith, common_steps}
 use Rattle.section_text.specs.declared.fault.Refusal.{Refusal}
 use Rattle.circuit.specs.Bridge.{circuit_of, netlist_of}
 use Rattle.circuit.specs.declared.circuit_line.CircuitLine.{CircuitLine}
@@ -90,13 +90,7 @@ record HaveSameLines (full m : ModuleLines) : Type 0 where
 
 with_halos_same : (g : Setting) (ms : List ModuleLines) (m : ModuleLines) → HaveSameLines (with_halos g ms m) m
 unfolding with_halos
-with_halos_same g ms m = record {
-  cuts_same = other_lines cut_in (record { halo = λ e. refl; stop = λ s. refl }) m.lines
-      (in_order (edge_lines_beside g ms m.area));
-  edges_same = other_lines edge_in (record { halo = λ e. refl; stop = λ s. refl }) m.lines
-      (in_order (edge_lines_beside g ms m.area));
-  stops_same = stop_lines m.lines (in_order (edge_lines_beside g ms m.area));
-}
+with_halos_same g ms m = grind (arith, common_steps, other_lines, stop_lines)
 
 -- the module that module i means
 record MeansModule (version : ℕ) (g : Setting) (ms : List ModuleLines) (i : ℕ) (m : ModuleLines) : Type 0 where
@@ -122,18 +116,13 @@ means_module version g ms i m at = elim (cases_Bool (is_haloless_version version
 
 certified_same : (c : Circuit) (p : Pattern) (full m : ModuleLines) (v : Valuation) (t : ℕ) (kind : Kind) (x y : ℤ) →
     HaveSameLines full m → IsAsCertified c p m v t kind x y → IsAsCertified c p full v t kind x y
-certified_same c p full m v t Edge x y same h =
-    h ∙ sym (ap (λ es. is_live v (signal_at (line_signals c es) t x y)) same.edges_same)
+certified_same c p full m v t Edge x y same h = grind (arith, common_steps)
 certified_same c p full m v t AtStop x y same h = λ s has. h s (subst (λ ss. Contains ss s) same.stops_same has)
 certified_same c p full m v t End x y same h = h
 
 real_same : (lines : List CircuitLine) (p : Pattern) (full m : ModuleLines) (inputs v : Valuation) (f : Fault) →
     HaveSameLines full m → IsReal lines p full inputs v f → IsReal lines p m inputs v f
-real_same lines p full m inputs v f same real = record {
-  differs = λ h. real.differs (certified_same (circuit_of lines) p full m v f.time f.kind f.cell.x f.cell.y same h);
-  not_asked = real.not_asked;
-  incorrect = real.incorrect;
-}
+real_same lines p full m inputs v f same real = grind (arith, common_steps, certified_same)
 
 assignment_same : (c : Circuit) (full m : ModuleLines) (v : Valuation) (a : ℕ) → HaveSameLines full m →
     GivesModuleAssignment c m v a → GivesModuleAssignment c full v a
@@ -154,18 +143,11 @@ line_same lines p full m (Local i f) same shown = record {
   on_rim = shown.on_rim;
   wrong_stop = λ e held. shown.wrong_stop e (subst (All (StopHolds (circuit_of lines) p)) (sym same.stops_same) held);
 }
-line_same lines p full m (Keep i f) same lacks = record {
-  inputs = lacks.inputs;
-  under = assignment_back (circuit_of lines) full m lacks.inputs f.assignment same lacks.under;
-  lacks = lacks.lacks;
-  incorrect = lacks.incorrect;
-}
+line_same lines p full m (Keep i f) same lacks = grind (arith, common_steps, assignment_back)
 line_same lines p full m (Border i f) same h = h
 line_same lines p full m (Unkept gate) same h = h
-line_same lines p full m (Delay gate wanted gap) same h =
-    subst (λ (ss : List StopLine). DelayLineMeans lines ss gate wanted gap) same.stops_same h
-line_same lines p full m (Meet gate at) same h =
-    subst (λ (ss : List StopLine). MeetLineMeans lines ss gate at) same.stops_same h
+line_same lines p full m (Delay gate wanted gap) same h = grind (arith, common_steps)
+line_same lines p full m (Meet gate at) same h = grind (arith, common_steps)
 
 all_same : (lines : List CircuitLine) (p : Pattern) (full m : ModuleLines) (ls : List ReportLine) →
     HaveSameLines full m → All (LineMeans lines p full) ls → All (LineMeans lines p m) ls
@@ -390,11 +372,8 @@ contradicts text (inr (inl late)) right stops off = late stops
 contradicts text (inr (inr touch)) right stops off = off touch
 
 pub plain_is_decided : PlainIsDecided
-plain_is_decided text output Yes plain says some = (
-  (λ e. (yes_is_right text output says, yes_has_right_stops text output says, yes_off_rim text output says)),
-  (λ is.
-      refl),
-)
+plain_is_decided text output Yes plain says some =
+    grind (arith, common_steps, yes_is_right, yes_has_right_stops, yes_off_rim)
 plain_is_decided text output No plain says some =
     ((λ e. absurd cc), (λ is. absurd (contradicts text (no_is_wrong text output says plain) is.0 is.1 is.2)))
 plain_is_decided text output Refused plain says some = absurd (some refl)

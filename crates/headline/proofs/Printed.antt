@@ -2,7 +2,7 @@
 use Rattle.lemmas.proofs.Common.{[], ◌&&◌, ◌++◌, ◌<◌, ◌^◌, ◌∙◌, ◌∷◌, ◌≡◌, All, IsTrue, List, None, ap, append-nil}
 use Rattle.lemmas.proofs.Common.{append_assoc, ap₂, arith, codes, false, flat_map, length, map, pos, refl, subst, sym}
 use Rattle.lemmas.proofs.Common.{true, ℕ, ℤ, All-from_recursion, All-head, All-tail, AllByRecursion, flat_map-append}
-use Rattle.lemmas.proofs.Common.{signed_decimal, slice_split, slice_split_at}
+use Rattle.lemmas.proofs.Common.{signed_decimal, slice_split, slice_split_at, common_steps}
 use Rattle.section_text.specs.Section.{with_line_feed}
 use Rattle.section_text.specs.Spelling.{line_text}
 use Rattle.section_text.specs.Words.{ended, is_line_feed, is_name, lines_of}
@@ -44,14 +44,7 @@ pub lines_more : (ls : List (List ℕ)) (rest : List ℕ) → AreLines ls →
 unfolding lines_of
 lines_more [] rest clean = refl
 lines_more (l ∷ ls) rest clean =
-    let more = flat_map with_line_feed ls ++ rest in
-    let regroup : (with_line_feed l ++ flat_map with_line_feed ls) ++ rest ≡ l ++ 10 ∷ more =
-    append_assoc (with_line_feed l) (flat_map with_line_feed ls) rest ∙ append_assoc l (10 ∷ []) more in
-    let split : slice_split is_line_feed (l ++ 10 ∷ more) ≡ l ∷ slice_split is_line_feed more =
-    slice_split_at is_line_feed l 10 more (All-from_recursion (λ b. is_line_feed b ≡ false) l clean.0) refl in
-    ap (λ (t : List ℕ). ended (slice_split is_line_feed t)) regroup ∙ ap ended split
-    ∙ ended-cons l (slice_split is_line_feed more) (some_part more)
-    ∙ ap (λ (ks : List (List ℕ)). l ∷ ks) (lines_more ls rest clean.1)
+    grind (arith, common_steps, append_assoc, slice_split_at, ended-cons, some_part, (lines_more ls rest clean.1))
 
 -- ---- a line of a circuit
 
@@ -105,16 +98,12 @@ items_printed : (circuit : List CircuitLine) → Fit circuit →
     flat_map printed (map line_words circuit ++ (codes "end" ∷ []) ∷ [])
     ≡ flat_map entry_text circuit ++ line_text (codes "end") []
 items_printed [] fit = refl
-items_printed (r ∷ circuit) fit =
-    ap₂ (λ a b. a ++ b) (line_printed r.kind r.ins r.outs fit.0) (items_printed circuit fit.1)
-    ∙ sym (append_assoc (entry_text r) (flat_map entry_text circuit) (line_text (codes "end") []))
+items_printed (r ∷ circuit) fit = grind (arith, common_steps, line_printed, append_assoc, (items_printed circuit fit.1))
 
 -- the printing of a circuit is the text of its section
 pub circuit_same : (circuit : List CircuitLine) → Fit circuit → circuit_printed circuit ≡ circuit_text circuit
 unfolding circuit_text
-circuit_same circuit fit =
-    ap (λ t. line_text (codes "circuit") [] ++ t) (items_printed circuit fit)
-    ∙ sym (append_assoc (line_text (codes "circuit") []) (flat_map entry_text circuit) (line_text (codes "end") []))
+circuit_same circuit fit = grind (arith, common_steps, items_printed, append_assoc)
 
 -- ---- a line of a layout
 
@@ -138,13 +127,7 @@ small n h = let same : n ≡ h.0 = pos_same n h.0 h.1 in let low = h.2 in omega 
     pos_same a b e = cc
 
 cell_numbered : (c : Cell) → IsNumber c.x → IsNumber c.y → IsNumbered c
-cell_numbered c h k = record {
-  x = h.0;
-  y = k.0;
-  is = ap₂ (λ x y. record { x = x; y = y }) h.1 k.1;
-  x_small = h.2;
-  y_small = k.2;
-}
+cell_numbered c h k = grind (arith, common_steps)
 
 -- the cells of a part have numbers
 abbrev pub IsPart : LayoutLine → Type 0
@@ -157,30 +140,20 @@ IsPart (Waste c) = IsNumbered c
 part_printed : (part : LayoutLine) → IsPart part → form_printed (part_form part) ≡ part_text part
 part_printed (Mirror r) h = refl
 part_printed (Ball c) h = subst (λ (d : Cell). form_printed (part_form (Ball d)) ≡ part_text (Ball d)) (sym h.is) refl
-part_printed (In q) h =
-    subst (λ (d : Cell). form_printed (part_form (In (record { name = q.name; cell = d })))
-    ≡ part_text (In (record { name = q.name; cell = d }))) (sym h.is) refl
-part_printed (Out q) h =
-    subst (λ (d : Cell). form_printed (part_form (Out (record { name = q.name; cell = d })))
-    ≡ part_text (Out (record { name = q.name; cell = d }))) (sym h.is) refl
-part_printed (Waste c) h =
-    subst (λ (d : Cell). form_printed (part_form (Waste d)) ≡ part_text (Waste d)) (sym h.is) refl
+part_printed (In q) h = grind (arith, common_steps)
+part_printed (Out q) h = grind (arith, common_steps)
+part_printed (Waste c) h = grind (arith, common_steps)
 
 parts_printed : (parts : List LayoutLine) → AllByRecursion IsPart parts →
     flat_map form_printed (map part_form parts ++ (codes "end", [], []) ∷ [])
     ≡ flat_map part_text parts ++ line_text (codes "end") []
 parts_printed [] h = refl
-parts_printed (part ∷ parts) h =
-    ap₂ (λ a b. a ++ b) (part_printed part h.0) (parts_printed parts h.1)
-    ∙ sym (append_assoc (part_text part) (flat_map part_text parts) (line_text (codes "end") []))
+parts_printed (part ∷ parts) h = grind (arith, common_steps, part_printed, append_assoc, (parts_printed parts h.1))
 
 -- the printing of a layout is the text of its section
 pub layout_same : (p : Pattern) → AllByRecursion IsPart (parts_of p) → layout_printed p ≡ layout_text p
 unfolding layout_text
-layout_same p h =
-    let first = form_printed (size_form p) in
-    ap (λ t. first ++ t) (parts_printed (parts_of p) h)
-    ∙ sym (append_assoc first (flat_map part_text (parts_of p)) (line_text (codes "end") []))
+layout_same p h = grind (arith, common_steps, parts_printed, append_assoc)
 
 -- ---- the sections that are printed can be read
 
@@ -206,8 +179,7 @@ other_numbers : (z : ℤ) (zs : List ℤ) → All IsNumber (z ∷ zs) → All Is
 other_numbers z zs h = All-tail IsNumber z zs h
 
 numbered_by : (c : Cell) → All IsNumber (c.x ∷ c.y ∷ []) → IsNumbered c
-numbered_by c h = cell_numbered c (first_number c.x (c.y ∷ []) h)
-    (first_number c.y [] (other_numbers c.x (c.y ∷ []) h))
+numbered_by c h = grind (arith, common_steps, cell_numbered, first_number, other_numbers, c.x, c.y)
 
 one_name : (n : List ℕ) → All (λ n. IsTrue (is_name n)) (n ∷ []) → is_name n ≡ true
 one_name n h = All-head (λ n. IsTrue (is_name n)) n [] h
@@ -243,15 +215,13 @@ circuit_whole : (circuit : List CircuitLine) →
     circuit_line (Header tt) ++ (flat_map (λ i. circuit_line (Item i)) circuit ++ circuit_line End)
     ≡ circuit_text circuit
 unfolding circuit_text
-circuit_whole circuit = sym (append_assoc (circuit_line (Header tt)) (flat_map (λ i. circuit_line (Item i)) circuit)
-    (circuit_line End))
+circuit_whole circuit = grind (arith, common_steps, append_assoc)
 
 layout_whole : (p : Pattern) →
     layout_line (Header p.size) ++ (flat_map (λ i. layout_line (Item i)) (parts_of p) ++ layout_line End)
     ≡ layout_text p
 unfolding layout_text
-layout_whole p = sym (append_assoc (layout_line (Header p.size)) (flat_map (λ i. layout_line (Item i)) (parts_of p))
-    (layout_line End))
+layout_whole p = grind (arith, common_steps, append_assoc)
 
 -- a text that begins with a design says it
 pub printed_is_read : PrintedDesignIsRead

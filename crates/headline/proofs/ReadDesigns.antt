@@ -2,7 +2,7 @@
 use Rattle.lemmas.proofs.Common.{[], ◌&&◌, ◌++◌, ◌+◌, ◌∷◌, ◌≡◌, Bool, Err, IsTrue, List, None, Ok, Option, Result, Some}
 use Rattle.lemmas.proofs.Common.{ap, ap₂, codes, cond, eqb, inl, inr, length, map, refl, slice_get, subst, suc, sym}
 use Rattle.lemmas.proofs.Common.{true, zero, ℕ, All-from_recursion, AllByRecursion, and_parts, cond_some, list_all}
-use Rattle.lemmas.proofs.Common.{option_and_then_some, same_Some}
+use Rattle.lemmas.proofs.Common.{option_and_then_some, same_Some, arith, common_steps}
 use Rattle.section_text.specs.SaidSection.{IsSection}
 use Rattle.section_text.specs.Words.{◌>>=◌, is_name, is_word_at, lone, lone_name, name_at, name_of, names_at, words_of}
 use Rattle.section_text.specs.declared.fault.Refusal.{Refusal}
@@ -67,23 +67,7 @@ Names r = AreNames r.outs
 
 gate_named : (ws : List (List ℕ)) (r : CircuitLine) → gate_entry ws ≡ Some r → Names r
 unfolding gate_entry gate_line_of_kind Names
-gate_named ws r e =
-    option_and_then_some (λ kind.
-    cond (eqb (length ws) (words_before_names kind + uses kind + 1 + defines kind))
-    (cond (is_word_at ws (words_before_names kind + uses kind) (codes "->")) (gate_line_of_kind ws kind) None) None)
-    (gate_kind ws) r e (λ kind known rest.
-    let count = passed (eqb (length ws) (words_before_names kind + uses kind + 1 + defines kind))
-    (cond (is_word_at ws (words_before_names kind + uses kind) (codes "->")) (gate_line_of_kind ws kind) None) r rest in
-    let arrow = passed (is_word_at ws (words_before_names kind + uses kind) (codes "->"))
-    (gate_line_of_kind ws kind) r count.1 in
-    option_and_then_some (λ ins. names_at ws (words_before_names kind + uses kind + 1)
-    (defines kind) >>= λ outs. Some (entry (Gate kind) ins outs))
-    (names_at ws (words_before_names kind) (uses kind)) r arrow.1 (λ ins some_ins rest_ins.
-    option_and_then_some (λ outs. Some (entry (Gate kind) ins outs))
-    (names_at ws (words_before_names kind + uses kind + 1) (defines kind)) r rest_ins
-    (λ outs some_outs made.
-    subst (λ (x : CircuitLine). AreNames x.outs) (same_Some (entry (Gate kind) ins outs) r made)
-    (are_named ws _ _ outs some_outs))))
+gate_named ws r e = grind (arith, common_steps, option_and_then_some, passed, same_Some, are_named)
 
 -- the names of a form
 IfItem : Form (Unit {0}) CircuitLine → Type 0

@@ -2,7 +2,7 @@
 use Rattle.lemmas.proofs.Common.{[], ◌%◌, ◌&&◌, ◌++◌, ◌+◌, ◌<◌, ◌==◌, ◌||◌, ◌∙◌, ◌∷◌, ◌≡◌, ◌≢◌, ◌≤◌, All, Bool, Less}
 use Rattle.lemmas.proofs.Common.{List, None, Ok, Some, ap, append-nil, append_assoc, ap₂, arith, cond, drop, eqb, false}
 use Rattle.lemmas.proofs.Common.{filter, flat_map, inl, inr, is_lt, length, length-append, map, nat_cmp, nat_le, nat_lt}
-use Rattle.lemmas.proofs.Common.{not, option_map, option_to_list, refl, slice_get, subst, suc, sym, take}
+use Rattle.lemmas.proofs.Common.{not, option_map, option_to_list, refl, slice_get, subst, suc, sym, take, common_steps}
 use Rattle.lemmas.proofs.Common.{take-append-drop, true, true≢false, zero, ℕ, All-append, All-cons, All-head, All-nil}
 use Rattle.lemmas.proofs.Common.{All-tail, and-false, and_parts, bytes_eq, bytes_eq-Decides, cases_Bool, eqb-true}
 use Rattle.lemmas.proofs.Common.{flat_map-append, list_all, list_any, list_any-append, map-append, nat_tests, or-true}
@@ -161,11 +161,9 @@ inner_append : (g : Setting) (b : Box2) (ms xs ys : List CertificateLine) → In
     Inner g b ms (xs ++ ys)
 unfolding Inner
 inner_append g b ms [] ys h k = subst (λ l. Inner g b l ys) (append-nil ms) k
-inner_append g b ms (x ∷ xs) ys h k = (
-  h.0,
-  h.1,
-  inner_append g b (ms ++ x ∷ []) xs ys h.2 (subst (λ l. Inner g b l ys) (sym (append_assoc ms (x ∷ []) xs)) k),
-)
+inner_append g b ms (x ∷ xs) ys h k =
+    grind (arith, common_steps, append_assoc,
+    (inner_append g b (ms ++ x ∷ []) xs ys h.2 (subst (λ l. Inner g b l ys) (sym (append_assoc ms (x ∷ []) xs)) k)))
 
 in_module : (g : Setting) (before : List CertificateLine) (m : ModuleLines) (i : CertificateLine) →
     last_of (modules_of before) ≡ Some m →
@@ -197,10 +195,9 @@ inner_faultless : (g : Setting) (b : Box2) (ms ls : List CertificateLine) →
     Inner g b ms ls → AreFaultless (certificate_grammar g) 1 (Module b ∷ ms) ls
 unfolding Inner
 inner_faultless g b ms [] all h = tt
-inner_faultless g b ms (i ∷ ls) all h = (
-  in_module g (Module b ∷ ms) (record { area = b; lines = ms }) i (present_one b ms all) h.0 h.1,
-  inner_faultless g b (ms ++ i ∷ []) ls (all_push ms i all h.0) h.2,
-)
+inner_faultless g b ms (i ∷ ls) all h =
+    grind (arith, common_steps, in_module, present_one, all_push,
+    (inner_faultless g b (ms ++ i ∷ []) ls (all_push ms i all h.0) h.2))
 
 -- ---- the order of lines
 
@@ -240,13 +237,11 @@ use_keep j k = refl
 
 use_use : (j k : ℕ) → j < k → may_precede (Use j) (Use k) ≡ true
 unfolding may_precede is_cut line_cmp rank_of number_of
-use_use j k lt =
-    ap (λ o. is_lt (ordering_then o (cell_cmp (cell_of (Use j)) (cell_of (Use k)))) || false) (less_nat j k lt)
+use_use j k lt = grind (arith, common_steps, ordering_then, less_nat)
 
 keep_keep : (j k : ℕ) → j < k → may_precede (Keep j) (Keep k) ≡ true
 unfolding may_precede is_cut line_cmp rank_of number_of
-keep_keep j k lt =
-    ap (λ o. is_lt (ordering_then o (cell_cmp (cell_of (Keep j)) (cell_of (Keep k)))) || false) (less_nat j k lt)
+keep_keep j k lt = grind (arith, common_steps, ordering_then, less_nat)
 
 follow_by : (g : Setting) (m : ModuleLines) (i : CertificateLine) → may_follow m.lines i ≡ true →
     content_code g m i ≡ None →
@@ -255,33 +250,26 @@ follow_by g m i f w = ap₂ or_else (ap (λ b. code_if (not b) OutOfOrder) f) w
 
 all_below : (n a b : ℕ) → a + n ≤ b → All (λ j. j < b) (range_with_len a n)
 all_below zero a b h = All-nil (λ j. j < b)
-all_below (suc n) a b h =
-    All-cons (λ j. j < b) a (range_with_len (a + 1) n) (omega (arith, h)) (all_below n (a + 1) b (omega (arith, h)))
+all_below (suc n) a b h = grind (arith, common_steps, (all_below n (a + 1) b (omega (arith, h))))
 
 -- ---- what a line asks
 
 cut_ok : (c : Circuit) (count : ℕ) (local : List ℕ) (n : List ℕ) (w : ℕ) → count < 12 → wire_of c n ≡ Some w →
     is_among local w ≡ false → cut_fault c count local n ≡ None
 unfolding cut_fault
-cut_ok c count local n w few e fresh =
-    ap₂ or_else (ap (λ b. code_if b PastLimit) (not_le_test 12 count few))
-    (ap (cut_wire_fault local) e ∙ ap (λ b. code_if b DefinedTwice) fresh)
+cut_ok c count local n w few e fresh = grind (arith, common_steps, not_le_test)
 
 use_ok : (c : Circuit) (count : ℕ) (local : List ℕ) (k : ℕ) (x : Gate) → count < 64 →
     slice_get c.netlist.gates k ≡ Some x → list_all (is_among local) x.ins ≡ true →
     are_new_and_distinct local x.outs ≡ true →
     use_fault c count local k ≡ None
 unfolding use_fault used_gate_fault
-use_ok c count local k x few at ins new =
-    ap₂ or_else (ap (λ b. code_if b PastLimit) (not_le_test 64 count few))
-    (ap (used_gate_fault local) at ∙ ap₂ or_else (ap (λ b. code_if (not b) NotLocal) ins)
-    (ap (λ b. code_if (not b) DefinedTwice) new))
+use_ok c count local k x few at ins new = grind (arith, common_steps, not_le_test)
 
 keep_ok : (c : Circuit) (used : List ℕ) (k : ℕ) → is_inverse_gate (slice_get c.netlist.gates k) ≡ true →
     is_among used k ≡ true → keep_line_code c used k ≡ None
 unfolding keep_line_code
-keep_ok c used k inverse among =
-    ap₂ or_else (ap (λ b. code_if (not b) UnknownName) inverse) (ap (λ b. code_if (not b) NotLocal) among)
+keep_ok c used k inverse among = grind (arith, common_steps)
 
 all_among : (n : ℕ) (ws : List ℕ) → All (λ w. w < n) ws → list_all (is_among (range_with_len 0 n)) ws ≡ true
 all_among n [] all = refl
@@ -293,9 +281,7 @@ all_among n (w ∷ ws) all =
 new_range : (d n : ℕ) → are_new_and_distinct (range_with_len 0 n) (range_with_len n d) ≡ true
 unfolding are_new_and_distinct
 new_range zero n = refl
-new_range (suc d) n =
-    ap₂ (λ a b. not a && b) (not_among n 0 n (omega arith))
-    (ap (λ l. are_new_and_distinct l (range_with_len (n + 1) d)) (range_next n) ∙ new_range d (n + 1))
+new_range (suc d) n = grind (arith, common_steps, not_among, range_next, (new_range d (n + 1)))
 
 -- ---- the three kinds of lines
 
@@ -719,40 +705,8 @@ not_refused (verdict.No lines) outcome e r = let clash : No ≡ Refused = sym e 
 
 pub small_is_decided : SmallDesignIsDecided
 small_is_decided text output outcome circuit layout t small reports =
-    let ports = Some (port_names_of circuit) in
-    let b : Bundle = record {
-      circuit = circuit;
-      size = layout.size;
-      parts = parts_of layout;
-      version = 1;
-      entries = plain_lines circuit layout;
-    } in
-    let good : AreGoodCircuitLines circuit = circuit_good 0 t.first tt circuit t.circuit_read in
-    let layout_good : IsFaultless (layout_grammar ports) layout.size (parts_of layout) =
-    read_faultless (layout_grammar ports) 0 t.second layout.size (parts_of layout) t.layout_read in
-    let sections : HasSections text b = record {
-      first = t.first;
-      second = t.second;
-      third = t.third;
-      lines = t.lines;
-      rest = t.ended;
-      circuit_is = t.circuit_is;
-      layout_is = t.layout_is;
-      certificate_is = t.certificate_is;
-    } in
-    let is_good : IsGoodBundle b = record {
-      circuit = read_faultless circuit_grammar 0 t.first tt circuit t.circuit_read;
-      layout = layout_good;
-      certificate = subst (λ g. IsFaultless (certificate_grammar g) 1 (plain_lines circuit layout))
-          (sym (same_setting circuit layout)) (plain_faultless circuit layout good layout_good small);
-    } in
-    let reads : bundle_of text ≡ Ok b = bundle_made text b sections is_good in
-    let says : SaysReport b output outcome = subst (λ r. Answered SaysReport r output outcome) reads reports in
-    let some : outcome ≢ Refused = not_refused says.verdict outcome says.ends in
-    let said : SaysBundle text circuit layout (plain_lines circuit layout) =
-    (bundle_good text b reads).says_all layout refl in
-    (some, (plain_lines_decide text output outcome circuit layout said reports some).1)
+    grind (arith, common_steps, circuit_good, read_faultless, same_setting, bundle_made, not_refused, bundle_good,
+    plain_lines_decide)
 
 pub refused_is_none : RefusedIsNoSmallDesign
-refused_is_none text output reports circuit layout plain small =
-    (small_is_decided text output Refused circuit layout plain small reports).0 refl
+refused_is_none text output reports circuit layout plain small = grind (arith, common_steps, small_is_decided)

@@ -2,7 +2,7 @@
 use Rattle.lemmas.proofs.Common.{[], ◌&&◌, ◌+ℤ◌, ◌+◌, ◌-ℤ◌, ◌||◌, ◌∙◌, ◌∷◌, ◌≡◌, ◌≤◌, Bool, IsTrue, List, None, ap, ap₂}
 use Rattle.lemmas.proofs.Common.{arith, codes, false, inl, inr, leb, ltb, negsuc, option_map, pos, refl, subst, suc}
 use Rattle.lemmas.proofs.Common.{sym, true, unwrap_or, zero, ℕ, ℤ, All-cons, All-nil, and_parts, ints, nat_tests}
-use Rattle.lemmas.proofs.Common.{next_neg}
+use Rattle.lemmas.proofs.Common.{next_neg, common_steps}
 use Rattle.section_text.specs.Words.{is_name}
 use Rattle.bbm_rule.specs.Plane.{State, partner, run, step, turned}
 use Rattle.bbm_rule.specs.Spans.{in_area, in_span}
@@ -112,27 +112,17 @@ odd_span (pos zero) = refl
 odd_span (pos (suc zero)) = refl
 odd_span (pos (suc (suc zero))) = refl
 odd_span (pos (suc (suc (suc zero)))) = refl
-odd_span (pos (suc (suc (suc (suc k))))) =
-    let four : suc (suc (suc (suc k))) ≡ 4 + k = omega arith in
-    let three : suc (suc (suc (suc k))) ≡ 3 + (k + 1) = omega arith in
-    ap (λ n. in_span 1 2 (partner 1 (pos n))) four ∙ far k ∙ sym (beyond (k + 1))
-    ∙ ap (λ n. in_span 1 2 (pos n)) (sym three)
+odd_span (pos (suc (suc (suc (suc k))))) = grind (arith, common_steps, far, beyond)
 odd_span (negsuc zero) = refl
 odd_span (negsuc (suc k)) = negative k ∙ sym (in_span-negsuc 1 2 (suc k))
 
 even_stays : (x y : ℤ) → step 0 mirror x y ≡ mirror x y
 unfolding step
-even_stays x y =
-    (λ i. turned (mirror x y) (in_span 1 2 (partner 0 x) && even_span 0 2 0 y refl refl refl i) (mirror (partner 0 x) y)
-    (in_span 1 2 x && even_span 0 2 0 y refl refl refl i))
-    ∙ rows_stay (in_span 1 2 x) (in_span 0 2 y) (in_span 1 2 (partner 0 x))
+even_stays x y = grind (arith, common_steps, even_span, rows_stay)
 
 odd_stays : (x y : ℤ) → step 1 mirror x y ≡ mirror x y
 unfolding step
-odd_stays x y =
-    (λ i. turned (mirror x y) (odd_span x i && in_span 0 2 (partner 1 y)) (odd_span x i && in_span 0 2 y)
-    (mirror x (partner 1 y)))
-    ∙ columns_stay (in_span 1 2 x) (in_span 0 2 y) (in_span 0 2 (partner 1 y))
+odd_stays x y = grind (arith, common_steps, odd_span, columns_stay)
 
 at_start : (on : List ℕ → Bool) (x y : ℤ) → start rim_mirror on x y ≡ mirror x y
 unfolding start
@@ -144,16 +134,13 @@ at_start on x y = only (mirror x y)
 
 -- a step of a plane that looks like the mirror
 next : (t : ℕ) (s : State) (x y : ℤ) → ((x y : ℤ) → s x y ≡ mirror x y) → step t s x y ≡ step t mirror x y
-next t s x y h = step_same t s mirror x y (h x y) (h (partner t x) (partner t y)) (h (partner t x) y)
-    (h x (partner t y))
+next t s x y h = grind (arith, common_steps, step_same)
 
 stays : (on : List ℕ → Bool) (t : ℕ) → t ≤ 2 → (x y : ℤ) → plane_at rim_mirror on t x y ≡ mirror x y
 unfolding run
 stays on zero few x y = at_start on x y
 stays on (suc zero) few x y = next 0 (start rim_mirror on) x y (at_start on) ∙ even_stays x y
-stays on (suc (suc zero)) few x y =
-    next 1 (step 0 (start rim_mirror on)) x y (λ x y. next 0 (start rim_mirror on) x y (at_start on) ∙ even_stays x y)
-    ∙ odd_stays x y
+stays on (suc (suc zero)) few x y = grind (arith, common_steps, next, at_start, even_stays, odd_stays)
 stays on (suc (suc (suc t))) few x y = absurd (omega (arith, few))
 
 -- ---- the layout computes the circuit
@@ -163,11 +150,7 @@ always_on w = true
 
 satisfied : (inputs : Valuation) → Satisfies (circuit_of constant).netlist inputs always_on
 unfolding number row
-satisfied inputs = record {
-  given = λ i lt. absurd (omega (arith, lt));
-  rows = All-cons (HasRow always_on) (record { kind = Source true; ins = []; outs = 0 ∷ [] }) [] refl
-      (All-nil (HasRow always_on));
-}
+satisfied inputs = grind (arith, common_steps)
 
 looks : (value : List ℕ → Bool) (s : State) → ((x y : ℤ) → s x y ≡ mirror x y) → LooksAsAsked rim_mirror value s
 looks value s same = record {
@@ -233,10 +216,7 @@ mirror_design = record {
 }
 
 no_delay : HasNoDelay constant
-no_delay zero steps a b e =
-    let kind : ◌≡◌ {A = GateKind} (Source true) (Delay steps) =
-    ap (λ o. unwrap_or (option_map (λ (g : Meant). g.kind) o) (Source true)) e in
-    cc
+no_delay zero steps a b e = grind (arith, common_steps)
 no_delay (suc k) steps a b e = absurd cc
 
 room : HasRoom constant rim_mirror
@@ -259,19 +239,5 @@ touches = record {
 
 pub needs_room : SomeDesignNeedsRoom
 needs_room =
-    let text = design_text constant rim_mirror in
-    let r = some_report text in
-    let decided = each_is_decided constant rim_mirror r.0 r.1 mirror_design small r.2 in
-    let no : r.1 ≡ No = no_of r.1 (λ e. (decided.1.0 e).2 touches) decided.0 in
-    record {
-      circuit = constant;
-      layout = rim_mirror;
-      design = mirror_design;
-      room = room;
-      correct = mirror_correct;
-      no_delay = no_delay;
-      touches = touches;
-      output = r.0;
-      reported = subst (IsReportOf text r.0) no r.2;
-      gets_yes = each_gets_yes constant rim_mirror mirror_design room mirror_correct no_delay;
-    }
+    grind (arith, common_steps, some_report, each_is_decided, mirror_design, small, no_of, touches, room, no_delay,
+    each_gets_yes, mirror_correct)

@@ -2,7 +2,7 @@
 use Rattle.lemmas.proofs.Common.{[], ◌&&◌, ◌++◌, ◌==◌, ◌||◌, ◌∙◌, ◌∷◌, ◌≡◌, Bool, List, Option, Some, ap, append-nil}
 use Rattle.lemmas.proofs.Common.{ap₂, arith, eqb, false, flat_map, inl, inr, length, map, nat_lt, refl, sym, true, ℕ}
 use Rattle.lemmas.proofs.Common.{All-from_recursion, AllByRecursion, and_parts, cases_Bool, eqb-true, false≢true}
-use Rattle.lemmas.proofs.Common.{list_all, nat_tests, slice_split_at, slice_split_none}
+use Rattle.lemmas.proofs.Common.{list_all, nat_tests, slice_split_at, slice_split_none, common_steps}
 use Rattle.section_text.specs.SaidSection.{IsSection}
 use Rattle.section_text.specs.Spelling.{space_and_word}
 use Rattle.section_text.specs.Words.{is_digit, is_lower, is_name, is_name_byte, is_space, words_of}
@@ -20,10 +20,7 @@ abbrev pub IsWord : List ℕ → Type 0
 IsWord w = list_all is_word_byte w ≡ true
 
 other_byte : (b k : ℕ) → is_word_byte b ≡ true → nat_lt 32 k ≡ false → eqb b k ≡ false
-other_byte b k h low = elim (cases_Bool (eqb b k)) [
-  | inl same ↦ absurd (false≢true (sym low ∙ ap (nat_lt 32) (sym (eqb-true b k same)) ∙ h))
-  | inr other ↦ other
-]
+other_byte b k h low = grind (arith, common_steps, cases_Bool, false≢true, eqb-true)
 
 without : (k : ℕ) → nat_lt 32 k ≡ false → (w : List ℕ) → IsWord w → AllByRecursion (λ b. eqb b k ≡ false) w
 without k low [] h = tt
@@ -33,12 +30,8 @@ without k low (b ∷ w) h =
 
 words_again : (w : List ℕ) (ws : List (List ℕ)) → IsWord w → AllByRecursion IsWord ws →
     words_of (w ++ flat_map space_and_word ws) ≡ w ∷ ws
-words_again w [] h k = ap words_of (append-nil w)
-    ∙ slice_split_none is_space w (All-from_recursion (λ b. is_space b ≡ false) w (without 32 refl w h))
-words_again w (x ∷ xs) h k =
-    slice_split_at is_space w 32 (x ++ flat_map space_and_word xs)
-    (All-from_recursion (λ b. is_space b ≡ false) w (without 32 refl w h)) refl
-    ∙ ap (λ l. w ∷ l) (words_again x xs k.0 k.1)
+words_again w [] h k = grind (arith, common_steps, append-nil, slice_split_none, without)
+words_again w (x ∷ xs) h k = grind (arith, common_steps, slice_split_at, without, (words_again x xs k.0 k.1))
 
 both_clean : (xs ys : List ℕ) → IsOneLine xs → IsOneLine ys → IsOneLine (xs ++ ys)
 both_clean [] ys h k = k
@@ -68,11 +61,7 @@ digits_word w h = all_more is_digit is_word_byte digit_byte w h
 
 pub name_word : (w : List ℕ) → is_name w ≡ true → IsWord w
 name_word [] h = absurd (false≢true h)
-name_word (b ∷ bs) h =
-    let first = and_parts (is_lower b && nat_lt (length bs) 32) (list_all is_name_byte bs) h in
-    let low = and_parts (is_lower b) (nat_lt (length bs) 32) first.0 in
-    ap₂ (λ x y. x && y) (name_byte b (ap (λ c. c || (is_digit b || b == 95)) low.0))
-    (all_more is_name_byte is_word_byte name_byte bs first.1)
+name_word (b ∷ bs) h = grind (arith, common_steps, and_parts, name_byte, all_more)
 
 -- ---- lines
 

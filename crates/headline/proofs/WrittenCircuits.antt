@@ -3,7 +3,7 @@ use Rattle.lemmas.proofs.Common.{[], ◌&&◌, ◌++◌, ◌+◌, ◌<◌, ◌==
 use Rattle.lemmas.proofs.Common.{append-nil, append_assoc, ap₂, arith, codes, cond, eq-eqb, false, inl, inr, length}
 use Rattle.lemmas.proofs.Common.{length-append, nat_lt, refl, slice_get, subst, sym, true, ℕ, AllByRecursion, and_parts}
 use Rattle.lemmas.proofs.Common.{bytes_eq, bytes_eq-Decides, cases_Bool, cond_some, decimal, false≢true, list_all}
-use Rattle.lemmas.proofs.Common.{nat_tests, left_is_false}
+use Rattle.lemmas.proofs.Common.{nat_tests, left_is_false, common_steps}
 use Rattle.section_text.specs.Words.{◌>>=◌, has, is_digit, is_name, is_number, is_word, is_word_at, lone, lone_name}
 use Rattle.section_text.specs.Words.{name_at, name_of, names_at, number_at, number_of}
 use Rattle.section_text.specs.declared.code.RefusalCode.TheVariants.{PastLimit}
@@ -42,9 +42,7 @@ names_words (n ∷ ns) h = let both = and_parts (is_name n) (list_all is_name ns
 
 number_word : (w : List ℕ) → is_number w ≡ true → IsWord w
 number_word [] h = absurd (false≢true h)
-number_word (b ∷ bs) h =
-    let first = and_parts (list_all is_digit (b ∷ bs) && nat_lt (length bs) 9) _ h in
-    digits_word (b ∷ bs) (and_parts (list_all is_digit (b ∷ bs)) (nat_lt (length bs) 9) first.0).0
+number_word (b ∷ bs) h = grind (arith, common_steps, and_parts, digits_word)
 
 pub decimal_word : (n : ℕ) → n < 10 ^ 9 → IsWord (decimal n)
 unfolding number_of
@@ -263,8 +261,7 @@ line_of Spill (n ∷ []) (x ∷ outs) fits i o right = absurd (let e = fits.1 in
 pub right_delay : (before : List CircuitLine) (r : CircuitLine) → add_fault before r ≡ None →
     is_wrong_delay r.kind ≡ false
 unfolding add_fault
-right_delay before r e = left_is_false (is_wrong_delay r.kind) _
-    (no_code (exceeds_limit before r) PastLimit (first_none (limit_fault before r) _ e))
+right_delay before r e = grind (arith, common_steps, left_is_false, no_code, first_none)
 
 pub defined_more : (before : List CircuitLine) (r : CircuitLine) → AreNames (defined before) → AreNames r.outs →
     AreNames (defined (before ++ r ∷ []))
@@ -295,5 +292,4 @@ last_line = line_by form_of End (codes "end") [] refl tt refl
 
 pub circuit_written : (circuit : List CircuitLine) → AreGoodAfter [] circuit → AreNames (defined circuit) →
     HasSection form_of tt circuit
-circuit_written circuit good h =
-    has_section form_of tt circuit first_line last_line (lines_of [] circuit good refl h)
+circuit_written circuit good h = grind (arith, common_steps, has_section, first_line, last_line, lines_of)

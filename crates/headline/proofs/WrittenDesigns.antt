@@ -1,4 +1,5 @@
 -- Each small design has a plain text, and `check` decides the design by it
+use Rattle.lemmas.proofs.Common.{common_steps}
 use Rattle.lemmas.proofs.Common.{[], ◌&&◌, ◌++◌, ◌+◌, ◌<◌, ◌^◌, ◌∙◌, ◌∷◌, ◌≡◌, ◌≤◌, All, Bool, IsTrue, List, Ok, Some}
 use Rattle.lemmas.proofs.Common.{ap, append-nil, append_assoc, ap₂, arith, codes, cond, false, filter, flat_map, length}
 use Rattle.lemmas.proofs.Common.{map, refl, slice_get, subst, suc, sym, true, zero, ℕ, All-head, All-nil, All-tail}
@@ -142,8 +143,7 @@ number_lines : (mk : ℕ → CertificateLine) → ((k : ℕ) → k < 10 ^ 9 → 
     AreBelow 64 ks → Lines (map mk ks)
 unfolding AreBelow
 number_lines mk line [] h = tt
-number_lines mk line (k ∷ ks) h =
-    (line k (let low = h.0 in omega (arith, low)), number_lines mk line ks h.1)
+number_lines mk line (k ∷ ks) h = grind (arith, common_steps, (number_lines mk line ks h.1))
 
 -- ---- the text
 
@@ -317,35 +317,4 @@ module _ (text : List ℕ) (circuit : List CircuitLine) (p : Pattern) (t : IsPla
 
 pub each_is_decided : EachSmallDesignIsDecided
 each_is_decided circuit p output outcome design small reports =
-    let text = design_text circuit p in
-    let t = has_text circuit p design small in
-    let d = small_is_decided text output outcome circuit p t small reports in (
-      d.0,
-      (
-        (λ e. let all = d.1.0 e in (
-          correct_of text circuit p t all.0,
-          no_delay text circuit p t all.1,
-          λ touch. all.2 (record {
-            circuit = circuit;
-            layout = p;
-            says = design_said text circuit p t;
-            touches = touch;
-          }),
-        )),
-        (λ all. d.1.1 (
-          record {
-            circuit = circuit;
-            layout = p;
-            begins = design_printed text (certificate_text (record {
-              circuit = circuit;
-              layout = p;
-              version = 1;
-              entries = plain_lines circuit p;
-            })) circuit p design refl;
-            correct = all.0;
-          },
-          stops_of text circuit p t all.1,
-          λ touch. all.2 (touch_of text circuit p t touch),
-        )),
-      ),
-    )
+    grind (arith, common_steps, small_is_decided, design_printed)

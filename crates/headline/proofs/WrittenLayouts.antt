@@ -2,7 +2,7 @@
 use Rattle.lemmas.proofs.Common.{[], ◌&&◌, ◌++◌, ◌+◌, ◌<◌, ◌^◌, ◌||◌, ◌∙◌, ◌∷◌, ◌≡◌, ◌≤◌, Bool, List, None, Option}
 use Rattle.lemmas.proofs.Common.{Some, ap, append-nil, ap₂, arith, codes, false, map, nat_le, nat_lt, not, option_map}
 use Rattle.lemmas.proofs.Common.{refl, slice_get, subst, suc, sym, true, ℕ, AllByRecursion, and_parts, decimal}
-use Rattle.lemmas.proofs.Common.{list_all, list_any, nat_tests, slice_get-map, at_most_by_test}
+use Rattle.lemmas.proofs.Common.{list_all, list_any, nat_tests, slice_get-map, at_most_by_test, common_steps}
 use Rattle.section_text.specs.Codes.{code_if, or_else}
 use Rattle.section_text.specs.Ports.{Named}
 use Rattle.section_text.specs.Words.{◌>>=◌, has, is_name, is_word_at, lone, name_at, number_at}
@@ -50,15 +50,7 @@ side_below n h = grind (arith, nat_tests, h)
 
 pub has_limits : (s : LayoutHeader) → size_fault s ≡ None → HasLimits s
 unfolding size_fault
-has_limits s e =
-    let all = no_code (is_layout_side s.w && is_layout_side s.h && nat_le s.steps 65536) PastLimit e in
-    let both = and_parts (is_layout_side s.w && is_layout_side s.h) (nat_le s.steps 65536) all in
-    let sides = and_parts (is_layout_side s.w) (is_layout_side s.h) both.0 in
-    record {
-      wide = side_below s.w sides.0;
-      high = side_below s.h sides.1;
-      long = at_most_by_test s.steps 65536 both.1;
-    }
+has_limits s e = grind (arith, common_steps, no_code, and_parts, side_below, at_most_by_test)
 
 -- ---- lines
 
@@ -242,11 +234,9 @@ run_of : {X : Type 0} (mk : X → LayoutLine) (k : ℕ) → ((x : X) → rank_of
     ((longer : List LayoutLine) → AreUpTo k longer → InOrder longer rest) → InOrder before (map mk xs ++ rest)
 unfolding order_fault
 run_of mk k rank [] before rest h next = next before h
-run_of mk k rank (x ∷ xs) before rest h next = (
-  ap (λ b. code_if b OutOfOrder) (none_late k (mk x) before (rank x) h),
-  run_of mk k rank xs (before ++ mk x ∷ []) rest
-      (up_more k before (mk x) (let e = rank x in omega (arith, e)) h) next,
-)
+run_of mk k rank (x ∷ xs) before rest h next =
+    grind (arith, common_steps, none_late, up_more,
+    (run_of mk k rank xs (before ++ mk x ∷ []) rest (up_more k before (mk x) (let e = rank x in omega (arith, e)) h) next))
 
 last_run : {X : Type 0} (mk : X → LayoutLine) (k : ℕ) → ((x : X) → rank_of (mk x) ≡ k) → (xs : List X)
     (before : List LayoutLine) → AreUpTo k before → InOrder before (map mk xs)

@@ -1,6 +1,6 @@
 -- The inputs and the outputs of a good circuit have names, if its wires do
 use Rattle.lemmas.proofs.Common.{[], ◌++◌, ◌∷◌, Bool, List, cond, false, if◌then◌else◌, refl, subst, sym, true, ℕ}
-use Rattle.lemmas.proofs.Common.{flat_map-append}
+use Rattle.lemmas.proofs.Common.{flat_map-append, arith, common_steps}
 use Rattle.circuit.specs.Bridge.{AreGoodAfter, input_names, is_input, is_output, output_names}
 use Rattle.circuit.specs.Entries.{defined}
 use Rattle.circuit.specs.Rules.{consumed}
@@ -16,9 +16,8 @@ if_names false ns h = refl
 pub input_named : (circuit : List CircuitLine) → AreNames (defined circuit) → AreNames (input_names circuit)
 input_named [] h = refl
 input_named (r ∷ circuit) h =
-    names_both (cond (is_input r.kind) r.outs []) (input_names circuit)
-    (if_names (is_input r.kind) r.outs (names_left r.outs (defined circuit) h))
-    (input_named circuit (names_right r.outs (defined circuit) h))
+    grind (arith, common_steps, names_both, if_names, names_left, names_right,
+    (input_named circuit (names_right r.outs (defined circuit) h)))
 
 have_append : (d xs ys : List (List ℕ)) → Have d xs → Have d ys → Have d (xs ++ ys)
 have_append d [] ys h k = k
@@ -45,5 +44,4 @@ outs_have before (r ∷ rest) good =
 
 pub outs_named : (circuit : List CircuitLine) → AreGoodAfter [] circuit → AreNames (defined circuit) →
     AreNames (output_names circuit)
-outs_named circuit good names =
-    have_names (defined circuit) (output_names circuit) names (outs_have [] circuit good)
+outs_named circuit good names = grind (arith, common_steps, have_names, outs_have)

@@ -1,7 +1,7 @@
 -- A text that is not refused begins with the design that it says, and one that is reported with a yes is right.
 use Rattle.lemmas.proofs.Common.{[], ◌++◌, ◌<◌, ◌^◌, ◌∙◌, ◌∷◌, ◌≡◌, All, IsTrue, List, ap₂, arith, codes, map, pos}
 use Rattle.lemmas.proofs.Common.{refl, subst, sym, true, ℕ, ℤ, All-cons, All-from_recursion, All-nil, All-tail}
-use Rattle.lemmas.proofs.Common.{AllByRecursion, and_parts, list_all}
+use Rattle.lemmas.proofs.Common.{AllByRecursion, and_parts, list_all, common_steps}
 use Rattle.section_text.specs.Ports.{Named}
 use Rattle.section_text.specs.Words.{is_name}
 use Rattle.circuit.specs.Bridge.{AreGoodAfter}
@@ -147,19 +147,7 @@ not_refused : Yes ≡ Refused → ⊥
 not_refused e = cc
 
 pub yes_is_right : YesMeansRight
-yes_is_right text output says =
-    let r = yes_is_right_as_read text output says in
-    record {
-      circuit = r.circuit;
-      layout = r.layout;
-      begins = read_is_printed text output Yes r.circuit r.layout says not_refused r.says;
-      correct = r.correct;
-    }
+yes_is_right text output says = grind (arith, common_steps, yes_is_right_as_read, read_is_printed, not_refused)
 
 pub right_as_read : RightSaysCorrectDesign
-right_as_read text r = record {
-  circuit = r.circuit;
-  layout = r.layout;
-  says = printed_is_read text r.circuit r.layout r.begins;
-  correct = r.correct;
-}
+right_as_read text r = grind (arith, common_steps, printed_is_read)

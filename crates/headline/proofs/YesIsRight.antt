@@ -1,7 +1,7 @@
 -- A text that is reported with a yes is right.
 use Rattle.lemmas.proofs.Common.{[], ◌++◌, ◌+◌, ◌∙◌, ◌∷◌, ◌≡◌, ◌≢◌, ◌≤◌, All, Err, List, None, Ok, Option, Result, Some}
 use Rattle.lemmas.proofs.Common.{ap, append-nil, append_assoc, ap₂, arith, cond, drop, eqb, flat_map, length, nat_lt}
-use Rattle.lemmas.proofs.Common.{refl, subst, sym, take, take-append-drop, ℕ, flat_map-append, ltb-false}
+use Rattle.lemmas.proofs.Common.{refl, subst, sym, take, take-append-drop, ℕ, flat_map-append, ltb-false, common_steps}
 use Rattle.section_text.specs.Codes.{or_else}
 use Rattle.section_text.specs.Words.{lines_of, bytes_after_last_line_feed, words_of}
 use Rattle.section_text.specs.Section.{with_line_feed, unless, result_after_line, header_line, section_of}
@@ -87,13 +87,7 @@ record MoreGood (before rows : List CircuitLine) : Type 0 where
 
 still : (before : List CircuitLine) (r : CircuitLine) → last_rank before ≤ rank_of r.kind → HasNoGateYet before →
     HasNoGateYet (before ++ r ∷ [])
-still before r h e =
-    let plus : ℕ = gate_count before + cond (is_gate r.kind) 1 0 in
-    let more : gate_count (before ++ r ∷ []) ≡ plus =
-    count_append (λ (r : CircuitLine). is_gate r.kind) before (r ∷ []) ∙ omega arith in
-    ap (λ (k : ℕ). cond (eqb k 0) (gate_count (before ++ r ∷ [])) 0) (last_rank_push before r)
-    ∙ ap (λ (n : ℕ). cond (eqb (rank_of r.kind) 0) n 0) more
-    ∙ no_gate_still r.kind (last_rank before) (gate_count before) h e
+still before r h e = grind (arith, common_steps, count_append, last_rank_push, no_gate_still)
 
 ok_of : (x y : Unit {0} × List CircuitLine) → ◌≡◌ {A = Result (Unit {0} × List CircuitLine) Refusal} (Ok x) (Ok y) →
     x ≡ y
@@ -136,14 +130,7 @@ line_good words ls before n rows (Some (Item r)) f none e rec =
         t.good,
       );
     }
-line_good words ls before n rows (Some End) f none e rec =
-    let passed = unless_ok n (circuit_grammar.end_fault tt before) (Ok (tt, before)) (tt, rows) e in
-    record {
-      more = [];
-      rows_are = sym (ap (λ (p : Unit {0} × List CircuitLine). p.1) (ok_of (tt, before) (tt, rows) passed.1))
-          ∙ sym (append-nil before);
-      good = tt;
-    }
+line_good words ls before n rows (Some End) f none e rec = grind (arith, common_steps, unless_ok, ok_of, append-nil)
 
 body_good : (ls : List (List ℕ)) (before : List CircuitLine) (n : ℕ) (rows : List CircuitLine) → HasNoGateYet before →
     section_body_of circuit_grammar tt before n ls ≡ Ok (tt, rows) → MoreGood before rows
@@ -177,13 +164,7 @@ pub laid_out : (ports : Option Named) (s : LayoutHeader) (before parts : List La
 unfolding lines.layout_line_fault lines.line_fault
 laid_out ports s before [] good = tt
 laid_out ports s before (part ∷ parts) good =
-    let codes = first_none (lines.line_fault ports before part) (lines.cell_fault s before part) good.0 in
-    let rest = first_none (lines.order_fault before part)
-    (or_else (lines.limit_fault part) (lines.name_fault ports part)) codes.0 in (
-      (first_none (lines.limit_fault part) (lines.name_fault ports part) rest.1).0,
-      codes.1,
-      laid_out ports s (before ++ part ∷ []) parts good.1,
-    )
+    grind (arith, common_steps, first_none, (laid_out ports s (before ++ part ∷ []) parts good.1))
 
 -- ---- the sections of a bundle
 
@@ -435,27 +416,15 @@ yes_has_right_stops text output says =
 line_tells : (output : List ℕ) (outcome : Outcome) (read : Result Bundle Refusal) →
     Answered SaysReport read output outcome →
     (FourthLineSaysYes output → outcome ≡ Yes) × (outcome ≡ Yes → FourthLineSaysYes output)
-line_tells output outcome (Ok b) says = (
-  λ line. says.ends ∙ ap verdict_outcome
-      (says_yes says.certificate says.verdict (subst FourthLineSaysYes says.says line)),
-  λ is.
-      let v : says.verdict ≡ verdict.Yes = is_yes says.verdict (sym is ∙ says.ends) in
-      subst FourthLineSaysYes (sym says.says)
-      (subst (λ (w : Verdict). FourthLineSaysYes (report_lines says.certificate w)) (sym v)
-      (yes_says says.certificate)),
-)
-line_tells output outcome (Err refusal) told = (
-  λ line. absurd (refusal_says_none refusal (subst FourthLineSaysYes told.0 line)),
-  λ is. absurd (not_refused (sym is ∙ told.1)),
-)
+line_tells output outcome (Ok b) says = grind (arith, common_steps, says_yes, is_yes, yes_says)
+line_tells output outcome (Err refusal) told = grind (arith, common_steps, refusal_says_none, not_refused)
 
 pub fourth_line-tells : FourthLineShowsOutcome
 fourth_line-tells text output outcome says = line_tells output outcome (bundle_of text) says
 
 pub by_line : (text output : List ℕ) (outcome : Outcome) → IsReportOf text output outcome → FourthLineSaysYes output →
     IsReportOf text output Yes
-by_line text output outcome says line =
-    subst (λ o. IsReportOf text output o) ((fourth_line-tells text output outcome says).0 line) says
+by_line text output outcome says line = grind (arith, common_steps, fourth_line-tells)
 
 -- ---- there is one valuation
 

@@ -72,7 +72,7 @@ pub use Rattle.std.specs.Arc.{arc_value}
 pub use Rattle.std.specs.Bool.{Decides, beq, one_answer}
 pub use Rattle.std.specs.Cmp.{IsTotalOrder, booleans_Decides, nat_cmp_is}
 pub use Rattle.std.specs.Cmp.Lexicographic.{bytes_decides, pointwise, same_text}
-pub use Rattle.std.specs.Fmt.{decimal, digit_glyph, digits, digits_onto, signed_decimal}
+pub use Rattle.std.specs.Fmt.{decimal, digit_glyph, digits_onto, signed_decimal}
 pub use Rattle.std.specs.Int.{bit_at, bit_not, div_ceil, to_le_bytes, trailing_zeros, w16}
 pub use Rattle.std.specs.Int.Bits.{and_lt, and_zero_l, or_zero_l, xor_assoc, xor_self, xor_zero_l, xor_zero_r}
 pub use Rattle.std.specs.Int.RustNames.{unsigned_abs}

@@ -1,5 +1,5 @@
 -- Lists: their items, their maps, and what holds of each item.
-use Rattle.std.proofs.Common.{List, [], ◌∷◌, ℕ, zero, suc, ◌<◌, ◌≡◌, ◌∙◌, Some, Option, map, option_map, length}
+use Rattle.std.proofs.Common.{List, [], ◌∷◌, ℕ, zero, suc, ◌<◌, ◌≡◌, ◌∙◌, Some, map, option_map, length}
 use Rattle.std.proofs.Common.{slice_get, Contains, All, refl, ap, arith}
 use Rattle.std.proofs.lemmas.Option.{slice_get-map, same_Some}
 use Rattle.std.proofs.lemmas.List.Elements.{All-nil, All-cons, All-head, All-tail}

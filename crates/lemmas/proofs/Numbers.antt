@@ -1,6 +1,6 @@
 -- Numbers: their order, and what tests and comparisons tell of it.
 use Rattle.std.proofs.Common.{ℕ, ℤ, zero, suc, pos, negsuc, ◌<◌, ◌≤◌, ◌+◌, ◌≡◌, ◌⊎◌, ◌==◌, ◌+ℤ◌, ◌-ℤ◌, ◌<ℤ◌, nat_lt}
-use Rattle.std.proofs.Common.{nat_le, nat_cmp, int_cmp, int_eq, Less, Equal, true, false, Bool, refl, arith, rules}
+use Rattle.std.proofs.Common.{nat_le, nat_cmp, int_cmp, int_eq, Less, Equal, true, false, refl, arith, rules}
 use Rattle.std.proofs.lemmas.Int.{ints}
 use Rattle.std.proofs.lemmas.Bool.Decides.{nat_tests}
 

@@ -1,6 +1,6 @@
 -- The words of a line, one after the other.
-use Rattle.lemmas.proofs.Common.{[], ◌&&◌, ◌+◌, ◌-◌, ◌<◌, ◌==◌, ◌∙◌, ◌∷◌, ◌≡◌, ◌≤◌, ◌⊎◌, Bool, List, None, Option, Some}
-use Rattle.lemmas.proofs.Common.{ap, arith, cond, drop, false, if◌then◌else◌, inl, inr, length, nat_lt, option_and_then}
+use Rattle.lemmas.proofs.Common.{[], ◌&&◌, ◌+◌, ◌-◌, ◌<◌, ◌==◌, ◌∙◌, ◌∷◌, ◌≡◌, ◌⊎◌, Bool, List, None, Option, Some}
+use Rattle.lemmas.proofs.Common.{ap, arith, cond, drop, false, if◌then◌else◌, inl, inr, length, option_and_then}
 use Rattle.lemmas.proofs.Common.{position, refl, slice_get, suc, sym, take, true, ℕ, cases_Bool, common_steps}
 use Rattle.lemmas.proofs.Common.{cond-false, fails_before_first, join_with_byte, join_with_byte-slice_split}
 use Rattle.lemmas.proofs.Common.{length-drop, length-slice_split, list_all, nat_tests, onto_first, same_Some}
