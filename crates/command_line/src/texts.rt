@@ -58,7 +58,7 @@ macro_rules! help {
 pub const VERSION: &str = concat!(
     "1.0.0\n",
     "reads circuit, layout, assign, certificate 1, certificate 2\n",
-    "proved by rattle-kit-13b logic dac8208d650f15bf",
+    "proved by rattle-kit-13f logic dac8208d650f15bf",
 );
 
 /// The message on numbers of workers that are not accepted.

@@ -1,6 +1,6 @@
 -- The lines of a layout by their words.
-use Rattle.lemmas.proofs.Common.{[], ◌==◌, ◌∷◌, ◌≡◌, Bool, List, None, Some, ap, arith, false, if◌then◌else◌, length}
-use Rattle.lemmas.proofs.Common.{refl, sym, true, ℕ, common_steps, same_Some, test_failed, tested_value}
+use Rattle.lemmas.proofs.Common.{[], ◌==◌, ◌∷◌, ◌≡◌, List, None, Some, ap, arith, length}
+use Rattle.lemmas.proofs.Common.{refl, sym, ℕ, common_steps, test_failed, tested_value}
 use Rattle.section_text.specs.Words.{three, four, five, number_at, name_at}
 use Rattle.pattern.specs.Forms.{cell_of_words_from, cell_after_keyword, port_after_keyword, port_of, rectangle_of}
 use Rattle.pattern.specs.Forms.{size_of}

@@ -1,6 +1,6 @@
 -- The cells of a line, and the cells that are taken.
 use Rattle.lemmas.proofs.Common.{[], ◌%◌, ◌&&◌, ◌++◌, ◌+◌, ◌<◌, ◌||◌, ◌∙◌, ◌∷◌, ◌≡◌, ◌≤◌, All, Bool, List, None, Some}
-use Rattle.lemmas.proofs.Common.{arith, false, flat_map, if◌then◌else◌, nat_le, not, pos, refl, subst, suc, sym, true}
+use Rattle.lemmas.proofs.Common.{arith, false, flat_map, if◌then◌else◌, not, pos, refl, subst, suc, sym, true}
 use Rattle.lemmas.proofs.Common.{zero, ℕ, ℤ, All-from_recursion, AllByRecursion, common_steps, list_any, nat_tests}
 use Rattle.lemmas.proofs.Common.{range_with_len, and_parts, at_most_by_test}
 use Rattle.bbm_rule.specs.Board.{Board, live, is_inside as is_on_board}
