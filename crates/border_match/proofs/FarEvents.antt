@@ -1,6 +1,6 @@
 -- Moments and events that a search for the cells around a box passes over
 use Rattle.lemmas.proofs.Common.{◌%◌, ◌+ℤ◌, ◌+◌, ◌<ℤ◌, ◌<◌, ◌∙◌, ◌≡◌, ◌≢◌, ◌≤ℤ◌, ◌≤◌, ◌⊎◌, Bool, Equal, Greater, Less}
-use Rattle.lemmas.proofs.Common.{List, Ordering, Some, ap, arith, false, get_or, inl, inr, length}
+use Rattle.lemmas.proofs.Common.{List, Ordering, Some, arith, false, get_or, inl, inr, length}
 use Rattle.lemmas.proofs.Common.{pos, refl, slice_get, true, ℕ, ℤ, common_steps, false≢true, ints, ordering_then}
 use Rattle.lemmas.proofs.Common.{slice_get-get_or, slice_get_within, below_or_from, below_or_same, int_equal, int_less}
 use Rattle.lemmas.proofs.Common.{nat_equal, nat_less, same_or_higher}

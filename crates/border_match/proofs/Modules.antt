@@ -1,5 +1,5 @@
 -- The boxes of the modules of a certificate
-use Rattle.lemmas.proofs.Common.{[], ◌++◌, ◌+◌, ◌∙◌, ◌∷◌, ◌≡◌, ◌≤◌, List, None, Option, Some, ap, arith, length}
+use Rattle.lemmas.proofs.Common.{[], ◌++◌, ◌+◌, ◌∙◌, ◌∷◌, ◌≡◌, ◌≤◌, List, None, Some, ap, arith, length}
 use Rattle.lemmas.proofs.Common.{map, option_map, refl, slice_get, subst, sym, take, ℕ, common_steps}
 use Rattle.lemmas.proofs.Common.{get_or_from_slice_get, slice_get-map, slice_get_within, take_more, mapped_from}
 use Rattle.module_box.specs.Boxes.{IsEven, Tile}
@@ -8,7 +8,6 @@ use Rattle.module_box.specs.declared.boxes.Box2.{Box2}
 use Rattle.module_box.specs.declared.tile.TileFault.{TileFault}
 use Rattle.module_box.specs.declared.tile.TileFault.TheVariants.{Outside, Overlap, Gap, Memory}
 use Rattle.module_box.proofs.NoTilings.{no_tiling}
-use Rattle.module_box.proofs.BoxCells.{same_some}
 use Rattle.module_box.proofs.Rising.{pushed}
 use Rattle.pattern.specs.Lines.{size_fault}
 use Rattle.pattern.specs.declared.layout_line.LayoutHeader.{LayoutHeader}

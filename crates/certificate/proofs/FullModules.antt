@@ -1,10 +1,10 @@
 -- The modules of version 2 as modules of version 1
 use Rattle.lemmas.proofs.Common.{[], ◌&&◌, ◌++◌, ◌<◌, ◌||◌, ◌∙◌, ◌∷◌, ◌≡◌, ◌≢◌, ◌≤◌, All, Bool, Equal, Greater, IfSome}
 use Rattle.lemmas.proofs.Common.{IsTrue, Less, List, None, Option, Ordering, Some, ap, ap₂, arith, false, filter}
-use Rattle.lemmas.proofs.Common.{flat_map, inl, inr, is_lt, length, map, nat_lt, option_map, option_to_list, refl}
+use Rattle.lemmas.proofs.Common.{flat_map, inl, inr, is_lt, length, map, nat_lt, option_to_list, refl}
 use Rattle.lemmas.proofs.Common.{slice_get, subst, suc, sym, true, true≢false, zero, ℕ, ℤ, All-cons, All-nil, and_parts}
 use Rattle.lemmas.proofs.Common.{cases_Bool, common_steps, cond-false, cond-true, flat_map-append, length-map, list_all}
-use Rattle.lemmas.proofs.Common.{list_any, ordering_then, slice_get-map, mapped_at, mapped_from}
+use Rattle.lemmas.proofs.Common.{list_any, ordering_then, mapped_at, mapped_from}
 use Rattle.bbm_rule.specs.declared.block.Cell.{Cell}
 use Rattle.circuit.specs.Meaning.{wire_of}
 use Rattle.module_box.specs.Boxes.{in_box, in_halo, in_ring, Tile}

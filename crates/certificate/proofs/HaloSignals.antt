@@ -1,5 +1,5 @@
 -- The signals of a halo's cells by the edge lines beside a module
-use Rattle.lemmas.proofs.Common.{[], ◌%◌, ◌&&◌, ◌++◌, ◌<◌, ◌==◌, ◌∙◌, ◌∷◌, ◌≡◌, Bool, Less, List, None, Option, Some}
+use Rattle.lemmas.proofs.Common.{[], ◌%◌, ◌&&◌, ◌++◌, ◌<◌, ◌==◌, ◌∙◌, ◌∷◌, ◌≡◌, Less, List, None, Option, Some}
 use Rattle.lemmas.proofs.Common.{ap, ap₂, arith, false, filter, flat_map, if◌then◌else◌, inl, inr, nat_lt, refl}
 use Rattle.lemmas.proofs.Common.{slice_get, subst, sym, true, unwrap_or, ℕ, ℤ, cases_Bool, common_steps, cond-false}
 use Rattle.lemmas.proofs.Common.{cond-true, nat_tests, and-false, mapped_at}

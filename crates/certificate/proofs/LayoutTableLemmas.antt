@@ -1,5 +1,5 @@
 -- The indexes of a layout's cells, and the ports in a module's box.
-use Rattle.lemmas.proofs.Common.{[], ◌&&◌, ◌++◌, ◌+◌, ◌||◌, ◌∙◌, ◌∷◌, ◌≡◌, ◌≤◌, All, Bool, IfSome, IsTrue, List, None}
+use Rattle.lemmas.proofs.Common.{[], ◌++◌, ◌+◌, ◌||◌, ◌∙◌, ◌∷◌, ◌≡◌, ◌≤◌, All, Bool, IfSome, IsTrue, List, None}
 use Rattle.lemmas.proofs.Common.{Option, Some, ap, arith, false, if◌then◌else◌, length, map, refl, slice_get, subst}
 use Rattle.lemmas.proofs.Common.{suc, sym, true, zero, ℕ, ℤ, All-append, common_steps, list_all, list_any-append}
 use Rattle.lemmas.proofs.Common.{slice_get-get_or, slice_get-map, and_parts, or_parts}

@@ -1,6 +1,6 @@
 -- Lines that are good are good without the halo lines
 use Rattle.lemmas.proofs.Common.{[], ◌&&◌, ◌++◌, ◌||◌, ◌∙◌, ◌∷◌, ◌≡◌, ◌≤◌, Bool, List, None, Option, Some, ap}
-use Rattle.lemmas.proofs.Common.{append-nil, ap₂, arith, false, filter, flat_map, fold, length, map, nat_le, not}
+use Rattle.lemmas.proofs.Common.{append-nil, ap₂, arith, false, filter, flat_map, fold, length, map, nat_le}
 use Rattle.lemmas.proofs.Common.{option_map, refl, sym, true, ℕ, and_parts, common_steps, length-map, list_all}
 use Rattle.lemmas.proofs.Common.{list_any, map-append, nat_tests, true_from_not}
 use Rattle.section_text.specs.Codes.{or_else, code_if}

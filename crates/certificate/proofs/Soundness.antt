@@ -1,6 +1,6 @@
 -- Lines that are good one after the other make good modules.
 use Rattle.lemmas.proofs.Common.{[], ◌&&◌, ◌++◌, ◌+◌, ◌<◌, ◌==◌, ◌||◌, ◌∙◌, ◌∷◌, ◌≡◌, ◌≤◌, ◌⊎◌, All, Bool, List, None}
-use Rattle.lemmas.proofs.Common.{Some, ap, append-nil, append_assoc, arith, false, inl, inr, negsuc, not, pos, refl}
+use Rattle.lemmas.proofs.Common.{Some, ap, append-nil, append_assoc, arith, false, inl, inr, negsuc, pos, refl}
 use Rattle.lemmas.proofs.Common.{slice_get, subst, suc, sym, true, true≢false, zero, ℕ, ℤ, and_parts, common_steps}
 use Rattle.lemmas.proofs.Common.{eqb-true, list_all, nat_tests, slice_get-get_or, slice_get_within, or_cases, or_parts}
 use Rattle.lemmas.proofs.Common.{true_from_not}

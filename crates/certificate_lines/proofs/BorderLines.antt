@@ -1,7 +1,7 @@
 -- The form of a line by whether it has five words
 use Rattle.lemmas.proofs.Common.{◌==◌, ◌∙◌, ◌≡◌, Bool, List, None, Option, Some, ap, arith, codes, false, if◌then◌else◌}
 use Rattle.lemmas.proofs.Common.{length, refl, sym, true, ℕ, bytes_eq, bytes_eq-Decides, cases_Bool, common_steps}
-use Rattle.lemmas.proofs.Common.{cond-false, cond-true, same_Some, test_failed, tested_value}
+use Rattle.lemmas.proofs.Common.{cond-false, cond-true, test_failed, tested_value}
 use Rattle.section_text.specs.Listed.{list_of_five_words}
 use Rattle.section_text.specs.Words.{five, is_word, is_word_at, lone, lone_name, lone_number, ◌>>=◌}
 use Rattle.section_text.specs.declared.words.FiveWords.{FiveWords}

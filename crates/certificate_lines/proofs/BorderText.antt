@@ -1,5 +1,5 @@
 -- The content of an edge or halo line, by the bytes behind its keyword.
-use Rattle.lemmas.proofs.Common.{[], ◌&&◌, ◌++◌, ◌-◌, ◌<◌, ◌==◌, ◌∙◌, ◌∷◌, ◌≡◌, Bool, List, None, Option, Some, ap}
+use Rattle.lemmas.proofs.Common.{[], ◌++◌, ◌-◌, ◌<◌, ◌==◌, ◌∙◌, ◌∷◌, ◌≡◌, List, None, Option, Some, ap}
 use Rattle.lemmas.proofs.Common.{arith, codes, drop, false, inl, inr, length, refl, subst, suc, sym, take}
 use Rattle.lemmas.proofs.Common.{take-append-drop, true, ℕ, bytes_eq, bytes_eq-Decides, cases_Bool, common_steps}
 use Rattle.lemmas.proofs.Common.{cond-false, false≢true, join_with_byte, join_with_byte-slice_split, list_all}

@@ -1,6 +1,6 @@
 -- The lines before the next `module` line.
 use Rattle.lemmas.proofs.Common.{[], ◌++◌, ◌+◌, ◌<◌, ◌∙◌, ◌∷◌, ◌≡◌, ◌≤◌, Bool, List, ap, append-nil, append_assoc}
-use Rattle.lemmas.proofs.Common.{arith, drop, false, get_or, length, refl, subst, suc, sym, take, true, zero, ℕ}
+use Rattle.lemmas.proofs.Common.{arith, drop, false, get_or, length, refl, suc, sym, take, true, zero, ℕ}
 use Rattle.lemmas.proofs.Common.{common_steps, drop_all, take_all, take_more}
 use Rattle.std.proofs.Math.Seq.{drop-cons}
 use Rattle.certificate_lines.specs.ModuleParts.{inner, is_module}

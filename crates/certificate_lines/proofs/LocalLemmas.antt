@@ -1,6 +1,6 @@
 -- The lines of local wires after one more cut, and after one more used gate.
-use Rattle.lemmas.proofs.Common.{[], ◌++◌, ◌<◌, ◌==◌, ◌∙◌, ◌∷◌, ◌≡◌, Bool, List, Option, Some, ap, append-nil}
-use Rattle.lemmas.proofs.Common.{append_assoc, arith, false, inl, inr, length, not, refl, rules, slice_get, subst, suc}
+use Rattle.lemmas.proofs.Common.{[], ◌++◌, ◌<◌, ◌==◌, ◌∙◌, ◌∷◌, ◌≡◌, List, Option, Some, ap, append-nil}
+use Rattle.lemmas.proofs.Common.{append_assoc, arith, false, inl, inr, length, not, refl, slice_get, subst, suc}
 use Rattle.lemmas.proofs.Common.{sym, take, true, true≢false, zero, ℕ, All-get_or, and_parts, common_steps}
 use Rattle.lemmas.proofs.Common.{get_or_from_slice_get, length_push, list_all, option_map_or, slice_get_within}
 use Rattle.lemmas.proofs.Common.{take-append_seam, eq_itself, false_from_not, none_at}

@@ -1,6 +1,6 @@
 -- A module after one more line.
 use Rattle.lemmas.proofs.Common.{[], ◌&&◌, ◌++◌, ◌<◌, ◌||◌, ◌∙◌, ◌∷◌, ◌≡◌, Bool, Equal, Greater, Less, List, Ordering}
-use Rattle.lemmas.proofs.Common.{ap₂, arith, false, refl, true, ℕ, All-append, All-nil, All-push, and_parts, list_all}
+use Rattle.lemmas.proofs.Common.{ap₂, false, refl, true, ℕ, All-append, All-nil, All-push, and_parts, list_all}
 use Rattle.lemmas.proofs.Common.{list_all-append, ordering_then, nat_less}
 use Rattle.std.specs.List.{All, flat_map}
 use Rattle.std.specs.Ordering.{nat_cmp, is_lt}

@@ -1,5 +1,5 @@
 -- A module that is good stays so after one more line that is good.
-use Rattle.lemmas.proofs.Common.{[], ◌%◌, ◌&&◌, ◌++◌, ◌<◌, ◌||◌, ◌∙◌, ◌∷◌, ◌≡◌, ◌≤◌, All, Bool, IfSome, IsTrue, List}
+use Rattle.lemmas.proofs.Common.{[], ◌%◌, ◌&&◌, ◌++◌, ◌<◌, ◌||◌, ◌∙◌, ◌∷◌, ◌≡◌, All, Bool, IfSome, IsTrue, List}
 use Rattle.lemmas.proofs.Common.{None, Option, Some, ap, ap₂, arith, false, flat_map, length, nat_le, nat_lt, not}
 use Rattle.lemmas.proofs.Common.{option_to_list, refl, slice_get, subst, sym, true, ℕ, All-nil, and_parts, common_steps}
 use Rattle.lemmas.proofs.Common.{eqb-true, length_push, list_all, list_any, nat_tests, at_most_by_test, below_by_test}

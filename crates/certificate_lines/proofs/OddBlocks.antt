@@ -1,6 +1,6 @@
 -- The modules beside the cell of an edge line, by the cells of its block at odd times
 use Rattle.lemmas.proofs.Common.{[], ◌%◌, ◌&&◌, ◌+ℤ◌, ◌-ℤ◌, ◌<◌, ◌||◌, ◌∙◌, ◌∷◌, ◌≡◌, ◌≤ℤ◌, ◌≤◌, ◌⊎◌, Bool, List, None}
-use Rattle.lemmas.proofs.Common.{Option, Some, ap, ap₂, arith, eq-eqb, false, inl, inr, length, map, ne_eqb, negsuc}
+use Rattle.lemmas.proofs.Common.{Option, Some, ap, ap₂, arith, eq-eqb, false, inl, inr, length, ne_eqb, negsuc}
 use Rattle.lemmas.proofs.Common.{not, pos, refl, slice_get, suc, sym, true, zero, ℕ, ℤ, cases_Bool, common_steps}
 use Rattle.lemmas.proofs.Common.{cond-false, cond-true, eqb-false, eqb-true, false≢true, ints, list_any}
 use Rattle.lemmas.proofs.Common.{slice_get_within, and-false, mapped_from, or-false}

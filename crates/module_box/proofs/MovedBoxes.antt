@@ -1,7 +1,7 @@
 -- Boxes and signals that are moved
-use Rattle.lemmas.proofs.Common.{[], ◌&&◌, ◌+ℤ◌, ◌+◌, ◌-ℤ◌, ◌∷◌, ◌≡◌, Equal, Greater, Less, List, Ordering, Some, ap}
-use Rattle.lemmas.proofs.Common.{ap₂, arith, if◌then◌else◌, map, nat_eq, not, pos, refl, slice_get, suc, unwrap_or}
-use Rattle.lemmas.proofs.Common.{zero, ℕ, ℤ, common_steps, int_le, int_lt, ints, ordering_then, down_moved, mapped_from}
+use Rattle.lemmas.proofs.Common.{[], ◌&&◌, ◌+ℤ◌, ◌+◌, ◌∷◌, ◌≡◌, Equal, Greater, Less, List, Ordering, Some, ap}
+use Rattle.lemmas.proofs.Common.{ap₂, arith, if◌then◌else◌, map, nat_eq, not, pos, refl, unwrap_or}
+use Rattle.lemmas.proofs.Common.{ℕ, ℤ, common_steps, int_le, int_lt, ints, ordering_then, down_moved, mapped_from}
 use Rattle.lemmas.proofs.Common.{up_moved}
 use Rattle.std.specs.Ordering.{int_eq, int_cmp, nat_cmp}
 use Rattle.bbm_rule.specs.Moves.{IsMoved}

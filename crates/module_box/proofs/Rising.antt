@@ -1,6 +1,6 @@
 -- Facts about a rising list by comparing its keys with a key
 use Rattle.lemmas.proofs.Common.{[], ◌++◌, ◌+◌, ◌<◌, ◌∙◌, ◌∷◌, ◌≡◌, ◌≢◌, ◌≤◌, ◌⊎◌, Equal, Greater, Less, List, None}
-use Rattle.lemmas.proofs.Common.{Option, Ordering, Some, ap, arith, eqb, inl, inr, int_eq, length, refl, rules}
+use Rattle.lemmas.proofs.Common.{Option, Ordering, Some, ap, arith, eqb, inl, inr, length, refl, rules}
 use Rattle.lemmas.proofs.Common.{slice_get, suc, sym, true, zero, ℕ, ℤ, CmpEqualImpliesEq, IsTotalOrder, and_parts}
 use Rattle.lemmas.proofs.Common.{cases_Bool, common_steps, cond-false, cond-true, eqb-true, exact_pairs, exact_signed}
 use Rattle.lemmas.proofs.Common.{exact_unsigned, int_cmp_total, nat_cmp_total, on_total, then_total, tied_itself}

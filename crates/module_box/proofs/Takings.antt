@@ -1,5 +1,5 @@
 -- Boxes that take the places of their blocks, row by row
-use Rattle.lemmas.proofs.Common.{◌%◌, ◌*◌, ◌+◌, ◌/◌, ◌<◌, ◌∙◌, ◌≡◌, ◌≤◌, ◌⊎◌, List, arith, inl, inr, length, min}
+use Rattle.lemmas.proofs.Common.{◌%◌, ◌*◌, ◌+◌, ◌/◌, ◌<◌, ◌∙◌, ◌≡◌, ◌≤◌, List, arith, inl, inr, length, min}
 use Rattle.lemmas.proofs.Common.{slice_index, ℕ, and_from, and_parts, common_steps, div-add-mod', div-mul-add, mod-lt}
 use Rattle.lemmas.proofs.Common.{mod-mul-add, mul-le-mul_right, below_or_from}
 use Rattle.bbm_rule.proofs.Spans.{span_from, span_parts}

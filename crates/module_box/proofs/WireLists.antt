@@ -1,8 +1,8 @@
 -- Lists of wires: the place of a wire, and wires that are added
 use Rattle.lemmas.proofs.Common.{[], ◌++◌, ◌+◌, ◌<◌, ◌==◌, ◌||◌, ◌∙◌, ◌∷◌, ◌≡◌, ◌≤◌, Contains, IfSome, List, None}
-use Rattle.lemmas.proofs.Common.{Option, Some, ap, append_assoc, ap₂, arith, drop, eq-eqb, false, get_or}
+use Rattle.lemmas.proofs.Common.{Option, Some, ap, append_assoc, ap₂, arith, drop, false, get_or}
 use Rattle.lemmas.proofs.Common.{get_or-append-add, inl, inr, is_some, length, length-append, nat_eq, ne_eqb, position}
-use Rattle.lemmas.proofs.Common.{refl, slice_get, subst, suc, sym, take, take-append-drop, true, zero, ℕ, cases_lt}
+use Rattle.lemmas.proofs.Common.{refl, slice_get, subst, suc, sym, take, take-append-drop, zero, ℕ, cases_lt}
 use Rattle.lemmas.proofs.Common.{common_steps, drop_more, eqb-true, false_from_ne_true, false≢true, get_or_append_left}
 use Rattle.lemmas.proofs.Common.{list_any, list_any_at, position_or_len_is, same_Some, slice_get-get_or}
 use Rattle.lemmas.proofs.Common.{slice_get_within, take_more, eq_itself, eq_sym}

@@ -1,5 +1,5 @@
-use Rattle.lemmas.proofs.Common.{◌+◌, ◌-◌, ◌<◌, ◌∙◌, ◌≡◌, List, SFits, ap, arith, get_or, refl, rules, subst, suc, sym}
-use Rattle.lemmas.proofs.Common.{to_z-of_z, w32, zero, ℕ, slice_get-get_or, unsigned_abs, positive}
+use Rattle.lemmas.proofs.Common.{◌+◌, ◌-◌, ◌∙◌, ◌≡◌, List, SFits, ap, arith, get_or, refl, rules, subst, sym}
+use Rattle.lemmas.proofs.Common.{to_z-of_z, w32, ℕ, slice_get-get_or, unsigned_abs, positive}
 use Rattle.pattern.specs.declared.layout_line.Port.{Port}
 use Rattle.module_box.proofs.FromCorner.{abs_from}
 use Rattle.certificate_lines.proofs.RowLemmas.{AreRowsSoFar, count_below, no_rows, read_row, row_kept, row_set}

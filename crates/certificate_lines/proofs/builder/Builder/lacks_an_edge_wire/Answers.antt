@@ -1,5 +1,5 @@
 use Rattle.lemmas.proofs.Common.{◌+◌, ◌<◌, ◌||◌, ◌∙◌, ◌≡◌, ◌≤◌, Bool, ap, arith, drop, false, flat_map, get_or, length}
-use Rattle.lemmas.proofs.Common.{nat_lt, refl, subst, sym, true, ℕ, common_steps, list_any, nat_tests, or_left}
+use Rattle.lemmas.proofs.Common.{nat_lt, subst, sym, true, ℕ, common_steps, list_any, nat_tests, or_left}
 use Rattle.certificate_lines.specs.BuilderView.{BuilderView, lacks_edge_wire}
 use Rattle.certificate_lines.specs.Entries.{ModuleLines, edge_in, edges, modules_of}
 use Rattle.certificate_lines.specs.ModuleParts.{AreInBox, inner}

@@ -1,4 +1,4 @@
-use Rattle.lemmas.proofs.Common.{◌<◌, ◌∙◌, ◌≡◌, List, Option, Some, ap, arith, get_or, refl, suc, sym, true, zero, ℕ}
+use Rattle.lemmas.proofs.Common.{◌∙◌, ◌≡◌, List, Option, Some, ap, arith, get_or, sym, true, ℕ}
 use Rattle.lemmas.proofs.Common.{common_steps, positive}
 use Rattle.certificate_lines.specs.PortTables.{IsPortTable, entry_place, number_at}
 use Rattle.certificate_lines.specs.declared.ports.PortTable.TheInside.{Inside}
