@@ -1,9 +1,8 @@
 -- The laws of books
-use Rattle.lemmas.proofs.Common.{◌<◌, ◌∙◌, ◌≡◌, ◌≢◌, Bool, IsSome, List, None, Option, Some, ap, arith, false, get_or}
+use Rattle.lemmas.proofs.Common.{◌∙◌, ◌≡◌, ◌≢◌, Bool, IsSome, None, Option, Some, ap, arith, false}
 use Rattle.lemmas.proofs.Common.{get_or-set_other, get_or-set_same, if◌then◌else◌, is_some, length, nat_eq, nat_lt, not}
 use Rattle.lemmas.proofs.Common.{refl, slice_get, subst, sym, true, ℕ, bytes_decides, nat_tests, option_eq, pointwise}
 use Rattle.lemmas.proofs.Common.{same_Some, slice_get_within, common_steps}
-use Rattle.module_job.specs.Equality.{same_job}
 use Rattle.module_job.specs.Jobs.{JobView}
 use Rattle.module_job.proofs.EqualJobs.{jobs_decide}
 use Rattle.local_run.specs.Faults.{IsLeastFault, IsLeastKeepFault}

@@ -1,6 +1,6 @@
 -- The parts of a core that each event keeps
 use Rattle.lemmas.proofs.Common.{[], ◌++◌, ◌+◌, ◌<◌, ◌∙◌, ◌∷◌, ◌≡◌, ◌≤◌, All, Bool, List, ap, arith, false, get_or}
-use Rattle.lemmas.proofs.Common.{if◌then◌else◌, length, length-set, map, nat_lt, refl, set, subst, suc, sym, true, zero}
+use Rattle.lemmas.proofs.Common.{if◌then◌else◌, length, length-set, map, refl, set, subst, suc, sym, true, zero}
 use Rattle.lemmas.proofs.Common.{ℕ, All-head, All-tail, length-replicate, nat_tests, common_steps}
 use Rattle.module_job.specs.Jobs.{JobView}
 use Rattle.core_book.specs.Draws.{IsDrawn, total}

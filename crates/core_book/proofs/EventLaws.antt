@@ -1,7 +1,7 @@
 -- The laws of the core
 use Rattle.lemmas.proofs.Common.{[], ◌+◌, ◌<◌, ◌==◌, ◌∙◌, ◌∷◌, ◌≡◌, ◌≢◌, ◌≤◌, ◌⊎◌, All, Bool, Contains, List, None}
 use Rattle.lemmas.proofs.Common.{Option, Some, ap, arith, cond, false, get_or, if◌then◌else◌, inl, inr, is_some, length}
-use Rattle.lemmas.proofs.Common.{nat_lt, refl, subst, suc, sum_by, sym, true, zero, ℕ, All-contains, common_steps}
+use Rattle.lemmas.proofs.Common.{nat_lt, refl, subst, sum_by, sym, true, ℕ, common_steps}
 use Rattle.lemmas.proofs.Common.{Contains-append_cases, Contains-append_left, Contains-append_right, Contains-push}
 use Rattle.lemmas.proofs.Common.{eqb_tells, nat_tests, same_Some, sum_by-append, nothing_in, one_in}
 use Rattle.module_job.specs.Jobs.{JobView}

@@ -1,8 +1,8 @@
 -- Replies, and what filing keeps
 use Rattle.lemmas.proofs.Common.{[], ◌++◌, ◌+◌, ◌<◌, ◌∙◌, ◌∷◌, ◌≡◌, ◌≢◌, ◌≤◌, Bool, IfSome, List, None, Option, Some}
-use Rattle.lemmas.proofs.Common.{ap, ap₂, arith, cond, false, get_or, get_or-set_other, get_or-set_same, if◌then◌else◌}
-use Rattle.lemmas.proofs.Common.{inl, inr, is_some, length, length-set, map, nat_eq, nat_lt, not, option_copied}
-use Rattle.lemmas.proofs.Common.{option_map, refl, set, slice_get, subst, suc, sum_by, sym, true, zero, ℕ, eqb_tells}
+use Rattle.lemmas.proofs.Common.{ap, arith, cond, false, get_or, get_or-set_other, get_or-set_same, if◌then◌else◌}
+use Rattle.lemmas.proofs.Common.{is_some, length, length-set, map, nat_eq, nat_lt, not, option_copied}
+use Rattle.lemmas.proofs.Common.{option_map, refl, set, slice_get, suc, sum_by, sym, true, zero, ℕ, eqb_tells}
 use Rattle.lemmas.proofs.Common.{nat_tests, option_eq, pointwise, same_text, slice_get-map, slice_get_read, sum_by-set}
 use Rattle.lemmas.proofs.Common.{false_from_not, true_from_not, common_steps}
 use Rattle.std.specs.Borrow.{Bor}

@@ -1,5 +1,5 @@
 -- While a book is filled up, one job of each shape is run at most
-use Rattle.lemmas.proofs.Common.{◌+◌, ◌<◌, ◌==◌, ◌∙◌, ◌≡◌, ◌≢◌, ◌≤◌, Bool, IsSome, List, None, Option, Some, ap, ap₂}
+use Rattle.lemmas.proofs.Common.{◌+◌, ◌<◌, ◌==◌, ◌∙◌, ◌≡◌, ◌≢◌, ◌≤◌, Bool, IsSome, List, None, Option, Some, ap}
 use Rattle.lemmas.proofs.Common.{arith, false, get_or, if◌then◌else◌, inl, inr, length, option_map, refl, slice_get}
 use Rattle.lemmas.proofs.Common.{slice_index, subst, suc, sym, true, zero, ℕ, cases_order, get_or_default, nat_tests}
 use Rattle.lemmas.proofs.Common.{same_Some, slice_get-map, common_steps}

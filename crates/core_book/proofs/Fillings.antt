@@ -1,6 +1,6 @@
 -- Books that are filled up
 use Rattle.lemmas.proofs.Common.{[], ◌++◌, ◌+◌, ◌<◌, ◌∙◌, ◌∷◌, ◌≡◌, ◌≢◌, ◌≤◌, Bool, IsSome, List, None, Option, Some}
-use Rattle.lemmas.proofs.Common.{ap, append-nil, append_assoc, ap₂, arith, cond, false, get_or, if◌then◌else◌, inl, inr}
+use Rattle.lemmas.proofs.Common.{ap, append-nil, append_assoc, arith, cond, false, get_or, if◌then◌else◌, inl, inr}
 use Rattle.lemmas.proofs.Common.{is_some, length, map, refl, slice_get, subst, suc, sym, true, ℕ, AllZip, Decides}
 use Rattle.lemmas.proofs.Common.{eqb_tells, map-append, pointwise, slice_eq-Decides, common_steps}
 use Rattle.std.specs.List.{count_by}
@@ -10,12 +10,10 @@ use Rattle.module_job.specs.Jobs.{JobView}
 use Rattle.module_job.proofs.EqualJobs.{jobs_decide}
 use Rattle.local_run.specs.Shown.{digest_of, number_of, job_of}
 use Rattle.local_run.specs.declared.finding.Finding.{Finding}
-use Rattle.core_book.specs.Book.{BookView, IsBook, IsOwn, IsReplayed, accepted_in, after_filing, filing_of, found_in}
-use Rattle.core_book.specs.Book.{is_job_of, new_book, reply_to}
+use Rattle.core_book.specs.Book.{BookView, IsBook, IsReplayed, accepted_in, after_filing, filing_of, found_in}
+use Rattle.core_book.specs.Book.{new_book, reply_to}
 use Rattle.core_book.specs.Filling.{IsHeldOrFiled, IsFilledTo, IsFull, IsOpenFor, IsPartlyFilled, accepted_entry}
 use Rattle.core_book.specs.Filling.{missing_numbers_below}
-use Rattle.core_book.specs.Verdicts.{AreFindingsHeldBelow}
-use Rattle.core_book.specs.declared.log_entry.LogEntry.{LogEntry}
 use Rattle.core_book.specs.declared.log_entry.LogEntry.TheVariants.{Filed}
 use Rattle.core_book.specs.declared.reply.Reply.TheVariants.{Accepted}
 use Rattle.core_book.proofs.BookLaws.{held-elsewhere, holds-what_is_accepted, keeps-what_is_held, own-digest, own-job}

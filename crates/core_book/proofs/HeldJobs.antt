@@ -1,6 +1,6 @@
 -- Jobs for which a finding is held, and their least faults
 use Rattle.lemmas.proofs.Common.{[], ◌++◌, ◌+◌, ◌<◌, ◌∙◌, ◌∷◌, ◌≡◌, ◌≢◌, Bool, List, Some, ap, arith, false, get_or}
-use Rattle.lemmas.proofs.Common.{inl, inr, length, length-append, map, option_map, refl, slice_get, subst, sym, true, ℕ}
+use Rattle.lemmas.proofs.Common.{inl, inr, length, length-append, map, slice_get, subst, sym, true, ℕ}
 use Rattle.lemmas.proofs.Common.{eqb_tells, same_Some, slice_get-map, slice_get_read, common_steps}
 use Rattle.module_box.proofs.Rising.{pushed}
 use Rattle.module_job.specs.Equality.{same_job}
@@ -9,7 +9,7 @@ use Rattle.module_job.proofs.EqualJobs.{jobs_decide}
 use Rattle.local_run.specs.Shown.{job_of}
 use Rattle.local_run.specs.declared.finding.Finding.{Finding}
 use Rattle.core_book.specs.Book.{BookView, found_in}
-use Rattle.core_book.specs.Verdicts.{AreFindingsHeldBelow, AreLeastFaults, IsFirstMissing, IsHeld, IsToldOf}
+use Rattle.core_book.specs.Verdicts.{AreFindingsHeldBelow, IsFirstMissing, IsHeld, IsToldOf}
 use Rattle.core_book.specs.declared.verdict.LeastFaults.{LeastFaults}
 
 -- ---- the finding of a number, beside a job

@@ -1,6 +1,6 @@
 -- The modules of a certificate have one verdict
-use Rattle.lemmas.proofs.Common.{[], ◌++◌, ◌<◌, ◌∙◌, ◌∷◌, ◌≡◌, ◌≤◌, List, None, Option, Some, ap, arith, length, map}
-use Rattle.lemmas.proofs.Common.{option_map, refl, slice_get, suc, sym, zero, ℕ, same_lists, slice_get-get_or}
+use Rattle.lemmas.proofs.Common.{[], ◌++◌, ◌<◌, ◌∙◌, ◌∷◌, ◌≡◌, ◌≤◌, List, None, Option, Some, arith, length, map}
+use Rattle.lemmas.proofs.Common.{refl, slice_get, suc, sym, zero, ℕ, same_lists, slice_get-get_or}
 use Rattle.lemmas.proofs.Common.{slice_get_within, common_steps}
 use Rattle.certificate_lines.specs.Entries.{Setting, ModuleLines}
 use Rattle.module_job.specs.Jobs.{JobView}
@@ -11,7 +11,7 @@ use Rattle.border_match.specs.declared.fault.BorderFault.{BorderFault}
 use Rattle.border_match.proofs.Unique.{least_unique as least_border_unique}
 use Rattle.core_book.specs.CoreLaws.{VerdictIsUnique}
 use Rattle.core_book.specs.Verdicts.{AreLeastFaults, AreReportLines, IsToldOf, IsVerdict, report_lines_from}
-use Rattle.core_book.specs.Verdicts.{renumber_keep, timing_report, unkept_lines}
+use Rattle.core_book.specs.Verdicts.{timing_report, unkept_lines}
 use Rattle.core_book.specs.declared.verdict.LeastFaults.{LeastFaults}
 use Rattle.core_book.specs.declared.verdict.ReportLine.{ReportLine}
 use Rattle.core_book.specs.declared.verdict.Verdict.TheVariants.{Yes, No}

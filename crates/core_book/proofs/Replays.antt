@@ -1,15 +1,15 @@
 -- The history of a book replays to it
 use Rattle.lemmas.proofs.Common.{[], ◌++◌, ◌+◌, ◌<◌, ◌∙◌, ◌∷◌, ◌≡◌, Bool, List, None, Option, Some, ap, arith, count_by}
-use Rattle.lemmas.proofs.Common.{false, get_or, get_or-set_other, get_or-set_same, if◌then◌else◌, inl, inr, is_some}
-use Rattle.lemmas.proofs.Common.{length, length-append, nat_eq, refl, replicate, set, suc, sym, true, zero, ℕ}
+use Rattle.lemmas.proofs.Common.{false, get_or, get_or-set_other, get_or-set_same, if◌then◌else◌, is_some}
+use Rattle.lemmas.proofs.Common.{length, length-append, refl, replicate, set, suc, sym, true, zero, ℕ}
 use Rattle.lemmas.proofs.Common.{common_steps, eqb_tells, length-replicate, list_any-append}
 use Rattle.module_job.specs.Jobs.{JobView}
-use Rattle.local_run.specs.Shown.{digest_of, number_of, job_of}
+use Rattle.local_run.specs.Shown.{number_of}
 use Rattle.local_run.specs.declared.finding.Finding.{Finding}
 use Rattle.core_book.specs.Replay.{Replayed, AreRepliesByRule, IsReplyByRule, accepted_after, after_entry}
-use Rattle.core_book.specs.Replay.{empty_replayed, has_closing, has_number, replay, replay_from, rule}
+use Rattle.core_book.specs.Replay.{empty_replayed, has_closing, has_number, replay, replay_from}
 use Rattle.core_book.specs.Book.{BookView, IsBook, IsReplayed, accepted_in, after_closing, after_filing, filing_of}
-use Rattle.core_book.specs.Book.{findings_after, is_job_of, new_book, reply_to, found_in}
+use Rattle.core_book.specs.Book.{findings_after, new_book, reply_to, found_in}
 use Rattle.core_book.specs.declared.log_entry.LogEntry.{LogEntry}
 use Rattle.core_book.specs.declared.log_entry.LogEntry.TheVariants.{Filed, Closing}
 use Rattle.core_book.specs.declared.log_entry.Filing.{Filing}

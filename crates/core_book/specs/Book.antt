@@ -12,7 +12,7 @@ use Rattle.core_book.specs.declared.log_entry.LogEntry.{LogEntry}
 use Rattle.core_book.specs.declared.log_entry.LogEntry.TheVariants.{Filed, Closing}
 use Rattle.core_book.specs.declared.log_entry.Filing.{Filing}
 use Rattle.core_book.specs.declared.reply.Reply.{Reply}
-use Rattle.core_book.specs.declared.reply.Reply.TheVariants.{Closed, Stranger, Double, Accepted}
+use Rattle.core_book.specs.declared.reply.Reply.TheVariants.{Accepted}
 
 -- A book as contracts see it: the digest of its certificate, its jobs, and for each of their numbers the finding that
 -- is held for it, or `None`. It also says whether the book is closed, and has an entry for each filing and each closing

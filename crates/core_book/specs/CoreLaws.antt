@@ -14,7 +14,7 @@ use Rattle.core_book.specs.declared.machine.Answer.TheVariants as Answered
 use Rattle.core_book.specs.declared.machine.Event.{Event}
 use Rattle.core_book.specs.declared.machine.Event.TheVariants as Events
 use Rattle.core_book.specs.declared.reply.Reply.{Reply}
-use Rattle.core_book.specs.declared.reply.Reply.TheVariants.{Closed, Stranger, Double, Accepted}
+use Rattle.core_book.specs.declared.reply.Reply.TheVariants.{Accepted}
 use Rattle.core_book.specs.declared.verdict.Verdict.{Verdict}
 use Rattle.core_book.specs.declared.verdict.Verdict.TheVariants.{Yes, No}
 

@@ -1,5 +1,5 @@
 -- Sums over lists, and lists of numbers that were drawn.
-use Rattle.lemmas.proofs.Common.{[], ◌++◌, ◌+◌, ◌-◌, ◌<◌, ◌∙◌, ◌∷◌, ◌≡◌, ◌≤◌, List, ap, append-nil, append_assoc, arith}
+use Rattle.lemmas.proofs.Common.{[], ◌++◌, ◌+◌, ◌-◌, ◌∙◌, ◌∷◌, ◌≡◌, ◌≤◌, List, ap, append-nil, append_assoc, arith}
 use Rattle.lemmas.proofs.Common.{get_or, length, length-append, map, max, min, refl, set, subst, suc, sym, zero, ℕ}
 use Rattle.lemmas.proofs.Common.{nat_tests}
 use mathlib.Core.Option.{some, some-injective, some-ne-none}

@@ -1,5 +1,5 @@
 -- The results of workers
-use Rattle.std.specs.Prelude.{◌≡◌, ℕ, ◌+◌, ◌-◌, ◌^◌, ◌<◌, ◌≤◌, false, List, [], ◌∷◌, map, slice_index_or, sum_by}
+use Rattle.std.specs.Prelude.{◌≡◌, ℕ, ◌+◌, ◌<◌, ◌≤◌, false, List, [], ◌∷◌, map, slice_index_or, sum_by}
 use Rattle.std.specs.Prelude.{length}
 use Rattle.core_book.specs.Draws.{past_last, times}
 use Rattle.verdict_book.specs.Counts.{Counts}

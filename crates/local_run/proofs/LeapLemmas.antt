@@ -1,6 +1,6 @@
 -- Runs that stay as they are, and times that can be leapt over
 use Rattle.lemmas.proofs.Common.{◌%◌, ◌&&◌, ◌+ℤ◌, ◌+◌, ◌-◌, ◌<◌, ◌||◌, ◌∙◌, ◌≡◌, ◌≢◌, ◌≤◌, Greater, Less, List, None}
-use Rattle.lemmas.proofs.Common.{Option, Some, ap, ap₂, arith, false, inl, inr, int_eq, length, nat_cmp, refl, rules}
+use Rattle.lemmas.proofs.Common.{Option, Some, ap, ap₂, arith, false, inl, inr, length, nat_cmp, refl}
 use Rattle.lemmas.proofs.Common.{slice_get, subst, suc, sym, true, unwrap_or, zero, ℕ, ℤ, and_parts, common_steps}
 use Rattle.lemmas.proofs.Common.{false≢true, slice_get_within, int_itself, int_same}
 use Rattle.bbm_rule.specs.Plane.{State, is_at, partner, step}

@@ -1,6 +1,6 @@
 -- Runs under all assignments that leap over times
-use Rattle.lemmas.proofs.Common.{◌%◌, ◌+◌, ◌-◌, ◌<◌, ◌||◌, ◌∙◌, ◌≡◌, ◌≤◌, ◌⊎◌, Bool, arith, false, inl, inr, refl}
-use Rattle.lemmas.proofs.Common.{subst, sym, true, ℕ, ℤ, and_parts, cases_Bool, common_steps, false≢true, or_parts}
+use Rattle.lemmas.proofs.Common.{◌%◌, ◌+◌, ◌-◌, ◌<◌, ◌||◌, ◌∙◌, ◌≡◌, ◌≤◌, ◌⊎◌, Bool, arith, false, inl, inr}
+use Rattle.lemmas.proofs.Common.{subst, sym, ℕ, ℤ, and_parts, cases_Bool, common_steps, or_parts}
 use Rattle.bbm_rule.specs.Spans.{in_span}
 use Rattle.bbm_rule.proofs.BitLemmas.{by_lt_or_le, by_eq_or_not}
 use Rattle.module_box.specs.Boxes.{in_box}

@@ -6,10 +6,9 @@ use Rattle.lemmas.proofs.Common.{common_steps, false≢true, mod-lt, or_zero_l, 
 use Rattle.std.specs.Int.Count.{trailing_of_zero}
 use Rattle.bbm_rule.specs.Bits.{bit}
 use Rattle.bbm_rule.specs.Rows.{cell_at}
-use Rattle.bbm_rule.specs.Marks.{IsUnmarked}
 use Rattle.bbm_rule.proofs.BitLemmas.{by_eq_or_not, by_lt_or_le, bit-and, bit-is, bit-xor, bit-zero, xor}
 use Rattle.bbm_rule.proofs.MarkLemmas.{bit_ones}
-use Rattle.local_run.specs.Live.{IsInBoth, TakesMarkOfOther}
+use Rattle.local_run.specs.Live.{TakesMarkOfOther}
 
 -- the word with one bit
 abbrev one_at : ℕ → ℕ

@@ -1,6 +1,6 @@
 -- Words of marks: numbers that have a mark in one list, and one in another
 use Rattle.lemmas.proofs.Common.{◌%◌, ◌&&◌, ◌/◌, ◌||◌, ◌∙◌, ◌≡◌, ◌⊎◌, Bool, List, ap, arith, bit_and, bit_or, false}
-use Rattle.lemmas.proofs.Common.{get_or, inl, inr, refl, sym, true, ℕ, common_steps, false≢true, or_parts}
+use Rattle.lemmas.proofs.Common.{get_or, inl, inr, refl, true, ℕ, common_steps, or_parts}
 use Rattle.bbm_rule.specs.Bits.{bit}
 use Rattle.bbm_rule.specs.Marks.{IsUnmarked}
 use Rattle.bbm_rule.specs.Rows.{cell_at}

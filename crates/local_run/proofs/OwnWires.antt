@@ -1,5 +1,5 @@
 -- Each wire that a job names is one of its own, at each cell and time
-use Rattle.lemmas.proofs.Common.{[], ◌∷◌, ◌≡◌, All, Bool, List, arith, false, if◌then◌else◌, inl, inr, slice_get, suc}
+use Rattle.lemmas.proofs.Common.{[], ◌∷◌, ◌≡◌, All, Bool, List, false, if◌then◌else◌, inl, inr, slice_get, suc}
 use Rattle.lemmas.proofs.Common.{true, unwrap_or, zero, ℕ, ℤ, cases_Bool, cond-false, All-head, All-tail}
 use Rattle.bbm_rule.specs.Plane.{is_at}
 use Rattle.circuit.specs.Meaning.{wires}

@@ -3,7 +3,6 @@ use Rattle.lemmas.proofs.Common.{◌+◌, ◌<ℤ◌, ◌<◌, ◌∙◌, ◌≡
 use Rattle.lemmas.proofs.Common.{ap, arith, get_or, inl, inr, length, refl, slice_get, subst, sym, true, ℕ, ℤ, cases_lt}
 use Rattle.lemmas.proofs.Common.{common_steps, ints, ordering_then, same_Some, slice_get-get_or, slice_get_within}
 use Rattle.lemmas.proofs.Common.{below_or_same, int_equal, int_less, nat_equal, nat_less, three_ways}
-use Rattle.std.specs.Ordering.{nat_cmp, int_cmp}
 use Rattle.circuit.specs.Meaning.{Valuation}
 use Rattle.module_box.specs.Moments.{cell_cmp, moment_cmp}
 use Rattle.module_box.specs.Schedules.{IsRising}

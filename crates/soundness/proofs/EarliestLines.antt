@@ -259,4 +259,15 @@ earliest_is_first lines p ms jobs report inputs v i m j f b judged first atm atj
 pub earliest_is_real : EarliestLineIsReal
 unfolding IsVerdict
 earliest_is_real lines p ms jobs report inputs v i m f named b judged first atm s has =
-    grind (arith, common_steps, slice_get_within, some_at, assigned, first_means, earliest_is_first)
+    let count = b.are_jobs.count in
+    let within = slice_get_within ms i m atm in
+    let j = some_at jobs i (omega (arith, count, within)) in
+    let is = b.are_jobs.each i m j.0 atm j.1 in
+    let fault : IsFault j.0 f =
+    its_fault (setting_of lines p) ms jobs report.items judged.1 count i f j.0 first.listed j.1 in
+    let under : IsAssignmentOf j.0 v f.assignment = record {
+      in_range = fault.in_range;
+      bits = assigned lines p m j.0 v f.assignment (b.are_modules.each i m atm) is has;
+    } in
+    first_means lines p ms jobs inputs v i m f named
+    (earliest_is_first lines p ms jobs report inputs v i m j.0 f b judged first atm j.1 s under)

@@ -245,7 +245,8 @@ first_means lines p ms jobs inputs v i m f named first =
     }
 
 pub first_end_is_wrong : EndFaultMeansIncorrect
-first_end_is_wrong lines p ms jobs inputs v i m f named first kind = grind (arith, common_steps, first_means)
+first_end_is_wrong lines p ms jobs inputs v i m f named first kind =
+    (first_means lines p ms jobs inputs v i m f named first).incorrect kind
 
 -- ---- the wires of cuts, by their names
 

@@ -3,7 +3,7 @@
 -- Each job is run under each assignment, and the borders are compared at each odd time.
 use Rattle.lemmas.proofs.Common.{[], ◌%◌, ◌&&◌, ◌*◌, ◌+◌, ◌/◌, ◌<◌, ◌||◌, ◌∙◌, ◌∷◌, ◌≡◌, Bool, IsTrue, List, None}
 use Rattle.lemmas.proofs.Common.{Option, Some, ap, arith, false, length, map, not, refl, slice_get, subst, suc, sym}
-use Rattle.lemmas.proofs.Common.{true, zero, ℕ, ℤ, and_parts, beq, booleans_Decides, false≢true, common_steps}
+use Rattle.lemmas.proofs.Common.{true, zero, ℕ, ℤ, and_parts, beq, booleans_Decides, false≢true}
 use Rattle.lemmas.proofs.Common.{get_or-map-range_with_len, get_or-range_with_len, length-map, length-range_with_len}
 use Rattle.lemmas.proofs.Common.{list_all, range_with_len, slice_get-get_or, slice_get_within, ∥∥₁_elim}
 use Rattle.bbm_rule.specs.Bits.{bit}
@@ -71,7 +71,8 @@ implied false b e h = absurd (false≢true h)
 pub all_at : {A : Type 0} (test : A → Bool) (xs : List A) (i : ℕ) (a : A) → list_all test xs ≡ true →
     slice_get xs i ≡ Some a → test a ≡ true
 all_at test [] i a all e = absurd cc
-all_at test (x ∷ xs) zero a all e = grind (arith, common_steps, and_parts)
+all_at test (x ∷ xs) zero a all e = let own : x ≡ a = cc in
+    subst (λ x. test x ≡ true) own (and_parts (test x) (list_all test xs) all).0
 all_at test (x ∷ xs) (suc i) a all e = all_at test xs i a (and_parts (test x) (list_all test xs) all).1 e
 
 -- the number at a place of a range
@@ -180,8 +181,15 @@ no_fault_under : (j : JobView) (u : Valuation) (t : ℕ) (kind : Kind) (x y : �
 no_fault_under j u t Edge x y is p f =
     f.differs ((booleans_Decides _ _).0 (implied (in_ring j.area x y) _
     (at_every j.area _ (p.edges t f.odd f.early) x y (ring_inside j.area x y f.ring)) f.ring))
-no_fault_under j u t Stop x y is p f = grind (arith, common_steps, slice_get-get_or, booleans_Decides, all_at, beq)
-no_fault_under j u t End x y is p f = grind (arith, common_steps, meets_is, at_every)
+no_fault_under j u t Stop x y is p f =
+    let listed = slice_get-get_or j.stops f.is_listed.0 f.stop f.is_listed.1 ∙ ap Some f.is_listed.2 in
+    let own = (booleans_Decides _ _).0 (all_at
+    (λ s. beq (local_run j u s.at.time s.at.cell.x s.at.cell.y) (u s.wire)) j.stops f.is_listed.0 f.stop p.stops
+    listed) in
+    f.differs (sym (λ i. local_run j u (f.time i) (f.column i) (f.row i)) ∙ own)
+no_fault_under j u t End x y is p f =
+    f.differs (subst (λ n. MeetsDemand u (job_demand j x y) (local_run j u n x y)) (sym f.last)
+    (meets_is u _ _ (at_every j.area _ p.end x y f.inside)))
 
 no_fault : (j : JobView) → IsJob j → AreOrdered j.locals.netlist.given j.locals.netlist.gates → job_test j ≡ true →
     (f : Fault) → ¬ IsFault j f
@@ -200,21 +208,40 @@ no_keep_fault j ordered all f fault =
 -- ---- border faults
 
 abbrev pub border_test : Setting → List ModuleLines → ℕ → Bool
-border_test g ms t = grind (arith, common_steps)
+border_test g ms t = list_all (λ (m : ModuleLines). every_cell (whole g.size) (λ x y. not (in_halo m.area x y)
+    || list_all (λ (o : ModuleLines).
+    not (in_box o.area x y) || same_signal (halo_signal g.circuit m t x y) (edge_signal g.circuit o t x y)) ms)) ms
 
 no_border_fault : (g : Setting) (ms : List ModuleLines) → at_odd_times g.size.steps (border_test g ms) ≡ true →
     (i : ℕ) (f : BorderFault) → ¬ IsBorderFault g ms i f
-no_border_fault g ms passes i f is = grind (arith, common_steps, all_at, at_odd, implied, at_every, signal_decides)
+no_border_fault g ms passes i f is =
+    let own = all_at (λ (m : ModuleLines). every_cell (whole g.size) (λ x y. not (in_halo m.area x y)
+    || list_all (λ (o : ModuleLines).
+    not (in_box o.area x y) || same_signal (halo_signal g.circuit m f.time x y) (edge_signal g.circuit o f.time x y))
+    ms)) ms i is.lines (at_odd g.size.steps (border_test g ms) passes f.time is.odd is.early) is.numbered in
+    let here = implied (in_halo is.lines.area f.cell.x f.cell.y) _
+    (at_every (whole g.size) _ own f.cell.x f.cell.y is.inside) is.halo in
+    let there = all_at (λ (o : ModuleLines).
+    not (in_box o.area f.cell.x f.cell.y)
+    || same_signal (halo_signal g.circuit is.lines f.time f.cell.x f.cell.y)
+    (edge_signal g.circuit o f.time f.cell.x f.cell.y)) ms is.owner_number is.owner here is.owner_numbered in
+    is.differ ((signal_decides _ _).0 (implied (in_box is.owner.area f.cell.x f.cell.y) _ there is.owned))
 
 -- ---- all of it
 
 -- some module keeps each inverse gate
 abbrev pub kept_test : Setting → List ModuleLines → Bool
-kept_test g ms = grind (arith, common_steps)
+kept_test g ms = list_all (λ k. not (is_inverse_gate (slice_get g.circuit.netlist.gates k)) || is_kept ms k)
+    (range_with_len 0 (length g.circuit.netlist.gates))
 
 all_kept : (g : Setting) (ms : List ModuleLines) → kept_test g ms ≡ true → (k : ℕ) (gate : Gate) →
     slice_get g.circuit.netlist.gates k ≡ Some gate → IsTrue (is_inverse gate.kind) → IsTrue (is_kept ms k)
-all_kept g ms all k gate at inverse = grind (arith, common_steps, implied, all_below, slice_get_within)
+all_kept g ms all k gate at inverse =
+    let gates = g.circuit.netlist.gates in
+    implied (is_inverse_gate (slice_get gates k)) (is_kept ms k)
+    (all_below (λ k. not (is_inverse_gate (slice_get gates k)) || is_kept ms k) (length gates) k all
+    (slice_get_within gates k gate at))
+    (ap is_inverse_gate at ∙ inverse)
 
 -- all tests of modules and their jobs
 pub record PassTests (g : Setting) (ms : List ModuleLines) (js : List JobView) : Type 0 where
@@ -226,5 +253,12 @@ pub record PassTests (g : Setting) (ms : List ModuleLines) (js : List JobView) :
 pub accepts : (lines : List CircuitLine) (p : Pattern) (ms : List ModuleLines) (js : List JobView) →
     size_fault p.size ≡ None → AreModules (setting_of lines p) ms → AreJobsOf (circuit_of lines) p ms js →
     PassTests (setting_of lines p) ms js → Accepts (setting_of lines p) ms js
-accepts lines p ms js limits are own pass =
-    grind (arith, common_steps, no_fault, jobs_good, all_at, no_border_fault, no_keep_fault, all_kept)
+accepts lines p ms js limits are own pass = record {
+  no_fault = λ k j f at. let good = jobs_good lines p ms js limits are own k j at in
+      no_fault j good.0 good.1 (all_at job_test js k j pass.jobs at) f;
+  no_border_fault = no_border_fault (setting_of lines p) ms pass.borders;
+  no_keep_fault = λ k j f at. let good = jobs_good lines p ms js limits are own k j at in
+      no_keep_fault j good.1 (all_at job_test js k j pass.jobs at) f;
+  kept = all_kept (setting_of lines p) ms pass.kept;
+  on_time = pass.on_time;
+}

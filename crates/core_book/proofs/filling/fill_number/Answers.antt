@@ -1,5 +1,5 @@
 use Rattle.lemmas.proofs.Common.{arith, common_steps}
-use Rattle.lemmas.proofs.Common.{◌≡◌, OnOk, false, inl, is_some, refl, rules, subst, sym, true, arc_value}
+use Rattle.lemmas.proofs.Common.{◌≡◌, OnOk, false, is_some, rules, subst, sym, arc_value}
 use Rattle.core_book.specs.Book.{found_in}
 use Rattle.core_book.specs.Filling.{IsHeldOrFiled}
 use Rattle.core_book.proofs.Fillings.{filed-for}

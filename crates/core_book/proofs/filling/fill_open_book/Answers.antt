@@ -1,4 +1,4 @@
-use Rattle.lemmas.proofs.Common.{◌+◌, ◌<◌, ◌∙◌, ◌≤◌, List, ap, arith, length, map, refl, slice_get, subst, sym, ℕ}
+use Rattle.lemmas.proofs.Common.{◌+◌, ◌<◌, ◌∙◌, ◌≤◌, List, ap, arith, length, map, slice_get, subst, sym, ℕ}
 use Rattle.lemmas.proofs.Common.{arc_value, length-map, common_steps}
 use Rattle.core_book.proofs.Fillings.{filled-all, filling-step, is-full, open-stays}
 use Rattle.core_book.proofs.FillingRuns.{first-read, holds_alike, runs_end, runs_step}

@@ -1,4 +1,4 @@
-use Rattle.lemmas.proofs.Common.{◌∙◌, arith, map, rules, arc_value}
+use Rattle.lemmas.proofs.Common.{arith, map, rules, arc_value}
 use Rattle.local_run.specs.Shown.{job_of}
 use Rattle.module_job.proofs.FirstShapes.{value_at}
 use Rattle.core_book.specs.Filling.{shapes_of}

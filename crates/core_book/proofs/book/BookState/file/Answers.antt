@@ -1,5 +1,5 @@
 use Rattle.lemmas.proofs.Common.{arith, common_steps}
-use Rattle.lemmas.proofs.Common.{[], ◌++◌, ◌+◌, ◌<◌, ◌∙◌, ◌∷◌, ◌≡◌, Some, ap, length, rules, set, subst, sym}
+use Rattle.lemmas.proofs.Common.{[], ◌++◌, ◌+◌, ◌∙◌, ◌∷◌, ◌≡◌, Some, ap, set, subst, sym}
 use Rattle.core_book.specs.Book.{BookView, IsBook, IsReplayed, accepted_in, after_filing, filing_of, reply_to}
 use Rattle.core_book.specs.BookView.{book_view}
 use Rattle.core_book.specs.declared.log_entry.LogEntry.TheVariants.{Filed}

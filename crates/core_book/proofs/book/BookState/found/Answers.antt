@@ -1,5 +1,4 @@
-use Rattle.lemmas.proofs.Common.{◌≡◌, option_copied, rules, subst, arith, common_steps}
-use Rattle.core_book.specs.Book.{IsBook, found_in}
+use Rattle.lemmas.proofs.Common.{option_copied, arith, common_steps}
 use Rattle.core_book.proofs.Filings.{found-own}
 use Rattle.core_book.proofs.book.BookState.found.Goals as goal
 

@@ -1,5 +1,5 @@
 use Rattle.lemmas.proofs.Common.{arith, common_steps}
-use Rattle.lemmas.proofs.Common.{◌∙◌, ◌≡◌, None, false, length, map, replicate, rules, sym, arc_value, length-map}
+use Rattle.lemmas.proofs.Common.{length-map}
 use Rattle.core_book.specs.Book.{new_book}
 use Rattle.core_book.proofs.book.BookState.new.Goals as goal
 

@@ -1,8 +1,7 @@
-use Rattle.lemmas.proofs.Common.{◌∙◌, ◌≡◌, ap, false, is_some, length, nat_eq, nat_lt, sym, true, ℕ, arc_value}
+use Rattle.lemmas.proofs.Common.{◌∙◌, ◌≡◌, ap, false, length, nat_eq, nat_lt, sym, true, arc_value}
 use Rattle.lemmas.proofs.Common.{length-map, pointwise, arith, common_steps}
 use Rattle.local_run.specs.Shown.{digest_of, number_of}
-use Rattle.core_book.specs.Book.{BookView, found_in}
-use Rattle.core_book.specs.declared.reply.Reply.TheVariants.{Double}
+use Rattle.core_book.specs.Book.{BookView}
 use Rattle.core_book.proofs.Filings.{digest-differs, digest-agrees, number-past, number-within, reply_to-closed}
 use Rattle.core_book.proofs.Filings.{reply_to-other_digest, reply_to-other_number, reply_to-other_job, reply_to-held}
 use Rattle.core_book.proofs.Filings.{reply_to-new}

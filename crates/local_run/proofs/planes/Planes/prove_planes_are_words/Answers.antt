@@ -1,1 +1,0 @@
-use Rattle.lemmas.proofs.Common.{◌<◌, ◌^◌, ◌≡◌, List, slice_index, subst, ℕ}
