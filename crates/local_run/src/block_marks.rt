@@ -80,7 +80,7 @@ impl BlockMarks {
     }
 
     /// Marks block u of a partition, and those of the other partition that share a cell of a changed diagonal with it.
-    #[inline(always)]
+    #[inline]
     pub fn mark_changes(&mut self, partition: Partition, u: usize, stride: usize, changes: Changes)
         requires room { HasRoomForBlockMarks (u + 1) self.old }
         requires odd { let b = block_at partition stride u in

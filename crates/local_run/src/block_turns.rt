@@ -36,7 +36,7 @@ impl Planes {
     }
 
     /// Returns which diagonals of a block a turn may change under some assignment.
-    #[inline(always)]
+    #[inline]
     pub fn block_changes(&self, block: BlockPlaces) -> Changes
         requires { AreCells block self.now }
         ensures main { result.main ≡ false → MainStays block self.now }
@@ -63,7 +63,7 @@ impl Planes {
     }
 
     /// Turns a block.
-    #[inline(always)]
+    #[inline]
     pub fn turn_block(&mut self, block: BlockPlaces)
         requires { AreCells block self.old }
         ensures turned { TurnsBlock block self.old self.new }
@@ -92,7 +92,7 @@ impl Planes {
     }
 
     /// Turns the blocks of a partition from `first` on to below `end`.
-    #[inline(always)]
+    #[inline]
     pub(crate) fn turn_range(&mut self, partition: Partition, first: usize, end: usize)
         requires { (first < end) × (end ≤ block_count partition self.old) }
         ensures part { TurnsFrom (block_at partition self.old.stride first)
@@ -112,7 +112,7 @@ impl Planes {
     }
 
     /// Exchanges the cells of a block's diagonal.
-    #[inline(always)]
+    #[inline]
     pub fn swap(&mut self, diagonal: Diagonal, block: BlockPlaces)
         requires { AreCells block self.old }
         ensures swapped { SwapsDiagonal diagonal block self.old self.new }
@@ -127,16 +127,18 @@ impl Planes {
     }
 
     /// Takes the marks off the cells of a block that are dead.
-    #[inline(always)]
+    #[inline]
     pub fn unmark_dead_cells(&self, live: &mut LiveMarks, block: BlockPlaces)
         requires marks { HasRoomForBlockCells live.old block }
         requires cells { AreCells block self.now }
         ensures unmarked { UnmarksDeadCells self.now block live.old live.new }
         ensures same_room { HasSameRoom live.old live.new }
     {
-        unmark_if_dead(&mut live.odd, block.odd, &self.odd, self.words);
-        unmark_if_dead(&mut live.right, block.right, &self.right, self.words);
-        unmark_if_dead(&mut live.down, block.down, &self.down, self.words);
-        unmark_if_dead(&mut live.even, block.even, &self.even, self.words);
+        // Read once, as the compiler does not see that no mark lies there.
+        let words = self.words;
+        unmark_if_dead(&mut live.odd, block.odd, &self.odd, words);
+        unmark_if_dead(&mut live.right, block.right, &self.right, words);
+        unmark_if_dead(&mut live.down, block.down, &self.down, words);
+        unmark_if_dead(&mut live.even, block.even, &self.even, words);
     }
 }

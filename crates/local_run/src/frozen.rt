@@ -131,6 +131,7 @@ impl FrozenBlocks {
     }
 
     // For each cell of block u of a partition, whether its block of the other partition has a mark, if there is one.
+    #[inline(always)]
     fn marked_around(&self, planes: &Planes, partition: Partition, u: usize) -> CellConditions
         requires room { HasRoomForMarks self.now planes.now }
         requires place { u < block_count partition planes.now }
@@ -173,6 +174,7 @@ impl FrozenBlocks {
     }
 
     // Whether block u of a partition stays if the blocks with marks stay.
+    #[inline(always)]
     fn is_block_held(&self, planes: &Planes, partition: Partition, u: usize) -> bool
         requires room { HasRoomForMarks self.now planes.now }
         requires place { u < block_count partition planes.now }
@@ -185,6 +187,7 @@ impl FrozenBlocks {
 
     // Takes the marks off the blocks of a partition that are not held, and returns whether there were some. It counts
     // the blocks without a mark.
+    #[inline(always)]
     fn sweep(&mut self, planes: &Planes, partition: Partition) -> bool
         requires room { HasRoomForMarks self.old planes.now }
         ensures room { HasRoomForMarks self.new planes.now }
@@ -231,6 +234,7 @@ impl FrozenBlocks {
 
     // Whether block u of a partition stays if those with marks do, where it has a mark, and has one if it is the last
     // of its row.
+    #[inline(always)]
     fn is_mark_correct(&self, planes: &Planes, partition: Partition, u: usize) -> bool
         requires room { HasRoomForMarks self.now planes.now }
         requires place { u < block_count partition planes.now }
@@ -249,6 +253,7 @@ impl FrozenBlocks {
 
     // Whether each block of a partition with a mark stays if those with marks do, and the last ones of the rows have
     // marks.
+    #[inline(always)]
     fn are_blocks_held(&self, planes: &Planes, partition: Partition) -> bool
         requires { HasRoomForMarks self.now planes.now }
         ensures { result ≡ true → AreBlocksHeld partition self.now.marks planes.now }

@@ -44,6 +44,7 @@ impl FrozenBlocks {
     }
 
     /// Turns the blocks of a partition, and passes over the frozen ones.
+    #[inline(always)]
     pub fn step(&self, partition: Partition, planes: &mut Planes)
         requires frozen { AreFrozenIfFound self.now planes.old }
         ensures turned { TurnsCells partition planes.old planes.new }

@@ -101,6 +101,7 @@ impl Planes {
     }
 
     /// Turns the blocks of a partition. Those with a mark stay, and are passed over.
+    #[inline(always)]
     pub fn step_between_marks(&mut self, partition: Partition, marks: &[u64])
         requires room { self.old.stride * self.old.rows ≤ 64 * length marks.now }
         requires calm { AreMarkedBlocksStable partition marks.now self.old }

@@ -126,7 +126,7 @@ impl LiveMarks {
     }
 
     /// Marks the cells of a block that are on a diagonal that changes.
-    #[inline(always)]
+    #[inline]
     pub fn mark_cells(&mut self, block: BlockPlaces, changes: Changes)
         requires { HasRoomForBlockCells self.old block }
         ensures cells { MarksCells changes.main changes.anti block self.old self.new }
@@ -139,7 +139,7 @@ impl LiveMarks {
     }
 
     /// Exchanges the marks of the cells of a block's diagonal.
-    #[inline(always)]
+    #[inline]
     pub fn swap(&mut self, diagonal: Diagonal, block: BlockPlaces)
         requires { HasRoomForBlockCells self.old block }
         ensures swapped { SwapsMarks diagonal block self.old self.new }

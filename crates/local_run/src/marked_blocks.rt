@@ -96,7 +96,7 @@ impl MarkedPlanes {
     }
 
     // Takes the mark off block n of the even partition, if its cells are known to be dead, and tells whether they are.
-    #[inline(always)]
+    #[inline]
     fn unmark_even_block_if_dead(&mut self, n: usize) -> bool
         requires { n < block_count Partition.Even self.old.planes }
         ensures planes { self.new.planes ≡ self.old.planes }
@@ -120,14 +120,28 @@ impl MarkedPlanes {
         ensures { self.new.planes ≡ self.old.planes }
     {
         let stride = self.planes.stride();
-        let distance = match diagonal {
-            Diagonal::Main if is_marked(&self.live_marks.odd, u) => 0,
-            Diagonal::Main => stride + 1,
-            Diagonal::Anti if is_marked(&self.live_marks.right, u) => 1,
-            Diagonal::Anti => stride,
-        };
-        if distance <= u && u - distance < self.planes.block_count(Partition::Even) {
-            self.unmark_even_block_if_dead(u - distance);
+        let cells = self.planes.cells();
+        match diagonal {
+            Diagonal::Main if is_marked(&self.live_marks.odd, u) => {
+                if u + stride + 1 < cells {
+                    self.unmark_even_block_if_dead(u);
+                }
+            }
+            Diagonal::Main => {
+                if u > stride {
+                    self.unmark_even_block_if_dead(u - stride - 1);
+                }
+            }
+            Diagonal::Anti if is_marked(&self.live_marks.right, u) => {
+                if u > 0 && u + stride < cells {
+                    self.unmark_even_block_if_dead(u - 1);
+                }
+            }
+            Diagonal::Anti => {
+                if u >= stride && u + 1 < cells {
+                    self.unmark_even_block_if_dead(u - stride);
+                }
+            }
         }
     }
 
@@ -144,18 +158,14 @@ impl MarkedPlanes {
             self.old.planes.rows self.new.planes }
         ensures stays { result ≡ false → self.new.planes ≡ self.old.planes }
     {
-        match (partition, diagonal) {
-            (Partition::Odd, _) => {
-                self.swap_lone(partition, u, diagonal);
-                self.unmark_block_left(u, diagonal);
+        if let (Partition::Even, Diagonal::Main) = (partition, diagonal) {
+            if self.unmark_even_block_if_dead(u) {
+                return false;
             }
-            (Partition::Even, Diagonal::Main) => {
-                if self.unmark_even_block_if_dead(u) {
-                    return false;
-                }
-                self.swap_lone(partition, u, diagonal);
-            }
-            (Partition::Even, Diagonal::Anti) => self.swap_lone(partition, u, diagonal),
+        }
+        self.swap_lone(partition, u, diagonal);
+        if let Partition::Odd = partition {
+            self.unmark_block_left(u, diagonal);
         }
         true
     }
@@ -166,15 +176,14 @@ impl MarkedPlanes {
         requires { u < block_count partition self.old.planes }
         ensures { self.new.planes ≡ self.old.planes }
     {
-        let block = self.planes.block(partition, u);
         if self.busy == 0 {
-            self.unmark_dead_cells(block);
+            self.unmark_dead_cells(partition, u);
             self.count_crowded_block(is_turned);
             return;
         }
         if let Partition::Odd = partition {
             if !is_turned && !self.planes.is_live_in_first_word(u) {
-                self.unmark_dead_cells(block);
+                self.unmark_dead_cells(partition, u);
             }
         }
     }

@@ -7,14 +7,14 @@
 
 ghost use Rattle.local_run.specs.Borders.{AreUnmarkedAwayFromBorder, AreUnmarkedAwayFromBorder-prop, AreSkippableBetween};
 ghost use Rattle.local_run.specs.Calm.{AreUnmarkedBlocksStable, AreUnmarkedBlocksStable-prop, HasRoomForBlockMarks};
-ghost use Rattle.local_run.specs.Blocks.{AreCells};
+ghost use Rattle.local_run.specs.Blocks.{block_count};
 ghost use Rattle.local_run.specs.Frozen.{AreFrozenIfFound};
 ghost use Rattle.local_run.specs.Live.{AllUnmarkedDead, AllUnmarkedDead-prop, HasRoomForCellMarks};
 ghost use Rattle.std.specs.Int.{div_ceil};
 ghost use Rattle.std.specs.Prelude.{ℕ, ◌≡◌, ◌+◌, ◌*◌, ◌/◌, ◌%◌, ◌<◌, ◌≤◌, vec_len, IfOk, true, false};
 
 use crate::block_marks::BlockMarks;
-use crate::blocks::{BlockPlaces, Partition};
+use crate::blocks::Partition;
 use crate::frozen::FrozenBlocks;
 use crate::lines::{CELL_WORDS, LinePlaces, mark_lines, own_mark_number};
 use crate::live::LiveMarks;
@@ -207,12 +207,13 @@ impl MarkedPlanes {
         x.max(2 * (next - first))
     }
 
-    /// Takes the marks off the cells of a block that are dead.
-    pub(crate) fn unmark_dead_cells(&mut self, block: BlockPlaces)
-        requires { AreCells block self.old.planes }
+    /// Takes the marks off the cells of block u of a partition that are dead.
+    pub(crate) fn unmark_dead_cells(&mut self, partition: Partition, u: usize)
+        requires { u < block_count partition self.old.planes }
         ensures planes { self.new.planes ≡ self.old.planes }
         ensures lines { self.new.line_marks ≡ self.old.line_marks }
     {
+        let block = self.planes.block(partition, u);
         self.planes.unmark_dead_cells(&mut self.live_marks, block);
     }
 
@@ -221,8 +222,7 @@ impl MarkedPlanes {
         ensures planes { self.new.planes ≡ self.old.planes }
     {
         for u in 0..self.planes.cells() {
-            let block = self.planes.block(Partition::Odd, u);
-            self.unmark_dead_cells(block);
+            self.unmark_dead_cells(Partition::Odd, u);
         }
         self.is_exact = true;
     }
@@ -247,6 +247,6 @@ impl MarkedPlanes {
         self.live_marks.mark_cells(block, changes);
         self.frozen.give_up_if_frozen(u);
         values.put(&mut self.planes, x, y, signal);
-        self.unmark_dead_cells(block);
+        self.unmark_dead_cells(Partition::Odd, u);
     }
 }

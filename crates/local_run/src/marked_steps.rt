@@ -158,6 +158,7 @@ impl MarkedPlanes {
     }
 
     // Turns whole planes, but for the frozen blocks.
+    #[inline(always)]
     fn step_of_whole_planes(&mut self, partition: Partition)
         ensures turned { TurnsCells partition self.old.planes self.new.planes }
         ensures size { HasWordsStrideRows self.old.planes.words self.old.planes.stride
