@@ -21,7 +21,7 @@ plane_of p x y =
 unfoldable pub lane : Planes → ℕ → ℕ → ℕ → Bool
 lane p a x y = bit (slice_index (plane_of p x y) (p.words * (p.stride * (y / 2) + x / 2) + a / 64)) (a % 64)
 
--- Each cell is turned in its block of the partition. Where that is the even one, these are the cells of the box, if the
+-- Each cell is turned in its block of the partition. In the even partition these are the cells of the box, if the
 -- planes have one more cell on each side
 abbrev pub TurnsCells : Partition → Planes → Planes → Type 0
 TurnsCells Odd p q = (a x y : ℕ) → a < 64 * p.words → x < 2 * p.stride → y < 2 * p.rows →
