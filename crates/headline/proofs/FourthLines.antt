@@ -105,9 +105,18 @@ line_opening digest count = grind (arith, common_steps)
 
 fourth_by : (digest : List ℕ) (count : ℕ) (times : List TimeLine) (v : Verdict) → is_clean digest ≡ true →
     slice_get (lines_of (line_opening digest count ++ verdict_lines times v)) 3 ≡ Some (verdict_word v)
-fourth_by digest count times verdict.Yes clean = grind (arith, common_steps, four_lines, append-nil, clean_decimal)
-fourth_by digest count times (verdict.No lines) clean =
-    grind (arith, common_steps, four_lines, append-nil, clean_decimal)
+fourth_by digest count times verdict.Yes clean = ap (λ ls. slice_get ls 3)
+    (four_lines (codes "bbmcheck 1") (codes "certificate" ++ flat_map space_and_word (digest ∷ []))
+    (codes "modules" ++ flat_map space_and_word (decimal count ∷ [])) (codes "verdict yes")
+    (flat_map (λ t. report_line_text (timing_report t)) times)
+    refl (ap is_clean (append-nil digest) ∙ clean)
+    (ap is_clean (append-nil (decimal count)) ∙ clean_decimal count) refl)
+fourth_by digest count times (verdict.No lines) clean = ap (λ ls. slice_get ls 3)
+    (four_lines (codes "bbmcheck 1") (codes "certificate" ++ flat_map space_and_word (digest ∷ []))
+    (codes "modules" ++ flat_map space_and_word (decimal count ∷ [])) (codes "verdict no")
+    (flat_map report_line_text lines.items)
+    refl (ap is_clean (append-nil digest) ∙ clean)
+    (ap is_clean (append-nil (decimal count)) ∙ clean_decimal count) refl)
 
 pub fourth_line : (c : CertView) (v : Verdict) → slice_get (lines_of (report_lines c v)) 3 ≡ Some (verdict_word v)
 unfolding report_lines
@@ -167,7 +176,8 @@ unfolding lines_of
 none_is_no_yes l e = cc
 
 pub refusal_says_none : (r : Refusal) → FourthLineSaysYes (refusal_line r) → ⊥
-refusal_says_none r e = grind (arith, common_steps, none_is_no_yes, line_ahead, clean_refused, has_yes)
+refusal_says_none r e = none_is_no_yes (refused r)
+    (sym (ap (λ ls. slice_get ls 3) (line_ahead (refused r) [] (clean_refused r))) ∙ has_yes (refusal_line r) e)
 
 -- ---- the front of a text
 

@@ -705,8 +705,39 @@ not_refused (verdict.No lines) outcome e r = let clash : No ≡ Refused = sym e 
 
 pub small_is_decided : SmallDesignIsDecided
 small_is_decided text output outcome circuit layout t small reports =
-    grind (arith, common_steps, circuit_good, read_faultless, same_setting, bundle_made, not_refused, bundle_good,
-    plain_lines_decide)
+    let ports = Some (port_names_of circuit) in
+    let b : Bundle = record {
+      circuit = circuit;
+      size = layout.size;
+      parts = parts_of layout;
+      version = 1;
+      entries = plain_lines circuit layout;
+    } in
+    let good : AreGoodCircuitLines circuit = circuit_good 0 t.first tt circuit t.circuit_read in
+    let layout_good : IsFaultless (layout_grammar ports) layout.size (parts_of layout) =
+    read_faultless (layout_grammar ports) 0 t.second layout.size (parts_of layout) t.layout_read in
+    let sections : HasSections text b = record {
+      first = t.first;
+      second = t.second;
+      third = t.third;
+      lines = t.lines;
+      rest = t.ended;
+      circuit_is = t.circuit_is;
+      layout_is = t.layout_is;
+      certificate_is = t.certificate_is;
+    } in
+    let is_good : IsGoodBundle b = record {
+      circuit = read_faultless circuit_grammar 0 t.first tt circuit t.circuit_read;
+      layout = layout_good;
+      certificate = subst (λ g. IsFaultless (certificate_grammar g) 1 (plain_lines circuit layout))
+          (sym (same_setting circuit layout)) (plain_faultless circuit layout good layout_good small);
+    } in
+    let reads : bundle_of text ≡ Ok b = bundle_made text b sections is_good in
+    let says : SaysReport b output outcome = subst (λ r. Answered SaysReport r output outcome) reads reports in
+    let some : outcome ≢ Refused = not_refused says.verdict outcome says.ends in
+    let said : SaysBundle text circuit layout (plain_lines circuit layout) =
+    (bundle_good text b reads).says_all layout refl in
+    (some, (plain_lines_decide text output outcome circuit layout said reports some).1)
 
 pub refused_is_none : RefusedIsNoSmallDesign
 refused_is_none text output reports circuit layout plain small = grind (arith, common_steps, small_is_decided)

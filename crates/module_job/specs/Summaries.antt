@@ -16,9 +16,9 @@ abbrev pub last_all_times : List AllTimes → AllTimes
 last_all_times all_times = unwrap_or (slice_get all_times (length all_times - 1))
     (record { cell = record { x = pos 0; y = pos 0 }; signal = Zero })
 
--- The sides, the counts of gates, stops and signals, the last signal of the edges at all times, the last events of
--- both sides, and the event at a third of the halos' events. A summary is made of the shape alone. So two shapes with
--- different summaries differ.
+-- The sides, and the counts of gates, stops and signals. Then the last signal of the edges at all times, the last
+-- events of both borders, and the event at a third of the halos' events. A summary is made of the shape alone, so two
+-- shapes with different summaries differ.
 unfoldable pub shape_summary : ShapeView → List ℕ
 shape_summary s =
     s.width ∷ s.height ∷ length s.netlist.gates ∷ length s.stops
