@@ -1,7 +1,7 @@
 -- The fourth line of a report.
 use Rattle.lemmas.proofs.Common.{[], ◌%◌, ◌&&◌, ◌++◌, ◌+◌, ◌/◌, ◌<◌, ◌∙◌, ◌∷◌, ◌≡◌, Bool, List, Option, Some, ap}
 use Rattle.lemmas.proofs.Common.{append-nil, append_assoc, ap₂, arith, codes, cond, eqb, false, flat_map, get_or}
-use Rattle.lemmas.proofs.Common.{length, nat_lt, ne_eqb, not, refl, slice_get, suc, sym, true, zero, ℕ, common_steps}
+use Rattle.lemmas.proofs.Common.{length, nat_lt, ne_eqb, not, refl, slice_get, suc, sym, true, zero, ℕ}
 use Rattle.lemmas.proofs.Common.{All-from_recursion, and_parts, decimal, digit_glyph, digits_onto, list_all}
 use Rattle.lemmas.proofs.Common.{list_all-append, onto_first, slice_split, slice_split_at}
 use Rattle.std.specs.Fmt.{digits}
@@ -82,7 +82,10 @@ clean_decimal n = clean_digits 64 n [] refl
 
 line_ahead : (l c : List ℕ) → is_clean l ≡ true → lines_of (l ++ 10 ∷ c) ≡ l ∷ lines_of c
 unfolding lines_of
-line_ahead l c clean = grind (arith, common_steps, slice_split_at, one_line, ended-cons, some_part)
+line_ahead l c clean =
+    ap ended (slice_split_at is_line_feed l 10 c
+    (All-from_recursion (λ b. is_line_feed b ≡ false) l (one_line l clean)) refl)
+    ∙ ended-cons l (slice_split is_line_feed c) (some_part c)
 
 -- a line, and what follows it
 text_ahead : (l c : List ℕ) → is_clean l ≡ true → lines_of ((l ++ 10 ∷ []) ++ c) ≡ l ∷ lines_of c
@@ -91,7 +94,12 @@ text_ahead l c clean = ap lines_of (append_assoc l (10 ∷ []) c) ∙ line_ahead
 four_lines : (a b d e rest : List ℕ) → is_clean a ≡ true → is_clean b ≡ true → is_clean d ≡ true → is_clean e ≡ true →
     lines_of ((((a ++ 10 ∷ []) ++ (b ++ 10 ∷ [])) ++ (d ++ 10 ∷ [])) ++ ((e ++ 10 ∷ []) ++ rest))
     ≡ a ∷ b ∷ d ∷ e ∷ lines_of rest
-four_lines a b d e rest p q r s = grind (arith, common_steps, append_assoc, text_ahead)
+four_lines a b d e rest p q r s =
+    let last : List ℕ = (e ++ 10 ∷ []) ++ rest in
+    ap lines_of (append_assoc ((a ++ 10 ∷ []) ++ (b ++ 10 ∷ [])) (d ++ 10 ∷ []) last
+    ∙ append_assoc (a ++ 10 ∷ []) (b ++ 10 ∷ []) ((d ++ 10 ∷ []) ++ last))
+    ∙ text_ahead a _ p
+    ∙ ap (λ t. a ∷ t) (text_ahead b _ q ∙ ap (λ t. b ∷ t) (text_ahead d _ r ∙ ap (λ t. d ∷ t) (text_ahead e rest s)))
 
 -- ---- what a report says
 
@@ -101,7 +109,8 @@ verdict_word (verdict.No lines) = codes "verdict no"
 
 -- the opening lines, for a digest that is spelled so
 abbrev line_opening : List ℕ → ℕ → List ℕ
-line_opening digest count = grind (arith, common_steps)
+line_opening digest count = (line_text (codes "bbmcheck") (codes "1" ∷ [])
+    ++ line_text (codes "certificate") (digest ∷ [])) ++ line_text (codes "modules") (decimal count ∷ [])
 
 fourth_by : (digest : List ℕ) (count : ℕ) (times : List TimeLine) (v : Verdict) → is_clean digest ≡ true →
     slice_get (lines_of (line_opening digest count ++ verdict_lines times v)) 3 ≡ Some (verdict_word v)
@@ -120,7 +129,8 @@ fourth_by digest count times (verdict.No lines) clean = ap (λ ls. slice_get ls 
 
 pub fourth_line : (c : CertView) (v : Verdict) → slice_get (lines_of (report_lines c v)) 3 ≡ Some (verdict_word v)
 unfolding report_lines
-fourth_line c v = grind (arith, common_steps, fourth_by, clean_hex, c.entries)
+fourth_line c v = fourth_by (encode_lower (sha256 (certificate_text c))) (length (modules_of c.entries)) _ v
+    (clean_hex (sha256 (certificate_text c)))
 
 -- the fourth line is the fourth part, and more parts follow it
 from_parts : (parts : List (List ℕ)) (w : List ℕ) → (slice_get parts 3 ≡ Some w) × (4 < length parts) →
@@ -159,7 +169,8 @@ yes_is_not_no e = cc
 -- a report that says yes is one of a yes
 pub says_yes : (c : CertView) (v : Verdict) → FourthLineSaysYes (report_lines c v) → v ≡ verdict.Yes
 says_yes c verdict.Yes e = refl
-says_yes c (verdict.No lines) e = grind (arith, common_steps, yes_is_not_no, fourth_line, has_yes)
+says_yes c (verdict.No lines) e =
+    absurd (yes_is_not_no (sym (fourth_line c (verdict.No lines)) ∙ has_yes (report_lines c (verdict.No lines)) e))
 
 pub yes_says : (c : CertView) → FourthLineSaysYes (report_lines c verdict.Yes)
 yes_says c = says_yes_by_line (report_lines c verdict.Yes) (fourth_line c verdict.Yes)
@@ -169,7 +180,9 @@ abbrev refused : Refusal → List ℕ
 refused r = codes "refused" ++ flat_map space_and_word (decimal r.line ∷ decimal r.code ∷ [])
 
 clean_refused : (r : Refusal) → is_clean (refused r) ≡ true
-clean_refused r = grind (arith, common_steps, list_all-append, clean_decimal, append-nil)
+clean_refused r =
+    list_all-append (λ b. not (is_line_feed b)) (decimal r.line) (space_and_word (decimal r.code) ++ [])
+    ∙ ap₂ (λ p q. p && q) (clean_decimal r.line) (ap is_clean (append-nil (decimal r.code)) ∙ clean_decimal r.code)
 
 none_is_no_yes : (l : List ℕ) → slice_get (l ∷ lines_of []) 3 ≡ Some (codes "verdict yes") → ⊥
 unfolding lines_of
@@ -191,7 +204,11 @@ grow x [] more h g = absurd (omega (arith, h))
 grow x (p ∷ []) more h g = record { others = ended (onto_first x more); are = refl }
 grow x (p ∷ p' ∷ parts) [] h g = absurd (let e = g.are in cc)
 grow x (p ∷ p' ∷ parts) (q ∷ []) h g = absurd (let e = g.are in cc)
-grow x (p ∷ p' ∷ parts) (q ∷ q' ∷ more) h g = grind (arith, common_steps)
+grow x (p ∷ p' ∷ parts) (q ∷ q' ∷ more) h g =
+    let e = g.are in
+    let heads : q ≡ p = cc in
+    let tails : ended (q' ∷ more) ≡ ended (p' ∷ parts) ++ g.others = cc in
+    record { others = g.others; are = ap₂ (λ a b. (x ∷ a) ∷ b) heads tails }
 
 grown : (front rest : List ℕ) → Grown (slice_split is_line_feed front) (slice_split is_line_feed (front ++ rest))
 grown [] rest = record { others = ended (slice_split is_line_feed rest); are = refl }

@@ -1,16 +1,15 @@
 -- The output of `migrate` says what was read, in version 2.
-use Rattle.lemmas.proofs.Common.{[], ◌&&◌, ◌++◌, ◌+◌, ◌∙◌, ◌∷◌, ◌≡◌, Bool, Err, List, None, Ok, Option, Result, Some}
-use Rattle.lemmas.proofs.Common.{ap, append-nil, append_assoc, ap₂, arith, codes, drop, false, flat_map, if◌then◌else◌}
-use Rattle.lemmas.proofs.Common.{length, length-append, map, not, refl, subst, sym, take, take-append-drop, true, ℕ}
+use Rattle.lemmas.proofs.Common.{[], ◌++◌, ◌+◌, ◌∙◌, ◌∷◌, ◌≡◌, Bool, Err, List, None, Ok, Option, Result, Some}
+use Rattle.lemmas.proofs.Common.{ap, append-nil, append_assoc, ap₂, arith, codes, false, flat_map, if◌then◌else◌}
+use Rattle.lemmas.proofs.Common.{length, length-append, not, refl, subst, sym, take, take-append-drop, true, ℕ}
 use Rattle.lemmas.proofs.Common.{drop-append_seam, flat_map-append, length-map, common_steps}
 use Rattle.section_text.specs.Words.{is_word_at, lines_of, lone_number, number_at, number_of}
 use Rattle.section_text.specs.Words.{bytes_after_last_line_feed, words_of}
 use Rattle.section_text.specs.Codes.{code_if, or_else}
 use Rattle.section_text.specs.SaidSection.{IsSection}
 use Rattle.section_text.specs.Section.{Grammar, with_line_feed}
-use Rattle.section_text.specs.Sections.{value_if_at_end, continue_after_section, section_then}
+use Rattle.section_text.specs.Sections.{value_if_at_end, section_then}
 use Rattle.section_text.specs.declared.fault.Refusal.{Refusal}
-use Rattle.section_text.specs.declared.section.Form.{Form}
 use Rattle.section_text.specs.declared.section.Form.TheVariants.{Header, Item, End}
 use Rattle.section_text.proofs.Again.{AreLines, lines_again, lines_clean}
 use Rattle.section_text.proofs.Good.{AreFaultless, IsFaultless, read_faultless}
@@ -37,7 +36,7 @@ use Rattle.certificate_lines.specs.Forms.{form_of as certificate_form}
 use Rattle.certificate.specs.Grammars.{certificate_grammar}
 use Rattle.certificate_lines.specs.Settings.{setting_of}
 use Rattle.certificate.specs.Text.{form_text as certificate_line}
-use Rattle.certificate_lines.specs.Versions.{is_halo, is_haloless_version, without_halos}
+use Rattle.certificate_lines.specs.Versions.{is_halo, without_halos}
 use Rattle.certificate_lines.specs.declared.certificate_line.CertificateLine.{CertificateLine}
 use Rattle.certificate.proofs.Spelling.{form_line as certificate_spelled}
 use Rattle.core_book.specs.Concluding.{port_names_of}
@@ -50,7 +49,6 @@ use Rattle.headline.specs.Migration.{MigrationKeepsVersionTwo, MigrationIsIdempo
 use Rattle.meaning.specs.Design.{SaysDesign}
 use Rattle.headline.specs.Stops.{SaysBundle}
 use Rattle.section_text.specs.declared.code.RefusalCode.{RefusalCode}
-use Rattle.section_text.specs.declared.code.RefusalCode.TheVariants.{NoForm}
 use Rattle.headline.proofs.YesIsRight.{bundle_good, in_sections, past_circuit, past_layout}
 
 -- ---- a text by its sections

@@ -50,5 +50,21 @@ off_rim circuit p correct t =
 
 pub each_gets_yes : EachCorrectDesignGetsYes
 each_gets_yes circuit p design room correct none =
-    grind (arith, common_steps, design_moved, small_moved, correct_moved, off_rim, each_is_decided, some_report,
-    each_has_text)
+    let text = design_text circuit (moved p) in
+    let rules = design_moved circuit p design room in
+    let small = small_moved circuit p room in
+    let right = correct_moved circuit p correct in
+    let off = off_rim circuit p correct in
+    let always : (output : List ℕ) (outcome : Outcome) → IsReportOf text output outcome → outcome ≡ Yes =
+    λ output outcome says. (each_is_decided circuit (moved p) output outcome rules small says).1.1 (right, none, off) in
+    let some = some_report text in
+    record {
+      design = rules;
+      small = small;
+      plain = each_has_text circuit (moved p) rules small;
+      correct = right;
+      off_rim = off;
+      report = some.0;
+      reported = subst (IsReportOf text some.0) (always some.0 some.1 some.2) some.2;
+      always = always;
+    }

@@ -1,14 +1,13 @@
 -- The lines of a moved layout keep the rules of lines
 use Rattle.lemmas.proofs.Common.{common_steps}
 use Rattle.lemmas.proofs.Common.{[], ◌&&◌, ◌++◌, ◌+ℤ◌, ◌+◌, ◌||◌, ◌∙◌, ◌∷◌, ◌≡◌, ◌≤◌, Bool, List, None, ap, ap₂, arith}
-use Rattle.lemmas.proofs.Common.{cond, false, flat_map, map, nat_le, negsuc, not, pos, refl, subst, suc, sym, true}
+use Rattle.lemmas.proofs.Common.{cond, false, flat_map, map, nat_le, negsuc, not, pos, refl, suc, sym, true}
 use Rattle.lemmas.proofs.Common.{zero, ℕ, ℤ, and_parts, ints, list_any, map-append, nat_tests, range_with_len}
-use Rattle.bbm_rule.specs.Plane.{is_at}
 use Rattle.bbm_rule.specs.Spans.{in_span}
 use Rattle.bbm_rule.proofs.Spans.{in_span-negsuc, span_from, span_parts}
 use Rattle.section_text.specs.Codes.{code_if}
 use Rattle.section_text.specs.declared.code.RefusalCode.TheVariants.{PastLimit, TakenCell}
-use Rattle.pattern.specs.Layout.{Pattern, cell, in_layout, parts_of, rectangle_cells, row_cells}
+use Rattle.pattern.specs.Layout.{Pattern, in_layout, parts_of, rectangle_cells, row_cells}
 use Rattle.pattern.specs.Lines.{AreGoodAfter, begins, cells_taken_at_start, cell_fault, cells_of, ended, ends, holds}
 use Rattle.pattern.specs.Lines.{is_inside, is_layout_side, is_taken, limit_fault, size_fault}
 use Rattle.pattern.specs.declared.layout_line.LayoutHeader.{LayoutHeader}

@@ -1,5 +1,5 @@
 -- A moved layout keeps off its rim
-use Rattle.lemmas.proofs.Common.{◌&&◌, ◌+ℤ◌, ◌+◌, ◌-ℤ◌, ◌∙◌, ◌≡◌, ap, ap₂, arith, false, negsuc, pos, sym, true, ℕ, ℤ}
+use Rattle.lemmas.proofs.Common.{◌&&◌, ◌+ℤ◌, ◌+◌, ◌-ℤ◌, ◌∙◌, ◌≡◌, ap₂, arith, false, negsuc, pos, sym, true, ℕ, ℤ}
 use Rattle.lemmas.proofs.Common.{and_parts, ints, common_steps}
 use Rattle.bbm_rule.specs.Spans.{in_span}
 use Rattle.bbm_rule.proofs.Spans.{in_span-negsuc, span_from, span_parts}

@@ -1,22 +1,18 @@
 -- A text has one answer.
-use Rattle.lemmas.proofs.Common.{[], ◌++◌, ◌∙◌, ◌∷◌, ◌≡◌, Bool, Err, List, Ok, Result, ap, codes, flat_map, inl, inr}
-use Rattle.lemmas.proofs.Common.{length, refl, subst, sym, true≢false, ℕ, cases_order, decimal, arith, common_steps}
+use Rattle.lemmas.proofs.Common.{◌∙◌, ◌≡◌, Bool, Err, List, Ok, Result, ap}
+use Rattle.lemmas.proofs.Common.{sym, true≢false, ℕ, cases_order, arith, common_steps}
 use Rattle.bbm_rule.specs.Plane.{State}
-use Rattle.section_text.specs.Spelling.{line_text}
 use Rattle.section_text.specs.declared.fault.Refusal.{Refusal}
-use Rattle.bbm_rule.specs.declared.block.Cell.{Cell}
 use Rattle.pattern.specs.declared.layout_line.LayoutLine.{LayoutLine}
 use Rattle.pattern.specs.declared.layout_line.LayoutHeader.{LayoutHeader}
 use Rattle.pattern.specs.declared.run.RunEnd.{RunEnd}
 use Rattle.pattern.specs.declared.run.RunEnd.TheVariants.{Cells, LeftAt}
 use Rattle.pattern.specs.FromLines.{layout_of}
 use Rattle.pattern.specs.Layout.{Pattern, IsDeadOutside, parts_of}
-use Rattle.section_text.specs.Words.{has}
 use Rattle.pattern.specs.Grammars.{layout_section}
 use Rattle.pattern.specs.Run.{IsRunEnd, GoesOutside}
 use Rattle.answers.specs.declared.outcome.Outcome.{Outcome}
-use Rattle.answers.specs.RunText.{IsRunOf, LayoutAndNamesOn, SaysRunEnd, live_cell_line, run_end_text, run_end_outcome}
-use Rattle.answers.specs.RunText.{run_sections_of}
+use Rattle.answers.specs.RunText.{IsRunOf, LayoutAndNamesOn, SaysRunEnd, run_end_text, run_end_outcome}
 use Rattle.answers.specs.Answers.{Answered}
 use Rattle.answers.proofs.Bundles.{layout_again}
 use Rattle.headline.specs.Laws.{HasAtMostOneAnswer}

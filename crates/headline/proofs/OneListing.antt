@@ -1,6 +1,6 @@
 -- A text has one listing of modules, and one migration.
 use Rattle.lemmas.proofs.Common.{◌∙◌, ◌≡◌, List, sym, ℕ, arith, common_steps}
-use Rattle.answers.specs.BundleText.{Bundle, bundle_of}
+use Rattle.answers.specs.BundleText.{Bundle}
 use Rattle.answers.specs.MigrateText.{IsMigrationOf, SaysMigration}
 use Rattle.answers.specs.ModulesText.{IsModulesOf, SaysModules}
 use Rattle.answers.specs.declared.outcome.Outcome.{Outcome}

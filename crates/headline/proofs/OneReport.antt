@@ -1,24 +1,21 @@
 -- A text has one report.
-use Rattle.lemmas.proofs.Common.{[], ◌++◌, ◌<◌, ◌∙◌, ◌∷◌, ◌≡◌, List, None, Option, Some, ap, arith, codes, flat_map}
+use Rattle.lemmas.proofs.Common.{◌<◌, ◌∙◌, ◌≡◌, List, None, Option, Some, ap, arith}
 use Rattle.lemmas.proofs.Common.{length, refl, slice_get, subst, sym, ℕ, slice_get_within, common_steps}
-use Rattle.sha2.specs.Sha256.{sha256}
-use Rattle.section_text.specs.Spelling.{line_text}
 use Rattle.circuit.specs.Bridge.{circuit_of}
-use Rattle.certificate_lines.specs.Entries.{ModuleLines, modules_of}
+use Rattle.certificate_lines.specs.Entries.{ModuleLines}
 use Rattle.certificate.specs.Grammars.{CertView, modules_in}
 use Rattle.certificate_lines.specs.Settings.{setting_of}
 use Rattle.module_job.specs.Jobs.{JobView}
 use Rattle.certificate.specs.Jobs.{AreJobsOf}
 use Rattle.certificate_lines.specs.Modules.{AreModules}
-use Rattle.certificate.specs.Text.{certificate_text}
 use Rattle.soundness.proofs.ModuleJobs.{one_job}
 use Rattle.core_book.specs.CoreLaws.{AreSameVerdicts}
 use Rattle.core_book.specs.Verdicts.{IsVerdict}
 use Rattle.core_book.specs.declared.verdict.Verdict.{Verdict}
 use Rattle.core_book.specs.declared.verdict.Verdict.TheVariants as verdict
 use Rattle.core_book.proofs.OneVerdict.{none-past, same-elements, verdict-is-one}
-use Rattle.report.specs.ReportText.{report_line_text, lines_before_verdict, report_lines}
-use Rattle.answers.specs.BundleText.{Bundle, bundle_of}
+use Rattle.report.specs.ReportText.{report_lines}
+use Rattle.answers.specs.BundleText.{Bundle}
 use Rattle.answers.specs.CheckText.{IsCertificateOf, IsReportOf, IsVerdictOn, SaysReport, verdict_outcome}
 use Rattle.headline.specs.Laws.{HasAtMostOneAnswer}
 use Rattle.answers.specs.declared.outcome.Outcome.{Outcome}

@@ -13,7 +13,6 @@ use Rattle.certificate_lines.specs.Settings.{setting_of}
 use Rattle.certificate_lines.specs.Versions.{edge_lines_beside, in_order, is_haloless_version, modules_by_version}
 use Rattle.certificate_lines.specs.Versions.{with_halos}
 use Rattle.certificate_lines.specs.declared.certificate_line.CertificateLine.{CertificateLine}
-use Rattle.certificate_lines.specs.declared.certificate_line.StopLine.{StopLine}
 use Rattle.certificate.specs.Arrivals.{AreOnTime}
 use Rattle.certificate.specs.Grammars.{CertView, modules_in}
 use Rattle.certificate.specs.Times.{all_stops}
@@ -22,9 +21,6 @@ use Rattle.certificate.proofs.MeantLines.{stops_meant}
 use Rattle.certificate.proofs.TimeLemmas.{all_in_modules}
 use Rattle.sha2.specs.Sha256.{sha256}
 use Rattle.circuit.specs.Meaning.{Circuit, Satisfies, Valuation}
-use Rattle.module_box.specs.Schedules.{signal_at}
-use Rattle.module_job.specs.Signals.{is_live}
-use Rattle.certificate.specs.Jobs.{line_signals}
 use Rattle.certificate.specs.Text.{certificate_text}
 use Rattle.local_run.specs.declared.fault.Fault.{Fault}
 use Rattle.local_run.specs.declared.fault.Kind.{Kind}
@@ -38,7 +34,7 @@ use Rattle.core_book.specs.declared.verdict.ReportLine.TheVariants.{Local, Keep,
 use Rattle.soundness.specs.FirstFaults.{GivesModuleAssignment, IsAsCertified, IsEarliestLine, IsReal}
 use Rattle.soundness.specs.HeadlineLaws.{BelongTogether, HasInputNames, IsInputName}
 use Rattle.meaning.specs.Implements.{IsCorrect}
-use Rattle.soundness.specs.PlainCertificates.{DelayLineMeans, IsPlain, IsWrongDesign, LineMeans, MeetLineMeans}
+use Rattle.soundness.specs.PlainCertificates.{IsPlain, IsWrongDesign, LineMeans}
 use Rattle.soundness.specs.PlainCertificates.{TouchesRim}
 use Rattle.soundness.specs.OnTime.{IsOnTime, StopHolds}
 use Rattle.core_book.specs.Verdicts.{Accepts, IsVerdict}

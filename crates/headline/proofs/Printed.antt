@@ -1,11 +1,11 @@
 -- A text that begins with a design says it, and the printing is the text of the sections.
 use Rattle.lemmas.proofs.Common.{[], ◌&&◌, ◌++◌, ◌<◌, ◌^◌, ◌∙◌, ◌∷◌, ◌≡◌, All, IsTrue, List, None, ap, append-nil}
 use Rattle.lemmas.proofs.Common.{append_assoc, ap₂, arith, codes, false, flat_map, length, map, pos, refl, subst, sym}
-use Rattle.lemmas.proofs.Common.{true, ℕ, ℤ, All-from_recursion, All-head, All-tail, AllByRecursion, flat_map-append}
-use Rattle.lemmas.proofs.Common.{signed_decimal, slice_split, slice_split_at, common_steps}
+use Rattle.lemmas.proofs.Common.{true, ℕ, ℤ, All-head, All-tail, AllByRecursion, flat_map-append}
+use Rattle.lemmas.proofs.Common.{signed_decimal, slice_split_at, common_steps}
 use Rattle.section_text.specs.Section.{with_line_feed}
 use Rattle.section_text.specs.Spelling.{line_text}
-use Rattle.section_text.specs.Words.{ended, is_line_feed, is_name, lines_of}
+use Rattle.section_text.specs.Words.{is_name, lines_of}
 use Rattle.section_text.specs.declared.section.Form.TheVariants.{Header, Item, End}
 use Rattle.section_text.proofs.Again.{AreLines}
 use Rattle.section_text.proofs.Lines.{ended-cons, some_part}

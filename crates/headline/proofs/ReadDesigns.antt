@@ -12,12 +12,11 @@ use Rattle.section_text.proofs.Good.{AreFaultless, IsFaultless}
 use Rattle.section_text.proofs.MadeSections.{one_line, section_made}
 use Rattle.section_text.proofs.Spellings.{chosen, passed}
 use Rattle.circuit.specs.Entries.{defined, entry}
-use Rattle.circuit.specs.Forms.{form_of, gate_entry, gate_kind, gate_line_of_kind, words_before_names}
-use Rattle.circuit.specs.Gates.{defines, uses}
+use Rattle.circuit.specs.Forms.{form_of, gate_entry, gate_line_of_kind}
 use Rattle.circuit.specs.Grammars.{circuit_grammar, unconsumed_wire_code}
 use Rattle.circuit.specs.Rules.{add_fault, consumed, order_fault, first_unconsumed}
 use Rattle.circuit.specs.declared.circuit_line.CircuitLine.{CircuitLine}
-use Rattle.circuit.specs.declared.circuit_line.Kind.TheVariants.{Input, Gate, Output, Spill}
+use Rattle.circuit.specs.declared.circuit_line.Kind.TheVariants.{Input, Output, Spill}
 use Rattle.pattern.specs.Grammars.{layout_grammar, layout_section}
 use Rattle.pattern.specs.Layout.{Pattern, parts_of}
 use Rattle.pattern.specs.declared.layout_line.LayoutHeader.{LayoutHeader}

@@ -1,7 +1,7 @@
 -- The lines of the plain certificate of a small design are good
-use Rattle.lemmas.proofs.Common.{[], ◌%◌, ◌&&◌, ◌++◌, ◌+◌, ◌<◌, ◌==◌, ◌||◌, ◌∙◌, ◌∷◌, ◌≡◌, ◌≢◌, ◌≤◌, All, Bool, Less}
+use Rattle.lemmas.proofs.Common.{[], ◌%◌, ◌&&◌, ◌++◌, ◌+◌, ◌<◌, ◌==◌, ◌||◌, ◌∙◌, ◌∷◌, ◌≡◌, ◌≢◌, ◌≤◌, All, Bool}
 use Rattle.lemmas.proofs.Common.{List, None, Ok, Some, ap, append-nil, append_assoc, ap₂, arith, cond, drop, eqb, false}
-use Rattle.lemmas.proofs.Common.{filter, flat_map, inl, inr, is_lt, length, length-append, map, nat_cmp, nat_le, nat_lt}
+use Rattle.lemmas.proofs.Common.{filter, flat_map, inl, inr, is_lt, length, length-append, map, nat_le, nat_lt}
 use Rattle.lemmas.proofs.Common.{not, option_map, option_to_list, refl, slice_get, subst, suc, sym, take, common_steps}
 use Rattle.lemmas.proofs.Common.{take-append-drop, true, true≢false, zero, ℕ, All-append, All-cons, All-head, All-nil}
 use Rattle.lemmas.proofs.Common.{All-tail, and-false, and_parts, bytes_eq, bytes_eq-Decides, cases_Bool, eqb-true}
@@ -25,8 +25,8 @@ use Rattle.module_box.specs.declared.boxes.Box2.{Box2}
 use Rattle.certificate_lines.specs.Entries.{ModuleLines, Setting, cut_in, cuts, gates, known, last_of, modules_of}
 use Rattle.certificate_lines.specs.Entries.{add_line, use_in, areas}
 use Rattle.certificate_lines.specs.ModuleParts.{is_module}
-use Rattle.certificate_lines.specs.Orders.{cell_of, is_cut, line_cmp, may_follow, may_precede, number_of, rank_of}
-use Rattle.certificate_lines.specs.Rules.{are_new_and_distinct, cut_fault, cut_wire_fault, entry_fault, used_gate_fault}
+use Rattle.certificate_lines.specs.Orders.{is_cut, line_cmp, may_follow, may_precede, number_of, rank_of}
+use Rattle.certificate_lines.specs.Rules.{are_new_and_distinct, cut_fault, entry_fault, used_gate_fault}
 use Rattle.certificate_lines.specs.Rules.{body_line_code, is_inverse_gate, keep_line_code, line_fault, use_fault}
 use Rattle.certificate_lines.specs.Rules.{content_code, box_cells, box_fault, end_fault, is_last_module_incomplete}
 use Rattle.certificate_lines.specs.Rules.{is_local, is_local_wire, is_odd, is_wrong_side, has_nonlocal_port, leaves_gap}
@@ -73,9 +73,8 @@ use Rattle.headline.proofs.WrittenNames.{outs_have}
 use Rattle.headline.proofs.YesIsRight.{bundle_good, circuit_good}
 use Rattle.core_book.specs.declared.verdict.Verdict.TheVariants as verdict
 use Rattle.headline.proofs.PlainLines.{all_inner, among_range, none_of, own_of, is_one, plain_lines_decide}
-use Rattle.module_box.specs.Moments.{cell_cmp}
-use Rattle.section_text.specs.declared.code.RefusalCode.TheVariants.{PastLimit, UnknownName, DefinedTwice, OutOfOrder}
-use Rattle.section_text.specs.declared.code.RefusalCode.TheVariants.{MisplacedBox, NotLocal, SomethingMissing}
+use Rattle.section_text.specs.declared.code.RefusalCode.TheVariants.{PastLimit, OutOfOrder}
+use Rattle.section_text.specs.declared.code.RefusalCode.TheVariants.{MisplacedBox, SomethingMissing}
 
 -- ---- numbers in a range
 
@@ -740,4 +739,5 @@ small_is_decided text output outcome circuit layout t small reports =
     (some, (plain_lines_decide text output outcome circuit layout said reports some).1)
 
 pub refused_is_none : RefusedIsNoSmallDesign
-refused_is_none text output reports circuit layout plain small = grind (arith, common_steps, small_is_decided)
+refused_is_none text output reports circuit layout plain small =
+    (small_is_decided text output Refused circuit layout plain small reports).0 refl

@@ -1,7 +1,7 @@
 -- A mirror that touches the rim of its rectangle: its layout computes a circuit, and gets a yes after it is moved
 use Rattle.lemmas.proofs.Common.{[], ◌&&◌, ◌+ℤ◌, ◌+◌, ◌-ℤ◌, ◌||◌, ◌∙◌, ◌∷◌, ◌≡◌, ◌≤◌, Bool, IsTrue, List, None, ap, ap₂}
-use Rattle.lemmas.proofs.Common.{arith, codes, false, inl, inr, leb, ltb, negsuc, option_map, pos, refl, subst, suc}
-use Rattle.lemmas.proofs.Common.{sym, true, unwrap_or, zero, ℕ, ℤ, All-cons, All-nil, and_parts, ints, nat_tests}
+use Rattle.lemmas.proofs.Common.{arith, codes, false, inl, inr, leb, ltb, negsuc, pos, refl, subst, suc}
+use Rattle.lemmas.proofs.Common.{sym, true, zero, ℕ, ℤ, All-cons, All-nil, and_parts, ints, nat_tests}
 use Rattle.lemmas.proofs.Common.{next_neg, common_steps}
 use Rattle.section_text.specs.Words.{is_name}
 use Rattle.bbm_rule.specs.Plane.{State, partner, run, step, turned}
@@ -12,10 +12,9 @@ use Rattle.bbm_rule.proofs.Steps.{step_same}
 use Rattle.circuit.specs.Bridge.{AreGoodCircuitLines, circuit_of, AreGoodAfter as AreGoodCircuit}
 use Rattle.circuit.specs.Rules.{add_fault}
 use Rattle.circuit.specs.Gates.{row}
-use Rattle.circuit.specs.Meaning.{Gate as Meant, HasRow, Satisfies, Valuation, number}
+use Rattle.circuit.specs.Meaning.{Satisfies, Valuation, number}
 use Rattle.circuit.specs.declared.circuit_line.CircuitLine.{CircuitLine}
-use Rattle.circuit.specs.declared.circuit_line.GateKind.{GateKind}
-use Rattle.circuit.specs.declared.circuit_line.GateKind.TheVariants.{Delay, Source}
+use Rattle.circuit.specs.declared.circuit_line.GateKind.TheVariants.{Source}
 use Rattle.circuit.specs.declared.circuit_line.Kind.TheVariants.{Gate, Spill}
 use Rattle.pattern.specs.Lines.{AreGoodAfter, begins, cells_taken_at_start, cell_fault, cells_of, is_inside, is_taken}
 use Rattle.pattern.specs.Lines.{limit_fault, size_fault}
@@ -239,5 +238,19 @@ touches = record {
 
 pub needs_room : SomeDesignNeedsRoom
 needs_room =
-    grind (arith, common_steps, some_report, each_is_decided, mirror_design, small, no_of, touches, room, no_delay,
-    each_gets_yes, mirror_correct)
+    let text = design_text constant rim_mirror in
+    let r = some_report text in
+    let decided = each_is_decided constant rim_mirror r.0 r.1 mirror_design small r.2 in
+    let no : r.1 ≡ No = no_of r.1 (λ e. (decided.1.0 e).2 touches) decided.0 in
+    record {
+      circuit = constant;
+      layout = rim_mirror;
+      design = mirror_design;
+      room = room;
+      correct = mirror_correct;
+      no_delay = no_delay;
+      touches = touches;
+      output = r.0;
+      reported = subst (IsReportOf text r.0) no r.2;
+      gets_yes = each_gets_yes constant rim_mirror mirror_design room mirror_correct no_delay;
+    }

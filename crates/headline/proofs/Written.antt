@@ -1,11 +1,11 @@
 -- Words make a line, lines make a section, and sections make a text, which have these words, lines and sections
-use Rattle.lemmas.proofs.Common.{[], ◌&&◌, ◌++◌, ◌==◌, ◌||◌, ◌∙◌, ◌∷◌, ◌≡◌, Bool, List, Option, Some, ap, append-nil}
-use Rattle.lemmas.proofs.Common.{ap₂, arith, eqb, false, flat_map, inl, inr, length, map, nat_lt, refl, sym, true, ℕ}
-use Rattle.lemmas.proofs.Common.{All-from_recursion, AllByRecursion, and_parts, cases_Bool, eqb-true, false≢true}
+use Rattle.lemmas.proofs.Common.{[], ◌&&◌, ◌++◌, ◌∙◌, ◌∷◌, ◌≡◌, Bool, List, Option, Some, ap, append-nil}
+use Rattle.lemmas.proofs.Common.{ap₂, arith, eqb, false, flat_map, map, nat_lt, refl, true, ℕ}
+use Rattle.lemmas.proofs.Common.{AllByRecursion, and_parts, cases_Bool, eqb-true, false≢true}
 use Rattle.lemmas.proofs.Common.{list_all, nat_tests, slice_split_at, slice_split_none, common_steps}
 use Rattle.section_text.specs.SaidSection.{IsSection}
 use Rattle.section_text.specs.Spelling.{space_and_word}
-use Rattle.section_text.specs.Words.{is_digit, is_lower, is_name, is_name_byte, is_space, words_of}
+use Rattle.section_text.specs.Words.{is_digit, is_name, is_name_byte, words_of}
 use Rattle.section_text.specs.declared.section.Form.{Form}
 use Rattle.section_text.specs.declared.section.Form.TheVariants.{Header, Item, End}
 use Rattle.section_text.proofs.Again.{AreLines, IsOneLine}

@@ -1,19 +1,18 @@
 -- The lines of a good circuit can be written, if its wires have names
-use Rattle.lemmas.proofs.Common.{[], ◌&&◌, ◌++◌, ◌+◌, ◌<◌, ◌==◌, ◌^◌, ◌||◌, ◌∙◌, ◌∷◌, ◌≡◌, Bool, List, None, Some, ap}
+use Rattle.lemmas.proofs.Common.{[], ◌&&◌, ◌++◌, ◌+◌, ◌<◌, ◌==◌, ◌^◌, ◌||◌, ◌∙◌, ◌∷◌, ◌≡◌, List, None, Some, ap}
 use Rattle.lemmas.proofs.Common.{append-nil, append_assoc, ap₂, arith, codes, cond, eq-eqb, false, inl, inr, length}
-use Rattle.lemmas.proofs.Common.{length-append, nat_lt, refl, slice_get, subst, sym, true, ℕ, AllByRecursion, and_parts}
+use Rattle.lemmas.proofs.Common.{length-append, refl, slice_get, subst, sym, true, ℕ, AllByRecursion, and_parts}
 use Rattle.lemmas.proofs.Common.{bytes_eq, bytes_eq-Decides, cases_Bool, cond_some, decimal, false≢true, list_all}
 use Rattle.lemmas.proofs.Common.{nat_tests, left_is_false, common_steps}
-use Rattle.section_text.specs.Words.{◌>>=◌, has, is_digit, is_name, is_number, is_word, is_word_at, lone, lone_name}
+use Rattle.section_text.specs.Words.{◌>>=◌, has, is_name, is_number, is_word, is_word_at, lone, lone_name}
 use Rattle.section_text.specs.Words.{name_at, name_of, names_at, number_at, number_of}
-use Rattle.section_text.specs.declared.code.RefusalCode.TheVariants.{PastLimit}
 use Rattle.section_text.specs.declared.section.Form.TheVariants.{Header, Item, End}
 use Rattle.section_text.proofs.Numbers.{number_written}
 use Rattle.circuit.specs.Bridge.{AreGoodAfter, FitsKind}
 use Rattle.circuit.specs.Entries.{defined, entry}
 use Rattle.circuit.specs.Forms.{bit_at, form_of, gate_entry, gate_kind, gate_line_of_kind, words_before_names}
 use Rattle.circuit.specs.Gates.{defines, uses}
-use Rattle.circuit.specs.Rules.{add_fault, consumed, is_wrong_delay, limit_fault, exceeds_limit}
+use Rattle.circuit.specs.Rules.{add_fault, consumed, is_wrong_delay}
 use Rattle.circuit.specs.Text.{gate_parameter_words, gate_word}
 use Rattle.circuit.specs.declared.circuit_line.CircuitLine.{CircuitLine}
 use Rattle.circuit.specs.declared.circuit_line.GateKind.{GateKind}

@@ -317,4 +317,35 @@ module _ (text : List ℕ) (circuit : List CircuitLine) (p : Pattern) (t : IsPla
 
 pub each_is_decided : EachSmallDesignIsDecided
 each_is_decided circuit p output outcome design small reports =
-    grind (arith, common_steps, small_is_decided, design_printed)
+    let text = design_text circuit p in
+    let t = has_text circuit p design small in
+    let d = small_is_decided text output outcome circuit p t small reports in (
+      d.0,
+      (
+        (λ e. let all = d.1.0 e in (
+          correct_of text circuit p t all.0,
+          no_delay text circuit p t all.1,
+          λ touch. all.2 (record {
+            circuit = circuit;
+            layout = p;
+            says = design_said text circuit p t;
+            touches = touch;
+          }),
+        )),
+        (λ all. d.1.1 (
+          record {
+            circuit = circuit;
+            layout = p;
+            begins = design_printed text (certificate_text (record {
+              circuit = circuit;
+              layout = p;
+              version = 1;
+              entries = plain_lines circuit p;
+            })) circuit p design refl;
+            correct = all.0;
+          },
+          stops_of text circuit p t all.1,
+          λ touch. all.2 (touch_of text circuit p t touch),
+        )),
+      ),
+    )

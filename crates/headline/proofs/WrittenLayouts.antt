@@ -7,7 +7,7 @@ use Rattle.section_text.specs.Codes.{code_if, or_else}
 use Rattle.section_text.specs.Ports.{Named}
 use Rattle.section_text.specs.Words.{◌>>=◌, has, is_name, is_word_at, lone, name_at, number_at}
 use Rattle.section_text.specs.declared.code.RefusalCode.{RefusalCode}
-use Rattle.section_text.specs.declared.code.RefusalCode.TheVariants.{OutOfOrder, PastLimit, SomethingMissing, TakenCell}
+use Rattle.section_text.specs.declared.code.RefusalCode.TheVariants.{SomethingMissing, TakenCell}
 use Rattle.section_text.specs.declared.code.RefusalCode.TheVariants.{UnknownName}
 use Rattle.section_text.specs.declared.section.Form.TheVariants.{Header, Item, End}
 use Rattle.section_text.proofs.Good.{AreFaultless, IsFaultless}

@@ -1,7 +1,7 @@
 -- The inputs and the outputs of a good circuit have names, if its wires do
 use Rattle.lemmas.proofs.Common.{[], ◌++◌, ◌∷◌, Bool, List, cond, false, if◌then◌else◌, refl, subst, sym, true, ℕ}
 use Rattle.lemmas.proofs.Common.{flat_map-append, arith, common_steps}
-use Rattle.circuit.specs.Bridge.{AreGoodAfter, input_names, is_input, is_output, output_names}
+use Rattle.circuit.specs.Bridge.{AreGoodAfter, input_names, is_output, output_names}
 use Rattle.circuit.specs.Entries.{defined}
 use Rattle.circuit.specs.Rules.{consumed}
 use Rattle.circuit.specs.declared.circuit_line.CircuitLine.{CircuitLine}

@@ -19,7 +19,7 @@ use Rattle.circuit.specs.Bridge.{AreGoodAfter, AreGoodCircuitLines, circuit_of, 
 use Rattle.circuit.specs.Entries.{rank_of}
 use Rattle.circuit.specs.Forms.{form_of}
 use Rattle.circuit.specs.Grammars.{circuit_grammar}
-use Rattle.circuit.specs.Rules.{add_fault, gate_count, is_gate, last_rank, order_fault}
+use Rattle.circuit.specs.Rules.{add_fault, gate_count, last_rank, order_fault}
 use Rattle.circuit.specs.declared.circuit_line.CircuitLine.{CircuitLine}
 use Rattle.circuit.proofs.Valuations.{at_most_one}
 use Rattle.circuit.proofs.Bridging.{count_append, gates_are_ordered}
@@ -416,8 +416,19 @@ yes_has_right_stops text output says =
 line_tells : (output : List ℕ) (outcome : Outcome) (read : Result Bundle Refusal) →
     Answered SaysReport read output outcome →
     (FourthLineSaysYes output → outcome ≡ Yes) × (outcome ≡ Yes → FourthLineSaysYes output)
-line_tells output outcome (Ok b) says = grind (arith, common_steps, says_yes, is_yes, yes_says)
-line_tells output outcome (Err refusal) told = grind (arith, common_steps, refusal_says_none, not_refused)
+line_tells output outcome (Ok b) says = (
+  λ line. says.ends ∙ ap verdict_outcome
+      (says_yes says.certificate says.verdict (subst FourthLineSaysYes says.says line)),
+  λ is.
+      let v : says.verdict ≡ verdict.Yes = is_yes says.verdict (sym is ∙ says.ends) in
+      subst FourthLineSaysYes (sym says.says)
+      (subst (λ (w : Verdict). FourthLineSaysYes (report_lines says.certificate w)) (sym v)
+      (yes_says says.certificate)),
+)
+line_tells output outcome (Err refusal) told = (
+  λ line. absurd (refusal_says_none refusal (subst FourthLineSaysYes told.0 line)),
+  λ is. absurd (not_refused (sym is ∙ told.1)),
+)
 
 pub fourth_line-tells : FourthLineShowsOutcome
 fourth_line-tells text output outcome says = line_tells output outcome (bundle_of text) says

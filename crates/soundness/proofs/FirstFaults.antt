@@ -1,9 +1,9 @@
 -- The first fault is one of the whole plane
 use Rattle.lemmas.proofs.Common.{[], ◌++◌, ◌<◌, ◌∙◌, ◌∷◌, ◌≡◌, ◌≤◌, All, Bool, Contains, List, None, Option, Some, ap}
-use Rattle.lemmas.proofs.Common.{ap₂, arith, false, flat_map, if◌then◌else◌, inl, inr, length, map, option_to_list}
+use Rattle.lemmas.proofs.Common.{ap₂, arith, false, flat_map, inl, inr, length, option_to_list}
 use Rattle.lemmas.proofs.Common.{refl, slice_get, slice_index, subst, suc, sym, true, zero, ℕ, ℤ, All-cons}
-use Rattle.lemmas.proofs.Common.{All-contains, All-head, All-nil, All-tail, and_parts, cases_Bool, common_steps}
-use Rattle.lemmas.proofs.Common.{get_or_from_slice_get, option_map_or, props, same_Some, slice_get_within, ∥∥₁_elim}
+use Rattle.lemmas.proofs.Common.{All-contains, All-nil, and_parts, cases_Bool, common_steps}
+use Rattle.lemmas.proofs.Common.{get_or_from_slice_get, option_map_or, same_Some, slice_get_within, ∥∥₁_elim}
 use Rattle.lemmas.proofs.Common.{all_unmapped, nothing_prop, some_at}
 use Rattle.bbm_rule.specs.Bits.{bit}
 use Rattle.bbm_rule.specs.Plane.{State, is_at}

@@ -1,6 +1,6 @@
 -- The jobs of modules: which one has a cell, and what their signals say by the wires of the circuit
 use Rattle.lemmas.proofs.Common.{[], ◌&&◌, ◌++◌, ◌==◌, ◌∙◌, ◌∷◌, ◌≡◌, All, Bool, List, None, Option, Some, ap, arith}
-use Rattle.lemmas.proofs.Common.{false, flat_map, inl, inr, refl, slice_get, subst, sym, true, true≢false, unwrap_or, ℕ}
+use Rattle.lemmas.proofs.Common.{false, flat_map, refl, slice_get, subst, sym, true, true≢false, ℕ}
 use Rattle.lemmas.proofs.Common.{ℤ, All-head, All-tail, cases_Bool, cond-false, slice_get_within, and-false}
 use Rattle.lemmas.proofs.Common.{mapped_from, some_at, common_steps}
 use Rattle.bbm_rule.specs.Plane.{is_at}

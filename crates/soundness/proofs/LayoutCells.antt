@@ -1,6 +1,6 @@
 -- The cells of a layout: their ports, the start, and the demand at the end
 use Rattle.lemmas.proofs.Common.{[], ◌&&◌, ◌++◌, ◌||◌, ◌∙◌, ◌∷◌, ◌≡◌, Bool, List, None, Option, Some, ap, append-nil}
-use Rattle.lemmas.proofs.Common.{append_assoc, false, if◌then◌else◌, map, not, option_map, refl, slice_get, subst, suc}
+use Rattle.lemmas.proofs.Common.{append_assoc, false, if◌then◌else◌, map, not, option_map, refl, slice_get, suc}
 use Rattle.lemmas.proofs.Common.{sym, true, true≢false, zero, ℕ, ℤ, and_from, and_parts, false≢true, option_map_or}
 use Rattle.lemmas.proofs.Common.{same_Some, slice_get-map, left_is_false, same_truth, arith, common_steps}
 use Rattle.bbm_rule.specs.Plane.{is_at}
@@ -25,10 +25,9 @@ use Rattle.module_box.specs.Boxes.{in_box, IsEven}
 use Rattle.module_box.proofs.BoxCells.{same_some}
 use Rattle.certificate_lines.specs.PortTables.{port_at}
 use Rattle.certificate.specs.Jobs.{wire_of_optional_name, wire_or_zero, start_signal, wire_or_dead}
-use Rattle.certificate.specs.Jobs.{demand_outside_mirrors, end_demand}
+use Rattle.certificate.specs.Jobs.{end_demand}
 use Rattle.certificate_lines.specs.Rules.{whole}
 use Rattle.module_job.specs.Signals.{is_live, MeetsDemand}
-use Rattle.module_job.specs.declared.job.Demand.TheVariants as Demanded
 use Rattle.module_box.specs.declared.schedules.Signal.TheVariants.{One}
 use Rattle.certificate_lines.proofs.Lists.{any_at, kept, passed}
 use Rattle.certificate_lines.proofs.LayoutPorts.{port_stands, none_stands}

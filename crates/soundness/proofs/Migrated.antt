@@ -1,5 +1,5 @@
 -- From modules with halo lines to modules without
-use Rattle.lemmas.proofs.Common.{[], ◌%◌, ◌<◌, ◌==◌, ◌∙◌, ◌∷◌, ◌≡◌, ◌≤◌, Bool, IfSome, IsTrue, List, None, Option, Some}
+use Rattle.lemmas.proofs.Common.{[], ◌%◌, ◌<◌, ◌∙◌, ◌∷◌, ◌≡◌, ◌≤◌, Bool, IfSome, IsTrue, List, None, Option, Some}
 use Rattle.lemmas.proofs.Common.{ap, arith, false, inl, inr, length, map, nat_lt, not, refl, slice_get, slice_index}
 use Rattle.lemmas.proofs.Common.{slice_index_or, subst, sym, true, true≢false, ℕ, ℤ, cases_Bool, length-map, list_any}
 use Rattle.lemmas.proofs.Common.{nat_tests, slice_get-get_or, slice_get_within, eq_test, mapped_at, mapped_from}

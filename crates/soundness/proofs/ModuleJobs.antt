@@ -1,6 +1,6 @@
 -- A module has one job
-use Rattle.lemmas.proofs.Common.{[], ◌*◌, ◌+◌, ◌<◌, ◌∙◌, ◌∷◌, ◌≡◌, ◌≤◌, All, IsTrue, List, Some, ap, ap₂, arith, drop}
-use Rattle.lemmas.proofs.Common.{inl, inr, length, map, refl, slice_get, slice_index, slice_index_or, subst, suc, sym}
+use Rattle.lemmas.proofs.Common.{[], ◌*◌, ◌+◌, ◌<◌, ◌∙◌, ◌∷◌, ◌≡◌, ◌≤◌, All, IsTrue, List, Some, ap, ap₂, arith}
+use Rattle.lemmas.proofs.Common.{inl, inr, length, map, refl, slice_get, slice_index, subst, suc, sym}
 use Rattle.lemmas.proofs.Common.{true, unwrap_or, ℕ, ℤ, All-head, All-tail, cases_Bool, cases_lt, cond-true}
 use Rattle.lemmas.proofs.Common.{range_with_len, same_Some, slice_get-get_or, same_head, same_tail}
 use Rattle.circuit.specs.declared.circuit_line.GateKind.{GateKind}

@@ -18,7 +18,6 @@ use Rattle.pattern.specs.Layout.{Pattern}
 use Rattle.module_box.specs.Boxes.{in_box, in_ring}
 use Rattle.module_box.specs.Locals.{AreDifferent, circuit_gate, is_among}
 use Rattle.module_box.specs.LocalValues.{values_by_local_number}
-use Rattle.module_box.specs.Moments.{cell_cmp}
 use Rattle.module_box.specs.Schedules.{signal_at}
 use Rattle.module_box.specs.declared.schedules.Signal.TheVariants.{Zero}
 use Rattle.module_box.proofs.Neighbours.{halo_parts}
@@ -32,7 +31,7 @@ use Rattle.certificate_lines.proofs.Lists.{kept}
 use Rattle.certificate.specs.Jobs.{IsJobOf, line_signals}
 use Rattle.certificate.specs.Arrivals.{AreOnTime, IsFirstTime, IsLastTime, TakesSteps, IsTimeLineTrue, IsDelayGapTrue}
 use Rattle.certificate.specs.Arrivals.{IsMeetingTimeTrue}
-use Rattle.certificate.specs.Times.{all_stops, are_all_obeyed, is_obeyed, delay_and_meet_lines, stop_times_of_wire}
+use Rattle.certificate.specs.Times.{all_stops, are_all_obeyed, is_obeyed, delay_and_meet_lines}
 use Rattle.certificate.specs.declared.times.StopGap.{StopGap}
 use Rattle.certificate.specs.declared.times.StopGap.TheVariants.{Steps, NoStop, Before}
 use Rattle.certificate.specs.declared.times.TimeLine.{TimeLine}
@@ -44,7 +43,7 @@ use Rattle.module_job.specs.Signals.{is_live}
 use Rattle.module_job.specs.declared.job.Stop as listed
 use Rattle.local_run.specs.Faults.{IsEdgeFault, IsFault, IsFaultUnder, IsKeepFault, IsLeastFault, IsLeastKeepFault}
 use Rattle.local_run.specs.Faults.{assignments}
-use Rattle.local_run.specs.Order.{fault_cmp, kind_number}
+use Rattle.local_run.specs.Order.{fault_cmp}
 use Rattle.local_run.specs.Runs.{local_run}
 use Rattle.local_run.specs.declared.fault.Fault.{Fault}
 use Rattle.local_run.specs.declared.fault.KeepFault.{KeepFault}
@@ -72,7 +71,6 @@ use Rattle.soundness.proofs.FirstFaults.{correct_meets, real, ring_inside, runs_
 use Rattle.soundness.proofs.FirstFaults.{stop_by_lines, IsPlacedWire, assigned, first_means, placed_wire}
 use Rattle.soundness.proofs.InputRuns.{at_place, inputs_decide}
 use Rattle.soundness.proofs.JobSignals.{Known, edge_by_circuit, no_signal}
-use Rattle.soundness.proofs.StopParts.{all_flat}
 use Rattle.soundness.proofs.WholeRuns.{correct, off_rim, on_time, starts, steps_with_good_borders}
 
 pub nat_greater : (a b : ℕ) → b < a → nat_cmp a b ≡ Greater

@@ -17,7 +17,7 @@ use Rattle.certificate_lines.proofs.Lists.{kept}
 use Rattle.soundness.specs.HeadlineLaws.{ReadLayoutHasPortNames}
 use Rattle.soundness.proofs.InputRuns.{at_place, in_known, in_stands}
 use Rattle.section_text.specs.declared.code.RefusalCode.{RefusalCode}
-use Rattle.section_text.specs.declared.code.RefusalCode.TheVariants.{UnknownName, SomethingMissing}
+use Rattle.section_text.specs.declared.code.RefusalCode.TheVariants.{UnknownName}
 
 pub no_code : (b : Bool) (code : RefusalCode) → code_if (not b) code ≡ None → b ≡ true
 no_code true code e = refl

@@ -27,9 +27,9 @@ use Rattle.module_job.specs.Jobs.{IsJob, JobView}
 use Rattle.certificate.specs.Jobs.{AreJobsOf, IsJobOf}
 use Rattle.certificate.specs.Keeps.{is_kept, unkept_from}
 use Rattle.certificate.specs.StopLists.{AreStops}
-use Rattle.certificate.specs.Times.{common_time, all_stops, are_all_obeyed, delay_line_of_kind, delay_line, first_seen}
-use Rattle.certificate.specs.Times.{gap_between, last_seen, last_times, time_lines_of_gates, meet_line_of_times}
-use Rattle.certificate.specs.Times.{meet_line, numbered, first_wire_time, delay_and_meet_lines}
+use Rattle.certificate.specs.Times.{common_time, all_stops, are_all_obeyed, delay_line_of_kind, first_seen}
+use Rattle.certificate.specs.Times.{last_seen, time_lines_of_gates, meet_line_of_times}
+use Rattle.certificate.specs.Times.{numbered, delay_and_meet_lines}
 use Rattle.certificate.specs.declared.times.StopGap.{StopGap}
 use Rattle.certificate.specs.declared.times.TimeLine.{TimeLine}
 use Rattle.certificate.specs.declared.times.TimeLine.TheVariants.{Meet}
@@ -38,8 +38,8 @@ use Rattle.certificate.proofs.StopLemmas.{stops_rise, stops_stand}
 use Rattle.border_match.specs.BorderFaults.{AreBorderFaultsOf, IsLeastBorderFault}
 use Rattle.border_match.specs.declared.fault.BorderFault.{BorderFault}
 use Rattle.soundness.specs.ModuleLaws.{VerdictExists}
-use Rattle.core_book.specs.Verdicts.{AreLeastFaults, IsToldOf, IsVerdict, border_line, keep_line, report_lines_from}
-use Rattle.core_book.specs.Verdicts.{local_line, renumber_keep, timing_report, unkept_lines}
+use Rattle.core_book.specs.Verdicts.{AreLeastFaults, IsToldOf, IsVerdict, report_lines_from}
+use Rattle.core_book.specs.Verdicts.{renumber_keep, timing_report, unkept_lines}
 use Rattle.core_book.specs.declared.verdict.LeastFaults.{LeastFaults}
 use Rattle.core_book.specs.declared.verdict.ReportLine.{ReportLine}
 use Rattle.core_book.specs.declared.verdict.ReportLine.TheVariants.{Unkept}

@@ -1,5 +1,5 @@
 -- From a yes to the whole pattern
-use Rattle.lemmas.proofs.Common.{[], ◌≡◌, List, None, Some, subst, take, arith, common_steps}
+use Rattle.lemmas.proofs.Common.{[], ◌≡◌, List, None, Some, take, arith, common_steps}
 use Rattle.circuit.specs.Entries.{defined}
 use Rattle.pattern.specs.Layout.{parts_of}
 use Rattle.circuit.specs.Bridge.{circuit_of, input_names, netlist_of}
