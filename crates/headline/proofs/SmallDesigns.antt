@@ -161,8 +161,12 @@ inner_append : (g : Setting) (b : Box2) (ms xs ys : List CertificateLine) → In
 unfolding Inner
 inner_append g b ms [] ys h k = subst (λ l. Inner g b l ys) (append-nil ms) k
 inner_append g b ms (x ∷ xs) ys h k =
-    grind (arith, common_steps, append_assoc,
-    (inner_append g b (ms ++ x ∷ []) xs ys h.2 (subst (λ l. Inner g b l ys) (sym (append_assoc ms (x ∷ []) xs)) k)))
+    grind (
+      arith,
+      common_steps,
+      append_assoc,
+      (inner_append g b (ms ++ x ∷ []) xs ys h.2 (subst (λ l. Inner g b l ys) (sym (append_assoc ms (x ∷ []) xs)) k)),
+    )
 
 in_module : (g : Setting) (before : List CertificateLine) (m : ModuleLines) (i : CertificateLine) →
     last_of (modules_of before) ≡ Some m →
@@ -195,8 +199,14 @@ inner_faultless : (g : Setting) (b : Box2) (ms ls : List CertificateLine) →
 unfolding Inner
 inner_faultless g b ms [] all h = tt
 inner_faultless g b ms (i ∷ ls) all h =
-    grind (arith, common_steps, in_module, present_one, all_push,
-    (inner_faultless g b (ms ++ i ∷ []) ls (all_push ms i all h.0) h.2))
+    grind (
+      arith,
+      common_steps,
+      in_module,
+      present_one,
+      all_push,
+      (inner_faultless g b (ms ++ i ∷ []) ls (all_push ms i all h.0) h.2),
+    )
 
 -- ---- the order of lines
 

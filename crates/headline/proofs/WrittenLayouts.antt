@@ -235,9 +235,14 @@ run_of : {X : Type 0} (mk : X → LayoutLine) (k : ℕ) → ((x : X) → rank_of
 unfolding order_fault
 run_of mk k rank [] before rest h next = next before h
 run_of mk k rank (x ∷ xs) before rest h next =
-    grind (arith, common_steps, none_late, up_more,
-    (run_of mk k rank xs (before ++ mk x ∷ []) rest
-    (up_more k before (mk x) (let e = rank x in omega (arith, e)) h) next))
+    grind (
+      arith,
+      common_steps,
+      none_late,
+      up_more,
+      (run_of mk k rank xs (before ++ mk x ∷ []) rest
+          (up_more k before (mk x) (let e = rank x in omega (arith, e)) h) next),
+    )
 
 last_run : {X : Type 0} (mk : X → LayoutLine) (k : ℕ) → ((x : X) → rank_of (mk x) ≡ k) → (xs : List X)
     (before : List LayoutLine) → AreUpTo k before → InOrder before (map mk xs)

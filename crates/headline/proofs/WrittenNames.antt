@@ -16,8 +16,15 @@ if_names false ns h = refl
 pub input_named : (circuit : List CircuitLine) → AreNames (defined circuit) → AreNames (input_names circuit)
 input_named [] h = refl
 input_named (r ∷ circuit) h =
-    grind (arith, common_steps, names_both, if_names, names_left, names_right,
-    (input_named circuit (names_right r.outs (defined circuit) h)))
+    grind (
+      arith,
+      common_steps,
+      names_both,
+      if_names,
+      names_left,
+      names_right,
+      (input_named circuit (names_right r.outs (defined circuit) h)),
+    )
 
 have_append : (d xs ys : List (List ℕ)) → Have d xs → Have d ys → Have d (xs ++ ys)
 have_append d [] ys h k = k

@@ -157,8 +157,16 @@ local_stays : (lines : List CircuitLine) (p : Pattern) (ms : List ModuleLines) (
 unfolding local_run
 local_stays lines p ms i j u zero k x y out = ap (is_live u) (own.start_outside j x y out)
 local_stays lines p ms i j u (suc t) k x y out =
-    grind (arith, common_steps, even_or_odd, local_even, even_stays, job_even, local_odd,
-    (local_stays lines p ms i j u t k))
+    grind (
+      arith,
+      common_steps,
+      even_or_odd,
+      local_even,
+      even_stays,
+      job_even,
+      local_odd,
+      (local_stays lines p ms i j u t k),
+    )
 
 -- ---- an even step
 

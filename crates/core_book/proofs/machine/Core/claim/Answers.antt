@@ -39,8 +39,18 @@ with_draws v draws = record v { draws = draws }
 
 pub invariant_of-self : goal.invariant_of-self
 invariant_of-self c =
-    grind (arith, common_steps, kept, length-set, c.self.invariant, c.self.inside, c.in_default.ensures.unchanged,
-    c.self.inside.draws.items, c.args.seat, c.next_claim.new.drawn)
+    grind (
+      arith,
+      common_steps,
+      kept,
+      length-set,
+      c.self.invariant,
+      c.self.inside,
+      c.in_default.ensures.unchanged,
+      c.self.inside.draws.items,
+      c.args.seat,
+      c.next_claim.new.drawn,
+    )
 
 pub returns-in_default-clause-unchanged : goal.returns-in_default-clause-unchanged
 returns-in_default-clause-unchanged c =
@@ -55,9 +65,22 @@ left : (c : After-next_claim) (next : ℕ) →
     { next = next; draws = lists_of (set c.self.inside.draws.items c.args.seat c.next_claim.new.drawn) }
     ≡ after_claim (core_view c.self.inside) c.args.seat
 left c next next_is drawn_is =
-    grind (arith, common_steps, at-After-next_claim, left-claim, count, was, map-set, c.self.inside, c.args.seat,
-    c.jobs-count.result.now, c.index_mut.result.now.items, c.next_claim.new.drawn.items, c.self.inside.draws.items,
-    c.next_claim.new.drawn)
+    grind (
+      arith,
+      common_steps,
+      at-After-next_claim,
+      left-claim,
+      count,
+      was,
+      map-set,
+      c.self.inside,
+      c.args.seat,
+      c.jobs-count.result.now,
+      c.index_mut.result.now.items,
+      c.next_claim.new.drawn.items,
+      c.self.inside.draws.items,
+      c.next_claim.new.drawn,
+    )
 
 pub invariant_of-self-2 : goal.invariant_of-self-2
 invariant_of-self-2 c =
@@ -73,5 +96,13 @@ invariant_of-self-2 c =
 
 pub returns-clause-after : goal.returns-clause-after
 returns-clause-after c =
-    grind (arith, common_steps, left, c.in-Ok.next, c.in-Ok.ensures.next, c.in-Ok.ensures.draws, c.args.seat,
-    c.self.view_is)
+    grind (
+      arith,
+      common_steps,
+      left,
+      c.in-Ok.next,
+      c.in-Ok.ensures.next,
+      c.in-Ok.ensures.draws,
+      c.args.seat,
+      c.self.view_is,
+    )
