@@ -4,7 +4,7 @@ use Rattle.lemmas.proofs.Common.{append-nil, ap₂, drop, map, refl, subst, sym,
 use Rattle.section_text.specs.Words.{lines_of, bytes_after_last_line_feed}
 use Rattle.section_text.specs.Feeds.{FeedView, ahead}
 use Rattle.section_text.specs.Faults.{refusal}
-use Rattle.section_text.specs.Ports.{Named}
+use Rattle.section_text.specs.Ports.{PortNameLists}
 use Rattle.section_text.specs.Section.{Reads, FailsAsReading}
 use Rattle.section_text.specs.Sections.{section_then, value_if_at_end}
 use Rattle.section_text.specs.declared.fault.Refusal.{Refusal}
@@ -19,14 +19,14 @@ use Rattle.pattern.specs.Layout.{Pattern, parts_of}
 use Rattle.pattern.specs.declared.layout_line.LayoutLine.{LayoutLine}
 use Rattle.pattern.specs.declared.layout_line.LayoutLine.TheVariants.{Mirror, Ball, In, Out, Waste}
 use Rattle.pattern.specs.declared.layout_line.Port.{Port}
-use Rattle.pattern.specs.declared.layout_line.Rectangle.{Rectangle}
+use Rattle.bbm_rule.specs.declared.block.Box2.{Box2}
 use Rattle.bbm_rule.specs.declared.block.Cell.{Cell}
 use Rattle.pattern.specs.declared.layout_line.LayoutHeader.{LayoutHeader}
 use Rattle.certificate_lines.specs.Entries.{Setting}
 use Rattle.certificate.specs.Grammars.{CertView, certificate_grammar, certificate_section}
 use Rattle.certificate_lines.specs.Settings.{setting_of}
 use Rattle.certificate_lines.specs.declared.certificate_line.CertificateLine.{CertificateLine}
-use Rattle.answers.specs.Answers.{Answered}
+use Rattle.answers.specs.Answers.{AnswersOrRefuses}
 use Rattle.answers.specs.BundleReading.{TellsRefusal, bundle_of_certificate}
 use Rattle.core_book.specs.Concluding.{port_names_of}
 use Rattle.pattern.specs.FromLines.{layout_of}
@@ -37,7 +37,7 @@ use Rattle.section_text.specs.declared.code.RefusalCode.TheVariants.{TextCut}
 -- ---- a layout is what its lines make
 
 module _ (s : LayoutHeader) where
-  mirrors_first : (ms : List Rectangle) (parts : List LayoutLine) → layout_of s (map Mirror ms ++ parts)
+  mirrors_first : (ms : List Box2) (parts : List LayoutLine) → layout_of s (map Mirror ms ++ parts)
       ≡ record (layout_of s parts) { mirrors = ms ++ (layout_of s parts).mirrors }
   mirrors_first [] parts = refl
   mirrors_first (m ∷ ms) parts =
@@ -123,7 +123,7 @@ module _ (f0 f1 : FeedView) (unread : f0.taken ≡ 0) (going : f0.stop ≡ None)
     text_1 : f1.text ≡ f0.text
     text_1 = same_text circuit_grammar circuit_section f0 f1 going (after_circuit f0.text) circuit read
 
-    module _ (named : Option Named) (f2 : FeedView) (are : named ≡ Some (port_names_of circuit)) where
+    module _ (named : Option PortNameLists) (f2 : FeedView) (are : named ≡ Some (port_names_of circuit)) where
       pub layout_failed : (fault : ReadFault) →
           Reads {A = Pattern} (layout_grammar named) layout_section f1 f2 (Err fault) →
           FailsAsReading fault (bundle_of f0.text)
@@ -217,14 +217,14 @@ module _ (f0 f1 : FeedView) (unread : f0.taken ≡ 0) (going : f0.stop ≡ None)
 -- the line of a refusal is the answer to what fails so
 pub refusal_answers : {A : Type 0} (says : A → List ℕ → Outcome → Type 0) (read : Result A Refusal) (fault : ReadFault)
     (output : List ℕ) (outcome : Outcome) → FailsAsReading fault read → TellsRefusal fault output outcome →
-    Answered says read output outcome
+    AnswersOrRefuses says read output outcome
 refusal_answers says read fault output outcome fails told =
     let fails' : FailsAsReading (Refused told.refusal) read = subst (λ f. FailsAsReading f read) told.refused fails in
-    subst (λ r. Answered says r output outcome) (sym fails') (told.says, told.ends)
+    subst (λ r. AnswersOrRefuses says r output outcome) (sym fails') (told.says, told.ends)
 
 pub bundle_answers : (says : Bundle → List ℕ → Outcome → Type 0) (read : Result Bundle Refusal) (cert : CertView)
     (output : List ℕ) (outcome : Outcome) → read ≡ Ok (bundle_of_certificate cert) →
     says (bundle_of_certificate cert) output outcome →
-    Answered says read output outcome
+    AnswersOrRefuses says read output outcome
 bundle_answers says read cert output outcome was_read said =
-    subst (λ r. Answered says r output outcome) (sym was_read) said
+    subst (λ r. AnswersOrRefuses says r output outcome) (sym was_read) said

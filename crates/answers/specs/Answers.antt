@@ -9,9 +9,10 @@ use Rattle.answers.specs.declared.outcome.Outcome.{Outcome}
 use Rattle.answers.specs.declared.outcome.Outcome.TheVariants.{Refused}
 
 -- A text that is read gets the answer of its command, and a refused one the line of its refusal.
-abbrev pub Answered : {A : Type 0} → (A → List ℕ → Outcome → Type 0) → Result A Refusal → List ℕ → Outcome → Type 0
-Answered says (Ok asked) output outcome = says asked output outcome
-Answered says (Err refusal) output outcome = (output ≡ refusal_line refusal) × (outcome ≡ Refused)
+abbrev pub AnswersOrRefuses : {A : Type 0} → (A → List ℕ → Outcome → Type 0) → Result A Refusal → List ℕ → Outcome →
+    Type 0
+AnswersOrRefuses says (Ok asked) output outcome = says asked output outcome
+AnswersOrRefuses says (Err refusal) output outcome = (output ≡ refusal_line refusal) × (outcome ≡ Refused)
 
 -- After a first section: an assign section in which these names may be on, and nothing more. It gives the names that
 -- are on.
@@ -25,7 +26,7 @@ abbrev pub pair_with_result : {A B : Type 0} → A → Result B Refusal → Resu
 pair_with_result value (Ok more) = Ok (value, more)
 pair_with_result value (Err refusal) = Err refusal
 
--- the same, with the value of the first section
+-- the names that are on in the text's last section, after the value of the first section, or a refusal
 abbrev pub value_and_names_on : {A : Type 0} → List ℕ → A → List (List ℕ) → ℕ → List (List ℕ) →
     Result (A × List (List ℕ)) Refusal
 value_and_names_on text value names n ahead = pair_with_result value (names_on_from_last_section text names n ahead)

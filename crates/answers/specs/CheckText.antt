@@ -10,10 +10,10 @@ use Rattle.certificate_lines.specs.Modules.{AreModules}
 use Rattle.core_book.specs.Verdicts.{IsVerdict}
 use Rattle.core_book.specs.declared.verdict.Verdict.{Verdict}
 use Rattle.core_book.specs.declared.verdict.Verdict.TheVariants as verdict
-use Rattle.report.specs.ReportText.{report_lines}
+use Rattle.report.specs.ReportText.{report_text}
 use Rattle.answers.specs.declared.outcome.Outcome.{Outcome}
 use Rattle.answers.specs.declared.outcome.Outcome.TheVariants.{Yes, No}
-use Rattle.answers.specs.Answers.{Answered}
+use Rattle.answers.specs.Answers.{AnswersOrRefuses}
 use Rattle.answers.specs.BundleText.{Bundle, bundle_of}
 
 -- the certificate has the lines of the bundle, and so have its circuit and its layout
@@ -41,9 +41,9 @@ pub record SaysReport (bundle : Bundle) (output : List ℕ) (outcome : Outcome) 
   pub its_own : IsCertificateOf bundle certificate
   pub verdict : Verdict
   pub is_verdict : IsVerdictOn certificate verdict
-  pub says : output ≡ report_lines certificate verdict
+  pub says : output ≡ report_text certificate verdict
   pub ends : outcome ≡ verdict_outcome verdict
 
 -- what `check` writes for a text, and how it ends
 abbrev pub IsReportOf : List ℕ → List ℕ → Outcome → Type 0
-IsReportOf text output outcome = Answered SaysReport (bundle_of text) output outcome
+IsReportOf text output outcome = AnswersOrRefuses SaysReport (bundle_of text) output outcome

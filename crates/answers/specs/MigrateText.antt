@@ -12,23 +12,23 @@ use Rattle.certificate_lines.specs.Versions.{without_halos}
 use Rattle.certificate_lines.specs.declared.certificate_line.CertificateLine.{CertificateLine}
 use Rattle.answers.specs.declared.outcome.Outcome.{Outcome}
 use Rattle.answers.specs.declared.outcome.Outcome.TheVariants.{Yes}
-use Rattle.answers.specs.Answers.{Answered}
+use Rattle.answers.specs.Answers.{AnswersOrRefuses}
 use Rattle.answers.specs.BundleText.{Bundle, bundle_of}
 
 -- a layout section of this size and these parts
-unfoldable pub layout_lines : LayoutHeader → List LayoutLine → List ℕ
-layout_lines size parts = line_text (codes "layout") (size_words size) ++ flat_map part_text parts
+unfoldable pub layout_section_text : LayoutHeader → List LayoutLine → List ℕ
+layout_section_text size parts = line_text (codes "layout") (size_words size) ++ flat_map part_text parts
     ++ line_text (codes "end") []
 
 -- a certificate section of this version and these lines
-unfoldable pub certificate_lines : ℕ → List CertificateLine → List ℕ
-certificate_lines version entries =
+unfoldable pub certificate_section_text : ℕ → List CertificateLine → List ℕ
+certificate_section_text version entries =
     line_text (codes "certificate") (decimal version ∷ []) ++ flat_map entry_text entries ++ line_text (codes "end") []
 
 -- the text of a bundle: its three sections, with each line spelled in the one way
 unfoldable pub bundle_text : Bundle → List ℕ
-bundle_text bundle = circuit_text bundle.circuit ++ layout_lines bundle.size bundle.parts
-    ++ certificate_lines bundle.version bundle.entries
+bundle_text bundle = circuit_text bundle.circuit ++ layout_section_text bundle.size bundle.parts
+    ++ certificate_section_text bundle.version bundle.entries
 
 -- a bundle with a certificate of version 2, which has no halo lines
 abbrev pub migrated_bundle : Bundle → Bundle
@@ -45,4 +45,4 @@ pub record SaysMigration (bundle : Bundle) (output : List ℕ) (outcome : Outcom
 
 -- what `migrate` writes for a text, and how it ends
 abbrev pub IsMigrationOf : List ℕ → List ℕ → Outcome → Type 0
-IsMigrationOf text output outcome = Answered SaysMigration (bundle_of text) output outcome
+IsMigrationOf text output outcome = AnswersOrRefuses SaysMigration (bundle_of text) output outcome

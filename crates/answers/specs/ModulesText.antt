@@ -3,11 +3,11 @@ use Rattle.std.specs.Prelude.{◌≡◌, ℕ, ◌+◌, List, [], ◌∷◌, ◌+
 use Rattle.std.specs.Fmt.{decimal}
 use Rattle.section_text.specs.Spelling.{line_text}
 use Rattle.certificate_lines.specs.Entries.{counts_of, modules_of}
-use Rattle.module_box.specs.declared.boxes.Box2.{Box2}
+use Rattle.bbm_rule.specs.declared.block.Box2.{Box2}
 use Rattle.certificate_lines.specs.declared.certificate_line.Counts.{Counts}
 use Rattle.answers.specs.declared.outcome.Outcome.{Outcome}
 use Rattle.answers.specs.declared.outcome.Outcome.TheVariants.{Yes}
-use Rattle.answers.specs.Answers.{Answered}
+use Rattle.answers.specs.Answers.{AnswersOrRefuses}
 use Rattle.answers.specs.BundleText.{Bundle, bundle_of}
 
 -- the corner and the sides of a box
@@ -36,4 +36,4 @@ pub record SaysModules (bundle : Bundle) (output : List ℕ) (outcome : Outcome)
 
 -- what `modules` writes for a text, and how it ends
 abbrev pub IsModulesOf : List ℕ → List ℕ → Outcome → Type 0
-IsModulesOf text output outcome = Answered SaysModules (bundle_of text) output outcome
+IsModulesOf text output outcome = AnswersOrRefuses SaysModules (bundle_of text) output outcome

@@ -17,7 +17,7 @@ use Rattle.pattern.specs.Grammars.{layout_grammar, layout_section}
 use Rattle.pattern.specs.Run.{IsRunEnd}
 use Rattle.answers.specs.declared.outcome.Outcome.{Outcome}
 use Rattle.answers.specs.declared.outcome.Outcome.TheVariants.{Yes, No}
-use Rattle.answers.specs.Answers.{Answered, value_and_names_on}
+use Rattle.answers.specs.Answers.{AnswersOrRefuses, value_and_names_on}
 
 -- ---- what is read
 
@@ -27,11 +27,11 @@ name_of_in_line (In p) = p.name ∷ []
 name_of_in_line _ = []
 
 -- the lines of a layout, and the names that are on
-abbrev pub LayoutAndNamesOn : Type 0
-LayoutAndNamesOn = (LayoutHeader × List LayoutLine) × List (List ℕ)
+abbrev pub RunQuestion : Type 0
+RunQuestion = (LayoutHeader × List LayoutLine) × List (List ℕ)
 
 -- a layout section, an assign section in which the names of its input cells may be on, and nothing more
-unfoldable pub run_sections_of : List ℕ → Result LayoutAndNamesOn Refusal
+unfoldable pub run_sections_of : List ℕ → Result RunQuestion Refusal
 run_sections_of text =
     section_then (layout_grammar None) 0 (lines_of text)
     (λ size parts n ahead. value_and_names_on text (size, parts) (flat_map name_of_in_line parts) n ahead)
@@ -54,7 +54,7 @@ run_end_outcome (Cells cells) = Yes
 run_end_outcome (LeftAt k) = No
 
 -- the layout of these lines was run with these names on, and this says how it ended
-pub record SaysRunEnd (asked : LayoutAndNamesOn) (output : List ℕ) (outcome : Outcome) : Type 0 where
+pub record SaysRunEnd (asked : RunQuestion) (output : List ℕ) (outcome : Outcome) : Type 0 where
   pub layout : Pattern
   pub end : RunEnd
   pub lines : layout_section layout ≡ asked.0
@@ -64,4 +64,4 @@ pub record SaysRunEnd (asked : LayoutAndNamesOn) (output : List ℕ) (outcome : 
 
 -- what `run` writes for a text, and how it ends
 abbrev pub IsRunOf : List ℕ → List ℕ → Outcome → Type 0
-IsRunOf text output outcome = Answered SaysRunEnd (run_sections_of text) output outcome
+IsRunOf text output outcome = AnswersOrRefuses SaysRunEnd (run_sections_of text) output outcome

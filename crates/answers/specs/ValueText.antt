@@ -8,48 +8,48 @@ use Rattle.section_text.specs.Sections.{section_then}
 use Rattle.section_text.specs.declared.fault.Refusal.{Refusal}
 use Rattle.circuit.specs.declared.circuit_line.CircuitLine.{CircuitLine}
 use Rattle.circuit.specs.Grammars.{circuit_grammar}
-use Rattle.circuit.specs.Bridge.{AreValues, StopsAt, input_names, netlist_of, read}
+use Rattle.circuit.specs.Bridge.{AreValues, ValuesStopAt, input_names, netlist_of, as_values}
 use Rattle.circuit.specs.Meaning.{AreOrdered, Valuation}
 use Rattle.circuit.specs.Text.{value_lines}
 use Rattle.answers.specs.declared.outcome.Outcome.TheVariants.{No}
 use Rattle.answers.specs.declared.outcome.Outcome.{Outcome}
 use Rattle.answers.specs.declared.outcome.Outcome.TheVariants.{Yes}
-use Rattle.answers.specs.Answers.{Answered, value_and_names_on}
+use Rattle.answers.specs.Answers.{AnswersOrRefuses, value_and_names_on}
 
 -- the lines of a circuit, and the names that are on
-abbrev pub CircuitAndNamesOn : Type 0
-CircuitAndNamesOn = List CircuitLine × List (List ℕ)
+abbrev pub ValueQuestion : Type 0
+ValueQuestion = List CircuitLine × List (List ℕ)
 
 -- a circuit section, an assign section in which its inputs may be on, and nothing more
-unfoldable pub value_sections_of : List ℕ → Result CircuitAndNamesOn Refusal
+unfoldable pub value_sections_of : List ℕ → Result ValueQuestion Refusal
 value_sections_of text =
     section_then circuit_grammar 0 (lines_of text)
     (λ _ entries n ahead. value_and_names_on text entries (input_names entries) n ahead)
 
 -- an input is true exactly if its name is on
-abbrev pub assigned_inputs : CircuitAndNamesOn → Valuation
-assigned_inputs asked = read (map (λ n. has asked.1 n) (input_names asked.0))
+abbrev pub assigned_inputs : ValueQuestion → Valuation
+assigned_inputs asked = as_values (map (λ n. has asked.1 n) (input_names asked.0))
 
 -- if the circuit has a valuation: a line for each wire, in order of definition
-pub record SaysAll (asked : CircuitAndNamesOn) (output : List ℕ) (outcome : Outcome) : Type 0 where
+pub record SaysAllValues (asked : ValueQuestion) (output : List ℕ) (outcome : Outcome) : Type 0 where
   pub values : List Bool
   pub are : AreValues (netlist_of asked.0) (assigned_inputs asked) values
   pub says : output ≡ value_lines (defined asked.0) values
   pub ends : outcome ≡ Yes
 
 -- if a gate has no row: a line for each wire that is defined before the first such gate, and then the gate's number
-pub record SaysSome (asked : CircuitAndNamesOn) (output : List ℕ) (outcome : Outcome) : Type 0 where
+pub record SaysValuesBeforeGate (asked : ValueQuestion) (output : List ℕ) (outcome : Outcome) : Type 0 where
   pub gate : ℕ
   pub values : List Bool
-  pub stops : StopsAt (netlist_of asked.0) (assigned_inputs asked) gate values
+  pub stops : ValuesStopAt (netlist_of asked.0) (assigned_inputs asked) gate values
   pub says : output ≡ value_lines (defined asked.0) values ++ line_text (codes "undefined") (decimal gate ∷ [])
   pub ends : outcome ≡ No
 
 -- each gate uses wires that are defined before it, so no more than one of these two can be said
-pub record SaysValues (asked : CircuitAndNamesOn) (output : List ℕ) (outcome : Outcome) : Type 0 where
+pub record SaysValues (asked : ValueQuestion) (output : List ℕ) (outcome : Outcome) : Type 0 where
   pub ordered : AreOrdered (netlist_of asked.0).given (netlist_of asked.0).gates
-  pub says : SaysAll asked output outcome ⊎ SaysSome asked output outcome
+  pub says : SaysAllValues asked output outcome ⊎ SaysValuesBeforeGate asked output outcome
 
 -- what `value` writes for a text, and how it ends
 abbrev pub IsValueOf : List ℕ → List ℕ → Outcome → Type 0
-IsValueOf text output outcome = Answered SaysValues (value_sections_of text) output outcome
+IsValueOf text output outcome = AnswersOrRefuses SaysValues (value_sections_of text) output outcome

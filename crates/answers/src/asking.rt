@@ -9,7 +9,7 @@ use section_text::{Feed, Name, ReadFault};
 use std::alloc::Global;
 
 /// Reads which of the names are on, and the end of the text.
-pub(crate) fn read_names_on(
+pub(crate) fn read_assign_and_end(
     alloc: Global,
     feed: &mut Feed,
     names: &[Name],

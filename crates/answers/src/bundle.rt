@@ -1,6 +1,6 @@
 //! Reads a bundle, and answers what is asked of it.
 ghost use Rattle.std.specs.Prelude.{◌≡◌, true, None, IfOk};
-ghost use Rattle.answers.specs.Answers.{Answered as AnsweredAs};
+ghost use Rattle.answers.specs.Answers.{AnswersOrRefuses as AnsweredAs};
 ghost use Rattle.answers.specs.BundleReading.{bundle_of_certificate};
 ghost use Rattle.answers.specs.BundleText.{bundle_of};
 ghost use Rattle.answers.specs.MigrateText.{IsMigrationOf};
@@ -10,7 +10,7 @@ ghost use Rattle.answers.specs.Questions.{AnswersQuestion};
 use crate::migration::migrate;
 use crate::modules::list_modules;
 use crate::outcome::Answered;
-use crate::refusing::refused;
+use crate::refusing::refusal_answer;
 use certificate::{Cert, read_certificate};
 use circuit::{port_names, read_circuit};
 use pattern::read_layout;
@@ -62,7 +62,7 @@ fn answer_of_text(
         (bundle_of text.old.text) answered.output.items answered.outcome) }
 {
     let circuit = match read_circuit(alloc, text) {
-        Err(fault) => return refused(alloc, fault),
+        Err(fault) => return refusal_answer(alloc, fault),
         Ok(circuit) => circuit,
     };
     let ports = match port_names(alloc, &circuit) {
@@ -70,15 +70,15 @@ fn answer_of_text(
         Ok(ports) => ports,
     };
     let layout = match read_layout(alloc, text, &ports) {
-        Err(fault) => return refused(alloc, fault),
+        Err(fault) => return refusal_answer(alloc, fault),
         Ok(layout) => layout,
     };
     let cert = match read_certificate(alloc, text, &circuit, &layout) {
-        Err(fault) => return refused(alloc, fault),
+        Err(fault) => return refusal_answer(alloc, fault),
         Ok(cert) => cert,
     };
     if let Err(fault) = text.finish() {
-        return refused(alloc, fault);
+        return refusal_answer(alloc, fault);
     }
     answer(alloc, &cert, question)
 }

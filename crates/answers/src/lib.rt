@@ -12,6 +12,6 @@ mod value;
 
 pub use bundle::{migrate_text, modules_text};
 pub use outcome::{Answered, Outcome};
-pub use refusing::refused;
+pub use refusing::refusal_answer;
 pub use run::run_text;
 pub use value::value_text;

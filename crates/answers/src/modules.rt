@@ -35,7 +35,12 @@ fn print_area(out: &mut Vec<u8>, area: Box2) -> Result<(), AllocError>
 }
 
 // How many lines of a kind there are.
-fn print_kind(alloc: Global, out: &mut Vec<u8>, kind: &[u8], count: usize) -> Result<(), AllocError>
+fn print_kind_count(
+    alloc: Global,
+    out: &mut Vec<u8>,
+    kind: &[u8],
+    count: usize,
+) -> Result<(), AllocError>
     ensures { OnOk result (out.new.items
         ≡ out.old.items ++ flat_map space_and_word (kind.now ∷ decimal count ∷ [])) }
 {
@@ -49,11 +54,11 @@ fn print_counts(alloc: Global, out: &mut Vec<u8>, counts: Counts) -> Result<(), 
     ensures { OnOk result (out.new.items
         ≡ out.old.items ++ flat_map space_and_word (words_of_counts counts)) }
 {
-    print_kind(alloc, out, b"cuts", counts.cuts)?;
-    print_kind(alloc, out, b"gates", counts.gates)?;
-    print_kind(alloc, out, b"edges", counts.edges)?;
-    print_kind(alloc, out, b"halos", counts.halos)?;
-    print_kind(alloc, out, b"stops", counts.stops)?;
+    print_kind_count(alloc, out, b"cuts", counts.cuts)?;
+    print_kind_count(alloc, out, b"gates", counts.gates)?;
+    print_kind_count(alloc, out, b"edges", counts.edges)?;
+    print_kind_count(alloc, out, b"halos", counts.halos)?;
+    print_kind_count(alloc, out, b"stops", counts.stops)?;
     Ok(())
 }
 

@@ -12,7 +12,7 @@ use std::alloc::{AllocError, Global};
 /// # Errors
 ///
 /// Out of memory, also if that is the fault.
-pub fn refused(alloc: Global, fault: ReadFault) -> Result<Answered, AllocError>
+pub fn refusal_answer(alloc: Global, fault: ReadFault) -> Result<Answered, AllocError>
     ensures told { IfOk result (λ answered. TellsRefusal fault answered.output.items
         answered.outcome) }
 {

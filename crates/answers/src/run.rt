@@ -7,26 +7,23 @@ ghost use Rattle.section_text.specs.Spelling.{line_text};
 ghost use Rattle.pattern.specs.Grammars.{layout_section};
 ghost use Rattle.answers.specs.RunText.{IsRunOf, SaysRunEnd, live_cell_line, run_end_outcome, run_end_text, run_sections_of};
 
-use crate::asking::read_names_on;
+use crate::asking::read_assign_and_end;
 use crate::outcome::{Answered, Outcome};
-use crate::refusing::refused;
+use crate::refusing::refusal_answer;
 use bbm_rule::Cell;
 use pattern::{Layout, RunEnd, read_layout, run_plain};
 use section_text::{Feed, Name, PortNames, ReadFault};
 use std::alloc::{AllocError, Global};
 
 // The names of the input cells.
-fn in_names(alloc: Global, layout: &Layout) -> Result<Vec<Name>, AllocError>
+fn input_cell_names(alloc: Global, layout: &Layout) -> Result<Vec<Name>, AllocError>
     ensures { IfOk result (λ names. names.items ≡ map (λ p. p.name) layout.now.ins) }
 {
     layout.ins().iter().map(|port| port.name).collect(alloc)
 }
 
 // Reads a layout, the names that are on, and the end of the text.
-fn read_section_and_names_on(
-    alloc: Global,
-    feed: &mut Feed,
-) -> Result<(Layout, Vec<Name>), ReadFault>
+fn read_layout_and_assign(alloc: Global, feed: &mut Feed) -> Result<(Layout, Vec<Name>), ReadFault>
     requires closed { feed.old.closed ≡ true }
     requires unread { feed.old.taken ≡ 0 }
     requires going { feed.old.stop ≡ None }
@@ -37,10 +34,10 @@ fn read_section_and_names_on(
         Err(fault) => return Err(fault),
         Ok(layout) => layout,
     };
-    let Ok(ins) = in_names(alloc, &layout) else {
+    let Ok(ins) = input_cell_names(alloc, &layout) else {
         return Err(ReadFault::Memory);
     };
-    match read_names_on(alloc, feed, &ins) {
+    match read_assign_and_end(alloc, feed, &ins) {
         Err(fault) => Err(fault),
         Ok(on) => Ok((layout, on)),
     }
@@ -87,7 +84,7 @@ fn cells_text(alloc: Global, cells: &[Cell]) -> Result<Vec<u8>, AllocError>
     Ok(text)
 }
 
-fn run_end_lines(alloc: Global, end: &RunEnd) -> Result<Vec<u8>, AllocError>
+fn run_end_text(alloc: Global, end: &RunEnd) -> Result<Vec<u8>, AllocError>
     ensures { IfOk result (λ text. text.items ≡ run_end_text end.now) }
 {
     match end {
@@ -112,7 +109,7 @@ fn answer(alloc: Global, layout: &Layout, on: &[Name]) -> Result<Answered, Alloc
 {
     let end = run_plain(alloc, layout, on)?;
     let outcome = outcome_of(&end);
-    let output = run_end_lines(alloc, &end)?;
+    let output = run_end_text(alloc, &end)?;
     Ok(Answered { outcome, output })
 }
 
@@ -124,8 +121,8 @@ pub fn run_text(alloc: Global, feed: &mut Feed) -> Result<Answered, AllocError>
     ensures { IfOk result (λ answered. IsRunOf feed.old.text answered.output.items
         answered.outcome) }
 {
-    match read_section_and_names_on(alloc, feed) {
-        Err(fault) => refused(alloc, fault),
+    match read_layout_and_assign(alloc, feed) {
+        Err(fault) => refusal_answer(alloc, fault),
         Ok((layout, on)) => answer(alloc, &layout, &on),
     }
 }

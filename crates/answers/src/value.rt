@@ -9,16 +9,16 @@ ghost use Rattle.section_text.specs.Section.{ReaderReturnsSection};
 ghost use Rattle.circuit.specs.Bridge.{input_names, netlist_of};
 ghost use Rattle.answers.specs.ValueText.{IsValueOf, SaysValues, value_sections_of};
 
-use crate::asking::read_names_on;
+use crate::asking::read_assign_and_end;
 use crate::outcome::{Answered, Outcome};
-use crate::refusing::refused;
+use crate::refusing::refusal_answer;
 use circuit::{Circuit, ValuesFault, port_names, print_values, read_circuit};
 use pattern::are_on;
 use section_text::{Feed, Name, PortNames, ReadFault};
 use std::alloc::{AllocError, Global};
 
 // The names of the inputs.
-fn input_list(alloc: Global, circuit: &Circuit) -> Result<Vec<Name>, AllocError>
+fn input_name_list(alloc: Global, circuit: &Circuit) -> Result<Vec<Name>, AllocError>
     ensures names { IfOk result (λ names. names.items ≡ input_names circuit.now) }
     ensures count { length (input_names circuit.now) ≡ (netlist_of circuit.now).given }
 {
@@ -29,7 +29,7 @@ fn input_list(alloc: Global, circuit: &Circuit) -> Result<Vec<Name>, AllocError>
 }
 
 // Reads a circuit, the names that are on, and the end of the text.
-fn read_section_and_names_on(
+fn read_circuit_and_assign(
     alloc: Global,
     feed: &mut Feed,
 ) -> Result<(Circuit, Vec<Name>), ReadFault>
@@ -43,17 +43,17 @@ fn read_section_and_names_on(
         Err(fault) => return Err(fault),
         Ok(circuit) => circuit,
     };
-    let Ok(ins) = input_list(alloc, &circuit) else {
+    let Ok(ins) = input_name_list(alloc, &circuit) else {
         return Err(ReadFault::Memory);
     };
-    match read_names_on(alloc, feed, &ins) {
+    match read_assign_and_end(alloc, feed, &ins) {
         Err(fault) => Err(fault),
         Ok(on) => Ok((circuit, on)),
     }
 }
 
 // The values of the wires before a gate that has no row, and the gate.
-fn undefined_gate_text(
+fn values_up_to_gate_text(
     alloc: Global,
     circuit: &Circuit,
     gate: usize,
@@ -75,7 +75,7 @@ fn answer(alloc: Global, circuit: &Circuit, on: &[Name]) -> Result<Answered, All
     ensures { IfOk result (λ answered. SaysValues (circuit.now, on.now) answered.output.items
         answered.outcome) }
 {
-    let ins = input_list(alloc, circuit)?;
+    let ins = input_name_list(alloc, circuit)?;
     let bits = are_on(alloc, &ins, on)?;
     // each gate uses wires that are defined before it
     let _gates = circuit.gates();
@@ -88,7 +88,7 @@ fn answer(alloc: Global, circuit: &Circuit, on: &[Name]) -> Result<Answered, All
             })
         }
         Err(ValuesFault::OutOfDomain { gate, before }) => {
-            let output = undefined_gate_text(alloc, circuit, gate, &before)?;
+            let output = values_up_to_gate_text(alloc, circuit, gate, &before)?;
             Ok(Answered {
                 outcome: Outcome::No,
                 output,
@@ -106,8 +106,8 @@ pub fn value_text(alloc: Global, feed: &mut Feed) -> Result<Answered, AllocError
     ensures { IfOk result (λ answered. IsValueOf feed.old.text answered.output.items
         answered.outcome) }
 {
-    match read_section_and_names_on(alloc, feed) {
-        Err(fault) => refused(alloc, fault),
+    match read_circuit_and_assign(alloc, feed) {
+        Err(fault) => refusal_answer(alloc, fault),
         Ok((circuit, on)) => answer(alloc, &circuit, &on),
     }
 }

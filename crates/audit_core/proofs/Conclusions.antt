@@ -7,7 +7,7 @@ use Rattle.certificate.specs.Grammars.{CertView}
 use Rattle.module_job.specs.Jobs.{JobView}
 use Rattle.certificate.specs.Times.{are_all_obeyed, delay_and_meet_lines}
 use Rattle.core_book.specs.Concluding.{AreJobsOfCertificate, modules, setting}
-use Rattle.core_book.specs.Verdicts.{AreLeastFaults, IsVerdict, report_lines_from, timing_report, unkept_lines}
+use Rattle.core_book.specs.Verdicts.{AreLeastFaults, IsVerdict, report_lines_from, timing_report_line, unkept_lines}
 use Rattle.core_book.specs.declared.verdict.LeastFaults.{LeastFaults}
 use Rattle.core_book.specs.declared.verdict.ReportLine.{ReportLine}
 use Rattle.core_book.specs.declared.verdict.Verdict.TheVariants.{Yes, No}
@@ -40,7 +40,7 @@ verdict-yes s jobs fs bs all none kept =
 pub verdict-no : (s : CertView) (jobs : List JobView) (fs : List LeastFaults) (bs : List (Option BorderFault))
     (lines : Vec ReportLine Global) → AreAllFaults s jobs fs bs →
     lines.items ≡ report_lines_from 0 fs bs ++ unkept_lines (setting s) (modules s)
-    ++ map timing_report (delay_and_meet_lines (setting s).circuit (modules s)) →
+    ++ map timing_report_line (delay_and_meet_lines (setting s).circuit (modules s)) →
     ¬ ((report_lines_from 0 fs bs ++ unkept_lines (setting s) (modules s) ≡ [])
     × (are_all_obeyed (delay_and_meet_lines (setting s).circuit (modules s)) ≡ true)) →
     IsVerdict (setting s) (modules s) jobs (No lines)

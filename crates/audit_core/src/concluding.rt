@@ -10,7 +10,7 @@ ghost use Rattle.certificate.specs.Times.{are_all_obeyed};
 ghost use Rattle.core_book.specs.Concluding.{AreJobsOfCertificate, modules, port_names_of, setting};
 ghost use Rattle.meaning.specs.Implements.{IsCorrect};
 ghost use Rattle.soundness.specs.OnTime.{IsOnTime};
-ghost use Rattle.core_book.specs.Verdicts.{AreFindingsHeldBelow, AreLeastFaults, IsFirstMissing, IsToldOf, IsVerdict, border_line, keep_line, report_lines_from, local_line, timing_report};
+ghost use Rattle.core_book.specs.Verdicts.{AreFindingsHeldBelow, AreLeastFaults, IsFirstMissing, AreLeastFaultsOfJob, IsVerdict, border_line, keep_line, report_lines_from, local_line, timing_report_line};
 ghost use Rattle.local_run.specs.Shown.{job_of};
 ghost use Rattle.core_book.specs.declared.verdict.ReportLine.TheVariants.{Unkept};
 ghost use Rattle.core_book.specs.declared.verdict.Unfinished.TheVariants.{Missing};
@@ -132,8 +132,8 @@ fn are_all_obeyed(times: &[TimeLine]) -> bool
 }
 
 // What stops say of a gate, as a line of the report.
-fn timing_report(line: &TimeLine) -> ReportLine
-    ensures { result ≡ timing_report line.now }
+fn timing_report_line(line: &TimeLine) -> ReportLine
+    ensures { result ≡ timing_report_line line.now }
 {
     match *line {
         TimeLine::Delay { gate, wanted, gap } => ReportLine::Delay { gate, wanted, gap },
@@ -143,10 +143,10 @@ fn timing_report(line: &TimeLine) -> ReportLine
 
 // Adds what stops say of all gates.
 fn push_time_lines(lines: &mut Vec<ReportLine>, times: &[TimeLine]) -> Result<(), AllocError>
-    ensures { OnOk result (lines.new.items ≡ lines.old.items ++ map timing_report times.now) }
+    ensures { OnOk result (lines.new.items ≡ lines.old.items ++ map timing_report_line times.now) }
 {
     'times: for line in times {
-        lines.push(timing_report(line))?;
+        lines.push(timing_report_line(line))?;
     }
     Ok(())
 }
@@ -191,9 +191,9 @@ fn faults_in_full_book(alloc: Global, book: &BookState) -> Result<Vec<LeastFault
 
 // What a finding tells of its job.
 fn least_faults_of(finding: &Finding) -> LeastFaults
-    ensures { IsToldOf (job_of finding.now) result }
+    ensures { AreLeastFaultsOfJob (job_of finding.now) result }
 {
-    let keep = match finding.keep() {
+    let keep = match finding.keep_fault() {
         Some(keep) => Some(KeepFault {
             gate: finding.job().gate_number(keep.gate) as usize,
             assignment: keep.assignment,

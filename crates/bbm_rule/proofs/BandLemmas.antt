@@ -1,12 +1,10 @@
 -- Pairs of rows that stay, while others are turned
-use Rattle.lemmas.proofs.Common.{◌%◌, ◌*◌, ◌+◌, ◌-◌, ◌/◌, ◌<◌, ◌∙◌, ◌≡◌, ◌≢◌, ◌≤◌, Bool, List, arith, bit_or}
-use Rattle.lemmas.proofs.Common.{false, get_or, length, length-set, nat_eq, not, set, suc, sym, zero, ℕ}
-use Rattle.lemmas.proofs.Common.{common_steps, mul-le-mul_right, nat_tests, or_parts}
-use Rattle.bbm_rule.specs.Bits.{bit, AreSameBits, HasNoSetBit}
-use Rattle.bbm_rule.specs.Rows.{cell_at, mate, AreSameCells, HasWindow, FillsRun, SetsPlace, SetsWindow, TurnsRun}
-use Rattle.bbm_rule.specs.Rows.{TurnsRows}
-use Rattle.bbm_rule.specs.Marks.{IsUnmarked, MarksOne}
-use Rattle.bbm_rule.specs.Bands.{AreRowPairsStable}
+use Rattle.bbm_rule.proofs.Imports.{AreRowPairsStable, AreSameBits, AreSameCells, Bool, FillsRowPart, HasNoSetBit}
+use Rattle.bbm_rule.proofs.Imports.{HasWordAt, IsUnmarked, List, MarksOne, SetsPlace, SetsWordAt, TurnsRowPart}
+use Rattle.bbm_rule.proofs.Imports.{TurnsRows, arith, bit, bit_or, cell_at, common_steps, false, get_or, length}
+use Rattle.bbm_rule.proofs.Imports.{length-set, mate, mul-le-mul_right, nat_eq, nat_tests, not, set, suc, sym, zero, ℕ}
+use Rattle.bbm_rule.proofs.Imports.{◌%◌, ◌*◌, ◌+◌, ◌-◌, ◌/◌, ◌<◌, ◌∙◌, ◌≡◌, ◌≢◌, ◌≤◌}
+use Rattle.lemmas.proofs.Common.{or_parts}
 use Rattle.bbm_rule.proofs.BitLemmas.{by_lt_or_le, by_eq_or_not, bit-or, bit-zero}
 use Rattle.bbm_rule.proofs.BlockRuns.{mate_lt, rows_join, word_is_window, word_set}
 use Rattle.bbm_rule.proofs.PlaneLemmas.{turned_twice, mate_twice, dead_block}
@@ -20,7 +18,7 @@ pub noted_bits : (changed told j : ℕ) → bit (bit_or changed told) j ≡ fals
 noted_bits changed told j h = or_parts (bit changed j) _ (sym (bit-or changed told j) ∙ h)
 
 -- a window that gets the cells that it has
-pub window_same : (p a v : ℕ) (old new : List ℕ) → AreSameBits v a → HasWindow old p v → SetsWindow p a old new →
+pub window_same : (p a v : ℕ) (old new : List ℕ) → AreSameBits v a → HasWordAt old p v → SetsWordAt p a old new →
     AreSameCells old new
 window_same p a v old new same has sets q = by_lt_or_le q p (sets.before q)
     (λ le. by_lt_or_le q (p + 64)
@@ -28,13 +26,13 @@ window_same p a v old new same has sets q = by_lt_or_le q p (sets.before q)
     rw e at (sets.cells (q - p) (omega arith) ∙ same (q - p) (omega arith) ∙ has.cells (q - p) (omega arith)))
     (λ past. sets.after q past))
 
-has_same : (p v : ℕ) (old new : List ℕ) → AreSameCells old new → HasWindow old p v → HasWindow new p v
+has_same : (p v : ℕ) (old new : List ℕ) → AreSameCells old new → HasWordAt old p v → HasWordAt new p v
 has_same p v old new same has = record { cells = λ j l. has.cells j l ∙ sym (same (p + j)) }
 
 -- where nothing is noted, no cell changed, also in two more windows
 pub windows_same : (p r changed told a above b below : ℕ) (first second mid third : List ℕ) →
     (HasNoSetBit changed → AreSameCells first second) → (HasNoSetBit told → AreSameBits above a × AreSameBits below b) →
-    HasWindow second p above → HasWindow second r below → SetsWindow p a second mid → SetsWindow r b mid third →
+    HasWordAt second p above → HasWordAt second r below → SetsWordAt p a second mid → SetsWordAt r b mid third →
     HasNoSetBit (bit_or changed told) → AreSameCells first third
 windows_same p r changed told a above b below first second mid third so_far stays has_a has_b set_a set_b none =
     let same = stays (λ j. (noted_bits changed told j (none j)).1) in
@@ -56,21 +54,22 @@ words_same i k changed told a b first second room room' so_far stays none =
 -- ---- pairs that stay
 -- a pair stays where its cells are as they were
 pub pair_kept : (p s : ℕ) (old new : List ℕ) → s % 2 ≡ 0 →
-    ((q : ℕ) → p ≤ q → q < p + 2 * s → cell_at new q ≡ cell_at old q) → TurnsRun p s s old old → TurnsRun p s s new new
+    ((q : ℕ) → p ≤ q → q < p + 2 * s → cell_at new q ≡ cell_at old q) → TurnsRowPart p s s old old →
+    TurnsRowPart p s s new new
 pair_kept p s old new whole same run = grind (arith, common_steps, mate_lt)
 
 -- a pair stays where no cell of it changed when it was turned
-pub pair_settled : (p s : ℕ) (old new : List ℕ) → s % 2 ≡ 0 → TurnsRun p s s old new → AreSameCells old new →
-    TurnsRun p s s new new
+pub pair_settled : (p s : ℕ) (old new : List ℕ) → s % 2 ≡ 0 → TurnsRowPart p s s old new → AreSameCells old new →
+    TurnsRowPart p s s new new
 pair_settled p s old new whole run same = grind (arith, common_steps, pair_kept)
 
 after_pair : (k i s : ℕ) → k < i → 2 * (k * s) + 2 * s ≤ 2 * (i * s)
 after_pair k i s l = let h : (k + 1) * s ≤ i * s = mul-le-mul_right s (omega arith) in omega arith
 
 -- the other pairs of a partition stay while pair k is turned
-pub others_kept : (p s r k : ℕ) (marks old new : List ℕ) → s % 2 ≡ 0 → TurnsRun (p + 2 * (k * s)) s s old new →
+pub others_kept : (p s r k : ℕ) (marks old new : List ℕ) → s % 2 ≡ 0 → TurnsRowPart (p + 2 * (k * s)) s s old new →
     AreRowPairsStable p s r marks old → (i : ℕ) → i < r → i ≢ k → IsUnmarked marks i →
-    TurnsRun (p + 2 * (i * s)) s s new new
+    TurnsRowPart (p + 2 * (i * s)) s s new new
 others_kept p s r k marks old new whole run calm i l other free =
     pair_kept (p + 2 * (i * s)) s old new whole same (calm i l free)
   where
@@ -80,12 +79,14 @@ others_kept p s r k marks old new whole run calm i l other free =
         (λ le. let h = after_pair k i s (omega (arith, other)) in run.after q (omega arith))
 
 -- all of them but pair k, which gets a mark
-pub calm_marked : (p s r k : ℕ) (marks marks' old new : List ℕ) → s % 2 ≡ 0 → TurnsRun (p + 2 * (k * s)) s s old new →
+pub calm_marked : (p s r k : ℕ) (marks marks' old new : List ℕ) → s % 2 ≡ 0 →
+    TurnsRowPart (p + 2 * (k * s)) s s old new →
     MarksOne k marks marks' → AreRowPairsStable p s r marks old → AreRowPairsStable p s r marks' new
 calm_marked p s r k marks marks' old new whole run marked calm i l free = grind (arith, common_steps, others_kept)
 
 -- and pair k too, where no cell of it changed
-pub calm_settled : (p s r k : ℕ) (marks marks' old new : List ℕ) → s % 2 ≡ 0 → TurnsRun (p + 2 * (k * s)) s s old new →
+pub calm_settled : (p s r k : ℕ) (marks marks' old new : List ℕ) → s % 2 ≡ 0 →
+    TurnsRowPart (p + 2 * (k * s)) s s old new →
     AreSameCells old new → SetsPlace k false marks marks' → AreRowPairsStable p s r marks old →
     AreRowPairsStable p s r marks' new
 calm_settled p s r k marks marks' old new whole run same sets calm i l free =
@@ -100,7 +101,7 @@ calm_same p s r marks old new whole same calm i l free = grind (arith, common_st
 -- the pairs of the odd partition stay, while pair k of the even partition is turned, but for the two that share its
 -- rows
 pub odd_kept : (s r k : ℕ) (first second third old new : List ℕ) → s % 2 ≡ 0 → 0 < s →
-    TurnsRun (s + 1 + 2 * (k * s)) s s old new → MarksOne k first second → MarksOne (k + 1) second third →
+    TurnsRowPart (s + 1 + 2 * (k * s)) s s old new → MarksOne k first second → MarksOne (k + 1) second third →
     AreRowPairsStable 0 s r first old → AreRowPairsStable 0 s r third new
 odd_kept s r k first second third old new whole positive run one two calm i l free =
     let later = two i free in
@@ -115,7 +116,7 @@ odd_kept s r k first second third old new whole positive run one two calm i l fr
 
 -- and those of the even partition, while pair k of the odd partition is turned
 pub even_kept : (s r k : ℕ) (first second third old new : List ℕ) → s % 2 ≡ 0 → 0 < s →
-    TurnsRun (0 + 2 * (k * s)) s s old new → MarksOne k first second →
+    TurnsRowPart (0 + 2 * (k * s)) s s old new → MarksOne k first second →
     ((i : ℕ) → IsUnmarked third i → IsUnmarked second i × (i + 1 ≢ k)) → AreRowPairsStable (s + 1) s r first old →
     AreRowPairsStable (s + 1) s r third new
 even_kept s r k first second third old new whole positive run one two calm i l free =
@@ -131,7 +132,7 @@ even_kept s r k first second third old new whole positive run one two calm i l f
 
 -- pairs that stay may be passed over
 pub rows_passed : (p s a d : ℕ) (old new : List ℕ) → s % 2 ≡ 0 → TurnsRows p s a old new →
-    ((i : ℕ) → a ≤ i → i < a + d → TurnsRun (p + 2 * (i * s)) s s new new) → TurnsRows p s (a + d) old new
+    ((i : ℕ) → a ≤ i → i < a + d → TurnsRowPart (p + 2 * (i * s)) s s new new) → TurnsRows p s (a + d) old new
 rows_passed p s a zero old new whole rows calm = let e : a + 0 ≡ a = omega arith in rw e rows
 rows_passed p s a (suc d) old new whole rows calm =
     let e : a + suc d ≡ a + d + 1 = omega arith in
@@ -149,7 +150,7 @@ rows_until p s r a b marks old new whole le within rows calm free =
 
 -- a pair that stays now did not change when all were turned
 pub pair_same : (p s r i : ℕ) (old new : List ℕ) → s % 2 ≡ 0 → i < r → TurnsRows p s r old new →
-    TurnsRun (p + 2 * (i * s)) s s new new → (q : ℕ) → p + 2 * (i * s) ≤ q → q < p + 2 * (i * s) + 2 * s →
+    TurnsRowPart (p + 2 * (i * s)) s s new new → (q : ℕ) → p + 2 * (i * s) ≤ q → q < p + 2 * (i * s) + 2 * s →
     cell_at new q ≡ cell_at old q
 pair_same p s r i old new whole within rows calm q low high = by_lt_or_le q (at + s)
     (λ l. let e : at + (q - at) ≡ q = omega arith in rw e at (upper (q - at) (omega arith)))
@@ -202,7 +203,7 @@ even_set s r u v value first second old new whole wide sets marked calm i l free
         (λ before. let h = place_after s i v (omega arith) in absurd (omega arith))
         (λ le. let h = place_before s i (v + 1) (omega (arith, other)) in absurd (omega arith))
 
--- and so do those of the odd partition
+-- the pairs of the odd partition stay, but for that of the row
 pub odd_set : (s r u v : ℕ) (value : Bool) (first second old new : List ℕ) → s % 2 ≡ 0 → u + 1 < s →
     SetsPlace (s * (v + 1) + (u + 1)) value old new → MarksOne ((v + 1) / 2) first second →
     AreRowPairsStable 0 s r first old →
@@ -221,7 +222,7 @@ odd_set s r u v value first second old new whole wide sets marked calm i l free 
 
 -- the pairs of the even partition stay, but for that of the row
 pub even_fill : (s r u v n : ℕ) (first second old new : List ℕ) → s % 2 ≡ 0 → u + 1 + n < s →
-    FillsRun (s * (v + 1) + (u + 1)) n old new → MarksOne (v / 2) first second →
+    FillsRowPart (s * (v + 1) + (u + 1)) n old new → MarksOne (v / 2) first second →
     AreRowPairsStable (s + 1) s r first old →
     AreRowPairsStable (s + 1) s r second new
 even_fill s r u v n first second old new whole wide fills marked calm i l free =
@@ -234,9 +235,9 @@ even_fill s r u v n first second old new whole wide fills marked calm i l free =
         (λ before. let h = place_after s i v (omega arith) in fills.before q (omega arith))
         (λ le. let h = place_before s i (v + 1) (omega (arith, other)) in fills.after q (omega arith))
 
--- and so do those of the odd partition
+-- the pairs of the odd partition stay, but for that of the row
 pub odd_fill : (s r u v n : ℕ) (first second old new : List ℕ) → s % 2 ≡ 0 → u + 1 + n < s →
-    FillsRun (s * (v + 1) + (u + 1)) n old new → MarksOne ((v + 1) / 2) first second →
+    FillsRowPart (s * (v + 1) + (u + 1)) n old new → MarksOne ((v + 1) / 2) first second →
     AreRowPairsStable 0 s r first old →
     AreRowPairsStable 0 s r second new
 odd_fill s r u v n first second old new whole wide fills marked calm i l free =

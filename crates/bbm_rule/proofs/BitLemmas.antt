@@ -1,10 +1,9 @@
 -- Bits of numbers as tests.
-use Rattle.lemmas.proofs.Common.{◌%◌, ◌&&◌, ◌*◌, ◌+◌, ◌-◌, ◌/◌, ◌<◌, ◌^◌, ◌||◌, ◌∙◌, ◌≡◌, ◌≢◌, ◌≤◌, ◌⊎◌, Bool, ap}
-use Rattle.lemmas.proofs.Common.{arith, bit_and, bit_or, bit_xor, false, inl, inr, nat_eq, refl, suc, sym, true, zero}
-use Rattle.lemmas.proofs.Common.{ℕ, bit_at, bit_at-lt, bit_at-zero, bit_at_above, bit_at_and, bit_at_cat_high}
-use Rattle.lemmas.proofs.Common.{bit_at_cat_low, bit_at_or, bit_at_xor, common_steps, eqb_tells, leb_tells, shr-shr}
-use Rattle.lemmas.proofs.Common.{shr_split, left_is_true, right_is_true}
-use Rattle.bbm_rule.specs.Bits.{bit}
+use Rattle.bbm_rule.proofs.Imports.{Bool, ap, arith, bit, bit_and, bit_at, bit_at-lt, bit_or, bit_xor, common_steps}
+use Rattle.bbm_rule.proofs.Imports.{false, inl, inr, nat_eq, refl, suc, sym, true, zero, ℕ, ◌%◌, ◌&&◌, ◌*◌, ◌+◌, ◌-◌}
+use Rattle.bbm_rule.proofs.Imports.{◌/◌, ◌<◌, ◌^◌, ◌||◌, ◌∙◌, ◌≡◌, ◌≢◌, ◌≤◌, ◌⊎◌}
+use Rattle.lemmas.proofs.Common.{bit_at-zero, bit_at_above, bit_at_and, bit_at_cat_high, bit_at_cat_low, bit_at_or}
+use Rattle.lemmas.proofs.Common.{bit_at_xor, eqb_tells, leb_tells, shr-shr, shr_split, left_is_true, right_is_true}
 
 pub by_lt_or_le : {P : Type 0} (a b : ℕ) → (a < b → P) → (b ≤ a → P) → P
 by_lt_or_le a b f g = elim (leb_tells b a) [ inl l ↦ g l.1 | inr l ↦ f l.1 ]

@@ -1,8 +1,8 @@
 -- Runs of blocks along two rows, and rows of runs.
-use Rattle.lemmas.proofs.Common.{◌%◌, ◌*◌, ◌+◌, ◌-◌, ◌<◌, ◌∙◌, ◌≡◌, ◌≢◌, ◌≤◌, List, ap, arith, get_or, get_or-set_other}
-use Rattle.lemmas.proofs.Common.{get_or-set_same, length, length-set, refl, set, sym, ℕ, common_steps, mul-le-mul_right}
-use Rattle.bbm_rule.specs.Plane.{turned}
-use Rattle.bbm_rule.specs.Rows.{cell_at, mate, ArePairsTurned, HasWindow, SetsWindow, TurnsRun, TurnsRows}
+use Rattle.bbm_rule.proofs.Imports.{ArePairsTurned, HasWordAt, List, SetsWordAt, TurnsRowPart, TurnsRows, ap, arith}
+use Rattle.bbm_rule.proofs.Imports.{cell_at, common_steps, get_or, get_or-set_other, get_or-set_same, length}
+use Rattle.bbm_rule.proofs.Imports.{length-set, mate, mul-le-mul_right, refl, set, sym, turned, ℕ, ◌%◌, ◌*◌, ◌+◌, ◌-◌}
+use Rattle.bbm_rule.proofs.Imports.{◌<◌, ◌∙◌, ◌≡◌, ◌≢◌, ◌≤◌}
 use Rattle.bbm_rule.proofs.BitLemmas.{by_lt_or_le, by_eq_or_not}
 use Rattle.bbm_rule.proofs.PairLemmas.{cell_in_word, by_place, mate_even, mate_odd}
 
@@ -26,10 +26,10 @@ mate_add n j whole =
     rw (e, place, mate_odd i (omega arith), mate_odd (n + i) (omega arith)) refl)
 
 -- ---- one word of each row
-pub word_is_window : (words : List ℕ) (i : ℕ) → HasWindow words (64 * i) (get_or words i 0)
+pub word_is_window : (words : List ℕ) (i : ℕ) → HasWordAt words (64 * i) (get_or words i 0)
 word_is_window words i = record { cells = λ j l. sym (cell_in_word words i j l) }
 
-pub word_set : (words : List ℕ) (i v : ℕ) → i < length words → SetsWindow (64 * i) v words (set words i v)
+pub word_set : (words : List ℕ) (i v : ℕ) → i < length words → SetsWordAt (64 * i) v words (set words i v)
 word_set words i v room = record {
   cells = λ j l. rw (cell_in_word (set words i v) i j l, get_or-set_same words i v 0 room) refl;
   before = by_place (λ q. q < 64 * i → cell_at (set words i v) q ≡ cell_at words q)
@@ -42,16 +42,16 @@ word_set words i v room = record {
     elsewhere k b l other =
         rw (cell_in_word (set words i v) k b l, cell_in_word words k b l, get_or-set_other words i k v 0 other) refl
 
-pub windows_turned : (p s : ℕ) (va vb a b : ℕ) (old mid new : List ℕ) → 64 ≤ s → HasWindow old p va →
-    HasWindow old (p + s) vb → ArePairsTurned va vb a b → SetsWindow p a old mid → SetsWindow (p + s) b mid new →
-    TurnsRun p 64 s old new
+pub windows_turned : (p s : ℕ) (va vb a b : ℕ) (old mid new : List ℕ) → 64 ≤ s → HasWordAt old p va →
+    HasWordAt old (p + s) vb → ArePairsTurned va vb a b → SetsWordAt p a old mid → SetsWordAt (p + s) b mid new →
+    TurnsRowPart p 64 s old new
 windows_turned p s va vb a b old mid new wide has_a has_b pairs set_a set_b = grind (arith, common_steps, mate_lt)
 
-pub no_run : (p s : ℕ) (words : List ℕ) → TurnsRun p 0 s words words
+pub no_run : (p s : ℕ) (words : List ℕ) → TurnsRowPart p 0 s words words
 no_run p s words = grind (arith, common_steps)
 
-pub run_join : (p n s : ℕ) (first second third : List ℕ) → n % 2 ≡ 0 → n + 64 ≤ s → TurnsRun p n s first second →
-    TurnsRun (p + n) 64 s second third → TurnsRun p (n + 64) s first third
+pub run_join : (p n s : ℕ) (first second third : List ℕ) → n % 2 ≡ 0 → n + 64 ≤ s → TurnsRowPart p n s first second →
+    TurnsRowPart (p + n) 64 s second third → TurnsRowPart p (n + 64) s first third
 run_join p n s first second third whole within one two = record {
   upper = λ j l. by_lt_or_le j n (λ low. two.before (p + j) (omega arith) ∙ one.upper j low)
       (λ high. upper_at (j - n) j (omega arith) (omega arith));
@@ -105,7 +105,7 @@ pub no_rows : (p s : ℕ) (words : List ℕ) → TurnsRows p s 0 words words
 no_rows p s words = grind (arith, common_steps)
 
 pub rows_join : (p s r : ℕ) (first second third : List ℕ) → s % 2 ≡ 0 → TurnsRows p s r first second →
-    TurnsRun (p + 2 * (r * s)) s s second third → TurnsRows p s (r + 1) first third
+    TurnsRowPart (p + 2 * (r * s)) s s second third → TurnsRows p s (r + 1) first third
 rows_join p s r first second third whole rows run = record {
   upper = λ i j l m. by_lt_or_le i r
       (λ low. let h = earlier i low in run.before (p + 2 * (i * s) + j) (omega arith) ∙ rows.upper i j low m)
@@ -149,9 +149,9 @@ rows_join p s r first second third whole rows run = record {
 
 -- ---- the steps of the loops
 pub aligned_step : (upper k stride : ℕ) (first second : List ℕ) (a b : ℕ) → k < stride →
-    upper + stride + stride ≤ length second → TurnsRun (64 * upper) (64 * k) (64 * stride) first second →
+    upper + stride + stride ≤ length second → TurnsRowPart (64 * upper) (64 * k) (64 * stride) first second →
     ArePairsTurned (get_or second (upper + k) 0) (get_or second (upper + k + stride) 0) a b →
-    TurnsRun (64 * upper) (64 * (k + 1)) (64 * stride) first (set (set second (upper + k) a) (upper + k + stride) b)
+    TurnsRowPart (64 * upper) (64 * (k + 1)) (64 * stride) first (set (set second (upper + k) a) (upper + k + stride) b)
 aligned_step upper k stride first second a b l room run pairs =
     let place : 64 * (upper + k) ≡ 64 * upper + 64 * k = omega arith in
     let below : 64 * (upper + k + stride) ≡ 64 * upper + 64 * k + 64 * stride = omega arith in

@@ -1,12 +1,12 @@
 -- The board that the rows of a grid stand for.
-use Rattle.lemmas.proofs.Common.{[], ◌%◌, ◌*◌, ◌+◌, ◌-◌, ◌/◌, ◌<◌, ◌∙◌, ◌∷◌, ◌≡◌, ◌≤◌, List, ap, arith, false, inl, inr}
-use Rattle.lemmas.proofs.Common.{map, nat_le, pos, refl, suc, sym, true, zero, ℕ, and-false, common_steps}
-use Rattle.lemmas.proofs.Common.{div-add-mod, div-mul-add, div_below, get_or-map-range_with_len, mod-mul-add, mod_below}
-use Rattle.lemmas.proofs.Common.{mul-le-mul_left, mul-le-mul_right, nat_tests, lt_test, not_le_test, not_lt_test}
-use Rattle.bbm_rule.specs.Plane.{step, turned}
-use Rattle.bbm_rule.specs.Rows.{cell_at, mate, TurnsRows, is_inside_margin, HasLiveMargin, HasDeadMargin}
-use Rattle.bbm_rule.specs.Board.{Board, live, is_inside, IsStep, Leaves}
-use Rattle.bbm_rule.specs.GridView.{board}
+use Rattle.bbm_rule.proofs.Imports.{Board, List, TurnsRows, [], and-false, ap, arith, board, cell_at, common_steps}
+use Rattle.bbm_rule.proofs.Imports.{div-add-mod, div-mul-add, false, inl, inr, is_board_cell, is_inside, live, map}
+use Rattle.bbm_rule.proofs.Imports.{mate, mod-mul-add, mul-le-mul_right, nat_tests, not_lt_test, pos, refl, step, suc}
+use Rattle.bbm_rule.proofs.Imports.{sym, true, turned, zero, ℕ, ◌%◌, ◌*◌, ◌+◌, ◌-◌, ◌/◌, ◌<◌, ◌∙◌, ◌∷◌, ◌≡◌, ◌≤◌}
+use Rattle.lemmas.proofs.Common.{nat_le, div_below, get_or-map-range_with_len, mod_below, mul-le-mul_left, lt_test}
+use Rattle.lemmas.proofs.Common.{not_le_test}
+use Rattle.bbm_rule.specs.Rows.{HasLiveMargin, HasDeadMargin}
+use Rattle.bbm_rule.specs.Board.{IsStep, Leaves}
 use Rattle.bbm_rule.proofs.BitLemmas.{by_lt_or_le, by_eq_or_not}
 use Rattle.bbm_rule.proofs.PairLemmas.{mate_even, mate_odd}
 use Rattle.bbm_rule.proofs.BlockRuns.{mate_lt}
@@ -19,18 +19,18 @@ pub record IsPlane (w h s : ℕ) (words : List ℕ) : Type 0 where
   pub height : h % 2 ≡ 0
   pub row : s % 2 ≡ 0
   pub room : w + 2 ≤ s
-  pub margin : (x y : ℕ) → x < s → is_inside_margin w h x y ≡ false → cell_at words (s * y + x) ≡ false
+  pub margin : (x y : ℕ) → x < s → is_board_cell w h x y ≡ false → cell_at words (s * y + x) ≡ false
 
 le_test : (a b : ℕ) → a ≤ b → nat_le a b ≡ true
 le_test a b l = grind (arith, nat_tests)
 
-pub not_inner_column : (w h x y : ℕ) → w < x → is_inside_margin w h x y ≡ false
+pub not_inner_column : (w h x y : ℕ) → w < x → is_board_cell w h x y ≡ false
 not_inner_column w h x y l = rw (not_le_test x w l, and-false (nat_le 1 x)) refl
 
-pub not_inner_row : (w h x y : ℕ) → h < y → is_inside_margin w h x y ≡ false
+pub not_inner_row : (w h x y : ℕ) → h < y → is_board_cell w h x y ≡ false
 not_inner_row w h x y l = rw (not_le_test y h l) (and-false _)
 
-pub not_inner_first_row : (w h x : ℕ) → is_inside_margin w h x 0 ≡ false
+pub not_inner_first_row : (w h x : ℕ) → is_board_cell w h x 0 ≡ false
 not_inner_first_row w h x = grind (arith, common_steps)
 
 pub live_inner : (w h s : ℕ) (words : List ℕ) (x y : ℕ) → x < w → y < h →
@@ -106,7 +106,7 @@ pub odd_plane : (w h s r : ℕ) (old new : List ℕ) → IsPlane w h s old → T
 odd_plane w h s r old new plane rows e dead =
     record { width = plane.width; height = plane.height; row = plane.row; room = plane.room; margin = margin }
   where
-    beyond : (x y : ℕ) → x < s → h + 2 ≤ y → is_inside_margin w h x y ≡ false → cell_at new (s * y + x) ≡ false
+    beyond : (x y : ℕ) → x < s → h + 2 ≤ y → is_board_cell w h x y ≡ false → cell_at new (s * y + x) ≡ false
     beyond x y l le outer =
         let high : 2 * r * s ≤ y * s = mul-le-mul_right s (omega arith) in
         rows.after (s * y + x) (omega arith) ∙ plane.margin x y l outer
@@ -122,7 +122,7 @@ odd_plane w h s r old new plane rows e dead =
         aligned_cell s r old new rows x y l (omega arith)
         ∙ rw (none y, none' y, none (mate y), none' (mate y)) dead_block
 
-    margin : (x y : ℕ) → x < s → is_inside_margin w h x y ≡ false → cell_at new (s * y + x) ≡ false
+    margin : (x y : ℕ) → x < s → is_board_cell w h x y ≡ false → cell_at new (s * y + x) ≡ false
     margin x y l outer =
         by_lt_or_le y (h + 2) (λ ly. by_lt_or_le x (w + 2) (λ lx. dead x y lx ly outer) (λ gx. right x y l gx ly))
         (λ gy. beyond x y l gy outer)
@@ -140,10 +140,10 @@ odd_step t w h s r old new at_odd plane plane' rows e u v =
       ]
     ]
 
-inner_test : (w h x y : ℕ) → x < w → y < h → is_inside_margin w h (suc x) (suc y) ≡ true
+inner_test : (w h x y : ℕ) → x < w → y < h → is_board_cell w h (suc x) (suc y) ≡ true
 inner_test w h x y lx ly = grind (arith, common_steps, le_test)
 
-inside_ext : (b : Board) (x y : ℕ) → is_inside_margin b.width b.height x y ≡ false → is_inside b (ext x) (ext y) ≡ false
+inside_ext : (b : Board) (x y : ℕ) → is_board_cell b.width b.height x y ≡ false → is_inside b (ext x) (ext y) ≡ false
 inside_ext b zero y outer = refl
 inside_ext b (suc x) zero outer = refl
 inside_ext b (suc x) (suc y) outer = grind (arith, common_steps, by_lt_or_le, inner_test, not_lt_test, and-false)
@@ -269,10 +269,10 @@ even_plane w h s r old new plane rows e =
           dead_from (mate j) (mate y) ge mj,
         ) dead_block
 
-    before : (x y : ℕ) → x < s → is_inside_margin w h x y ≡ false → s * y + x < s + 1 → cell_at new (s * y + x) ≡ false
+    before : (x y : ℕ) → x < s → is_board_cell w h x y ≡ false → s * y + x < s + 1 → cell_at new (s * y + x) ≡ false
     before x y l outer low = rows.before (s * y + x) low ∙ plane.margin x y l outer
 
-    after : (x y : ℕ) → x < s → is_inside_margin w h x y ≡ false → s * (h + 1) + 1 ≤ s * y + x →
+    after : (x y : ℕ) → x < s → is_board_cell w h x y ≡ false → s * (h + 1) + 1 ≤ s * y + x →
         cell_at new (s * y + x) ≡ false
     after x y l outer high = let size : s * (h + 1) ≡ s * (2 * r + 1) = ap (λ n. s * (n + 1)) (sym e) in
         rows.after (s * y + x) (omega arith) ∙ plane.margin x y l outer
@@ -292,13 +292,13 @@ even_plane w h s r old new plane rows e =
         (λ gy. after zero (suc (suc y)) (omega (arith, plane.room)) refl
         (let more = higher (h + 2) (suc (suc y)) (omega arith) in omega (arith, plane.room)))
 
-    margin : (x y : ℕ) → x < s → is_inside_margin w h x y ≡ false → cell_at new (s * y + x) ≡ false
+    margin : (x y : ℕ) → x < s → is_board_cell w h x y ≡ false → cell_at new (s * y + x) ≡ false
     margin zero y l outer = first_column y
     margin (suc x) zero l outer = before (suc x) zero l outer (omega arith)
     margin (suc x) (suc y) l outer =
         by_lt_or_le y h
         (λ ly. by_lt_or_le x w
-        (λ lx. let inner : is_inside_margin w h (suc x) (suc y) ≡ true = inner_test w h x y lx ly in cc)
+        (λ lx. let inner : is_board_cell w h (suc x) (suc y) ≡ true = inner_test w h x y lx ly in cc)
         (λ gx.
         let place : s * suc y + suc x ≡ s * (y + 1) + (x + 1) = omega arith in
         rw place (still_dead x y gx (omega arith) ly)))

@@ -1,8 +1,6 @@
 -- The places of the cells of a board.
-use Rattle.lemmas.proofs.Common.{◌&&◌, ◌≡◌, Bool, arith, false, nat_lt, negsuc, pos, refl, true, ℕ, ℤ, and-false}
-use Rattle.lemmas.proofs.Common.{common_steps, le-leb}
-use Rattle.bbm_rule.specs.Spans.{in_span}
-use Rattle.bbm_rule.specs.Board.{Board, live, is_inside}
+use Rattle.bbm_rule.proofs.Imports.{Board, Bool, and-false, arith, common_steps, false, in_span, is_inside, le-leb}
+use Rattle.bbm_rule.proofs.Imports.{live, nat_lt, negsuc, pos, refl, true, ℕ, ℤ, ◌&&◌, ◌≡◌}
 use Rattle.bbm_rule.proofs.Spans.{in_span-pos, in_span-negsuc}
 
 pub in_span-from_zero : (n k : ℕ) → in_span 0 n (pos k) ≡ nat_lt k n

@@ -1,10 +1,8 @@
 -- Single cells.
-use Rattle.lemmas.proofs.Common.{◌%◌, ◌*◌, ◌+◌, ◌-◌, ◌/◌, ◌<◌, ◌^◌, ◌≡◌, ◌≢◌, Bool, List, arith, bit_and, bit_or, false}
-use Rattle.lemmas.proofs.Common.{get_or, get_or-set_other, get_or-set_same, length, nat_eq, refl, set, sym, true, w64}
-use Rattle.lemmas.proofs.Common.{ℕ, bit_at_clear_other, bit_at_clear_same, bit_at_set_other, bit_at_set_same}
-use Rattle.lemmas.proofs.Common.{common_steps, shr_and_one}
-use Rattle.bbm_rule.specs.Bits.{bit}
-use Rattle.bbm_rule.specs.Rows.{cell_at, SetsPlace}
+use Rattle.bbm_rule.proofs.Imports.{Bool, List, SetsPlace, arith, bit, bit_and, bit_or, cell_at, common_steps, false}
+use Rattle.bbm_rule.proofs.Imports.{get_or, get_or-set_other, get_or-set_same, length, nat_eq, refl, set, sym, true}
+use Rattle.bbm_rule.proofs.Imports.{w64, ℕ, ◌%◌, ◌*◌, ◌+◌, ◌-◌, ◌/◌, ◌<◌, ◌^◌, ◌≡◌, ◌≢◌}
+use Rattle.lemmas.proofs.Common.{bit_at_clear_other, bit_at_clear_same, bit_at_set_other, bit_at_set_same, shr_and_one}
 use Rattle.bbm_rule.proofs.BitLemmas.{by_eq_or_not, bit-is}
 use Rattle.bbm_rule.proofs.PairLemmas.{cell_in_word}
 

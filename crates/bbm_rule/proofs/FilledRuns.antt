@@ -1,8 +1,8 @@
 -- A run of cells in one word.
-use Rattle.lemmas.proofs.Common.{◌%◌, ◌*◌, ◌+◌, ◌-◌, ◌/◌, ◌<◌, ◌^◌, ◌||◌, ◌∙◌, ◌≡◌, ◌≤◌, List, ap, arith, bit_or, false}
-use Rattle.lemmas.proofs.Common.{get_or, get_or-set_other, get_or-set_same, length, refl, set, true, ℕ, pow_pos}
-use Rattle.bbm_rule.specs.Bits.{bit}
-use Rattle.bbm_rule.specs.Rows.{cell_at, FillsRun}
+use Rattle.bbm_rule.proofs.Imports.{FillsRowPart, List, ap, arith, bit, bit_or, cell_at, false, get_or}
+use Rattle.bbm_rule.proofs.Imports.{get_or-set_other, get_or-set_same, length, refl, set, true, ℕ, ◌%◌, ◌*◌, ◌+◌, ◌-◌}
+use Rattle.bbm_rule.proofs.Imports.{◌/◌, ◌<◌, ◌^◌, ◌||◌, ◌∙◌, ◌≡◌, ◌≤◌}
+use Rattle.lemmas.proofs.Common.{pow_pos}
 use Rattle.bbm_rule.proofs.BitLemmas.{by_eq_or_not, bit-or, bit-shr, bit-mod, bit-shl_low, bit-shl_high, bit_above}
 use Rattle.bbm_rule.proofs.MarkLemmas.{bit_ones}
 
@@ -41,7 +41,7 @@ or_false false b e = e
 
 -- The word at a place with n more ones.
 pub cells_filled : (words : List ℕ) (p n : ℕ) → p / 64 < length words → 0 < n → p % 64 + n ≤ 64 →
-    FillsRun p n words (set words (p / 64) (bit_or (get_or words (p / 64) 0) (ones_from n (p % 64))))
+    FillsRowPart p n words (set words (p / 64) (bit_or (get_or words (p / 64) 0) (ones_from n (p % 64))))
 unfolding cell_at
 cells_filled words p n room some within = record {
   there = λ q low high.

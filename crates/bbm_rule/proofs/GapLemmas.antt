@@ -1,10 +1,8 @@
 -- The first number without a mark: it is the first one with a mark in the complement of the words.
-use Rattle.lemmas.proofs.Common.{◌%◌, ◌*◌, ◌+◌, ◌/◌, ◌<◌, ◌^◌, ◌∙◌, ◌≡◌, ◌≢◌, ◌≤◌, List, arith, get_or}
-use Rattle.lemmas.proofs.Common.{inl, inr, length, map, not, refl, sym, true, w64, ℕ, bit_at, bit_at-lt, bit_at_not}
-use Rattle.lemmas.proofs.Common.{bit_not, common_steps, get_or-map, trailing_zeros, false_from_not, true_from_not}
-use Rattle.bbm_rule.specs.Bits.{bit}
-use Rattle.bbm_rule.specs.Rows.{cell_at}
-use Rattle.bbm_rule.specs.Marks.{IsUnmarked}
+use Rattle.bbm_rule.proofs.Imports.{IsUnmarked, List, arith, bit, bit_at, bit_at-lt, cell_at, common_steps, get_or, inl}
+use Rattle.bbm_rule.proofs.Imports.{inr, length, map, not, refl, sym, trailing_zeros, true, w64, ℕ, ◌%◌, ◌*◌, ◌+◌, ◌/◌}
+use Rattle.bbm_rule.proofs.Imports.{◌<◌, ◌^◌, ◌∙◌, ◌≡◌, ◌≢◌, ◌≤◌}
+use Rattle.lemmas.proofs.Common.{bit_at_not, bit_not, get_or-map, false_from_not, true_from_not}
 use Rattle.bbm_rule.proofs.BitLemmas.{bit-is, zero_or_one}
 use Rattle.bbm_rule.proofs.MarkLemmas.{first_bit, first_marked, none_before, none_in_word}
 
@@ -25,7 +23,7 @@ cell_flipped : (words : List ℕ) (u : ℕ) → u / 64 < length words → get_or
 unfolding cell_at
 cell_flipped words u room fits = grind (arith, common_steps, word_flipped, bit_flipped)
 
--- the same for a number in the word of another one
+-- flipped words have the opposite mark at a number in the word of another one
 flipped_in : (words : List ℕ) (at u : ℕ) → at / 64 < length words → get_or words (at / 64) 0 < 2 ^ 64 → at ≤ u →
     u < 64 * (at / 64 + 1) → cell_at (flipped words) u ≡ not (cell_at words u)
 flipped_in words at u room fits l h = grind (arith, common_steps, cell_flipped)

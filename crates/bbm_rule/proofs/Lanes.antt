@@ -1,10 +1,11 @@
 -- Vectors of four words, and the words of four slices.
-use Rattle.lemmas.proofs.Common.{◌+◌, ◌-◌, ◌<◌, ◌∙◌, ◌≡◌, ◌≤◌, List, arith, bit_and, bit_or, bit_xor, get_or, length}
-use Rattle.lemmas.proofs.Common.{refl, ℕ, common_steps, get_or-chunk, get_or-put_chunk_above, get_or-put_chunk_at}
-use Rattle.lemmas.proofs.Common.{get_or-put_chunk_below, get_or-zip2, length-zip2}
+use Rattle.bbm_rule.proofs.Imports.{List, TurnsBetween, arith, bit_and, bit_or, bit_xor, common_steps, get_or, length}
+use Rattle.bbm_rule.proofs.Imports.{refl, ℕ, ◌+◌, ◌-◌, ◌<◌, ◌∙◌, ◌≡◌, ◌≤◌}
+use Rattle.lemmas.proofs.Common.{get_or-chunk, get_or-put_chunk_above, get_or-put_chunk_at, get_or-put_chunk_below}
+use Rattle.lemmas.proofs.Common.{get_or-zip2, length-zip2}
 use Rattle.std.specs.Simd.Lanes.{zip2, chunk, put_chunk}
+use Rattle.bbm_rule.specs.Words.{AreTurnedAt}
 use Rattle.bbm_rule.proofs.BitLemmas.{by_lt_or_le}
-use Rattle.bbm_rule.specs.Words.{AreTurnedAt, TurnsBetween}
 use Rattle.bbm_rule.proofs.Turning.{words_turned}
 
 -- v has four lanes, and lane k is f k

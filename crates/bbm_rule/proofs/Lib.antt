@@ -18,3 +18,5 @@ pub mod GridLemmas
 mod Meetings
 pub mod Moving
 pub mod SameCells
+pub mod RingTests
+pub mod Imports

@@ -1,11 +1,9 @@
 -- Marks, and the next one
-use Rattle.lemmas.proofs.Common.{◌%◌, ◌*◌, ◌+◌, ◌-◌, ◌/◌, ◌<◌, ◌^◌, ◌∙◌, ◌≡◌, ◌≢◌, ◌≤◌, List, ap, arith, false, get_or}
-use Rattle.lemmas.proofs.Common.{refl, sym, true, w64, ℕ, bit_at, bit_at-trailing_zeros, bit_at_ones, common_steps}
-use Rattle.lemmas.proofs.Common.{div-le_self, false≢true, trailing_zeros}
-use Rattle.bbm_rule.specs.Bits.{bit}
-use Rattle.bbm_rule.specs.Rows.{cell_at, SetsPlace}
+use Rattle.bbm_rule.proofs.Imports.{IsUnmarked, List, MarksOne, SetsPlace, ap, arith, bit, bit_at, cell_at}
+use Rattle.bbm_rule.proofs.Imports.{common_steps, false, false≢true, get_or, refl, sym, trailing_zeros, true, w64, ℕ}
+use Rattle.bbm_rule.proofs.Imports.{◌%◌, ◌*◌, ◌+◌, ◌-◌, ◌/◌, ◌<◌, ◌^◌, ◌∙◌, ◌≡◌, ◌≢◌, ◌≤◌}
+use Rattle.lemmas.proofs.Common.{bit_at-trailing_zeros, bit_at_ones, div-le_self}
 use Rattle.bbm_rule.proofs.BitLemmas.{by_lt_or_le, by_eq_or_not, bit-is, bit-zero, bit-shr, bit_above}
-use Rattle.bbm_rule.specs.Marks.{IsUnmarked, MarksOne}
 
 -- where one number is set, each number without a mark is another, and had none before
 pub one_marked : (p : ℕ) (old new : List ℕ) → SetsPlace p true old new → MarksOne p old new

@@ -1,6 +1,5 @@
 -- Two balls that meet in a block.
-use Rattle.lemmas.proofs.Common.{refl}
-use Rattle.bbm_rule.specs.Plane.{step, turned}
+use Rattle.bbm_rule.proofs.Imports.{refl, step, turned}
 use Rattle.bbm_rule.specs.Laws.{TwoBallsLeaveAtRightAngles}
 use Rattle.bbm_rule.proofs.PlaneLemmas.{partner_twice}
 

@@ -1,7 +1,7 @@
 -- A step commutes with an even move
-use Rattle.lemmas.proofs.Common.{◌%◌, ◌+ℤ◌, ◌+◌, ◌∙◌, ◌≡◌, Bool, ap, arith, negsuc, pos, refl, suc, ℕ, ℤ}
-use Rattle.lemmas.proofs.Common.{cases_Bool, cases_lt, common_steps, cond-false, cond-true, ints, down_moved, up_moved}
-use Rattle.bbm_rule.specs.Plane.{parity, partner, turned, step}
+use Rattle.bbm_rule.proofs.Imports.{Bool, ap, arith, cases_Bool, common_steps, cond-false, cond-true, ints, negsuc}
+use Rattle.bbm_rule.proofs.Imports.{parity, partner, pos, refl, step, suc, turned, ℕ, ℤ, ◌%◌, ◌+ℤ◌, ◌+◌, ◌∙◌, ◌≡◌}
+use Rattle.lemmas.proofs.Common.{cases_lt, down_moved, up_moved}
 use Rattle.bbm_rule.specs.Moves.{StepCommutesWithMoves}
 
 -- what is added is at least, or at most, what is there

@@ -1,10 +1,8 @@
 -- Two words one above the other, and windows of 64 cells.
-use Rattle.lemmas.proofs.Common.{◌%◌, ◌*◌, ◌+◌, ◌-◌, ◌/◌, ◌<◌, ◌^◌, ◌||◌, ◌∙◌, ◌≡◌, Bool, List, arith, bit_or, bit_xor}
-use Rattle.lemmas.proofs.Common.{false, get_or, nat_eq, refl, suc, true, zero, ℕ, common_steps, div-add-mod}
-use Rattle.lemmas.proofs.Common.{div-mul-add, mod-mul-add, or-false}
-use Rattle.bbm_rule.specs.Plane.{turned}
-use Rattle.bbm_rule.specs.Bits.{bit, AreSameBits, HasNoSetBit}
-use Rattle.bbm_rule.specs.Rows.{cell_at, mate, AreFlips, ArePairsTurned, HasWindow}
+use Rattle.bbm_rule.proofs.Imports.{AreFlips, ArePairsTurned, AreSameBits, Bool, HasNoSetBit, HasWordAt, List, arith}
+use Rattle.bbm_rule.proofs.Imports.{bit, bit_or, bit_xor, cell_at, common_steps, div-add-mod, div-mul-add, false}
+use Rattle.bbm_rule.proofs.Imports.{get_or, mate, mod-mul-add, nat_eq, or-false, refl, suc, true, turned, zero, ℕ, ◌%◌}
+use Rattle.bbm_rule.proofs.Imports.{◌*◌, ◌+◌, ◌-◌, ◌/◌, ◌<◌, ◌^◌, ◌||◌, ◌∙◌, ◌≡◌}
 use Rattle.bbm_rule.proofs.BitLemmas.{by_lt_or_le, by_eq_or_not, holds_below, below_from_test, bit-or, bit-shr, bit-mod}
 use Rattle.bbm_rule.proofs.BitLemmas.{bit-shl_low, bit-shl_high, bit_above, bit-xor, xor, xor_false}
 
@@ -142,7 +140,7 @@ unfolding cell_at
 cell_in_word words i b l = grind (arith, common_steps, div-mul-add, mod-mul-add)
 
 pub window_is : (words : List ℕ) (i : ℕ) → get_or words i 0 < 2 ^ 64 →
-    HasWindow words (64 * i + 1) (bit_or (get_or words i 0 / 2)
+    HasWordAt words (64 * i + 1) (bit_or (get_or words i 0 / 2)
     (get_or words (i + 1) 0 * 9223372036854775808 % 18446744073709551616))
 window_is words i small =
     record { cells = λ j l. by_lt_or_le j 63 (λ low. at_low j low) (λ high. at_high j (omega arith)) }

@@ -1,10 +1,7 @@
 -- Blocks on the plane
-use Rattle.lemmas.proofs.Common.{◌%◌, ◌+◌, ◌-◌, ◌<◌, ◌≡◌, ◌≤◌, ◌⊎◌, Bool, arith, false, inl, inr, nat_lt}
-use Rattle.lemmas.proofs.Common.{negsuc, not, pos, refl, suc, true, zero, ℕ, ℤ, common_steps, ints, nat_tests, next_neg}
-use Rattle.lemmas.proofs.Common.{pred_pos}
-use Rattle.bbm_rule.specs.Plane.{State, partner, step, turned}
-use Rattle.bbm_rule.specs.Rows.{mate}
-use Rattle.bbm_rule.specs.Board.{Board, live}
+use Rattle.bbm_rule.proofs.Imports.{Board, Bool, State, arith, common_steps, false, inl, inr, ints, live, mate, nat_lt}
+use Rattle.bbm_rule.proofs.Imports.{nat_tests, negsuc, next_neg, not, partner, pos, pred_pos, refl, step, suc, true}
+use Rattle.bbm_rule.proofs.Imports.{turned, zero, ℕ, ℤ, ◌%◌, ◌+◌, ◌-◌, ◌<◌, ◌≡◌, ◌≤◌, ◌⊎◌}
 use Rattle.bbm_rule.proofs.Steps.{step_dead}
 use Rattle.bbm_rule.proofs.BitLemmas.{by_lt_or_le, by_eq_or_not}
 use Rattle.bbm_rule.proofs.PairLemmas.{mate_even, mate_odd}

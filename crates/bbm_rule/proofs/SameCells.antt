@@ -1,5 +1,5 @@
 -- Cells that are the same.
-use Rattle.lemmas.proofs.Common.{◌≡◌, arith, true, and_parts, common_steps}
+use Rattle.bbm_rule.proofs.Imports.{and_parts, arith, common_steps, true, ◌≡◌}
 use Rattle.bbm_rule.specs.Plane.{is_at}
 use Rattle.bbm_rule.specs.declared.block.Cell.{Cell}
 

@@ -1,11 +1,11 @@
 -- Runs of blocks that begin at the second cell of each word
-use Rattle.lemmas.proofs.Common.{◌%◌, ◌*◌, ◌+◌, ◌-◌, ◌/◌, ◌<◌, ◌^◌, ◌||◌, ◌∙◌, ◌≡◌, ◌≢◌, ◌≤◌, List, ap, arith, bit_or}
-use Rattle.lemmas.proofs.Common.{bit_xor, false, get_or, get_or-set_other, get_or-set_same, length, length-set, refl}
-use Rattle.lemmas.proofs.Common.{set, sym, true, ℕ, common_steps, or-false, set-set, set_comm, xor_assoc, xor_comm}
-use Rattle.bbm_rule.specs.Plane.{turned}
-use Rattle.bbm_rule.specs.Bits.{bit, HasNoSetBit}
-use Rattle.bbm_rule.specs.Rows.{cell_at, mate, AreFlips, ArePairsTurned, AreSameCells, HasWindow, SetsWindow, TurnsRun}
-use Rattle.bbm_rule.specs.Rows.{flip, flip_carried_bits}
+use Rattle.bbm_rule.proofs.Imports.{AreFlips, ArePairsTurned, AreSameCells, HasNoSetBit, HasWordAt, List, SetsWordAt}
+use Rattle.bbm_rule.proofs.Imports.{TurnsRowPart, ap, arith, bit, bit_or, bit_xor, cell_at, common_steps, false}
+use Rattle.bbm_rule.proofs.Imports.{flip_carried_bits, get_or, get_or-set_other, get_or-set_same, length, length-set}
+use Rattle.bbm_rule.proofs.Imports.{mate, or-false, refl, set, sym, true, turned, ℕ, ◌%◌, ◌*◌, ◌+◌, ◌-◌, ◌/◌, ◌<◌, ◌^◌}
+use Rattle.bbm_rule.proofs.Imports.{◌||◌, ◌∙◌, ◌≡◌, ◌≢◌, ◌≤◌}
+use Rattle.lemmas.proofs.Common.{set-set, set_comm, xor_assoc, xor_comm}
+use Rattle.bbm_rule.specs.Rows.{flip}
 use Rattle.bbm_rule.proofs.BitLemmas.{by_lt_or_le, by_eq_or_not, xor, xor_false, bit-or, bit-xor, bit-shr, bit-zero}
 use Rattle.bbm_rule.proofs.BitLemmas.{bit_above}
 use Rattle.bbm_rule.proofs.PairLemmas.{by_place, cell_in_word, cells_turned, flips_below, joined_zero, row_flipped}
@@ -113,8 +113,8 @@ flip_window i main anti words = flip (i + 1) (anti / 9223372036854775808)
     (flip i (bit_or main (anti * 2 % 18446744073709551616)) words)
 
 window_set : (i v a n b m main anti : ℕ) (words : List ℕ) → i + 1 < length words →
-    AreFlips second_mask a n b m main anti → HasWindow words (64 * i + 1) v →
-    SetsWindow (64 * i + 1) (bit_xor v (window_flips main anti)) words (flip_window i main anti words)
+    AreFlips second_mask a n b m main anti → HasWordAt words (64 * i + 1) v →
+    SetsWordAt (64 * i + 1) (bit_xor v (window_flips main anti)) words (flip_window i main anti words)
 window_set i v a n b m main anti words room flips has = record {
   cells = λ j l. by_lt_or_le j 63 (λ low. inside j low) (λ high. let e : j ≡ 63 = omega arith in rw e last);
   before = λ q l. by_lt_or_le q (64 * i) (λ low. two.before q (omega arith) ∙ one.before q low)
@@ -128,13 +128,13 @@ window_set i v a n b m main anti words room flips has = record {
     own : ℕ
     own = bit_or main (anti * 2 % 18446744073709551616)
 
-    one : SetsWindow (64 * i) (bit_xor (get_or words i 0) own) words (flip i own words)
+    one : SetsWordAt (64 * i) (bit_xor (get_or words i 0) own) words (flip i own words)
     one = word_set words i _ (omega arith)
 
     next : ℕ
     next = bit_xor (get_or (flip i own words) (i + 1) 0) (anti / 9223372036854775808)
 
-    two : SetsWindow (64 * (i + 1)) next (flip i own words) (flip_window i main anti words)
+    two : SetsWordAt (64 * (i + 1)) next (flip i own words) (flip_window i main anti words)
     two = word_set (flip i own words) (i + 1) _ (omega (arith, length-set {A = ℕ}))
 
     next_bit : (b : ℕ) → b < 64 → bit next b ≡ xor (cell_at words (64 * (i + 1) + b)) (bit anti (63 + b))
@@ -183,14 +183,14 @@ window_set i v a n b m main anti words room flips has = record {
 -- ---- the steps of the loop
 -- one word of each row
 pub word_shifted : (i s x y main anti m a : ℕ) (words : List ℕ) → 0 < s → i + s + 1 < length words →
-    (s ≡ 1 → main ≡ 0) → main < 2 ^ 64 → anti < 2 ^ 64 → HasWindow words (64 * i + 1) x →
-    HasWindow words (64 * (i + s) + 1) y → AreFlips second_mask (get_or words i 0) x (get_or words (i + s) 0) y m a →
+    (s ≡ 1 → main ≡ 0) → main < 2 ^ 64 → anti < 2 ^ 64 → HasWordAt words (64 * i + 1) x →
+    HasWordAt words (64 * (i + s) + 1) y → AreFlips second_mask (get_or words i 0) x (get_or words (i + s) 0) y m a →
     let old = flip_carried_bits i s main anti words in
     let new = flip_carried_bits (i + 1) s m a (set (set words i
     (bit_xor (bit_xor (get_or words i 0) (anti / 9223372036854775808)) (bit_or m (a * 2 % 18446744073709551616))))
     (i + s) (bit_xor (bit_xor (get_or words (i + s) 0) (main / 9223372036854775808))
     (bit_or a (m * 2 % 18446744073709551616)))) in
-    TurnsRun (64 * i + 1) 64 (64 * s) old new × (HasNoSetBit m → HasNoSetBit a → AreSameCells old new)
+    TurnsRowPart (64 * i + 1) 64 (64 * s) old new × (HasNoSetBit m → HasNoSetBit a → AreSameCells old new)
 word_shifted i s x y main anti m a words positive room alone small small' has_x has_y flips =
     rw same_words (run, stays)
   where
@@ -209,13 +209,13 @@ word_shifted i s x y main anti m a words positive room alone small small' has_x 
         (λ e. rw (first e) refl)
         ∙ flip_kept i (anti / 9223372036854775808) words (omega (arith, small')) (omega arith) q (λ e. absurd (other e))
 
-    has_above : HasWindow old (64 * i + 1) x
+    has_above : HasWordAt old (64 * i + 1) x
     has_above = record {
       cells = λ j l. has_x.cells j l
           ∙ sym (kept (64 * i + 1 + j) (λ e. absurd (omega (arith, e))) (λ e. alone (omega (arith, e))));
     }
 
-    has_below : HasWindow old (64 * (i + s) + 1) y
+    has_below : HasWordAt old (64 * (i + s) + 1) y
     has_below = record {
       cells = λ j l. has_y.cells j l
           ∙ sym (kept (64 * (i + s) + 1 + j) (λ e. absurd (omega (arith, e))) (λ e. absurd (omega (arith, e))));
@@ -224,16 +224,16 @@ word_shifted i s x y main anti m a words positive room alone small small' has_x 
     long : length old ≡ length words
     long = omega (arith, length-set {A = ℕ})
 
-    sets_above : SetsWindow (64 * i + 1) (bit_xor x (window_flips m a)) old mid
+    sets_above : SetsWordAt (64 * i + 1) (bit_xor x (window_flips m a)) old mid
     sets_above = window_set i x _ _ _ _ m a old (omega (arith, long)) flips has_above
 
-    has_mid : HasWindow mid (64 * (i + s) + 1) y
+    has_mid : HasWordAt mid (64 * (i + s) + 1) y
     has_mid = record {
       cells = λ j l. has_below.cells j l
           ∙ sym (sets_above.after (64 * (i + s) + 1 + j) (omega arith));
     }
 
-    sets_below : SetsWindow (64 * (i + s) + 1) (bit_xor y (window_flips a m)) mid new
+    sets_below : SetsWordAt (64 * (i + s) + 1) (bit_xor y (window_flips a m)) mid new
     sets_below = window_set (i + s) y _ _ _ _ a m mid (omega (arith, long, length-set {A = ℕ}))
         (flips_below _ _ _ _ _ _ _ flips) has_mid
 
@@ -244,7 +244,7 @@ word_shifted i s x y main anti m a words positive room alone small small' has_x 
         (λ j l. let e : 64 * (i + s) + 1 + j ≡ 64 * (i + s) + (1 + j) = omega arith in
         has_y.cells j (omega arith) ∙ ap (cell_at words) e ∙ cell_in_word words (i + s) (1 + j) (omega arith))
 
-    run : TurnsRun (64 * i + 1) 64 (64 * s) old new
+    run : TurnsRowPart (64 * i + 1) 64 (64 * s) old new
     run =
         let place : 64 * (i + s) + 1 ≡ 64 * i + 1 + 64 * s = omega arith in
         windows_turned (64 * i + 1) (64 * s) x y _ _ old mid new (omega arith) has_above (rw place at has_below) pairs
@@ -276,9 +276,9 @@ word_shifted i s x y main anti m a words positive room alone small small' has_x 
 
 -- and the run before it
 pub run_longer : (upper k s : ℕ) (first second third : List ℕ) → k < s →
-    TurnsRun (64 * upper + 1) (64 * k) (64 * s) first second →
-    TurnsRun (64 * (upper + k) + 1) 64 (64 * s) second third →
-    TurnsRun (64 * upper + 1) (64 * (k + 1)) (64 * s) first third
+    TurnsRowPart (64 * upper + 1) (64 * k) (64 * s) first second →
+    TurnsRowPart (64 * (upper + k) + 1) 64 (64 * s) second third →
+    TurnsRowPart (64 * upper + 1) (64 * (k + 1)) (64 * s) first third
 run_longer upper k s first second third l run next =
     let place : 64 * (upper + k) + 1 ≡ 64 * upper + 1 + 64 * k = omega arith in
     let more : 64 * (k + 1) ≡ 64 * k + 64 = omega arith in

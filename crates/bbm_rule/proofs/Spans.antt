@@ -1,10 +1,9 @@
 -- Numbers in a span, and the two coordinates of a block
-use Rattle.lemmas.proofs.Common.{◌%◌, ◌&&◌, ◌+ℤ◌, ◌+◌, ◌-ℤ◌, ◌<◌, ◌∙◌, ◌≡◌, ◌≤◌, ◌⊎◌, ap, arith, eqb, false, inl, inr}
-use Rattle.lemmas.proofs.Common.{leb, ltb, ne_eqb, negsuc, pos, refl, suc, sym, true, zero, ℕ, ℤ, and_from, and_parts}
-use Rattle.lemmas.proofs.Common.{cases_Bool, common_steps, cond-false, cond-true, eqb-false, eqb-true, ints, le-leb}
-use Rattle.lemmas.proofs.Common.{leb-true, lt-ltb, ltb-true, nat_tests, next_neg, pred_pos}
-use Rattle.bbm_rule.specs.Plane.{parity, partner}
-use Rattle.bbm_rule.specs.Spans.{in_span}
+use Rattle.bbm_rule.proofs.Imports.{and_parts, ap, arith, cases_Bool, common_steps, cond-false, cond-true, eqb-true}
+use Rattle.bbm_rule.proofs.Imports.{false, in_span, inl, inr, ints, le-leb, ltb-true, nat_tests, negsuc, next_neg}
+use Rattle.bbm_rule.proofs.Imports.{parity, partner, pos, pred_pos, refl, suc, sym, true, zero, ℕ, ℤ, ◌%◌, ◌&&◌, ◌+ℤ◌}
+use Rattle.bbm_rule.proofs.Imports.{◌+◌, ◌-ℤ◌, ◌<◌, ◌∙◌, ◌≡◌, ◌≤◌, ◌⊎◌}
+use Rattle.lemmas.proofs.Common.{eqb, leb, ltb, ne_eqb, and_from, eqb-false, leb-true, lt-ltb}
 
 -- the same tests, where the same facts hold
 same_tests : (f n k m : ℕ) → (f ≤ k → f ≤ m) → (f ≤ m → f ≤ k) → (k < f + n → m < f + n) → (m < f + n → k < f + n) →

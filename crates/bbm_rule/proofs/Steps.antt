@@ -1,6 +1,5 @@
 -- The four cells of a block after a step
-use Rattle.lemmas.proofs.Common.{◌∙◌, ◌≡◌, false, refl, ℕ, ℤ}
-use Rattle.bbm_rule.specs.Plane.{State, partner, turned, step}
+use Rattle.bbm_rule.proofs.Imports.{State, false, partner, refl, step, turned, ℕ, ℤ, ◌∙◌, ◌≡◌}
 
 -- the same four cells make the same cell
 pub step_same : (t : ℕ) (s s' : State) (x y : ℤ) → s x y ≡ s' x y →

@@ -1,10 +1,9 @@
 -- The bitwise formula of a turn.
-use Rattle.lemmas.proofs.Common.{[], ◌&&◌, ◌<◌, ◌||◌, ◌∷◌, ◌≡◌, Bool, List, arith, bit_and, bit_or, bit_xor, false}
-use Rattle.lemmas.proofs.Common.{get_or, nat_eq, refl, true, ℕ, and-false, and-true, common_steps, eqb-true}
-use Rattle.bbm_rule.specs.Plane.{turned}
-use Rattle.bbm_rule.specs.Words.{turn_of, AreTurned}
-use Rattle.bbm_rule.specs.Bits.{bit, HasNoSetBit}
-use Rattle.bbm_rule.specs.Rows.{AreFlips}
+use Rattle.bbm_rule.proofs.Imports.{AreFlips, Bool, HasNoSetBit, List, [], and-false, arith, bit, bit_and, bit_or}
+use Rattle.bbm_rule.proofs.Imports.{bit_xor, common_steps, eqb-true, false, get_or, nat_eq, refl, true, turn_of, turned}
+use Rattle.bbm_rule.proofs.Imports.{ℕ, ◌&&◌, ◌<◌, ◌||◌, ◌∷◌, ◌≡◌}
+use Rattle.lemmas.proofs.Common.{and-true}
+use Rattle.bbm_rule.specs.Words.{AreTurned}
 use Rattle.bbm_rule.proofs.BitLemmas.{holds_below, below_from_test, xor, bit-and, bit-or, bit-xor}
 
 -- where a block is one that is not as it was, and the flips of the two diagonals

@@ -4,7 +4,7 @@ use Rattle.std.specs.List.{range_with_len}
 use Rattle.bbm_rule.specs.declared.grid.Grid.TheInside.{Inside}
 use Rattle.bbm_rule.specs.Board.{Board}
 use Rattle.bbm_rule.specs.Bands.{AreRowPairsStable}
-use Rattle.bbm_rule.specs.Rows.{cell_at, is_inside_margin}
+use Rattle.bbm_rule.specs.Rows.{cell_at, is_board_cell}
 
 -- the board of words in rows of s cells, with a margin of one cell
 abbrev pub board : ℕ → ℕ → ℕ → List ℕ → Board
@@ -25,7 +25,7 @@ pub record IsGrid (g : Inside) : Type 0 where
   pub height : (2 ≤ g.height) × (g.height ≤ 1024) × (g.height % 2 ≡ 0)
   pub stride : g.stride ≡ g.width / 64 + 1
   pub words : length g.words.items ≡ g.stride * (g.height + 2)
-  pub margin : (x y : ℕ) → x < 64 * g.stride → is_inside_margin g.width g.height x y ≡ false →
+  pub margin : (x y : ℕ) → x < 64 * g.stride → is_board_cell g.width g.height x y ≡ false →
       cell_at g.words.items (64 * g.stride * y + x) ≡ false
   pub even_room : g.height / 2 + 1 ≤ 64 * length g.even_marks.items
   pub odd_room : g.height / 2 + 1 ≤ 64 * length g.odd_marks.items

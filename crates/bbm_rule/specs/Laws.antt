@@ -24,7 +24,7 @@ pub record LeavesAtRightAngles (t : ℕ) (s : State) (x y : ℤ) : Type 0 where
   pub beside : step t s (partner t x) y ≡ true
   pub below : step t s x (partner t y) ≡ true
 
--- so it is in each block of the plane, at each time
+-- in each block of the plane, at each time, two balls that meet head-on leave at right angles
 abbrev pub TwoBallsLeaveAtRightAngles : Type 0
 TwoBallsLeaveAtRightAngles = (t : ℕ) (s : State) (x y : ℤ) → MeetsHeadOn t s x y → LeavesAtRightAngles t s x y
 

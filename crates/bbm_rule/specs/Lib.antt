@@ -9,3 +9,4 @@ pub mod Board
 pub mod GridView
 pub mod Laws
 pub mod Moves
+pub mod Boxes

@@ -31,11 +31,11 @@ pub record ArePairsTurned (a b a' b' : ℕ) : Type 0 where
   pub lower : (j : ℕ) → j < 64 → bit b' j ≡ turned (bit b j) (bit a (mate j)) (bit b (mate j)) (bit a j)
 
 -- the 64 cells from place p on are the bits of v
-pub record HasWindow (words : List ℕ) (p v : ℕ) : Type 0 where
+pub record HasWordAt (words : List ℕ) (p v : ℕ) : Type 0 where
   pub cells : (j : ℕ) → j < 64 → bit v j ≡ cell_at words (p + j)
 
 -- only the 64 cells from place p on change, to the bits of v
-pub record SetsWindow (p v : ℕ) (old new : List ℕ) : Type 0 where
+pub record SetsWordAt (p v : ℕ) (old new : List ℕ) : Type 0 where
   pub cells : (j : ℕ) → j < 64 → cell_at new (p + j) ≡ bit v j
   pub before : (q : ℕ) → q < p → cell_at new q ≡ cell_at old q
   pub after : (q : ℕ) → p + 64 ≤ q → cell_at new q ≡ cell_at old q
@@ -50,7 +50,7 @@ flip_carried_bits i s main anti words = flip (i + s) (main / 2 ^ 63) (flip i (an
 
 -- The blocks of the n cells from place p on and the n cells a row of s cells below are turned, and no other cell
 -- changes.
-pub record TurnsRun (p n s : ℕ) (old new : List ℕ) : Type 0 where
+pub record TurnsRowPart (p n s : ℕ) (old new : List ℕ) : Type 0 where
   pub upper : (j : ℕ) → j < n →
       cell_at new (p + j) ≡ turned (cell_at old (p + j)) (cell_at old (p + s + mate j)) (cell_at old (p + mate j))
       (cell_at old (p + s + j))
@@ -82,20 +82,20 @@ pub record SetsPlace (p : ℕ) (value : Bool) (old new : List ℕ) : Type 0 wher
   pub elsewhere : (q : ℕ) → q ≢ p → cell_at new q ≡ cell_at old q
 
 -- only the n cells from place p on change, and are live then
-pub record FillsRun (p n : ℕ) (old new : List ℕ) : Type 0 where
+pub record FillsRowPart (p n : ℕ) (old new : List ℕ) : Type 0 where
   pub there : (q : ℕ) → p ≤ q → q < p + n → cell_at new q ≡ true
   pub before : (q : ℕ) → q < p → cell_at new q ≡ cell_at old q
   pub after : (q : ℕ) → p + n ≤ q → cell_at new q ≡ cell_at old q
 
 -- the place of the cell at (x, y) in rows of s cells, with a margin of one cell
-abbrev pub place_in : ℕ → ℤ → ℤ → ℕ
-place_in s (pos x) (pos y) = s * (y + 1) + (x + 1)
-place_in s (pos x) (negsuc y) = 0
-place_in s (negsuc x) y = 0
+abbrev pub place_with_margin : ℕ → ℤ → ℤ → ℕ
+place_with_margin s (pos x) (pos y) = s * (y + 1) + (x + 1)
+place_with_margin s (pos x) (negsuc y) = 0
+place_with_margin s (negsuc x) y = 0
 
 -- whether a place of the rows is a cell of the board, and not of the margin
-abbrev pub is_inside_margin : ℕ → ℕ → ℕ → ℕ → Bool
-is_inside_margin w h x y = nat_le 1 x && nat_le x w && nat_le 1 y && nat_le y h
+abbrev pub is_board_cell : ℕ → ℕ → ℕ → ℕ → Bool
+is_board_cell w h x y = nat_le 1 x && nat_le x w && nat_le 1 y && nat_le y h
 
 -- some cell of the margin of one cell is live
 pub record HasLiveMargin (w h s : ℕ) (words : List ℕ) : Type 0 where
@@ -103,15 +103,15 @@ pub record HasLiveMargin (w h s : ℕ) (words : List ℕ) : Type 0 where
   pub y : ℕ
   pub column : x < w + 2
   pub row : y < h + 2
-  pub outer : is_inside_margin w h x y ≡ false
+  pub outer : is_board_cell w h x y ≡ false
   pub lives : cell_at words (s * y + x) ≡ true
 
 -- no cell of it is
 abbrev pub HasDeadMargin : ℕ → ℕ → ℕ → List ℕ → Type 0
-HasDeadMargin w h s words = (x y : ℕ) → x < w + 2 → y < h + 2 → is_inside_margin w h x y ≡ false →
+HasDeadMargin w h s words = (x y : ℕ) → x < w + 2 → y < h + 2 → is_board_cell w h x y ≡ false →
     cell_at words (s * y + x) ≡ false
 
 -- none of it in row y is
 abbrev pub HasDeadMarginInRow : ℕ → ℕ → ℕ → ℕ → List ℕ → Type 0
 HasDeadMarginInRow w h s y words =
-    (x : ℕ) → x < w + 2 → is_inside_margin w h x y ≡ false → cell_at words (s * y + x) ≡ false
+    (x : ℕ) → x < w + 2 → is_board_cell w h x y ≡ false → cell_at words (s * y + x) ≡ false

@@ -24,7 +24,7 @@ pub record AreTurned (ul ur ll lr ul' ur' ll' lr' : ℕ) : Type 0 where
   pub lower_left : (j : ℕ) → bit ll' j ≡ turned (bit ll j) (bit ur j) (bit lr j) (bit ul j)
   pub lower_right : (j : ℕ) → bit lr' j ≡ turned (bit lr j) (bit ul j) (bit ll j) (bit ur j)
 
--- the same for the words at place k of four lists
+-- the words at place k of four lists are the corners of 64 blocks, and become those of the turned blocks
 abbrev pub AreTurnedAt : ℕ → List ℕ → List ℕ → List ℕ → List ℕ → List ℕ → List ℕ → List ℕ → List ℕ → Type 0
 AreTurnedAt k ul ur ll lr ul' ur' ll' lr' =
     AreTurned (slice_index ul k) (slice_index ur k) (slice_index ll k) (slice_index lr k) (slice_index ul' k)

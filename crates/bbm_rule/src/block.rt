@@ -10,6 +10,15 @@ pub struct Cell {
     pub y: i32,
 }
 
+/// A rectangle of cells: its upper left corner (x, y), its width `w` and its height `h` in cells.
+#[derive(Clone, Copy, Debug, PartialEq, Eq)]
+pub struct Box2 {
+    pub x: u32,
+    pub y: u32,
+    pub w: u32,
+    pub h: u32,
+}
+
 // what the blocks 0 to 15 become
 const TURNS: [u8; 16] = [0, 8, 4, 3, 2, 5, 9, 7, 1, 6, 10, 11, 12, 13, 14, 15];
 

@@ -3,18 +3,18 @@
 ghost use Rattle.std.specs.Prelude.{◌≡◌, ◌+◌, ◌*◌, ◌/◌, ◌<◌, ◌≤◌, ◌^◌, ◌%◌, ℕ, length, false, ℤ, pos, ◌≤ℤ◌, ◌<ℤ◌};
 ghost use Rattle.std.specs.Bool.{OnTrue};
 ghost use Rattle.bbm_rule.specs.Marks.{IsUnmarked};
-ghost use Rattle.bbm_rule.specs.Rows.{cell_at, FillsRun, SetsPlace, place_in, HasLiveMargin, HasDeadMargin, HasDeadMarginInRow};
+ghost use Rattle.bbm_rule.specs.Rows.{cell_at, FillsRowPart, SetsPlace, place_with_margin, HasLiveMargin, HasDeadMargin, HasDeadMarginInRow};
 
 use crate::block::Cell;
 use crate::marks::next_marked;
 
 // the place of a cell, in rows of `stride` words with a margin of one cell
 #[inline(always)]
-pub(crate) fn place(stride: usize, cell: Cell) -> usize
+pub(crate) fn place_with_margin(stride: usize, cell: Cell) -> usize
     requires columns { (pos 0 ≤ℤ cell.x) × (cell.x <ℤ pos 1024) }
     requires rows { (pos 0 ≤ℤ cell.y) × (cell.y <ℤ pos 1024) }
     requires stride { stride ≤ 17 }
-    ensures { result ≡ place_in (64 * stride) cell.x cell.y }
+    ensures { result ≡ place_with_margin (64 * stride) cell.x cell.y }
 {
     64 * stride * (cell.y as usize + 1) + (cell.x as usize + 1)
 }
@@ -67,7 +67,7 @@ pub(crate) fn put_cell(words: &mut [u64], place: usize, value: bool)
 fn fill_in_word(words: &mut [u64], first: usize, count: usize)
     requires inside { first / 64 < length words.old }
     requires one_word { (0 < count) × (first % 64 + count ≤ 64) }
-    ensures { FillsRun first count words.old words.new }
+    ensures { FillsRowPart first count words.old words.new }
 {
     words[first / 64] |= (0xFFFF_FFFF_FFFF_FFFF >> (64 - count)) << (first % 64);
 }
@@ -76,7 +76,7 @@ fn fill_in_word(words: &mut [u64], first: usize, count: usize)
 pub(crate) fn fill_cells(words: &mut [u64], first: usize, count: usize)
     requires inside { first + count ≤ 64 * length words.old }
     requires small { length words.old < 2 ^ 32 }
-    ensures { FillsRun first count words.old words.new }
+    ensures { FillsRowPart first count words.old words.new }
 {
     let end = first + count;
     let mut at = first;
@@ -108,8 +108,8 @@ pub(crate) fn has_live_margin(
     let pairs = height / 2 + 1;
     let mut pair = next_marked(marks, 0, pairs);
     'rows: while pair < pairs {
-        if is_margin_live(words, stride, width, height, 2 * pair)
-            || is_margin_live(words, stride, width, height, 2 * pair + 1)
+        if is_row_margin_live(words, stride, width, height, 2 * pair)
+            || is_row_margin_live(words, stride, width, height, 2 * pair + 1)
         {
             return true;
         }
@@ -120,7 +120,7 @@ pub(crate) fn has_live_margin(
 
 // Whether a cell of row y is live that belongs to the margin: the first, the one after the last of the board, and all
 // in the first and the last row.
-fn is_margin_live(words: &[u64], stride: usize, width: usize, height: usize, y: usize) -> bool
+fn is_row_margin_live(words: &[u64], stride: usize, width: usize, height: usize, y: usize) -> bool
     requires width { (width + 2 ≤ 64 * stride) × (stride ≤ 17) }
     requires height { height ≤ 1024 }
     requires row { y < height + 2 }

@@ -8,7 +8,7 @@ ghost use Rattle.bbm_rule.specs.Spans.{in_area};
 ghost use Rattle.bbm_rule.specs.Board.{Board, live, is_inside, HasSameSize, IsStep, Leaves, SetsCell};
 
 use crate::block::Cell;
-use crate::cells::{cell_bit, fill_cells, has_live_margin, place, put_cell, row_of};
+use crate::cells::{cell_bit, fill_cells, has_live_margin, place_with_margin, put_cell, row_of};
 use crate::marks::{mark, next_marked, next_unmarked};
 use crate::rows::{turn_all_aligned, turn_all_shifted};
 use std::alloc::{AllocError, Global};
@@ -91,7 +91,7 @@ impl Grid {
         requires { IsTrue (is_inside self.now cell.x cell.y) }
         ensures { result ≡ live self.now cell.x cell.y }
     {
-        cell_bit(&self.words, place(self.stride, cell))
+        cell_bit(&self.words, place_with_margin(self.stride, cell))
     }
 
     /// Returns the first column from `from` on whose cell in row `y` is live, or `end` if all cells before `end` are
@@ -128,7 +128,7 @@ impl Grid {
         ensures cells { SetsCell cell.x cell.y value self.old self.new }
         ensures size { HasSameSize self.old self.new }
     {
-        let at = place(self.stride, cell);
+        let at = place_with_margin(self.stride, cell);
         put_cell(&mut self.words, at, value);
         let row = row_of(cell);
         mark(&mut self.even_marks, row / 2);

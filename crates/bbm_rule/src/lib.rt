@@ -12,6 +12,7 @@
 #![tactic(auto)]
 
 mod block;
+mod boxes;
 mod cells;
 mod grid;
 pub mod laws;
@@ -19,6 +20,6 @@ pub mod marks;
 mod rows;
 mod words;
 
-pub use block::{Cell, turn};
+pub use block::{Box2, Cell, turn};
 pub use grid::{Grid, Left};
 pub use words::{turn_lanes, turn_words};

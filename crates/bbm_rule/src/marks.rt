@@ -8,7 +8,7 @@ ghost use Rattle.bbm_rule.specs.Rows.{cell_at, SetsPlace};
 pub fn next_marked(marks: &[u64], from: usize, end: usize) -> usize
     requires within { (from ≤ end) × (end ≤ 64 * length marks.now) × (end < 2 ^ 32) }
     ensures range { (from ≤ result) × (result ≤ end) }
-    ensures passed { (u : ℕ) → from ≤ u → u < result → IsUnmarked marks.now u }
+    ensures passed_unmarked { (u : ℕ) → from ≤ u → u < result → IsUnmarked marks.now u }
     ensures marked { result < end → cell_at marks.now result ≡ true }
 {
     if from == end {
@@ -32,7 +32,7 @@ pub fn next_marked(marks: &[u64], from: usize, end: usize) -> usize
 pub fn next_unmarked(marks: &[u64], from: usize, end: usize) -> usize
     requires within { (from ≤ end) × (end ≤ 64 * length marks.now) × (end < 2 ^ 32) }
     ensures range { (from ≤ result) × (result ≤ end) }
-    ensures passed { (u : ℕ) → from ≤ u → u < result → cell_at marks.now u ≡ true }
+    ensures passed_marked { (u : ℕ) → from ≤ u → u < result → cell_at marks.now u ≡ true }
     ensures unmarked { result < end → IsUnmarked marks.now result }
 {
     let mut at = from;

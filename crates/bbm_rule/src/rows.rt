@@ -4,7 +4,7 @@
 ghost use Rattle.std.specs.Prelude.{◌≡◌, ◌+◌, ◌*◌, ◌<◌, ◌≤◌, ◌^◌, ◌-◌, length, false};
 ghost use Rattle.bbm_rule.specs.Bands.{AreRowPairsStable};
 ghost use Rattle.bbm_rule.specs.Bits.{AreSameBits, HasNoSetBit};
-ghost use Rattle.bbm_rule.specs.Rows.{AreFlips, ArePairsTurned, AreSameCells, HasWindow, TurnsRun, TurnsRows, flip_carried_bits};
+ghost use Rattle.bbm_rule.specs.Rows.{AreFlips, ArePairsTurned, AreSameCells, HasWordAt, TurnsRowPart, TurnsRows, flip_carried_bits};
 
 use crate::marks::{mark, mark_number_before, next_marked, unmark};
 
@@ -54,9 +54,9 @@ fn turn_word_pair(upper: u64, lower: u64) -> (u64, u64, u64)
 
 // the 64 cells from the second cell of word i on
 #[inline(always)]
-fn window(words: &[u64], i: usize) -> u64
+fn shifted_word(words: &[u64], i: usize) -> u64
     requires { i + 1 < length words.now }
-    ensures { HasWindow words.now (64 * i + 1) result }
+    ensures { HasWordAt words.now (64 * i + 1) result }
 {
     (words[i] >> 1) | (words[i + 1] << 63)
 }
@@ -66,7 +66,7 @@ fn window(words: &[u64], i: usize) -> u64
 fn turn_aligned(words: &mut [u64], upper: usize, stride: usize) -> bool
     requires rows_inside { upper + stride + stride ≤ length words.old }
     requires wide { 0 < stride }
-    ensures turned { TurnsRun (64 * upper) (64 * stride) (64 * stride) words.old words.new }
+    ensures turned { TurnsRowPart (64 * upper) (64 * stride) (64 * stride) words.old words.new }
     ensures same_cells { result ≡ false → AreSameCells words.old words.new }
 {
     let mut changed = 0;
@@ -94,7 +94,7 @@ fn turn_words_shifted(
     requires rows_inside { i + stride + 1 < length words.old }
     requires wide { 0 < stride }
     requires alone { stride ≡ 1 → main ≡ 0 }
-    ensures turned { TurnsRun (64 * i + 1) 64 (64 * stride)
+    ensures turned { TurnsRowPart (64 * i + 1) 64 (64 * stride)
         (flip_carried_bits i stride main anti words.old)
         (flip_carried_bits (i + 1) stride result.0 result.1 words.new) }
     ensures stays { HasNoSetBit result.2 →
@@ -105,9 +105,9 @@ fn turn_words_shifted(
     let (next_main, next_anti, changed) = block_flips(
         SECOND_OF_PAIR,
         upper,
-        window(words, i),
+        shifted_word(words, i),
         lower,
-        window(words, i + stride),
+        shifted_word(words, i + stride),
     );
     words[i] = upper ^ (anti >> 63) ^ (next_main | (next_anti << 1));
     words[i + stride] = lower ^ (main >> 63) ^ (next_anti | (next_main << 1));
@@ -121,7 +121,7 @@ fn turn_words_shifted(
 fn turn_shifted(words: &mut [u64], upper: usize, stride: usize) -> bool
     requires rows_inside { upper + stride + stride < length words.old }
     requires wide { 0 < stride }
-    ensures turned { TurnsRun (64 * upper + 1) (64 * stride) (64 * stride) words.old words.new }
+    ensures turned { TurnsRowPart (64 * upper + 1) (64 * stride) (64 * stride) words.old words.new }
     ensures same_cells { result ≡ false → AreSameCells words.old words.new }
 {
     let (mut main, mut anti, mut changed) = (0, 0, 0);

@@ -31,7 +31,7 @@ pub fn turn_words(
     )
 }
 
-// the same for four words at each corner
+// The blocks of four words at each corner, turned.
 #[inline(always)]
 fn turn_vectors(
     upper_lefts: u64x4,

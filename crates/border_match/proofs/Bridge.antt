@@ -1,34 +1,24 @@
 -- From the jobs of modules to their lines
-use Rattle.lemmas.proofs.Common.{[], ◌%◌, ◌<◌, ◌∙◌, ◌≡◌, All, IfSome, List, None, Option, Some, ap, ap₂, arith}
-use Rattle.lemmas.proofs.Common.{option_map, slice_get, subst, sym, true, ℕ, ℤ, All-cons, All-nil, and_parts}
-use Rattle.lemmas.proofs.Common.{common_steps, get_or_from_slice_get, slice_get-map, slice_get_within, mapped_from}
-use Rattle.lemmas.proofs.Common.{some_at}
-use Rattle.bbm_rule.specs.declared.block.Cell.{Cell}
+use Rattle.border_match.proofs.Imports.{All, AreJobOwners, AreModules, BorderFault, BorderLine, Box2, Cell, Halo}
+use Rattle.border_match.proofs.Imports.{IfSome, IsBorderFault, IsBorderFaultOfJob, IsLeast, IsLeastBorderFault}
+use Rattle.border_match.proofs.Imports.{IsListed, JobView, List, ModuleLines, None, Option, Ring, Signal, Signals, Some}
+use Rattle.border_match.proofs.Imports.{TimedSignal, [], and_parts, ap, ap₂, areas, arith, circuit_wire, common_steps}
+use Rattle.border_match.proofs.Imports.{edge_signal, event_at, events_of_line, get_or_from_slice_get, halo_signal}
+use Rattle.border_match.proofs.Imports.{in_box, in_halo, line_signals, mapped_from, option_map, owner_of, rectangle_of}
+use Rattle.border_match.proofs.Imports.{renumber_event, renumber_signals, same_some, setting_of, slice_get}
+use Rattle.border_match.proofs.Imports.{slice_get-map, slice_get_within, some_at, subst, sym, true, whole, ℕ, ℤ, ◌%◌}
+use Rattle.border_match.proofs.Imports.{◌<◌, ◌∙◌, ◌≡◌}
+use Rattle.lemmas.proofs.Common.{All-cons, All-nil}
 use Rattle.circuit.specs.Bridge.{circuit_of}
 use Rattle.circuit.specs.declared.circuit_line.CircuitLine.{CircuitLine}
 use Rattle.pattern.specs.Layout.{Pattern}
-use Rattle.module_box.specs.Boxes.{in_box, in_halo, in_ring}
-use Rattle.module_box.specs.Locals.{circuit_wire}
-use Rattle.module_box.specs.Schedules.{Signals, event_at}
-use Rattle.module_box.specs.Tiling.{Owning, AreOwners, rectangle, rectangle_of, owner_of}
-use Rattle.module_box.specs.declared.boxes.Box2.{Box2}
-use Rattle.module_box.specs.declared.schedules.Signal.{Signal}
-use Rattle.module_box.specs.declared.schedules.TimedSignal.{TimedSignal}
-use Rattle.module_box.proofs.BoxCells.{same_some}
-use Rattle.certificate_lines.specs.Entries.{ModuleLines, areas, edges}
-use Rattle.certificate_lines.specs.Settings.{setting_of}
-use Rattle.module_job.specs.Jobs.{JobView}
-use Rattle.certificate.proofs.NearLines.{flat_all}
-use Rattle.certificate.specs.Jobs.{AreJobsOf, IsJobOf, events_of_line, one_or_named_wire, line_signals}
-use Rattle.certificate_lines.specs.Modules.{AreModules, IsModule}
-use Rattle.certificate_lines.specs.Rules.{whole}
-use Rattle.module_job.specs.Signals.{renumber_event, renumber_signals}
-use Rattle.certificate_lines.specs.declared.certificate_line.BorderLine.{BorderLine}
-use Rattle.border_match.specs.BorderFaults.{halo_signal, edge_signal, IsBorderFault, IsLeastBorderFault}
-use Rattle.border_match.specs.Boards.{job_signal, IsJobFault, IsListed, IsQuiet, IsBoard}
-use Rattle.border_match.specs.declared.signals.RingOrHalo.TheVariants.{Halo, Ring}
-use Rattle.border_match.specs.Candidates.{IsLeast}
-use Rattle.border_match.specs.declared.fault.BorderFault.{BorderFault}
+use Rattle.bbm_rule.specs.Boxes.{in_ring}
+use Rattle.module_box.specs.Tiling.{OwnersView, AreOwners, rectangle}
+use Rattle.certificate_lines.specs.Entries.{edges}
+use Rattle.certificate_lines.proofs.FlatParts.{flat_all}
+use Rattle.certificate.specs.Jobs.{AreJobsOf, IsJobOf, one_or_named_wire}
+use Rattle.certificate_lines.specs.Modules.{IsModule}
+use Rattle.border_match.specs.Boards.{job_signal, HasNoEventAtStart}
 use Rattle.border_match.proofs.Modules.{area_at}
 use Rattle.border_match.proofs.Renumbered.{signal_renumbered, no_event_back, lines_quiet}
 
@@ -75,10 +65,10 @@ module _ (cs : List CircuitLine) (p : Pattern) where
       (slice_get_within by at.0 (f e) got))
 
   pub quiet : (m : ModuleLines) (j : JobView) → IsModule (setting_of cs p) m → IsJobOf (circuit_of cs) p m j →
-      IsQuiet j
+      HasNoEventAtStart j
   quiet m j good is = grind (arith, common_steps, signals_quiet)
 
-  module _ (ms : List ModuleLines) (js : List JobView) (o : Owning) (good : AreModules (setting_of cs p) ms)
+  module _ (ms : List ModuleLines) (js : List JobView) (o : OwnersView) (good : AreModules (setting_of cs p) ms)
       (made : AreJobsOf (circuit_of cs) p ms js) (owners : AreOwners o (areas ms))
       (w : o.width ≡ p.size.w) (h : o.height ≡ p.size.h) where
     same_rectangle : whole p.size ≡ rectangle o
@@ -99,7 +89,7 @@ module _ (cs : List CircuitLine) (p : Pattern) where
     holder : (x y : ℤ) → in_box (whole p.size) x y ≡ true → IsHolder x y
     holder x y inside = grind (arith, common_steps, same_rectangle, mapped_from)
 
-    pub quiet_job : (k : ℕ) (j : JobView) → slice_get js k ≡ Some j → IsQuiet j
+    pub quiet_job : (k : ℕ) (j : JobView) → slice_get js k ≡ Some j → HasNoEventAtStart j
     quiet_job k j e = let m = lines_of k j e in quiet m.0 j (good.each k m.0 m.1) (made.each k m.0 j m.1 e)
 
     only : (x y : ℤ) (k : ℕ) (j : JobView) → in_box (whole p.size) x y ≡ true → slice_get js k ≡ Some j →
@@ -122,7 +112,7 @@ module _ (cs : List CircuitLine) (p : Pattern) where
         let inside = good.tile.inside _ _ k m.0.area (area_at ms k m.0 m.1) has in
         (inside, only _ _ k j inside got (ap (λ (b : Box2). in_box b e.at.cell.x e.at.cell.y) is.area ∙ has))
 
-    pub board : IsBoard (whole p.size) o js
+    pub board : AreJobOwners (whole p.size) o js
     board = record {
       same = same_rectangle;
       holder = λ x y inside.
@@ -137,7 +127,7 @@ module _ (cs : List CircuitLine) (p : Pattern) where
     -- ---- border faults by jobs are border faults
 
     fault_by_lines : (i : ℕ) (j : JobView) (f : BorderFault) → slice_get js i ≡ Some j →
-        IsJobFault (whole p.size) o js j f → IsBorderFault (setting_of cs p) ms i f
+        IsBorderFaultOfJob (whole p.size) o js j f → IsBorderFault (setting_of cs p) ms i f
     fault_by_lines i j f e g =
         let x = f.cell.x in let y = f.cell.y in
         let m = lines_of i j e in
@@ -161,7 +151,7 @@ module _ (cs : List CircuitLine) (p : Pattern) where
         }
 
     fault_by_jobs : (i : ℕ) (j : JobView) (f : BorderFault) → slice_get js i ≡ Some j →
-        IsBorderFault (setting_of cs p) ms i f → IsJobFault (whole p.size) o js j f
+        IsBorderFault (setting_of cs p) ms i f → IsBorderFaultOfJob (whole p.size) o js j f
     fault_by_jobs i j f e g =
         let x = f.cell.x in let y = f.cell.y in
         let is = made.each i g.lines j g.numbered e in
@@ -189,7 +179,7 @@ module _ (cs : List CircuitLine) (p : Pattern) where
         }
 
     pub least_by_lines : (i : ℕ) (j : JobView) (r : Option BorderFault) → slice_get js i ≡ Some j →
-        IsLeast (IsJobFault (whole p.size) o js j) r → IsLeastBorderFault (setting_of cs p) ms i r
+        IsLeast (IsBorderFaultOfJob (whole p.size) o js j) r → IsLeastBorderFault (setting_of cs p) ms i r
     least_by_lines i j None e least = λ f g. least.least f (fault_by_jobs i j f e g)
     least_by_lines i j (Some m) e least =
         (fault_by_lines i j m e least.sound, λ f g. least.least f (fault_by_jobs i j f e g))

@@ -1,21 +1,16 @@
 -- Cells of a halo, and the modules that have them
-use Rattle.lemmas.proofs.Common.{◌&&◌, ◌+ℤ◌, ◌+◌, ◌-ℤ◌, ◌-◌, ◌<◌, ◌||◌, ◌∙◌, ◌≡◌, ◌≤◌, ◌⊎◌, List, Some, ap, ap₂}
-use Rattle.lemmas.proofs.Common.{arith, false, get_or, inl, inr, length, map, option_map, pos, slice_get, sym, true, ℕ}
-use Rattle.lemmas.proofs.Common.{ℤ, and_from, and_parts, cases_Bool, common_steps, false≢true, ints, length-map}
-use Rattle.lemmas.proofs.Common.{slice_get-get_or, slice_get-map, slice_get_within}
+use Rattle.border_match.proofs.Imports.{AreReadyBorders, BorderFault, Borders, Box2, Cell, IsFaultOfSearchedJob}
+use Rattle.border_match.proofs.Imports.{IsInOrAround, IsJob, JobView, List, Some, and_parts, ap, ap₂, arith, cases_Bool}
+use Rattle.border_match.proofs.Imports.{common_steps, false, false≢true, get_or, in_box, in_halo, inl, inr, ints}
+use Rattle.border_match.proofs.Imports.{jobs_of, length, length-map, map, option_map, owner_of, pos, same_some}
+use Rattle.border_match.proofs.Imports.{slice_get, slice_get-get_or, slice_get-map, slice_get_within, sym, true, ℕ, ℤ}
+use Rattle.border_match.proofs.Imports.{◌&&◌, ◌+ℤ◌, ◌+◌, ◌-◌, ◌<◌, ◌∙◌, ◌≡◌, ◌≤◌, ◌⊎◌}
+use Rattle.lemmas.proofs.Common.{◌-ℤ◌, ◌||◌, and_from}
 use Rattle.bbm_rule.specs.Spans.{in_span}
 use Rattle.bbm_rule.proofs.Spans.{span_from, span_parts}
-use Rattle.module_box.specs.Boxes.{in_box, in_halo}
-use Rattle.bbm_rule.specs.declared.block.Cell.{Cell}
 use Rattle.module_box.specs.Moves.{IsInShiftRange, IsSmallShift}
-use Rattle.module_box.specs.Tiling.{owner_of}
-use Rattle.module_box.specs.declared.boxes.Box2.{Box2}
-use Rattle.module_box.proofs.BoxCells.{in_span_nat, in_box_nats, same_some}
+use Rattle.module_box.proofs.BoxCells.{in_span_nat, in_box_nats}
 use Rattle.module_box.proofs.NearBoxes.{near_one, near_parts}
-use Rattle.module_job.specs.Jobs.{JobView, IsJob}
-use Rattle.border_match.specs.Boards.{jobs_of, IsAround, AreReadyBorders, IsFaultOfSearchedJob}
-use Rattle.border_match.specs.declared.borders.Borders.{Borders}
-use Rattle.border_match.specs.declared.fault.BorderFault.{BorderFault}
 
 -- ---- jobs and owners
 
@@ -119,7 +114,7 @@ placed b f g = cell_placed b f.cell.x f.cell.y g.inside g.halo
 
 -- a fault is around the module's box
 pub fault_around : (b : Borders) (f : BorderFault) → IsFaultOfSearchedJob b f →
-    IsAround b.job.now.area f.cell.x f.cell.y
+    IsInOrAround b.job.now.area f.cell.x f.cell.y
 fault_around b f g =
     let p = placed b f g in
     let px = p.x in let py = p.y in

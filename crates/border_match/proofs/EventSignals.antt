@@ -1,13 +1,9 @@
 -- The signal of the cell and time of an event
-use Rattle.lemmas.proofs.Common.{[], ◌+ℤ◌, ◌∙◌, ◌≡◌, List, ap, arith, pos, subst, ℕ, ℤ, common_steps, ints}
-use Rattle.module_box.specs.Moments.{moment_cmp}
-use Rattle.module_box.specs.Moves.{moved_signals}
-use Rattle.module_box.specs.Schedules.{IsRising, Signals, all_times_at, moment_of, signal_at}
-use Rattle.module_box.specs.declared.schedules.TimedSignal.{TimedSignal}
-use Rattle.module_box.proofs.MovedBoxes.{events_rising, signals_back}
-use Rattle.module_box.proofs.Rising.{event_some, is_first, moment_total}
-use Rattle.module_job.specs.Shapes.{shift_to_origin}
-use Rattle.border_match.specs.Boards.{IsListed}
+use Rattle.border_match.proofs.Imports.{IsListed, IsRising, List, Signals, TimedSignal, [], all_times_at, ap, arith}
+use Rattle.border_match.proofs.Imports.{common_steps, ints, moment_cmp, moment_of, moment_total, moved_signals, pos}
+use Rattle.border_match.proofs.Imports.{shift_to_origin, signal_at, signals_back, subst, ℕ, ℤ, ◌+ℤ◌, ◌∙◌, ◌≡◌}
+use Rattle.module_box.proofs.MovedBoxes.{events_rising}
+use Rattle.module_box.proofs.Rising.{event_some, is_first}
 
 -- events that rise once they are moved rise before
 pub events_unmoved : (dx dy ex ey : ℤ) (s : Signals) → dx +ℤ ex ≡ pos 0 → dy +ℤ ey ≡ pos 0 →

@@ -1,20 +1,12 @@
 -- Moments and events that a search for the cells around a box passes over
-use Rattle.lemmas.proofs.Common.{◌%◌, ◌+ℤ◌, ◌+◌, ◌<ℤ◌, ◌<◌, ◌∙◌, ◌≡◌, ◌≢◌, ◌≤ℤ◌, ◌≤◌, ◌⊎◌, Bool, Equal, Greater, Less}
-use Rattle.lemmas.proofs.Common.{List, Ordering, Some, arith, false, get_or, inl, inr, length}
-use Rattle.lemmas.proofs.Common.{pos, refl, slice_get, true, ℕ, ℤ, common_steps, false≢true, ints, ordering_then}
-use Rattle.lemmas.proofs.Common.{slice_get-get_or, slice_get_within, below_or_from, below_or_same, int_equal, int_less}
-use Rattle.lemmas.proofs.Common.{nat_equal, nat_less, same_or_higher}
-use Rattle.bbm_rule.specs.declared.block.Cell.{Cell}
-use Rattle.module_box.specs.Moments.{cell_cmp, moment_cmp}
-use Rattle.module_box.specs.Schedules.{IsRising, moment_of}
-use Rattle.module_box.specs.declared.boxes.Box2.{Box2}
-use Rattle.module_box.specs.declared.schedules.TimedSignal.{TimedSignal}
-use Rattle.module_box.specs.declared.schedules.Moment.{Moment}
-use Rattle.module_box.proofs.BoxCells.{same_some}
-use Rattle.module_box.proofs.Rising.{moment_total}
-use Rattle.border_match.specs.Surroundings.{AreEventsFar, AreMomentsFarBetween, IsInOrAroundFromCorner, IsEventFarAt}
-use Rattle.border_match.specs.Surroundings.{IsSeen, IsWindow}
-use Rattle.border_match.specs.declared.window.Window.{Window}
+use Rattle.border_match.proofs.Imports.{AreEventsFar, Bool, Box2, Cell, Equal, Greater, IsEventFarAt, IsInWindow}
+use Rattle.border_match.proofs.Imports.{IsRising, IsWindowAround, Less, List, Moment, Ordering, Some, TimedSignal}
+use Rattle.border_match.proofs.Imports.{Window, arith, below_or_from, below_or_same, cell_cmp, common_steps, false}
+use Rattle.border_match.proofs.Imports.{false≢true, get_or, inl, inr, ints, length, moment_cmp, moment_of, moment_total}
+use Rattle.border_match.proofs.Imports.{pos, refl, same_some, slice_get, slice_get-get_or, slice_get_within, true, ℕ, ℤ}
+use Rattle.border_match.proofs.Imports.{◌%◌, ◌+ℤ◌, ◌+◌, ◌<◌, ◌∙◌, ◌≡◌, ◌≢◌, ◌≤◌, ◌⊎◌}
+use Rattle.lemmas.proofs.Common.{◌<ℤ◌, ◌≤ℤ◌, ordering_then, int_equal, int_less, nat_equal, nat_less, same_or_higher}
+use Rattle.border_match.specs.Surroundings.{AreMomentsFarBetween, IsInOrAroundFromCorner}
 
 -- ---- the order of moments by their parts
 
@@ -38,13 +30,13 @@ up_to_or_after : (a b : ℤ) → (a ≤ℤ b) ⊎ (b <ℤ a)
 up_to_or_after a b = grind (arith, ints)
 
 -- a far cell in the window's rows that is not before the first column is behind the last one
-behind : (w : Window) (c : Cell) → ¬ IsSeen w c → w.first.x ≤ℤ c.x → w.first.y ≤ℤ c.y → c.y ≤ℤ w.last.y →
+behind : (w : Window) (c : Cell) → ¬ IsInWindow w c → w.first.x ≤ℤ c.x → w.first.y ≤ℤ c.y → c.y ≤ℤ w.last.y →
     w.last.x <ℤ c.x
 behind w c far left top bottom = grind (arith, common_steps, up_to_or_after)
 
 -- what is to be shown of a moment between two others
 abbrev NoneSeen : Window → Moment → Moment → Type 0
-NoneSeen w at next = (m : Moment) → m.time % 2 ≡ 1 → IsBefore at m → IsBefore m next → IsSeen w m.cell → ⊥
+NoneSeen w at next = (m : Moment) → m.time % 2 ≡ 1 → IsBefore at m → IsBefore m next → IsInWindow w m.cell → ⊥
 
 far_between : (w : Window) (at next : Moment) → NoneSeen w at next → AreMomentsFarBetween w at next
 far_between w at next none m after less odd g = none m odd (before at m after) (before m next less) g
@@ -60,7 +52,7 @@ pub before_columns : (w : Window) (at next : Moment) → at.cell.x <ℤ w.first.
 before_columns w at next left et ex ey = far_between w at next (λ m odd k h g. grind (arith, ints))
 
 -- behind the last column it is the first cell of the next row
-pub behind_columns : (w : Window) (at next : Moment) → ¬ IsSeen w at.cell → w.first.x ≤ℤ at.cell.x →
+pub behind_columns : (w : Window) (at next : Moment) → ¬ IsInWindow w at.cell → w.first.x ≤ℤ at.cell.x →
     w.first.y ≤ℤ at.cell.y → at.cell.y ≤ℤ w.last.y → next.time ≡ at.time → next.cell.x ≡ w.first.x →
     next.cell.y ≡ at.cell.y +ℤ pos 1 → AreMomentsFarBetween w at next
 behind_columns w at next far left top bottom et ex ey = grind (arith, common_steps, behind, far_between, ints)
@@ -71,7 +63,7 @@ pub below_rows : (w : Window) (at next : Moment) → w.last.y <ℤ at.cell.y →
 below_rows w at next down et ex ey = far_between w at next (λ m odd k h g. grind (arith, ints))
 
 -- and behind the last column of the last row too
-pub behind_rows : (w : Window) (at next : Moment) → ¬ IsSeen w at.cell → w.first.x ≤ℤ at.cell.x →
+pub behind_rows : (w : Window) (at next : Moment) → ¬ IsInWindow w at.cell → w.first.x ≤ℤ at.cell.x →
     w.first.y ≤ℤ at.cell.y → at.cell.y ≡ w.last.y → next.time ≤ at.time + (1 + at.time % 2) →
     next.cell.x ≡ w.first.x → next.cell.y ≡ w.first.y → AreMomentsFarBetween w at next
 behind_rows w at next far left top last et ex ey = grind (arith, common_steps, behind, ints, far_between)
@@ -112,9 +104,9 @@ not_less o p same not e = not (same ∙ e)
 -- ---- events at far cells
 
 -- a cell around a box is seen in its window
-pub seen : (area corner : Box2) (w : Window) (c : Cell) → IsWindow area corner w →
+pub seen : (area corner : Box2) (w : Window) (c : Cell) → IsWindowAround area corner w →
     IsInOrAroundFromCorner area corner c →
-    IsSeen w c
+    IsInWindow w c
 seen area corner w c is g = grind (arith, common_steps, ints)
 
 pub far_none : (w : Window) (events : List TimedSignal) (place : ℕ) → AreEventsFar w events place place
@@ -130,6 +122,6 @@ far_joined w events start middle last next le far behind i e from lt got odd =
     grind (arith, common_steps, below_or_from, behind)
 
 pub far_at : (w : Window) (events : List TimedSignal) (place : ℕ) (d : TimedSignal) (r : Bool) → place < length events →
-    (IsSeen w (get_or events place d).at.cell → r ≡ true) → r ≡ false → IsEventFarAt w events place
+    (IsInWindow w (get_or events place d).at.cell → r ≡ true) → r ≡ false → IsEventFarAt w events place
 far_at w events place d r within sees none e got g =
     grind (arith, common_steps, same_some, slice_get-get_or, false≢true)

@@ -1,10 +1,8 @@
 -- The order of border faults
-use Rattle.lemmas.proofs.Common.{arith, ℕ, ℤ, CmpEqualImpliesEq, IsTotalOrder, common_steps, exact_pairs, exact_signed}
-use Rattle.lemmas.proofs.Common.{exact_unsigned, nat_cmp_total, on_total, then_total}
-use Rattle.module_box.specs.Moments.{cell_cmp}
+use Rattle.border_match.proofs.Imports.{BorderFault, arith, border_cmp, cell_cmp, common_steps, ℕ, ℤ}
+use Rattle.lemmas.proofs.Common.{CmpEqualImpliesEq, IsTotalOrder, exact_pairs, exact_signed, exact_unsigned}
+use Rattle.lemmas.proofs.Common.{nat_cmp_total, on_total, then_total}
 use Rattle.module_box.proofs.Rising.{cell_total}
-use Rattle.border_match.specs.BorderFaults.{border_cmp}
-use Rattle.border_match.specs.declared.fault.BorderFault.{BorderFault}
 
 pub border_total : IsTotalOrder border_cmp
 unfolding border_cmp

@@ -1,18 +1,14 @@
 -- The modules of version 2 have no border fault
-use Rattle.lemmas.proofs.Common.{◌∙◌, ◌≡◌, IsTrue, List, None, Option, Some, ap, length, map, replicate, slice_get}
-use Rattle.lemmas.proofs.Common.{subst, suc, sym, zero, ℕ, length-map, length-replicate, mapped_from}
-use Rattle.module_box.specs.Boxes.{in_box, in_halo}
-use Rattle.module_box.specs.Schedules.{signal_at}
-use Rattle.module_box.specs.declared.boxes.Box2.{Box2}
-use Rattle.certificate_lines.specs.Entries.{ModuleLines, Setting}
-use Rattle.certificate.specs.Jobs.{line_signals}
-use Rattle.certificate_lines.specs.Modules.{AreModules}
+use Rattle.border_match.proofs.Imports.{AreModules, BorderFault, Box2, IsLeastBorderFault, List, ModuleLines, None}
+use Rattle.border_match.proofs.Imports.{Option, Setting, Some, ap, edge_signal, halo_signal, in_box, in_halo, length}
+use Rattle.border_match.proofs.Imports.{length-map, line_signals, map, mapped_from, replicate, signal_at, slice_get}
+use Rattle.border_match.proofs.Imports.{subst, suc, sym, zero, ℕ, ◌∙◌, ◌≡◌}
+use Rattle.lemmas.proofs.Common.{IsTrue, length-replicate}
 use Rattle.certificate_lines.specs.Versions.{with_halos}
 use Rattle.certificate.proofs.FullModules.{full_area, full_edges}
 use Rattle.certificate.proofs.HaloSignals.{halo_is_edge_beside}
-use Rattle.border_match.specs.BorderFaults.{halo_signal, edge_signal, AreBorderFaultsOf, IsLeastBorderFault}
+use Rattle.border_match.specs.BorderFaults.{AreBorderFaultsOf}
 use Rattle.border_match.specs.Laws.{HalolessBordersMatch}
-use Rattle.border_match.specs.declared.fault.BorderFault.{BorderFault}
 
 pub haloless_match : HalolessBordersMatch
 haloless_match g ms good i f is =

@@ -1,9 +1,8 @@
 -- Candidates for a least border fault
-use Rattle.lemmas.proofs.Common.{◌≡◌, ◌≢◌, ◌⊎◌, Equal, Greater, Less, None, Option, Ordering, Some, arith, false, is_gt}
-use Rattle.lemmas.proofs.Common.{refl, common_steps, tied_itself, upto}
-use Rattle.border_match.specs.BorderFaults.{border_cmp}
-use Rattle.border_match.specs.Candidates.{HasCandidateAtMost, IsBetter, IsLeast}
-use Rattle.border_match.specs.declared.fault.BorderFault.{BorderFault}
+use Rattle.border_match.proofs.Imports.{BorderFault, Equal, Greater, HasCandidateAtMost, IsLeast, IsNextBest, Less}
+use Rattle.border_match.proofs.Imports.{None, Option, Ordering, Some, arith, border_cmp, common_steps, false, refl}
+use Rattle.border_match.proofs.Imports.{tied_itself, ◌≡◌, ◌≢◌, ◌⊎◌}
+use Rattle.lemmas.proofs.Common.{is_gt, upto}
 use Rattle.border_match.proofs.FaultOrder.{border_total}
 
 -- ---- the order
@@ -36,29 +35,30 @@ covers_after (Some b) m h c l = at_most_trans b m h c l
 module _ (F : BorderFault → Type 0) where
   -- none of F has P
   pub better_same : (P : BorderFault → Type 0) (o : Option BorderFault) → ((h : BorderFault) → F h → P h → ⊥) →
-      IsBetter F P o o
+      IsNextBest F P o o
   better_same P o none = record { sound = λ s. s; kept = λ h c. c; covers = λ h f p. absurd (none h f p) }
 
   -- the new candidate is at most m, which is one of F and at most each of F with P
   pub better_with : (P : BorderFault → Type 0) (o o' : Option BorderFault) (m : BorderFault) → F m →
       ((h : BorderFault) → F h → P h → border_cmp m h ≢ Greater) →
       ((h : BorderFault) → HasCandidateAtMost o h → HasCandidateAtMost o' h) → (o' ≡ o) ⊎ (o' ≡ Some m) →
-      HasCandidateAtMost o' m → IsBetter F P o o'
+      HasCandidateAtMost o' m → IsNextBest F P o o'
   better_with P o o' m f least kept one covered = grind (arith, common_steps, covers_after)
 
-  pub better_then : (P Q R : BorderFault → Type 0) (a b c : Option BorderFault) → IsBetter F P a b → IsBetter F Q b c →
-      ((h : BorderFault) → F h → R h → P h ⊎ Q h) → IsBetter F R a c
+  pub better_then : (P Q R : BorderFault → Type 0) (a b c : Option BorderFault) → IsNextBest F P a b →
+      IsNextBest F Q b c →
+      ((h : BorderFault) → F h → R h → P h ⊎ Q h) → IsNextBest F R a c
   better_then P Q R a b c p q split = grind (arith, common_steps)
 
-  pub better_for : (P Q : BorderFault → Type 0) (a b : Option BorderFault) → IsBetter F P a b →
-      ((h : BorderFault) → F h → Q h → P h) → IsBetter F Q a b
+  pub better_for : (P Q : BorderFault → Type 0) (a b : Option BorderFault) → IsNextBest F P a b →
+      ((h : BorderFault) → F h → Q h → P h) → IsNextBest F Q a b
   better_for P Q a b better weaker = grind (arith, common_steps)
 
-  pub better_rest : (P Q : BorderFault → Type 0) (a b : Option BorderFault) → IsBetter F P a b →
-      ((h : BorderFault) → Q h → P h ⊎ HasCandidateAtMost b h) → IsBetter F Q a b
+  pub better_rest : (P Q : BorderFault → Type 0) (a b : Option BorderFault) → IsNextBest F P a b →
+      ((h : BorderFault) → Q h → P h ⊎ HasCandidateAtMost b h) → IsNextBest F Q a b
   better_rest P Q a b better split = grind (arith, common_steps)
 
-  pub least_by_three : (P Q R : BorderFault → Type 0) (a b c : Option BorderFault) → IsBetter F P None a →
-      IsBetter F Q a b → IsBetter F R b c →
+  pub least_by_three : (P Q R : BorderFault → Type 0) (a b c : Option BorderFault) → IsNextBest F P None a →
+      IsNextBest F Q a b → IsNextBest F R b c →
       ((h : BorderFault) → F h → P h ⊎ (Q h ⊎ R h)) → IsLeast F c
   least_by_three P Q R a b c p q r all = grind (arith, common_steps)

@@ -15,3 +15,4 @@ pub mod Bridge
 pub mod Unique
 pub mod SameSignals
 pub mod Haloless
+pub mod Imports

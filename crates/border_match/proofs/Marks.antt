@@ -1,23 +1,14 @@
 -- Marks of the halo events that edges name
-use Rattle.lemmas.proofs.Common.{◌++◌, ◌+◌, ◌∙◌, ◌≡◌, ◌≤◌, ◌⊎◌, Bool, List, Some, ap, ap₂, arith, false, inl, inr}
-use Rattle.lemmas.proofs.Common.{length, map, pos, refl, replicate, slice_get, suc, sym, take, true, zero, ℕ, ℤ}
-use Rattle.lemmas.proofs.Common.{common_steps, false≢true, ints, slice_get_within, take-append_seam, below_or_same}
-use Rattle.lemmas.proofs.Common.{mapped_from, some_at}
-use Rattle.bbm_rule.specs.declared.block.Cell.{Cell}
-use Rattle.module_box.specs.Moves.{moved_cell, moved_event, moved_signals}
-use Rattle.module_box.specs.Schedules.{Signals}
-use Rattle.module_box.proofs.MovedBoxes.{cell_back}
-use Rattle.module_job.specs.Shapes.{shift_to_origin}
-use Rattle.module_box.specs.Tiling.{owner_of}
-use Rattle.module_box.specs.declared.schedules.TimedSignal.{TimedSignal}
-use Rattle.module_box.specs.declared.schedules.Moment.{Moment}
-use Rattle.module_box.proofs.BoxCells.{same_some}
-use Rattle.module_job.specs.Jobs.{JobView}
-use Rattle.border_match.specs.Boards.{AddsMark, AreMarked, CellDiffersWithoutEvent, IsFaultOfSearchedJob, IsAtEvent}
-use Rattle.border_match.specs.Boards.{IsAtEdgeEvent, IsListed, IsPlaceOf, AreReadyBorders, IsUnmarked, IsUnmarkedBelow}
-use Rattle.border_match.specs.Boards.{jobs_of}
-use Rattle.border_match.specs.declared.borders.Borders.{Borders}
-use Rattle.border_match.specs.declared.fault.BorderFault.{BorderFault}
+use Rattle.border_match.proofs.Imports.{AreHaloMarks, AreReadyBorders, Bool, BorderFault, Borders, Cell}
+use Rattle.border_match.proofs.Imports.{CellDiffersWithoutEvent, IsAtOwnersEdgeEvent, IsAtUnmarkedEventBelow}
+use Rattle.border_match.proofs.Imports.{IsFaultOfSearchedJob, IsListed, JobView, List, Moment, Signals, Some}
+use Rattle.border_match.proofs.Imports.{TimedSignal, ap, ap₂, arith, below_or_same, cell_back, common_steps, false}
+use Rattle.border_match.proofs.Imports.{false≢true, inl, inr, ints, jobs_of, length, map, mapped_from, moved_cell}
+use Rattle.border_match.proofs.Imports.{moved_event, moved_signals, owner_of, pos, refl, replicate, same_some}
+use Rattle.border_match.proofs.Imports.{shift_to_origin, slice_get, slice_get_within, some_at, suc, sym, take, true}
+use Rattle.border_match.proofs.Imports.{zero, ℕ, ℤ, ◌++◌, ◌+◌, ◌∙◌, ◌≡◌, ◌≤◌, ◌⊎◌}
+use Rattle.lemmas.proofs.Common.{take-append_seam}
+use Rattle.border_match.specs.Boards.{AddsMark, IsAtEvent, IsPlaceOf, IsAtUnmarkedEvent}
 use Rattle.border_match.proofs.Steps.{fault_covered, same_fault}
 
 -- ---- one mark more
@@ -44,8 +35,8 @@ local_place x y dx dy cell s moved es at place ex ey by same are is =
 -- the edge that names what the new mark's event names
 pub still_marked : (b : Borders) (other : JobView) (event : TimedSignal) (old new : List Bool) →
     slice_get (jobs_of b) (owner_of b.owners.now event.at.cell.x event.at.cell.y) ≡ Some other →
-    IsListed other.edges.events event → AddsMark b.job.now.halos.events event.at old new → AreMarked b old →
-    AreMarked b new
+    IsListed other.edges.events event → AddsMark b.job.now.halos.events event.at old new → AreHaloMarks b old →
+    AreHaloMarks b new
 still_marked b other event old new owned listed adds marked = grind (arith, common_steps)
 
 -- ---- no mark at first
@@ -56,7 +47,7 @@ all_false (suc n) zero e = cc
 all_false (suc n) (suc p) e = all_false n p e
 
 pub unmarked_first : (b : Borders) (seen : List Bool) (n : ℕ) → n ≡ length b.job.now.halos.events →
-    seen ≡ replicate n false → length seen ≡ n → AreMarked b seen
+    seen ≡ replicate n false → length seen ≡ n → AreHaloMarks b seen
 unmarked_first b seen n count are sized = grind (arith, common_steps, all_false)
 
 -- marks that are written back into their vector
@@ -66,7 +57,7 @@ written_back new rest items n count is = grind (arith, common_steps, take-append
 -- ---- one event more
 
 pub unmarked_step : (seen : List Bool) (events : List TimedSignal) (i : ℕ) (f : BorderFault) →
-    IsUnmarkedBelow (i + 1) seen events f → slice_get seen i ≡ Some true → IsUnmarkedBelow i seen events f
+    IsAtUnmarkedEventBelow (i + 1) seen events f → slice_get seen i ≡ Some true → IsAtUnmarkedEventBelow i seen events f
 unmarked_step seen events i f h marked = elim (below_or_same h.unmarked.named.place i h.below) [
   | inl lt ↦ record { unmarked = h.unmarked; below = lt }
   | inr same ↦ absurd (false≢true (same_some (slice_get seen i) false true
@@ -74,8 +65,8 @@ unmarked_step seen events i f h marked = elim (below_or_same h.unmarked.named.pl
 ]
 
 pub event_step : (seen : List Bool) (events : List TimedSignal) (i : ℕ) (e : TimedSignal) (f : BorderFault) →
-    slice_get events i ≡ Some e → IsUnmarkedBelow (i + 1) seen events f →
-    IsUnmarkedBelow i seen events f ⊎ IsAtEvent e f
+    slice_get events i ≡ Some e → IsAtUnmarkedEventBelow (i + 1) seen events f →
+    IsAtUnmarkedEventBelow i seen events f ⊎ IsAtEvent e f
 event_step seen events i e f got h = elim (below_or_same h.unmarked.named.place i h.below) [
   | inl lt ↦ inl (record { unmarked = h.unmarked; below = lt })
   | inr same ↦
@@ -86,7 +77,7 @@ event_step seen events i e f got h = elim (below_or_same h.unmarked.named.place 
 ]
 
 pub unmarked_all : (seen : List Bool) (events : List TimedSignal) (k : ℕ) (f : BorderFault) → length events ≤ k →
-    IsUnmarked seen events f → IsUnmarkedBelow k seen events f
+    IsAtUnmarkedEvent seen events f → IsAtUnmarkedEventBelow k seen events f
 unmarked_all seen events k f le h =
     let within = slice_get_within events h.named.place h.named.event h.named.got in
     record { unmarked = h; below = omega (arith, within) }
@@ -97,9 +88,9 @@ mark_cases : (o : Bool) → (o ≡ true) ⊎ (o ≡ false)
 mark_cases true = inl refl
 mark_cases false = inr refl
 
-pub fault_unmarked : (b : Borders) (seen : List Bool) (f : BorderFault) → AreReadyBorders b → AreMarked b seen →
+pub fault_unmarked : (b : Borders) (seen : List Bool) (f : BorderFault) → AreReadyBorders b → AreHaloMarks b seen →
     IsFaultOfSearchedJob b f →
-    IsAtEdgeEvent b f ⊎ (IsUnmarked seen b.job.now.halos.events f ⊎ CellDiffersWithoutEvent b f)
+    IsAtOwnersEdgeEvent b f ⊎ (IsAtUnmarkedEvent seen b.job.now.halos.events f ⊎ CellDiffersWithoutEvent b f)
 fault_unmarked b seen f ready marked g = elim (fault_covered b f ready g) [
   | inl h ↦
       let within = slice_get_within b.job.now.halos.events h.place h.event h.got in

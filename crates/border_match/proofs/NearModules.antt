@@ -1,19 +1,14 @@
 -- The numbers of the modules that have cells of a module's halo, noted box by box.
-use Rattle.lemmas.proofs.Common.{[], ◌++◌, ◌+◌, ◌-◌, ◌<◌, ◌==◌, ◌∙◌, ◌∷◌, ◌≡◌, ◌≤◌, ◌⊎◌, Bool, List, Some, ap₂}
-use Rattle.lemmas.proofs.Common.{arith, false, inl, inr, length, pos, slice_get, subst, sym, true, ℕ, ℤ}
-use Rattle.lemmas.proofs.Common.{and_parts, cases_Bool, common_steps, cond-false, cond-true, false≢true}
-use Rattle.lemmas.proofs.Common.{list_any-append, nat_tests, below_or_from, or_cases, or_left, or_right}
-use Rattle.module_box.specs.Boxes.{in_box, in_halo}
-use Rattle.module_box.specs.Locals.{is_among}
-use Rattle.module_box.specs.Tiling.{owner_of}
-use Rattle.module_box.specs.declared.boxes.Box2.{Box2}
-use Rattle.module_box.proofs.BoxCells.{same_some}
-use Rattle.module_job.specs.Jobs.{JobView}
+use Rattle.border_match.proofs.Imports.{AreHaloOwnersListed, AreModuleNumbers, AreOwnersListedInRows}
+use Rattle.border_match.proofs.Imports.{AreOwnersListedToColumn, AreReadyBorders, Bool, Borders, Box2, JobView}
+use Rattle.border_match.proofs.Imports.{KeepsAllNumbers, List, Some, [], and_parts, ap₂, arith, below_or_from}
+use Rattle.border_match.proofs.Imports.{cases_Bool, common_steps, cond-false, cond-true, false, false≢true, in_box}
+use Rattle.border_match.proofs.Imports.{in_halo, inl, inr, is_among, jobs_of, length, nat_tests, owner_of, pos}
+use Rattle.border_match.proofs.Imports.{same_some, slice_get, subst, sym, true, ℕ, ℤ, ◌++◌, ◌+◌, ◌-◌, ◌<◌, ◌==◌, ◌∙◌}
+use Rattle.border_match.proofs.Imports.{◌∷◌, ◌≡◌, ◌≤◌, ◌⊎◌}
+use Rattle.lemmas.proofs.Common.{list_any-append, or_cases, or_left, or_right}
+use Rattle.border_match.specs.Boards.{AreOutsideOwnersListed, IsOwnerListedIfOutsideBox, with_number_once}
 use Rattle.border_match.proofs.Cells.{area_at, area_from, cell_placed, halo_out, whole_parts}
-use Rattle.border_match.specs.Boards.{AreOwnersListedToColumn, AreModuleNumbers, AreHaloOwnersListed}
-use Rattle.border_match.specs.Boards.{AreOwnersListedInRows, AreAreaOwnersListed, IsOtherOwnerListed, AreReadyBorders}
-use Rattle.border_match.specs.Boards.{KeepsAllNumbers, jobs_of, with_number_once}
-use Rattle.border_match.specs.declared.borders.Borders.{Borders}
 
 -- ---- one number more
 
@@ -46,17 +41,18 @@ with_below b ks new k is below lt = grind (arith, common_steps, with_either)
 
 -- ---- columns and rows
 
-noted_still : (b : Borders) (old new : List ℕ) (x y : ℤ) → KeepsAllNumbers old new → IsOtherOwnerListed b old x y →
-    IsOtherOwnerListed b new x y
+noted_still : (b : Borders) (old new : List ℕ) (x y : ℤ) → KeepsAllNumbers old new →
+    IsOwnerListedIfOutsideBox b old x y →
+    IsOwnerListedIfOutsideBox b new x y
 noted_still b old new x y keeps noted inside out = keeps _ (noted inside out)
 
 -- the cells of the module's box have no owner to be noted
-pub own_noted : (b : Borders) (ks : List ℕ) (a : Box2) → a ≡ b.job.now.area → AreAreaOwnersListed b ks a
+pub own_noted : (b : Borders) (ks : List ℕ) (a : Box2) → a ≡ b.job.now.area → AreOutsideOwnersListed b ks a
 own_noted b ks a same x y inside there out = grind (arith, common_steps, false≢true)
 
 -- the cells of a module's box have that module as their owner
 pub owner_noted : (b : Borders) (ks : List ℕ) (k : ℕ) (j : JobView) (a : Box2) → AreReadyBorders b → a ≡ j.area →
-    slice_get (jobs_of b) k ≡ Some j → is_among ks k ≡ true → AreAreaOwnersListed b ks a
+    slice_get (jobs_of b) k ≡ Some j → is_among ks k ≡ true → AreOutsideOwnersListed b ks a
 owner_noted b ks k j a ready same got among x y inside there out = grind (arith, common_steps)
 
 -- the owner of a cell has the cell in its box
@@ -70,7 +66,7 @@ no_column b ks y z x from c r left lt top under = absurd (omega (arith, lt, left
 -- the columns up to the last one of an area that has the cell (x, y), as far down as the area
 pub columns_more : (b : Borders) (old new : List ℕ) (y z z' x : ℕ) (a : Box2) (cx cy : ℤ) → cx ≡ pos x → cy ≡ pos y →
     in_box a cx cy ≡ true → z' ≤ z → z' ≤ a.y + a.h → AreOwnersListedToColumn b old y z x → KeepsAllNumbers old new →
-    AreAreaOwnersListed b new a → AreOwnersListedToColumn b new y z' (a.x + a.w)
+    AreOutsideOwnersListed b new a → AreOwnersListedToColumn b new y z' (a.x + a.w)
 columns_more b old new y z z' x a cx cy ex ey has le within before keeps here c r left lt top under =
     grind (arith, common_steps, area_at, below_or_from, noted_still, area_from)
 

@@ -1,27 +1,23 @@
 -- A wire that the signals of a job name is one of its own, at each cell and time
-use Rattle.lemmas.proofs.Common.{[], ◌∷◌, All, List, inl, inr, subst, unwrap_or, ℕ, ℤ, cases_Bool}
-use Rattle.lemmas.proofs.Common.{get_or_from_slice_get, slice_get_within, All-head, All-tail}
-use Rattle.bbm_rule.specs.Plane.{is_at}
+use Rattle.border_match.proofs.Imports.{All, All-head, All-tail, AllTimesSignal, Halo, IsListed, JobView, List, Ring}
+use Rattle.border_match.proofs.Imports.{Signal, Signals, TimedSignal, Zero, [], all_times_at, cases_Bool, event_at}
+use Rattle.border_match.proofs.Imports.{get_or_from_slice_get, inl, inr, is_at, is_moment_at, job_signals, signal_at}
+use Rattle.border_match.proofs.Imports.{slice_get_within, subst, unwrap_or, ℕ, ℤ, ◌∷◌}
 use Rattle.circuit.specs.Meaning.{wires}
-use Rattle.module_box.specs.Schedules.{Signals, is_moment_at, all_times_at, event_at, signal_at}
-use Rattle.module_box.specs.declared.schedules.TimedSignal.{TimedSignal}
-use Rattle.module_box.specs.declared.schedules.AllTimes.{AllTimes}
-use Rattle.module_box.specs.declared.schedules.Signal.{Signal}
-use Rattle.module_box.specs.declared.schedules.Signal.TheVariants.{Zero}
-use Rattle.module_job.specs.Jobs.{JobView, NamesOwnWires}
+use Rattle.module_job.specs.Jobs.{NamesOwnWires}
 use Rattle.module_job.specs.Signals.{IsSignalWireBelow}
-use Rattle.border_match.specs.Boards.{IsListed, job_signals}
 use Rattle.border_match.specs.declared.signals.RingOrHalo.{RingOrHalo}
-use Rattle.border_match.specs.declared.signals.RingOrHalo.TheVariants.{Halo, Ring}
 
-all_times_below : (n : ℕ) (hs : List AllTimes) (x y : ℤ) (d : Signal) → All (λ h. IsSignalWireBelow n h.signal) hs →
+all_times_below : (n : ℕ) (hs : List AllTimesSignal) (x y : ℤ) (d : Signal) →
+    All (λ h. IsSignalWireBelow n h.signal) hs →
     IsSignalWireBelow n d →
     IsSignalWireBelow n (unwrap_or (all_times_at hs x y) d)
 unfolding all_times_at
 all_times_below n [] x y d all b = b
 all_times_below n (h ∷ hs) x y d all b = elim (cases_Bool (is_at h.cell x y)) [
-  | inl e ↦ rw e (All-head (λ (g : AllTimes). IsSignalWireBelow n g.signal) h hs all)
-  | inr e ↦ rw e (all_times_below n hs x y d (All-tail (λ (g : AllTimes). IsSignalWireBelow n g.signal) h hs all) b)
+  | inl e ↦ rw e (All-head (λ (g : AllTimesSignal). IsSignalWireBelow n g.signal) h hs all)
+  | inr e ↦ rw e (all_times_below n hs x y d
+      (All-tail (λ (g : AllTimesSignal). IsSignalWireBelow n g.signal) h hs all) b)
 ]
 
 event_below : (n : ℕ) (es : List TimedSignal) (t : ℕ) (x y : ℤ) (d : Signal) →
@@ -49,7 +45,7 @@ pub halo_below : (j : JobView) (t : ℕ) (x y : ℤ) → NamesOwnWires j →
     IsSignalWireBelow (wires j.locals.netlist) (signal_at j.halos t x y)
 halo_below j t x y own = signal_below (wires j.locals.netlist) j.halos t x y own.halo_all_times own.halo_events
 
--- and so is one that an event of its ring or halo names
+-- an event of the ring or the halo names a wire of the module
 pub listed_below : (b : RingOrHalo) (j : JobView) (e : TimedSignal) → NamesOwnWires j →
     IsListed (job_signals b j).events e →
     IsSignalWireBelow (wires j.locals.netlist) e.signal

@@ -1,19 +1,15 @@
 -- Signals by other numbers of their wires, and times without an event
-use Rattle.lemmas.proofs.Common.{[], ◌%◌, ◌&&◌, ◌++◌, ◌<◌, ◌==◌, ◌∙◌, ◌∷◌, ◌≡◌, All, Bool, IfSome, List, None, Option}
-use Rattle.lemmas.proofs.Common.{Some, ap, arith, false, flat_map, map, option_map, refl, sym, unwrap_or, ℕ, ℤ}
-use Rattle.lemmas.proofs.Common.{cases_Bool, common_steps, cond-false, cond-true, nat_tests, All-head, All-tail}
-use Rattle.bbm_rule.specs.Plane.{is_at}
-use Rattle.module_box.specs.Schedules.{Signals, all_times_at, event_at, signal_at}
-use Rattle.module_box.specs.declared.schedules.TimedSignal.{TimedSignal}
-use Rattle.module_box.specs.declared.schedules.AllTimes.{AllTimes}
-use Rattle.module_box.specs.declared.schedules.Signal.{Signal}
-use Rattle.module_box.specs.declared.schedules.Signal.TheVariants.{Zero}
-use Rattle.certificate.specs.Jobs.{events_of_line}
-use Rattle.module_job.specs.Signals.{renumber_signal, renumber_all_times, renumber_event, renumber_signals}
-use Rattle.certificate_lines.specs.declared.certificate_line.BorderLine.{BorderLine}
+use Rattle.border_match.proofs.Imports.{All, All-head, All-tail, AllTimesSignal, Bool, BorderLine, IfSome, List, None}
+use Rattle.border_match.proofs.Imports.{Option, Signal, Signals, Some, TimedSignal, Zero, [], all_times_at, ap, arith}
+use Rattle.border_match.proofs.Imports.{cases_Bool, common_steps, cond-false, cond-true, event_at, events_of_line}
+use Rattle.border_match.proofs.Imports.{false, is_at, map, nat_tests, option_map, refl, renumber_event, renumber_signal}
+use Rattle.border_match.proofs.Imports.{renumber_signals, signal_at, sym, unwrap_or, ℕ, ℤ, ◌%◌, ◌&&◌, ◌++◌, ◌<◌, ◌==◌}
+use Rattle.border_match.proofs.Imports.{◌∙◌, ◌∷◌, ◌≡◌}
+use Rattle.lemmas.proofs.Common.{flat_map}
+use Rattle.module_job.specs.Signals.{renumber_all_times}
 
 module _ (f : ℕ → ℕ) where
-  all_times_renumbered : (hs : List AllTimes) (x y : ℤ) →
+  all_times_renumbered : (hs : List AllTimesSignal) (x y : ℤ) →
       all_times_at (map (renumber_all_times f) hs) x y ≡ option_map (renumber_signal f) (all_times_at hs x y)
   unfolding all_times_at
   all_times_renumbered [] x y = refl

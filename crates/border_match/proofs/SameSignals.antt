@@ -1,13 +1,11 @@
 -- Halo and edge signals are the same if a module has no border fault
-use Rattle.lemmas.proofs.Common.{◌≡◌, ◌≢◌, List, ap, arith, refl, ℕ, ℤ, cases_Bool, common_steps, false≢true}
+use Rattle.border_match.proofs.Imports.{BorderFault, IsBorderFault, List, ModuleLines, Setting, Signal, ap, arith}
+use Rattle.border_match.proofs.Imports.{cases_Bool, common_steps, edge_signal, false≢true, halo_signal, refl, ℕ, ℤ, ◌≡◌}
+use Rattle.border_match.proofs.Imports.{◌≢◌}
 use Rattle.circuit.specs.Meaning.{Valuation}
-use Rattle.module_box.specs.declared.schedules.Signal.{Signal}
 use Rattle.module_box.proofs.EqualTests.{signal_decides}
-use Rattle.certificate_lines.specs.Entries.{Setting, ModuleLines}
 use Rattle.module_job.specs.Signals.{is_live}
-use Rattle.border_match.specs.BorderFaults.{IsBorderFault, halo_signal, edge_signal}
 use Rattle.border_match.specs.Laws.{AreBeside, NoFaultMeansSameSignals}
-use Rattle.border_match.specs.declared.fault.BorderFault.{BorderFault}
 use Rattle.border_match.proofs.Modules.{area_at}
 
 -- signals that do not differ are the same

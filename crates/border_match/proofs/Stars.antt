@@ -1,59 +1,49 @@
 -- Cells of which a line with a star speaks
-use Rattle.lemmas.proofs.Common.{[], ◌+◌, ◌<◌, ◌∙◌, ◌∷◌, ◌≡◌, ◌≤◌, ◌⊎◌, List, None, Some, ap, ap₂, arith, get_or, inl}
-use Rattle.lemmas.proofs.Common.{inr, length, map, pos, refl, slice_get, subst, suc, sym, take, unwrap_or, ℕ, ℤ}
-use Rattle.lemmas.proofs.Common.{cases_Bool, common_steps, cond-false, ints, length-map, slice_get-get_or}
-use Rattle.lemmas.proofs.Common.{slice_get-map, slice_get_within, take_all, take_more, below_or_same}
-use Rattle.bbm_rule.specs.Plane.{is_at}
-use Rattle.bbm_rule.specs.declared.block.Cell.{Cell}
+use Rattle.border_match.proofs.Imports.{AllTimesSignal, AreHaloOwnersListed, AreReadyBorders, BorderFault, Borders}
+use Rattle.border_match.proofs.Imports.{Box2, Cell, CellDiffersWithoutEvent, DiffersAtStarBelow, DiffersAtStarOfAny}
+use Rattle.border_match.proofs.Imports.{IsFaultOfSearchedJob, IsInOrAround, JobView, List, None, Signals, Some, Zero}
+use Rattle.border_match.proofs.Imports.{[], all_times_at, ap, ap₂, arith, below_or_same, cases_Bool, circuit_wire}
+use Rattle.border_match.proofs.Imports.{common_steps, cond-false, event_at, get_or, inl, inr, ints, is_among, is_at}
+use Rattle.border_match.proofs.Imports.{jobs_of, length, length-map, map, moved_all_times, moved_cell, moved_signals}
+use Rattle.border_match.proofs.Imports.{owner_of, pos, refl, renumber_signal, same_some, shift_to_origin, signal_at}
+use Rattle.border_match.proofs.Imports.{signals_back, slice_get, slice_get-get_or, slice_get-map, slice_get_within}
+use Rattle.border_match.proofs.Imports.{subst, suc, sym, take, take_all, take_more, unwrap_or, ℕ, ℤ, ◌+◌, ◌<◌, ◌∙◌, ◌∷◌}
+use Rattle.border_match.proofs.Imports.{◌≡◌, ◌≤◌, ◌⊎◌}
 use Rattle.bbm_rule.proofs.SameCells.{cell_same}
-use Rattle.module_box.specs.Locals.{circuit_wire, is_among}
-use Rattle.module_box.specs.Moves.{moved_all_times, moved_cell, moved_signals}
-use Rattle.module_box.specs.Schedules.{Signals, all_times_at, event_at, signal_at}
-use Rattle.module_box.specs.Tiling.{owner_of}
-use Rattle.module_box.specs.declared.boxes.Box2.{Box2}
-use Rattle.module_box.specs.declared.schedules.AllTimes.{AllTimes}
-use Rattle.module_box.specs.declared.schedules.Signal.TheVariants.{Zero}
-use Rattle.module_box.proofs.BoxCells.{same_some}
-use Rattle.module_box.proofs.MovedBoxes.{signals_back}
-use Rattle.module_job.specs.Jobs.{JobView}
-use Rattle.module_job.specs.Shapes.{shift_to_origin}
-use Rattle.module_job.specs.Signals.{renumber_signal}
-use Rattle.border_match.specs.Boards.{AreHaloOwnersListed, CellDiffersWithoutEvent, DiffersWithoutEventAt}
-use Rattle.border_match.specs.Boards.{IsFaultOfSearchedJob, IsAround, AreReadyBorders, IsStarred, HasStarLineInModules}
-use Rattle.border_match.specs.Boards.{IsStarredBelow, jobs_of}
-use Rattle.border_match.specs.declared.borders.Borders.{Borders}
-use Rattle.border_match.specs.declared.fault.BorderFault.{BorderFault}
+use Rattle.border_match.specs.Boards.{DiffersWithoutEventAt, DiffersAtStar}
 use Rattle.border_match.proofs.Cells.{fault_around, reached}
 use Rattle.border_match.proofs.NearModules.{among_more}
 
 -- ---- one more line
 
 -- the cell of the line at this place, moved
-star_at : (dx dy : ℤ) (b : Borders) (stars : List AllTimes) (k : ℕ) (d : AllTimes) (f : BorderFault) →
+star_at : (dx dy : ℤ) (b : Borders) (stars : List AllTimesSignal) (k : ℕ) (d : AllTimesSignal) (f : BorderFault) →
     k < length stars →
-    (h : IsStarred b (map (moved_all_times dx dy) stars) f) → h.place ≡ k →
+    (h : DiffersAtStar b (map (moved_all_times dx dy) stars) f) → h.place ≡ k →
     moved_cell dx dy (get_or stars k d).cell ≡ f.cell
 star_at dx dy b stars k d f lt h same = grind (arith, common_steps, slice_get-map, slice_get-get_or, same_some)
 
 -- the line at this place is for a cell that is not around the module's box, so that no fault is there
-pub star_far : (a corner : Box2) (b : Borders) (stars : List AllTimes) (k : ℕ) (d : AllTimes) (f : BorderFault) →
+pub star_far : (a corner : Box2) (b : Borders) (stars : List AllTimesSignal) (k : ℕ) (d : AllTimesSignal)
+    (f : BorderFault) →
     a ≡ b.job.now.area → k < length stars →
-    (let at = moved_cell (pos corner.x) (pos corner.y) (get_or stars k d).cell in ¬ IsAround a at.x at.y) →
-    IsFaultOfSearchedJob b f → IsStarredBelow (k + 1) b (map (moved_all_times (pos corner.x) (pos corner.y)) stars) f →
-    IsStarredBelow k b (map (moved_all_times (pos corner.x) (pos corner.y)) stars) f
+    (let at = moved_cell (pos corner.x) (pos corner.y) (get_or stars k d).cell in ¬ IsInOrAround a at.x at.y) →
+    IsFaultOfSearchedJob b f → DiffersAtStarBelow (k + 1) b
+    (map (moved_all_times (pos corner.x) (pos corner.y)) stars) f →
+    DiffersAtStarBelow k b (map (moved_all_times (pos corner.x) (pos corner.y)) stars) f
 star_far a corner b stars k d f area lt far g h = elim (below_or_same h.starred.place k h.below) [
   | inl lower ↦ record { starred = h.starred; below = lower }
   | inr same ↦
       let at = star_at (pos corner.x) (pos corner.y) b stars k d f lt h.starred same in
-      let around : IsAround a f.cell.x f.cell.y =
-      subst (λ (z : Box2). IsAround z f.cell.x f.cell.y) (sym area) (fault_around b f g) in
-      absurd (far (subst (λ (c : Cell). IsAround a c.x c.y) (sym at) around))
+      let around : IsInOrAround a f.cell.x f.cell.y =
+      subst (λ (z : Box2). IsInOrAround z f.cell.x f.cell.y) (sym area) (fault_around b f g) in
+      absurd (far (subst (λ (c : Cell). IsInOrAround a c.x c.y) (sym at) around))
 ]
 
-pub star_step : (corner : Box2) (b : Borders) (stars : List AllTimes) (k : ℕ) (d : AllTimes) (c : Cell)
+pub star_step : (corner : Box2) (b : Borders) (stars : List AllTimesSignal) (k : ℕ) (d : AllTimesSignal) (c : Cell)
     (f : BorderFault) → k < length stars → c ≡ moved_cell (pos corner.x) (pos corner.y) (get_or stars k d).cell →
-    IsStarredBelow (k + 1) b (map (moved_all_times (pos corner.x) (pos corner.y)) stars) f →
-    IsStarredBelow k b (map (moved_all_times (pos corner.x) (pos corner.y)) stars) f ⊎ DiffersWithoutEventAt b c f
+    DiffersAtStarBelow (k + 1) b (map (moved_all_times (pos corner.x) (pos corner.y)) stars) f →
+    DiffersAtStarBelow k b (map (moved_all_times (pos corner.x) (pos corner.y)) stars) f ⊎ DiffersWithoutEventAt b c f
 star_step corner b stars k d c f lt is h = elim (below_or_same h.starred.place k h.below) [
   | inl lower ↦ inl (record { starred = h.starred; below = lower })
   | inr same ↦ inr (
@@ -62,8 +52,8 @@ star_step corner b stars k d c f lt is h = elim (below_or_same h.starred.place k
   )
 ]
 
-pub star_all : (dx dy : ℤ) (b : Borders) (stars : List AllTimes) (k : ℕ) (f : BorderFault) → length stars ≤ k →
-    IsStarred b (map (moved_all_times dx dy) stars) f → IsStarredBelow k b (map (moved_all_times dx dy) stars) f
+pub star_all : (dx dy : ℤ) (b : Borders) (stars : List AllTimesSignal) (k : ℕ) (f : BorderFault) → length stars ≤ k →
+    DiffersAtStar b (map (moved_all_times dx dy) stars) f → DiffersAtStarBelow k b (map (moved_all_times dx dy) stars) f
 star_all dx dy b stars k f le h =
     let within = slice_get_within (map (moved_all_times dx dy) stars) h.place h.star h.got in
     let same = length-map stars (moved_all_times dx dy) in
@@ -72,40 +62,41 @@ star_all dx dy b stars k f le h =
 -- ---- lines that count cells from the corner of their module's box
 
 -- counted from the corner of the plane again, they are the job's
-pub stars_of : (x y : ℕ) (own moved : Signals) (stars : List AllTimes) → stars ≡ moved.all_times →
+pub stars_of : (x y : ℕ) (own moved : Signals) (stars : List AllTimesSignal) → stars ≡ moved.all_times →
     moved ≡ moved_signals (shift_to_origin x) (shift_to_origin y) own →
     map (moved_all_times (pos x) (pos y)) stars ≡ own.all_times
 stars_of x y own moved stars same are = grind (arith, common_steps, signals_back, ints)
 
-pub starred_back : (b : Borders) (area corner : Box2) (stars own : List AllTimes) (f : BorderFault) → corner ≡ area →
-    map (moved_all_times (pos area.x) (pos area.y)) stars ≡ own → IsStarred b own f →
-    IsStarred b (map (moved_all_times (pos corner.x) (pos corner.y)) stars) f
+pub starred_back : (b : Borders) (area corner : Box2) (stars own : List AllTimesSignal) (f : BorderFault) →
+    corner ≡ area →
+    map (moved_all_times (pos area.x) (pos area.y)) stars ≡ own → DiffersAtStar b own f →
+    DiffersAtStar b (map (moved_all_times (pos corner.x) (pos corner.y)) stars) f
 starred_back b area corner stars own f same are h = grind (arith, common_steps)
 
 -- ---- one more module
 
 pub modules_step : (b : Borders) (ks : List ℕ) (i k d : ℕ) (owner : JobView) (f : BorderFault) → i < length ks →
-    k ≡ get_or ks i d → slice_get (jobs_of b) k ≡ Some owner → HasStarLineInModules (take (i + 1) ks) b f →
-    HasStarLineInModules (take i ks) b f ⊎ IsStarred b owner.edges.all_times f
+    k ≡ get_or ks i d → slice_get (jobs_of b) k ≡ Some owner → DiffersAtStarOfAny (take (i + 1) ks) b f →
+    DiffersAtStarOfAny (take i ks) b f ⊎ DiffersAtStar b owner.edges.all_times f
 modules_step b ks i k d owner f lt is got (inl halo) = inl (inl halo)
 modules_step b ks i k d owner f lt is got (inr (edge, among)) =
     grind (arith, common_steps, among_more, take_more, same_some)
 
-pub no_module : (b : Borders) (ks : List ℕ) (f : BorderFault) → HasStarLineInModules (take 0 ks) b f →
-    IsStarred b b.job.now.halos.all_times f
+pub no_module : (b : Borders) (ks : List ℕ) (f : BorderFault) → DiffersAtStarOfAny (take 0 ks) b f →
+    DiffersAtStar b b.job.now.halos.all_times f
 no_module b ks f (inl halo) = halo
 no_module b ks f (inr (edge, among)) = absurd (cc among)
 
 -- ---- if signals differ at time 0, a line with a star is for the cell of one of the modules
 
 -- a line of the list is for the cell
-record IsListed (stars : List AllTimes) (c : Cell) : Type 0 where
+record IsListed (stars : List AllTimesSignal) (c : Cell) : Type 0 where
   place : ℕ
-  star : AllTimes
+  star : AllTimesSignal
   got : slice_get stars place ≡ Some star
   cell : star.cell ≡ c
 
-star_named : (stars : List AllTimes) (c : Cell) → (all_times_at stars c.x c.y ≡ None) ⊎ IsListed stars c
+star_named : (stars : List AllTimesSignal) (c : Cell) → (all_times_at stars c.x c.y ≡ None) ⊎ IsListed stars c
 unfolding all_times_at
 star_named [] c = inl refl
 star_named (h ∷ hs) c = elim (cases_Bool (is_at h.cell c.x c.y)) [
@@ -123,7 +114,7 @@ dead_signal s x y none quiet = ap₂ (λ h z. unwrap_or h (unwrap_or z Zero)) no
 
 pub star_covered : (b : Borders) (ks : List ℕ) (f : BorderFault) (n : ℕ) → AreReadyBorders b →
     AreHaloOwnersListed b ks →
-    length ks ≤ n → IsFaultOfSearchedJob b f → CellDiffersWithoutEvent b f → HasStarLineInModules (take n ks) b f
+    length ks ≤ n → IsFaultOfSearchedJob b f → CellDiffersWithoutEvent b f → DiffersAtStarOfAny (take n ks) b f
 star_covered b ks f n ready noted le g d =
     let x = f.cell.x in let y = f.cell.y in
     elim (star_named b.job.now.halos.all_times f.cell) [

@@ -1,35 +1,20 @@
 -- One more event, module or time
-use Rattle.lemmas.proofs.Common.{[], ◌%◌, ◌+◌, ◌<◌, ◌∙◌, ◌∷◌, ◌≡◌, ◌≢◌, ◌≤◌, ◌⊎◌, Bool, Greater, Less, List, None}
-use Rattle.lemmas.proofs.Common.{Option, Some, ap, ap₂, arith, false, get_or, inl, inr, length, map}
-use Rattle.lemmas.proofs.Common.{option_map, pos, refl, slice_get, subst, suc, sym, take, true, unwrap_or, ℕ, ℤ}
-use Rattle.lemmas.proofs.Common.{cases_Bool, common_steps, cond-false, false≢true, ints, length-map}
-use Rattle.lemmas.proofs.Common.{slice_get-map, slice_get_within, take_all, take_more, tied_itself, below_or_from}
-use Rattle.lemmas.proofs.Common.{below_or_same, less_nat, three_ways}
-use Rattle.bbm_rule.specs.declared.block.Cell.{Cell}
-use Rattle.module_box.specs.Locals.{circuit_wire}
-use Rattle.module_box.specs.Moves.{moved_cell, moved_event}
-use Rattle.module_box.specs.Moments.{moment_cmp}
-use Rattle.module_box.specs.Schedules.{IsRising, Signals, all_times_at, event_at, moment_of, signal_at, is_moment_at}
-use Rattle.module_box.specs.declared.boxes.Box2.{Box2}
-use Rattle.module_box.specs.declared.schedules.TimedSignal.{TimedSignal}
-use Rattle.module_box.specs.declared.schedules.Moment.{Moment}
-use Rattle.module_box.specs.declared.schedules.Signal.TheVariants.{Zero}
-use Rattle.module_box.proofs.BoxCells.{same_some}
-use Rattle.module_box.proofs.MovedBoxes.{cell_back}
+use Rattle.border_match.proofs.Imports.{AreEventsFar, AreHaloOwnersListed, AreReadyBorders, Bool, BorderFault, Borders}
+use Rattle.border_match.proofs.Imports.{Box2, Cell, CellDiffersWithoutEvent, Greater, HasCandidateAtMost}
+use Rattle.border_match.proofs.Imports.{IsAtEdgeEventOfAny, IsAtOwnersEdgeEvent, IsAtSomeEventBelow}
+use Rattle.border_match.proofs.Imports.{IsFaultOfSearchedJob, IsInOrAround, IsRising, IsWindowAround, JobView, Less}
+use Rattle.border_match.proofs.Imports.{List, Moment, None, Option, Signals, Some, TimedSignal, Window, Zero, []}
+use Rattle.border_match.proofs.Imports.{all_times_at, ap, ap₂, arith, below_or_from, below_or_same, border_cmp}
+use Rattle.border_match.proofs.Imports.{cases_Bool, cell_back, circuit_wire, common_steps, cond-false, event_at, false}
+use Rattle.border_match.proofs.Imports.{false≢true, get_or, inl, inr, ints, is_moment_at, jobs_of, length, length-map}
+use Rattle.border_match.proofs.Imports.{map, moment_cmp, moment_of, moved_cell, moved_event, option_map, pos, refl}
+use Rattle.border_match.proofs.Imports.{renumber_signal, same_some, shape_of, shift_to_origin, signal_at, slice_get}
+use Rattle.border_match.proofs.Imports.{slice_get-map, slice_get_within, subst, suc, sym, take, take_all, take_more}
+use Rattle.border_match.proofs.Imports.{tied_itself, true, unwrap_or, ℕ, ℤ, ◌%◌, ◌+◌, ◌<◌, ◌∙◌, ◌∷◌, ◌≡◌, ◌≢◌, ◌≤◌, ◌⊎◌}
+use Rattle.lemmas.proofs.Common.{less_nat, three_ways}
 use Rattle.module_box.proofs.Rising.{then_moment}
-use Rattle.module_job.specs.Jobs.{JobView}
-use Rattle.module_job.specs.Shapes.{shape_of, shift_to_origin}
-use Rattle.module_job.specs.Signals.{renumber_signal}
-use Rattle.border_match.specs.BorderFaults.{border_cmp}
-use Rattle.border_match.specs.Boards.{AreHaloOwnersListed, jobs_of, AreReadyBorders, IsFaultOfSearchedJob, IsNamed}
-use Rattle.border_match.specs.Boards.{IsNamedBelow, IsAtEdgeEvent, IsAtEdgeEventOfAny, IsAtEdgeEventOf}
-use Rattle.border_match.specs.Boards.{CellDiffersWithoutEvent, IsAround}
-use Rattle.border_match.specs.Surroundings.{AreEventsFar, IsWindow}
-use Rattle.border_match.specs.declared.window.Window.{Window}
+use Rattle.border_match.specs.Boards.{IsAtSomeEvent, IsAtEdgeEventOf}
 use Rattle.border_match.proofs.FarEvents.{seen}
-use Rattle.border_match.specs.declared.borders.Borders.{Borders}
-use Rattle.border_match.specs.declared.fault.BorderFault.{BorderFault}
-use Rattle.border_match.specs.Candidates.{HasCandidateAtMost}
 use Rattle.border_match.proofs.FaultOrder.{border_total}
 use Rattle.border_match.proofs.Least.{covers_after}
 use Rattle.border_match.proofs.Cells.{fault_around, reached}
@@ -42,8 +27,8 @@ same_fault time cell f p q = let mk : ℕ → Cell → BorderFault = λ t c. rec
 -- ---- events
 
 pub named_step : (events : List TimedSignal) (i : ℕ) (e : TimedSignal) (f : BorderFault) → slice_get events i ≡ Some e →
-    IsNamedBelow (i + 1) events f →
-    IsNamedBelow i events f ⊎ (f ≡ record { time = e.at.time; cell = e.at.cell })
+    IsAtSomeEventBelow (i + 1) events f →
+    IsAtSomeEventBelow i events f ⊎ (f ≡ record { time = e.at.time; cell = e.at.cell })
 named_step events i e f got h = elim (below_or_same h.named.place i h.below) [
   | inl lt ↦ inl (record { named = h.named; below = lt })
   | inr same ↦ inr (
@@ -61,8 +46,8 @@ compared_alike a b = refl
 -- if the candidate is at most what one event names, it is at most what the events behind it name
 pub rest_covered : (events : List TimedSignal) (i : ℕ) (e : TimedSignal) (o : Option BorderFault) (f : BorderFault) →
     IsRising moment_cmp moment_of events → slice_get events i ≡ Some e →
-    HasCandidateAtMost o (record { time = e.at.time; cell = e.at.cell }) → IsNamed events f →
-    IsNamedBelow i events f ⊎ HasCandidateAtMost o f
+    HasCandidateAtMost o (record { time = e.at.time; cell = e.at.cell }) → IsAtSomeEvent events f →
+    IsAtSomeEventBelow i events f ⊎ HasCandidateAtMost o f
 rest_covered events i e o f rising got covered h =
     let at : f ≡ record { time = h.event.at.time; cell = h.event.at.cell } =
     same_fault h.event.at.time h.event.at.cell f (sym h.time) (sym h.cell) in
@@ -79,8 +64,8 @@ rest_covered events i e o f rising got covered h =
     less_greater : Less ≡ Greater → ⊥
     less_greater e = cc
 
-pub named_all : (events : List TimedSignal) (k : ℕ) (f : BorderFault) → length events ≤ k → IsNamed events f →
-    IsNamedBelow k events f
+pub named_all : (events : List TimedSignal) (k : ℕ) (f : BorderFault) → length events ≤ k → IsAtSomeEvent events f →
+    IsAtSomeEventBelow k events f
 named_all events k f le h =
     let within = slice_get_within events h.place h.event h.got in
     record { named = h; below = omega (arith, within) }
@@ -98,10 +83,10 @@ cornered_all dx dy es events k are le = grind (arith, common_steps, length-map)
 -- the events from a place on and before another are at no odd time and cell around the module's box, so they are no
 -- faults
 pub far_step : (b : Borders) (other : JobView) (a corner : Box2) (w : Window) (es : List TimedSignal) (i next : ℕ)
-    (f : BorderFault) → a ≡ b.job.now.area → corner ≡ other.area → IsWindow a corner w →
+    (f : BorderFault) → a ≡ b.job.now.area → corner ≡ other.area → IsWindowAround a corner w →
     es ≡ map (moved_event (shift_to_origin other.area.x) (shift_to_origin other.area.y)) other.edges.events →
-    AreEventsFar w es i next → IsFaultOfSearchedJob b f → IsNamedBelow next other.edges.events f →
-    IsNamedBelow i other.edges.events f
+    AreEventsFar w es i next → IsFaultOfSearchedJob b f → IsAtSomeEventBelow next other.edges.events f →
+    IsAtSomeEventBelow i other.edges.events f
 far_step b other a corner w es i next f same_area same_corner is are far g h =
     elim (below_or_from h.named.place i) [
       | inl lower ↦ record { named = h.named; below = lower }
@@ -115,11 +100,11 @@ far_step b other a corner w es i next f same_area same_corner is are far g h =
           let back : moved_cell (pos corner.x) (pos corner.y) (moved_event dx dy h.named.event).at.cell ≡ f.cell =
           cell_back dx dy (pos corner.x) (pos corner.y) h.named.event.at.cell (omega (arith, ints, ex))
           (omega (arith, ints, ey)) ∙ h.named.cell in
-          let at : IsAround a f.cell.x f.cell.y =
-          subst (λ (z : Box2). IsAround z f.cell.x f.cell.y) (sym same_area) (fault_around b f g) in
+          let at : IsInOrAround a f.cell.x f.cell.y =
+          subst (λ (z : Box2). IsInOrAround z f.cell.x f.cell.y) (sym same_area) (fault_around b f g) in
           let odd : h.named.event.at.time % 2 ≡ 1 = ap (λ (t : ℕ). t % 2) h.named.time ∙ g.odd in
           absurd (far h.named.place _ from h.below there odd (seen a corner w _ is
-          (subst (λ (c : Cell). IsAround a c.x c.y) (sym back) at)))
+          (subst (λ (c : Cell). IsInOrAround a c.x c.y) (sym back) at)))
     ]
 
 -- ---- modules
@@ -129,7 +114,7 @@ pub edges_step : (b : Borders) (ks : List ℕ) (i k : ℕ) (d : ℕ) (f : Border
 edges_step b ks i k d f lt is h = grind (arith, common_steps, among_more, take_more)
 
 pub edges_all : (b : Borders) (ks : List ℕ) (i : ℕ) (f : BorderFault) → length ks ≤ i → AreHaloOwnersListed b ks →
-    IsFaultOfSearchedJob b f → IsAtEdgeEvent b f → IsAtEdgeEventOfAny (take i ks) b f
+    IsFaultOfSearchedJob b f → IsAtOwnersEdgeEvent b f → IsAtEdgeEventOfAny (take i ks) b f
 edges_all b ks i f le noted g h = grind (arith, common_steps, take_all, reached)
 
 other_is : (b : Borders) (k : ℕ) (other : JobView) (f : BorderFault) → slice_get (jobs_of b) k ≡ Some other →
@@ -137,7 +122,7 @@ other_is : (b : Borders) (k : ℕ) (other : JobView) (f : BorderFault) → slice
 other_is b k other f e h = grind (arith, common_steps, same_some)
 
 pub edges_named : (b : Borders) (k : ℕ) (other : JobView) (f : BorderFault) → slice_get (jobs_of b) k ≡ Some other →
-    IsAtEdgeEventOf k b f → IsNamed other.edges.events f
+    IsAtEdgeEventOf k b f → IsAtSomeEvent other.edges.events f
 edges_named b k other f e h = grind (arith, common_steps, other_is)
 
 -- ---- times
@@ -170,7 +155,8 @@ not_true b p q = false≢true (sym p ∙ q)
 
 -- ---- a fault is named by an event, or what holds at the other times differs
 
-event_named : (es : List TimedSignal) (f : BorderFault) → (event_at es f.time f.cell.x f.cell.y ≡ None) ⊎ IsNamed es f
+event_named : (es : List TimedSignal) (f : BorderFault) →
+    (event_at es f.time f.cell.x f.cell.y ≡ None) ⊎ IsAtSomeEvent es f
 unfolding event_at
 event_named [] f = inl refl
 event_named (e ∷ es) f = elim (cases_Bool (is_moment_at e.at f.time f.cell.x f.cell.y)) [
@@ -197,7 +183,7 @@ unfolding signal_at
 same_without s t t' x y e e' = ap (λ z. unwrap_or (all_times_at s.all_times x y) (unwrap_or z Zero)) (e ∙ sym e')
 
 pub fault_covered : (b : Borders) (f : BorderFault) → AreReadyBorders b → IsFaultOfSearchedJob b f →
-    IsNamed b.job.now.halos.events f ⊎ (IsAtEdgeEvent b f ⊎ CellDiffersWithoutEvent b f)
+    IsAtSomeEvent b.job.now.halos.events f ⊎ (IsAtOwnersEdgeEvent b f ⊎ CellDiffersWithoutEvent b f)
 fault_covered b f ready g =
     let x = f.cell.x in
     let y = f.cell.y in

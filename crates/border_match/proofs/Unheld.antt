@@ -1,8 +1,7 @@
 -- Schedules in which no line has a star
-use Rattle.lemmas.proofs.Common.{[], ◌==◌, ◌∙◌, ◌≡◌, Bool, List, ap, arith, length, map, sym, true, ℤ}
-use Rattle.lemmas.proofs.Common.{common_steps, length-map, nat_tests, nil_from_length}
-use Rattle.module_box.specs.Moves.{moved_signals}
-use Rattle.module_box.specs.Schedules.{Signals}
+use Rattle.border_match.proofs.Imports.{Bool, List, Signals, [], ap, arith, common_steps, length, length-map, map}
+use Rattle.border_match.proofs.Imports.{moved_signals, nat_tests, sym, true, ℤ, ◌==◌, ◌∙◌, ◌≡◌}
+use Rattle.lemmas.proofs.Common.{nil_from_length}
 
 pub no_elements : {A : Type 0} (xs : List A) (r : Bool) → r ≡ (length xs == 0) → r ≡ true → xs ≡ []
 no_elements xs r is holds = nil_from_length xs (grind (arith, nat_tests))

@@ -1,7 +1,7 @@
 -- A module has one least border fault, or none
-use Rattle.lemmas.proofs.Common.{◌≡◌, ◌≢◌, Equal, Greater, Less, None, Ordering, Some, ap, arith, refl, common_steps}
+use Rattle.border_match.proofs.Imports.{Equal, Greater, Less, None, Ordering, Some, ap, arith, border_cmp, common_steps}
+use Rattle.border_match.proofs.Imports.{refl, ◌≡◌, ◌≢◌}
 use Rattle.lemmas.proofs.Common.{ordering_reverse}
-use Rattle.border_match.specs.BorderFaults.{border_cmp}
 use Rattle.border_match.specs.Laws.{LeastBorderFaultIsUnique}
 use Rattle.border_match.proofs.FaultOrder.{border_total, border_exact}
 

@@ -1,7 +1,7 @@
 -- The statements of this crate's laws
 use Rattle.std.specs.Prelude.{◌≡◌, ℕ, ℤ, ◌<◌, ◌%◌, List, map, Option, Some, None, slice_get, IsTrue}
 use Rattle.circuit.specs.Meaning.{Valuation}
-use Rattle.module_box.specs.Boxes.{in_box, in_halo, Tile}
+use Rattle.bbm_rule.specs.Boxes.{in_box, in_halo, Tile}
 use Rattle.certificate_lines.specs.Entries.{Setting, ModuleLines, areas}
 use Rattle.certificate_lines.specs.Modules.{AreModules}
 use Rattle.certificate_lines.specs.Rules.{whole}

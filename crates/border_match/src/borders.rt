@@ -1,12 +1,12 @@
 //! The borders of one module.
 
 ghost use Rattle.std.specs.Prelude.{◌+◌, ◌≡◌, ◌<◌, ◌↔◌, ◌&&◌, false, length, slice_get, slice_set, true, IsTrue, Some, IfSome, IfOk};
-ghost use Rattle.module_box.specs.Boxes.{in_box, in_halo};
+ghost use Rattle.bbm_rule.specs.Boxes.{in_box, in_halo};
 ghost use Rattle.module_box.specs.Moves.{IsInShiftRange};
 ghost use Rattle.module_box.specs.Tiling.{owner_of};
-ghost use Rattle.border_match.specs.Boards.{AddsMark, AreMarked, AreModuleNumbers, AreHaloOwnersListed, SignalsDifferAt, IsFaultOfSearchedJob, IsAtEdgeEvent, IsAtEdgeEventOf, IsAtEvent, IsListed, IsNamed, IsPlaceOf, IsUnmarked, AreReadyBorders, MayBeFault, job_signal, jobs_of};
-ghost use Rattle.border_match.specs.Candidates.{IsBetter, IsLeast};
-ghost use Rattle.border_match.specs.Surroundings.{AreRingExtents, IsRingExtent};
+ghost use Rattle.border_match.specs.Boards.{AddsMark, AreHaloMarks, AreModuleNumbers, AreHaloOwnersListed, SignalsDifferAt, IsFaultOfSearchedJob, IsAtOwnersEdgeEvent, IsAtEdgeEventOf, IsAtEvent, IsListed, IsAtSomeEvent, IsPlaceOf, IsAtUnmarkedEvent, AreReadyBorders, IsAtComparedMoment, job_signal, jobs_of};
+ghost use Rattle.border_match.specs.Candidates.{IsNextBest, IsLeast};
+ghost use Rattle.border_match.specs.Surroundings.{AreEdgeEventExtents, IsEdgeEventExtent};
 ghost use Rattle.border_match.specs.declared.fault.BorderFault.{BorderFault};
 ghost use Rattle.border_match.specs.declared.signals.RingOrHalo.TheVariants.{Halo};
 
@@ -42,7 +42,7 @@ fn mark(seen: &mut [bool], place: usize)
 }
 
 // Returns the fault that an event names, which may be none.
-fn fault_at(event: TimedSignal) -> BorderFault
+fn possible_fault_at(event: TimedSignal) -> BorderFault
     ensures time { result.time ≡ event.at.time }
     ensures cell { result.cell ≡ event.at.cell }
 {
@@ -72,7 +72,7 @@ impl<'a> Borders<'a> {
     }
 
     /// Returns whether the module says another thing of a cell of the rectangle than the module that has it.
-    pub(crate) fn differs(&self, time: u32, cell: Cell) -> bool
+    pub(crate) fn differs_from_owner(&self, time: u32, cell: Cell) -> bool
         requires ready { AreReadyBorders self.now }
         requires inside { IsTrue (in_box self.now.whole cell.x cell.y) }
         ensures { IsTrue result ↔ SignalsDifferAt self.now time cell.x cell.y }
@@ -118,7 +118,7 @@ impl<'a> Borders<'a> {
 
     // Returns whether a border fault can be at this time and cell.
     fn is_at_compared_moment(&self, fault: BorderFault) -> bool
-        ensures { IsTrue result ↔ MayBeFault self.now fault }
+        ensures { IsTrue result ↔ IsAtComparedMoment self.now fault }
     {
         if fault.time % 2 != 1 {
             return false;
@@ -134,16 +134,16 @@ impl<'a> Borders<'a> {
         requires { AreReadyBorders self.now }
         ensures { IsTrue result ↔ IsFaultOfSearchedJob self.now fault }
     {
-        self.is_at_compared_moment(fault) && self.differs(fault.time, fault.cell)
+        self.is_at_compared_moment(fault) && self.differs_from_owner(fault.time, fault.cell)
     }
 
     // The lesser of the candidate and the fault that an event of the module's halo names.
     fn with_halo_event(&self, best: Option<BorderFault>, event: TimedSignal) -> Option<BorderFault>
         requires ready { AreReadyBorders self.now }
         requires listed { IsListed self.now.job.now.halos.events event }
-        ensures { IsBetter (IsFaultOfSearchedJob self.now) (IsAtEvent event) best result }
+        ensures { IsNextBest (IsFaultOfSearchedJob self.now) (IsAtEvent event) best result }
     {
-        let fault = fault_at(event);
+        let fault = possible_fault_at(event);
         if is_less(fault, best)
             && self.is_at_compared_moment(fault)
             && self.halo_event_differs(event)
@@ -205,16 +205,16 @@ impl<'a> Borders<'a> {
         requires owner { slice_get (jobs_of self.now)
             (owner_of self.now.owners.now event.at.cell.x event.at.cell.y) ≡ Some owner.now }
         requires listed { IsListed owner.now.edges.events event }
-        requires marked { AreMarked self.now seen.old }
-        ensures better { IsBetter (IsFaultOfSearchedJob self.now) (IsAtEvent event) best result }
-        ensures marked { AreMarked self.now seen.new }
+        requires marked { AreHaloMarks self.now seen.old }
+        ensures better { IsNextBest (IsFaultOfSearchedJob self.now) (IsAtEvent event) best result }
+        ensures marked { AreHaloMarks self.now seen.new }
     {
         let _area = owner.area();
         let own = self.read_and_mark_halo(event.at, seen, walk);
         if !self.edge_event_differs(owner, event, own) {
             return best;
         }
-        let fault = fault_at(event);
+        let fault = possible_fault_at(event);
         if !self.is_at_compared_moment(fault) {
             return best;
         }
@@ -225,8 +225,8 @@ impl<'a> Borders<'a> {
     fn with_halo_events(&self, best: Option<BorderFault>, seen: &[bool]) -> Option<BorderFault>
         requires ready { AreReadyBorders self.now }
         requires sized { length seen.now ≡ length self.now.job.now.halos.events }
-        ensures { IsBetter (IsFaultOfSearchedJob self.now)
-            (IsUnmarked seen.now self.now.job.now.halos.events) best result }
+        ensures { IsNextBest (IsFaultOfSearchedJob self.now)
+            (IsAtUnmarkedEvent seen.now self.now.job.now.halos.events) best result }
     {
         let mut least = best;
         'events: for place in 0..self.job.halo_events() {
@@ -248,12 +248,12 @@ impl<'a> Borders<'a> {
         seen: &mut [bool],
     ) -> Option<BorderFault>
         requires ready { AreReadyBorders self.now }
-        requires extent { IsRingExtent other.now extent.now }
+        requires extent { IsEdgeEventExtent other.now extent.now }
         requires numbered { slice_get (jobs_of self.now) number ≡ Some other.now }
-        requires marked { AreMarked self.now seen.old }
-        ensures better { IsBetter (IsFaultOfSearchedJob self.now) (IsNamed other.now.edges.events)
-            best result }
-        ensures marked { AreMarked self.now seen.new }
+        requires marked { AreHaloMarks self.now seen.old }
+        ensures better { IsNextBest (IsFaultOfSearchedJob self.now)
+            (IsAtSomeEvent other.now.edges.events) best result }
+        ensures marked { AreHaloMarks self.now seen.new }
     {
         let window = Window::around(self.job.area(), other.area());
         let shape: &Shape = other.shape();
@@ -266,7 +266,7 @@ impl<'a> Borders<'a> {
         'events: while place < events.len() {
             let event = other.edge_event(place);
             // The events rise, so no fault of the rest is less either.
-            if !is_less(fault_at(event), least) {
+            if !is_less(possible_fault_at(event), least) {
                 return least;
             }
             least = self.with_edge_event(least, other, event, seen, &mut walk);
@@ -284,12 +284,12 @@ impl<'a> Borders<'a> {
         seen: &mut [bool],
     ) -> Option<BorderFault>
         requires ready { AreReadyBorders self.now }
-        requires extents { AreRingExtents (jobs_of self.now) extents.now }
+        requires extents { AreEdgeEventExtents (jobs_of self.now) extents.now }
         requires number { number < length self.now.jobs.now }
-        requires marked { AreMarked self.now seen.old }
-        ensures better { IsBetter (IsFaultOfSearchedJob self.now) (IsAtEdgeEventOf number self.now)
-            best result }
-        ensures marked { AreMarked self.now seen.new }
+        requires marked { AreHaloMarks self.now seen.old }
+        ensures better { IsNextBest (IsFaultOfSearchedJob self.now)
+            (IsAtEdgeEventOf number self.now) best result }
+        ensures marked { AreHaloMarks self.now seen.new }
     {
         self.with_edge_events(best, number, &self.jobs[number], &extents[number], seen)
     }
@@ -305,13 +305,13 @@ impl<'a> Borders<'a> {
         seen: &mut [bool],
     ) -> Option<BorderFault>
         requires ready { AreReadyBorders self.now }
-        requires extents { AreRingExtents (jobs_of self.now) extents.now }
+        requires extents { AreEdgeEventExtents (jobs_of self.now) extents.now }
         requires noted { AreHaloOwnersListed self.now near.now }
         requires below { AreModuleNumbers self.now near.now }
-        requires marked { AreMarked self.now seen.old }
-        ensures better { IsBetter (IsFaultOfSearchedJob self.now) (IsAtEdgeEvent self.now) best
-            result }
-        ensures marked { AreMarked self.now seen.new }
+        requires marked { AreHaloMarks self.now seen.old }
+        ensures better { IsNextBest (IsFaultOfSearchedJob self.now) (IsAtOwnersEdgeEvent self.now)
+            best result }
+        ensures marked { AreHaloMarks self.now seen.new }
     {
         let mut least = best;
         'modules: for number in near {
@@ -327,7 +327,7 @@ impl<'a> Borders<'a> {
         extents: &[Window],
     ) -> Result<Option<BorderFault>, AllocError>
         requires ready { AreReadyBorders self.now }
-        requires extents { AreRingExtents (jobs_of self.now) extents.now }
+        requires extents { AreEdgeEventExtents (jobs_of self.now) extents.now }
         ensures { IfOk result (IsLeast (IsFaultOfSearchedJob self.now)) }
     {
         let near = self.near_modules(alloc)?;

@@ -4,7 +4,7 @@
 //! look at any of them.
 ghost use Rattle.std.specs.Prelude.{map, IfOk};
 ghost use Rattle.std.specs.Arc.{arc_value};
-ghost use Rattle.border_match.specs.Surroundings.{AreRingExtents, IsExtent, IsRingExtent};
+ghost use Rattle.border_match.specs.Surroundings.{AreEdgeEventExtents, IsExtent, IsEdgeEventExtent};
 
 use crate::window::Window;
 use certificate::Job;
@@ -25,8 +25,8 @@ fn extent_of(events: &[TimedSignal]) -> Window
 }
 
 // Returns columns and rows that hold the cells of the events of a job's ring, counted from the corner of its box.
-fn ring_extent(job: &Job) -> Window
-    ensures { IsRingExtent job.now result }
+fn edge_event_extent(job: &Job) -> Window
+    ensures { IsEdgeEventExtent job.now result }
 {
     let shape: &Shape = job.shape();
     extent_of(shape.edges().events())
@@ -34,12 +34,15 @@ fn ring_extent(job: &Job) -> Window
 
 /// Returns, for each job, columns and rows that hold the cells of the events of its ring, counted from the corner of
 /// its box.
-pub(crate) fn ring_extents(alloc: Global, jobs: &[Arc<Job>]) -> Result<Vec<Window>, AllocError>
-    ensures { IfOk result (λ extents. AreRingExtents (map arc_value jobs.now) extents.items) }
+pub(crate) fn edge_event_extents(
+    alloc: Global,
+    jobs: &[Arc<Job>],
+) -> Result<Vec<Window>, AllocError>
+    ensures { IfOk result (λ extents. AreEdgeEventExtents (map arc_value jobs.now) extents.items) }
 {
     let mut extents = Vec::with_capacity(alloc, jobs.len())?;
     'jobs: for job in jobs {
-        extents.push(ring_extent(job))?;
+        extents.push(edge_event_extent(job))?;
     }
     Ok(extents)
 }

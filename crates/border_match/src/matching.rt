@@ -10,23 +10,12 @@ ghost use Rattle.module_box.specs.Tiling.{AreOwners};
 ghost use Rattle.border_match.specs.BorderFaults.{AreBorderFaultsOf};
 
 use crate::borders::Borders;
-use crate::extents::ring_extents;
+use crate::extents::edge_event_extents;
 use crate::fault::BorderFault;
 use certificate::{Cert, Job};
 use module_box::{Box2, Owners, TileFault, owner_table};
 use std::alloc::{AllocError, Global};
 use std::sync::Arc;
-
-// The boxes of the modules.
-fn boxes_of(alloc: Global, cert: &Cert) -> Result<Vec<Box2>, AllocError>
-    ensures { IfOk result (λ boxes. boxes.items ≡ areas (modules_of cert.now.entries)) }
-{
-    let mut boxes = Vec::new(alloc);
-    'modules: for number in 0..cert.modules() {
-        boxes.push(cert.counts(number).area)?;
-    }
-    Ok(boxes)
-}
 
 // Which module has each cell of the layout's rectangle, where `boxes` are those of the modules.
 fn owners_of(alloc: Global, cert: &Cert, boxes: &[Box2]) -> Result<Owners, AllocError>
@@ -83,9 +72,9 @@ pub fn match_borders(
         w: size.w,
         h: size.h,
     };
-    let boxes = boxes_of(alloc, cert)?;
+    let boxes = cert.boxes(alloc)?;
     let owners = owners_of(alloc, cert, &boxes)?;
-    let extents = ring_extents(alloc, jobs)?;
+    let extents = edge_event_extents(alloc, jobs)?;
     let mut faults = Vec::new(alloc);
     'jobs: for job in jobs {
         let borders = Borders {

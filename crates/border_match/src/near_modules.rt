@@ -1,7 +1,7 @@
 //! The modules that have cells of a module's halo.
 ghost use Rattle.std.specs.Prelude.{◌+◌, ◌≤◌, ◌≡◌, ◌<◌, IsTrue, IfOk, OnOk};
-ghost use Rattle.module_box.specs.Boxes.{in_box};
-ghost use Rattle.border_match.specs.Boards.{AreModuleNumbers, AreHaloOwnersListed, AreReadyBorders, AreOwnersListedInRows, AreAreaOwnersListed, KeepsAllNumbers, with_number_once};
+ghost use Rattle.bbm_rule.specs.Boxes.{in_box};
+ghost use Rattle.border_match.specs.Boards.{AreModuleNumbers, AreHaloOwnersListed, AreReadyBorders, AreOwnersListedInRows, AreOutsideOwnersListed, KeepsAllNumbers, with_number_once};
 
 use crate::borders::Borders;
 use bbm_rule::Cell;
@@ -22,11 +22,11 @@ fn add_number_once(near: &mut Vec<usize>, number: usize) -> Result<(), AllocErro
 impl<'a> Borders<'a> {
     // Adds the number of the module that has the cell, unless it is this one. Returns the box of that module, whose
     // cells all have this owner.
-    fn add_owner(&self, near: &mut Vec<usize>, cell: Cell) -> Result<Box2, AllocError>
+    fn add_other_owner(&self, near: &mut Vec<usize>, cell: Cell) -> Result<Box2, AllocError>
         requires ready { AreReadyBorders self.now }
         requires inside { IsTrue (in_box self.now.whole cell.x cell.y) }
         requires below { AreModuleNumbers self.now near.old.items }
-        ensures noted { IfOk result (AreAreaOwnersListed self.now near.new.items) }
+        ensures noted { IfOk result (AreOutsideOwnersListed self.now near.new.items) }
         ensures holds { IfOk result (λ area. IsTrue (in_box area cell.x cell.y)) }
         ensures within { IfOk result (λ area. (area.x + area.w ≤ 512) × (area.y + area.h ≤ 512)) }
         ensures kept { OnOk result (KeepsAllNumbers near.old.items near.new.items) }
@@ -42,8 +42,8 @@ impl<'a> Borders<'a> {
     }
 
     // Adds the numbers of the modules that have cells of row `y` in the columns of the halo. Returns the first row
-    // below it in which another module may have such a cell.
-    fn add_owners_in_row(&self, near: &mut Vec<usize>, y: u32) -> Result<u32, AllocError>
+    // below it in which another module may have a cell in these columns.
+    fn add_other_owners_in_row(&self, near: &mut Vec<usize>, y: u32) -> Result<u32, AllocError>
         requires ready { AreReadyBorders self.now }
         requires below { AreModuleNumbers self.now near.old.items }
         requires inside { y < self.now.whole.h }
@@ -62,7 +62,7 @@ impl<'a> Borders<'a> {
                 x: x as i32,
                 y: y as i32,
             };
-            let owner = self.add_owner(near, cell)?;
+            let owner = self.add_other_owner(near, cell)?;
             x = owner.x + owner.w;
             next = next.min(owner.y + owner.h);
         }
@@ -81,7 +81,7 @@ impl<'a> Borders<'a> {
         let mut near = Vec::new(alloc);
         let mut y = area.y.saturating_sub(1);
         'rows: while y < end {
-            y = self.add_owners_in_row(&mut near, y)?;
+            y = self.add_other_owners_in_row(&mut near, y)?;
         }
         Ok(near)
     }

@@ -62,7 +62,7 @@ pub(crate) fn signal_at(job: &Job, border: RingOrHalo, time: u32, cell: Cell) ->
 
 // Returns whether a line with a star, which speaks of all times, is for one of these cells.
 #[inline(always)]
-fn has_line_at_all_times(job: &Job, border: RingOrHalo) -> bool
+fn has_starred_line(job: &Job, border: RingOrHalo) -> bool
     ensures { result ≡ false → (job_signals border job.now).all_times ≡ [] }
 {
     !schedule(job, border).all_times().is_empty()
@@ -76,7 +76,7 @@ pub(crate) fn signal_at_event(job: &Job, border: RingOrHalo, event: TimedSignal)
     requires listed { IsListed (job_signals border job.now).events event }
     ensures { result ≡ job_signal border job.now event.at.time event.at.cell.x event.at.cell.y }
 {
-    if has_line_at_all_times(job, border) {
+    if has_starred_line(job, border) {
         return signal_at(job, border, event.at.time, event.at.cell);
     }
     let _area = job.area();

@@ -2,8 +2,8 @@
 
 ghost use Rattle.std.specs.Prelude.{pos, ◌≤◌, ◌≡◌, ◌<◌, map, Some};
 ghost use Rattle.module_box.specs.Moves.{moved_all_times};
-ghost use Rattle.border_match.specs.Boards.{AreModuleNumbers, AreHaloOwnersListed, IsFaultOfSearchedJob, CellDiffersWithoutEvent, DiffersWithoutEventAt, AreReadyBorders, IsStarred, job_signals};
-ghost use Rattle.border_match.specs.Candidates.{IsBetter};
+ghost use Rattle.border_match.specs.Boards.{AreModuleNumbers, AreHaloOwnersListed, IsFaultOfSearchedJob, CellDiffersWithoutEvent, DiffersWithoutEventAt, AreReadyBorders, DiffersAtStar, job_signals};
+ghost use Rattle.border_match.specs.Candidates.{IsNextBest};
 ghost use Rattle.border_match.specs.declared.fault.BorderFault.{BorderFault};
 ghost use Rattle.border_match.specs.declared.signals.RingOrHalo.TheVariants.{Halo};
 
@@ -13,13 +13,13 @@ use crate::signals::{RingOrHalo, schedule};
 use crate::surroundings::plane_cell_if_near;
 use bbm_rule::Cell;
 use certificate::Job;
-use module_box::{AllTimes, Box2};
+use module_box::{AllTimesSignal, Box2};
 
 impl<'a> Borders<'a> {
     // The lesser of the candidate and the first fault of a cell.
     fn with_first_fault_of(&self, best: Option<BorderFault>, cell: Cell) -> Option<BorderFault>
         requires { AreReadyBorders self.now }
-        ensures { IsBetter (IsFaultOfSearchedJob self.now) (λ h. h.cell ≡ cell) best result }
+        ensures { IsNextBest (IsFaultOfSearchedJob self.now) (λ h. h.cell ≡ cell) best result }
     {
         'times: for time in 0..self.job.steps() {
             let fault = BorderFault { time, cell };
@@ -35,27 +35,27 @@ impl<'a> Borders<'a> {
     // time, or an odd one that a line names for the cell, is without one.
     fn with_star_fault_at(&self, best: Option<BorderFault>, cell: Cell) -> Option<BorderFault>
         requires { AreReadyBorders self.now }
-        ensures { IsBetter (IsFaultOfSearchedJob self.now) (DiffersWithoutEventAt self.now cell)
+        ensures { IsNextBest (IsFaultOfSearchedJob self.now) (DiffersWithoutEventAt self.now cell)
             best result }
     {
-        if !self.is_halo_cell_inside_layout(cell) || !self.differs(0, cell) {
+        if !self.is_halo_cell_inside_layout(cell) || !self.differs_from_owner(0, cell) {
             return best;
         }
         self.with_first_fault_of(best, cell)
     }
 
-    // The least of the candidate and the faults of those cells of these lines for which such signals differ. The lines
-    // have a star, and count cells from a corner.
+    // The least of the candidate and the faults at those cells of these lines whose signals differ without an event.
+    // The lines have a star, and count cells from a corner.
     fn with_faults_at_stars(
         &self,
         best: Option<BorderFault>,
         corner: Box2,
-        stars: &[AllTimes],
+        stars: &[AllTimesSignal],
     ) -> Option<BorderFault>
         requires ready { AreReadyBorders self.now }
         requires corner { (corner.x ≤ 512) × (corner.y ≤ 512) }
-        ensures { IsBetter (IsFaultOfSearchedJob self.now)
-            (IsStarred self.now (map (moved_all_times (pos corner.x) (pos corner.y)) stars.now))
+        ensures { IsNextBest (IsFaultOfSearchedJob self.now)
+            (DiffersAtStar self.now (map (moved_all_times (pos corner.x) (pos corner.y)) stars.now))
             best result }
     {
         let area = self.job.area();
@@ -78,14 +78,15 @@ impl<'a> Borders<'a> {
         border: RingOrHalo,
     ) -> Option<BorderFault>
         requires ready { AreReadyBorders self.now }
-        ensures { IsBetter (IsFaultOfSearchedJob self.now)
-            (IsStarred self.now (job_signals border job.now).all_times) best result }
+        ensures { IsNextBest (IsFaultOfSearchedJob self.now)
+            (DiffersAtStar self.now (job_signals border job.now).all_times) best result }
     {
         let corner = job.area();
         self.with_faults_at_stars(best, corner, schedule(job, border).all_times())
     }
 
-    /// Returns the least of the candidate and the faults of those cells of the halo for which such signals differ.
+    /// Returns the least of the candidate and the faults at those cells of the halo whose signals differ without an
+    /// event.
     ///
     /// `near` lists the modules that have cells of the halo. A cell of which no line with a star speaks is `Zero` for
     /// both modules.
@@ -97,7 +98,7 @@ impl<'a> Borders<'a> {
         requires ready { AreReadyBorders self.now }
         requires noted { AreHaloOwnersListed self.now near.now }
         requires below { AreModuleNumbers self.now near.now }
-        ensures { IsBetter (IsFaultOfSearchedJob self.now) (CellDiffersWithoutEvent self.now) best
+        ensures { IsNextBest (IsFaultOfSearchedJob self.now) (CellDiffersWithoutEvent self.now) best
             result }
     {
         let mut least = self.with_stars_of(best, self.job, RingOrHalo::Halo);

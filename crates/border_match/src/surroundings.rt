@@ -6,7 +6,7 @@ ghost use Rattle.module_box.specs.Moments.{moment_cmp};
 ghost use Rattle.module_box.specs.Moves.{moved_cell};
 ghost use Rattle.module_box.specs.Schedules.{IsRising, moment_of};
 ghost use Rattle.border_match.specs.Boards.{IsPlaceOf};
-ghost use Rattle.border_match.specs.Surroundings.{AreEventsFar, AreMomentsFarBetween, IsInOrAroundFromCorner, IsEventFarAt, IsExtent, IsFirstFrom, IsSeen, IsWindow};
+ghost use Rattle.border_match.specs.Surroundings.{AreEventsFar, AreMomentsFarBetween, IsInOrAroundFromCorner, IsEventFarAt, IsExtent, IsFirstNotBefore, IsInWindow, IsWindowAround};
 
 use crate::window::Window;
 use bbm_rule::Cell;
@@ -14,13 +14,13 @@ use module_box::{Box2, Moment, TimedSignal};
 use std::cmp::Ordering;
 
 // How many far events in a row the search looks at before it leaps, as long as its leaps are long.
-const SHORT_WAIT: usize = 4;
+const MIN_LOOKS_BEFORE_LEAP: usize = 4;
 
 // The most of them. After each short leap the search waits twice as long.
-const LONG_WAIT: usize = 64;
+const MAX_LOOKS_BEFORE_LEAP: usize = 64;
 
 // How many places a long leap goes at least. A leap takes as long as a look at six events.
-const LONG_LEAP: usize = 8;
+const MIN_LONG_LEAP: usize = 8;
 
 /// A search's plan of leaps over events at far cells. It decides the time of the search and not its result.
 #[derive(Clone, Copy)]
@@ -36,12 +36,12 @@ pub(crate) struct LeapPlan {
 impl LeapPlan {
     /// Returns the state of a search at the first event.
     pub(crate) fn new() -> LeapPlan
-        ensures wait { result.wait ≡ SHORT_WAIT }
+        ensures wait { result.wait ≡ MIN_LOOKS_BEFORE_LEAP }
         ensures length { result.length ≡ 0 }
         ensures length_before { result.length_before ≡ 0 }
     {
         LeapPlan {
-            wait: SHORT_WAIT,
+            wait: MIN_LOOKS_BEFORE_LEAP,
             length: 0,
             length_before: 0,
         }
@@ -56,27 +56,27 @@ impl LeapPlan {
     }
 
     // Returns how long to wait after a leap of this length.
-    fn wait_after_leap(self, length: usize) -> usize
-        ensures most { result ≤ LONG_WAIT }
-        ensures long { LONG_LEAP ≤ length → result ≡ SHORT_WAIT }
+    fn looks_before_leap(self, length: usize) -> usize
+        ensures most { result ≤ MAX_LOOKS_BEFORE_LEAP }
+        ensures long { MIN_LONG_LEAP ≤ length → result ≡ MIN_LOOKS_BEFORE_LEAP }
     {
-        if length < LONG_LEAP {
-            self.wait.saturating_mul(2).min(LONG_WAIT)
+        if length < MIN_LONG_LEAP {
+            self.wait.saturating_mul(2).min(MAX_LOOKS_BEFORE_LEAP)
         } else {
-            SHORT_WAIT
+            MIN_LOOKS_BEFORE_LEAP
         }
     }
 
     // Returns the state behind a leap.
     fn after_leap(self, place: usize, next: usize) -> LeapPlan
         requires { place ≤ next }
-        ensures wait { result.wait ≤ LONG_WAIT }
+        ensures wait { result.wait ≤ MAX_LOOKS_BEFORE_LEAP }
         ensures length { result.length ≡ next - place }
         ensures length_before { result.length_before ≡ self.length }
     {
         let length = next - place;
         LeapPlan {
-            wait: self.wait_after_leap(length),
+            wait: self.looks_before_leap(length),
             length,
             length_before: self.length,
         }
@@ -141,7 +141,7 @@ pub(crate) fn find_first_not_before(
 ) -> usize
     requires within { from ≤ length events.now }
     requires rising { IsRising moment_cmp moment_of events.now }
-    ensures { IsFirstFrom events.now from at result }
+    ensures { IsFirstNotBefore events.now from at result }
 {
     let mut low = from;
     let mut high = guess.max(from).min(events.len());
@@ -182,7 +182,7 @@ fn leap(window: &Window, events: &[TimedSignal], place: usize, leaps: &mut LeapP
 }
 
 /// Returns the first place from `from` on of an event at a cell of the window, or the end of the list. It may pass over
-/// such events at even times.
+/// events at even times.
 #[inline(always)]
 pub(crate) fn next_place_near(
     window: &Window,

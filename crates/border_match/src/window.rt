@@ -1,6 +1,6 @@
 //! Windows: columns and rows of cells.
 ghost use Rattle.std.specs.Prelude.{◌≡◌, ◌+◌, ◌≤◌, ◌≤ℤ◌, IsTrue};
-ghost use Rattle.border_match.specs.Surroundings.{AreMomentsFarBetween, IsSeen, IsWindow};
+ghost use Rattle.border_match.specs.Surroundings.{AreMomentsFarBetween, IsInWindow, IsWindowAround};
 
 use bbm_rule::Cell;
 use module_box::{Box2, Moment};
@@ -43,7 +43,7 @@ impl Window {
     pub(crate) fn around(area: Box2, corner: Box2) -> Window
         requires area { (area.x + area.w ≤ 512) × (area.y + area.h ≤ 512) }
         requires corner { (corner.x ≤ 512) × (corner.y ≤ 512) }
-        ensures { IsWindow area corner result }
+        ensures { IsWindowAround area corner result }
     {
         Window {
             first: Cell {
@@ -72,8 +72,8 @@ impl Window {
     /// Adds the columns and rows up to those of a cell.
     #[inline(always)]
     pub(crate) fn include(&mut self, cell: Cell)
-        ensures cell { IsSeen self.new cell }
-        ensures kept { (c : Cell) → IsSeen self.old c → IsSeen self.new c }
+        ensures cell { IsInWindow self.new cell }
+        ensures kept { (c : Cell) → IsInWindow self.old c → IsInWindow self.new c }
     {
         self.first = upper_left(self.first, cell);
         self.last = lower_right(self.last, cell);
@@ -81,7 +81,7 @@ impl Window {
 
     /// Returns whether the two windows have no cell in common.
     pub(crate) fn misses(self, other: Window) -> bool
-        ensures { IsTrue result → (c : Cell) → IsSeen self c → ¬ IsSeen other c }
+        ensures { IsTrue result → (c : Cell) → IsInWindow self c → ¬ IsInWindow other c }
     {
         if self.last.x < other.first.x || other.last.x < self.first.x {
             return true;
@@ -91,8 +91,8 @@ impl Window {
 
     /// Returns whether the cell is in these columns and rows.
     pub(crate) fn holds(self, cell: Cell) -> bool
-        ensures seen { IsSeen self cell → IsTrue result }
-        ensures bounds { IsTrue result → IsSeen self cell }
+        ensures seen { IsInWindow self cell → IsTrue result }
+        ensures bounds { IsTrue result → IsInWindow self cell }
     {
         if cell.x < self.first.x {
             return false;
@@ -109,7 +109,7 @@ impl Window {
     /// Returns a moment at the first column after one at a far cell. Between the two, no moment at an odd time is at a
     /// cell of the window. Border faults are at odd times.
     pub(crate) fn next_moment_near(self, at: Moment) -> Moment
-        requires far { ¬ IsSeen self at.cell }
+        requires far { ¬ IsInWindow self at.cell }
         ensures column { result.cell.x ≡ self.first.x }
         ensures passed { AreMomentsFarBetween self at result }
     {

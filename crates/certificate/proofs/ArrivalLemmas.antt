@@ -1,26 +1,24 @@
 -- The lines on delays and meetings are right about their gates.
-use Rattle.lemmas.proofs.Common.{[], ◌+◌, ◌-◌, ◌<◌, ◌==◌, ◌∙◌, ◌∷◌, ◌≡◌, ◌≤◌, All, Bool, Contains, List, None, Option}
-use Rattle.lemmas.proofs.Common.{Some, ap, arith, false, fold, if◌then◌else◌, length, max, min, nat_le, nat_lt}
-use Rattle.lemmas.proofs.Common.{option_to_list, refl, slice_get, subst, suc, sym, true, zero, ℕ, All-append, All-cons}
-use Rattle.lemmas.proofs.Common.{All-contains, All-head, All-nil, All-tail, Contains-append_left, Contains-append_right}
-use Rattle.lemmas.proofs.Common.{and_parts, common_steps, eqb-true, list_all, list_all-append, nat_tests, same_Some}
-use Rattle.lemmas.proofs.Common.{eq_test}
+use Rattle.certificate.proofs.Imports.{All, All-append, All-cons, All-head, All-nil, All-tail, Bool, Circuit, Contains}
+use Rattle.certificate.proofs.Imports.{Gate, List, None, Option, Some, StopLine, TimeLine, [], all_stops, and_parts, ap}
+use Rattle.certificate.proofs.Imports.{arith, common_steps, delay_line, earlier, eqb-true, false, fold, if◌then◌else◌}
+use Rattle.certificate.proofs.Imports.{last_times, later, length, lines_by_number, list_all, max, meet_line, min}
+use Rattle.certificate.proofs.Imports.{nat_le, nat_lt, nat_tests, option_to_list, refl, same_Some, slice_get}
+use Rattle.certificate.proofs.Imports.{stop_times_of_wire, subst, suc, sym, true, zero, ℕ, ◌+◌, ◌-◌, ◌<◌, ◌==◌, ◌∙◌}
+use Rattle.certificate.proofs.Imports.{◌∷◌, ◌≡◌, ◌≤◌}
+use Rattle.lemmas.proofs.Common.{All-contains, Contains-append_left, Contains-append_right, list_all-append, eq_test}
 use Rattle.circuit.specs.declared.circuit_line.GateKind.{GateKind}
 use Rattle.circuit.specs.declared.circuit_line.GateKind.TheVariants.{Source, Fredkin, Cswap, Interact, Switch, Delay}
 use Rattle.circuit.specs.declared.circuit_line.GateKind.TheVariants.{Unswitch, Uninteract}
-use Rattle.circuit.specs.Meaning.{Circuit, Gate}
 use Rattle.certificate.specs.Arrivals.{IsFirstTime, IsLastTime, LastStopsMeetAt, TakesSteps, IsTimeLineTrue}
 use Rattle.certificate.specs.Arrivals.{IsDelayGapTrue, IsMeetingTimeTrue}
 use Rattle.certificate.specs.Laws.{ObeyedLinesAreOnTime, TimeLinesAreTrue}
-use Rattle.certificate.specs.Times.{common_time, all_stops, delay_line_of_kind, delay_line, earlier, first_seen}
-use Rattle.certificate.specs.Times.{gap_between, is_obeyed, last_seen, last_times, later, meet_line_of_times, meet_line}
-use Rattle.certificate.specs.Times.{numbered, first_wire_time, stop_times_of_wire}
-use Rattle.certificate_lines.specs.declared.certificate_line.StopLine.{StopLine}
+use Rattle.certificate.specs.Times.{common_time, delay_line_of_kind, first_seen, gap_between, is_obeyed, last_seen}
+use Rattle.certificate.specs.Times.{meet_line_of_times, first_wire_time}
 use Rattle.certificate.specs.declared.times.StopGap.{StopGap}
 use Rattle.certificate.specs.declared.times.StopGap.TheVariants.{Steps, NoStop, Before}
-use Rattle.certificate.specs.declared.times.TimeLine.{TimeLine}
-use Rattle.certificate.specs.declared.times.TimeLine.TheVariants as line
 use Rattle.certificate.proofs.SeenLaws.{first_is_least, last_is_greatest}
+use Rattle.certificate.specs.declared.times.TimeLine.TheVariants as line
 
 -- ---- the first and the last time of a wire
 
@@ -218,11 +216,12 @@ meet_lines_tell c ss k g at = grind (arith, common_steps, nat_tests, meet_tells)
 
 all_numbered : (P : TimeLine → Type 0) (f : ℕ → Gate → List TimeLine) (all : List Gate) →
     ((k : ℕ) (g : Gate) → slice_get all k ≡ Some g → All P (f k g)) →
-    (j : ℕ) (gates : List Gate) → ((i : ℕ) → slice_get gates i ≡ slice_get all (j + i)) → All P (numbered f j gates)
-unfolding numbered
+    (j : ℕ) (gates : List Gate) → ((i : ℕ) → slice_get gates i ≡ slice_get all (j + i)) →
+    All P (lines_by_number f j gates)
+unfolding lines_by_number
 all_numbered P f all each j [] at = All-nil P
 all_numbered P f all each j (g ∷ gates) at =
-    All-append P (f j g) (numbered f (j + 1) gates)
+    All-append P (f j g) (lines_by_number f (j + 1) gates)
     (each j g (ap (slice_get all) (omega arith) ∙ sym (at 0)))
     (all_numbered P f all each (j + 1) gates (λ i. at (suc i) ∙ ap (slice_get all) (omega arith)))
 
@@ -242,18 +241,18 @@ lines_tell c ms =
 -- ---- where all are kept
 
 kept_at : (f : ℕ → Gate → List TimeLine) (j : ℕ) (gates : List Gate) (i : ℕ) (g : Gate) →
-    list_all is_obeyed (numbered f j gates) ≡ true → slice_get gates i ≡ Some g →
+    list_all is_obeyed (lines_by_number f j gates) ≡ true → slice_get gates i ≡ Some g →
     list_all is_obeyed (f (j + i) g) ≡ true
-unfolding numbered
+unfolding lines_by_number
 kept_at f j [] i g e at = absurd cc
 kept_at f j (h ∷ gates) zero g e at =
-    let p = and_parts (list_all is_obeyed (f j h)) (list_all is_obeyed (numbered f (j + 1) gates))
-    (sym (list_all-append is_obeyed (f j h) (numbered f (j + 1) gates)) ∙ e) in
+    let p = and_parts (list_all is_obeyed (f j h)) (list_all is_obeyed (lines_by_number f (j + 1) gates))
+    (sym (list_all-append is_obeyed (f j h) (lines_by_number f (j + 1) gates)) ∙ e) in
     let same : h ≡ g = same_Some h g at in
     grind (arith, common_steps)
 kept_at f j (h ∷ gates) (suc i) g e at =
-    let p = and_parts (list_all is_obeyed (f j h)) (list_all is_obeyed (numbered f (j + 1) gates))
-    (sym (list_all-append is_obeyed (f j h) (numbered f (j + 1) gates)) ∙ e) in
+    let p = and_parts (list_all is_obeyed (f j h)) (list_all is_obeyed (lines_by_number f (j + 1) gates))
+    (sym (list_all-append is_obeyed (f j h) (lines_by_number f (j + 1) gates)) ∙ e) in
     subst (λ n. list_all is_obeyed (f n g) ≡ true) (omega arith) (kept_at f (j + 1) gates i g p.1 at)
 
 kept_gap : (k n : ℕ) (gap : StopGap) → list_all is_obeyed (line.Delay k n gap ∷ []) ≡ true → gap ≡ Steps n
@@ -279,8 +278,8 @@ meeting_of k (a ∷ b ∷ ts) e =
 pub kept_is_on_time : ObeyedLinesAreOnTime
 kept_is_on_time c ms kept =
     let ss = all_stops ms in
-    let delays = numbered (delay_line (first_seen c ss) (last_seen c ss)) 0 c.netlist.gates in
-    let meetings = numbered (meet_line (last_seen c ss)) 0 c.netlist.gates in
+    let delays = lines_by_number (delay_line (first_seen c ss) (last_seen c ss)) 0 c.netlist.gates in
+    let meetings = lines_by_number (meet_line (last_seen c ss)) 0 c.netlist.gates in
     let p = and_parts (list_all is_obeyed delays) (list_all is_obeyed meetings)
     (sym (list_all-append is_obeyed delays meetings) ∙ kept) in
     record {

@@ -1,29 +1,21 @@
 -- The lines beside a module, one after the other
-use Rattle.lemmas.proofs.Common.{[], ◌++◌, ◌+◌, ◌<◌, ◌∙◌, ◌∷◌, ◌≡◌, ◌≤◌, Bool, List, Some, ap, append-nil, arith, drop}
-use Rattle.lemmas.proofs.Common.{false, filter, flat_map, get_or, if◌then◌else◌, inl, inr, length, map, refl, slice_get}
-use Rattle.lemmas.proofs.Common.{subst, sym, true, ℕ, common_steps, drop-drop, drop_all, length-map, length_push}
-use Rattle.lemmas.proofs.Common.{map-append, slice_get_read, slice_get_within, mapped_at, mapped_from}
-use Rattle.circuit.specs.Meaning.{Circuit}
-use Rattle.pattern.specs.Layout.{Pattern}
+use Rattle.certificate.proofs.Imports.{AreModules, AreNeighbourEdgePlaces, Bool, Box2, CertificateLine, Circuit, Cut}
+use Rattle.certificate.proofs.Imports.{Edge, Halo, HasLocalPorts, IsJobOf, IsModule, JobView, Keep, List, Module}
+use Rattle.certificate.proofs.Imports.{ModuleLines, ModuleSlice, Pattern, Setting, Some, Stop, Use, [], ap, append-nil}
+use Rattle.certificate.proofs.Imports.{arith, body_lines, common_steps, drop, drop_all, edge_in, edge_lines_at}
+use Rattle.certificate.proofs.Imports.{edge_lines_beside, false, filter, flat_map, get_or, halo_in, if◌then◌else◌, inl}
+use Rattle.certificate.proofs.Imports.{inr, is_module, lacks_edge_wire_beside, length, length-map, list_at_or_empty}
+use Rattle.certificate.proofs.Imports.{map, map-append, mapped_at, mapped_from, modules_of, refl, slice_get}
+use Rattle.certificate.proofs.Imports.{slice_get_within, slice_lines, some_is, split_module, split_other, subst, sym}
+use Rattle.certificate.proofs.Imports.{true, with_halos, ℕ, ◌++◌, ◌+◌, ◌<◌, ◌∙◌, ◌∷◌, ◌≡◌, ◌≤◌}
+use Rattle.lemmas.proofs.Common.{drop-drop, length_push, slice_get_read}
 use Rattle.module_box.proofs.Rising.{pushed}
-use Rattle.module_box.specs.declared.boxes.Box2.{Box2}
-use Rattle.certificate_lines.specs.Entries.{ModuleLines, Setting, counts_of, edge_in, halo_in, modules_of}
-use Rattle.certificate.specs.Jobs.{AreJobsOf, IsJobOf}
-use Rattle.module_job.specs.Jobs.{JobView}
-use Rattle.certificate_lines.specs.ModuleParts.{inner, is_module}
-use Rattle.certificate.specs.HaloPlaces.{AreHaloPlaces, edge_lines_at, list_at_or_empty}
-use Rattle.certificate.specs.SliceLines.{slice_lines}
-use Rattle.certificate_lines.specs.Modules.{AreModules, HasPorts, IsModule}
-use Rattle.certificate_lines.specs.Versions.{edge_lines_beside, lacks_edge_wire_beside, with_halos}
-use Rattle.certificate.specs.declared.beside.ModuleSlice.{ModuleSlice}
-use Rattle.certificate_lines.specs.declared.certificate_line.CertificateLine.{CertificateLine}
-use Rattle.certificate_lines.specs.declared.certificate_line.CertificateLine.TheVariants.{Module, Cut, Use, Keep, Edge}
-use Rattle.certificate_lines.specs.declared.certificate_line.CertificateLine.TheVariants.{Halo, Stop}
+use Rattle.certificate_lines.specs.Entries.{counts_of}
+use Rattle.certificate.specs.Jobs.{AreJobsOf}
 use Rattle.certificate_lines.specs.declared.certificate_line.Counts.{Counts}
-use Rattle.certificate.proofs.FullModules.{full_modules}
-use Rattle.certificate_lines.proofs.Lists.{some_is}
-use Rattle.certificate_lines.proofs.ModuleSplit.{after_inner, split_module, split_other}
+use Rattle.certificate_lines.proofs.ModuleSplit.{after_inner}
 use Rattle.certificate_lines.proofs.LinesLeft.{line_here, nothing_left}
+use Rattle.certificate.proofs.FullModules.{full_modules}
 
 cond_append : {A : Type 0} (b : Bool) (x : A) (xs ys : List A) →
     (if b then x ∷ (xs ++ ys) else xs ++ ys) ≡ (if b then x ∷ xs else xs) ++ ys
@@ -48,7 +40,7 @@ one_module_more : (es : List CertificateLine) (place : ℕ) (area : Box2) (part 
     (ps qs : List ModuleSlice) →
     place < length es →
     Module area ≡ get_or es place (Module area) →
-    slice_lines part ≡ record { area = area; lines = inner (drop (place + 1) es) } → qs ≡ ps ++ part ∷ [] →
+    slice_lines part ≡ record { area = area; lines = body_lines (drop (place + 1) es) } → qs ≡ ps ++ part ∷ [] →
     map slice_lines ps ++ modules_of (drop place es) ≡ modules_of es →
     map slice_lines qs ++ modules_of (drop (place + 1) es) ≡ modules_of es
 one_module_more es place area part ps qs lt at is grown h =
@@ -59,8 +51,8 @@ pub one_part : (es : List CertificateLine) (place : ℕ) (area : Box2) (part : M
     (count next : ℕ) →
     place < length es →
     Module area ≡ get_or es place (Module area) →
-    slice_lines part ≡ record { area = area; lines = inner (drop (place + 1) es) } → qs ≡ ps ++ part ∷ [] →
-    count ≡ length (inner (drop (place + 1) es)) → next ≡ place + 1 + count →
+    slice_lines part ≡ record { area = area; lines = body_lines (drop (place + 1) es) } → qs ≡ ps ++ part ∷ [] →
+    count ≡ length (body_lines (drop (place + 1) es)) → next ≡ place + 1 + count →
     map slice_lines ps ++ modules_of (drop place es) ≡ modules_of es →
     map slice_lines qs ++ modules_of (drop next es) ≡ modules_of es
 one_part es place area part ps qs count next lt at is grown long goes h =
@@ -92,10 +84,10 @@ pub within_module : (es : List CertificateLine) (place : ℕ) (area : Box2) (ps 
     counts ≡ map counts_of (modules_of es) →
     ((k : Counts) → slice_get counts (length ps) ≡ Some k → n ≤ k.edges + k.halos) →
     map slice_lines ps ++ modules_of (drop place es) ≡ modules_of es →
-    n ≤ length (inner (drop (place + 1) es))
+    n ≤ length (body_lines (drop (place + 1) es))
 within_module es place area ps counts n lt at counted few h =
     let rest = drop (place + 1) es in
-    let m : ModuleLines = record { area = area; lines = inner rest } in
+    let m : ModuleLines = record { area = area; lines = body_lines rest } in
     let split : modules_of (drop place es) ≡ m ∷ modules_of rest =
     ap modules_of (line_here es place (Module area) lt at) ∙ split_module area rest in
     let all : map counts_of (map slice_lines ps ++ m ∷ modules_of rest) ≡ counts =
@@ -103,7 +95,7 @@ within_module es place area ps counts n lt at counted few h =
     let here : slice_get counts (length ps) ≡ Some (counts_of m) =
     grind (arith, common_steps, length-map, counted_at) in
     let le = few (counts_of m) here in
-    let all_lines = few_borders (inner rest) in
+    let all_lines = few_borders (body_lines rest) in
     omega (arith, le, all_lines)
 
 pub all_parts : (es : List CertificateLine) (place : ℕ) (ps : List ModuleSlice) → length es ≤ place →
@@ -125,7 +117,7 @@ pub record HaveListsFrom (g : Setting) (es : List CertificateLine) (done : ℕ) 
       edge_lines_at es (list_at_or_empty lists i) ≡ edge_lines_beside g (modules_of es) m.area
 
 module _ (g : Setting) (es : List CertificateLine) where
-  pub all_lists : (lists : List (List ℕ)) → AreHaloPlaces g es lists → HaveListsFrom g es 0 lists
+  pub all_lists : (lists : List (List ℕ)) → AreNeighbourEdgePlaces g es lists → HaveListsFrom g es 0 lists
   all_lists lists h = record { count = h.count; each = λ i m le at. h.each i m at }
 
   pub one_list_less : {X : Type 0} (f : X → List ℕ) (done : ℕ) (old new : List X) → length new ≡ length old →
@@ -144,7 +136,7 @@ pub record IsFullPart (g : Setting) (ms : List ModuleLines) (number : ℕ) (part
   pub at : slice_get ms number ≡ Some (slice_lines part)
   pub full : ◌≡◌ {A = ModuleLines} (record { area = part.area; lines = lines }) (with_halos g ms (slice_lines part))
   pub good : IsModule g (record { area = part.area; lines = lines })
-  pub ports : HasPorts g (record { area = part.area; lines = lines })
+  pub ports : HasLocalPorts g (record { area = part.area; lines = lines })
 
 -- the lines of a module with its halo lines, by the places of these
 pub full_part : {g : Setting} {es : List CertificateLine} {lists : List (List ℕ)} {number : ℕ} {part : ModuleSlice}
@@ -174,7 +166,7 @@ full_part {g} {es} {lists} {number} {part} {places} {made} {lines} parts are goo
       at = at;
       full = whole;
       good = subst (IsModule g) (sym whole) (each.each number _ there);
-      ports = subst (HasPorts g) (sym whole) (each.ports number _ there);
+      ports = subst (HasLocalPorts g) (sym whole) (each.ports number _ there);
     }
 
 -- the modules before this number have their jobs, where a module means what f says

@@ -1,25 +1,14 @@
 -- The edge and halo lines of a module rise, those with a `*` by their cells, the others by time and cell.
-use Rattle.lemmas.proofs.Common.{[], ◌+◌, ◌||◌, ◌∷◌, ◌≡◌, Bool, Equal, Greater, Less, List, None, Option, Ordering}
-use Rattle.lemmas.proofs.Common.{Some, arith, false, map, refl, true, ℕ, and_parts, common_steps, list_all}
-use Rattle.lemmas.proofs.Common.{ordering_then}
+use Rattle.certificate.proofs.Imports.{AllTimesSignal, AreInOrder, Bool, BorderLine, CertificateLine, Cut, Each, Edge}
+use Rattle.certificate.proofs.Imports.{Equal, Greater, Halo, Keep, Less, List, Module, None, Option, Ordering, Pairs}
+use Rattle.certificate.proofs.Imports.{Signal, Some, Stop, TimedSignal, Use, [], all_times_of_line, and_parts, arith}
+use Rattle.certificate.proofs.Imports.{cell_cmp, cell_of, common_steps, edge_in, events_of_line, false, halo_in, is_cut}
+use Rattle.certificate.proofs.Imports.{line_cmp, list_all, map, may_precede, moment_cmp, ordering_then, pairs_flat}
+use Rattle.certificate.proofs.Imports.{rank_of, refl, renumber_all_times, renumber_event, rising_of, some_is}
+use Rattle.certificate.proofs.Imports.{sort_number_of, time_rank, true, ℕ, ◌+◌, ◌||◌, ◌∷◌, ◌≡◌}
 use Rattle.std.specs.List.{flat_map}
 use Rattle.std.specs.Ordering.{nat_cmp, is_lt}
-use Rattle.module_box.specs.Moments.{cell_cmp, moment_cmp}
 use Rattle.module_box.specs.Schedules.{IsRising, moment_of, cell_of as all_times_cell}
-use Rattle.module_box.specs.declared.schedules.TimedSignal.{TimedSignal}
-use Rattle.module_box.specs.declared.schedules.AllTimes.{AllTimes}
-use Rattle.module_box.specs.declared.schedules.Signal.{Signal}
-use Rattle.certificate_lines.specs.Entries.{edge_in, halo_in}
-use Rattle.certificate.specs.Jobs.{all_times_of_line, events_of_line}
-use Rattle.certificate_lines.specs.Orders.{AreInOrder, rank_of, number_of, cell_of, line_cmp, is_cut, may_precede}
-use Rattle.certificate_lines.specs.Orders.{time_rank}
-use Rattle.module_job.specs.Signals.{renumber_all_times, renumber_event}
-use Rattle.certificate_lines.specs.declared.certificate_line.BorderLine.{BorderLine}
-use Rattle.certificate_lines.specs.declared.certificate_line.CertificateLine.{CertificateLine}
-use Rattle.certificate_lines.specs.declared.certificate_line.CertificateLine.TheVariants.{Module, Cut, Use, Keep, Edge}
-use Rattle.certificate_lines.specs.declared.certificate_line.CertificateLine.TheVariants.{Halo, Stop}
-use Rattle.certificate_lines.proofs.Lists.{some_is}
-use Rattle.certificate_lines.proofs.Pairs.{Each, Pairs, pairs_flat, rising_of}
 
 -- one line comes before another
 abbrev pub Before : BorderLine → BorderLine → Type 0
@@ -44,11 +33,11 @@ is_less Equal b e h = absurd cc
 is_less Greater b e h = absurd cc
 
 edge_before : (d e : BorderLine) → may_precede (Edge d) (Edge e) ≡ true → Before d e
-unfolding may_precede line_cmp rank_of number_of cell_of is_cut
+unfolding may_precede line_cmp rank_of sort_number_of cell_of is_cut
 edge_before d e h = is_less _ false refl h
 
 halo_before : (d e : BorderLine) → may_precede (Halo d) (Halo e) ≡ true → Before d e
-unfolding may_precede line_cmp rank_of number_of cell_of is_cut
+unfolding may_precede line_cmp rank_of sort_number_of cell_of is_cut
 halo_before d e h = is_less _ false refl h
 
 edge_first : (d : BorderLine) (j : CertificateLine) → may_precede (Edge d) j ≡ true → Each (Before d) (edge_in j)
@@ -121,7 +110,7 @@ halos_rise lines o = grind (arith, common_steps, pairs_flat, halos_between, halo
 
 -- ---- what the lines say
 
-abbrev HeldBefore : AllTimes → AllTimes → Type 0
+abbrev HeldBefore : AllTimesSignal → AllTimesSignal → Type 0
 HeldBefore a b = cell_cmp a.cell b.cell ≡ Less
 
 abbrev EventBefore : TimedSignal → TimedSignal → Type 0
@@ -194,7 +183,7 @@ module _ (σ : BorderLine → Signal) where
   event_pairs es p = grind (arith, common_steps, pairs_flat, event_by_time, event_alone)
 
   -- also by other numbers of the wires
-  pub all_times_rises : (f : ℕ → ℕ) (es : List BorderLine) → Pairs Before es → (hs : List AllTimes) →
+  pub all_times_rises : (f : ℕ → ℕ) (es : List BorderLine) → Pairs Before es → (hs : List AllTimesSignal) →
       map (renumber_all_times f) hs ≡ flat_map (λ e. all_times_of_line e e.time (σ e)) es →
       IsRising cell_cmp all_times_cell hs
   all_times_rises f es p hs e =

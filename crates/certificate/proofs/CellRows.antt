@@ -1,19 +1,13 @@
 -- Lists of what cells carry and must be, that grow row by row.
-use Rattle.lemmas.proofs.Common.{[], ◌++◌, ◌+◌, ◌-◌, ◌<◌, ◌∙◌, ◌∷◌, ◌≡◌, ◌≤◌, All, List, ap, arith, flat_map, map, pos}
-use Rattle.lemmas.proofs.Common.{refl, replicate, suc, sym, to_z, true, w32, zero, ℕ, and_from, common_steps}
-use Rattle.lemmas.proofs.Common.{get_or-replicate, length-replicate, map-append, range_with_len}
-use Rattle.bbm_rule.specs.declared.block.Cell.{Cell}
+use Rattle.certificate.proofs.Imports.{AddsCells, All, Box2, Cell, Circuit, Demand, IsDemandWireBelow}
+use Rattle.certificate.proofs.Imports.{IsSignalWireBelow, List, LocalNet, Pattern, Signal, [], and_from, ap, arith}
+use Rattle.certificate.proofs.Imports.{circuit_wire, common_steps, end_demand, flat_map, in_box, map, map-append, pos}
+use Rattle.certificate.proofs.Imports.{range_with_len, refl, renumber_demand, renumber_signal, replicate, row_cells}
+use Rattle.certificate.proofs.Imports.{start_signal, suc, sym, to_z, true, w32, wires, zero, ℕ, ◌++◌, ◌+◌, ◌-◌, ◌<◌}
+use Rattle.certificate.proofs.Imports.{◌∙◌, ◌∷◌, ◌≡◌, ◌≤◌}
+use Rattle.lemmas.proofs.Common.{get_or-replicate, length-replicate}
 use Rattle.bbm_rule.proofs.Spans.{span_from}
-use Rattle.circuit.specs.Meaning.{Circuit, wires}
-use Rattle.pattern.specs.Layout.{Pattern, cell, row_cells}
-use Rattle.module_box.specs.Boxes.{in_box}
-use Rattle.module_box.specs.Locals.{LocalNet, circuit_wire}
-use Rattle.module_box.specs.declared.boxes.Box2.{Box2}
-use Rattle.module_box.specs.declared.schedules.Signal.{Signal}
-use Rattle.module_job.specs.Signals.{IsSignalWireBelow, IsDemandWireBelow, renumber_demand, renumber_signal}
-use Rattle.module_job.specs.declared.job.Demand.{Demand}
-use Rattle.certificate.specs.Jobs.{end_demand, start_signal}
-use Rattle.certificate.specs.LayoutTablesView.{AddsCells}
+use Rattle.pattern.specs.Layout.{cell}
 use Rattle.certificate.specs.declared.layout_tables.CellLists.{CellLists}
 use Rattle.pattern.proofs.CellLists.{cast_cell, flat_map_range_more, row_more}
 

@@ -1,36 +1,26 @@
 -- The modules of version 2 as modules of version 1
-use Rattle.lemmas.proofs.Common.{[], ◌&&◌, ◌++◌, ◌<◌, ◌||◌, ◌∙◌, ◌∷◌, ◌≡◌, ◌≢◌, ◌≤◌, All, Bool, Equal, Greater, IfSome}
-use Rattle.lemmas.proofs.Common.{IsTrue, Less, List, None, Option, Ordering, Some, ap, ap₂, arith, false, filter}
-use Rattle.lemmas.proofs.Common.{flat_map, inl, inr, is_lt, length, map, nat_lt, option_to_list, refl}
-use Rattle.lemmas.proofs.Common.{slice_get, subst, suc, sym, true, true≢false, zero, ℕ, ℤ, All-cons, All-nil, and_parts}
-use Rattle.lemmas.proofs.Common.{cases_Bool, common_steps, cond-false, cond-true, flat_map-append, length-map, list_all}
-use Rattle.lemmas.proofs.Common.{list_any, ordering_then, mapped_at, mapped_from}
-use Rattle.bbm_rule.specs.declared.block.Cell.{Cell}
-use Rattle.circuit.specs.Meaning.{wire_of}
-use Rattle.module_box.specs.Boxes.{in_box, in_halo, in_ring, Tile}
-use Rattle.module_box.specs.Locals.{local_wires}
-use Rattle.module_box.specs.declared.boxes.Box2.{Box2}
+use Rattle.certificate.proofs.Imports.{All, All-cons, All-nil, AreDistinct, AreInOrder, AreModules, Bool, BorderLine}
+use Rattle.certificate.proofs.Imports.{Box2, Cell, CertificateLine, Cut, Each, Edge, Equal, Greater, Halo}
+use Rattle.certificate.proofs.Imports.{HasLocalPorts, IfSome, In, IsModule, IsTrue, Keep, Less, List, Module}
+use Rattle.certificate.proofs.Imports.{ModuleLines, None, Option, Ordering, Pairs, Rises, Setting, Some}
+use Rattle.certificate.proofs.Imports.{StarsExcludeLaterTimes, Stop, StopLine, Tile, Use, [], all_in, and_parts, any_at}
+use Rattle.certificate.proofs.Imports.{ap, ap₂, areas, arith, border_line_cmp, cases_Bool, cell_of, common_steps}
+use Rattle.certificate.proofs.Imports.{cond-false, cond-true, cut_wires, cuts, each_in, edge_in, edge_lines_beside}
+use Rattle.certificate.proofs.Imports.{edges, false, filter, filter_in, flat_map, flat_map-append, gates, halo_in}
+use Rattle.certificate.proofs.Imports.{halos, in_box, in_each, in_filter, in_flat, in_halo, in_ordered, in_ring, inl}
+use Rattle.certificate.proofs.Imports.{inr, is_halo, is_haloless_version, is_local, is_lt, is_nonlocal_signal, keeps}
+use Rattle.certificate.proofs.Imports.{known, lacks_edge_wire_beside, length, length-map, line_cmp, list_all, list_any}
+use Rattle.certificate.proofs.Imports.{local_wires, map, mapped_at, mapped_from, may_precede, modules_by_version}
+use Rattle.certificate.proofs.Imports.{nat_lt, option_to_list, ordered_rises, ordering_then, pairs_filter, placed}
+use Rattle.certificate.proofs.Imports.{precedes_halos, rank_of, refl, slice_get, some_is, sort_number_of}
+use Rattle.certificate.proofs.Imports.{sorted_border_lines, stop_in, stops, subst, suc, sym, true, true≢false, whole}
+use Rattle.certificate.proofs.Imports.{wire_of, with_halos, without_halos, zero, ℕ, ℤ, ◌&&◌, ◌++◌, ◌<◌, ◌||◌, ◌∙◌, ◌∷◌}
+use Rattle.certificate.proofs.Imports.{◌≡◌, ◌≢◌, ◌≤◌}
 use Rattle.module_box.proofs.Rising.{cell_exact}
-use Rattle.certificate_lines.specs.Entries.{Setting, ModuleLines, areas, edge_in, halo_in}
-use Rattle.certificate_lines.specs.Entries.{stop_in, cuts, gates, keeps, edges, halos, stops, known, cut_wires}
-use Rattle.certificate_lines.specs.Modules.{AreModules, StarsExcludeLaterTimes, HasPorts, IsEdge, IsHalo}
-use Rattle.certificate_lines.specs.Modules.{IsModule, IsStop}
-use Rattle.certificate_lines.specs.Orders.{AreInOrder, cell_of, line_cmp, may_precede, number_of, rank_of}
-use Rattle.certificate_lines.specs.Rules.{is_local, whole}
-use Rattle.certificate_lines.specs.Versions.{edge_lines_beside, in_order, precedes_halos, is_halo, is_haloless_version}
-use Rattle.certificate_lines.specs.Versions.{is_nonlocal_signal, lacks_edge_wire_beside, border_line_cmp}
-use Rattle.certificate_lines.specs.Versions.{modules_by_version, with_halos, without_halos}
-use Rattle.certificate_lines.specs.declared.certificate_line.BorderLine.{BorderLine}
-use Rattle.certificate_lines.specs.declared.certificate_line.CertificateLine.{CertificateLine}
-use Rattle.certificate_lines.specs.declared.certificate_line.StopLine.{StopLine}
-use Rattle.certificate_lines.specs.declared.certificate_line.CertificateLine.TheVariants.{Module, Cut, Use, Keep, Edge}
-use Rattle.certificate_lines.specs.declared.certificate_line.CertificateLine.TheVariants.{Halo, Stop}
+use Rattle.certificate_lines.specs.Modules.{IsEdge, IsHalo, IsStop}
+use Rattle.certificate_lines.proofs.LineOrder.{pairs_each, rising_distinct}
+use Rattle.certificate_lines.proofs.Pairs.{each_append, pairs_append}
 use Rattle.certificate.proofs.BorderOrder.{edges_rise, pairs_of_order}
-use Rattle.certificate_lines.proofs.LineOrder.{AreDistinct, In, Rises, each_in, filter_in, in_each, in_filter, in_flat}
-use Rattle.certificate_lines.proofs.LineOrder.{in_ordered, ordered_rises, pairs_filter, pairs_each, rising_distinct}
-use Rattle.certificate_lines.proofs.Lists.{any_at, some_is}
-use Rattle.certificate_lines.proofs.Pairs.{Each, Pairs, each_append, pairs_append}
-use Rattle.certificate_lines.proofs.InList.{all_in, placed}
 
 -- ---- lists
 
@@ -182,7 +172,7 @@ less_is Equal b h = absurd cc
 less_is Greater b h = absurd cc
 
 halos_follow : (d e : BorderLine) → border_line_cmp d e ≡ Less → may_precede (Halo d) (Halo e) ≡ true
-unfolding may_precede line_cmp rank_of number_of cell_of border_line_cmp
+unfolding may_precede line_cmp rank_of sort_number_of cell_of border_line_cmp
 halos_follow d e h = less_is _ _ h
 
 before_halo : (i : CertificateLine) (e : BorderLine) → precedes_halos i ≡ true → may_precede i (Halo e) ≡ true
@@ -333,7 +323,7 @@ module _ (g : Setting) (ms : List ModuleLines) (good : AreModules g ms) where
   unfolding edge_lines_beside Pairs
   distinct_beside area = grind (arith, common_steps, cases_Bool, cond-true, pairs_filter, all_distinct, cond-false)
 
-  pub full_rises : (area : Box2) → Rises (in_order (edge_lines_beside g ms area))
+  pub full_rises : (area : Box2) → Rises (sorted_border_lines (edge_lines_beside g ms area))
   full_rises area = ordered_rises (edge_lines_beside g ms area) (distinct_beside area)
 
   -- ---- a module with the edge lines beside it
@@ -358,9 +348,9 @@ module _ (g : Setting) (ms : List ModuleLines) (good : AreModules g ms) where
     unfolding with_halos
     full_edges = grind (arith, common_steps, other_lines)
 
-    pub full_halos : halos full ≡ in_order (edge_lines_beside g ms m.area)
+    pub full_halos : halos full ≡ sorted_border_lines (edge_lines_beside g ms m.area)
     unfolding with_halos
-    full_halos = halo_lines m.lines (in_order (edge_lines_beside g ms m.area))
+    full_halos = halo_lines m.lines (sorted_border_lines (edge_lines_beside g ms m.area))
 
     pub full_keeps : keeps full ≡ keeps m
     unfolding with_halos
@@ -368,7 +358,7 @@ module _ (g : Setting) (ms : List ModuleLines) (good : AreModules g ms) where
 
     pub full_stops : stops full ≡ stops m
     unfolding with_halos
-    full_stops = stop_lines m.lines (in_order (edge_lines_beside g ms m.area))
+    full_stops = stop_lines m.lines (sorted_border_lines (edge_lines_beside g ms m.area))
 
     pub full_wires : cut_wires g.circuit full ≡ cut_wires g.circuit m
     full_wires = ap (flat_map (λ n. option_to_list (wire_of g.circuit n))) full_cuts
@@ -409,19 +399,19 @@ module _ (g : Setting) (ms : List ModuleLines) (good : AreModules g ms) where
           inside = is.inside;
           named = ap length full_wires ∙ is.named ∙ ap length (sym full_cuts);
           local = grind (arith, common_steps, full, full_wires, full_gates);
-          order = full_order m.lines (in_order (edge_lines_beside g ms m.area)) is.order (full_rises m.area);
+          order = full_order m.lines (sorted_border_lines (edge_lines_beside g ms m.area)) is.order (full_rises m.area);
           keep_lines = grind (arith, common_steps, full, full_gates, full_keeps);
           unstarred = subst StarsExcludeLaterTimes (sym full_edges) is.unstarred;
           edge_lines = grind (arith, common_steps, full, full_known, full_edges);
           halo_lines = subst (λ ws. All (IsHalo g m.area ws) (halos full)) (sym full_known)
               (subst (All (IsHalo g m.area (known g.circuit m))) (sym full_halos)
-              (in_all (IsHalo g m.area (known g.circuit m)) (in_order (edge_lines_beside g ms m.area))
+              (in_all (IsHalo g m.area (known g.circuit m)) (sorted_border_lines (edge_lines_beside g ms m.area))
               (λ e i. let j = in_ordered e (edge_lines_beside g ms m.area) i in halo_here e j (known_there e j))));
           stop_lines = subst (λ ws. All (IsStop g m.area ws) (stops full)) (sym full_known)
               (subst (All (IsStop g m.area (known g.circuit m))) (sym full_stops) is.stop_lines);
         }
 
-    pub full_ports : HasPorts g m → HasPorts g full
+    pub full_ports : HasLocalPorts g m → HasLocalPorts g full
     unfolding with_halos
     full_ports h = grind (arith, common_steps, full_known)
 
@@ -454,7 +444,7 @@ module _ (g : Setting) (ms : List ModuleLines) (good : AreModules g ms) where
         subst (IsModule g) n.2 (full_good n.0 at (none_strange none n.0 at));
     ports = λ k m e.
         let n = mapped_from (with_halos g ms) ms k m e in
-        subst (HasPorts g) n.2 (full_ports n.0 (good.ports k n.0 n.1));
+        subst (HasLocalPorts g) n.2 (full_ports n.0 (good.ports k n.0 n.1));
     tile = subst (Tile (whole g.size)) (sym full_areas) good.tile;
   }
 

@@ -1,23 +1,18 @@
 -- Lists of the places of edge lines, as places are added
-use Rattle.lemmas.proofs.Common.{[], ◌&&◌, ◌++◌, ◌+ℤ◌, ◌-ℤ◌, ◌<◌, ◌||◌, ◌∙◌, ◌∷◌, ◌≡◌, Bool, List, Some, ap, append-nil}
-use Rattle.lemmas.proofs.Common.{append_assoc, arith, eqb, false, filter, get_or, if◌then◌else◌, inl, inr, length, map}
-use Rattle.lemmas.proofs.Common.{not, pos, refl, slice_get, slice_set, suc, sym, true, zero, ℕ, ℤ, and_from, and_parts}
-use Rattle.lemmas.proofs.Common.{cases_Bool, common_steps, cond-false, cond-true, eqb-false, eqb-true, flat_map-append}
-use Rattle.lemmas.proofs.Common.{slice_get_within, true_from_not}
+use Rattle.certificate.proofs.Imports.{AddsEdgePlaces, AreReady, Bool, BorderLine, Box2, Cell, CertificateLine, Edge}
+use Rattle.certificate.proofs.Imports.{IsEven, IsInnerCell, List, Some, [], and_from, and_parts, ap, append-nil}
+use Rattle.certificate.proofs.Imports.{append_assoc, arith, cases_Bool, common_steps, cond-false, cond-true}
+use Rattle.certificate.proofs.Imports.{edge_lines_at, eqb, eqb-true, false, filter, flat_map-append, get_or}
+use Rattle.certificate.proofs.Imports.{if◌then◌else◌, in_box, in_halo, in_span, inl, inr, length, list_at_or_empty, map}
+use Rattle.certificate.proofs.Imports.{not, pos, rectangle, refl, slice_get, slice_get_within, some_is, suc, sym, true}
+use Rattle.certificate.proofs.Imports.{true_from_not, zero, ℕ, ℤ, ◌&&◌, ◌++◌, ◌+ℤ◌, ◌<◌, ◌||◌, ◌∙◌, ◌∷◌, ◌≡◌}
+use Rattle.lemmas.proofs.Common.{◌-ℤ◌, slice_set, eqb-false}
 use Rattle.bbm_rule.specs.Plane.{partner}
-use Rattle.bbm_rule.specs.Spans.{in_span}
-use Rattle.bbm_rule.specs.declared.block.Cell.{Cell}
 use Rattle.bbm_rule.proofs.Spans.{partner_near}
-use Rattle.module_box.specs.Boxes.{in_box, in_halo, IsEven}
-use Rattle.module_box.specs.Tiling.{AreOwners, Owning, owner_of, rectangle}
-use Rattle.module_box.specs.declared.boxes.Box2.{Box2}
-use Rattle.module_box.proofs.RingTests.{ring_read}
-use Rattle.certificate_lines.specs.declared.certificate_line.BorderLine.{BorderLine}
-use Rattle.certificate_lines.specs.declared.certificate_line.CertificateLine.{CertificateLine}
-use Rattle.certificate_lines.specs.declared.certificate_line.CertificateLine.TheVariants.{Edge}
-use Rattle.certificate_lines.proofs.Lists.{some_is}
+use Rattle.module_box.specs.Tiling.{AreOwners, OwnersView, owner_of}
+use Rattle.bbm_rule.proofs.RingTests.{ring_read}
 use Rattle.certificate_lines.proofs.OddBlocks.{halo_either}
-use Rattle.certificate.specs.HaloPlaces.{AreReady, HaveEdges, HavePlace, IsInnerCell, edge_lines_at, list_at_or_empty}
+use Rattle.certificate.specs.HaloPlaces.{AddsPlaceWhere}
 use Rattle.certificate.proofs.BesideLines.{filter-append}
 
 -- ---- one list of several
@@ -52,11 +47,11 @@ module _ {X : Type 0} (f : X → List ℕ) where
 
 -- ---- a place more for the box that has a cell
 
-pub owner_within : (boxes : List Box2) (o : Owning) (x y : ℤ) → AreOwners o boxes →
+pub owner_within : (boxes : List Box2) (o : OwnersView) (x y : ℤ) → AreOwners o boxes →
     in_box (rectangle o) x y ≡ true → owner_of o x y < length boxes
 owner_within boxes o x y good inside = grind (arith, common_steps, slice_get_within)
 
-module _ (boxes : List Box2) (o : Owning) (good : AreOwners o boxes) (x y : ℤ)
+module _ (boxes : List Box2) (o : OwnersView) (good : AreOwners o boxes) (x y : ℤ)
     (inside : in_box (rectangle o) x y ≡ true) where
   owner_is : (i : ℕ) (b : Box2) → slice_get boxes i ≡ Some b → in_box b x y ≡ true → i ≡ owner_of o x y
   owner_is i b at here = grind (arith, common_steps)
@@ -71,13 +66,13 @@ module _ (boxes : List Box2) (o : Owning) (good : AreOwners o boxes) (x y : ℤ)
   module _ (q : Box2 → Bool) (a : Box2) (own : slice_get boxes (owner_of o x y) ≡ Some a) (place : ℕ) where
     -- if that box is to have none
     pub no_place : (lists : List (List ℕ)) → q a ≡ true →
-        HavePlace boxes (λ b. in_box b x y && not (q b)) place lists lists
+        AddsPlaceWhere boxes (λ b. in_box b x y && not (q b)) place lists lists
     no_place lists taken = grind (arith, common_steps, cases_Bool, same_box, owner_is, append-nil, cond-false)
 
     pub one_place : (old new : List (List ℕ)) → q a ≡ false → length new ≡ length old →
         list_at_or_empty new (owner_of o x y) ≡ list_at_or_empty old (owner_of o x y) ++ place ∷ [] →
         ((i : ℕ) → (i ≡ owner_of o x y → ⊥) → list_at_or_empty new i ≡ list_at_or_empty old i) →
-        HavePlace boxes (λ b. in_box b x y && not (q b)) place old new
+        AddsPlaceWhere boxes (λ b. in_box b x y && not (q b)) place old new
     one_place old new free count here others = record {
       count = count;
       each = λ i b at. elim (cases_Bool (eqb i (owner_of o x y))) [
@@ -89,7 +84,7 @@ module _ (boxes : List Box2) (o : Owning) (good : AreOwners o boxes) (x y : ℤ)
     }
 
 pub same_test : (boxes : List Box2) (p q : Box2 → Bool) (place : ℕ) (old new : List (List ℕ)) →
-    ((b : Box2) → p b ≡ q b) → HavePlace boxes p place old new → HavePlace boxes q place old new
+    ((b : Box2) → p b ≡ q b) → AddsPlaceWhere boxes p place old new → AddsPlaceWhere boxes q place old new
 same_test boxes p q place old new same h = grind (arith, common_steps)
 
 -- ---- a place more for each box that has a cell in its halo
@@ -147,8 +142,9 @@ module _ (x y : ℤ) where
 
   pub beside_places : (boxes : List Box2) (place : ℕ) (old l m new : List (List ℕ)) →
       ((k : ℕ) (b : Box2) → slice_get boxes k ≡ Some b → IsEven b) →
-      HavePlace boxes side place old l → HavePlace boxes above place l m → HavePlace boxes corner place m new →
-      HavePlace boxes (λ b. in_halo b x y) place old new
+      AddsPlaceWhere boxes side place old l → AddsPlaceWhere boxes above place l m →
+      AddsPlaceWhere boxes corner place m new →
+      AddsPlaceWhere boxes (λ b. in_halo b x y) place old new
   unfolding in_box
   beside_places boxes place old l m new even s a c = record {
     count = c.count ∙ a.count ∙ s.count;
@@ -191,18 +187,18 @@ edges_more es l false place e at = ap (edge_lines_at es) (append-nil l) ∙ sym 
 
 module _ (es : List CertificateLine) (boxes : List Box2) where
   pub edge_placed : (place : ℕ) (e : BorderLine) (old new : List (List ℕ)) → slice_get es place ≡ Some (Edge e) →
-      HavePlace boxes (λ b. in_halo b e.cell.x e.cell.y) place old new → HaveEdges es boxes (e ∷ []) old new
+      AddsPlaceWhere boxes (λ b. in_halo b e.cell.x e.cell.y) place old new → AddsEdgePlaces es boxes (e ∷ []) old new
   edge_placed place e old new at h = record {
     count = h.count;
     each = λ i b box. ap (edge_lines_at es) (h.each i b box)
         ∙ edges_more es (list_at_or_empty old i) (in_halo b e.cell.x e.cell.y) place e at;
   }
 
-  pub no_edges : (lists : List (List ℕ)) → HaveEdges es boxes [] lists lists
+  pub no_edges : (lists : List (List ℕ)) → AddsEdgePlaces es boxes [] lists lists
   no_edges lists = grind (arith, common_steps, append-nil)
 
-  pub edges_then : (more next : List BorderLine) (old l new : List (List ℕ)) → HaveEdges es boxes more old l →
-      HaveEdges es boxes next l new → HaveEdges es boxes (more ++ next) old new
+  pub edges_then : (more next : List BorderLine) (old l new : List (List ℕ)) → AddsEdgePlaces es boxes more old l →
+      AddsEdgePlaces es boxes next l new → AddsEdgePlaces es boxes (more ++ next) old new
   edges_then more next old l new h k = record {
     count = k.count ∙ h.count;
     each = λ i b box.
@@ -214,6 +210,6 @@ module _ (es : List CertificateLine) (boxes : List Box2) where
 
 -- ---- tables and lists
 
-pub still_ready : (boxes : List Box2) (o : Owning) (old new : List (List ℕ)) → AreReady boxes o old →
+pub still_ready : (boxes : List Box2) (o : OwnersView) (old new : List (List ℕ)) → AreReady boxes o old →
     length new ≡ length old → AreReady boxes o new
 still_ready boxes o old new h same = grind (arith, common_steps)

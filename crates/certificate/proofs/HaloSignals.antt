@@ -1,38 +1,26 @@
 -- The signals of a halo's cells by the edge lines beside a module
-use Rattle.lemmas.proofs.Common.{[], ◌%◌, ◌&&◌, ◌++◌, ◌<◌, ◌==◌, ◌∙◌, ◌∷◌, ◌≡◌, Less, List, None, Option, Some}
-use Rattle.lemmas.proofs.Common.{ap, ap₂, arith, false, filter, flat_map, if◌then◌else◌, inl, inr, nat_lt, refl}
-use Rattle.lemmas.proofs.Common.{slice_get, subst, sym, true, unwrap_or, ℕ, ℤ, cases_Bool, common_steps, cond-false}
-use Rattle.lemmas.proofs.Common.{cond-true, nat_tests, and-false, mapped_at}
-use Rattle.bbm_rule.specs.Plane.{is_at}
-use Rattle.bbm_rule.specs.declared.block.Cell.{Cell}
-use Rattle.circuit.specs.Meaning.{Circuit}
-use Rattle.module_box.specs.Boxes.{in_box, in_halo}
-use Rattle.module_box.specs.Schedules.{event_at, all_times_at, is_moment_at, signal_at}
-use Rattle.module_box.specs.declared.boxes.Box2.{Box2}
-use Rattle.module_box.specs.declared.schedules.TimedSignal.{TimedSignal}
-use Rattle.module_box.specs.declared.schedules.AllTimes.{AllTimes}
-use Rattle.module_box.specs.declared.schedules.Signal.{Signal}
-use Rattle.module_box.specs.declared.schedules.Signal.TheVariants.{Zero}
-use Rattle.certificate_lines.specs.Entries.{Setting, ModuleLines, edges}
-use Rattle.certificate.specs.Jobs.{events_of_line, all_times_of_line, one_or_named_wire, line_signals}
+use Rattle.certificate.proofs.Imports.{AllTimesSignal, AreModules, BorderLine, Box2, Cell, Circuit, In, Less, List}
+use Rattle.certificate.proofs.Imports.{ModuleLines, None, Option, Setting, Signal, Some, TimedSignal, Zero, []}
+use Rattle.certificate.proofs.Imports.{all_times_at, all_times_of_line, ap, ap₂, arith, border_line_cmp, cases_Bool}
+use Rattle.certificate.proofs.Imports.{cell_same, common_steps, cond-false, cond-true, edge_lines_beside, edges}
+use Rattle.certificate.proofs.Imports.{event_at, events_of_line, false, filter, filter_in, flat_map, if◌then◌else◌}
+use Rattle.certificate.proofs.Imports.{in_box, in_filter, in_flat, in_halo, in_ordered, inl, inr, is_at, line_signals}
+use Rattle.certificate.proofs.Imports.{mapped_at, nat_lt, nat_tests, one_or_named_wire, ordered_in, pairs_filter}
+use Rattle.certificate.proofs.Imports.{placed, refl, rising_same, signal_at, slice_get, some_is, sorted_border_lines}
+use Rattle.certificate.proofs.Imports.{subst, sym, true, unwrap_or, ℕ, ℤ, ◌&&◌, ◌++◌, ◌<◌, ◌==◌, ◌∙◌, ◌∷◌, ◌≡◌}
+use Rattle.lemmas.proofs.Common.{◌%◌, and-false}
+use Rattle.module_box.specs.Schedules.{is_moment_at}
 use Rattle.certificate.specs.Laws.{HaloIsEdgeBeside}
-use Rattle.certificate_lines.specs.Modules.{AreModules}
-use Rattle.certificate_lines.specs.Versions.{edge_lines_beside, in_order, border_line_cmp}
-use Rattle.certificate_lines.specs.declared.certificate_line.BorderLine.{BorderLine}
+use Rattle.certificate_lines.proofs.LineOrder.{flat_in}
 use Rattle.certificate.proofs.FullModules.{beside_in, edge_cell, edges_rising, full_halos, full_rises, in_beside}
 use Rattle.certificate.proofs.FullModules.{stands}
-use Rattle.certificate_lines.proofs.InList.{placed}
-use Rattle.certificate_lines.proofs.LineOrder.{In, filter_in, flat_in, in_filter, in_flat, in_ordered, ordered_in}
-use Rattle.certificate_lines.proofs.LineOrder.{pairs_filter, rising_same}
-use Rattle.certificate_lines.proofs.Lists.{some_is}
-use Rattle.bbm_rule.proofs.SameCells.{cell_same}
 
 -- ---- what lines say of a cell is what those for the cell say
 
 unfoldable pub at_cell : ℤ → ℤ → List BorderLine → List BorderLine
 at_cell x y es = filter (λ e. is_at e.cell x y) es
 
-pub all_times_past : (e : BorderLine) (time : Option ℕ) (s : Signal) (rest : List AllTimes) (x y : ℤ) →
+pub all_times_past : (e : BorderLine) (time : Option ℕ) (s : Signal) (rest : List AllTimesSignal) (x y : ℤ) →
     is_at e.cell x y ≡ false →
     all_times_at (all_times_of_line e time s ++ rest) x y ≡ all_times_at rest x y
 unfolding all_times_at
@@ -45,7 +33,7 @@ unfolding event_at
 event_past e None s rest t x y h = refl
 event_past e (Some u) s rest t x y h = cond-false _ _ _ (ap (λ b. (u == t) && b) h ∙ and-false (u == t))
 
-all_times_on : (e : BorderLine) (time : Option ℕ) (s : Signal) (rest other : List AllTimes) (x y : ℤ) →
+all_times_on : (e : BorderLine) (time : Option ℕ) (s : Signal) (rest other : List AllTimesSignal) (x y : ℤ) →
     all_times_at rest x y ≡ all_times_at other x y →
     all_times_at (all_times_of_line e time s ++ rest) x y ≡ all_times_at (all_times_of_line e time s ++ other) x y
 unfolding all_times_at
@@ -61,7 +49,7 @@ event_on e (Some u) s rest other t x y h =
     ap (λ o. if is_moment_at (record { time = u; cell = e.cell }) t x y then Some s else o) h
 
 module _ (c : Circuit) (x y : ℤ) where
-  abbrev all_times_of : List BorderLine → List AllTimes
+  abbrev all_times_of : List BorderLine → List AllTimesSignal
   all_times_of es = flat_map (λ e. all_times_of_line e e.time (one_or_named_wire c e.signal)) es
 
   abbrev events_of : List BorderLine → List TimedSignal
@@ -123,23 +111,23 @@ module _ (g : Setting) (ms : List ModuleLines) (good : AreModules g ms) (k : ℕ
       (mapped_at (λ (m : ModuleLines). m.area) ms k owner numbered) inside owned in
       some_is n owner (sym p.1 ∙ ap (slice_get ms) same ∙ numbered)
 
-  of_owner : (e : BorderLine) → In e (at_cell x y (in_order (edge_lines_beside g ms area))) →
+  of_owner : (e : BorderLine) → In e (at_cell x y (sorted_border_lines (edge_lines_beside g ms area))) →
       In e (at_cell x y (edges owner))
   unfolding at_cell
   of_owner e i = grind (arith, common_steps, in_filter, in_beside, in_ordered, in_flat, filter_in, owns)
 
   of_halo : (e : BorderLine) → In e (at_cell x y (edges owner)) →
-      In e (at_cell x y (in_order (edge_lines_beside g ms area)))
+      In e (at_cell x y (sorted_border_lines (edge_lines_beside g ms area)))
   unfolding at_cell
   of_halo e i =
       let r = in_filter (λ (e : BorderLine). is_at e.cell x y) e (edges owner) i in
       let inside : in_halo area e.cell.x e.cell.y ≡ true =
       subst (λ (c : Cell). in_halo area c.x c.y ≡ true) (sym (at_here e r.1)) halo in
-      filter_in (λ (e : BorderLine). is_at e.cell x y) e (in_order (edge_lines_beside g ms area))
+      filter_in (λ (e : BorderLine). is_at e.cell x y) e (sorted_border_lines (edge_lines_beside g ms area))
       (ordered_in e (edge_lines_beside g ms area)
       (beside_in g ms good area e long inside (flat_in edges e ms owner (stands ms k owner numbered) r.0))) r.1
 
-  pub lines_there : at_cell x y (in_order (edge_lines_beside g ms area)) ≡ at_cell x y (edges owner)
+  pub lines_there : at_cell x y (sorted_border_lines (edge_lines_beside g ms area)) ≡ at_cell x y (edges owner)
   unfolding at_cell
   lines_there =
       rising_same _ _
@@ -151,5 +139,5 @@ module _ (g : Setting) (ms : List ModuleLines) (good : AreModules g ms) (k : ℕ
 pub halo_is_edge_beside : HaloIsEdgeBeside
 halo_is_edge_beside g ms good i k m owner t x y at numbered odd early halo owned =
     ap (λ es. signal_at (line_signals g.circuit es) t x y) (full_halos g ms good m)
-    ∙ same_there g.circuit x y t (in_order (edge_lines_beside g ms m.area)) (edges owner)
+    ∙ same_there g.circuit x y t (sorted_border_lines (edge_lines_beside g ms m.area)) (edges owner)
     (lines_there g ms good k owner numbered m.area x y (one_below t g.size.steps odd early) halo owned)

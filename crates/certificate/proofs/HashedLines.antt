@@ -1,10 +1,8 @@
 -- Lines that are hashed one after the other
-use Rattle.lemmas.proofs.Common.{[], ◌++◌, ◌∷◌, ◌≡◌, List, codes, flat_map, refl, ℕ}
+use Rattle.certificate.proofs.Imports.{CertView, CertificateLine, List, [], certificate_text, codes, entry_text}
+use Rattle.certificate.proofs.Imports.{flat_map, refl, ℕ, ◌++◌, ◌∷◌, ◌≡◌}
 use Rattle.std.proofs.Common.{decimal}
 use Rattle.section_text.specs.Spelling.{line_text}
-use Rattle.certificate.specs.Grammars.{CertView}
-use Rattle.certificate.specs.Text.{certificate_text, entry_text}
-use Rattle.certificate_lines.specs.declared.certificate_line.CertificateLine.{CertificateLine}
 
 -- the header, the lines and the end are the text
 pub text_told : (c : CertView) (s : List ℕ) (es : List CertificateLine) (n : ℕ) →

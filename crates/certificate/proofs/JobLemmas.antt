@@ -1,18 +1,10 @@
 -- The parts of a job by its module's lines.
-use Rattle.lemmas.proofs.Common.{◌+◌, ◌<◌, ◌^◌, ◌∙◌, ◌≡◌, ◌≤◌, All, IsTrue, List, None, ap, arith, get_or, length}
-use Rattle.lemmas.proofs.Common.{subst, sym, ℕ, common_steps, slice_get-get_or, slice_get_within}
-use Rattle.circuit.specs.Bridge.{circuit_of, netlist_of}
-use Rattle.circuit.specs.Meaning.{Netlist}
-use Rattle.circuit.specs.declared.circuit_line.CircuitLine.{CircuitLine}
-use Rattle.pattern.specs.Layout.{Pattern}
-use Rattle.pattern.specs.Lines.{size_fault}
-use Rattle.pattern.specs.declared.layout_line.LayoutHeader.{LayoutHeader}
-use Rattle.pattern.proofs.TakenLemmas.{is_sized}
-use Rattle.module_box.specs.Locals.{AreLocalLines, LocalNet, is_among, local_wires}
-use Rattle.certificate_lines.specs.Entries.{Setting, ModuleLines, cuts, cut_wires, gates, keeps, known, edges, halos}
-use Rattle.certificate_lines.specs.Settings.{setting_of}
-use Rattle.certificate_lines.specs.Modules.{IsModule}
-use Rattle.certificate.specs.Timetables.{HasLocalWire}
+use Rattle.certificate.proofs.Imports.{All, AreLocalLines, CircuitLine, HasLocalWire, IsModule, IsTrue, LayoutHeader}
+use Rattle.certificate.proofs.Imports.{List, LocalNet, ModuleLines, Netlist, None, Pattern, Setting, ap, arith}
+use Rattle.certificate.proofs.Imports.{circuit_of, common_steps, cut_wires, cuts, edges, gates, get_or, halos, is_among}
+use Rattle.certificate.proofs.Imports.{is_sized, keeps, known, length, local_wires, netlist_of, setting_of, size_fault}
+use Rattle.certificate.proofs.Imports.{slice_get-get_or, slice_get_within, subst, sym, ℕ, ◌+◌, ◌<◌, ◌∙◌, ◌≡◌, ◌≤◌}
+use Rattle.lemmas.proofs.Common.{◌^◌}
 
 -- the numbers of gates are small
 pub small_gates : (n : Netlist) (cw gs : List ℕ) → AreLocalLines n cw gs → length n.gates ≤ 1024 →

@@ -1,16 +1,9 @@
 -- A job whose lists have an element for each cell of its box
-use Rattle.lemmas.proofs.Common.{◌≡◌, Bool, IsTrue, arith, false, if◌then◌else◌, refl, slice_get, true, unwrap_or, ℤ}
-use Rattle.lemmas.proofs.Common.{common_steps}
-use Rattle.circuit.specs.Meaning.{Circuit}
-use Rattle.pattern.specs.Layout.{Pattern}
-use Rattle.module_box.specs.Boxes.{in_box}
-use Rattle.module_box.specs.declared.boxes.Box2.{Box2}
-use Rattle.module_box.specs.Locals.{circuit_wire}
-use Rattle.module_box.specs.declared.schedules.Signal.TheVariants.{Zero}
-use Rattle.module_job.specs.Jobs.{JobView, job_start, job_demand}
+use Rattle.certificate.proofs.Imports.{Bool, Box2, Circuit, IsTrue, JobView, Pattern, Zero, arith, circuit_wire}
+use Rattle.certificate.proofs.Imports.{common_steps, end_demand, false, if◌then◌else◌, in_box, refl, renumber_demand}
+use Rattle.certificate.proofs.Imports.{renumber_signal, slice_get, start_signal, true, unwrap_or, ℤ, ◌≡◌}
+use Rattle.module_job.specs.Jobs.{job_start, job_demand}
 use Rattle.module_box.specs.Places.{place_in}
-use Rattle.certificate.specs.Jobs.{start_signal, end_demand}
-use Rattle.module_job.specs.Signals.{renumber_signal, renumber_demand}
 use Rattle.module_job.specs.declared.job.Demand.TheVariants as Demanded
 
 if_true : {A : Type 0} (b : Bool) (u v : A) → b ≡ true → (if b then u else v) ≡ u

@@ -1,11 +1,8 @@
 -- The inverse gates that no module keeps
-use Rattle.lemmas.proofs.Common.{[], ◌&&◌, ◌++◌, ◌+◌, ◌<◌, ◌∙◌, ◌∷◌, ◌≡◌, ◌≤◌, Bool, List, Some, add-one, append-nil}
-use Rattle.lemmas.proofs.Common.{ap₂, arith, cond, drop, drop-cons, get_or, length, not, slice_get, sym, ℕ}
-use Rattle.lemmas.proofs.Common.{common_steps, get_or_from_slice_get}
-use Rattle.circuit.specs.Gates.{is_inverse}
-use Rattle.circuit.specs.Meaning.{Gate}
-use Rattle.certificate_lines.specs.Entries.{ModuleLines}
-use Rattle.certificate.specs.Keeps.{is_kept, unkept_from}
+use Rattle.certificate.proofs.Imports.{Bool, Gate, List, ModuleLines, Some, [], append-nil, ap₂, arith, common_steps}
+use Rattle.certificate.proofs.Imports.{drop, get_or, get_or_from_slice_get, is_inverse, is_kept, length, not, slice_get}
+use Rattle.certificate.proofs.Imports.{sym, unkept_from, ℕ, ◌&&◌, ◌++◌, ◌+◌, ◌<◌, ◌∙◌, ◌∷◌, ◌≡◌, ◌≤◌}
+use Rattle.lemmas.proofs.Common.{add-one, cond, drop-cons}
 
 -- ---- the gates that nobody keeps
 

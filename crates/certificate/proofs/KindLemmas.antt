@@ -1,17 +1,15 @@
 -- Lines in order rise by rank, and the lines of one kind lie on one side of a split.
-use Rattle.lemmas.proofs.Common.{[], ◌&&◌, ◌++◌, ◌+◌, ◌-◌, ◌<◌, ◌∙◌, ◌∷◌, ◌≡◌, ◌≢◌, ◌≤◌, Bool, Greater, List, Some, ap}
-use Rattle.lemmas.proofs.Common.{append-nil, ap₂, arith, drop, false, get_or, length, ltb, refl, slice_get, subst, suc}
-use Rattle.lemmas.proofs.Common.{sym, take, take-append-drop, true, zero, ℕ, All-head, All-tail, AllPass-from_list_all}
-use Rattle.lemmas.proofs.Common.{IsNonDecreasingBy, IsPartitionPoint, and_parts, common_steps, flat_map-append}
-use Rattle.lemmas.proofs.Common.{get_or-drop, get_or-take, length-drop, length-take, list_all, lt-ltb, ltb-false}
-use Rattle.lemmas.proofs.Common.{ltb-true, nat_cmp_is, same_Some, slice_get-get_or, take_all}
+use Rattle.certificate.proofs.Imports.{All-head, All-tail, AreInOrder, Bool, CertificateLine, Cut, Edge, Greater, Halo}
+use Rattle.certificate.proofs.Imports.{Keep, List, Module, Some, Stop, Use, [], and_parts, ap, append-nil, ap₂, arith}
+use Rattle.certificate.proofs.Imports.{common_steps, cut_in, drop, edge_in, false, flat_map-append, get_or, halo_in}
+use Rattle.certificate.proofs.Imports.{is_cut, keep_in, length, line_cmp, list_all, ltb, may_precede, rank_of, refl}
+use Rattle.certificate.proofs.Imports.{same_Some, slice_get, slice_get-get_or, stop_in, subst, suc, sym, take, take_all}
+use Rattle.certificate.proofs.Imports.{true, use_in, zero, ℕ, ◌&&◌, ◌++◌, ◌+◌, ◌-◌, ◌<◌, ◌∙◌, ◌∷◌, ◌≡◌, ◌≢◌, ◌≤◌}
+use Rattle.lemmas.proofs.Common.{take-append-drop, AllPass-from_list_all, IsNonDecreasingBy, IsPartitionPoint}
+use Rattle.lemmas.proofs.Common.{get_or-drop, get_or-take, length-drop, length-take, lt-ltb, ltb-false, ltb-true}
+use Rattle.lemmas.proofs.Common.{nat_cmp_is}
 use Rattle.std.specs.List.{All, flat_map}
 use Rattle.bbm_rule.proofs.BitLemmas.{by_lt_or_le}
-use Rattle.certificate_lines.specs.Entries.{cut_in, edge_in, halo_in, keep_in, stop_in, use_in}
-use Rattle.certificate_lines.specs.Orders.{AreInOrder, is_cut, line_cmp, may_precede, rank_of}
-use Rattle.certificate_lines.specs.declared.certificate_line.CertificateLine.{CertificateLine}
-use Rattle.certificate_lines.specs.declared.certificate_line.CertificateLine.TheVariants.{Module, Cut, Use, Keep, Edge}
-use Rattle.certificate_lines.specs.declared.certificate_line.CertificateLine.TheVariants.{Halo, Stop}
 use Rattle.certificate.specs.LineKinds.{IsSplitAt}
 
 -- ---- ranks

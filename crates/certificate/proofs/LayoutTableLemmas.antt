@@ -1,43 +1,33 @@
 -- The indexes of a layout's cells, and the ports in a module's box.
-use Rattle.lemmas.proofs.Common.{[], ◌++◌, ◌+◌, ◌||◌, ◌∙◌, ◌∷◌, ◌≡◌, ◌≤◌, All, Bool, IfSome, IsTrue, List, None}
-use Rattle.lemmas.proofs.Common.{Option, Some, ap, arith, false, if◌then◌else◌, length, map, refl, slice_get, subst}
-use Rattle.lemmas.proofs.Common.{suc, sym, true, zero, ℕ, ℤ, All-append, common_steps, list_all, list_any-append}
-use Rattle.lemmas.proofs.Common.{slice_get-get_or, slice_get-map, and_parts, or_parts}
-use Rattle.bbm_rule.specs.Plane.{is_at}
-use Rattle.bbm_rule.specs.declared.block.Cell.{Cell}
-use Rattle.circuit.specs.Bridge.{circuit_of}
-use Rattle.circuit.specs.Meaning.{Circuit}
-use Rattle.circuit.specs.declared.circuit_line.CircuitLine.{CircuitLine}
-use Rattle.pattern.specs.Layout.{Pattern, in_cells, in_layout, in_rectangles, parts_of}
+use Rattle.certificate.proofs.Imports.{All, All-append, Bool, Box2, Cell, Circuit, CircuitLine, HasLocalPorts, IfSome}
+use Rattle.certificate.proofs.Imports.{IsTrue, LayoutHeader, List, ModuleLines, None, One, Option, Pattern, Some, Zero}
+use Rattle.certificate.proofs.Imports.{[], and_parts, ap, arith, balls_on_layout, cell_same, circuit_of, common_steps}
+use Rattle.certificate.proofs.Imports.{demand_outside_mirrors, end_demand, false, if◌then◌else◌, in_box, in_cells}
+use Rattle.certificate.proofs.Imports.{in_rectangles, is_among, is_at, is_local, known, length, list_all, map}
+use Rattle.certificate.proofs.Imports.{option_map, or_parts, port_at, refl, setting_of, size_fault, size_sides}
+use Rattle.certificate.proofs.Imports.{slice_get, slice_get-get_or, some_is, start_signal, subst, suc, sym, true}
+use Rattle.certificate.proofs.Imports.{wastes_on_layout, wire_of, wire_or_zero, zero, ℕ, ℤ, ◌++◌, ◌+◌, ◌||◌, ◌∙◌, ◌∷◌}
+use Rattle.certificate.proofs.Imports.{◌≡◌, ◌≤◌}
+use Rattle.lemmas.proofs.Common.{list_any-append, slice_get-map}
+use Rattle.pattern.specs.Layout.{in_layout, parts_of}
 use Rattle.pattern.specs.declared.layout_line.Port.{Port}
-use Rattle.pattern.specs.declared.layout_line.Rectangle.{Rectangle}
-use Rattle.pattern.specs.declared.layout_line.LayoutHeader.{LayoutHeader}
-use Rattle.pattern.specs.Lines.{AreGoodAfter, is_inside, size_fault}
-use Rattle.pattern.proofs.InsideLemmas.{size_sides, begins_inside}
+use Rattle.pattern.specs.Lines.{AreGoodAfter, is_inside}
+use Rattle.pattern.proofs.InsideLemmas.{begins_inside}
 use Rattle.pattern.proofs.TakenLemmas.{mirror_fits}
 use Rattle.pattern.specs.declared.layout_line.LayoutLine.TheVariants.{Mirror}
-use Rattle.module_box.specs.Boxes.{in_box}
-use Rattle.module_box.specs.declared.schedules.Signal.TheVariants.{One, Zero}
-use Rattle.certificate_lines.specs.Entries.{ModuleLines, known}
-use Rattle.certificate_lines.specs.Settings.{setting_of}
-use Rattle.certificate_lines.specs.PortTables.{AreOnBoard, port_at}
-use Rattle.certificate.specs.Jobs.{wire_of_optional_name, wire_or_zero, start_signal, demand_outside_mirrors}
-use Rattle.certificate.specs.Jobs.{end_demand}
-use Rattle.module_job.specs.declared.job.Demand.TheVariants as Demanded
-use Rattle.certificate_lines.specs.Modules.{HasPorts}
+use Rattle.certificate_lines.specs.PortTables.{AreOnBoard}
+use Rattle.certificate.specs.Jobs.{wire_of_optional_name, wire_or_dead}
 use Rattle.bbm_rule.specs.Board.{Board}
-use Rattle.certificate.specs.LayoutTablesView.{ArePortWiresLocalIn, HasNothing, IsOnGrid}
-use Rattle.certificate.specs.LayoutTablesView.{non_mirror_cells}
-use Rattle.certificate_lines.specs.Rules.{is_local}
+use Rattle.certificate.specs.LayoutTablesView.{ArePortWiresLocalIn, HasNothing, IsOnGrid, non_mirror_cells}
+use Rattle.certificate_lines.specs.Rules.{is_local_wire}
 use Rattle.certificate_lines.proofs.BoxPlaces.{skipped}
 use Rattle.certificate_lines.proofs.Lists.{kept}
-use Rattle.bbm_rule.proofs.SameCells.{cell_same}
-use Rattle.certificate_lines.proofs.LayoutPorts.{AllInLayout, balls_on_layout, port_stands, ports_on_layout}
-use Rattle.certificate_lines.proofs.LayoutPorts.{wastes_on_layout}
+use Rattle.certificate_lines.proofs.LayoutPorts.{AllInLayout, port_stands, ports_on_layout}
+use Rattle.module_job.specs.declared.job.Demand.TheVariants as Demanded
 
 -- ---- the ports in the box of a module
 
-module _ (lines : List CircuitLine) (p : Pattern) (m : ModuleLines) (has : HasPorts (setting_of lines p) m) where
+module _ (lines : List CircuitLine) (p : Pattern) (m : ModuleLines) (has : HasLocalPorts (setting_of lines p) m) where
   abbrev is_known : List ℕ → Type 0
   is_known name = IsTrue (is_local (circuit_of lines) (known (circuit_of lines) m) name)
 
@@ -87,6 +77,28 @@ pub end_port : (c : Circuit) (p : Pattern) (x y : ℤ) (a : Bool) → a ≡ in_r
     demand_outside_mirrors c o (in_cells p.wastes x y) ≡ end_demand c p x y
 unfolding end_demand
 end_port c p x y a mirror h o port = rw (sym mirror, h, sym port) refl
+
+-- ---- the wire that a table has for a port, by the port's name
+
+pub port_known : (c : Circuit) (local : List ℕ) (o : Option (List ℕ)) (w : ℕ) →
+    IfSome o (λ n. IsTrue (is_local c local n)) → Some (Some w) ≡ option_map (wire_of c) o → IsTrue (is_among local w)
+port_known c local None w known e = absurd cc
+port_known c local (Some n) w known e =
+    subst (λ (v : Option ℕ). IsTrue (is_local_wire local v)) (sym (some_is (Some w) (wire_of c n) e)) known
+
+pub port_wire : (c : Circuit) (o : Option (List ℕ)) (w : Option ℕ) → Some w ≡ option_map (wire_of c) o →
+    w ≡ wire_of_optional_name c o
+port_wire c None w e = absurd cc
+port_wire c (Some n) w e = some_is w (wire_of c n) e
+
+pub no_port_there : (c : Circuit) (o : Option (List ℕ)) → None ≡ option_map (wire_of c) o → None ≡ o
+no_port_there c None e = refl
+no_port_there c (Some n) e = absurd cc
+
+pub demand_of_port : (c : Circuit) (o : Option (List ℕ)) (w : Option ℕ) (waste : Bool) →
+    Some w ≡ option_map (wire_of c) o → wire_or_dead w ≡ demand_outside_mirrors c o waste
+demand_of_port c None w waste e = absurd cc
+demand_of_port c (Some n) w waste e = ap wire_or_dead (some_is w (wire_of c n) e)
 
 -- ---- a cell without anything
 
@@ -147,7 +159,7 @@ nothing_here p x y e =
 -- ---- the mirrors of a layout
 
 all_on_grid : (s : LayoutHeader) (b : Board) → (b.width ≡ s.w) × (b.height ≡ s.h) → s.w ≤ 512 → s.h ≤ 512 →
-    (rs : List Rectangle) → list_all (λ r. is_inside s (Mirror r)) rs ≡ true → All (IsOnGrid b) rs
+    (rs : List Box2) → list_all (λ r. is_inside s (Mirror r)) rs ≡ true → All (IsOnGrid b) rs
 all_on_grid s b size w h [] e k d lt = absurd (omega arith)
 all_on_grid s b size w h (r ∷ rs) e zero d lt =
     let fits = mirror_fits s r (and_parts (is_inside s (Mirror r)) (list_all (λ r. is_inside s (Mirror r)) rs) e).0 in
@@ -156,7 +168,7 @@ all_on_grid s b size w h (r ∷ rs) e (suc k) d lt =
     all_on_grid s b size w h rs (and_parts (is_inside s (Mirror r)) (list_all (λ r. is_inside s (Mirror r)) rs) e).1
     k d (omega arith)
 
-pub mirrors_on_grid : (p : Pattern) (s : LayoutHeader) (b : Board) (mirrors : List Rectangle) → s ≡ p.size →
+pub mirrors_on_grid : (p : Pattern) (s : LayoutHeader) (b : Board) (mirrors : List Box2) → s ≡ p.size →
     (b.width ≡ s.w) × (b.height ≡ s.h) → size_fault s ≡ None → AreGoodAfter s [] (parts_of p) →
     mirrors ≡ p.mirrors → All (IsOnGrid b) mirrors
 mirrors_on_grid p s b mirrors is size limits good are =
@@ -168,7 +180,8 @@ mirrors_on_grid p s b mirrors is size limits good are =
 -- ---- the box of a module
 
 -- the ports in the box, where the module's wires have these numbers in the circuit
-pub locals_have_ports : (lines : List CircuitLine) (p : Pattern) (m : ModuleLines) → HasPorts (setting_of lines p) m →
+pub locals_have_ports : (lines : List CircuitLine) (p : Pattern) (m : ModuleLines) →
+    HasLocalPorts (setting_of lines p) m →
     (local : List ℕ) → local ≡ known (circuit_of lines) m
     → ArePortWiresLocalIn (circuit_of lines) local p.ins m.area
     × ArePortWiresLocalIn (circuit_of lines) local p.outs m.area

@@ -26,3 +26,4 @@ mod HashedLines
 mod PrintedLines
 pub mod JobPlaces
 pub mod CellRows
+pub mod Imports

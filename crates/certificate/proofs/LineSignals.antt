@@ -1,27 +1,16 @@
 -- The signal of one line for its cell at its time
-use Rattle.lemmas.proofs.Common.{[], ◌&&◌, ◌++◌, ◌+◌, ◌||◌, ◌∙◌, ◌∷◌, ◌≡◌, Bool, Greater, Less, List, None, Option}
-use Rattle.lemmas.proofs.Common.{Ordering, Some, ap, ap₂, arith, false, flat_map, inl, inr, nat_cmp, not, refl, subst}
-use Rattle.lemmas.proofs.Common.{sym, true, true≢false, unwrap_or, ℕ, and_parts, cases_Bool, common_steps, cond-false}
-use Rattle.lemmas.proofs.Common.{cond-true, eqb-true, list_all, ordering_then}
-use Rattle.bbm_rule.specs.Plane.{is_at}
-use Rattle.bbm_rule.specs.declared.block.Cell.{Cell}
-use Rattle.circuit.specs.Meaning.{Circuit}
-use Rattle.module_box.specs.Moments.{cell_cmp}
-use Rattle.module_box.specs.Schedules.{event_at, all_times_at, signal_at}
-use Rattle.module_box.specs.declared.schedules.TimedSignal.{TimedSignal}
-use Rattle.module_box.specs.declared.schedules.AllTimes.{AllTimes}
-use Rattle.module_box.specs.declared.schedules.Signal.{Signal}
-use Rattle.module_box.specs.declared.schedules.Signal.TheVariants.{Zero}
-use Rattle.certificate.specs.Jobs.{events_of_line, all_times_of_line, one_or_named_wire, line_signals}
-use Rattle.certificate_lines.specs.Modules.{StarsExcludeLaterTimes}
-use Rattle.certificate_lines.specs.Orders.{time_rank}
+use Rattle.certificate.proofs.Imports.{AllTimesSignal, Bool, BorderLine, Cell, Circuit, Each, Greater, In, Less, List}
+use Rattle.certificate.proofs.Imports.{None, Option, Ordering, Pairs, Rises, Signal, Some, StarsExcludeLaterTimes}
+use Rattle.certificate.proofs.Imports.{TimedSignal, Zero, [], all_times_at, all_times_of_line, and_parts, ap, ap₂}
+use Rattle.certificate.proofs.Imports.{arith, border_line_cmp, cases_Bool, cell_cmp, cell_same, common_steps}
+use Rattle.certificate.proofs.Imports.{cond-false, cond-true, each_in, eqb-true, event_at, events_of_line, false}
+use Rattle.certificate.proofs.Imports.{flat_map, inl, inr, is_at, line_signals, list_all, nat_cmp, not}
+use Rattle.certificate.proofs.Imports.{one_or_named_wire, ordering_then, refl, signal_at, subst, sym, time_rank, true}
+use Rattle.certificate.proofs.Imports.{true≢false, unwrap_or, ℕ, ◌&&◌, ◌++◌, ◌+◌, ◌||◌, ◌∙◌, ◌∷◌, ◌≡◌}
 use Rattle.certificate_lines.specs.Rules.{is_star, is_starred_line_at, same_cell}
-use Rattle.certificate_lines.specs.Versions.{border_line_cmp}
-use Rattle.certificate_lines.specs.declared.certificate_line.BorderLine.{BorderLine}
+use Rattle.certificate_lines.proofs.LineOrder.{not_itself}
+use Rattle.bbm_rule.proofs.SameCells.{cell_itself}
 use Rattle.certificate.proofs.HaloSignals.{event_past, all_times_past}
-use Rattle.certificate_lines.proofs.LineOrder.{In, Rises, each_in, not_itself}
-use Rattle.certificate_lines.proofs.Pairs.{Each, Pairs}
-use Rattle.bbm_rule.proofs.SameCells.{cell_itself, cell_same}
 
 -- the line says something at the time
 abbrev pub SaysAt : ℕ → Option ℕ → Type 0
@@ -50,7 +39,7 @@ timed_first d e t dt et less =
     (ap₂ (λ a b. ordering_then (nat_cmp (time_rank a) (time_rank b)) (cell_cmp d.cell e.cell)) (sym dt) (sym et) ∙ less)
 
 module _ (c : Circuit) where
-  abbrev all_times_of : List BorderLine → List AllTimes
+  abbrev all_times_of : List BorderLine → List AllTimesSignal
   all_times_of es = flat_map (λ e. all_times_of_line e e.time (one_or_named_wire c e.signal)) es
 
   abbrev events_of : List BorderLine → List TimedSignal
@@ -58,14 +47,14 @@ module _ (c : Circuit) where
 
   -- ---- a line with a `*`
 
-  all_times_first : (e : BorderLine) (time : Option ℕ) (s : Signal) (rest : List AllTimes) → time ≡ None →
+  all_times_first : (e : BorderLine) (time : Option ℕ) (s : Signal) (rest : List AllTimesSignal) → time ≡ None →
       all_times_at (all_times_of_line e time s ++ rest) e.cell.x e.cell.y ≡ Some s
   unfolding all_times_at
   all_times_first e None s rest none = cond-true _ _ _ (cell_itself e.cell)
   all_times_first e (Some t) s rest none = absurd cc
 
   all_times_skips : (d e : BorderLine) (time : Option ℕ) → d.time ≡ time → e.time ≡ None → border_line_cmp d e ≡ Less →
-      (s : Signal) (rest : List AllTimes) →
+      (s : Signal) (rest : List AllTimesSignal) →
       all_times_at (all_times_of_line d time s ++ rest) e.cell.x e.cell.y ≡ all_times_at rest e.cell.x e.cell.y
   all_times_skips d e None dt et less s rest =
       all_times_past d None s rest e.cell.x e.cell.y (other_cell d e (dt ∙ sym et) less)
@@ -88,7 +77,7 @@ module _ (c : Circuit) where
   -- ---- a line with a time
 
   not_starred : (e d : BorderLine) (time : Option ℕ) → d.time ≡ time → is_starred_line_at e.cell d ≡ false →
-      (s : Signal) (rest : List AllTimes) →
+      (s : Signal) (rest : List AllTimesSignal) →
       all_times_at (all_times_of_line d time s ++ rest) e.cell.x e.cell.y ≡ all_times_at rest e.cell.x e.cell.y
   not_starred e d None dt other s rest =
       all_times_past d None s rest e.cell.x e.cell.y

@@ -1,19 +1,14 @@
 -- The stops and kept gates of the modules that lines mean are those of the lines
-use Rattle.lemmas.proofs.Common.{[], ◌++◌, ◌+◌, ◌||◌, ◌∷◌, ◌≡◌, List, ap, ap₂, arith, map, refl, ℕ, cases_Bool}
-use Rattle.lemmas.proofs.Common.{common_steps}
-use Rattle.circuit.specs.Meaning.{Circuit, Gate}
-use Rattle.module_box.specs.Locals.{is_among}
-use Rattle.certificate_lines.specs.Entries.{Setting, ModuleLines, keeps, stops}
-use Rattle.certificate.specs.Keeps.{is_kept, unkept, unkept_from}
-use Rattle.certificate.specs.Times.{all_stops, delay_and_meet_lines}
-use Rattle.certificate_lines.specs.Versions.{edge_lines_beside, in_order, modules_by_version}
-use Rattle.certificate_lines.specs.Versions.{with_halos}
+use Rattle.certificate.proofs.Imports.{Circuit, Gate, List, ModuleLines, Setting, [], all_stops, ap, ap₂, arith}
+use Rattle.certificate.proofs.Imports.{cases_Bool, common_steps, delay_and_meet_lines, edge_lines_beside, is_among}
+use Rattle.certificate.proofs.Imports.{is_kept, keeps, map, modules_by_version, refl, sorted_border_lines, stops}
+use Rattle.certificate.proofs.Imports.{unkept, unkept_from, with_halos, ℕ, ◌++◌, ◌+◌, ◌||◌, ◌∷◌, ◌≡◌}
 use Rattle.certificate.proofs.FullModules.{meant_new, meant_old, other_lines, stop_lines}
 
 module _ (g : Setting) (ms : List ModuleLines) where
   stops_full : (m : ModuleLines) → stops (with_halos g ms m) ≡ stops m
   unfolding with_halos
-  stops_full m = stop_lines m.lines (in_order (edge_lines_beside g ms m.area))
+  stops_full m = stop_lines m.lines (sorted_border_lines (edge_lines_beside g ms m.area))
 
   keeps_full : (m : ModuleLines) → keeps (with_halos g ms m) ≡ keeps m
   unfolding with_halos

@@ -1,39 +1,28 @@
 -- Lines that are good are good without the halo lines
-use Rattle.lemmas.proofs.Common.{[], ◌&&◌, ◌++◌, ◌||◌, ◌∙◌, ◌∷◌, ◌≡◌, ◌≤◌, Bool, List, None, Option, Some, ap}
-use Rattle.lemmas.proofs.Common.{append-nil, ap₂, arith, false, filter, flat_map, fold, length, map, nat_le}
-use Rattle.lemmas.proofs.Common.{option_map, refl, sym, true, ℕ, and_parts, common_steps, length-map, list_all}
-use Rattle.lemmas.proofs.Common.{list_any, map-append, nat_tests, true_from_not}
+use Rattle.certificate.proofs.Imports.{AreFaultless, AreModules, Bool, BorderLine, Box2, CertificateLine, Circuit, Cut}
+use Rattle.certificate.proofs.Imports.{Edge, Halo, Keep, List, Module, ModuleLines, None, Option, PastLimit, Setting}
+use Rattle.certificate.proofs.Imports.{Some, SomethingMissing, Stop, Use, [], add_line, and_parts, ap, append-nil, ap₂}
+use Rattle.certificate.proofs.Imports.{areas, arith, both_none, certificate_grammar, change_last, common_steps, cut_in}
+use Rattle.certificate.proofs.Imports.{cuts, edge_in, edge_lines_beside, edges, end_fault, entry_fault, false, filter}
+use Rattle.certificate.proofs.Imports.{flat_map, fold, gates, halos, has_nonlocal_port, is_halo, is_haloless_version}
+use Rattle.certificate.proofs.Imports.{is_last_module_incomplete, is_nonlocal_signal, known, lacks_edge_wire_beside}
+use Rattle.certificate.proofs.Imports.{last_module, last_of, leaves_gap, length, length-map, list_all, list_any, map}
+use Rattle.certificate.proofs.Imports.{map-append, may_precede, module_with_line, modules_by_version, modules_of}
+use Rattle.certificate.proofs.Imports.{nat_le, nat_tests, no_code, option_map, precedes_halos, refl, stop_in, stops}
+use Rattle.certificate.proofs.Imports.{sym, true, true_from_not, use_in, with_halos, without_halos, ℕ, ◌&&◌, ◌++◌, ◌||◌}
+use Rattle.certificate.proofs.Imports.{◌∙◌, ◌∷◌, ◌≡◌, ◌≤◌}
 use Rattle.section_text.specs.Codes.{or_else, code_if}
-use Rattle.circuit.specs.Meaning.{Circuit}
-use Rattle.module_box.specs.declared.boxes.Box2.{Box2}
-use Rattle.certificate_lines.specs.Entries.{Setting, ModuleLines, add_line, areas, change_last, cut_in, cuts, edge_in}
-use Rattle.certificate_lines.specs.Entries.{edges, gates, halos, known, last_of, modules_of, last_module, stop_in}
-use Rattle.certificate_lines.specs.Entries.{stops, use_in, module_with_line}
 use Rattle.certificate.specs.Laws.{AreFaultlessLines, GoodWithoutHalos, IsSectionOf, SectionWithoutHalos}
-use Rattle.certificate.specs.Grammars.{certificate_grammar}
-use Rattle.certificate_lines.specs.Modules.{AreModules}
-use Rattle.certificate_lines.specs.Orders.{may_follow, may_precede}
-use Rattle.certificate_lines.specs.Rules.{cut_fault, use_fault}
-use Rattle.certificate_lines.specs.Rules.{keep_line_code, border_count, border_line_code}
-use Rattle.certificate_lines.specs.Rules.{end_fault, entry_fault, body_line_code}
-use Rattle.certificate_lines.specs.Rules.{is_last_module_incomplete, has_nonlocal_port, leaves_gap}
-use Rattle.certificate_lines.specs.Rules.{line_fault, module_fault, box_fault, is_misplaced, is_wrong_side, overlaps}
-use Rattle.certificate_lines.specs.Rules.{content_code}
-use Rattle.certificate_lines.specs.Versions.{AreGoodLines, edge_lines_beside, precedes_halos, is_halo}
-use Rattle.certificate_lines.specs.Versions.{is_haloless_version, is_nonlocal_signal, lacks_edge_wire_beside}
-use Rattle.certificate_lines.specs.Versions.{modules_by_version, haloless_module, with_halos, without_halos}
-use Rattle.certificate_lines.specs.declared.certificate_line.BorderLine.{BorderLine}
-use Rattle.certificate_lines.specs.declared.certificate_line.CertificateLine.{CertificateLine}
-use Rattle.certificate_lines.specs.declared.certificate_line.CertificateLine.TheVariants.{Module, Cut, Use, Keep, Edge}
-use Rattle.certificate_lines.specs.declared.certificate_line.CertificateLine.TheVariants.{Halo, Stop}
-use Rattle.certificate.proofs.FullModules.{meant_new, no_halo_left, without_same}
+use Rattle.certificate_lines.specs.Orders.{may_follow}
+use Rattle.certificate_lines.specs.Rules.{cut_fault, use_fault, keep_line_code, timed_line_count, border_line_code}
+use Rattle.certificate_lines.specs.Rules.{body_line_code, line_fault, module_fault, box_fault, is_misplaced}
+use Rattle.certificate_lines.specs.Rules.{is_bad_box_side, overlaps, content_code}
+use Rattle.certificate_lines.specs.Versions.{AreGoodLines, haloless_module}
 use Rattle.certificate_lines.proofs.Growing.{map_changed, unchanged}
-use Rattle.certificate_lines.proofs.ModulePushes.{both_none, no_code}
-use Rattle.certificate.proofs.Soundness.{faultless_modules}
-use Rattle.section_text.proofs.Good.{AreFaultless}
 use Rattle.section_text.specs.declared.code.RefusalCode.{RefusalCode}
-use Rattle.section_text.specs.declared.code.RefusalCode.TheVariants.{PastLimit, MisplacedBox}
-use Rattle.section_text.specs.declared.code.RefusalCode.TheVariants.{SomethingMissing}
+use Rattle.section_text.specs.declared.code.RefusalCode.TheVariants.{MisplacedBox}
+use Rattle.certificate.proofs.FullModules.{meant_new, no_halo_left, without_same}
+use Rattle.certificate.proofs.Soundness.{faultless_modules}
 
 pub without_append : (xs ys : List CertificateLine) → without_halos (xs ++ ys) ≡ without_halos xs ++ without_halos ys
 unfolding without_halos is_halo
@@ -147,7 +136,7 @@ module _ (g : Setting) (m : ModuleLines) where
   unfolding haloless_module
   fewer_halos = ap length (no_halo_left m.lines)
 
-  fewer : border_count (haloless_module m) ≤ border_count m
+  fewer : timed_line_count (haloless_module m) ≤ timed_line_count m
   fewer = let e = ap length edges_kept in let h = fewer_halos in let s = ap length stops_kept in omega (arith, e, h, s)
 
   area_kept : (haloless_module m).area ≡ m.area
@@ -233,13 +222,13 @@ module _ (g : Setting) (before : List CertificateLine) where
   unfolding module_fault box_fault
   module_kept b h =
       ap (λ a. or_else (or_else (code_if a SomethingMissing)
-      (or_else (code_if (is_wrong_side b.w || is_wrong_side b.h
+      (or_else (code_if (is_bad_box_side b.w || is_bad_box_side b.h
       || nat_le 1024 (length (modules_of (without_halos before)))) PastLimit)
       (code_if (is_misplaced g.size b) MisplacedBox)))
       (code_if (overlaps (areas (modules_of (without_halos before))) b) MisplacedBox))
       (ap (is_last_module_incomplete g) present_without ∙ incomplete_kept g (last_module before))
       ∙ ap₂ (λ n bs. or_else (or_else (code_if (is_last_module_incomplete g (last_module before)) SomethingMissing)
-      (or_else (code_if (is_wrong_side b.w || is_wrong_side b.h || nat_le 1024 n) PastLimit)
+      (or_else (code_if (is_bad_box_side b.w || is_bad_box_side b.h || nat_le 1024 n) PastLimit)
       (code_if (is_misplaced g.size b) MisplacedBox))) (code_if (overlaps bs b) MisplacedBox))
       (ap length (modules_without before) ∙ length-map (modules_of before) haloless_module)
       (ap areas (modules_without before) ∙ areas_stripped (modules_of before))

@@ -1,27 +1,15 @@
 -- The cells of a module's edge and halo lines lie within 512 columns and rows.
-use Rattle.lemmas.proofs.Common.{[], ◌+ℤ◌, ◌+◌, ◌<◌, ◌∷◌, ◌≡◌, ◌≤ℤ◌, ◌≤◌, All, List, None, Option, Some, ap, arith}
-use Rattle.lemmas.proofs.Common.{flat_map, get_or, map, pos, subst, sym, true, ℕ, ℤ, All-append, All-cons, All-head}
-use Rattle.lemmas.proofs.Common.{All-map, All-nil, All-tail, All-weaker, and_parts, common_steps, ints, all_unmapped}
-use Rattle.bbm_rule.specs.declared.block.Cell.{Cell}
-use Rattle.circuit.specs.Meaning.{Circuit}
-use Rattle.pattern.specs.declared.layout_line.LayoutHeader.{LayoutHeader}
-use Rattle.pattern.specs.Lines.{size_fault}
-use Rattle.pattern.proofs.TakenLemmas.{is_sized}
-use Rattle.module_box.specs.Boxes.{in_box, in_ring}
-use Rattle.module_box.specs.Moves.{IsInShiftRange, IsSmallShift, moved_event}
-use Rattle.module_box.specs.Schedules.{Signals}
-use Rattle.module_box.specs.declared.boxes.Box2.{Box2}
-use Rattle.module_box.specs.declared.schedules.TimedSignal.{TimedSignal}
-use Rattle.module_box.specs.declared.schedules.AllTimes.{AllTimes}
-use Rattle.module_box.specs.declared.schedules.Signal.{Signal}
+use Rattle.certificate.proofs.Imports.{All, All-cons, All-nil, AllTimesSignal, BorderLine, Box2, Cell, Circuit}
+use Rattle.certificate.proofs.Imports.{IsInShiftRange, IsModule, IsSmallShift, IsWithinMaxSize, LayoutHeader, List}
+use Rattle.certificate.proofs.Imports.{ModuleLines, None, Option, Setting, Signal, Signals, Some, TimedSignal, []}
+use Rattle.certificate.proofs.Imports.{all_times_of_line, and_parts, ap, arith, common_steps, edges, events_of_line}
+use Rattle.certificate.proofs.Imports.{flat_all, get_or, halos, in_box, in_ring, ints, is_sized, line_signals, map}
+use Rattle.certificate.proofs.Imports.{moved_stop, one_or_named_wire, pos, renumber_all_times, renumber_event}
+use Rattle.certificate.proofs.Imports.{renumber_signals, shift_to_origin, size_fault, stops, subst, sym, true, ℕ, ℤ}
+use Rattle.certificate.proofs.Imports.{◌+ℤ◌, ◌+◌, ◌<◌, ◌≡◌, ◌≤◌}
+use Rattle.lemmas.proofs.Common.{◌≤ℤ◌, All-map, All-weaker, all_unmapped}
+use Rattle.module_box.specs.Moves.{moved_event}
 use Rattle.module_box.proofs.BoxCells.{in_box_nats}
-use Rattle.certificate_lines.specs.Entries.{Setting, ModuleLines, edges, halos, stops}
-use Rattle.certificate.specs.Jobs.{all_times_of_line, events_of_line, one_or_named_wire, line_signals}
-use Rattle.certificate_lines.specs.Modules.{IsModule}
-use Rattle.module_job.specs.Shapes.{shift_to_origin, moved_stop}
-use Rattle.module_job.specs.Signals.{renumber_all_times, renumber_event, renumber_signals}
-use Rattle.certificate.specs.Timetables.{IsLow}
-use Rattle.certificate_lines.specs.declared.certificate_line.BorderLine.{BorderLine}
 use Rattle.module_job.specs.declared.job.Stop.{Stop}
 use Rattle.certificate.proofs.JobLemmas.{within_512}
 
@@ -29,7 +17,7 @@ low_number : (z : ℤ) (k : ℕ) → z ≡ pos k → k < 512 → (pos 0 ≤ℤ z
 low_number z k e lt = (omega (arith, ints, e, lt), omega (arith, ints, e, lt))
 
 -- a cell of a box within 512 columns and rows
-pub low_in_box : (b : Box2) (c : Cell) → b.x + b.w ≤ 512 → b.y + b.h ≤ 512 → in_box b c.x c.y ≡ true → IsLow c
+pub low_in_box : (b : Box2) (c : Cell) → b.x + b.w ≤ 512 → b.y + b.h ≤ 512 → in_box b c.x c.y ≡ true → IsWithinMaxSize c
 low_in_box b c right bottom h = grind (arith, common_steps, in_box_nats, low_number)
 
 ring_inside : (b : Box2) (x y : ℤ) → in_ring b x y ≡ true → in_box b x y ≡ true
@@ -37,14 +25,14 @@ unfolding in_ring
 ring_inside b x y h = (and_parts _ _ h).0
 
 pub low_edges : (g : Setting) (m : ModuleLines) (s : LayoutHeader) → s ≡ g.size → size_fault s ≡ None → IsModule g m →
-    All (λ e. IsLow e.cell) (edges m)
+    All (λ e. IsWithinMaxSize e.cell) (edges m)
 low_edges g m s is limits h k d lt =
     let w = within_512 g m s is limits h in
     let e = get_or (edges m) k d in
     low_in_box m.area e.cell w.0 w.1 (ring_inside m.area e.cell.x e.cell.y (h.edge_lines k d lt).ring)
 
 pub low_halos : (g : Setting) (m : ModuleLines) (s : LayoutHeader) → s ≡ g.size → size_fault s ≡ None → IsModule g m →
-    All (λ e. IsLow e.cell) (halos m)
+    All (λ e. IsWithinMaxSize e.cell) (halos m)
 low_halos g m s is limits h k d lt =
     let sized = is_sized s limits in
     let wide = sized.width.1 in
@@ -53,46 +41,42 @@ low_halos g m s is limits h k d lt =
     grind (arith, common_steps, low_in_box)
 
 pub low_stops : (g : Setting) (m : ModuleLines) (s : LayoutHeader) → s ≡ g.size → size_fault s ≡ None → IsModule g m →
-    All (λ e. IsLow e.cell) (stops m)
+    All (λ e. IsWithinMaxSize e.cell) (stops m)
 low_stops g m s is limits h k d lt = grind (arith, common_steps, within_512, low_in_box)
 
 -- ---- what holds of the cells of lines holds of those of their signals
-pub flat_all : {X A : Type 0} (P : A → Type 0) (f : X → List A) (Q : X → Type 0) → ((x : X) → Q x → All P (f x)) →
-    (xs : List X) → All Q xs → All P (flat_map f xs)
-flat_all P f Q each [] all = All-nil P
-flat_all P f Q each (x ∷ xs) all =
-    All-append P (f x) (flat_map f xs) (each x (All-head Q x xs all)) (flat_all P f Q each xs (All-tail Q x xs all))
-
-all_times_low : (e : BorderLine) (t : Option ℕ) (s : Signal) → IsLow e.cell →
-    All (λ (h : AllTimes). IsLow h.cell) (all_times_of_line e t s)
-all_times_low e None s low = All-cons (λ (h : AllTimes). IsLow h.cell) _ [] low (All-nil _)
+all_times_low : (e : BorderLine) (t : Option ℕ) (s : Signal) → IsWithinMaxSize e.cell →
+    All (λ (h : AllTimesSignal). IsWithinMaxSize h.cell) (all_times_of_line e t s)
+all_times_low e None s low = All-cons (λ (h : AllTimesSignal). IsWithinMaxSize h.cell) _ [] low (All-nil _)
 all_times_low e (Some t) s low = All-nil _
 
-event_low : (e : BorderLine) (t : Option ℕ) (s : Signal) → IsLow e.cell →
-    All (λ (h : TimedSignal). IsLow h.at.cell) (events_of_line e t s)
+event_low : (e : BorderLine) (t : Option ℕ) (s : Signal) → IsWithinMaxSize e.cell →
+    All (λ (h : TimedSignal). IsWithinMaxSize h.at.cell) (events_of_line e t s)
 event_low e None s low = All-nil _
-event_low e (Some t) s low = All-cons (λ (h : TimedSignal). IsLow h.at.cell) _ [] low (All-nil _)
+event_low e (Some t) s low = All-cons (λ (h : TimedSignal). IsWithinMaxSize h.at.cell) _ [] low (All-nil _)
 
 pub low_all_times : (f : ℕ → ℕ) (c : Circuit) (es : List BorderLine) (s : Signals) →
     renumber_signals f s ≡ line_signals c es →
-    All (λ e. IsLow e.cell) es → All (λ (h : AllTimes). IsLow h.cell) s.all_times
+    All (λ e. IsWithinMaxSize e.cell) es → All (λ (h : AllTimesSignal). IsWithinMaxSize h.cell) s.all_times
 low_all_times f c es s same all =
-    all_unmapped (λ (h : AllTimes). IsLow h.cell) (renumber_all_times f) s.all_times
-    (subst (λ (hs : List AllTimes). All (λ (h : AllTimes). IsLow h.cell) hs)
+    all_unmapped (λ (h : AllTimesSignal). IsWithinMaxSize h.cell) (renumber_all_times f) s.all_times
+    (subst (λ (hs : List AllTimesSignal). All (λ (h : AllTimesSignal). IsWithinMaxSize h.cell) hs)
     (sym (ap (λ (r : Signals). r.all_times) same))
-    (flat_all (λ (h : AllTimes). IsLow h.cell) (λ e. all_times_of_line e e.time (one_or_named_wire c e.signal))
-    (λ e. IsLow e.cell)
+    (flat_all (λ (h : AllTimesSignal). IsWithinMaxSize h.cell)
+    (λ e. all_times_of_line e e.time (one_or_named_wire c e.signal))
+    (λ e. IsWithinMaxSize e.cell)
     (λ e low. all_times_low e e.time (one_or_named_wire c e.signal) low) es all))
 
 pub low_events : (f : ℕ → ℕ) (c : Circuit) (es : List BorderLine) (s : Signals) →
     renumber_signals f s ≡ line_signals c es →
-    All (λ e. IsLow e.cell) es → All (λ (h : TimedSignal). IsLow h.at.cell) s.events
+    All (λ e. IsWithinMaxSize e.cell) es → All (λ (h : TimedSignal). IsWithinMaxSize h.at.cell) s.events
 low_events f c es s same all =
-    all_unmapped (λ (h : TimedSignal). IsLow h.at.cell) (renumber_event f) s.events
-    (subst (λ (hs : List TimedSignal). All (λ (h : TimedSignal). IsLow h.at.cell) hs)
+    all_unmapped (λ (h : TimedSignal). IsWithinMaxSize h.at.cell) (renumber_event f) s.events
+    (subst (λ (hs : List TimedSignal). All (λ (h : TimedSignal). IsWithinMaxSize h.at.cell) hs)
     (sym (ap (λ (r : Signals). r.events) same))
-    (flat_all (λ (h : TimedSignal). IsLow h.at.cell) (λ e. events_of_line e e.time (one_or_named_wire c e.signal))
-    (λ e. IsLow e.cell)
+    (flat_all (λ (h : TimedSignal). IsWithinMaxSize h.at.cell)
+    (λ e. events_of_line e e.time (one_or_named_wire c e.signal))
+    (λ e. IsWithinMaxSize e.cell)
     (λ e low. event_low e e.time (one_or_named_wire c e.signal) low) es all))
 
 -- ---- low cells are near, also where a box moves to the corner
@@ -102,35 +86,37 @@ small_low z low high = (omega (arith, ints, low), omega (arith, ints, high))
 small_back : (z : ℤ) (n : ℕ) → n ≤ 512 → (pos 0 ≤ℤ z) → (z ≤ℤ pos 511) → IsSmallShift (z +ℤ shift_to_origin n)
 small_back z n few low high = (omega (arith, ints, low, few), omega (arith, ints, high))
 
-near_low : (c : Cell) → IsLow c → IsInShiftRange c
+near_low : (c : Cell) → IsWithinMaxSize c → IsInShiftRange c
 near_low c l = (small_low c.x l.column.0 l.column.1, small_low c.y l.row.0 l.row.1)
 
-pub near_all_times : (hs : List AllTimes) → All (λ (h : AllTimes). IsLow h.cell) hs →
-    All (λ (h : AllTimes). IsInShiftRange h.cell) hs
-near_all_times hs all = All-weaker _ _ (λ (h : AllTimes) l. near_low h.cell l) hs all
+pub near_all_times : (hs : List AllTimesSignal) → All (λ (h : AllTimesSignal). IsWithinMaxSize h.cell) hs →
+    All (λ (h : AllTimesSignal). IsInShiftRange h.cell) hs
+near_all_times hs all = All-weaker _ _ (λ (h : AllTimesSignal) l. near_low h.cell l) hs all
 
-pub near_events : (es : List TimedSignal) → All (λ (e : TimedSignal). IsLow e.at.cell) es →
+pub near_events : (es : List TimedSignal) → All (λ (e : TimedSignal). IsWithinMaxSize e.at.cell) es →
     All (λ (e : TimedSignal). IsInShiftRange e.at.cell) es
 near_events es all = All-weaker _ _ (λ (e : TimedSignal) l. near_low e.at.cell l) es all
 
-pub near_moved : (x y : ℕ) (es : List TimedSignal) → x ≤ 512 → y ≤ 512 → All (λ (e : TimedSignal). IsLow e.at.cell) es →
+pub near_moved : (x y : ℕ) (es : List TimedSignal) → x ≤ 512 → y ≤ 512 →
+    All (λ (e : TimedSignal). IsWithinMaxSize e.at.cell) es →
     All (λ (e : TimedSignal). IsInShiftRange e.at.cell) (map (moved_event (shift_to_origin x) (shift_to_origin y)) es)
 near_moved x y es few low all =
     All-map (λ (e : TimedSignal). IsInShiftRange e.at.cell) (moved_event (shift_to_origin x) (shift_to_origin y)) es
-    (All-weaker (λ (e : TimedSignal). IsLow e.at.cell)
+    (All-weaker (λ (e : TimedSignal). IsWithinMaxSize e.at.cell)
     (λ (e : TimedSignal). IsInShiftRange (moved_event (shift_to_origin x) (shift_to_origin y) e).at.cell)
     (λ (e : TimedSignal) l.
     (small_back e.at.cell.x x few l.column.0 l.column.1, small_back e.at.cell.y y low l.row.0 l.row.1)) es all)
 
-pub near_stops : (ss : List Stop) → All (λ (s : Stop). IsLow s.at.cell) ss →
+pub near_stops : (ss : List Stop) → All (λ (s : Stop). IsWithinMaxSize s.at.cell) ss →
     All (λ (s : Stop). IsInShiftRange s.at.cell) ss
 near_stops ss all = All-weaker _ _ (λ (s : Stop) l. near_low s.at.cell l) ss all
 
-pub near_moved_stops : (x y : ℕ) (ss : List Stop) → x ≤ 512 → y ≤ 512 → All (λ (s : Stop). IsLow s.at.cell) ss →
+pub near_moved_stops : (x y : ℕ) (ss : List Stop) → x ≤ 512 → y ≤ 512 →
+    All (λ (s : Stop). IsWithinMaxSize s.at.cell) ss →
     All (λ (s : Stop). IsInShiftRange s.at.cell) (map (moved_stop (shift_to_origin x) (shift_to_origin y)) ss)
 near_moved_stops x y ss few low all =
     All-map (λ (s : Stop). IsInShiftRange s.at.cell) (moved_stop (shift_to_origin x) (shift_to_origin y)) ss
-    (All-weaker (λ (s : Stop). IsLow s.at.cell)
+    (All-weaker (λ (s : Stop). IsWithinMaxSize s.at.cell)
     (λ (s : Stop). IsInShiftRange (moved_stop (shift_to_origin x) (shift_to_origin y) s).at.cell)
     (λ (s : Stop) l. (small_back s.at.cell.x x few l.column.0 l.column.1, small_back s.at.cell.y y low l.row.0 l.row.1))
     ss all)

@@ -1,9 +1,7 @@
 -- Lines that are printed without halo lines
-use Rattle.lemmas.proofs.Common.{[], ◌++◌, ◌+◌, ◌<◌, ◌∷◌, ◌≡◌, List, append-nil, arith, flat_map, get_or, length, sym}
-use Rattle.lemmas.proofs.Common.{take, ℕ, common_steps, flat_map-append, take_more}
-use Rattle.certificate.specs.Text.{entry_text}
-use Rattle.certificate_lines.specs.Versions.{without_halos}
-use Rattle.certificate_lines.specs.declared.certificate_line.CertificateLine.{CertificateLine}
+use Rattle.certificate.proofs.Imports.{CertificateLine, List, [], append-nil, arith, common_steps, entry_text, flat_map}
+use Rattle.certificate.proofs.Imports.{flat_map-append, get_or, length, sym, take, take_more, without_halos, ℕ, ◌++◌}
+use Rattle.certificate.proofs.Imports.{◌+◌, ◌<◌, ◌∷◌, ◌≡◌}
 use Rattle.certificate.proofs.Migrated.{without_append}
 
 pub none_printed : (old : List ℕ) → old ≡ old ++ flat_map entry_text (without_halos [])

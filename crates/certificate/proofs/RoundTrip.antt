@@ -1,12 +1,10 @@
 -- The certificate section has one text.
-use Rattle.lemmas.proofs.Common.{◌+◌, ◌∙◌, List, ap, append_assoc, drop, flat_map, length, sym, ℕ}
+use Rattle.certificate.proofs.Imports.{End, Header, Item, List, ap, append_assoc, certificate_grammar, certificate_text}
+use Rattle.certificate.proofs.Imports.{drop, flat_map, form_text, length, sym, ℕ, ◌+◌, ◌∙◌}
 use Rattle.section_text.specs.Words.{lines_of}
 use Rattle.section_text.specs.Section.{section_of}
-use Rattle.section_text.specs.declared.section.Form.TheVariants.{Header, Item, End}
 use Rattle.section_text.proofs.Spelled.{section_text_is}
 use Rattle.section_text.proofs.Again.{section_again, lines_of_lines}
-use Rattle.certificate.specs.Grammars.{certificate_grammar}
-use Rattle.certificate.specs.Text.{certificate_text, form_text}
 use Rattle.certificate.specs.Laws.{PrintsWhatIsRead, ReadsWhatIsPrinted}
 use Rattle.certificate.proofs.Spelling.{form_line}
 

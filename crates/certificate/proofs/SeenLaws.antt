@@ -1,8 +1,7 @@
 -- The first time is the least, and the last one the greatest.
-use Rattle.lemmas.proofs.Common.{[], ◌∷◌, ◌≡◌, ◌≤◌, ◌⊎◌, All, Contains, List, None, Some, arith, fold, max, min, suc}
-use Rattle.lemmas.proofs.Common.{zero, ℕ, common_steps, same_Some}
+use Rattle.certificate.proofs.Imports.{All, Contains, List, None, Some, [], arith, common_steps, earlier, fold, later}
+use Rattle.certificate.proofs.Imports.{max, min, same_Some, stop_times_of_wire, suc, zero, ℕ, ◌∷◌, ◌≡◌, ◌≤◌, ◌⊎◌}
 use Rattle.certificate.specs.Laws.{FirstSeenIsLeast, LastSeenIsGreatest}
-use Rattle.certificate.specs.Times.{earlier, later, stop_times_of_wire}
 
 there : (u : ℕ) (us : List ℕ) (t : ℕ) → Contains us t → Contains (u ∷ us) t
 there u us t h = (suc h.0, (let lt = h.1 in omega (arith, lt)), h.2)

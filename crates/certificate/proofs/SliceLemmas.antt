@@ -1,12 +1,8 @@
 -- Modules as they are kept: their lines are in order, and what is found in them is found in the modules.
-use Rattle.lemmas.proofs.Common.{[], ◌++◌, ◌||◌, ◌∙◌, ◌∷◌, ◌≡◌, Bool, List, ap, get_or, map, refl, slice_get, sym}
-use Rattle.lemmas.proofs.Common.{list_any, slice_get-get_or, mapped_at}
+use Rattle.certificate.proofs.Imports.{AreInOrder, AreModules, Bool, List, ModuleLines, ModuleSlice, Setting, [], ap}
+use Rattle.certificate.proofs.Imports.{get_or, list_any, map, mapped_at, refl, slice_get, slice_get-get_or, slice_lines}
+use Rattle.certificate.proofs.Imports.{sym, ◌++◌, ◌||◌, ◌∙◌, ◌∷◌, ◌≡◌}
 use Rattle.std.specs.List.{All, flat_map}
-use Rattle.certificate_lines.specs.Entries.{ModuleLines, Setting}
-use Rattle.certificate_lines.specs.Modules.{AreModules}
-use Rattle.certificate_lines.specs.Orders.{AreInOrder}
-use Rattle.certificate.specs.SliceLines.{slice_lines}
-use Rattle.certificate.specs.declared.beside.ModuleSlice.{ModuleSlice}
 
 pub are_in_order : (g : Setting) (ms : List ModuleLines) (parts : List ModuleSlice) → AreModules g ms →
     map slice_lines parts ≡ ms → All (λ p. AreInOrder p.lines.now) parts

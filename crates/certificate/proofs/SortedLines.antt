@@ -1,15 +1,13 @@
 -- Lines that are sorted are in order
-use Rattle.lemmas.proofs.Common.{[], ◌+◌, ◌∷◌, ◌≡◌, ◌≢◌, ◌≤◌, Equal, Greater, Less, List, Ordering, ap, arith, false}
-use Rattle.lemmas.proofs.Common.{get_or, if◌then◌else◌, is_eq, is_lt, refl, sum_by, ℕ, All-permutation, IsPermutation}
-use Rattle.lemmas.proofs.Common.{IsPermutation-sym, IsSortedBy, common_steps, get_or_from_slice_get, ranks_by}
-use Rattle.lemmas.proofs.Common.{slice_get_within, sorted_far, sum_by-IsPermutation, sum_by-cons}
-use Rattle.certificate_lines.specs.Versions.{in_order, border_line_cmp}
-use Rattle.certificate_lines.specs.declared.certificate_line.BorderLine.{BorderLine}
-use Rattle.certificate_lines.proofs.InList.{all_in}
+use Rattle.certificate.proofs.Imports.{AreDistinct, BorderLine, Each, Equal, Greater, In, IsPermutation, Less, List}
+use Rattle.certificate.proofs.Imports.{Ordering, Pairs, Rises, [], all_in, ap, arith, border_line_cmp, common_steps}
+use Rattle.certificate.proofs.Imports.{each_in, false, get_or, get_or_from_slice_get, if◌then◌else◌, in_each}
+use Rattle.certificate.proofs.Imports.{in_ordered, is_lt, line_total, ordered_in, ordered_rises, ranks_by, refl}
+use Rattle.certificate.proofs.Imports.{rising_same, slice_get_within, sorted_border_lines, ℕ, ◌+◌, ◌∷◌, ◌≡◌, ◌≢◌, ◌≤◌}
+use Rattle.lemmas.proofs.Common.{is_eq, sum_by, All-permutation, IsPermutation-sym, IsSortedBy, sorted_far}
+use Rattle.lemmas.proofs.Common.{sum_by-IsPermutation, sum_by-cons}
+use Rattle.certificate_lines.proofs.Pairs.{pairs_at}
 use Rattle.certificate.proofs.FullModules.{in_all, pairs_by_place}
-use Rattle.certificate_lines.proofs.LineOrder.{AreDistinct, In, Rises, in_each, each_in, in_ordered, line_total}
-use Rattle.certificate_lines.proofs.LineOrder.{ordered_in, ordered_rises, rising_same}
-use Rattle.certificate_lines.proofs.Pairs.{Each, Pairs, pairs_at}
 
 -- how many lines stand nowhere apart from the line
 beat : BorderLine → BorderLine → ℕ
@@ -98,8 +96,8 @@ sorted_rises ys up d = pairs_by_place (λ a b. border_line_cmp a b ≡ Less) ys 
     grind (arith, common_steps, less_of, pairs_at))
 
 pub sorted_lines : (xs ys : List BorderLine) → AreDistinct xs → IsPermutation xs ys →
-    IsSortedBy (λ a b. is_lt (border_line_cmp a b)) ys → ys ≡ in_order xs
+    IsSortedBy (λ a b. is_lt (border_line_cmp a b)) ys → ys ≡ sorted_border_lines xs
 sorted_lines xs ys d p up =
-    rising_same ys (in_order xs) (sorted_rises ys up (kept_distinct xs ys p d)) (ordered_rises xs d)
+    rising_same ys (sorted_border_lines xs) (sorted_rises ys up (kept_distinct xs ys p d)) (ordered_rises xs d)
     (λ x i. ordered_in x xs (kept_in xs ys p x i))
     (λ x i. kept_in ys xs (IsPermutation-sym xs ys p) x (in_ordered x xs i))

@@ -1,54 +1,45 @@
 -- Lines that are good one after the other make good modules.
-use Rattle.lemmas.proofs.Common.{[], ◌&&◌, ◌++◌, ◌+◌, ◌<◌, ◌==◌, ◌||◌, ◌∙◌, ◌∷◌, ◌≡◌, ◌≤◌, ◌⊎◌, All, Bool, List, None}
-use Rattle.lemmas.proofs.Common.{Some, ap, append-nil, append_assoc, arith, false, inl, inr, negsuc, pos, refl}
-use Rattle.lemmas.proofs.Common.{slice_get, subst, suc, sym, true, true≢false, zero, ℕ, ℤ, and_parts, common_steps}
-use Rattle.lemmas.proofs.Common.{eqb-true, list_all, nat_tests, slice_get-get_or, slice_get_within, or_cases, or_parts}
-use Rattle.lemmas.proofs.Common.{true_from_not}
-use Rattle.bbm_rule.specs.Spans.{in_span}
-use Rattle.bbm_rule.specs.Plane.{is_at}
-use Rattle.bbm_rule.specs.declared.block.Cell.{Cell}
-use Rattle.pattern.specs.Layout.{in_cells}
-use Rattle.pattern.specs.declared.layout_line.LayoutHeader.{LayoutHeader}
-use Rattle.section_text.proofs.Good.{AreFaultless, IsFaultless}
-use Rattle.module_box.specs.Boxes.{in_box, Tile}
+use Rattle.certificate.proofs.Imports.{All, AreFaultless, AreModules, Bool, Box2, Cell, CertificateLine, Cut, Edge}
+use Rattle.certificate.proofs.Imports.{Halo, HasLocalPorts, IsFaultless, Keep, LayoutHeader, List, Module, ModuleLines}
+use Rattle.certificate.proofs.Imports.{None, PastLimit, Setting, Some, SomethingMissing, Stop, Tile, Use, [], add_line}
+use Rattle.certificate.proofs.Imports.{and_parts, any_at, ap, append-nil, append_assoc, areas, arith, both_none}
+use Rattle.certificate.proofs.Imports.{cell_same, certificate_grammar, change_last, common_steps, end_fault}
+use Rattle.certificate.proofs.Imports.{entry_fault, eqb-true, false, has_nonlocal_port, in_box, in_cells, in_span, inl}
+use Rattle.certificate.proofs.Imports.{inr, is_at, is_haloless_version, is_last_module_incomplete}
+use Rattle.certificate.proofs.Imports.{lacks_edge_wire_beside, last_module, last_of, leaves_gap, list_all}
+use Rattle.certificate.proofs.Imports.{module_with_line, modules_of, nat_tests, no_code, or_parts, pos, rectangle_cells}
+use Rattle.certificate.proofs.Imports.{refl, slice_get, slice_get-get_or, slice_get_within, some_is, subst, suc, sym}
+use Rattle.certificate.proofs.Imports.{true, true_from_not, true≢false, whole, zero, ℕ, ℤ, ◌&&◌, ◌++◌, ◌+◌, ◌<◌, ◌==◌}
+use Rattle.certificate.proofs.Imports.{◌||◌, ◌∙◌, ◌∷◌, ◌≡◌, ◌≤◌, ◌⊎◌}
+use Rattle.lemmas.proofs.Common.{negsuc, or_cases}
 use Rattle.module_box.specs.Tiling.{IsInside}
-use Rattle.module_box.specs.declared.boxes.Box2.{Box2}
-use Rattle.certificate_lines.specs.Entries.{Setting, ModuleLines, module_with_line, change_last, last_of, add_line}
-use Rattle.certificate_lines.specs.Entries.{modules_of, last_module, areas}
-use Rattle.certificate_lines.specs.Rules.{whole, box_cells, in_boxes, is_last_module_incomplete}
-use Rattle.certificate_lines.specs.Rules.{has_nonlocal_port, leaves_gap, entry_fault, end_fault}
-use Rattle.certificate.specs.Grammars.{certificate_grammar}
-use Rattle.certificate_lines.specs.Versions.{is_haloless_version, lacks_edge_wire_beside}
-use Rattle.certificate_lines.specs.Modules.{IsWithinLineLimit, HasPorts, AreModules}
-use Rattle.certificate_lines.specs.BuilderView.{AreSound, IsWritten}
-use Rattle.certificate_lines.specs.declared.certificate_line.CertificateLine.{CertificateLine}
-use Rattle.certificate_lines.specs.declared.certificate_line.CertificateLine.TheVariants.{Module, Cut, Use, Keep, Edge}
-use Rattle.certificate_lines.specs.declared.certificate_line.CertificateLine.TheVariants.{Halo, Stop}
+use Rattle.certificate_lines.specs.Rules.{in_boxes}
+use Rattle.certificate_lines.specs.Modules.{IsWithinLineLimit}
+use Rattle.certificate_lines.specs.BuilderView.{AreGoodModulesSoFar, IsModuleInLimits}
 use Rattle.certificate_lines.proofs.BuiltLemmas.{good_module, line_sound, module_sound, sound_none, last_is}
 use Rattle.certificate_lines.proofs.Growing.{modules_push}
 use Rattle.certificate_lines.proofs.Keeping.{good_line, IsGoodLine}
-use Rattle.certificate_lines.proofs.Lists.{any_at, passed, some_is}
-use Rattle.certificate_lines.proofs.ModulePushes.{both_none, no_code, new_wire, good_use, cut_pushed, use_pushed}
-use Rattle.certificate_lines.proofs.ModulePushes.{keep_pushed, edge_pushed, halo_pushed, stop_pushed}
-use Rattle.bbm_rule.proofs.SameCells.{cell_same}
+use Rattle.certificate_lines.proofs.Lists.{passed}
+use Rattle.certificate_lines.proofs.ModulePushes.{new_wire, good_use, cut_pushed, use_pushed, keep_pushed, edge_pushed}
+use Rattle.certificate_lines.proofs.ModulePushes.{halo_pushed, stop_pushed}
 use Rattle.certificate_lines.proofs.PortLemmas.{in_box_cells}
-use Rattle.section_text.specs.declared.code.RefusalCode.TheVariants.{PastLimit, SomethingMissing}
 
-module _ (g : Setting) (es : List CertificateLine) (sound : AreSound g (modules_of es)) where
+module _ (g : Setting) (es : List CertificateLine) (sound : AreGoodModulesSoFar g (modules_of es)) where
   -- one more line of the last module
   inner_sound : (i : CertificateLine) → add_line (modules_of es) i ≡ change_last (module_with_line i) (modules_of es) →
-      (good : IsGoodLine g es i) → (IsWritten g good.module_lines → IsWritten g (module_with_line i good.module_lines))
+      (good : IsGoodLine g es i) → (IsModuleInLimits g good.module_lines →
+      IsModuleInLimits g (module_with_line i good.module_lines))
       →
-      AreSound g (modules_of (es ++ i ∷ []))
+      AreGoodModulesSoFar g (modules_of (es ++ i ∷ []))
   inner_sound i step good grows =
-      subst (AreSound g) (sym (modules_push es i ∙ step))
+      subst (AreGoodModulesSoFar g) (sym (modules_push es i ∙ step))
       (line_sound g (modules_of es) i sound
       (λ m some. grind (arith, common_steps, some_is)))
 
-  sound_push : (i : CertificateLine) → entry_fault g es i ≡ None → AreSound g (modules_of (es ++ i ∷ []))
+  sound_push : (i : CertificateLine) → entry_fault g es i ≡ None → AreGoodModulesSoFar g (modules_of (es ++ i ∷ []))
   unfolding entry_fault add_line
   sound_push (Module b) e =
-      subst (AreSound g) (sym (modules_push es (Module b)))
+      subst (AreGoodModulesSoFar g) (sym (modules_push es (Module b)))
       (module_sound g (modules_of es) b sound (good_module g (modules_of es) (last_module es) b e))
   sound_push (Cut n) e =
       let good = good_line g es (Cut n) e in
@@ -72,15 +63,15 @@ module _ (g : Setting) (es : List CertificateLine) (sound : AreSound g (modules_
       let good = good_line g es (Stop s) e in
       inner_sound (Stop s) refl good (λ is. stop_pushed g good.module_lines is.good s good.follows good.words)
 
-sound_all : (g : Setting) (v : ℕ) (more before : List CertificateLine) → AreSound g (modules_of before) →
-    AreFaultless (certificate_grammar g) v before more → AreSound g (modules_of (before ++ more))
-sound_all g v [] before sound good = subst (λ l. AreSound g (modules_of l)) (sym (append-nil before)) sound
+sound_all : (g : Setting) (v : ℕ) (more before : List CertificateLine) → AreGoodModulesSoFar g (modules_of before) →
+    AreFaultless (certificate_grammar g) v before more → AreGoodModulesSoFar g (modules_of (before ++ more))
+sound_all g v [] before sound good = subst (λ l. AreGoodModulesSoFar g (modules_of l)) (sym (append-nil before)) sound
 sound_all g v (i ∷ more) before sound good =
-    subst (λ l. AreSound g (modules_of l)) (append_assoc before (i ∷ []) more)
+    subst (λ l. AreGoodModulesSoFar g (modules_of l)) (append_assoc before (i ∷ []) more)
     (sound_all g v more (before ++ i ∷ [])
     (sound_push g before sound i (both_none _ (entry_fault g before i) good.0).1) good.1)
 
-none_sound : (g : Setting) → AreSound g (modules_of [])
+none_sound : (g : Setting) → AreGoodModulesSoFar g (modules_of [])
 unfolding modules_of
 none_sound g = sound_none g []
 
@@ -116,13 +107,14 @@ area_at (m ∷ ms) (suc i) b e = area_at ms i b e
 at_cell : ℤ → ℤ → Cell
 at_cell x y = record { x = x; y = y }
 
-module _ (g : Setting) (ms : List ModuleLines) (sound : AreSound g ms) where
+module _ (g : Setting) (ms : List ModuleLines) (sound : AreGoodModulesSoFar g ms) where
   tiles : leaves_gap g.size (areas ms) ≡ false → Tile (whole g.size) (areas ms)
   unfolding at_cell
   tiles full = record {
     covered = λ x y h.
         let there : in_boxes (areas ms) x y ≡ true =
-        cell_passes (λ c. in_boxes (areas ms) c.x c.y) (box_cells (whole g.size)) (at_cell x y) (true_from_not _ full)
+        cell_passes (λ c. in_boxes (areas ms) c.x c.y) (rectangle_cells (whole g.size)) (at_cell x y)
+        (true_from_not _ full)
         (in_box_cells (whole g.size) x y ∙ h) in
         let p = passed (λ (b : Box2). in_box b x y) (areas ms) there in
         (p.place, p.element, p.stands, p.passes);
@@ -132,7 +124,7 @@ module _ (g : Setting) (ms : List ModuleLines) (sound : AreSound g ms) where
         box_inside g.size b x y (subst (IsInside g.size.w g.size.h) m.2 (sound.each i m.0 m.1).good.inside) h;
   }
 
-  has_ports : (m : ModuleLines) → has_nonlocal_port g m ≡ false → HasPorts g m
+  has_ports : (m : ModuleLines) → has_nonlocal_port g m ≡ false → HasLocalPorts g m
   unfolding has_nonlocal_port
   has_ports m none = grind (arith, common_steps, true≢false, any_at)
 

@@ -1,28 +1,24 @@
 -- Each line of the certificate section is the spelling of its form.
-use Rattle.lemmas.proofs.Common.{[], ◌+◌, ◌∷◌, ◌≡◌, List, Option, Some, ap, arith, codes, eqb, inl, inr, length}
-use Rattle.lemmas.proofs.Common.{slice_get, subst, true, ℕ, common_steps, decimal, eqb-true, option_and_then_some}
-use Rattle.lemmas.proofs.Common.{same_Some}
-use Rattle.section_text.specs.Words.{◌>>=◌, words_of, is_word_at, lone, lone_number, lone_name, name_at, number_at}
+use Rattle.certificate.proofs.Imports.{BorderLine, Box2, Cell, Cut, Edge, End, Halo, Header, Item, Keep, List, Module}
+use Rattle.certificate.proofs.Imports.{Option, Some, Stop, StopLine, Use, [], ap, arith, codes, common_steps, eqb}
+use Rattle.certificate.proofs.Imports.{eqb-true, form_text, inl, inr, length, same_Some, slice_get, subst, true, ℕ, ◌+◌}
+use Rattle.certificate.proofs.Imports.{◌∷◌, ◌≡◌}
+use Rattle.pattern.specs.Forms.{corner_and_sides, box_of, cell_of_words_from}
+use Rattle.lemmas.proofs.Common.{decimal, option_and_then_some}
+use Rattle.section_text.specs.Words.{◌>>=◌, words_of, is_word_at, if_one_word, number_after_keyword, name_after_keyword}
+use Rattle.section_text.specs.Words.{name_at, number_at}
 use Rattle.section_text.specs.Section.{with_line_feed}
-use Rattle.section_text.specs.declared.section.Form.TheVariants.{Header, Item, End}
 use Rattle.section_text.proofs.Spellings.{chosen, passed, number_at_spelled, one_word, two_words, five_words}
 use Rattle.section_text.proofs.WordPlaces.{is_at_is, name_at_is, line_from_words}
-use Rattle.bbm_rule.specs.declared.block.Cell.{Cell}
-use Rattle.module_box.specs.declared.boxes.Box2.{Box2}
-use Rattle.pattern.specs.Forms.{cell_of_words_from}
-use Rattle.pattern.specs.Text.{coordinate}
-use Rattle.certificate_lines.specs.declared.certificate_line.BorderLine.{BorderLine}
-use Rattle.certificate_lines.specs.declared.certificate_line.StopLine.{StopLine}
-use Rattle.certificate_lines.specs.declared.certificate_line.CertificateLine.TheVariants.{Module, Cut, Use, Keep, Edge}
-use Rattle.certificate_lines.specs.declared.certificate_line.CertificateLine.TheVariants.{Halo, Stop}
-use Rattle.certificate_lines.specs.Forms.{Line, corner_and_sides, area_of, star_or_time_at_word, signal_at}
-use Rattle.certificate_lines.specs.Forms.{border_of_five_words, border_of, stop_of_five_words, stop_of, form_of}
-use Rattle.certificate.specs.Text.{area_words, star_or_time_word, one_or_name_word, border_words, stop_words, form_text}
+use Rattle.pattern.specs.Text.{natural_or_zero}
+use Rattle.certificate_lines.specs.Forms.{Line, star_or_time_at_word, one_or_name_at_word, border_of_five_words}
+use Rattle.certificate_lines.specs.Forms.{border_of, stop_of_five_words, stop_of, form_of}
+use Rattle.certificate.specs.Text.{area_words, star_or_time_word, one_or_name_word, border_words, stop_words}
 
 -- two words are a cell
 record CellAt (ws : List (List ℕ)) (i j : ℕ) (c : Cell) : Type 0 where
-  column : slice_get ws i ≡ Some (decimal (coordinate c.x))
-  row : slice_get ws j ≡ Some (decimal (coordinate c.y))
+  column : slice_get ws i ≡ Some (decimal (natural_or_zero c.x))
+  row : slice_get ws j ≡ Some (decimal (natural_or_zero c.y))
 
 cell_spelled : (ws : List (List ℕ)) (i : ℕ) (c : Cell) → cell_of_words_from ws i ≡ Some c → CellAt ws i (i + 1) c
 unfolding cell_of_words_from
@@ -34,14 +30,14 @@ unfolding star_or_time_at_word
 time_spelled ws i t e =
     grind (arith, common_steps, chosen, same_Some, is_at_is, option_and_then_some, number_at_spelled)
 
-signal_spelled : (ws : List (List ℕ)) (i : ℕ) (s : Option (List ℕ)) → signal_at ws i ≡ Some s →
+signal_spelled : (ws : List (List ℕ)) (i : ℕ) (s : Option (List ℕ)) → one_or_name_at_word ws i ≡ Some s →
     slice_get ws i ≡ Some (one_or_name_word s)
-unfolding signal_at
+unfolding one_or_name_at_word
 signal_spelled ws i s e = grind (arith, common_steps, chosen, same_Some, is_at_is, option_and_then_some, name_at_is)
 
-area_spelled : (ws : List (List ℕ)) (v : List ℕ) (b : Box2) → is_word_at ws 0 v ≡ true → area_of ws ≡ Some b →
+area_spelled : (ws : List (List ℕ)) (v : List ℕ) (b : Box2) → is_word_at ws 0 v ≡ true → box_of ws ≡ Some b →
     ws ≡ v ∷ area_words b
-unfolding area_of corner_and_sides
+unfolding box_of corner_and_sides
 area_spelled ws v b at e =
     let found = passed (eqb (length ws) 5) (corner_and_sides ws) b e in
     option_and_then_some (λ x. number_at ws 2 >>= λ y. number_at ws 3 >>= λ w. number_at ws 4 >>= λ h.
@@ -61,11 +57,11 @@ border_spelled : (ws : List (List ℕ)) (v : List ℕ) (b : BorderLine) → is_w
 unfolding border_of border_of_five_words
 border_spelled ws v b at e =
     let found = passed (eqb (length ws) 5) (border_of_five_words ws) b e in
-    option_and_then_some (λ t. cell_of_words_from ws 2 >>= λ c. signal_at ws 4 >>= λ s.
+    option_and_then_some (λ t. cell_of_words_from ws 2 >>= λ c. one_or_name_at_word ws 4 >>= λ s.
     Some (record { time = t; cell = c; signal = s })) (star_or_time_at_word ws 1) b found.1 (λ t timed rest.
-    option_and_then_some (λ c. signal_at ws 4 >>= λ s. Some (record { time = t; cell = c; signal = s }))
+    option_and_then_some (λ c. one_or_name_at_word ws 4 >>= λ s. Some (record { time = t; cell = c; signal = s }))
     (cell_of_words_from ws 2) b rest (λ c at_cell last.
-    option_and_then_some (λ s. Some (record { time = t; cell = c; signal = s })) (signal_at ws 4) b last
+    option_and_then_some (λ s. Some (record { time = t; cell = c; signal = s })) (one_or_name_at_word ws 4) b last
     (λ s signalled made.
     let place = cell_spelled ws 2 c at_cell in
     grind (arith, common_steps, same_Some, five_words, eqb-true, is_at_is, time_spelled, signal_spelled))))
@@ -83,18 +79,21 @@ stop_spelled ws v s at e =
     (λ c at_cell made.
     let place = cell_spelled ws 3 c at_cell in
     subst (λ (q : StopLine). ws ≡ v ∷ stop_words q) (same_Some (record { time = t; wire = n; cell = c }) s made)
-    (five_words ws v (decimal t) n (decimal (coordinate c.x)) (decimal (coordinate c.y)) (eqb-true _ _ found.0)
+    (five_words ws v (decimal t) n (decimal (natural_or_zero c.x)) (decimal (natural_or_zero c.y))
+    (eqb-true _ _ found.0)
     (is_at_is ws 0 v at) (number_at_spelled ws 1 t timed) (name_at_is ws 2 n named) place.column place.row))))
 
-number_spelled : (ws : List (List ℕ)) (v : List ℕ) (n : ℕ) → is_word_at ws 0 v ≡ true → lone_number ws ≡ Some n →
+number_spelled : (ws : List (List ℕ)) (v : List ℕ) (n : ℕ) → is_word_at ws 0 v ≡ true →
+    number_after_keyword ws ≡ Some n →
     ws ≡ v ∷ decimal n ∷ []
-unfolding lone_number
+unfolding number_after_keyword
 number_spelled ws v n at e =
     let found = passed (eqb (length ws) 2) (number_at ws 1) n e in
     two_words ws v (decimal n) (eqb-true _ _ found.0) (is_at_is ws 0 v at) (number_at_spelled ws 1 n found.1)
 
-name_spelled : (ws : List (List ℕ)) (v n : List ℕ) → is_word_at ws 0 v ≡ true → lone_name ws ≡ Some n → ws ≡ v ∷ n ∷ []
-unfolding lone_name
+name_spelled : (ws : List (List ℕ)) (v n : List ℕ) → is_word_at ws 0 v ≡ true → name_after_keyword ws ≡ Some n →
+    ws ≡ v ∷ n ∷ []
+unfolding name_after_keyword
 name_spelled ws v n at e = grind (arith, common_steps, passed, two_words, eqb-true, is_at_is, name_at_is)
 
 -- the first word of a form, and the others
@@ -124,7 +123,7 @@ abbrev SpelledAs : List (List ℕ) → Line → Type 0
 SpelledAs ws f = ws ≡ first_of f ∷ non_mirror_grid f
 
 form_words : (ws : List (List ℕ)) (f : Line) → form_of ws ≡ Some f → SpelledAs ws f
-unfolding form_of lone first_of non_mirror_grid
+unfolding form_of if_one_word first_of non_mirror_grid
 form_words ws f e =
     elim (chosen (is_word_at ws 0 (codes "edge")) _ _ (Some f) e) [
       | inl p ↦ grind (arith, common_steps, option_and_then_some, same_Some, border_spelled)

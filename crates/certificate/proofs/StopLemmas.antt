@@ -1,27 +1,17 @@
 -- The stops of a module: what its lines give, and their order.
-use Rattle.lemmas.proofs.Common.{[], ◌∷◌, ◌≡◌, All, Less, List, None, Option, Some, arith, false, flat_map, map}
-use Rattle.lemmas.proofs.Common.{nat_cmp, refl, subst, sym, true, ℕ, All-append, All-cons, All-head, All-nil, All-tail}
-use Rattle.lemmas.proofs.Common.{common_steps, ordering_then}
-use Rattle.circuit.specs.Meaning.{Circuit, wire_of}
-use Rattle.module_box.specs.Locals.{LocalNet, circuit_wire}
-use Rattle.module_box.specs.Moments.{cell_cmp, moment_cmp}
-use Rattle.module_box.specs.Schedules.{IsRising}
+use Rattle.certificate.proofs.Imports.{All, All-append, All-cons, All-head, All-nil, All-tail, AreInOrder, AreStops}
+use Rattle.certificate.proofs.Imports.{CertificateLine, Circuit, Cut, Each, Edge, Halo, IsModule, IsRising, Keep, Less}
+use Rattle.certificate.proofs.Imports.{List, LocalNet, Module, ModuleLines, None, Option, Pairs, Setting, Some, Stop}
+use Rattle.certificate.proofs.Imports.{StopLine, Use, [], arith, cell_cmp, cell_of, circuit_wire, common_steps, false}
+use Rattle.certificate.proofs.Imports.{flat_map, is_cut, is_local, known, line_cmp, map, may_precede, moment_cmp}
+use Rattle.certificate.proofs.Imports.{nat_cmp, ordering_then, pairs_flat, rank_of, refl, rising_of, sort_number_of}
+use Rattle.certificate.proofs.Imports.{stop_in, stops, stops_of_lines, subst, sym, true, wire_of, ℕ, ◌∷◌, ◌≡◌}
 use Rattle.module_box.specs.declared.schedules.Moment.{Moment}
-use Rattle.certificate_lines.specs.Entries.{Setting, ModuleLines, stop_in, stops, known}
-use Rattle.certificate.specs.Jobs.{stops_of_lines, stop_with_wire_number}
+use Rattle.certificate.specs.Jobs.{stop_with_wire_number}
 use Rattle.module_job.specs.Jobs.{stop_moment}
-use Rattle.certificate_lines.specs.Modules.{IsModule}
-use Rattle.certificate_lines.specs.Orders.{AreInOrder, rank_of, number_of, cell_of, line_cmp, is_cut, may_precede}
-use Rattle.certificate_lines.specs.Rules.{is_local}
 use Rattle.module_job.specs.Signals.{renumber_stop}
-use Rattle.certificate.specs.StopLists.{AreStops}
-use Rattle.certificate_lines.specs.declared.certificate_line.CertificateLine.{CertificateLine}
-use Rattle.certificate_lines.specs.declared.certificate_line.CertificateLine.TheVariants.{Module, Cut, Use, Keep, Edge}
-use Rattle.certificate_lines.specs.declared.certificate_line.CertificateLine.TheVariants.{Halo, Stop}
-use Rattle.certificate_lines.specs.declared.certificate_line.StopLine.{StopLine}
-use Rattle.module_job.specs.declared.job.Stop as listed
 use Rattle.certificate.proofs.BorderOrder.{is_less, pairs_of_order}
-use Rattle.certificate_lines.proofs.Pairs.{Each, Pairs, pairs_flat, rising_of}
+use Rattle.module_job.specs.declared.job.Stop as listed
 
 -- ---- one line more
 
@@ -31,7 +21,7 @@ abbrev StopBefore : StopLine → StopLine → Type 0
 StopBefore s t = ordering_then (nat_cmp s.time t.time) (cell_cmp s.cell t.cell) ≡ Less
 
 stop_before : (s t : StopLine) → may_precede (Stop s) (Stop t) ≡ true → StopBefore s t
-unfolding may_precede line_cmp rank_of number_of cell_of is_cut
+unfolding may_precede line_cmp rank_of sort_number_of cell_of is_cut
 stop_before s t h = is_less _ false refl h
 
 stop_first : (s : StopLine) (j : CertificateLine) → may_precede (Stop s) j ≡ true → Each (StopBefore s) (stop_in j)

@@ -1,28 +1,20 @@
 -- The signals of a module after one more line.
-use Rattle.lemmas.proofs.Common.{[], ◌++◌, ◌+◌, ◌<◌, ◌∷◌, ◌≡◌, ◌≤◌, All, List, None, Option, Some, append-nil, arith}
-use Rattle.lemmas.proofs.Common.{flat_map, get_or, length, map, refl, take, ℕ, All-cons, All-nil, common_steps}
-use Rattle.lemmas.proofs.Common.{flat_map-append, flat_map_more, map-append, take_all, take_more}
+use Rattle.certificate.proofs.Imports.{All, All-cons, All-nil, AllTimesSignal, AreInOrder, AreSignalLists, BorderLine}
+use Rattle.certificate.proofs.Imports.{CertificateLine, Circuit, IsRising, IsSignalWireBelow, List, LocalNet, None}
+use Rattle.certificate.proofs.Imports.{Option, Pairs, Signal, Some, TimedSignal, [], all_times_of_line, append-nil}
+use Rattle.certificate.proofs.Imports.{arith, borders_in, cell_cmp, circuit_wire, common_steps, events_of_line}
+use Rattle.certificate.proofs.Imports.{flat_map, flat_map-append, get_or, length, map, map-append, moment_cmp}
+use Rattle.certificate.proofs.Imports.{one_or_named_wire, refl, renumber_all_times, renumber_event, renumber_signal}
+use Rattle.certificate.proofs.Imports.{take, take_all, take_more, wires, ℕ, ◌++◌, ◌+◌, ◌<◌, ◌∷◌, ◌≡◌, ◌≤◌}
+use Rattle.lemmas.proofs.Common.{flat_map_more}
 use Rattle.std.specs.Result.{OnOk}
 use Rattle.std.specs.declared.result.Result.{Result}
 use Rattle.std.specs.declared.result.Result.TheVariants.{Ok, Err}
-use Rattle.circuit.specs.Meaning.{Circuit, wires}
-use Rattle.module_box.specs.Locals.{LocalNet, circuit_wire}
-use Rattle.module_box.specs.Moments.{cell_cmp, moment_cmp}
-use Rattle.module_box.specs.Schedules.{IsRising, moment_of, cell_of}
-use Rattle.module_box.specs.declared.schedules.TimedSignal.{TimedSignal}
-use Rattle.module_box.specs.declared.schedules.AllTimes.{AllTimes}
-use Rattle.module_box.specs.declared.schedules.Signal.{Signal}
-use Rattle.certificate.specs.Jobs.{all_times_of_line, events_of_line, one_or_named_wire}
-use Rattle.certificate_lines.specs.Orders.{AreInOrder}
-use Rattle.module_job.specs.Signals.{IsSignalWireBelow, renumber_signal, renumber_all_times, renumber_event}
-use Rattle.certificate.specs.Timetables.{AreSignalLists, borders_in}
-use Rattle.certificate_lines.specs.declared.certificate_line.BorderLine.{BorderLine}
-use Rattle.certificate_lines.specs.declared.certificate_line.CertificateLine.{CertificateLine}
-use Rattle.certificate.specs.declared.timetable.RingOrHalo.{RingOrHalo}
-use Rattle.certificate.specs.declared.timetable.RingOrHalo.TheVariants.{Ring, Halo}
-use Rattle.certificate.specs.declared.timetable.SignalLists.{SignalLists}
+use Rattle.module_box.specs.Schedules.{moment_of, cell_of}
+use Rattle.certificate.specs.declared.signal_lists.RingOrHalo.{RingOrHalo}
+use Rattle.certificate.specs.declared.signal_lists.RingOrHalo.TheVariants.{Ring, Halo}
+use Rattle.certificate.specs.declared.signal_lists.SignalLists.{SignalLists}
 use Rattle.certificate.proofs.BorderOrder.{Before, edges_rise, halos_rise, all_times_rises, events_rise}
-use Rattle.certificate_lines.proofs.Pairs.{Pairs}
 
 pub both_ok : {T E : Type 0} (r : Result T E) (P Q R : Type 0) → (P → Q → R) → OnOk r P → OnOk r Q → OnOk r R
 both_ok (Ok x) P Q R h p q = h p q
@@ -60,7 +52,7 @@ pub next_line : {A X : Type 0} (f : X → List A) (xs : List X) (i : ℕ) (x : X
 next_line f xs i x lt e = grind (arith, common_steps, flat_map_more, take_more)
 
 module _ (c : Circuit) (l : LocalNet) where
-  more_all_times : (es : List BorderLine) (e : BorderLine) (s : Signal) (hs ns : List AllTimes) →
+  more_all_times : (es : List BorderLine) (e : BorderLine) (s : Signal) (hs ns : List AllTimesSignal) →
       renumber_signal (circuit_wire l) s ≡ one_or_named_wire c e.signal → ns ≡ hs ++ all_times_of_line e e.time s →
       map (renumber_all_times (circuit_wire l)) hs
       ≡ flat_map (λ d. all_times_of_line d d.time (one_or_named_wire c d.signal)) es →

@@ -4,11 +4,11 @@ use Rattle.std.specs.Prelude.{Option, Some, None, slice_get, IsTrue}
 use Rattle.std.specs.List.{All, flat_map}
 use Rattle.circuit.specs.Meaning.{Circuit, wire_of}
 use Rattle.pattern.specs.Layout.{Pattern, in_cells, in_rectangles}
-use Rattle.module_box.specs.Boxes.{in_box}
+use Rattle.bbm_rule.specs.Boxes.{in_box}
 use Rattle.module_box.specs.Locals.{AreLocalsOf, circuit_gate, circuit_wire}
 use Rattle.module_box.specs.Schedules.{Signals}
 use Rattle.module_box.specs.declared.schedules.TimedSignal.{TimedSignal}
-use Rattle.module_box.specs.declared.schedules.AllTimes.{AllTimes}
+use Rattle.module_box.specs.declared.schedules.AllTimesSignal.{AllTimesSignal}
 use Rattle.module_box.specs.declared.schedules.Signal.{Signal}
 use Rattle.module_box.specs.declared.schedules.Signal.TheVariants.{Zero, One, Wire}
 use Rattle.certificate_lines.specs.Entries.{ModuleLines, cuts, gates, keeps, edges, halos, stops, known}
@@ -62,7 +62,7 @@ one_or_named_wire c None = One
 one_or_named_wire c (Some n) = wire_or_zero (wire_of c n)
 
 -- a line with a `*` holds for all odd times
-abbrev pub all_times_of_line : BorderLine → Option ℕ → Signal → List AllTimes
+abbrev pub all_times_of_line : BorderLine → Option ℕ → Signal → List AllTimesSignal
 all_times_of_line e None signal = record { cell = e.cell; signal = signal } ∷ []
 all_times_of_line e (Some t) signal = []
 

@@ -4,7 +4,7 @@ use Rattle.std.specs.Prelude.{Some, length, slice_get, take, drop, Ok}
 use Rattle.std.specs.List.{All, flat_map}
 use Rattle.section_text.specs.Words.{lines_of}
 use Rattle.section_text.specs.Section.{section_of, with_line_feed}
-use Rattle.module_box.specs.Boxes.{in_box, in_halo}
+use Rattle.bbm_rule.specs.Boxes.{in_box, in_halo}
 use Rattle.module_box.specs.Schedules.{signal_at}
 use Rattle.certificate_lines.specs.Entries.{ModuleLines, Setting, edges, halos, modules_of}
 use Rattle.certificate.specs.Grammars.{CertView, certificate_grammar, certificate_section}
@@ -72,13 +72,14 @@ HaloIsEdgeBeside = (g : Setting) (ms : List ModuleLines) → AreModules g ms →
     ≡ signal_at (line_signals g.circuit (edges owner)) t x y
 
 -- the lines between a header and an end are good, and the end after them
-pub record IsGoodText (g : Setting) (es : List CertificateLine) : Type 0 where
+pub record AreGoodSectionLines (g : Setting) (es : List CertificateLine) : Type 0 where
   pub lines : AreGoodLines g [] es
   pub end : end_fault g es ≡ None
 
 -- good lines are good without the halo lines
 abbrev pub GoodWithoutHalos : Type 0
-GoodWithoutHalos = (g : Setting) (es : List CertificateLine) → IsGoodText g es → IsGoodText g (without_halos es)
+GoodWithoutHalos = (g : Setting) (es : List CertificateLine) → AreGoodSectionLines g es →
+    AreGoodSectionLines g (without_halos es)
 
 -- each line passes the tests of a section of this version after those before it
 abbrev pub AreFaultlessLines : Setting → ℕ → List CertificateLine → List CertificateLine → Type 0

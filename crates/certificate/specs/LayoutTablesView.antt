@@ -3,14 +3,14 @@ use Rattle.std.specs.Prelude.{◌≡◌, ◌+◌, ◌≤◌, ◌++◌, ℕ, ℤ,
 use Rattle.std.specs.List.{All}
 use Rattle.bbm_rule.specs.Board.{Board, live}
 use Rattle.bbm_rule.specs.declared.block.Cell.{Cell}
+use Rattle.circuit.specs.Bridge.{circuit_of}
 use Rattle.circuit.specs.Meaning.{Circuit, wires}
 use Rattle.circuit.specs.declared.circuit_line.CircuitLine.{CircuitLine}
 use Rattle.pattern.specs.Layout.{Pattern, in_cells, in_rectangles}
 use Rattle.pattern.specs.declared.layout_line.Port.{Port}
-use Rattle.pattern.specs.declared.layout_line.Rectangle.{Rectangle}
-use Rattle.module_box.specs.Boxes.{in_box}
+use Rattle.bbm_rule.specs.declared.block.Box2.{Box2}
+use Rattle.bbm_rule.specs.Boxes.{in_box}
 use Rattle.module_box.specs.Locals.{LocalNet, circuit_wire}
-use Rattle.module_box.specs.declared.boxes.Box2.{Box2}
 use Rattle.module_job.specs.Signals.{IsSignalWireBelow, IsDemandWireBelow, renumber_demand, renumber_signal}
 use Rattle.certificate_lines.specs.PortTables.{port_at}
 use Rattle.certificate_lines.specs.Rules.{is_local}
@@ -44,7 +44,7 @@ abbrev pub HasLayoutSize : Pattern → Board → Type 0
 HasLayoutSize p b = (b.width ≡ p.size.w) × (b.height ≡ p.size.h)
 
 -- the rectangle lies on the grid, which has at most 512 columns and rows
-abbrev pub IsOnGrid : Board → Rectangle → Type 0
+abbrev pub IsOnGrid : Board → Box2 → Type 0
 IsOnGrid b r =
     ((r.x + r.w ≤ b.width) × (r.x + r.w ≤ 512)) × ((r.y + r.h ≤ b.height) × (r.y + r.h ≤ 512))
 
@@ -57,10 +57,10 @@ pub record AreLayoutTables (a : Inside) : Type 0 where
   pub balls : (x y : ℤ) → live a.balls x y ≡ in_cells a.layout.now.balls x y
   pub wastes : (x y : ℤ) → live a.wastes x y ≡ in_cells a.layout.now.wastes x y
   pub named : (x y : ℤ) → live a.named x y ≡ false → HasNothing a.layout.now x y
-  pub ins : a.ins ≡ a.layout.now.ins
-  pub outs : a.outs ≡ a.layout.now.outs
+  pub ins : a.ins ≡ record { circuit = circuit_of a.circuit.now; ports = a.layout.now.ins }
+  pub outs : a.outs ≡ record { circuit = circuit_of a.circuit.now; ports = a.layout.now.outs }
 
--- if these wires are local, so is the wire of the port at the cell (x, y), if there is one
+-- the wire of the port at the cell (x, y) is local, if there is a port
 abbrev pub IsPortWireLocalAt : Circuit → List ℕ → List Port → ℤ → ℤ → Type 0
 IsPortWireLocalAt c local ports x y = IfSome (port_at ports x y) (λ name. IsTrue (is_local c local name))
 

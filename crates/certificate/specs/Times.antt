@@ -92,13 +92,14 @@ meet_line last k g = meet_line_of_times k (last_times last g.ins)
 -- ---- all lines
 
 -- the lines of gates, which are numbered from k on
-unfoldable pub numbered : (ℕ → Gate → List TimeLine) → ℕ → List Gate → List TimeLine
-numbered f k [] = []
-numbered f k (g ∷ gs) = f k g ++ numbered f (k + 1) gs
+unfoldable pub lines_by_number : (ℕ → Gate → List TimeLine) → ℕ → List Gate → List TimeLine
+lines_by_number f k [] = []
+lines_by_number f k (g ∷ gs) = f k g ++ lines_by_number f (k + 1) gs
 
 -- those of all delays, and then those of all meetings
 abbrev pub time_lines_of_gates : (first last : ℕ → Option ℕ) → List Gate → List TimeLine
-time_lines_of_gates first last gates = numbered (delay_line first last) 0 gates ++ numbered (meet_line last) 0 gates
+time_lines_of_gates first last gates =
+    lines_by_number (delay_line first last) 0 gates ++ lines_by_number (meet_line last) 0 gates
 
 -- by the stops of all modules
 abbrev pub delay_and_meet_lines : Circuit → List ModuleLines → List TimeLine

@@ -10,9 +10,9 @@ use Rattle.certificate_lines.specs.Rules.{is_local}
 use Rattle.module_job.specs.Signals.{IsSignalWireBelow, renumber_all_times, renumber_event}
 use Rattle.certificate_lines.specs.declared.certificate_line.BorderLine.{BorderLine}
 use Rattle.certificate_lines.specs.declared.certificate_line.CertificateLine.{CertificateLine}
-use Rattle.certificate.specs.declared.timetable.RingOrHalo.{RingOrHalo}
-use Rattle.certificate.specs.declared.timetable.RingOrHalo.TheVariants.{Ring, Halo}
-use Rattle.certificate.specs.declared.timetable.SignalLists.{SignalLists}
+use Rattle.certificate.specs.declared.signal_lists.RingOrHalo.{RingOrHalo}
+use Rattle.certificate.specs.declared.signal_lists.RingOrHalo.TheVariants.{Ring, Halo}
+use Rattle.certificate.specs.declared.signal_lists.SignalLists.{SignalLists}
 
 -- what a line says of cells of this side
 abbrev pub borders_in : RingOrHalo → CertificateLine → List BorderLine
@@ -24,7 +24,7 @@ abbrev pub HasLocalWire : Circuit → LocalNet → BorderLine → Type 0
 HasLocalWire c l e = IfSome e.signal (λ name. IsTrue (is_local c l.circuit_wires name))
 
 -- the cell lies within 512 columns and rows
-pub record IsLow (c : Cell) : Type 0 where
+pub record IsWithinMaxSize (c : Cell) : Type 0 where
   pub column : (pos 0 ≤ℤ c.x) × (c.x ≤ℤ pos 511)
   pub row : (pos 0 ≤ℤ c.y) × (c.y ≤ℤ pos 511)
 

@@ -1,19 +1,21 @@
 //! Certificates.
-ghost use Rattle.std.specs.Prelude.{◌≡◌, ◌<◌, ◌≤◌, [], length, map, slice_get, take, Some, None};
+ghost use Rattle.std.specs.Prelude.{◌≡◌, ◌<◌, ◌≤◌, [], length, map, slice_get, take, IfOk, Some, None};
 ghost use Rattle.std.specs.List.{All};
 ghost use Rattle.circuit.specs.Entries.{defined};
 ghost use Rattle.pattern.specs.Layout.{parts_of};
 ghost use Rattle.circuit.specs.Bridge.{input_names, netlist_of};
 ghost use Rattle.circuit.specs.Meaning.{AreOrdered};
 ghost use Rattle.pattern.specs.Lines.{AreGoodAfter, size_fault};
-ghost use Rattle.certificate_lines.specs.Entries.{counts_of, modules_of};
+ghost use Rattle.certificate_lines.specs.Entries.{areas, counts_of, modules_of};
 ghost use Rattle.certificate.specs.Grammars.{modules_in};
 ghost use Rattle.certificate_lines.specs.Settings.{setting_of};
 ghost use Rattle.certificate_lines.specs.Modules.{AreModules, IsWithinLineLimit};
 
-use certificate_lines::{Counts, StoredLine};
+use certificate_lines::{Counts, StoredLine, boxes_of};
 use circuit::Circuit;
+use module_box::Box2;
 use pattern::{Layout, LayoutHeader};
+use std::alloc::{AllocError, Global};
 use std::marker::Model;
 
 /// A certificate, which cuts a layout of a circuit into modules.
@@ -44,7 +46,7 @@ impl<'a> Cert<'a> {
     /// Returns the version that the header names, 1 or 2. In version 2 no module has halo lines of its own.
     pub fn version(&self) -> u8
         ensures version { result ≡ self.now.version }
-        ensures known { (1 ≤ result) × (result ≤ 2) }
+        ensures one_or_two { (1 ≤ result) × (result ≤ 2) }
     {
         self.version as u8
     }
@@ -117,5 +119,12 @@ impl<'a> Cert<'a> {
         ensures { slice_get (map counts_of (modules_of self.now.entries)) number ≡ Some result }
     {
         self.modules[number]
+    }
+
+    /// Returns the boxes of the modules.
+    pub fn boxes(&self, alloc: Global) -> Result<Vec<Box2>, AllocError>
+        ensures { IfOk result (λ boxes. boxes.items ≡ areas (modules_of self.now.entries)) }
+    {
+        boxes_of(alloc, &self.modules)
     }
 }

@@ -1,5 +1,5 @@
 //! The jobs of a certificate.
-ghost use Rattle.std.specs.Prelude.{◌≡◌, ◌+◌, ◌<◌, ◌≤◌, ◌&&◌, false, IfOk, IsTrue, length, map, slice_index};
+ghost use Rattle.std.specs.Prelude.{◌≡◌, ◌<◌, ◌≤◌, ◌&&◌, false, IfOk, IsTrue, length, map, slice_index};
 ghost use Rattle.std.specs.Arc.{arc_value};
 ghost use Rattle.std.specs.List.{All, flat_map};
 ghost use Rattle.std.specs.Option.{option_to_list};
@@ -12,23 +12,24 @@ ghost use Rattle.certificate.specs.Grammars.{modules_in};
 ghost use Rattle.certificate_lines.specs.Settings.{setting_of};
 ghost use Rattle.certificate.specs.Jobs.{AreJobsOf, IsJobOf, line_signals};
 ghost use Rattle.certificate.specs.SliceLines.{slice_lines};
-ghost use Rattle.certificate_lines.specs.Modules.{AreModules, HasPorts, IsModule};
+ghost use Rattle.certificate_lines.specs.ModuleParts.{BeginWithModule};
+ghost use Rattle.certificate_lines.specs.Modules.{AreModules, HasLocalPorts, IsModule};
 ghost use Rattle.certificate_lines.specs.Orders.{AreInOrder};
 ghost use Rattle.certificate_lines.specs.Rules.{is_local};
 ghost use Rattle.module_job.specs.Shapes.{signals_in_plane, stops_in_plane};
 ghost use Rattle.module_job.specs.Signals.{IsSignalWireBelow, renumber_signals};
 ghost use Rattle.certificate.specs.StopLists.{AreStops};
-ghost use Rattle.certificate.specs.Timetables.{IsLow, HasLocalWire, borders_in};
+ghost use Rattle.certificate.specs.Timetables.{IsWithinMaxSize, HasLocalWire, borders_in};
 ghost use Rattle.certificate_lines.specs.Versions.{is_haloless_version, lacks_edge_wire_beside, modules_by_version, with_halos};
 
-use crate::beside::{ModuleSlice, lines_with_halos};
 use crate::cert::Cert;
-use crate::halo_places::{halo_places, take_list};
+use crate::implied_halos::{ModuleSlice, lines_with_halos};
 use crate::layout_tables::LayoutTables;
 use crate::line_kinds::{side_lines, stop_lines, wiring_lines};
+use crate::neighbour_edges::{neighbour_edge_places, take_list};
 use crate::reading::is_haloless_version;
+use crate::signal_lists::{RingOrHalo, signals_of};
 use crate::stops::stops_of;
-use crate::timetable::{RingOrHalo, signals_of};
 use certificate_lines::{StoredLine, cut_list, kept_places, used_gates};
 use circuit::Circuit;
 use module_box::{Box2, Locals, Schedule};
@@ -86,7 +87,7 @@ fn schedule_from_corner(
     requires order { AreInOrder lines.now }
     requires local { All (HasLocalWire (circuit_of circuit.now) locals.now)
         (flat_map (borders_in side) lines.now) }
-    requires low { All (λ e. IsLow e.cell) (flat_map (borders_in side) lines.now) }
+    requires low { All (λ e. IsWithinMaxSize e.cell) (flat_map (borders_in side) lines.now) }
     requires corner { (area.x ≤ 512) × (area.y ≤ 512) }
     ensures same_signals { IfOk result (λ s. renumber_signals (circuit_wire locals.now)
         (signals_in_plane area s)
@@ -97,7 +98,7 @@ fn schedule_from_corner(
     ensures events { IfOk result (λ s. All
         (λ e. IsSignalWireBelow (wires locals.now.netlist) e.signal)
         (signals_in_plane area s).events) }
-    ensures near { IfOk result (λ s. All (λ e. IsInShiftRange e.at.cell) s.events) }
+    ensures in_shift_range { IfOk result (λ s. All (λ e. IsInShiftRange e.at.cell) s.events) }
 {
     let signals = signals_of(alloc, circuit, locals, side, side_lines(side, lines))?;
     Ok(signals.moved(shift_to_origin(area.x), shift_to_origin(area.y)))
@@ -114,10 +115,12 @@ fn schedules(
     requires order { AreInOrder lines.now }
     requires edges { All (HasLocalWire (circuit_of circuit.now) locals.now)
         (flat_map (borders_in RingOrHalo.Ring) lines.now) }
-    requires low_edges { All (λ e. IsLow e.cell) (flat_map (borders_in RingOrHalo.Ring) lines.now) }
+    requires low_edges { All (λ e. IsWithinMaxSize e.cell)
+        (flat_map (borders_in RingOrHalo.Ring) lines.now) }
     requires halos { All (HasLocalWire (circuit_of circuit.now) locals.now)
         (flat_map (borders_in RingOrHalo.Halo) lines.now) }
-    requires low_halos { All (λ e. IsLow e.cell) (flat_map (borders_in RingOrHalo.Halo) lines.now) }
+    requires low_halos { All (λ e. IsWithinMaxSize e.cell)
+        (flat_map (borders_in RingOrHalo.Halo) lines.now) }
     requires corner { (area.x ≤ 512) × (area.y ≤ 512) }
     ensures edges { IfOk result (λ sides. renumber_signals (circuit_wire locals.now)
         (signals_in_plane area sides.0)
@@ -146,7 +149,7 @@ fn schedules(
 }
 
 // The stops of a module's lines, where the corner of its box is at (0, 0).
-fn stops_at_corner_offset(
+fn stops_from_corner(
     alloc: Global,
     circuit: &Circuit,
     locals: &Locals,
@@ -157,11 +160,12 @@ fn stops_at_corner_offset(
     requires local { All
         (λ s. IsTrue (is_local (circuit_of circuit.now) locals.now.circuit_wires s.wire))
         (flat_map stop_in lines.now) }
-    requires low { All (λ s. IsLow s.cell) (flat_map stop_in lines.now) }
+    requires low { All (λ s. IsWithinMaxSize s.cell) (flat_map stop_in lines.now) }
     requires corner { (area.x ≤ 512) × (area.y ≤ 512) }
-    ensures said { IfOk result (λ stops. AreStops (circuit_of circuit.now) locals.now
+    ensures are_stops { IfOk result (λ stops. AreStops (circuit_of circuit.now) locals.now
         (flat_map stop_in lines.now) (stops_in_plane area stops.items)) }
-    ensures near { IfOk result (λ stops. All (λ s. IsInShiftRange s.at.cell) stops.items) }
+    ensures in_shift_range { IfOk result (λ stops. All (λ s. IsInShiftRange s.at.cell)
+        stops.items) }
 {
     let stops = stops_of(alloc, circuit, locals, stop_lines(lines))?;
     moved_stops(
@@ -181,7 +185,7 @@ fn make_job(
 ) -> Result<Job, AllocError>
     requires module { IsModule (setting_of tables.now.circuit tables.now.layout)
         (record { area = area; lines = lines.now }) }
-    requires ports { HasPorts (setting_of tables.now.circuit tables.now.layout)
+    requires ports { HasLocalPorts (setting_of tables.now.circuit tables.now.layout)
         (record { area = area; lines = lines.now }) }
     ensures { IfOk result (λ j. IsJobOf (circuit_of tables.now.circuit) tables.now.layout
         (record { area = area; lines = lines.now }) j) }
@@ -191,7 +195,7 @@ fn make_job(
     let (locals, kept) = locals_and_kept_places(alloc, circuit, lines)?;
     let (starts, demands) = tables.cell_lists(alloc, area, &locals)?;
     let (edges, halos) = schedules(alloc, circuit, &locals, area, lines)?;
-    let stops = stops_at_corner_offset(alloc, circuit, &locals, area, lines)?;
+    let stops = stops_from_corner(alloc, circuit, &locals, area, lines)?;
     let (wiring, wires, gates) = locals.into_parts();
     let shape = Shape {
         width: area.w,
@@ -241,6 +245,7 @@ fn jobs_with_implied_halos<'a>(
     parts: &[ModuleSlice<'_, 'a>],
 ) -> Result<Vec<Arc<Job>>, AllocError>
     requires parts { map slice_lines parts.now ≡ modules_of entries.now }
+    requires begun { BeginWithModule entries.now }
     requires modules { AreModules (setting_of tables.now.circuit tables.now.layout)
         (map slice_lines parts.now) }
     requires complete { lacks_edge_wire_beside (setting_of tables.now.circuit tables.now.layout)
@@ -249,7 +254,7 @@ fn jobs_with_implied_halos<'a>(
         (map (with_halos (setting_of tables.now.circuit tables.now.layout)
         (map slice_lines parts.now)) (map slice_lines parts.now)) (map arc_value js.items)) }
 {
-    let mut places = halo_places(alloc, tables, entries, parts)?;
+    let mut places = neighbour_edge_places(alloc, tables, entries, parts)?;
     let mut jobs = Vec::new(alloc);
     'parts: for (number, part) in parts.iter().enumerate() {
         // The lists of all modules take much memory, so each is freed once its module has its lines.
@@ -273,6 +278,7 @@ fn jobs_of_version<'a>(
     parts: &[ModuleSlice<'_, 'a>],
 ) -> Result<Vec<Arc<Job>>, AllocError>
     requires parts { map slice_lines parts.now ≡ modules_of entries.now }
+    requires begun { BeginWithModule entries.now }
     requires modules { AreModules (setting_of tables.now.circuit tables.now.layout)
         (modules_of entries.now) }
     requires complete { (is_haloless_version version

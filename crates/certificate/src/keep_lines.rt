@@ -9,8 +9,8 @@ ghost use Rattle.certificate_lines.specs.Orders.{AreInOrder};
 ghost use Rattle.certificate.specs.Keeps.{is_kept, unkept};
 ghost use Rattle.certificate.specs.SliceLines.{slice_lines};
 
-use crate::beside::ModuleSlice;
 use crate::cert::Cert;
+use crate::implied_halos::ModuleSlice;
 use crate::line_kinds::wiring_lines;
 use certificate_lines::{CertificateLine, StoredLine};
 use circuit::GateNo;

@@ -2,15 +2,14 @@
 ghost use Rattle.std.specs.Prelude.{◌≡◌, ◌+◌, ◌*◌, ◌<◌, ◌≤◌, ◌++◌, ◌||◌, [], ◌∷◌, ℕ, ℤ, pos, false, true, replicate, None, Some, All, length, map, unwrap_or, slice_get, IsTrue, IfOk, OnOk};
 ghost use Rattle.bbm_rule.specs.Board.{HasSameSize, live};
 ghost use Rattle.circuit.specs.Bridge.{circuit_of};
-ghost use Rattle.circuit.specs.Meaning.{wire_of, wires};
+ghost use Rattle.circuit.specs.Meaning.{wires};
 ghost use Rattle.pattern.specs.Layout.{row_cells, in_cells, in_layout, in_rectangles};
 ghost use Rattle.pattern.specs.Lines.{size_fault};
-ghost use Rattle.module_box.specs.Boxes.{in_box};
+ghost use Rattle.bbm_rule.specs.Boxes.{in_box};
 ghost use Rattle.module_box.specs.Locals.{circuit_wire, is_among};
 ghost use Rattle.certificate.specs.Jobs.{end_demand, start_signal};
 ghost use Rattle.module_box.specs.Places.{place_in};
 ghost use Rattle.certificate.specs.LayoutTablesView.{AddsCells, HasLayoutSize, HasNothing, IsOnGrid, IsPortWireLocalAt, ArePortWiresLocalIn, non_mirror_cells};
-ghost use Rattle.certificate_lines.specs.Rules.{is_local};
 ghost use Rattle.module_job.specs.Signals.{IsSignalWireBelow, IsDemandWireBelow, renumber_demand, renumber_signal};
 
 use bbm_rule::{Cell, Grid};
@@ -18,8 +17,7 @@ use certificate_lines::{PortTable, is_live, port_tables};
 use circuit::{Circuit, WireNo};
 use module_box::{Box2, Locals, Signal};
 use module_job::{Demand, EndDemands, StartSignals};
-use pattern::{Layout, LayoutHeader, Port, Rectangle, fill_rectangle, make_live};
-use section_text::Name;
+use pattern::{Layout, LayoutHeader, Port, fill_rectangle, make_live};
 use std::alloc::{AllocError, Global};
 use std::marker::Model;
 
@@ -118,7 +116,7 @@ fn grid_of(alloc: Global, size: LayoutHeader, cells: &[Cell]) -> Result<Grid, Al
 }
 
 // Makes the cells of mirrors live.
-fn fill_mirrors(grid: &mut Grid, mirrors: &[Rectangle])
+fn fill_mirrors(grid: &mut Grid, mirrors: &[Box2])
     requires { All (IsOnGrid grid.old) mirrors.now }
     ensures cells { (x y : ℤ) →
         live grid.new x y ≡ (live grid.old x y || in_rectangles mirrors.now x y) }
@@ -165,7 +163,7 @@ fn grid_with_mirrors(alloc: Global, layout: &Layout, cells: &[Cell]) -> Result<G
 }
 
 // A grid on which the cells of mirrors, balls, waste cells and ports are live.
-fn named_grid(alloc: Global, layout: &Layout) -> Result<Grid, AllocError>
+fn occupied_grid(alloc: Global, layout: &Layout) -> Result<Grid, AllocError>
     ensures cells { IfOk result (λ grid. (x y : ℤ) →
         live grid x y ≡ false → HasNothing layout.now x y) }
     ensures size { IfOk result (HasLayoutSize layout.now) }
@@ -200,24 +198,11 @@ pub(crate) fn local_wire(locals: &Locals, wire: WireNo) -> u16
     ensures below { result < wires locals.now.netlist }
 {
     let count = locals.wires();
-    match locals.local(wire) {
+    match locals.module_number(wire) {
         Some(number) => {
             prove!((number as usize) < count);
             number
         }
-        None => unreachable!(),
-    }
-}
-
-/// Returns the number among a module's wires of the wire of this name, which the module knows.
-pub(crate) fn local_wire_by_name(circuit: &Circuit, locals: &Locals, name: &Name) -> u16
-    requires { IsTrue (is_local (circuit_of circuit.now) locals.now.circuit_wires name.now) }
-    ensures same_wire { wire_of (circuit_of circuit.now) name.now
-        ≡ Some (circuit_wire locals.now result) }
-    ensures below { result < wires locals.now.netlist }
-{
-    match circuit.wire(name) {
-        Some(wire) => local_wire(locals, wire),
         None => unreachable!(),
     }
 }
@@ -232,9 +217,9 @@ impl<'a> LayoutTables<'a> {
         ensures { IfOk result (λ tables. tables
             ≡ record { circuit = circuit.now; layout = layout.now }) }
     {
-        let (ins, outs) = port_tables(alloc, layout)?;
+        let (ins, outs) = port_tables(alloc, circuit, layout)?;
         let (mirrors, balls, wastes) = mirror_ball_waste_grids(alloc, layout)?;
-        let named = named_grid(alloc, layout)?;
+        let named = occupied_grid(alloc, layout)?;
         Ok(LayoutTables {
             circuit,
             layout,
@@ -275,7 +260,8 @@ impl<'a> LayoutTables<'a> {
             return Signal::One;
         }
         match self.ins.get(cell) {
-            Some(name) => Signal::Wire(local_wire_by_name(self.circuit, locals, &name)),
+            Some(Some(wire)) => Signal::Wire(local_wire(locals, wire)),
+            Some(None) => Signal::Zero,
             None => Signal::Zero,
         }
     }
@@ -291,20 +277,21 @@ impl<'a> LayoutTables<'a> {
         if is_live(&self.mirrors, cell) {
             return Demand::Live;
         }
-        match self.outs.get(cell) {
-            Some(name) => Demand::Wire(local_wire_by_name(self.circuit, locals, &name)),
-            None => {
-                if is_live(&self.wastes, cell) {
-                    Demand::Any
-                } else {
-                    Demand::Dead
-                }
-            }
+        if let Some(port) = self.outs.get(cell) {
+            return match port {
+                Some(wire) => Demand::Wire(local_wire(locals, wire)),
+                None => Demand::Dead,
+            };
+        }
+        if is_live(&self.wastes, cell) {
+            Demand::Any
+        } else {
+            Demand::Dead
         }
     }
 
     // The first column from `from` on whose cell in row `y` the layout may name, or `end` if it names none before it.
-    fn next_named_column(&self, y: u32, from: u32, end: u32) -> u32
+    fn next_occupied(&self, y: u32, from: u32, end: u32) -> u32
         requires row { y < self.now.layout.size.h }
         requires columns { (from ≤ end) × (end ≤ self.now.layout.size.w) }
         ensures range { (from ≤ result) × (result ≤ end) }
@@ -319,7 +306,7 @@ impl<'a> LayoutTables<'a> {
     }
 
     // The first column from `from` on whose cell in row `y` has no mirror, or `end` if all cells before it have one.
-    fn mirrors_end(&self, y: u32, from: u32, end: u32) -> u32
+    fn next_nonmirror(&self, y: u32, from: u32, end: u32) -> u32
         requires row { y < self.now.layout.size.h }
         requires columns { (from ≤ end) × (end ≤ self.now.layout.size.w) }
         ensures range { (from ≤ result) × (result ≤ end) }
@@ -354,12 +341,12 @@ impl<'a> LayoutTables<'a> {
         let end = area.x + area.w;
         let mut x = area.x;
         'cells: while x < end {
-            let named = self.next_named_column(y, x, end);
+            let named = self.next_occupied(y, x, end);
             lists.push_dead(named - x)?;
             if named == end {
                 return Ok(());
             }
-            x = self.mirrors_end(y, named, end);
+            x = self.next_nonmirror(y, named, end);
             lists.push_mirrors(x - named)?;
             if x == named {
                 let cell = Cell {

@@ -6,20 +6,20 @@
 //! read. `module_job` defines jobs.
 #![tactic(auto)]
 
-mod beside;
 mod cert;
 mod digest;
-mod halo_places;
+mod implied_halos;
 mod jobs;
 mod keep_lines;
 pub mod laws;
 mod layout_tables;
 mod line_kinds;
+mod neighbour_edges;
 mod printing;
 mod reading;
+mod signal_lists;
 mod stops;
 mod times;
-mod timetable;
 
 pub use cert::Cert;
 pub use certificate_lines::{BorderLine, CertificateLine, Counts, StopLine};

@@ -12,7 +12,7 @@ ghost use Rattle.certificate_lines.specs.Orders.{AreInOrder, rank_of};
 ghost use Rattle.certificate_lines.specs.declared.certificate_line.BorderLine.{BorderLine};
 ghost use Rattle.certificate_lines.specs.declared.certificate_line.CertificateLine.{CertificateLine};
 
-use crate::timetable::RingOrHalo;
+use crate::signal_lists::RingOrHalo;
 use certificate_lines::{StoredLine, rank};
 
 // The ranks of edge lines, halo lines and stops.

@@ -5,8 +5,8 @@ ghost use Rattle.certificate.specs.Grammars.{certificate_grammar, certificate_se
 ghost use Rattle.certificate_lines.specs.Settings.{setting_of};
 ghost use Rattle.certificate_lines.specs.Versions.{is_haloless_version};
 
-use crate::beside::is_halo;
 use crate::cert::Cert;
+use crate::implied_halos::is_halo;
 use certificate_lines::{Builder, CertificateLine, LineTables, line_form};
 use circuit::Circuit;
 use pattern::Layout;

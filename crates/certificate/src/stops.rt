@@ -39,7 +39,7 @@ fn local_stop(circuit: &Circuit, locals: &Locals, line: &StoredStop) -> Stop
 }
 
 // Adds a line, if it is a stop. Before the first stop it makes room for `room` stops, since most modules have none.
-fn push_stop(
+fn push_if_stop(
     stops: &mut Vec<Stop>,
     circuit: &Circuit,
     locals: &Locals,
@@ -76,7 +76,7 @@ pub(crate) fn stops_of(
 {
     let mut stops = Vec::new(alloc);
     'lines: for line in lines {
-        push_stop(&mut stops, circuit, locals, line, lines.len())?;
+        push_if_stop(&mut stops, circuit, locals, line, lines.len())?;
     }
     Ok(stops)
 }

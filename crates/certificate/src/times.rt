@@ -9,11 +9,11 @@ ghost use Rattle.certificate_lines.specs.Orders.{AreInOrder};
 ghost use Rattle.certificate.specs.SliceLines.{slice_lines};
 ghost use Rattle.certificate.specs.Grammars.{modules_in};
 ghost use Rattle.certificate.specs.Times.{common_time, all_stops, delay_line, gap_between, is_obeyed, last_times, time_lines_of_gates, meet_line, first_wire_time, delay_and_meet_lines};
-ghost use Rattle.certificate.specs.SeenTimes.{IsStopTimeTable, chosen, time_in_table};
+ghost use Rattle.certificate.specs.SeenTimes.{IsStopTimeTable, chosen_time, time_in_table};
 ghost use Rattle.certificate_lines.specs.declared.certificate_line.StopLine.{StopLine as Line};
 
-use crate::beside::ModuleSlice;
 use crate::cert::Cert;
+use crate::implied_halos::ModuleSlice;
 use crate::line_kinds::stop_lines;
 use certificate_lines::{StoredLine, StoredStop};
 use circuit::{Circuit, GateKind, GateNo, GateWires, WireNo};
@@ -71,8 +71,8 @@ pub(crate) enum FirstOrLast {
     Last,
 }
 
-fn chosen(choice: FirstOrLast, before: Option<u32>, time: u32) -> Option<u32>
-    ensures { result ≡ chosen choice before time }
+fn chosen_time(choice: FirstOrLast, before: Option<u32>, time: u32) -> Option<u32>
+    ensures { result ≡ chosen_time choice before time }
 {
     match (choice, before) {
         (_, None) => Some(time),
@@ -91,7 +91,7 @@ fn note_stop(table: &mut [Option<u32>], circuit: &Circuit, choice: FirstOrLast, 
 {
     if let Some(wire) = stop.wire_in(circuit) {
         let at = wire.number() as usize;
-        table[at] = chosen(choice, table[at], stop.time());
+        table[at] = chosen_time(choice, table[at], stop.time());
     }
 }
 
@@ -114,7 +114,7 @@ fn note_time_if_stop(
 }
 
 // Notes the times of the stops among lines in a table of the wires.
-fn note_lines(
+fn note_times_of_stops(
     table: &mut [Option<u32>],
     circuit: &Circuit,
     choice: FirstOrLast,
@@ -145,7 +145,7 @@ fn stop_time_table(
 {
     let mut table = vec![in alloc; None; circuit.wires()]?;
     'parts: for part in parts {
-        note_lines(&mut table, circuit, choice, stop_lines(part.lines));
+        note_times_of_stops(&mut table, circuit, choice, stop_lines(part.lines));
     }
     Ok(table)
 }
@@ -178,7 +178,7 @@ fn gap_between(last: Option<u32>, first: Option<u32>) -> StopGap
 }
 
 // Adds the line of a gate, if it is a delay.
-fn push_delay(
+fn push_if_delay(
     lines: &mut Vec<TimeLine>,
     number: usize,
     gate: &GateWires,
@@ -237,7 +237,7 @@ fn common_time(times: &[u32]) -> Option<u32>
 }
 
 // Adds the line of a gate whose inputs are to meet, if it is one.
-fn push_meet(
+fn push_if_meet(
     alloc: Global,
     lines: &mut Vec<TimeLine>,
     number: usize,
@@ -270,17 +270,17 @@ fn time_lines_of_gates(
     let count = circuit.gates();
     'delays: for number in 0..count {
         let gate = circuit.gate(GateNo::of(number as u16));
-        push_delay(&mut lines, number, &gate, firsts, lasts)?;
+        push_if_delay(&mut lines, number, &gate, firsts, lasts)?;
     }
     'meetings: for number in 0..count {
         let gate = circuit.gate(GateNo::of(number as u16));
-        push_meet(alloc, &mut lines, number, &gate, lasts)?;
+        push_if_meet(alloc, &mut lines, number, &gate, lasts)?;
     }
     Ok(lines)
 }
 
 // The lines by the stops of these modules.
-fn lines_of(
+fn timing_lines_of(
     alloc: Global,
     circuit: &Circuit,
     parts: &[ModuleSlice],
@@ -304,6 +304,6 @@ impl<'a> Cert<'a> {
             ≡ delay_and_meet_lines (circuit_of self.now.circuit) (modules_in self.now)) }
     {
         let parts = self.slices(alloc)?;
-        lines_of(alloc, self.circuit, &parts)
+        timing_lines_of(alloc, self.circuit, &parts)
     }
 }

@@ -1,10 +1,9 @@
 -- Cells that are all live.
-use Rattle.lemmas.proofs.Common.{◌&&◌, ◌+◌, ◌<◌, ◌∙◌, ◌≡◌, ◌≤◌, Bool, ap, ap₂, arith, false, inl, inr, nat_eq, refl}
-use Rattle.lemmas.proofs.Common.{suc, sym, true, zero, ℕ, and-false, cases_Bool, common_steps, list_all}
-use Rattle.lemmas.proofs.Common.{list_all-append, nat_tests, range_with_len}
+use Rattle.certificate_lines.proofs.Imports.{Bool, Cell, and-false, ap, ap₂, arith, cases_Bool, cell, common_steps}
+use Rattle.certificate_lines.proofs.Imports.{false, inl, inr, list_all, list_all-append, nat_eq, nat_tests}
+use Rattle.certificate_lines.proofs.Imports.{range_with_len, refl, row_cells, suc, sym, true, zero, ℕ, ◌&&◌, ◌+◌, ◌<◌}
+use Rattle.certificate_lines.proofs.Imports.{◌∙◌, ◌≡◌, ◌≤◌}
 use Rattle.std.specs.List.{flat_map}
-use Rattle.bbm_rule.specs.declared.block.Cell.{Cell}
-use Rattle.pattern.specs.Layout.{cell, row_cells}
 use Rattle.pattern.proofs.CellLists.{flat_map_range_more}
 
 all_in_row : (test : Cell → Bool) (x n y : ℕ) → ((k : ℕ) → k < n → test (cell (x + k) y) ≡ true) →

@@ -1,15 +1,9 @@
 -- Whether some line of some module passes a test
-use Rattle.lemmas.proofs.Common.{[], ◌&&◌, ◌+◌, ◌<◌, ◌||◌, ◌∙◌, ◌∷◌, ◌≡◌, ◌≤◌, Bool, List, ap, arith, drop, false}
-use Rattle.lemmas.proofs.Common.{get_or, if◌then◌else◌, length, refl, true, ℕ, common_steps, drop_all, list_any}
-use Rattle.lemmas.proofs.Common.{list_any-append, list_any_at}
+use Rattle.certificate_lines.proofs.Imports.{Bool, List, [], ap, arith, common_steps, false, get_or, if◌then◌else◌}
+use Rattle.certificate_lines.proofs.Imports.{length, list_any, list_any-append, refl, true, ℕ, ◌&&◌, ◌<◌, ◌||◌, ◌∙◌}
+use Rattle.certificate_lines.proofs.Imports.{◌∷◌, ◌≡◌}
+use Rattle.lemmas.proofs.Common.{list_any_at}
 use Rattle.std.specs.List.{filter, flat_map}
-use Rattle.module_box.specs.declared.boxes.Box2.{Box2}
-use Rattle.certificate_lines.specs.Entries.{ModuleLines, modules_of}
-use Rattle.certificate_lines.specs.ModuleParts.{inner, is_module}
-use Rattle.certificate_lines.specs.declared.certificate_line.CertificateLine.{CertificateLine}
-use Rattle.certificate_lines.specs.declared.certificate_line.CertificateLine.TheVariants.{Module}
-use Rattle.certificate_lines.proofs.LinesLeft.{line_here, nothing_left}
-use Rattle.certificate_lines.proofs.ModuleSplit.{split_module, split_other}
 
 passes_if : {A : Type 0} (test : A → Bool) (b : Bool) (x : A) (xs : List A) (more : Bool) → list_any test xs ≡ more →
     list_any test (if b then x ∷ xs else xs) ≡ ((b && test x) || more)
@@ -30,24 +24,3 @@ module _ {A X : Type 0} (test : A → Bool) (f : X → List A) where
   pub any_here : (xs : List X) (i : ℕ) (x : X) → i < length xs → x ≡ get_or xs i x → list_any test (f x) ≡ true →
       list_any test (flat_map f xs) ≡ true
   any_here xs i x lt is h = grind (arith, common_steps, any_flat, list_any_at)
-
-pub any_kept : {A X : Type 0} (keep test : A → Bool) (f : X → List A) (xs : List X) (i : ℕ) (x : X) → i < length xs →
-    x ≡ get_or xs i x →
-    list_any test (filter keep (f x)) ≡ true → list_any test (filter keep (flat_map f xs)) ≡ true
-any_kept keep test f xs i x lt is h = grind (arith, common_steps, any_filter, any_here)
-
--- ---- of the modules of lines
-
-module _ (test : ModuleLines → Bool) (es : List CertificateLine) (place : ℕ) where
-  pub any_other : (e : CertificateLine) → place < length es → e ≡ get_or es place e → is_module e ≡ false →
-      list_any test (modules_of (drop place es)) ≡ list_any test (modules_of (drop (place + 1) es))
-  any_other e lt at other = grind (arith, common_steps, line_here, split_other)
-
-  pub any_module : (area : Box2) → place < length es → Module area ≡ get_or es place (Module area) →
-      list_any test (modules_of (drop place es))
-      ≡ (test (record { area = area; lines = inner (drop (place + 1) es) })
-      || list_any test (modules_of (drop (place + 1) es)))
-  any_module area lt at = grind (arith, common_steps, line_here, split_module)
-
-  pub any_end : length es ≤ place → list_any test (modules_of (drop place es)) ≡ false
-  any_end le = ap (list_any test) (ap modules_of (drop_all place es le) ∙ nothing_left)

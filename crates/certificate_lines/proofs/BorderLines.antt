@@ -1,16 +1,15 @@
 -- The form of a line by whether it has five words
-use Rattle.lemmas.proofs.Common.{◌==◌, ◌∙◌, ◌≡◌, Bool, List, None, Option, Some, ap, arith, codes, false, if◌then◌else◌}
-use Rattle.lemmas.proofs.Common.{length, refl, sym, true, ℕ, bytes_eq, bytes_eq-Decides, cases_Bool, common_steps}
-use Rattle.lemmas.proofs.Common.{cond-false, cond-true, test_failed, tested_value}
+use Rattle.certificate_lines.proofs.Imports.{Bool, BorderLine, Edge, Halo, Item, List, Module, None, Option, Some, Stop}
+use Rattle.certificate_lines.proofs.Imports.{StopLine, ap, arith, border_of, bytes_eq, bytes_eq-Decides, cases_Bool}
+use Rattle.certificate_lines.proofs.Imports.{codes, common_steps, cond-false, cond-true, false, form_of, if◌then◌else◌}
+use Rattle.certificate_lines.proofs.Imports.{is_word_at, length, refl, stop_of, sym, true, ℕ, ◌==◌, ◌>>=◌, ◌∙◌, ◌≡◌}
+use Rattle.pattern.specs.Forms.{box_of}
+use Rattle.lemmas.proofs.Common.{test_failed, tested_value}
 use Rattle.section_text.specs.Listed.{list_of_five_words}
-use Rattle.section_text.specs.Words.{five, is_word, is_word_at, lone, lone_name, lone_number, ◌>>=◌}
+use Rattle.section_text.specs.Words.{words_of_five, is_word, if_one_word, name_after_keyword, number_after_keyword}
 use Rattle.section_text.specs.declared.words.FiveWords.{FiveWords}
-use Rattle.section_text.specs.declared.section.Form.TheVariants.{Header, Item, End}
-use Rattle.certificate_lines.specs.Forms.{Line, area_of, border_of, form_of, form_of_not_five_words, stop_of}
-use Rattle.certificate_lines.specs.declared.certificate_line.CertificateLine.TheVariants.{Module, Edge}
-use Rattle.certificate_lines.specs.declared.certificate_line.CertificateLine.TheVariants.{Halo, Stop}
-use Rattle.certificate_lines.specs.declared.certificate_line.BorderLine.{BorderLine}
-use Rattle.certificate_lines.specs.declared.certificate_line.StopLine.{StopLine}
+use Rattle.section_text.specs.declared.section.Form.TheVariants.{Header, End}
+use Rattle.certificate_lines.specs.Forms.{Line, form_of_not_five_words}
 
 same_none : (b : Bool) (x : Option Line) → x ≡ None → (if b then None else x) ≡ None
 same_none true x e = refl
@@ -34,7 +33,7 @@ halo_form ws o edge halo is = grind (arith, common_steps, cond-false, cond-true)
 pub no_long_form : (w : FiveWords) → bytes_eq w.first.now (codes "edge") ≡ false →
     bytes_eq w.first.now (codes "halo") ≡ false → bytes_eq w.first.now (codes "stop") ≡ false →
     bytes_eq w.first.now (codes "module") ≡ false → None ≡ form_of (list_of_five_words w)
-unfolding form_of is_word_at lone lone_name lone_number
+unfolding form_of is_word_at if_one_word name_after_keyword number_after_keyword
 no_long_form w e h s m = grind (arith, common_steps, cond-false, same_none)
 
 -- a line that begins with `stop`
@@ -45,19 +44,19 @@ unfolding form_of
 stop_form ws o edge halo stop is = grind (arith, common_steps, cond-false, cond-true)
 
 -- the words of a line of five
-pub five_words_are : (ws : List (List ℕ)) (w : FiveWords) → Some (list_of_five_words w) ≡ five ws →
+pub five_words_are : (ws : List (List ℕ)) (w : FiveWords) → Some (list_of_five_words w) ≡ words_of_five ws →
     ws ≡ list_of_five_words w
-unfolding five
+unfolding words_of_five
 five_words_are ws w e = tested_value (length ws == 5) ws (list_of_five_words w) (sym e)
 
-pub long_form_is : (ws : List (List ℕ)) (w : FiveWords) → Some (list_of_five_words w) ≡ five ws →
+pub long_form_is : (ws : List (List ℕ)) (w : FiveWords) → Some (list_of_five_words w) ≡ words_of_five ws →
     form_of (list_of_five_words w) ≡ form_of ws
 long_form_is ws w e = ap form_of (sym (five_words_are ws w e))
 
 -- ---- lines of another number of words
 
-pub no_stop : (ws : List (List ℕ)) → None ≡ five ws → None ≡ stop_of ws
-unfolding five stop_of
+pub no_stop : (ws : List (List ℕ)) → None ≡ words_of_five ws → None ≡ stop_of ws
+unfolding words_of_five stop_of
 no_stop ws e = sym (cond-false _ _ _ (test_failed (length ws == 5) ws (sym e)))
 
 -- a word that is one keyword is no other
@@ -73,23 +72,23 @@ unfolding form_of_not_five_words is_word_at
 no_short_form ws k is a b c d e = grind (arith, common_steps, cond-false, other_word)
 
 -- the tests from that of `module` on
-from_module : (ws : List (List ℕ)) → area_of ws ≡ None →
-    (if is_word_at ws 0 (codes "module") then (area_of ws >>= λ b. Some (Item (Module b)))
-    else if is_word_at ws 0 (codes "certificate") then (lone_number ws >>= λ v. Some (Header v))
-    else if is_word_at ws 0 (codes "end") then lone ws End
+from_module : (ws : List (List ℕ)) → box_of ws ≡ None →
+    (if is_word_at ws 0 (codes "module") then (box_of ws >>= λ b. Some (Item (Module b)))
+    else if is_word_at ws 0 (codes "certificate") then (number_after_keyword ws >>= λ v. Some (Header v))
+    else if is_word_at ws 0 (codes "end") then if_one_word ws End
     else None)
-    ≡ (if is_word_at ws 0 (codes "certificate") then (lone_number ws >>= λ v. Some (Header v))
-    else if is_word_at ws 0 (codes "end") then lone ws End
+    ≡ (if is_word_at ws 0 (codes "certificate") then (number_after_keyword ws >>= λ v. Some (Header v))
+    else if is_word_at ws 0 (codes "end") then if_one_word ws End
     else None)
 unfolding is_word_at
 from_module ws none = grind (arith, common_steps, cases_Bool, cond-true, cond-false, other_word)
 
-short_is : (ws : List (List ℕ)) → border_of ws ≡ None → stop_of ws ≡ None → area_of ws ≡ None →
+short_is : (ws : List (List ℕ)) → border_of ws ≡ None → stop_of ws ≡ None → box_of ws ≡ None →
     form_of_not_five_words ws ≡ form_of ws
 unfolding form_of_not_five_words form_of
 short_is ws border stop area =
     grind (arith, common_steps, cases_Bool, no_short_form, cond-true, cond-false, from_module)
 
-pub short_form_is : (ws : List (List ℕ)) → None ≡ five ws → form_of_not_five_words ws ≡ form_of ws
-unfolding five border_of stop_of area_of
+pub short_form_is : (ws : List (List ℕ)) → None ≡ words_of_five ws → form_of_not_five_words ws ≡ form_of ws
+unfolding words_of_five border_of stop_of box_of
 short_form_is ws e = grind (arith, common_steps, test_failed, short_is, cond-false)

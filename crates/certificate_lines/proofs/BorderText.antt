@@ -1,24 +1,20 @@
 -- The content of an edge or halo line, by the bytes behind its keyword.
-use Rattle.lemmas.proofs.Common.{[], ◌++◌, ◌-◌, ◌<◌, ◌==◌, ◌∙◌, ◌∷◌, ◌≡◌, List, None, Option, Some, ap}
-use Rattle.lemmas.proofs.Common.{arith, codes, drop, false, inl, inr, length, refl, subst, suc, sym, take}
-use Rattle.lemmas.proofs.Common.{take-append-drop, true, ℕ, bytes_eq, bytes_eq-Decides, cases_Bool, common_steps}
-use Rattle.lemmas.proofs.Common.{cond-false, false≢true, join_with_byte, join_with_byte-slice_split, list_all}
-use Rattle.lemmas.proofs.Common.{nat_tests, onto_first, slice_split-cons_no, take_rest, and_parts}
+use Rattle.certificate_lines.proofs.Imports.{BorderLine, Cut, Edge, Halo, Item, List, None, Option, Some, Stop}
+use Rattle.certificate_lines.proofs.Imports.{StopLine, Use, [], and_parts, ap, arith, border_of, bytes_eq}
+use Rattle.certificate_lines.proofs.Imports.{bytes_eq-Decides, cases_Bool, cell, codes, common_steps, cond-false, drop}
+use Rattle.certificate_lines.proofs.Imports.{false, false≢true, form_of, inl, inr, is_word_at, length, list_all}
+use Rattle.certificate_lines.proofs.Imports.{nat_tests, refl, stop_of, subst, suc, sym, take, take_rest, true, words_of}
+use Rattle.certificate_lines.proofs.Imports.{ℕ, ◌++◌, ◌-◌, ◌<◌, ◌==◌, ◌>>=◌, ◌∙◌, ◌∷◌, ◌≡◌}
+use Rattle.lemmas.proofs.Common.{take-append-drop, join_with_byte, join_with_byte-slice_split, onto_first}
+use Rattle.lemmas.proofs.Common.{slice_split-cons_no}
 use Rattle.section_text.specs.Leading.{leading_number}
-use Rattle.section_text.specs.Words.{is_lower, is_name, is_name_byte, is_space, is_word_at, name_at, name_of, number_at}
-use Rattle.section_text.specs.Words.{number_of, words_of, ◌>>=◌}
+use Rattle.section_text.specs.Words.{is_lower, is_name, is_name_byte, is_space, name_at, name_of, number_at, number_of}
 use Rattle.section_text.proofs.Splitting.{lone_name_is, lone_number_is, some_words}
 use Rattle.pattern.specs.Forms.{cell_of_words_from}
-use Rattle.pattern.specs.Layout.{cell}
 use Rattle.certificate_lines.specs.BorderWords.{leading_star_or_time, one_or_name_of_one_word, one_or_name_from_word}
 use Rattle.certificate_lines.specs.BorderWords.{star_or_time_from_word}
-use Rattle.section_text.specs.declared.section.Form.TheVariants.{Item}
+use Rattle.certificate_lines.specs.Forms.{one_or_name_at_word, star_or_time_at_word, border_of_five_words}
 use Rattle.certificate_lines.proofs.BorderLines.{edge_form, halo_form, stop_form}
-use Rattle.certificate_lines.specs.Forms.{border_of, form_of, signal_at, stop_of, star_or_time_at_word}
-use Rattle.certificate_lines.specs.Forms.{border_of_five_words}
-use Rattle.certificate_lines.specs.declared.certificate_line.BorderLine.{BorderLine}
-use Rattle.certificate_lines.specs.declared.certificate_line.CertificateLine.TheVariants.{Cut, Edge, Halo, Stop, Use}
-use Rattle.certificate_lines.specs.declared.certificate_line.StopLine.{StopLine}
 
 -- ---- the first word of a line
 
@@ -166,7 +162,8 @@ not_five : (n : ℕ) → (suc (suc (suc (suc (suc (suc n))))) == 5) ≡ false
 not_five n = grind arith
 
 steps : (k : List ℕ) (ws : List (List ℕ)) → border_of (k ∷ ws) ≡ (leading_star_or_time ws >>= after_time)
-unfolding border_of border_of_five_words star_or_time_at_word signal_at cell_of_words_from number_at name_at is_word_at
+unfolding border_of border_of_five_words star_or_time_at_word one_or_name_at_word cell_of_words_from number_at name_at
+    is_word_at
     leading_star_or_time leading_number
     one_or_name_of_one_word star_or_time_from_word one_or_name_from_word after_time after_column after_row after_signal
 steps k [] = refl

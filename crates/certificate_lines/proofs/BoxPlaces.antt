@@ -1,17 +1,11 @@
 -- The places of the cells of a box, row by row
-use Rattle.lemmas.proofs.Common.{[], ◌*◌, ◌++◌, ◌+◌, ◌-◌, ◌<◌, ◌∙◌, ◌∷◌, ◌≡◌, ◌≤◌, List, Some, ap, ap₂, arith, flat_map}
-use Rattle.lemmas.proofs.Common.{length, length-append, map, pos, refl, slice_get, suc, sym, true, unwrap_or, zero, ℕ}
-use Rattle.lemmas.proofs.Common.{ℤ, common_steps, length-map, range_with_len, mapped_at}
-use Rattle.bbm_rule.specs.declared.block.Cell.{Cell}
-use Rattle.pattern.specs.Layout.{cell, row_cells, rectangle_cells}
-use Rattle.bbm_rule.specs.Plane.{is_at}
-use Rattle.module_box.specs.Boxes.{in_box}
-use Rattle.module_box.specs.declared.boxes.Box2.{Box2}
-use Rattle.module_box.proofs.BoxCells.{in_box_nats}
-use Rattle.module_box.specs.Places.{place_in}
-use Rattle.certificate_lines.specs.Rules.{box_cells}
+use Rattle.certificate_lines.proofs.Imports.{Box2, Cell, List, Some, [], ap, ap₂, arith, cell, cell_itself}
+use Rattle.certificate_lines.proofs.Imports.{common_steps, flat_map, in_box, in_box_nats, is_at, length, length-map}
+use Rattle.certificate_lines.proofs.Imports.{map, place_in, pos, range_with_len, rectangle_cells, refl, row_cells}
+use Rattle.certificate_lines.proofs.Imports.{slice_get, suc, sym, true, zero, ℕ, ℤ, ◌*◌, ◌++◌, ◌+◌, ◌-◌, ◌<◌, ◌∙◌, ◌∷◌}
+use Rattle.certificate_lines.proofs.Imports.{◌≡◌, ◌≤◌}
+use Rattle.lemmas.proofs.Common.{length-append, unwrap_or, mapped_at}
 use Rattle.certificate_lines.proofs.Lists.{kept, any_at, some_is}
-use Rattle.bbm_rule.proofs.SameCells.{cell_itself}
 use Rattle.certificate_lines.proofs.PortLemmas.{in_box_cells}
 
 -- ---- the cells of a box, row by row
@@ -57,14 +51,14 @@ rows_place x w y (suc h) (suc r) k low near =
     ∙ rows_place x w (y + 1) h r k (omega arith) near
     ∙ same_place (x + k) _ (x + k) _ refl (omega arith)
 
--- a box has so many cells
-pub box_length : (b : Box2) → length (box_cells b) ≡ b.w * b.h
+-- the cells of a box are as many as its width times its height
+pub box_length : (b : Box2) → length (rectangle_cells b) ≡ b.w * b.h
 unfolding rectangle_cells
 box_length b = rows_length b.x b.w b.y b.h ∙ omega arith
 
 -- the place of a cell of a box is where it stands in the list of them
 nat_place : (b : Box2) (x y : ℕ) → b.x ≤ x → x < b.x + b.w → b.y ≤ y → y < b.y + b.h →
-    slice_get (box_cells b) (place_in b (pos x) (pos y)) ≡ Some (cell x y)
+    slice_get (rectangle_cells b) (place_in b (pos x) (pos y)) ≡ Some (cell x y)
 unfolding rectangle_cells
 nat_place b x y left right top bottom =
     let low : y - b.y < b.h = omega arith in
@@ -72,13 +66,13 @@ nat_place b x y left right top bottom =
     rows_place b.x b.w b.y b.h (y - b.y) (x - b.x) low near ∙ same_place _ _ x y (omega arith) (omega arith)
 
 pub box_place : (b : Box2) (x y : ℤ) → in_box b x y ≡ true →
-    slice_get (box_cells b) (place_in b x y) ≡ Some (record { x = x; y = y })
+    slice_get (rectangle_cells b) (place_in b x y) ≡ Some (record { x = x; y = y })
 box_place b x y h = grind (arith, common_steps, in_box_nats, nat_place)
 
 -- the cells of a box are in it
-pub cells_inside : (b : Box2) (k : ℕ) (c : Cell) → slice_get (box_cells b) k ≡ Some c → in_box b c.x c.y ≡ true
+pub cells_inside : (b : Box2) (k : ℕ) (c : Cell) → slice_get (rectangle_cells b) k ≡ Some c → in_box b c.x c.y ≡ true
 cells_inside b k c e = sym (in_box_cells b c.x c.y)
-    ∙ any_at (λ (d : Cell). is_at d c.x c.y) (box_cells b) k c e (cell_itself c)
+    ∙ any_at (λ (d : Cell). is_at d c.x c.y) (rectangle_cells b) k c e (cell_itself c)
 
 -- ---- a list with an element for each cell of a box
 
@@ -88,15 +82,16 @@ mapped_from g [] i b other e = absurd cc
 mapped_from g (x ∷ xs) zero b other e = some_is (g x) b e
 mapped_from g (x ∷ xs) (suc i) b other e = mapped_from g xs i b other e
 
-pub same_count : {A B : Type 0} (g : A → B) (f : Cell → B) (b : Box2) (xs : List A) → map g xs ≡ map f (box_cells b) →
+pub same_count : {A B : Type 0} (g : A → B) (f : Cell → B) (b : Box2) (xs : List A) →
+    map g xs ≡ map f (rectangle_cells b) →
     length xs ≡ b.w * b.h
-same_count g f b xs e = sym (length-map xs g) ∙ ap length e ∙ length-map (box_cells b) f ∙ box_length b
+same_count g f b xs e = sym (length-map xs g) ∙ ap length e ∙ length-map (rectangle_cells b) f ∙ box_length b
 
 pub found_at : {A B : Type 0} (g : A → B) (f : Cell → B) (b : Box2) (xs : List A) (other : A) →
-    map g xs ≡ map f (box_cells b)
+    map g xs ≡ map f (rectangle_cells b)
     → (x y : ℤ) → in_box b x y ≡ true →
     g (unwrap_or (slice_get xs (place_in b x y)) other) ≡ f (record { x = x; y = y })
 found_at g f b xs other e x y h =
     mapped_from g xs (place_in b x y) (f (record { x = x; y = y })) other
     (ap (λ (l : List _). slice_get l (place_in b x y)) e
-    ∙ mapped_at f (box_cells b) (place_in b x y) (record { x = x; y = y }) (box_place b x y h))
+    ∙ mapped_at f (rectangle_cells b) (place_in b x y) (record { x = x; y = y }) (box_place b x y h))

@@ -1,37 +1,24 @@
 -- The modules so far, after one more module and after one more line.
-use Rattle.lemmas.proofs.Common.{[], ◌%◌, ◌&&◌, ◌++◌, ◌+◌, ◌-◌, ◌<◌, ◌||◌, ◌∙◌, ◌∷◌, ◌≡◌, ◌≤◌, Bool, List, None, Option}
-use Rattle.lemmas.proofs.Common.{Some, ap, ap₂, arith, false, inl, inr, length, nat_lt, not, refl, slice_get, subst}
-use Rattle.lemmas.proofs.Common.{sym, true, true≢false, ℕ, ℤ, common_steps, length_push, list_all, list_any}
-use Rattle.lemmas.proofs.Common.{list_any-append, map-append, nat_tests, slice_get_within, none_at, not_below_by_test}
-use Rattle.lemmas.proofs.Common.{or_parts}
-use Rattle.bbm_rule.specs.Board.{Board, live, HasSameSize}
-use Rattle.section_text.specs.Codes.{code_if}
-use Rattle.pattern.specs.Lines.{size_fault}
-use Rattle.pattern.proofs.InsideLemmas.{size_sides}
-use Rattle.bbm_rule.specs.declared.block.Cell.{Cell}
-use Rattle.pattern.specs.declared.layout_line.LayoutHeader.{LayoutHeader}
-use Rattle.bbm_rule.specs.Spans.{in_area}
-use Rattle.module_box.specs.Boxes.{in_box, IsEven}
-use Rattle.module_box.specs.Tiling.{IsInside}
-use Rattle.module_box.specs.declared.boxes.Box2.{Box2}
-use Rattle.module_box.proofs.Rising.{pushed}
-use Rattle.certificate_lines.specs.Entries.{Setting, ModuleLines, module_with_line, change_last, last_of, modules_of}
-use Rattle.certificate_lines.specs.Entries.{areas, counts_of}
-use Rattle.certificate_lines.specs.Orders.{AreInOrder}
-use Rattle.certificate_lines.specs.Rules.{is_odd, is_wrong_side, is_misplaced, is_last_module_incomplete}
-use Rattle.certificate_lines.specs.Rules.{has_nonlocal_port, box_fault, module_fault, end_fault, leaves_gap, overlaps}
-use Rattle.certificate_lines.specs.Rules.{in_boxes, box_cells, whole}
-use Rattle.certificate_lines.specs.Modules.{StarsExcludeLaterTimes, IsModule}
-use Rattle.certificate_lines.specs.BuilderView.{AreApart, AreBuilt, AreSound, IsWritten}
-use Rattle.certificate_lines.specs.declared.certificate_line.Counts.{Counts}
-use Rattle.certificate_lines.specs.declared.certificate_line.CertificateLine.{CertificateLine}
+use Rattle.certificate_lines.proofs.Imports.{AreApart, AreBuilt, AreGoodModulesSoFar, AreInOrder, Board, Bool, Box2}
+use Rattle.certificate_lines.proofs.Imports.{Cell, CertificateLine, Counts, HasSameSize, IsEven, IsInside, IsModule}
+use Rattle.certificate_lines.proofs.Imports.{IsModuleInLimits, LayoutHeader, List, ModuleLines, None, Option}
+use Rattle.certificate_lines.proofs.Imports.{RefusalCode, Setting, Some, SomethingMissing, StarsExcludeLaterTimes, []}
+use Rattle.certificate_lines.proofs.Imports.{ap, ap₂, areas, arith, box_fault, change_last, code_if, common_steps}
+use Rattle.certificate_lines.proofs.Imports.{counts_of, end_fault, false, has_nonlocal_port, in_area, in_box, inl, inr}
+use Rattle.certificate_lines.proofs.Imports.{is_last_module_incomplete, is_odd, last_of, length, length_push, list_all}
+use Rattle.certificate_lines.proofs.Imports.{list_any, list_any-append, live, map-append, module_fault}
+use Rattle.certificate_lines.proofs.Imports.{module_with_line, modules_of, nat_lt, nat_tests, none_at, not, pushed}
+use Rattle.certificate_lines.proofs.Imports.{rectangle_cells, refl, size_fault, size_sides, slice_get, slice_get_within}
+use Rattle.certificate_lines.proofs.Imports.{subst, sym, true, true≢false, whole, ℕ, ℤ, ◌%◌, ◌&&◌, ◌++◌, ◌+◌, ◌-◌, ◌<◌}
+use Rattle.certificate_lines.proofs.Imports.{◌||◌, ◌∙◌, ◌∷◌, ◌≡◌, ◌≤◌}
+use Rattle.lemmas.proofs.Common.{not_below_by_test, or_parts}
+use Rattle.certificate_lines.specs.Rules.{is_bad_box_side, is_misplaced, leaves_gap, overlaps, in_boxes}
+use Rattle.section_text.specs.declared.code.RefusalCode.TheVariants.{MisplacedBox}
 use Rattle.certificate_lines.proofs.Growing.{areas_changed, length_changed, changed_at, last_at, last_by_place}
 use Rattle.certificate_lines.proofs.Growing.{map_changed}
 use Rattle.certificate_lines.proofs.Lists.{any_at}
 use Rattle.certificate_lines.proofs.ModulePushes.{no_code, both_none, less}
 use Rattle.certificate_lines.proofs.PortLemmas.{has_cell, in_box_cells}
-use Rattle.section_text.specs.declared.code.RefusalCode.{RefusalCode}
-use Rattle.section_text.specs.declared.code.RefusalCode.TheVariants.{MisplacedBox, SomethingMissing}
 
 -- ---- a box that is good
 
@@ -41,13 +28,13 @@ pub record IsGoodBox (s : LayoutHeader) (b : Box2) : Type 0 where
   pub high : (2 ≤ b.h) × (b.h ≤ 64)
   pub inside : IsInside s.w s.h b
 
-side : (n : ℕ) → is_wrong_side n ≡ false → (n % 2 ≡ 0) × (2 ≤ n) × (n ≤ 64)
+side : (n : ℕ) → is_bad_box_side n ≡ false → (n % 2 ≡ 0) × (2 ≤ n) × (n ≤ 64)
 side n e = (grind (arith, nat_tests), grind (arith, nat_tests), grind (arith, nat_tests))
 
 even_by : (n : ℕ) → is_odd n ≡ false → n % 2 ≡ 0
 even_by n e = grind (arith, nat_tests)
 
-box_good : (s : LayoutHeader) (b : Box2) → is_wrong_side b.w ≡ false → is_wrong_side b.h ≡ false →
+box_good : (s : LayoutHeader) (b : Box2) → is_bad_box_side b.w ≡ false → is_bad_box_side b.h ≡ false →
     is_misplaced s b ≡ false →
     IsGoodBox s b
 box_good s b wide high placed = grind (arith, common_steps, side, or_parts, even_by, not_below_by_test)
@@ -92,8 +79,8 @@ any_same p q same (c ∷ cells) = ap₂ (λ a b. a || b) (same c) (any_same p q 
 
 pub live_overlaps : (boxes : List Box2) (b : Box2) (covered : Board) →
     ((x y : ℤ) → live covered x y ≡ in_boxes boxes x y) →
-    list_any (λ c. live covered c.x c.y) (box_cells b) ≡ overlaps boxes b
-live_overlaps boxes b covered same = any_same _ _ (λ c. same c.x c.y) (box_cells b)
+    list_any (λ c. live covered c.x c.y) (rectangle_cells b) ≡ overlaps boxes b
+live_overlaps boxes b covered same = any_same _ _ (λ c. same c.x c.y) (rectangle_cells b)
 
 all_same : (p q : Cell → Bool) → ((c : Cell) → p c ≡ q c) → (cells : List Cell) → list_all p cells ≡ list_all q cells
 all_same p q same [] = refl
@@ -101,8 +88,8 @@ all_same p q same (c ∷ cells) = ap₂ (λ a b. a && b) (same c) (all_same p q 
 
 pub live_gap : (s : LayoutHeader) (boxes : List Box2) (covered : Board) →
     ((x y : ℤ) → live covered x y ≡ in_boxes boxes x y) →
-    not (list_all (λ c. live covered c.x c.y) (box_cells (whole s))) ≡ leaves_gap s boxes
-live_gap s boxes covered same = ap not (all_same _ _ (λ c. same c.x c.y) (box_cells (whole s)))
+    not (list_all (λ c. live covered c.x c.y) (rectangle_cells (whole s))) ≡ leaves_gap s boxes
+live_gap s boxes covered same = ap not (all_same _ _ (λ c. same c.x c.y) (rectangle_cells (whole s)))
 
 -- the fault of a `module` line, from that of its box and the overlap
 pub overlap_fault : (g : Setting) (ms : List ModuleLines) (before : Option ModuleLines) (b : Box2) →
@@ -140,7 +127,7 @@ begun_module : (g : Setting) (b : Box2) → IsGoodBox g.size b → IsModule g (r
 unfolding AreInOrder StarsExcludeLaterTimes
 begun_module g b good = grind (arith, common_steps, none_at)
 
-begun : (g : Setting) (b : Box2) → IsGoodBox g.size b → IsWritten g (record { area = b; lines = [] })
+begun : (g : Setting) (b : Box2) → IsGoodBox g.size b → IsModuleInLimits g (record { area = b; lines = [] })
 begun g b good = record { good = begun_module g b good; few_borders = omega arith }
 
 -- ---- one more box
@@ -166,7 +153,7 @@ free_cell : (boxes : List Box2) (b : Box2) → overlaps boxes b ≡ false → (x
 unfolding at_cell
 free_cell boxes b free x y i d e here inside =
     let among : in_boxes boxes x y ≡ true = any_at (λ (k : Box2). in_box k x y) boxes i d e here in
-    true≢false (sym (has_cell (λ c. in_boxes boxes c.x c.y) (box_cells b) (at_cell x y)
+    true≢false (sym (has_cell (λ c. in_boxes boxes c.x c.y) (rectangle_cells b) (at_cell x y)
     (in_box_cells b x y ∙ inside) among) ∙ free)
 
 apart_push : (boxes : List Box2) (b : Box2) → AreApart boxes → overlaps boxes b ≡ false → AreApart (boxes ++ b ∷ [])
@@ -179,7 +166,7 @@ last_is ms i m at e = sym (last_by_place ms) ∙ ap (slice_get ms) (let p : leng
 
 -- the modules so far
 module _ (g : Setting) (ms : List ModuleLines) where
-  pub sound_none : AreSound g []
+  pub sound_none : AreGoodModulesSoFar g []
   sound_none = grind (arith, common_steps, none_at)
 
   pub built_none : (covered : Board) → covered.width ≡ g.size.w → covered.height ≡ g.size.h →
@@ -196,13 +183,13 @@ module _ (g : Setting) (ms : List ModuleLines) where
   ported_push b before complete i m lt e =
       grind (arith, common_steps, pushed, new_module, slice_get_within, length_push, last_is)
 
-  pub module_sound : (b : Box2) → AreSound g ms → IsGoodModule g ms (last_of ms) b →
-      AreSound g (ms ++ new_module b ∷ [])
+  pub module_sound : (b : Box2) → AreGoodModulesSoFar g ms → IsGoodModule g ms (last_of ms) b →
+      AreGoodModulesSoFar g (ms ++ new_module b ∷ [])
   module_sound b sound good = record {
     few = let n = length_push ms (new_module b) in let f = good.few in omega (arith, n, f);
     each = λ k m e. elim (pushed ms (new_module b) k m e) [
       | inl old ↦ sound.each k m old
-      | inr new ↦ subst (IsWritten g) new.1 (begun g b good.box)
+      | inr new ↦ subst (IsModuleInLimits g) new.1 (begun g b good.box)
     ];
     apart = subst AreApart (sym (areas_push ms (new_module b))) (apart_push (areas ms) b sound.apart good.free);
     ported = ported_push b sound.ported good.complete;
@@ -216,14 +203,14 @@ module _ (g : Setting) (ms : List ModuleLines) where
       grind (arith, common_steps, module_sound, area_is, cells_pushed, areas_push, new_module, map-append)
 
   -- one more line of the last module
-  pub line_sound : (i : CertificateLine) → AreSound g ms →
-      ((m : ModuleLines) → last_of ms ≡ Some m → IsWritten g m → IsWritten g (module_with_line i m)) →
-      AreSound g (change_last (module_with_line i) ms)
+  pub line_sound : (i : CertificateLine) → AreGoodModulesSoFar g ms →
+      ((m : ModuleLines) → last_of ms ≡ Some m → IsModuleInLimits g m → IsModuleInLimits g (module_with_line i m)) →
+      AreGoodModulesSoFar g (change_last (module_with_line i) ms)
   line_sound i sound grows = record {
     few = let n = length_changed (module_with_line i) ms in let f = sound.few in omega (arith, n, f);
     each = λ k m e. elim (changed_at (module_with_line i) ms k m e) [
       | inl old ↦ sound.each k m old.1
-      | inr new ↦ subst (IsWritten g) (sym new.3)
+      | inr new ↦ subst (IsModuleInLimits g) (sym new.3)
           (grows new.0 new.2 (let at = last_at ms new.0 new.2 in sound.each at.0 new.0 at.2))
     ];
     apart = subst AreApart (sym (areas_changed i ms)) sound.apart;
@@ -232,7 +219,7 @@ module _ (g : Setting) (ms : List ModuleLines) where
 
   pub line_built : (i : CertificateLine) (covered : Board) (counts more : List Counts) (count : Counts → Counts) →
       AreBuilt g ms covered counts →
-      ((m : ModuleLines) → last_of ms ≡ Some m → IsWritten g m → IsWritten g (module_with_line i m))
+      ((m : ModuleLines) → last_of ms ≡ Some m → IsModuleInLimits g m → IsModuleInLimits g (module_with_line i m))
       → ((m : ModuleLines) → counts_of (module_with_line i m) ≡ count (counts_of m)) → more ≡ change_last count counts →
       AreBuilt g (change_last (module_with_line i) ms) covered more
   line_built i covered counts more count built grows counted now = record {

@@ -1,7 +1,7 @@
 -- The last of the counts.
-use Rattle.lemmas.proofs.Common.{[], ◌-◌, ◌<◌, ◌∙◌, ◌∷◌, ◌≡◌, List, Some, ap, arith, get_or, length, refl, slice_set}
-use Rattle.lemmas.proofs.Common.{suc, sym, ℕ, common_steps, slice_get-get_or}
-use Rattle.certificate_lines.specs.Entries.{change_last, last_of}
+use Rattle.certificate_lines.proofs.Imports.{List, Some, [], ap, arith, change_last, common_steps, get_or, last_of}
+use Rattle.certificate_lines.proofs.Imports.{length, refl, slice_get-get_or, suc, sym, ℕ, ◌-◌, ◌<◌, ◌∙◌, ◌∷◌, ◌≡◌}
+use Rattle.lemmas.proofs.Common.{slice_set}
 use Rattle.certificate_lines.proofs.Growing.{last_by_place}
 
 pub none_changed : {X : Type 0} (f : X → X) (xs : List X) → length xs ≡ 0 → xs ≡ change_last f xs
@@ -25,7 +25,7 @@ set_last f (x ∷ z ∷ xs) d y some is =
     ap (λ i. slice_set (x ∷ z ∷ xs) i y) at
     ∙ ap (λ l. x ∷ l) (set_last f (z ∷ xs) d y (omega arith) (is ∙ ap (λ i. f (get_or (x ∷ z ∷ xs) i d)) at))
 
--- the same by a place and the element that was read there
+-- the last element is the one that was read at the last place
 pub last_is_at : {X : Type 0} (xs : List X) (i : ℕ) (x : X) → i ≡ length xs - 1 → 0 < length xs → x ≡ get_or xs i x →
     last_of xs ≡ Some x
 last_is_at xs i x at some is = grind (arith, common_steps, last_is_get)

@@ -1,7 +1,9 @@
 -- If all elements of a joined list have a property, those of each of its parts have it.
-use Rattle.lemmas.proofs.Common.{[], ◌++◌, ◌+◌, ◌<◌, ◌∙◌, ◌∷◌, ◌≡◌, All, List, Some, ap, append-nil, arith, flat_map}
-use Rattle.lemmas.proofs.Common.{get_or, length, slice_get, subst, suc, sym, take, zero, ℕ, All-cons, All-head, All-nil}
-use Rattle.lemmas.proofs.Common.{All-tail, common_steps, flat_map-append, slice_get-get_or, take_more}
+use Rattle.certificate_lines.proofs.Imports.{All, All-append, All-nil, All-tail, List, Some, [], ap, append-nil, arith}
+use Rattle.certificate_lines.proofs.Imports.{common_steps, flat_map, flat_map-append, get_or, length, slice_get}
+use Rattle.certificate_lines.proofs.Imports.{slice_get-get_or, subst, suc, sym, take, take_more, zero, ℕ, ◌++◌, ◌+◌}
+use Rattle.certificate_lines.proofs.Imports.{◌<◌, ◌∙◌, ◌∷◌, ◌≡◌}
+use Rattle.lemmas.proofs.Common.{All-cons, All-head}
 use Rattle.certificate_lines.proofs.Lists.{some_is}
 
 pub all_left : {A : Type 0} (P : A → Type 0) (xs ys : List A) → All P (xs ++ ys) → All P xs
@@ -26,3 +28,10 @@ flat_at P f xs h i x lt e = flat_part P f xs h i x (slice_get-get_or xs i x lt �
 pub flat_more : {X Y : Type 0} (f : X → List Y) (xs : List X) (i : ℕ) (x : X) → i < length xs → x ≡ get_or xs i x →
     flat_map f (take (i + 1) xs) ≡ flat_map f (take i xs) ++ f x
 flat_more f xs i x within is = grind (arith, common_steps, take_more, flat_map-append, append-nil)
+
+-- what holds of all parts holds of all of a joined list
+pub flat_all : {X A : Type 0} (P : A → Type 0) (f : X → List A) (Q : X → Type 0) → ((x : X) → Q x → All P (f x)) →
+    (xs : List X) → All Q xs → All P (flat_map f xs)
+flat_all P f Q each [] all = All-nil P
+flat_all P f Q each (x ∷ xs) all =
+    All-append P (f x) (flat_map f xs) (each x (All-head Q x xs all)) (flat_all P f Q each xs (All-tail Q x xs all))

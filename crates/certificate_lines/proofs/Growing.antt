@@ -1,10 +1,9 @@
 -- The modules of lines after one more line.
-use Rattle.lemmas.proofs.Common.{[], ◌++◌, ◌+◌, ◌-◌, ◌<◌, ◌∙◌, ◌∷◌, ◌≡◌, ◌⊎◌, List, Some, ap, append-nil, arith}
-use Rattle.lemmas.proofs.Common.{flat_map, inl, inr, length, map, option_map, refl, slice_get, suc, sym, zero, ℕ}
-use Rattle.lemmas.proofs.Common.{common_steps, flat_map-append, fold_push}
-use Rattle.certificate_lines.specs.Entries.{ModuleLines, module_with_line, change_last, last_of, add_line, modules_of}
-use Rattle.certificate_lines.specs.Entries.{areas}
-use Rattle.certificate_lines.specs.declared.certificate_line.CertificateLine.{CertificateLine}
+use Rattle.certificate_lines.proofs.Imports.{CertificateLine, List, ModuleLines, Some, [], add_line, ap, append-nil}
+use Rattle.certificate_lines.proofs.Imports.{areas, arith, change_last, common_steps, flat_map, flat_map-append, inl}
+use Rattle.certificate_lines.proofs.Imports.{inr, last_of, length, map, module_with_line, modules_of, option_map, refl}
+use Rattle.certificate_lines.proofs.Imports.{slice_get, suc, sym, zero, ℕ, ◌++◌, ◌+◌, ◌-◌, ◌<◌, ◌∙◌, ◌∷◌, ◌≡◌, ◌⊎◌}
+use Rattle.lemmas.proofs.Common.{fold_push}
 use Rattle.certificate_lines.proofs.Lists.{some_is}
 
 pub modules_push : (es : List CertificateLine) (i : CertificateLine) →

@@ -1,5 +1,5 @@
 -- Facts about an element of a list
-use Rattle.lemmas.proofs.Common.{[], ◌∷◌, ◌≡◌, All, List, Some, ap, inl, inr, slice_get, suc, ℕ}
+use Rattle.certificate_lines.proofs.Imports.{All, List, Some, [], ap, inl, inr, slice_get, suc, ℕ, ◌∷◌, ◌≡◌}
 use Rattle.certificate_lines.proofs.LineOrder.{In, each_in}
 use Rattle.certificate_lines.proofs.Pairs.{each_of_all}
 

@@ -1,56 +1,41 @@
 -- The tables of the lines after one more line.
-use Rattle.lemmas.proofs.Common.{[], ◌&&◌, ◌++◌, ◌+◌, ◌||◌, ◌∙◌, ◌∷◌, ◌≡◌, ◌≤◌, Bool, List, None, Option, Some, ap}
-use Rattle.lemmas.proofs.Common.{append-nil, arith, false, flat_map, length, not, option_map, option_to_list, refl}
-use Rattle.lemmas.proofs.Common.{replicate, subst, sym, true, ℕ, ℤ, common_steps, length_push, list_any}
-use Rattle.lemmas.proofs.Common.{list_any-append, true_from_not}
-use Rattle.bbm_rule.specs.Board.{Board, live, HasSameSize}
-use Rattle.bbm_rule.specs.declared.block.Cell.{Cell}
-use Rattle.section_text.specs.Codes.{code_if, or_else}
-use Rattle.bbm_rule.specs.Spans.{in_area}
-use Rattle.circuit.specs.Meaning.{Circuit}
-use Rattle.certificate_lines.specs.declared.local_names.CutWire.{CutWire}
-use Rattle.module_box.specs.Boxes.{in_box}
-use Rattle.module_box.specs.Locals.{is_among}
-use Rattle.module_box.specs.declared.boxes.Box2.{Box2}
-use Rattle.certificate_lines.specs.Entries.{Setting, ModuleLines, module_with_line, change_last, last_of, add_line}
-use Rattle.certificate_lines.specs.Entries.{modules_of, last_module, counts_of, cut_in, use_in, edge_in, halo_in}
-use Rattle.certificate_lines.specs.Entries.{cuts, gates, known}
-use Rattle.certificate_lines.specs.Orders.{AreInOrder, may_follow}
-use Rattle.certificate_lines.specs.Rules.{same_cell, is_starred_line_at, are_new_and_distinct}
-use Rattle.certificate_lines.specs.Rules.{is_last_module_incomplete, is_local, has_nonlocal_port, content_code}
-use Rattle.certificate_lines.specs.Rules.{line_fault, body_line_code, module_fault}
-use Rattle.certificate_lines.specs.Modules.{IsModule}
-use Rattle.certificate_lines.specs.BuilderView.{AreBuilt, AreLocalNames, AreLocalWiresOfModules, IsEdgeHaloOrStopLine}
-use Rattle.certificate_lines.specs.BuilderView.{IsCutWire, IsBodyLine, IsLastModule, IsTracked, IsTrackedWith}
-use Rattle.certificate_lines.specs.BuilderView.{IsWritten, counted, AreSmallCounts, last_body_line, optional_gate_outs}
-use Rattle.certificate_lines.specs.BuilderView.{wires_made_local}
-use Rattle.certificate_lines.specs.declared.certificate_line.BorderLine.{BorderLine}
-use Rattle.certificate_lines.specs.declared.certificate_line.Counts.{Counts}
-use Rattle.certificate_lines.specs.declared.certificate_line.CertificateLine.{CertificateLine}
-use Rattle.certificate_lines.specs.declared.certificate_line.StopLine.{StopLine}
-use Rattle.certificate_lines.specs.declared.certificate_line.CertificateLine.TheVariants.{Module, Cut, Use, Keep, Edge}
-use Rattle.certificate_lines.specs.declared.certificate_line.CertificateLine.TheVariants.{Halo, Stop}
+use Rattle.certificate_lines.proofs.Imports.{AreBuilt, AreInOrder, AreLocalWiresOfModules, Board, Bool, BorderLine}
+use Rattle.certificate_lines.proofs.Imports.{Box2, Cell, CertificateLine, Circuit, Counts, Cut, Edge, Halo, HasSameSize}
+use Rattle.certificate_lines.proofs.Imports.{IsBodyLine, IsModule, IsModuleInLimits, Keep, LineKey, List, Module}
+use Rattle.certificate_lines.proofs.Imports.{ModuleLines, None, Option, OutOfOrder, Port, RefusalCode, Setting, Some}
+use Rattle.certificate_lines.proofs.Imports.{Stop, StopLine, Use, [], add_line, ap, append-nil, are_new_and_distinct}
+use Rattle.certificate_lines.proofs.Imports.{arith, body_line_code, change_last, code_if, common_steps, content_code}
+use Rattle.certificate_lines.proofs.Imports.{counts_of, cut_in, cuts, edge_in, false, flat_map, gates, halo_in}
+use Rattle.certificate_lines.proofs.Imports.{has_nonlocal_port, in_area, in_box, is_among, is_last_module_incomplete}
+use Rattle.certificate_lines.proofs.Imports.{is_local, is_starred_line_at, key_of, key_or_first, known, last_body_line}
+use Rattle.certificate_lines.proofs.Imports.{last_module, last_of, length, length_push, list_any, list_any-append, live}
+use Rattle.certificate_lines.proofs.Imports.{may_follow, module_fault, module_with_line, modules_of, not, option_map}
+use Rattle.certificate_lines.proofs.Imports.{option_to_list, or_else, refl, same_cell, size_fault, size_sides, subst}
+use Rattle.certificate_lines.proofs.Imports.{sym, true, true_from_not, use_in, ℕ, ℤ, ◌&&◌, ◌++◌, ◌+◌, ◌||◌, ◌∙◌, ◌∷◌}
+use Rattle.certificate_lines.proofs.Imports.{◌≡◌, ◌≤◌}
+use Rattle.certificate_lines.specs.Rules.{line_fault}
+use Rattle.certificate_lines.specs.BuilderView.{IsEdgeHaloOrStopLine, IsLastModule, IsTracked, IsTrackedWith}
+use Rattle.certificate_lines.specs.BuilderView.{counts_with_line, AreSmallCounts, optional_gate_outs, wires_made_local}
 use Rattle.certificate_lines.proofs.BuiltLemmas.{built_none, module_built, line_built, good_module}
 use Rattle.certificate_lines.proofs.Growing.{modules_push, flat_push, flat_same, last_at, last_pushed, last_changed}
 use Rattle.certificate_lines.proofs.Growing.{last_mapped}
 use Rattle.certificate_lines.proofs.Lists.{some_is}
-use Rattle.certificate_lines.proofs.OrderLemmas.{inner_pushed, module_pushed}
+use Rattle.certificate_lines.proofs.OrderLemmas.{inner_pushed, key_pushed, module_key, module_pushed}
+use Rattle.certificate_lines.proofs.InnerLines.{nothing_inner}
 use Rattle.certificate_lines.proofs.KnownLemmas.{none_new}
-use Rattle.certificate_lines.proofs.LocalNames.{no_names, still_local}
+use Rattle.certificate_lines.proofs.ModuleSplit.{still_begun}
 use Rattle.certificate_lines.proofs.LackedWires.{wires_begun, wires_more}
-use Rattle.certificate_lines.proofs.ModulePushes.{no_code, both_none, new_wire, good_use, cuts_cut}
-use Rattle.certificate_lines.proofs.ModulePushes.{gates_use, edges_edge, halos_halo, stops_stop, known_cut, known_use}
-use Rattle.certificate_lines.proofs.ModulePushes.{known_same, cut_pushed, use_pushed, keep_pushed, edge_pushed}
-use Rattle.certificate_lines.proofs.ModulePushes.{halo_pushed, stop_pushed}
-use Rattle.section_text.specs.declared.code.RefusalCode.{RefusalCode}
-use Rattle.section_text.specs.declared.code.RefusalCode.TheVariants.{OutOfOrder}
+use Rattle.certificate_lines.proofs.ModulePushes.{no_code, both_none, new_wire, good_use, cuts_cut, gates_use}
+use Rattle.certificate_lines.proofs.ModulePushes.{edges_edge, halos_halo, stops_stop, known_cut, known_use, known_same}
+use Rattle.certificate_lines.proofs.ModulePushes.{cut_pushed, use_pushed, keep_pushed, edge_pushed, halo_pushed}
+use Rattle.certificate_lines.proofs.ModulePushes.{stop_pushed}
 
 no_last : {X : Type 0} (x : X) → None ≡ Some x → ⊥
 no_last x e = cc
 
 pub kept_none : (g : Setting) (covered : Board) → covered.width ≡ g.size.w → covered.height ≡ g.size.h →
     ((x y : ℤ) → live covered x y ≡ false) → (local : List ℕ) (e h : List Cell) →
-    IsTracked g [] covered [] None [] local e h
+    IsTracked g [] covered [] None local e h
 unfolding modules_of last_of
 kept_none g covered w h dead local e f = grind (arith, common_steps, built_none, no_last)
 
@@ -79,8 +64,8 @@ pub record IsLast (ms : List ModuleLines) (k : Counts) : Type 0 where
 
 module _ (g : Setting) (es : List CertificateLine) (covered : Board) (counts : List Counts)
     (last : Option CertificateLine)
-    (names : List (List ℕ)) (local : List ℕ) (e h : List Cell)
-    (kept : IsTracked g es covered counts last names local e h) where
+    (local : List ℕ) (e h : List Cell)
+    (kept : IsTracked g es covered counts last local e h) where
   counts_last : last_of counts ≡ option_map counts_of (last_module es)
   counts_last = ap last_of kept.built.counted ∙ last_mapped counts_of (modules_of es)
 
@@ -90,7 +75,7 @@ module _ (g : Setting) (es : List CertificateLine) (covered : Board) (counts : L
   pub the_last : (k : Counts) → last_of counts ≡ Some k → IsLast (modules_of es) k
   the_last k some = grind (arith, common_steps, mapped_some, counts_last)
 
-  pub last_written : (m : ModuleLines) → last_module es ≡ Some m → IsWritten g m
+  pub last_written : (m : ModuleLines) → last_module es ≡ Some m → IsModuleInLimits g m
   last_written m some = let at = last_at (modules_of es) m some in kept.built.sound.each at.0 m at.2
 
   pub last_good : (m : ModuleLines) → last_module es ≡ Some m → IsModule g m
@@ -106,17 +91,33 @@ module _ (g : Setting) (es : List CertificateLine) (covered : Board) (counts : L
       let is = written.good in
       grind (arith, common_steps, few_lines)
 
-  lacks_by : (o : Option ModuleLines) → last_module es ≡ o →
-      list_any (λ n. not (is_local g.circuit local n)) names ≡ is_last_module_incomplete g o
+  lacks_by : (m : ModuleLines) → last_module es ≡ Some m →
+      list_any (λ p. in_box m.area p.cell.x p.cell.y && not (is_local g.circuit local p.name)) g.ports
+      ≡ is_last_module_incomplete g (last_module es)
   unfolding has_nonlocal_port
-  lacks_by None none = ap (list_any (λ n. not (is_local g.circuit local n)))
-      (kept.none (last_none (modules_of es) none))
-  lacks_by (Some m) some =
-      let p = kept.last_module m some in
-      grind (arith, common_steps)
+  lacks_by m some =
+      ap (λ l. list_any (λ (p : Port). in_box m.area p.cell.x p.cell.y && not (is_local g.circuit l p.name)) g.ports)
+      (kept.last_module m some).wires
+      ∙ ap (is_last_module_incomplete g) (sym some)
 
-  pub lacks : list_any (λ n. not (is_local g.circuit local n)) names ≡ is_last_module_incomplete g (last_module es)
-  lacks = lacks_by (last_module es) refl
+  -- whether the last module is complete, by its box in the counts
+  pub lacks : (k : Counts) → last_of counts ≡ Some k →
+      list_any (λ p. in_box k.area p.cell.x p.cell.y && not (is_local g.circuit local p.name)) g.ports
+      ≡ is_last_module_incomplete g (last_module es)
+  lacks k some =
+      let l = the_last k some in
+      ap (λ (n : Counts). list_any
+      (λ (p : Port). in_box n.area p.cell.x p.cell.y && not (is_local g.circuit local p.name)) g.ports) l.counted
+      ∙ lacks_by l.module_lines l.last
+
+  -- that box is in the rectangle
+  pub last_fits : (k : Counts) → last_of counts ≡ Some k → size_fault g.size ≡ None →
+      (k.area.x + k.area.w ≤ 512) × (k.area.y + k.area.h ≤ 512)
+  last_fits k some sized =
+      let l = the_last k some in
+      let inside = (last_good l.module_lines l.last).inside in
+      let sides = size_sides g.size sized in
+      grind (arith, common_steps)
 
   follows_by : (m : ModuleLines) (i : CertificateLine) (b : Bool) → last_module es ≡ Some m →
       ((lines : List CertificateLine) → AreInOrder lines → last_of lines ≡ last → b ≡ may_follow lines i) →
@@ -174,75 +175,72 @@ one_longer : {X : Type 0} (xs ys : List X) (x : X) → ys ≡ xs ++ x ∷ [] →
 one_longer xs ys x e = ap length e ∙ length_push xs x
 
 pub counted_cut : (n : List ℕ) (m : ModuleLines) →
-    counts_of (module_with_line (Cut n) m) ≡ counted (Cut n) (counts_of m)
-unfolding counted
+    counts_of (module_with_line (Cut n) m) ≡ counts_with_line (Cut n) (counts_of m)
+unfolding counts_with_line
 counted_cut n m = grind (arith, common_steps, same_counts, one_longer, cuts_cut, flat_same)
 
-pub counted_use : (k : ℕ) (m : ModuleLines) → counts_of (module_with_line (Use k) m) ≡ counted (Use k) (counts_of m)
-unfolding counted
+pub counted_use : (k : ℕ) (m : ModuleLines) →
+    counts_of (module_with_line (Use k) m) ≡ counts_with_line (Use k) (counts_of m)
+unfolding counts_with_line
 counted_use k m = grind (arith, common_steps, same_counts, flat_same, one_longer, gates_use)
 
-pub counted_keep : (k : ℕ) (m : ModuleLines) → counts_of (module_with_line (Keep k) m) ≡ counted (Keep k) (counts_of m)
-unfolding counted
+pub counted_keep : (k : ℕ) (m : ModuleLines) →
+    counts_of (module_with_line (Keep k) m) ≡ counts_with_line (Keep k) (counts_of m)
+unfolding counts_with_line
 counted_keep k m = grind (arith, common_steps, same_counts, flat_same)
 
 pub counted_edge : (d : BorderLine) (m : ModuleLines) →
-    counts_of (module_with_line (Edge d) m) ≡ counted (Edge d) (counts_of m)
-unfolding counted
+    counts_of (module_with_line (Edge d) m) ≡ counts_with_line (Edge d) (counts_of m)
+unfolding counts_with_line
 counted_edge d m = grind (arith, common_steps, same_counts, flat_same, one_longer, edges_edge)
 
 pub counted_halo : (d : BorderLine) (m : ModuleLines) →
-    counts_of (module_with_line (Halo d) m) ≡ counted (Halo d) (counts_of m)
-unfolding counted
+    counts_of (module_with_line (Halo d) m) ≡ counts_with_line (Halo d) (counts_of m)
+unfolding counts_with_line
 counted_halo d m = grind (arith, common_steps, same_counts, flat_same, one_longer, halos_halo)
 
 pub counted_stop : (s : StopLine) (m : ModuleLines) →
-    counts_of (module_with_line (Stop s) m) ≡ counted (Stop s) (counts_of m)
-unfolding counted
+    counts_of (module_with_line (Stop s) m) ≡ counts_with_line (Stop s) (counts_of m)
+unfolding counts_with_line
 counted_stop s m = grind (arith, common_steps, same_counts, flat_same, one_longer, stops_stop)
-
-some_gone : {X : Type 0} (f : X → X) (xs : List X) → change_last f xs ≡ [] → xs ≡ []
-unfolding change_last
-some_gone f [] e = refl
-some_gone f (x ∷ []) e = grind (arith, common_steps)
-some_gone f (x ∷ y ∷ xs) e = grind (arith, common_steps)
 
 module _ (g : Setting) (es : List CertificateLine) (covered : Board) (counts : List Counts)
     (last : Option CertificateLine)
-    (names : List (List ℕ)) (local : List ℕ) (e h : List Cell)
-    (kept : IsTracked g es covered counts last names local e h)
+    (local : List ℕ) (e h : List Cell)
+    (kept : IsTracked g es covered counts last local e h)
     (i : CertificateLine) (good : IsGoodLine g es i)
     (step : add_line (modules_of es) i ≡ change_last (module_with_line i) (modules_of es))
-    (are : (m : ModuleLines) → counts_of (module_with_line i m) ≡ counted i (counts_of m)) (after : List Counts)
-    (now : after ≡ change_last (counted i) counts) where
+    (are : (m : ModuleLines) → counts_of (module_with_line i m) ≡ counts_with_line i (counts_of m))
+    (after : List Counts)
+    (now : after ≡ change_last (counts_with_line i) counts) where
   after_line : modules_of (es ++ i ∷ []) ≡ change_last (module_with_line i) (modules_of es)
   after_line = modules_push es i ∙ step
 
   the_same : (m : ModuleLines) → last_module es ≡ Some m → good.module_lines ≡ m
   the_same m some = some_is good.module_lines m (sym good.last ∙ some)
 
-  pub stored_line : (IsWritten g good.module_lines → IsWritten g (module_with_line i good.module_lines)) →
+  pub stored_line : (IsModuleInLimits g good.module_lines → IsModuleInLimits g (module_with_line i good.module_lines)) →
       (local' : List ℕ) (e' h' : List Cell)
-      → (IsLastModule g good.module_lines last names local e h →
-      IsLastModule g (module_with_line i good.module_lines) (Some i) names local' e' h') →
-      IsTracked g (es ++ i ∷ []) covered after (Some i) names local' e' h'
+      → (IsLastModule g good.module_lines last local e h →
+      IsLastModule g (module_with_line i good.module_lines) (Some i) local' e' h') →
+      IsTracked g (es ++ i ∷ []) covered after (Some i) local' e' h'
   stored_line grows local' e' h' shows = record {
     built = subst (λ ms. AreBuilt g ms covered after) (sym after_line)
-        (line_built g (modules_of es) i covered counts after (counted i) kept.built
-        (λ m some. subst (λ k. IsWritten g k → IsWritten g (module_with_line i k)) (the_same m some) grows) are now);
-    none = λ gone. kept.none (some_gone (module_with_line i) (modules_of es) (sym after_line ∙ gone));
+        (line_built g (modules_of es) i covered counts after (counts_with_line i) kept.built
+        (λ m some. subst (λ k. IsModuleInLimits g k → IsModuleInLimits g (module_with_line i k))
+        (the_same m some) grows) are now);
     last_module = λ m' some.
         let r = mapped_some (module_with_line i) (last_module es) m'
         (sym (ap last_of after_line ∙ last_changed (module_with_line i) (modules_of es)) ∙ some) in
-        subst (λ k. IsLastModule g k (Some i) names local' e' h') (sym r.2)
-        (subst (λ k. IsLastModule g (module_with_line i k) (Some i) names local' e' h') (the_same r.0 r.1)
+        subst (λ k. IsLastModule g k (Some i) local' e' h') (sym r.2)
+        (subst (λ k. IsLastModule g (module_with_line i k) (Some i) local' e' h') (the_same r.0 r.1)
         (shows (kept.last_module good.module_lines good.last)));
   }
 
 -- ---- what is kept of the last module after one more line
 
-module _ (g : Setting) (m : ModuleLines) (last : Option CertificateLine) (names : List (List ℕ)) (local : List ℕ)
-    (e h : List Cell) (p : IsLastModule g m last names local e h) where
+module _ (g : Setting) (m : ModuleLines) (last : Option CertificateLine) (local : List ℕ)
+    (e h : List Cell) (p : IsLastModule g m last local e h) where
   more_stars : (c : Cell) (f : CertificateLine → List BorderLine) (i : CertificateLine) (old new : List Cell) →
       list_any (same_cell c) old ≡ list_any (is_starred_line_at c) (flat_map f m.lines)
       → list_any (same_cell c) new ≡ (list_any (same_cell c) old || list_any (is_starred_line_at c) (f i)) →
@@ -256,7 +254,7 @@ module _ (g : Setting) (m : ModuleLines) (last : Option CertificateLine) (names 
       ≡ (list_any (same_cell c) e || list_any (is_starred_line_at c) (edge_in i)))
       → ((c : Cell) → list_any (same_cell c) h'
       ≡ (list_any (same_cell c) h || list_any (is_starred_line_at c) (halo_in i)))
-      → IsLastModule g (module_with_line i m) (Some i) names (local ++ wires_made_local g.circuit i) e' h'
+      → IsLastModule g (module_with_line i m) (Some i) (local ++ wires_made_local g.circuit i) e' h'
   present_line i wires e' h' stars halo_stars = grind (arith, common_steps, last_pushed, more_stars)
 
 -- ---- each kind of line
@@ -264,8 +262,8 @@ module _ (g : Setting) (m : ModuleLines) (last : Option CertificateLine) (names 
 -- what a line does to the last module
 pub record DoesLine (g : Setting) (es : List CertificateLine) (i : CertificateLine) (m : ModuleLines) : Type 0 where
   pub line : add_line (modules_of es) i ≡ change_last (module_with_line i) (modules_of es)
-  pub counts : (n : ModuleLines) → counts_of (module_with_line i n) ≡ counted i (counts_of n)
-  pub grows : IsWritten g m → IsWritten g (module_with_line i m)
+  pub counts : (n : ModuleLines) → counts_of (module_with_line i n) ≡ counts_with_line i (counts_of n)
+  pub grows : IsModuleInLimits g m → IsModuleInLimits g (module_with_line i m)
   pub wires : known g.circuit (module_with_line i m) ≡ known g.circuit m ++ wires_made_local g.circuit i
   pub new : are_new_and_distinct (known g.circuit m) (wires_made_local g.circuit i) ≡ true
 
@@ -335,58 +333,50 @@ does_line g es (Stop s) inner good is = record {
 
 module _ (g : Setting) (es : List CertificateLine) (covered : Board) (counts : List Counts)
     (last : Option CertificateLine)
-    (names : List (List ℕ)) (local : List ℕ) (e h : List Cell)
-    (kept : IsTracked g es covered counts last names local e h)
+    (local : List ℕ) (e h : List Cell)
+    (kept : IsTracked g es covered counts last local e h)
     (i : CertificateLine) (inner : IsBodyLine i) (good : IsGoodLine g es i) where
   the_line : DoesLine g es i good.module_lines
   the_line = does_line g es i inner good
-      (last_good g es covered counts last names local e h kept good.module_lines good.last)
+      (last_good g es covered counts last local e h kept good.module_lines good.last)
 
-  pub kept_inner : (after : List Counts) → after ≡ change_last (counted i) counts → (e' h' : List Cell)
+  pub kept_inner : (after : List Counts) → after ≡ change_last (counts_with_line i) counts → (e' h' : List Cell)
       → ((c : Cell) → list_any (same_cell c) e'
       ≡ (list_any (same_cell c) e || list_any (is_starred_line_at c) (edge_in i)))
       → ((c : Cell) → list_any (same_cell c) h'
       ≡ (list_any (same_cell c) h || list_any (is_starred_line_at c) (halo_in i)))
-      → IsTracked g (es ++ i ∷ []) covered after (Some i) names (local ++ wires_made_local g.circuit i) e' h'
+      → IsTracked g (es ++ i ∷ []) covered after (Some i) (local ++ wires_made_local g.circuit i) e' h'
   kept_inner after now e' h' stars halo_stars =
-      stored_line g es covered counts last names local e h kept i good the_line.line the_line.counts after now
+      stored_line g es covered counts last local e h kept i good the_line.line the_line.counts after now
       the_line.grows (local ++ wires_made_local g.circuit i) e' h'
-      (λ p. present_line g good.module_lines last names local e h p i the_line.wires e' h' stars halo_stars)
+      (λ p. present_line g good.module_lines last local e h p i the_line.wires e' h' stars halo_stars)
 
 -- ---- one more module
 
-pushed_some : {X : Type 0} (xs : List X) (x : X) → xs ++ x ∷ [] ≡ [] → ⊥
-pushed_some [] x e = cc
-pushed_some (y ∷ xs) x e = cc
-
 module _ (g : Setting) (es : List CertificateLine) (covered new_covered : Board) (counts : List Counts)
     (last : Option CertificateLine)
-    (names new_names : List (List ℕ)) (local : List ℕ) (e h : List Cell)
-    (kept : IsTracked g es covered counts last names local e h)
+    (local : List ℕ) (e h : List Cell)
+    (kept : IsTracked g es covered counts last local e h)
     (b : Box2) where
   begun_lines : ModuleLines
   begun_lines = record { area = b; lines = [] }
 
-  begun_present : ((f : List ℕ → Bool) →
-      list_any f new_names ≡ list_any (λ p. in_box b p.cell.x p.cell.y && f p.name) g.ports) →
-      IsLastModule g begun_lines None new_names [] [] []
+  begun_present : IsLastModule g begun_lines None [] [] []
   unfolding begun_lines last_of
-  begun_present ports = grind (arith, common_steps)
+  begun_present = grind (arith, common_steps)
 
   pub kept_module : module_fault g (modules_of es) (last_module es) b ≡ None →
       ((x y : ℤ) → live new_covered x y ≡ (live covered x y || in_area b.x b.y b.w b.h x y)) →
       HasSameSize covered new_covered
-      → ((f : List ℕ → Bool) → list_any f new_names ≡ list_any (λ p. in_box b p.cell.x p.cell.y && f p.name) g.ports)
       → IsTracked g (es ++ Module b ∷ []) new_covered
-      (counts ++ record { area = b; cuts = 0; gates = 0; edges = 0; halos = 0; stops = 0 } ∷ []) None new_names [] [] []
+      (counts ++ record { area = b; cuts = 0; gates = 0; edges = 0; halos = 0; stops = 0 } ∷ []) None [] [] []
   unfolding begun_lines add_line
-  kept_module good after size ports =
+  kept_module good after size =
       let more : modules_of (es ++ Module b ∷ []) ≡ modules_of es ++ begun_lines ∷ [] = modules_push es (Module b) in
       record {
         built = subst (λ ms. AreBuilt g ms new_covered (counts ++ counts_of begun_lines ∷ [])) (sym more)
             (module_built g (modules_of es) b covered new_covered counts kept.built
             (good_module g (modules_of es) (last_module es) b good) after size);
-        none = λ gone. absurd (pushed_some (modules_of es) begun_lines (sym more ∙ gone));
         last_module = grind (arith, common_steps, some_is, begun_lines, last_pushed, begun_present);
       }
 
@@ -401,17 +391,6 @@ border_is_inner (Edge e) border = border
 border_is_inner (Halo e) border = border
 border_is_inner (Stop s) border = border
 
--- such a line cuts no wire
-pub border_is_uncut : (c : Circuit) (i : CertificateLine) (cut : Option CutWire) → IsEdgeHaloOrStopLine i →
-    IsCutWire c i cut
-border_is_uncut c (Module b) cut border = absurd border
-border_is_uncut c (Cut n) cut border = absurd border
-border_is_uncut c (Use k) cut border = absurd border
-border_is_uncut c (Keep k) cut border = absurd border
-border_is_uncut c (Edge e) cut border = tt
-border_is_uncut c (Halo e) cut border = tt
-border_is_uncut c (Stop s) cut border = tt
-
 border_wires : (c : Circuit) (i : CertificateLine) → IsEdgeHaloOrStopLine i → wires_made_local c i ≡ []
 border_wires c (Module b) border = absurd border
 border_wires c (Cut n) border = absurd border
@@ -423,78 +402,71 @@ border_wires c (Stop s) border = refl
 
 -- ---- with the wires of all modules
 
+none_last : (es : List CertificateLine) (m : ModuleLines) → es ≡ [] → last_module es ≡ Some m → ⊥
+unfolding last_of modules_of
+none_last es m none last = no_last m (ap last_module (sym none) ∙ last)
+
 pub with_none : (g : Setting) (covered : Board) → covered.width ≡ g.size.w → covered.height ≡ g.size.h →
-    ((x y : ℤ) → live covered x y ≡ false) → (e h : List Cell) → (slots : List (Option CutWire)) →
-    slots ≡ replicate 64 None → IsTrackedWith g [] covered [] (last_body_line []) [] [] [] e h slots
+    ((x y : ℤ) → live covered x y ≡ false) → (e h : List Cell) → (key : LineKey) → key ≡ key_or_first None →
+    IsTrackedWith g [] covered [] (last_body_line []) key [] [] e h
 unfolding modules_of last_of
-with_none g covered w high dead e h slots none = grind (arith, common_steps, kept_none, no_names)
+with_none g covered w high dead e h key first = grind (arith, common_steps, kept_none, nothing_inner)
 
 module _ (g : Setting) (es : List CertificateLine) (covered : Board) (counts : List Counts)
     (last : Option CertificateLine)
-    (names : List (List ℕ)) (earlier : List (List ℕ)) (local : List ℕ) (e h : List Cell)
-    (slots : List (Option CutWire))
-    (was : IsTrackedWith g es covered counts last names earlier local e h slots) where
+    (key : LineKey) (earlier : List (List ℕ)) (local : List ℕ) (e h : List Cell)
+    (was : IsTrackedWith g es covered counts last key earlier local e h) where
   pub with_inner : (i : CertificateLine) → IsBodyLine i → (good : IsGoodLine g es i) → (after : List Counts) →
-      after ≡ change_last (counted i) counts → (e' h' : List Cell)
+      after ≡ change_last (counts_with_line i) counts → (e' h' : List Cell)
       → ((c : Cell) → list_any (same_cell c) e'
       ≡ (list_any (same_cell c) e || list_any (is_starred_line_at c) (edge_in i)))
       → ((c : Cell) → list_any (same_cell c) h'
       ≡ (list_any (same_cell c) h || list_any (is_starred_line_at c) (halo_in i)))
-      → IsTrackedWith g (es ++ i ∷ []) covered after (last_body_line (es ++ i ∷ [])) names earlier
-      (local ++ wires_made_local g.circuit i) e' h' slots
+      → IsTrackedWith g (es ++ i ∷ []) covered after (last_body_line (es ++ i ∷ [])) (key_of i) earlier
+      (local ++ wires_made_local g.circuit i) e' h'
   with_inner i inner good after now e' h' stars halo_stars =
       let line = does_line g es i inner good
-      (last_good g es covered counts last names local e h was.kept good.module_lines good.last) in
-      subst (λ l.
-      IsTrackedWith g (es ++ i ∷ []) covered after l names earlier (local ++ wires_made_local g.circuit i) e' h' slots)
+      (last_good g es covered counts last local e h was.kept good.module_lines good.last) in
+      subst (λ l. IsTrackedWith g (es ++ i ∷ []) covered after l (key_of i) earlier
+      (local ++ wires_made_local g.circuit i) e' h')
       (sym (inner_pushed es i inner)) (record {
-        kept = kept_inner g es covered counts last names local e h was.kept i inner good after now e' h' stars
-            halo_stars;
+        kept = kept_inner g es covered counts last local e h was.kept i inner good after now e' h' stars halo_stars;
         wires = subst (λ ms. AreLocalWiresOfModules g.circuit ms earlier (local ++ wires_made_local g.circuit i))
             (sym (modules_push es i ∙ line.line))
             (wires_more g.circuit (module_with_line i) (modules_of es) good.module_lines earlier local
             (wires_made_local g.circuit i) good.last line.wires was.wires);
-        local_names = still_local g.circuit local (wires_made_local g.circuit i) slots was.local_names;
+        begun = still_begun es i was.begun (λ none. absurd (none_last es good.module_lines none good.last));
+        key_is = key_pushed es i;
       })
 
   pub with_border : (i : CertificateLine) → IsEdgeHaloOrStopLine i → (good : IsGoodLine g es i) →
       (after : List Counts) →
-      after ≡ change_last (counted i) counts → (e' h' : List Cell)
+      after ≡ change_last (counts_with_line i) counts → (e' h' : List Cell)
       → ((c : Cell) → list_any (same_cell c) e'
       ≡ (list_any (same_cell c) e || list_any (is_starred_line_at c) (edge_in i)))
       → ((c : Cell) → list_any (same_cell c) h'
       ≡ (list_any (same_cell c) h || list_any (is_starred_line_at c) (halo_in i)))
-      → IsTrackedWith g (es ++ i ∷ []) covered after (last_body_line (es ++ i ∷ [])) names earlier local e' h' slots
+      → IsTrackedWith g (es ++ i ∷ []) covered after (last_body_line (es ++ i ∷ [])) (key_of i) earlier local e' h'
   with_border i border good after now e' h' stars halo_stars =
-      subst (λ l. IsTrackedWith g (es ++ i ∷ []) covered after
-      (last_body_line (es ++ i ∷ [])) names earlier l e' h' slots)
+      subst (λ l. IsTrackedWith g (es ++ i ∷ []) covered after (last_body_line (es ++ i ∷ []))
+      (key_of i) earlier l e' h')
       (ap (λ w. local ++ w) (border_wires g.circuit i border) ∙ append-nil local)
       (with_inner i (border_is_inner i border) good after now e' h' stars halo_stars)
 
-  pub with_module : (new_covered : Board) (new_names : List (List ℕ)) (b : Box2) →
+  pub with_module : (new_covered : Board) (b : Box2) →
       module_fault g (modules_of es) (last_module es) b ≡ None →
       ((x y : ℤ) → live new_covered x y ≡ (live covered x y || in_area b.x b.y b.w b.h x y)) →
       HasSameSize covered new_covered
-      → ((f : List ℕ → Bool) → list_any f new_names ≡ list_any (λ p. in_box b p.cell.x p.cell.y && f p.name) g.ports)
-      → (slots' : List (Option CutWire)) → slots' ≡ replicate 64 None
       → IsTrackedWith g (es ++ Module b ∷ []) new_covered
       (counts ++ record { area = b; cuts = 0; gates = 0; edges = 0; halos = 0; stops = 0 } ∷ [])
-      (last_body_line (es ++ Module b ∷ [])) new_names (earlier ++ local ∷ []) [] [] [] slots'
+      (last_body_line (es ++ Module b ∷ [])) (key_or_first None) (earlier ++ local ∷ []) [] [] []
   unfolding add_line
-  with_module new_covered new_names b good after size ports slots' none =
+  with_module new_covered b good after size =
       subst (λ l. IsTrackedWith g (es ++ Module b ∷ []) new_covered
-      (counts ++ record { area = b; cuts = 0; gates = 0; edges = 0; halos = 0; stops = 0 } ∷ []) l new_names
-      (earlier ++ local ∷ []) [] [] [] slots') (sym (module_pushed es b)) (record {
-        kept = kept_module g es covered new_covered counts last names new_names local e h was.kept b good after
-            size ports;
+      (counts ++ record { area = b; cuts = 0; gates = 0; edges = 0; halos = 0; stops = 0 } ∷ []) l (key_or_first None)
+      (earlier ++ local ∷ []) [] [] []) (sym (module_pushed es b)) (record {
+        kept = kept_module g es covered new_covered counts last local e h was.kept b good after size;
         wires = grind (arith, common_steps, modules_push, wires_begun);
-        local_names = no_names g.circuit [] slots' none;
+        begun = still_begun es (Module b) was.begun (λ none. refl);
+        key_is = module_key es b;
       })
-
--- the same with other names in slots
-pub with_names : (g : Setting) (es : List CertificateLine) (covered : Board) (counts : List Counts)
-    (last : Option CertificateLine) (names : List (List ℕ)) (earlier : List (List ℕ)) (local : List ℕ) (e h : List Cell)
-    (slots slots' : List (Option CutWire)) →
-    IsTrackedWith g es covered counts last names earlier local e h slots → AreLocalNames g.circuit local slots' →
-    IsTrackedWith g es covered counts last names earlier local e h slots'
-with_names g es covered counts last names earlier local e h slots slots' was named = grind (arith, common_steps)

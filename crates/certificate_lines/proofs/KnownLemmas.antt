@@ -1,9 +1,9 @@
 -- Wires that are local, and wires that become local.
-use Rattle.lemmas.proofs.Common.{[], ◌&&◌, ◌++◌, ◌+◌, ◌<◌, ◌==◌, ◌||◌, ◌∙◌, ◌∷◌, ◌≡◌, Bool, List, ap, append-nil, ap₂}
-use Rattle.lemmas.proofs.Common.{arith, drop, false, get_or, length, nat_eq, not, refl, suc, sym, take, true, zero, ℕ}
-use Rattle.lemmas.proofs.Common.{common_steps, list_any, list_any-append, take-suc, eq_sym}
-use Rattle.module_box.specs.Locals.{is_among}
-use Rattle.certificate_lines.specs.Rules.{are_new_and_distinct}
+use Rattle.certificate_lines.proofs.Imports.{Bool, List, [], ap, append-nil, ap₂, are_new_and_distinct, arith}
+use Rattle.certificate_lines.proofs.Imports.{common_steps, drop, false, get_or, is_among, length, list_any}
+use Rattle.certificate_lines.proofs.Imports.{list_any-append, nat_eq, not, refl, suc, sym, take, take-suc, true, zero}
+use Rattle.certificate_lines.proofs.Imports.{ℕ, ◌&&◌, ◌++◌, ◌+◌, ◌<◌, ◌==◌, ◌||◌, ◌∙◌, ◌∷◌, ◌≡◌}
+use Rattle.lemmas.proofs.Common.{eq_sym}
 
 pub among : (ws : List ℕ) (w : ℕ) → list_any (nat_eq w) ws ≡ is_among ws w
 among [] w = refl

@@ -1,34 +1,19 @@
 -- The wires that modules lack of the edge lines beside them, and the local wires of each module
-use Rattle.lemmas.proofs.Common.{[], ◌++◌, ◌+◌, ◌<◌, ◌||◌, ◌∙◌, ◌∷◌, ◌≡◌, ◌≤◌, Bool, List, Some, ap, ap₂, arith, drop}
-use Rattle.lemmas.proofs.Common.{false, filter, flat_map, get_or, inr, length, map, nat_lt, option_map, refl, slice_get}
-use Rattle.lemmas.proofs.Common.{subst, suc, sym, true, zero, ℕ, ℤ, and_from, common_steps, cond-false, cond-true}
-use Rattle.lemmas.proofs.Common.{get_or_from_slice_get, length-map, length_push, list_any, map-append, same_from_push}
-use Rattle.lemmas.proofs.Common.{slice_get-map}
-use Rattle.circuit.specs.Meaning.{Circuit}
-use Rattle.module_box.specs.Boxes.{in_box, in_halo}
-use Rattle.module_box.specs.declared.boxes.Box2.{Box2}
-use Rattle.module_box.specs.Tiling.{IsInside, rectangle_of}
-use Rattle.module_box.proofs.BoxCells.{in_box_nats}
-use Rattle.bbm_rule.proofs.Spans.{span_from}
-use Rattle.certificate_lines.specs.BuilderView.{AreSound, AreLocalWiresOfModules, lacks_edge_wire}
-use Rattle.certificate_lines.specs.Entries.{ModuleLines, Setting, change_last, counts_of, edge_in, edges, known}
-use Rattle.certificate_lines.specs.Entries.{last_of, modules_of}
-use Rattle.certificate_lines.specs.ModuleParts.{AreInBox, inner}
-use Rattle.certificate_lines.specs.Modules.{IsModule}
-use Rattle.certificate_lines.specs.Rules.{whole}
-use Rattle.certificate_lines.specs.Versions.{edge_lines_beside, is_nonlocal_signal, lacks_edge_wire_beside}
-use Rattle.certificate_lines.specs.declared.certificate_line.BorderLine.{BorderLine}
-use Rattle.certificate_lines.specs.declared.certificate_line.Counts.{Counts}
-use Rattle.certificate_lines.specs.declared.certificate_line.CertificateLine.{CertificateLine}
-use Rattle.certificate_lines.specs.declared.certificate_line.CertificateLine.TheVariants.{Module, Cut, Use, Keep, Edge}
-use Rattle.certificate_lines.specs.declared.certificate_line.CertificateLine.TheVariants.{Halo, Stop}
-use Rattle.certificate_lines.proofs.AnyLines.{any_filter, any_flat}
-use Rattle.certificate_lines.proofs.LinesLeft.{line_here}
-use Rattle.certificate_lines.proofs.FarLines.{own_lines}
-use Rattle.certificate_lines.proofs.InList.{placed}
-use Rattle.certificate_lines.proofs.LineOrder.{In}
+use Rattle.certificate_lines.proofs.Imports.{AreGoodModulesSoFar, AreInBox, AreLocalWiresOfModules, BeginWithModule}
+use Rattle.certificate_lines.proofs.Imports.{Bool, BorderLine, Box2, CertificateLine, Circuit, IsInside, IsModule}
+use Rattle.certificate_lines.proofs.Imports.{IsTrue, List, ModuleLines, Setting, Some, [], and_from, and_parts, ap, ap₂}
+use Rattle.certificate_lines.proofs.Imports.{arith, change_last, common_steps, cond-false, cond-true, edge_in, edges}
+use Rattle.certificate_lines.proofs.Imports.{false, filter, flat_map, in_box, in_box_nats, in_halo, is_nonlocal_signal}
+use Rattle.certificate_lines.proofs.Imports.{known, lacks_edge_wire, last_of, length, length-map, length_push, list_any}
+use Rattle.certificate_lines.proofs.Imports.{map, map-append, modules_of, nat_lt, rectangle_of, refl, slice_get}
+use Rattle.certificate_lines.proofs.Imports.{slice_get-get_or, span_from, subst, suc, sym, true, whole, zero, ℕ, ℤ}
+use Rattle.certificate_lines.proofs.Imports.{◌++◌, ◌+◌, ◌<◌, ◌||◌, ◌∙◌, ◌∷◌, ◌≡◌, ◌≤◌}
+use Rattle.lemmas.proofs.Common.{same_from_push}
+use Rattle.bbm_rule.specs.Boxes.{in_ring}
+use Rattle.certificate_lines.specs.Versions.{edge_lines_beside, lacks_edge_wire_beside}
+use Rattle.certificate_lines.proofs.FlatParts.{flat_all}
 use Rattle.certificate_lines.proofs.Lists.{some_is}
-use Rattle.certificate_lines.proofs.ModuleSplit.{split_module, split_other}
+use Rattle.certificate_lines.proofs.ModuleSplit.{edges_of_lines}
 
 -- ---- tests of two lists
 
@@ -59,10 +44,6 @@ any_swap f [] ys = sym (none_any ys)
 any_swap f (x ∷ xs) ys = ap (λ b. list_any (λ y. f x y) ys || b) (any_swap f xs ys)
     ∙ sym (any_either (λ y. f x y) (λ y. list_any (λ z. f z y) xs) ys)
 
-any_of_flat : {A X : Type 0} (keep test : A → Bool) (f : X → List A) (xs : List X) →
-    list_any (λ x. list_any test (filter keep (f x))) xs ≡ list_any test (filter keep (flat_map f xs))
-any_of_flat keep test f xs = grind (arith, common_steps, any_same, any_filter, any_flat)
-
 -- ---- some module lacks a wire
 
 module _ (g : Setting) (ms : List ModuleLines) where
@@ -75,17 +56,14 @@ module _ (g : Setting) (ms : List ModuleLines) where
   unfolding edge_lines_beside
   short_beside area short = cond-false _ _ _ short
 
-  pub lacked : nat_lt 1 g.size.steps ≡ true →
-      list_any (λ n. list_any (lacks_edge_wire g.circuit (edges n)) ms) ms ≡ lacks_edge_wire_beside g ms
+  pub lacked : (es : List BorderLine) → es ≡ flat_map edges ms → nat_lt 1 g.size.steps ≡ true →
+      list_any (lacks_edge_wire g.circuit es) ms ≡ lacks_edge_wire_beside g ms
   unfolding lacks_edge_wire_beside
-  lacked long =
-      any_swap (λ n m. lacks_edge_wire g.circuit (edges n) m) ms ms
-      ∙ any_same (λ m. list_any (λ n. lacks_edge_wire g.circuit (edges n) m) ms)
+  lacked es are long =
+      ap (λ ds. list_any (lacks_edge_wire g.circuit ds) ms) are
+      ∙ any_same (lacks_edge_wire g.circuit (flat_map edges ms))
       (λ m. list_any (λ e. is_nonlocal_signal g.circuit (known g.circuit m) e.signal) (edge_lines_beside g ms m.area))
-      ms (λ m.
-      any_of_flat (λ e. in_halo m.area e.cell.x e.cell.y)
-      (λ e. is_nonlocal_signal g.circuit (known g.circuit m) e.signal) edges ms
-      ∙ ap (list_any (λ e. is_nonlocal_signal g.circuit (known g.circuit m) e.signal)) (long_beside m.area long))
+      ms (λ m. ap (list_any (λ e. is_nonlocal_signal g.circuit (known g.circuit m) e.signal)) (long_beside m.area long))
 
   pub none_lacked : nat_lt 1 g.size.steps ≡ false → false ≡ lacks_edge_wire_beside g ms
   unfolding lacks_edge_wire_beside
@@ -152,14 +130,6 @@ module _ (c : Circuit) (ms : List ModuleLines) (earlier : List (List ℕ)) (loca
       let n : k + 1 ≡ length earlier = omega (arith, one, both, same, lt, le) in
       wires_at ∙ ap (slice_get (earlier ++ local ∷ [])) n ∙ at_end earlier local
 
--- the box of a module, by its counts
-pub area_counted : (ms : List ModuleLines) (counts : List Counts) (k : ℕ) (m : ModuleLines) (of : Counts) →
-    counts ≡ map counts_of ms → slice_get ms k ≡ Some m → of ≡ get_or counts k of → of.area ≡ m.area
-area_counted ms counts k m of are at is =
-    let there : slice_get (map counts_of ms) k ≡ Some (counts_of m) =
-    slice_get-map counts_of ms k ∙ ap (option_map counts_of) at in
-    grind (arith, common_steps, get_or_from_slice_get)
-
 -- ---- boxes in the rectangle
 
 -- a cell of a box is a cell of the rectangle that has the box
@@ -168,43 +138,17 @@ pub in_rectangle : (w h : ℕ) (b : Box2) (x y : ℤ) → IsInside w h b → in_
 unfolding in_box
 in_rectangle w h b x y inside here = grind (arith, common_steps, in_box_nats, and_from, span_from)
 
--- ---- a module that is read
+-- ---- the edge lines of all modules
 
-in_rest : (es : List CertificateLine) (place : ℕ) (m : ModuleLines) → In m (modules_of (drop place es)) →
-    In m (modules_of es)
-unfolding In
-in_rest es zero m i = i
-in_rest [] (suc n) m i = i
-in_rest (Module b ∷ es) (suc n) m i = subst (In m) (sym (split_module b es)) (inr (in_rest es n m i))
-in_rest (Cut name ∷ es) (suc n) m i = subst (In m) (sym (split_other (Cut name) es refl)) (in_rest es n m i)
-in_rest (Use k ∷ es) (suc n) m i = subst (In m) (sym (split_other (Use k) es refl)) (in_rest es n m i)
-in_rest (Keep k ∷ es) (suc n) m i = subst (In m) (sym (split_other (Keep k) es refl)) (in_rest es n m i)
-in_rest (Edge e ∷ es) (suc n) m i = subst (In m) (sym (split_other (Edge e) es refl)) (in_rest es n m i)
-in_rest (Halo e ∷ es) (suc n) m i = subst (In m) (sym (split_other (Halo e) es refl)) (in_rest es n m i)
-in_rest (Stop s ∷ es) (suc n) m i = subst (In m) (sym (split_other (Stop s) es refl)) (in_rest es n m i)
+edge_inside : (g : Setting) (m : ModuleLines) → IsModule g m → AreInBox (whole g.size) (edges m)
+unfolding in_ring
+edge_inside g m good k d lt = grind (arith, common_steps, and_parts, in_rectangle)
 
--- it is a good module
-line_module : (g : Setting) (es : List CertificateLine) (place : ℕ) (area : Box2) → AreSound g (modules_of es) →
-    place < length es → Module area ≡ get_or es place (Module area) →
-    IsModule g (record { area = area; lines = inner (drop (place + 1) es) })
-unfolding In
-line_module g es place area sound lt at =
-    let m : ModuleLines = record { area = area; lines = inner (drop (place + 1) es) } in
-    let here : In m (modules_of (drop place es)) =
-    grind (arith, common_steps, line_here, split_module) in
-    let p = placed m (modules_of es) (in_rest es place m here) in
-    (sound.each p.0 m p.1).good
-
-module _ (g : Setting) (es : List CertificateLine) (place : ℕ) (area : Box2) (sound : AreSound g (modules_of es))
-    (lt : place < length es) (at : Module area ≡ get_or es place (Module area)) where
-  -- its edge lines are for cells of its box
-  pub lines_inside : AreInBox area (flat_map edge_in (inner (drop (place + 1) es)))
-  lines_inside = own_lines g (record { area = area; lines = inner (drop (place + 1) es) })
-      (line_module g es place area sound lt at)
-
-  -- and of the rectangle
-  pub lines_on_layout : AreInBox (whole g.size) (flat_map edge_in (inner (drop (place + 1) es)))
-  lines_on_layout k d lower =
-      let e = get_or (flat_map edge_in (inner (drop (place + 1) es))) k d in
-      in_rectangle g.size.w g.size.h area e.cell.x e.cell.y (line_module g es place area sound lt at).inside
-      (lines_inside k d lower)
+-- they are for cells of the rectangle
+pub lines_on_layout : (g : Setting) (es : List CertificateLine) → AreGoodModulesSoFar g (modules_of es) →
+    BeginWithModule es →
+    AreInBox (whole g.size) (flat_map edge_in es)
+lines_on_layout g es sound begun =
+    subst (AreInBox (whole g.size)) (sym (edges_of_lines es begun))
+    (flat_all (λ (e : BorderLine). IsTrue (in_box (whole g.size) e.cell.x e.cell.y)) edges (IsModule g) (edge_inside g)
+    (modules_of es) (λ k d lt. (sound.each k _ (slice_get-get_or (modules_of es) k d lt)).good))

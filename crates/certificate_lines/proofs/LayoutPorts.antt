@@ -1,18 +1,14 @@
 -- The ports of a layout by their cells, and its parts, which lie inside it
-use Rattle.lemmas.proofs.Common.{[], ◌++◌, ◌<◌, ◌||◌, ◌∙◌, ◌∷◌, ◌≡◌, Bool, List, None, Option, Some, ap, arith, false}
-use Rattle.lemmas.proofs.Common.{get_or, if◌then◌else◌, length, not, refl, slice_get, subst, suc, sym, true, zero, ℕ, ℤ}
-use Rattle.lemmas.proofs.Common.{and_parts, common_steps, list_all, list_all-append, list_all-map}
-use Rattle.bbm_rule.specs.Plane.{is_at}
-use Rattle.bbm_rule.specs.declared.block.Cell.{Cell}
+use Rattle.certificate_lines.proofs.Imports.{AreOnBoard, Bool, Cell, LayoutHeader, List, None, Option, Port, Some, []}
+use Rattle.certificate_lines.proofs.Imports.{and_parts, ap, arith, code_if, common_steps, false, get_or, if◌then◌else◌}
+use Rattle.certificate_lines.proofs.Imports.{is_at, length, list_all, list_all-append, not, port_at, refl, slice_get}
+use Rattle.certificate_lines.proofs.Imports.{subst, suc, sym, true, zero, ℕ, ℤ, ◌++◌, ◌<◌, ◌||◌, ◌∙◌, ◌∷◌, ◌≡◌}
+use Rattle.lemmas.proofs.Common.{list_all-map}
 use Rattle.pattern.specs.Layout.{Pattern, in_layout, parts_of}
-use Rattle.pattern.specs.declared.layout_line.Port.{Port}
-use Rattle.pattern.specs.declared.layout_line.LayoutHeader.{LayoutHeader}
 use Rattle.pattern.specs.Lines.{AreGoodAfter, cell_fault, is_inside, is_taken}
 use Rattle.pattern.specs.declared.layout_line.LayoutLine.{LayoutLine}
-use Rattle.section_text.specs.Codes.{code_if}
-use Rattle.certificate_lines.specs.PortTables.{port_at, AreOnBoard}
-use Rattle.certificate_lines.proofs.Lists.{some_is}
 use Rattle.section_text.specs.declared.code.RefusalCode.TheVariants.{TakenCell}
+use Rattle.certificate_lines.proofs.Lists.{some_is}
 
 -- ---- ports by their cells
 

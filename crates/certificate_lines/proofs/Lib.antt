@@ -4,7 +4,6 @@ pub mod BorderText
 pub mod BoxPlaces
 pub mod BuiltLemmas
 pub mod CountLemmas
-pub mod FarLines
 pub mod FlatParts
 pub mod Growing
 pub mod InList
@@ -18,7 +17,6 @@ pub mod LineOrder
 pub mod LinesLeft
 pub mod Lists
 pub mod LocalLemmas
-pub mod LocalNames
 pub mod ModuleBoxes
 pub mod ModuleLemmas
 pub mod ModulePushes
@@ -34,3 +32,4 @@ pub mod TableLemmas
 pub mod AllLiveCells
 pub mod UsedLemmas
 mod WireBounds
+pub mod Imports

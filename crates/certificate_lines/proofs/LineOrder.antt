@@ -1,12 +1,12 @@
 -- Lines in their order
-use Rattle.lemmas.proofs.Common.{[], ◌++◌, ◌∙◌, ◌∷◌, ◌≡◌, ◌≢◌, ◌⊎◌, Bool, Equal, Greater, Less, List, Ordering, ap, ap₂}
-use Rattle.lemmas.proofs.Common.{arith, false, filter, flat_map, if◌then◌else◌, inl, inr, is_lt, refl, subst, sym, true}
-use Rattle.lemmas.proofs.Common.{IsTotalOrder, cases_Bool, common_steps, cond-false, cond-true, nat_cmp_total, on_total}
-use Rattle.lemmas.proofs.Common.{ordering_reverse, then_total}
-use Rattle.module_box.proofs.Rising.{cell_total}
+use Rattle.certificate_lines.proofs.Imports.{Bool, BorderLine, Equal, Greater, IsTotalOrder, Less, List, Ordering, []}
+use Rattle.certificate_lines.proofs.Imports.{ap, ap₂, arith, cases_Bool, cell_total, common_steps, cond-false}
+use Rattle.certificate_lines.proofs.Imports.{cond-true, false, filter, flat_map, if◌then◌else◌, inl, inr, is_lt}
+use Rattle.certificate_lines.proofs.Imports.{nat_cmp_total, on_total, refl, subst, sym, then_total, true, ◌++◌, ◌∙◌}
+use Rattle.certificate_lines.proofs.Imports.{◌∷◌, ◌≡◌, ◌⊎◌}
+use Rattle.lemmas.proofs.Common.{◌≢◌, ordering_reverse}
 use Rattle.certificate_lines.specs.Orders.{time_rank}
-use Rattle.certificate_lines.specs.Versions.{border_line_cmp, insert_border_line, in_order}
-use Rattle.certificate_lines.specs.declared.certificate_line.BorderLine.{BorderLine}
+use Rattle.certificate_lines.specs.Versions.{border_line_cmp, insert_border_line, sorted_border_lines}
 use Rattle.certificate_lines.proofs.Pairs.{Each, Pairs, each_map}
 
 -- ---- which elements a list has
@@ -187,26 +187,26 @@ put_rises d (e ∷ es) p n = elim (cases_Bool (is_lt (border_line_cmp d e))) [
 
 -- ---- lines in order
 
-pub in_ordered : (x : BorderLine) (ds : List BorderLine) → In x (in_order ds) → In x ds
-unfolding in_order In
+pub in_ordered : (x : BorderLine) (ds : List BorderLine) → In x (sorted_border_lines ds) → In x ds
+unfolding sorted_border_lines In
 in_ordered x [] i = i
-in_ordered x (d ∷ ds) i = elim (in_put x d (in_order ds) i) [
+in_ordered x (d ∷ ds) i = elim (in_put x d (sorted_border_lines ds) i) [
   | inl same ↦ inl same
   | inr later ↦ inr (in_ordered x ds later)
 ]
 
-pub ordered_in : (x : BorderLine) (ds : List BorderLine) → In x ds → In x (in_order ds)
-unfolding in_order In
+pub ordered_in : (x : BorderLine) (ds : List BorderLine) → In x ds → In x (sorted_border_lines ds)
+unfolding sorted_border_lines In
 ordered_in x [] i = i
-ordered_in x (d ∷ ds) (inl same) = put_in x d (in_order ds) (inl same)
-ordered_in x (d ∷ ds) (inr later) = put_in x d (in_order ds) (inr (ordered_in x ds later))
+ordered_in x (d ∷ ds) (inl same) = put_in x d (sorted_border_lines ds) (inl same)
+ordered_in x (d ∷ ds) (inr later) = put_in x d (sorted_border_lines ds) (inr (ordered_in x ds later))
 
-pub ordered_rises : (ds : List BorderLine) → AreDistinct ds → Rises (in_order ds)
-unfolding in_order Pairs
+pub ordered_rises : (ds : List BorderLine) → AreDistinct ds → Rises (sorted_border_lines ds)
+unfolding sorted_border_lines Pairs
 ordered_rises [] p = tt
 ordered_rises (d ∷ ds) p =
-    put_rises d (in_order ds) (ordered_rises ds p.1)
-    (in_each (λ e. border_line_cmp d e ≢ Equal) (in_order ds)
+    put_rises d (sorted_border_lines ds) (ordered_rises ds p.1)
+    (in_each (λ e. border_line_cmp d e ≢ Equal) (sorted_border_lines ds)
     (λ e i. each_in (λ e. border_line_cmp d e ≢ Equal) ds p.0 e (in_ordered e ds i)))
 
 -- ---- lists that rise and have the same elements are the same

@@ -1,9 +1,7 @@
 -- The lines from a place on
-use Rattle.lemmas.proofs.Common.{[], ◌+◌, ◌-◌, ◌<◌, ◌∷◌, ◌≡◌, List, arith, drop, get_or, length, refl, take, ℕ}
-use Rattle.lemmas.proofs.Common.{common_steps, length-drop, take_all}
-use Rattle.std.proofs.Math.Seq.{drop-cons}
-use Rattle.certificate_lines.specs.Entries.{modules_of}
-use Rattle.certificate_lines.specs.declared.certificate_line.CertificateLine.{CertificateLine}
+use Rattle.certificate_lines.proofs.Imports.{CertificateLine, List, [], arith, common_steps, drop, drop-cons, get_or}
+use Rattle.certificate_lines.proofs.Imports.{length, modules_of, refl, take, take_all, ℕ, ◌+◌, ◌-◌, ◌<◌, ◌∷◌, ◌≡◌}
+use Rattle.lemmas.proofs.Common.{length-drop}
 
 -- the part of a list from a place on
 pub rest_of_lines : {X : Type 0} (xs : List X) (n : ℕ) → take (length xs - n) (drop n xs) ≡ drop n xs

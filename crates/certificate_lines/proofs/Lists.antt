@@ -1,6 +1,6 @@
 -- Elements of lists, by their places.
-use Rattle.lemmas.proofs.Common.{[], ◌++◌, ◌∷◌, ◌≡◌, Bool, List, Option, Some, inl, inr, refl}
-use Rattle.lemmas.proofs.Common.{slice_get, suc, true, zero, ℕ, list_any, or_cases, or_right}
+use Rattle.certificate_lines.proofs.Imports.{Bool, List, Option, Some, [], inl, inr, list_any, or_cases, or_right, refl}
+use Rattle.certificate_lines.proofs.Imports.{slice_get, suc, true, zero, ℕ, ◌++◌, ◌∷◌, ◌≡◌}
 
 pub some_is : {A : Type 0} (a b : A) → ◌≡◌ {A = Option A} (Some a) (Some b) → a ≡ b
 some_is a b e = cc

@@ -1,14 +1,13 @@
 -- The lines of local wires after one more cut, and after one more used gate.
-use Rattle.lemmas.proofs.Common.{[], ◌++◌, ◌<◌, ◌==◌, ◌∙◌, ◌∷◌, ◌≡◌, List, Option, Some, ap, append-nil}
-use Rattle.lemmas.proofs.Common.{append_assoc, arith, false, inl, inr, length, not, refl, slice_get, subst, suc}
-use Rattle.lemmas.proofs.Common.{sym, take, true, true≢false, zero, ℕ, All-get_or, and_parts, common_steps}
-use Rattle.lemmas.proofs.Common.{get_or_from_slice_get, length_push, list_all, option_map_or, slice_get_within}
-use Rattle.lemmas.proofs.Common.{take-append_seam, eq_itself, false_from_not, none_at}
+use Rattle.certificate_lines.proofs.Imports.{AreLocalLines, Gate, List, Netlist, Option, Some, [], and_parts, ap}
+use Rattle.certificate_lines.proofs.Imports.{append-nil, append_assoc, are_new_and_distinct, arith, common_steps, false}
+use Rattle.certificate_lines.proofs.Imports.{false_from_not, get_or_from_slice_get, inl, inr, is_among, length}
+use Rattle.certificate_lines.proofs.Imports.{length_push, list_all, local_wires, none_at, not, pushed, refl, slice_get}
+use Rattle.certificate_lines.proofs.Imports.{slice_get_within, subst, suc, sym, take, true, true≢false, zero, ℕ, ◌++◌}
+use Rattle.certificate_lines.proofs.Imports.{◌<◌, ◌==◌, ◌∙◌, ◌∷◌, ◌≡◌}
+use Rattle.lemmas.proofs.Common.{All-get_or, option_map_or, take-append_seam, eq_itself}
 use Rattle.std.specs.List.{All}
-use Rattle.circuit.specs.Meaning.{Gate, Netlist}
-use Rattle.module_box.specs.Locals.{AreDifferent, AreLocalLines, IsKnown, is_among, local_wires, outs_of}
-use Rattle.module_box.proofs.Rising.{pushed}
-use Rattle.certificate_lines.specs.Rules.{are_new_and_distinct}
+use Rattle.module_box.specs.Locals.{AreDistinct, UsesOnlyKnownWires, outs_of}
 use Rattle.certificate_lines.proofs.Growing.{flat_push}
 use Rattle.certificate_lines.proofs.Lists.{any_at}
 
@@ -20,15 +19,15 @@ among_at ws i w e = any_at (λ v. v == w) ws i w e (eq_itself w)
 not_there : (ws : List ℕ) (i w : ℕ) → is_among ws w ≡ false → slice_get ws i ≡ Some w → ⊥
 not_there ws i w none e = true≢false (sym (among_at ws i w e) ∙ none)
 
-pub different_push : (ws : List ℕ) (w : ℕ) → AreDifferent ws → is_among ws w ≡ false → AreDifferent (ws ++ w ∷ [])
+pub different_push : (ws : List ℕ) (w : ℕ) → AreDistinct ws → is_among ws w ≡ false → AreDistinct (ws ++ w ∷ [])
 different_push ws w different none i j v e f = grind (arith, common_steps, pushed, not_there)
 
-pub different_append : (ys xs : List ℕ) → AreDifferent xs → are_new_and_distinct xs ys ≡ true → AreDifferent (xs ++ ys)
+pub different_append : (ys xs : List ℕ) → AreDistinct xs → are_new_and_distinct xs ys ≡ true → AreDistinct (xs ++ ys)
 unfolding are_new_and_distinct
-different_append [] xs different new = subst AreDifferent (sym (append-nil xs)) different
+different_append [] xs different new = subst AreDistinct (sym (append-nil xs)) different
 different_append (y ∷ ys) xs different new =
     let both = and_parts (not (is_among xs y)) (are_new_and_distinct (xs ++ y ∷ []) ys) new in
-    subst AreDifferent (append_assoc xs (y ∷ []) ys)
+    subst AreDistinct (append_assoc xs (y ∷ []) ys)
     (different_append ys (xs ++ y ∷ []) (different_push xs y different (false_from_not (is_among xs y) both.0)) both.1)
 
 -- ---- cuts
@@ -67,10 +66,11 @@ module _ (n : Netlist) (cw gs : List ℕ) (k : ℕ) (g : Gate) (l : AreLocalLine
     ]
   ]
 
-  last_known : IsKnown n (local_wires n cw gs) k
+  last_known : UsesOnlyKnownWires n (local_wires n cw gs) k
   last_known = grind (arith, common_steps)
 
-  knows : (i a : ℕ) → slice_get (gs ++ k ∷ []) i ≡ Some a → IsKnown n (local_wires n cw (take i (gs ++ k ∷ []))) a
+  knows : (i a : ℕ) → slice_get (gs ++ k ∷ []) i ≡ Some a →
+      UsesOnlyKnownWires n (local_wires n cw (take i (gs ++ k ∷ []))) a
   knows i a e = grind (arith, common_steps, pushed, take_within, slice_get_within, take-append_seam, last_known)
 
   pub local_use : length gs < 64 → AreLocalLines n cw (gs ++ k ∷ [])

@@ -1,18 +1,13 @@
 -- A module after one more line.
-use Rattle.lemmas.proofs.Common.{[], ◌&&◌, ◌++◌, ◌<◌, ◌||◌, ◌∙◌, ◌∷◌, ◌≡◌, Bool, Equal, Greater, Less, List, Ordering}
-use Rattle.lemmas.proofs.Common.{ap₂, false, refl, true, ℕ, All-append, All-nil, All-push, and_parts, list_all}
-use Rattle.lemmas.proofs.Common.{list_all-append, ordering_then, nat_less}
+use Rattle.certificate_lines.proofs.Imports.{All-append, All-nil, AreInOrder, Bool, BorderLine, CertificateLine, Cut}
+use Rattle.certificate_lines.proofs.Imports.{Edge, Equal, Greater, Halo, Keep, Less, List, Module, Ordering, Stop}
+use Rattle.certificate_lines.proofs.Imports.{StopLine, Use, [], and_parts, ap₂, cell_cmp, cell_of, edge_in, false}
+use Rattle.certificate_lines.proofs.Imports.{halo_in, is_cut, keep_in, line_cmp, list_all, list_all-append, may_follow}
+use Rattle.certificate_lines.proofs.Imports.{may_precede, rank_of, refl, sort_number_of, stop_in, true, use_in, ℕ, ◌&&◌}
+use Rattle.certificate_lines.proofs.Imports.{◌++◌, ◌<◌, ◌||◌, ◌∙◌, ◌∷◌, ◌≡◌}
+use Rattle.lemmas.proofs.Common.{All-push, ordering_then, nat_less}
 use Rattle.std.specs.List.{All, flat_map}
 use Rattle.std.specs.Ordering.{nat_cmp, is_lt}
-use Rattle.module_box.specs.Moments.{cell_cmp}
-use Rattle.certificate_lines.specs.Entries.{use_in, keep_in, edge_in, halo_in, stop_in}
-use Rattle.certificate_lines.specs.Orders.{AreInOrder, rank_of, number_of, cell_of, line_cmp, is_cut, may_precede}
-use Rattle.certificate_lines.specs.Orders.{may_follow}
-use Rattle.certificate_lines.specs.declared.certificate_line.BorderLine.{BorderLine}
-use Rattle.certificate_lines.specs.declared.certificate_line.CertificateLine.{CertificateLine}
-use Rattle.certificate_lines.specs.declared.certificate_line.StopLine.{StopLine}
-use Rattle.certificate_lines.specs.declared.certificate_line.CertificateLine.TheVariants.{Module, Cut, Use, Keep, Edge}
-use Rattle.certificate_lines.specs.declared.certificate_line.CertificateLine.TheVariants.{Halo, Stop}
 
 -- ---- what comes before a line
 
@@ -190,7 +185,7 @@ or_false true h = refl
 or_false false h = h
 
 use_then_use : (g k : ℕ) → may_precede (Use g) (Use k) ≡ true → g < k
-unfolding may_precede line_cmp rank_of number_of cell_of is_cut cell_cmp
+unfolding may_precede line_cmp rank_of sort_number_of cell_of is_cut cell_cmp
 use_then_use g k h = nat_less g k (less_by (nat_cmp g k) (or_false _ h))
 
 pub lower_uses : (k : ℕ) (j : CertificateLine) → may_precede j (Use k) ≡ true → All (λ g. g < k) (use_in j)

@@ -1,37 +1,30 @@
 -- A module that is good stays so after one more line that is good.
-use Rattle.lemmas.proofs.Common.{[], ◌%◌, ◌&&◌, ◌++◌, ◌<◌, ◌||◌, ◌∙◌, ◌∷◌, ◌≡◌, All, Bool, IfSome, IsTrue, List}
-use Rattle.lemmas.proofs.Common.{None, Option, Some, ap, ap₂, arith, false, flat_map, length, nat_le, nat_lt, not}
-use Rattle.lemmas.proofs.Common.{option_to_list, refl, slice_get, subst, sym, true, ℕ, All-nil, and_parts, common_steps}
-use Rattle.lemmas.proofs.Common.{eqb-true, length_push, list_all, list_any, nat_tests, at_most_by_test, below_by_test}
-use Rattle.lemmas.proofs.Common.{false_from_not, true_from_not}
-use Rattle.section_text.specs.Codes.{code_if, or_else}
-use Rattle.circuit.specs.Meaning.{Circuit, Gate, wire_of}
-use Rattle.module_box.specs.Boxes.{in_box}
-use Rattle.module_box.specs.Locals.{AreLocalLines, is_among, local_wires}
-use Rattle.module_box.specs.declared.boxes.Box2.{Box2}
-use Rattle.certificate_lines.specs.Entries.{Setting, ModuleLines, module_with_line, cut_in, use_in, keep_in, edge_in}
-use Rattle.certificate_lines.specs.Entries.{halo_in, stop_in, cuts, gates, keeps, edges, halos, stops, cut_wires, known}
-use Rattle.certificate_lines.specs.Orders.{may_follow}
-use Rattle.certificate_lines.specs.Rules.{is_odd, is_local, is_star, are_new_and_distinct, cut_fault, cut_wire_fault}
-use Rattle.certificate_lines.specs.Rules.{used_gate_fault, use_fault, keep_line_code, is_starred_line_at}
+use Rattle.certificate_lines.proofs.Imports.{All, All-nil, AreLocalLines, Bool, BorderLine, Box2, CertificateLine}
+use Rattle.certificate_lines.proofs.Imports.{Circuit, Cut, Edge, Gate, Halo, IfSome, IsModule, IsModuleInLimits, IsTrue}
+use Rattle.certificate_lines.proofs.Imports.{Keep, List, ModuleLines, None, Option, RefusalCode, Setting, Some}
+use Rattle.certificate_lines.proofs.Imports.{StarsExcludeLaterTimes, Stop, StopLine, Use, [], and_parts, ap, ap₂}
+use Rattle.certificate_lines.proofs.Imports.{are_new_and_distinct, arith, code_if, common_steps, cut_in, cuts, edge_in}
+use Rattle.certificate_lines.proofs.Imports.{edges, eqb-true, false, false_from_not, flat_map, gates, halo_in, in_box}
+use Rattle.certificate_lines.proofs.Imports.{is_among, is_local, is_odd, is_star, is_starred_line_at, keep_in, known}
+use Rattle.certificate_lines.proofs.Imports.{length, length_push, list_all, list_any, local_wires, may_follow}
+use Rattle.certificate_lines.proofs.Imports.{module_with_line, nat_lt, nat_tests, not, option_to_list, or_else, refl}
+use Rattle.certificate_lines.proofs.Imports.{slice_get, stop_in, subst, sym, true, true_from_not, use_in, wire_of, ℕ}
+use Rattle.certificate_lines.proofs.Imports.{◌%◌, ◌&&◌, ◌++◌, ◌<◌, ◌||◌, ◌∙◌, ◌∷◌, ◌≡◌}
+use Rattle.lemmas.proofs.Common.{nat_le, at_most_by_test, below_by_test}
+use Rattle.certificate_lines.specs.Entries.{keeps, halos, stops, cut_wires}
+use Rattle.certificate_lines.specs.Rules.{cut_fault, cut_wire_fault, used_gate_fault, use_fault, keep_line_code}
 use Rattle.certificate_lines.specs.Rules.{is_line_time_allowed, is_edge_place_and_time, is_halo_place_and_time}
 use Rattle.certificate_lines.specs.Rules.{is_stop_place_and_time, signal_fault, wire_fault, border_line_code}
-use Rattle.certificate_lines.specs.Rules.{border_count, border_limit, edge_line_code, halo_line_code, stop_line_code}
-use Rattle.certificate_lines.specs.Modules.{StarsExcludeLaterTimes, IsEdge, IsHalo, IsKeep, IsModule, IsStop}
-use Rattle.certificate_lines.specs.BuilderView.{IsWritten}
-use Rattle.certificate_lines.specs.declared.certificate_line.BorderLine.{BorderLine}
-use Rattle.certificate_lines.specs.declared.certificate_line.CertificateLine.{CertificateLine}
-use Rattle.certificate_lines.specs.declared.certificate_line.StopLine.{StopLine}
-use Rattle.certificate_lines.specs.declared.certificate_line.CertificateLine.TheVariants.{Cut, Use, Keep, Edge, Halo}
-use Rattle.certificate_lines.specs.declared.certificate_line.CertificateLine.TheVariants.{Stop}
+use Rattle.certificate_lines.specs.Rules.{timed_line_count, timed_line_limit, edge_line_code, halo_line_code}
+use Rattle.certificate_lines.specs.Rules.{stop_line_code}
+use Rattle.certificate_lines.specs.Modules.{IsEdge, IsHalo, IsKeep, IsStop}
+use Rattle.section_text.specs.declared.code.RefusalCode.TheVariants.{DefinedTwice, NotLocal}
 use Rattle.certificate_lines.proofs.Growing.{flat_push, flat_same}
 use Rattle.certificate_lines.proofs.ModuleLemmas.{none_before, all_before, no_use_before_cut, no_keep_before_cut}
 use Rattle.certificate_lines.proofs.ModuleLemmas.{no_keep_before_use, no_edge_before_cut, no_halo_before_cut}
 use Rattle.certificate_lines.proofs.ModuleLemmas.{no_stop_before_cut, no_edge_before_use, no_halo_before_use}
 use Rattle.certificate_lines.proofs.ModuleLemmas.{no_stop_before_use, no_halo_before_edge, lower_uses, order_push}
 use Rattle.certificate_lines.proofs.LocalLemmas.{local_cut, local_use, local_more}
-use Rattle.section_text.specs.declared.code.RefusalCode.{RefusalCode}
-use Rattle.section_text.specs.declared.code.RefusalCode.TheVariants.{DefinedTwice, NotLocal}
 
 -- ---- tests that a line passed
 
@@ -164,7 +157,7 @@ module _ (g : Setting) (m : ModuleLines) (is : IsModule g m) (n : List ℕ)
     pub known_cut : known g.circuit more ≡ known g.circuit m ++ w ∷ []
     known_cut = grind (arith, common_steps, cut_wires_cut, gates_are, known_none)
 
-    pub cut_pushed : length (cuts m) < 12 → is_among (known g.circuit m) w ≡ false → IsWritten g more
+    pub cut_pushed : length (cuts m) < 12 → is_among (known g.circuit m) w ≡ false → IsModuleInLimits g more
     cut_pushed few new =
         let before : AreLocalLines g.circuit.netlist (cut_wires g.circuit m) [] =
         subst (AreLocalLines g.circuit.netlist (cut_wires g.circuit m)) no_gates is.local in
@@ -225,7 +218,7 @@ module _ (g : Setting) (m : ModuleLines) (k : ℕ) where
   known_use gate at = grind (arith, common_steps, cut_wires_use, gates_use, local_more)
 
   pub use_pushed : IsModule g m → may_follow m.lines (Use k) ≡ true → length (gates m) < 64 →
-      IsGoodUse g.circuit (known g.circuit m) k → IsWritten g used
+      IsGoodUse g.circuit (known g.circuit m) k → IsModuleInLimits g used
   use_pushed is follows few good =
       let edges_are : edges used ≡ [] =
       flat_same edge_in m.lines (Use k) refl ∙ none_before edge_in (Use k) (no_edge_before_use k) m.lines follows in
@@ -282,7 +275,7 @@ signal_good c local (Some name) e = local_by c local name (wire_of c name) refl 
 -- what the tests of an edge or halo line say
 pub record IsGoodBorder (c : Circuit) (count : ℕ) (local : List ℕ) (placed : Bool)
     (signal : Option (List ℕ)) : Type 0 where
-  pub few : count < border_limit
+  pub few : count < timed_line_limit
   pub place : placed ≡ true
   pub names : signal_fault c local signal ≡ None
 
@@ -354,8 +347,9 @@ keep_good g mine k e = grind (arith, common_steps, both_none, true_from_not, no_
 keeps_keep : (m : ModuleLines) (k : ℕ) → keeps (module_with_line (Keep k) m) ≡ keeps m ++ k ∷ []
 keeps_keep m k = flat_push keep_in m.lines (Keep k)
 
-pub keep_pushed : (g : Setting) (m : ModuleLines) → IsWritten g m → (k : ℕ) → may_follow m.lines (Keep k) ≡ true →
-    keep_line_code g.circuit (gates m) k ≡ None → IsWritten g (module_with_line (Keep k) m)
+pub keep_pushed : (g : Setting) (m : ModuleLines) → IsModuleInLimits g m → (k : ℕ) →
+    may_follow m.lines (Keep k) ≡ true →
+    keep_line_code g.circuit (gates m) k ≡ None → IsModuleInLimits g (module_with_line (Keep k) m)
 keep_pushed g m written k follows good =
     let is = written.good in
     let more = module_with_line (Keep k) m in
@@ -384,13 +378,14 @@ keep_pushed g m written k follows good =
 
 module _ (g : Setting) (m : ModuleLines) (is : IsModule g m) (e : BorderLine) where
   pub edge_pushed : may_follow m.lines (Edge e) ≡ true → edge_line_code g m e ≡ None →
-      IsWritten g (module_with_line (Edge e) m)
+      IsModuleInLimits g (module_with_line (Edge e) m)
   edge_pushed follows good =
       let more = module_with_line (Edge e) m in
-      let b = good_border g.circuit (border_count m) (known g.circuit m)
+      let b = good_border g.circuit (timed_line_count m) (known g.circuit m)
       (is_edge_place_and_time g.size m.area (list_any (is_starred_line_at e.cell) (edges m)) e) e.signal good in
       let here : IsEdge g m.area (known g.circuit m) e =
-      edge_good g m.area (known g.circuit m) (border_count m) (list_any (is_starred_line_at e.cell) (edges m)) e b in
+      edge_good g m.area (known g.circuit m) (timed_line_count m)
+      (list_any (is_starred_line_at e.cell) (edges m)) e b in
       let halos_are : halos more ≡ [] =
       flat_same halo_in m.lines (Edge e) refl ∙ none_before halo_in (Edge e) (no_halo_before_edge e) m.lines follows in
       let same = known_same g m (Edge e) refl refl in
@@ -417,13 +412,14 @@ module _ (g : Setting) (m : ModuleLines) (is : IsModule g m) (e : BorderLine) wh
       }
 
   pub halo_pushed : may_follow m.lines (Halo e) ≡ true → halo_line_code g m e ≡ None →
-      IsWritten g (module_with_line (Halo e) m)
+      IsModuleInLimits g (module_with_line (Halo e) m)
   halo_pushed follows good =
       let more = module_with_line (Halo e) m in
-      let b = good_border g.circuit (border_count m) (known g.circuit m)
+      let b = good_border g.circuit (timed_line_count m) (known g.circuit m)
       (is_halo_place_and_time g.size m.area (list_any (is_starred_line_at e.cell) (halos m)) e) e.signal good in
       let here : IsHalo g m.area (known g.circuit m) e =
-      halo_good g m.area (known g.circuit m) (border_count m) (list_any (is_starred_line_at e.cell) (halos m)) e b in
+      halo_good g m.area (known g.circuit m) (timed_line_count m)
+      (list_any (is_starred_line_at e.cell) (halos m)) e b in
       let edges_are : edges more ≡ edges m = flat_same edge_in m.lines (Halo e) refl in
       let same = known_same g m (Halo e) refl refl in
       let n = ap length (halos_halo m e) ∙ length_push (halos m) e in
@@ -450,12 +446,13 @@ module _ (g : Setting) (m : ModuleLines) (is : IsModule g m) (e : BorderLine) wh
 
 module _ (g : Setting) (m : ModuleLines) (is : IsModule g m) (s : StopLine) where
   pub stop_pushed : may_follow m.lines (Stop s) ≡ true → stop_line_code g m s ≡ None →
-      IsWritten g (module_with_line (Stop s) m)
+      IsModuleInLimits g (module_with_line (Stop s) m)
   stop_pushed follows good =
       let more = module_with_line (Stop s) m in
-      let b = good_border g.circuit (border_count m) (known g.circuit m) (is_stop_place_and_time g.size m.area s)
+      let b = good_border g.circuit (timed_line_count m) (known g.circuit m) (is_stop_place_and_time g.size m.area s)
       (Some s.wire) good in
-      let here : IsStop g m.area (known g.circuit m) s = stop_good g m.area (known g.circuit m) (border_count m) s b in
+      let here : IsStop g m.area (known g.circuit m) s =
+      stop_good g m.area (known g.circuit m) (timed_line_count m) s b in
       let edges_are : edges more ≡ edges m = flat_same edge_in m.lines (Stop s) refl in
       let halos_are : halos more ≡ halos m = flat_same halo_in m.lines (Stop s) refl in
       let same = known_same g m (Stop s) refl refl in

@@ -1,13 +1,12 @@
 -- The modules of lines, one after the other.
-use Rattle.lemmas.proofs.Common.{[], ◌++◌, ◌∙◌, ◌∷◌, ◌≡◌, Bool, List, ap, append-nil, append_assoc, arith, drop, false}
-use Rattle.lemmas.proofs.Common.{fold, length, refl, sym, true, common_steps}
-use Rattle.module_box.specs.declared.boxes.Box2.{Box2}
-use Rattle.certificate_lines.specs.Entries.{ModuleLines, add_line, change_last, module_with_line, modules_of}
-use Rattle.certificate_lines.specs.ModuleParts.{inner, is_module}
-use Rattle.certificate_lines.specs.declared.certificate_line.CertificateLine.{CertificateLine}
-use Rattle.certificate_lines.specs.declared.certificate_line.CertificateLine.TheVariants.{Module, Cut, Use, Keep, Edge}
-use Rattle.certificate_lines.specs.declared.certificate_line.CertificateLine.TheVariants.{Halo, Stop}
+use Rattle.certificate_lines.proofs.Imports.{BeginWithModule, Bool, Box2, CertificateLine, Cut, Edge, Halo, Keep, List}
+use Rattle.certificate_lines.proofs.Imports.{Module, ModuleLines, Stop, Use, [], add_line, ap, append-nil, append_assoc}
+use Rattle.certificate_lines.proofs.Imports.{ap₂, arith, body_lines, change_last, common_steps, drop, edge_in, edges}
+use Rattle.certificate_lines.proofs.Imports.{false, flat_map, is_module, length, module_with_line, modules_of, refl}
+use Rattle.certificate_lines.proofs.Imports.{sym, true, ◌++◌, ◌∙◌, ◌∷◌, ◌≡◌}
+use Rattle.lemmas.proofs.Common.{fold}
 use Rattle.certificate_lines.proofs.InnerLines.{inner_module, inner_other, nothing_inner}
+use Rattle.certificate_lines.proofs.LinesLeft.{nothing_left}
 
 -- the modules of further lines after some
 abbrev onward : List ModuleLines → List CertificateLine → List ModuleLines
@@ -77,18 +76,18 @@ unfolding modules_of add_line
 module_first b es = refl
 
 abbrev Extends : List CertificateLine → Type 0
-Extends es = (m : ModuleLines) → onward (m ∷ []) es ≡ extended m (inner es) ∷ modules_of es
+Extends es = (m : ModuleLines) → onward (m ∷ []) es ≡ extended m (body_lines es) ∷ modules_of es
 
 extends_more : (m : ModuleLines) (e : CertificateLine) (es : List CertificateLine) → is_module e ≡ false → Extends es →
-    onward (module_with_line e m ∷ []) es ≡ extended m (inner (e ∷ es)) ∷ modules_of (e ∷ es)
+    onward (module_with_line e m ∷ []) es ≡ extended m (body_lines (e ∷ es)) ∷ modules_of (e ∷ es)
 extends_more m e es o h = grind (arith, common_steps, append_assoc, inner_other, extended, other_first)
 
 extends_none : Extends []
-unfolding inner modules_of
+unfolding body_lines modules_of
 extends_none m = ap (λ xs. record m { lines = xs } ∷ []) (sym (append-nil m.lines))
 
 extends_step : (e : CertificateLine) (es : List CertificateLine) → Extends es → (m : ModuleLines) →
-    onward (add_line (m ∷ []) e) es ≡ extended m (inner (e ∷ es)) ∷ modules_of (e ∷ es)
+    onward (add_line (m ∷ []) e) es ≡ extended m (body_lines (e ∷ es)) ∷ modules_of (e ∷ es)
 unfolding add_line change_last
 extends_step (Module b) es h m =
     apart es (m ∷ []) (record { area = b; lines = [] }) ∙
@@ -109,7 +108,7 @@ extends (e ∷ es) m = extends_step e es (extends es) m
 
 -- the modules of lines from a module line on
 pub split_module : (b : Box2) (es : List CertificateLine) →
-    modules_of (Module b ∷ es) ≡ record { area = b; lines = inner es } ∷ modules_of es
+    modules_of (Module b ∷ es) ≡ record { area = b; lines = body_lines es } ∷ modules_of es
 split_module b es = module_first b es ∙ extends es (record { area = b; lines = [] })
 
 pub split_other : (e : CertificateLine) (es : List CertificateLine) → is_module e ≡ false →
@@ -126,13 +125,56 @@ no_module (Halo b) h = refl
 no_module (Stop s) h = refl
 
 after_first : (b : Bool) (e : CertificateLine) (es : List CertificateLine) → is_module e ≡ b →
-    modules_of (drop (length (inner es)) es) ≡ modules_of es →
-    modules_of (drop (length (inner (e ∷ es))) (e ∷ es)) ≡ modules_of (e ∷ es)
+    modules_of (drop (length (body_lines es)) es) ≡ modules_of es →
+    modules_of (drop (length (body_lines (e ∷ es))) (e ∷ es)) ≡ modules_of (e ∷ es)
 after_first true e es m h = ap (λ xs. modules_of (drop (length xs) (e ∷ es))) (inner_module e es m)
 after_first false e es m h =
     ap (λ xs. modules_of (drop (length xs) (e ∷ es))) (inner_other e es m) ∙ h ∙ sym (other_first e es m)
 
 -- the modules behind the lines of a module
-pub after_inner : (es : List CertificateLine) → modules_of (drop (length (inner es)) es) ≡ modules_of es
+pub after_inner : (es : List CertificateLine) → modules_of (drop (length (body_lines es)) es) ≡ modules_of es
 after_inner [] = ap (λ xs. modules_of (drop (length xs) [])) nothing_inner
 after_inner (e ∷ es) = after_first (is_module e) e es refl (after_inner es)
+
+-- ---- the edge lines of all modules
+
+edges_step : (b : Bool) (e : CertificateLine) (es : List CertificateLine) → is_module e ≡ b →
+    flat_map edge_in es ≡ flat_map edge_in (body_lines es) ++ flat_map edges (modules_of es) →
+    flat_map edge_in (e ∷ es) ≡ flat_map edge_in (body_lines (e ∷ es)) ++ flat_map edges (modules_of (e ∷ es))
+edges_step true (Module b) es m h =
+    h ∙ sym (ap₂ (λ xs ms. flat_map edge_in xs ++ flat_map edges ms) (inner_module (Module b) es m) (split_module b es))
+edges_step true (Cut n) es m h = absurd cc
+edges_step true (Use k) es m h = absurd cc
+edges_step true (Keep k) es m h = absurd cc
+edges_step true (Edge d) es m h = absurd cc
+edges_step true (Halo d) es m h = absurd cc
+edges_step true (Stop s) es m h = absurd cc
+edges_step false e es m h =
+    ap (λ ds. edge_in e ++ ds) h
+    ∙ sym (append_assoc (edge_in e) (flat_map edge_in (body_lines es)) (flat_map edges (modules_of es)))
+    ∙ sym (ap₂ (λ xs ms. flat_map edge_in xs ++ flat_map edges ms) (inner_other e es m) (split_other e es m))
+
+edges_from : (es : List CertificateLine) →
+    flat_map edge_in es ≡ flat_map edge_in (body_lines es) ++ flat_map edges (modules_of es)
+edges_from [] = sym (ap₂ (λ xs ms. flat_map edge_in xs ++ flat_map edges ms) nothing_inner nothing_left)
+edges_from (e ∷ es) = edges_step (is_module e) e es refl (edges_from es)
+
+-- the edge lines are those of the modules, if no line comes before the first `module` line
+pub edges_of_lines : (es : List CertificateLine) → BeginWithModule es →
+    flat_map edge_in es ≡ flat_map edges (modules_of es)
+edges_of_lines es begun = edges_from es ∙ ap (λ xs. flat_map edge_in xs ++ flat_map edges (modules_of es)) begun
+
+cons_begun : (b : Bool) (e i : CertificateLine) (es : List CertificateLine) → is_module e ≡ b →
+    body_lines (e ∷ es) ≡ [] →
+    body_lines ((e ∷ es) ++ i ∷ []) ≡ []
+cons_begun true e i es m h = inner_module e (es ++ i ∷ []) m
+cons_begun false e i es m h = absurd (cons_some e (body_lines es) (sym (inner_other e es m) ∙ h))
+  where
+    cons_some : (e : CertificateLine) (es : List CertificateLine) → e ∷ es ≡ [] → ⊥
+    cons_some e es h = cc
+
+-- that is kept by one line more
+pub still_begun : (es : List CertificateLine) (i : CertificateLine) → BeginWithModule es →
+    (es ≡ [] → is_module i ≡ true) → BeginWithModule (es ++ i ∷ [])
+still_begun [] i h first = inner_module i [] (first refl)
+still_begun (e ∷ es) i h first = cons_begun (is_module e) e i es refl h

@@ -1,25 +1,20 @@
 -- The modules beside the cell of an edge line, by the cells of its block at odd times
-use Rattle.lemmas.proofs.Common.{[], ◌%◌, ◌&&◌, ◌+ℤ◌, ◌-ℤ◌, ◌<◌, ◌||◌, ◌∙◌, ◌∷◌, ◌≡◌, ◌≤ℤ◌, ◌≤◌, ◌⊎◌, Bool, List, None}
-use Rattle.lemmas.proofs.Common.{Option, Some, ap, ap₂, arith, eq-eqb, false, inl, inr, length, ne_eqb, negsuc}
-use Rattle.lemmas.proofs.Common.{not, pos, refl, slice_get, suc, sym, true, zero, ℕ, ℤ, cases_Bool, common_steps}
-use Rattle.lemmas.proofs.Common.{cond-false, cond-true, eqb-false, eqb-true, false≢true, ints, list_any}
-use Rattle.lemmas.proofs.Common.{slice_get_within, and-false, mapped_from, or-false}
-use Rattle.bbm_rule.specs.Plane.{parity, partner}
+use Rattle.certificate_lines.proofs.Imports.{AreApart, AreOwners, Bool, BorderLine, Box2, Cell, Circuit, Counts, IsEven}
+use Rattle.certificate_lines.proofs.Imports.{List, ModuleLines, None, Option, Some, [], and-false, ap, ap₂, areas}
+use Rattle.certificate_lines.proofs.Imports.{arith, cases_Bool, common_steps, cond-false, cond-true, counts_of}
+use Rattle.certificate_lines.proofs.Imports.{does_neighbour_lack_wire, eqb-true, false, false≢true, in_box, in_box_nats}
+use Rattle.certificate_lines.proofs.Imports.{in_halo, inl, inr, ints, is_local_wire, is_nonlocal_signal}
+use Rattle.certificate_lines.proofs.Imports.{is_outside_and_nonlocal, known, lacks_edge_wire, list_any, map}
+use Rattle.certificate_lines.proofs.Imports.{mapped_from, ne_eqb, not, option_map, or-false, partner, pos, rectangle}
+use Rattle.certificate_lines.proofs.Imports.{rectangle_of, refl, slice_get, slice_get-map, suc, sym, true, zero, ℕ, ℤ}
+use Rattle.certificate_lines.proofs.Imports.{◌%◌, ◌&&◌, ◌<◌, ◌||◌, ◌∙◌, ◌∷◌, ◌≡◌, ◌≤◌, ◌⊎◌}
+use Rattle.lemmas.proofs.Common.{◌+ℤ◌, ◌-ℤ◌, ◌≤ℤ◌, eq-eqb, negsuc, eqb-false}
+use Rattle.bbm_rule.specs.Plane.{parity}
 use Rattle.bbm_rule.specs.Spans.{in_span}
-use Rattle.bbm_rule.specs.declared.block.Cell.{Cell}
 use Rattle.bbm_rule.proofs.Spans.{even_span}
-use Rattle.circuit.specs.Meaning.{Circuit}
-use Rattle.module_box.specs.Boxes.{in_box, in_halo, IsEven}
-use Rattle.module_box.specs.Tiling.{AreOwners, Owning, owner_of, rectangle, rectangle_of}
-use Rattle.module_box.specs.declared.boxes.Box2.{Box2}
-use Rattle.module_box.proofs.BoxCells.{in_box_nats}
-use Rattle.module_box.proofs.RingTests.{halo_read}
-use Rattle.certificate_lines.specs.BuilderView.{does_neighbour_lack_wire, is_outside_and_nonlocal}
-use Rattle.certificate_lines.specs.BuilderView.{is_nonlocal_in_neighbour, lacks_edge_wire}
-use Rattle.certificate_lines.specs.Entries.{ModuleLines, areas, known}
-use Rattle.certificate_lines.specs.Rules.{is_local_wire}
-use Rattle.certificate_lines.specs.Versions.{is_nonlocal_signal}
-use Rattle.certificate_lines.specs.declared.certificate_line.BorderLine.{BorderLine}
+use Rattle.module_box.specs.Tiling.{OwnersView, owner_of}
+use Rattle.bbm_rule.proofs.RingTests.{halo_read}
+use Rattle.certificate_lines.specs.BuilderView.{IsModuleWithCell, is_nonlocal_in_neighbour}
 use Rattle.certificate_lines.proofs.AnyLines.{any_filter}
 use Rattle.certificate_lines.proofs.LackedWires.{any_either, any_same, any_swap, none_any}
 use Rattle.certificate_lines.proofs.Lists.{some_is}
@@ -134,28 +129,41 @@ area_of [] k m at = absurd cc
 area_of (n ∷ ms) zero m at = ap (λ (z : ModuleLines). Some z.area) (some_is n m at)
 area_of (n ∷ ms) (suc k) m at = area_of ms k m at
 
-module _ (ms : List ModuleLines) (o : Owning) (good : AreOwners o (areas ms)) (x y : ℤ) where
-  owner_at : in_box (rectangle o) x y ≡ true →
-      (m : ModuleLines) × (slice_get ms (owner_of o x y) ≡ Some m) × (in_box m.area x y ≡ true)
-  owner_at inside = grind (arith, common_steps, mapped_from)
+-- by a table
+module _ (ms : List ModuleLines) (o : OwnersView) (good : AreOwners o (areas ms)) (c : Cell) where
+  pub cell_owned : in_box (rectangle o) c.x c.y ≡ true → IsModuleWithCell ms c (Some (owner_of o c.x c.y))
+  cell_owned inside = grind (arith, common_steps, mapped_from)
 
-  pub owner_within : in_box (rectangle o) x y ≡ true → owner_of o x y < length ms
-  owner_within inside = let m = owner_at inside in slice_get_within ms (owner_of o x y) m.0 m.1
+  pub cell_outside : in_box (rectangle o) c.x c.y ≡ false → IsModuleWithCell ms c None
+  cell_outside outside k m at = elim (cases_Bool (in_box m.area c.x c.y)) [
+    | inl here ↦ absurd (false≢true (sym outside ∙ good.tile.inside c.x c.y k m.area (area_of ms k m at) here))
+    | inr there ↦ there
+  ]
 
-  pub asked_owner : (q : ModuleLines → Bool) (r : Bool) → in_box (rectangle o) x y ≡ true →
-      ((m : ModuleLines) → slice_get ms (owner_of o x y) ≡ Some m → r ≡ q m) →
-      r ≡ list_any (λ (m : ModuleLines). in_box m.area x y && q m) ms
-  asked_owner q r inside answer =
-      let m = owner_at inside in
+-- by the counts of the modules
+module _ (ms : List ModuleLines) (counts : List Counts) (are : counts ≡ map counts_of ms) (c : Cell) where
+  pub cell_found : (k : ℕ) (of : Counts) → slice_get counts k ≡ Some of → in_box of.area c.x c.y ≡ true →
+      IsModuleWithCell ms c (Some k)
+  cell_found k of at here = grind (arith, common_steps, mapped_from)
+
+  pub cell_missing : ((k : ℕ) (of : Counts) → slice_get counts k ≡ Some of → in_box of.area c.x c.y ≡ false) →
+      IsModuleWithCell ms c None
+  cell_missing none k m at =
+      none k (counts_of m) (ap (λ cs. slice_get cs k) are ∙ slice_get-map counts_of ms k ∙ ap (option_map counts_of) at)
+
+module _ (ms : List ModuleLines) (apart : AreApart (areas ms)) (c : Cell) (q : ModuleLines → Bool) where
+  pub asked_owner : (k : ℕ) (r : Bool) → IsModuleWithCell ms c (Some k) →
+      ((m : ModuleLines) → slice_get ms k ≡ Some m → r ≡ q m) →
+      r ≡ list_any (λ (m : ModuleLines). in_box m.area c.x c.y && q m) ms
+  asked_owner k r m answer =
       answer m.0 m.1
-      ∙ sym (one_passes (λ (n : ModuleLines). in_box n.area x y) q ms (owner_of o x y) m.0 m.1 m.2
-      (λ i n at here. grind (arith, common_steps, area_of)))
+      ∙ sym (one_passes (λ (n : ModuleLines). in_box n.area c.x c.y) q ms k m.0 m.1 m.2
+      (λ i n at here. apart.once c.x c.y i k n.area m.0.area (area_of ms i n at) (area_of ms k m.0 m.1) here m.2))
 
-  pub asked_none : (q : ModuleLines → Bool) → in_box (rectangle o) x y ≡ false →
-      false ≡ list_any (λ (m : ModuleLines). in_box m.area x y && q m) ms
-  asked_none q outside =
-      sym (none_passes (λ (n : ModuleLines). in_box n.area x y) q ms
-      (λ i n at here. false≢true (sym outside ∙ good.tile.inside x y i n.area (area_of ms i n at) here)))
+  pub asked_none : IsModuleWithCell ms c None → false ≡ list_any (λ (m : ModuleLines). in_box m.area c.x c.y && q m) ms
+  asked_none none =
+      sym (none_passes (λ (n : ModuleLines). in_box n.area c.x c.y) q ms
+      (λ i n at here. false≢true (sym (none i n at) ∙ here)))
 
 -- ---- the modules that lack the wire of an edge line
 
@@ -187,7 +195,7 @@ module _ (c : Circuit) (ms : List ModuleLines) where
       is ∙ any_same (λ (m : ModuleLines). in_halo m.area e.cell.x e.cell.y && false) (λ m. false) ms
       (λ m. and-false (in_halo m.area e.cell.x e.cell.y)) ∙ none_any ms)
 
-  -- the same, line by line or module by module
+  -- some line has a neighbour that lacks its wire, exactly if some module lacks the wire of a line
   pub lacked_by_lines : (es : List BorderLine) →
       list_any (does_neighbour_lack_wire c ms) es ≡ list_any (lacks_edge_wire c es) ms
   lacked_by_lines es =

@@ -1,27 +1,21 @@
 -- Lines in order: what comes after the last comes after all.
-use Rattle.lemmas.proofs.Common.{[], ◌&&◌, ◌++◌, ◌∙◌, ◌∷◌, ◌≡◌, ◌⊎◌, Bool, Equal, Greater, Less, List, None, Ordering}
-use Rattle.lemmas.proofs.Common.{Some, ap, arith, false, get_or, inl, inr, is_lt, nat_cmp, refl, sym, true, ℕ}
-use Rattle.lemmas.proofs.Common.{IsTotalOrder, and-true, and_parts, common_steps, list_all, nat_cmp_total, on_total}
-use Rattle.lemmas.proofs.Common.{ordering_then, then_total, or-false, or_cases, or_right}
-use Rattle.module_box.proofs.Rising.{cell_total}
-use Rattle.module_box.specs.Moments.{cell_cmp}
-use Rattle.certificate_lines.specs.declared.certificate_line.CertificateLine.{CertificateLine}
-use Rattle.certificate_lines.specs.declared.certificate_line.CertificateLine.TheVariants.{Module, Cut, Use, Keep, Edge}
-use Rattle.certificate_lines.specs.declared.certificate_line.CertificateLine.TheVariants.{Halo, Stop}
-use Rattle.certificate_lines.specs.Entries.{edge_in, halo_in, last_of, stop_in}
-use Rattle.certificate_lines.specs.Orders.{AreInOrder, rank_of, number_of, cell_of, line_cmp, is_cut, may_precede}
-use Rattle.certificate_lines.specs.Orders.{may_follow}
-use Rattle.certificate_lines.specs.Versions.{border_line_cmp}
-use Rattle.certificate_lines.specs.declared.certificate_line.BorderLine.{BorderLine}
-use Rattle.certificate_lines.specs.declared.certificate_line.StopLine.{StopLine}
-use Rattle.certificate_lines.specs.BuilderView.{IsBodyLine, body_line_or_none, last_body_line}
+use Rattle.certificate_lines.proofs.Imports.{AreInOrder, Bool, Box2, CertificateLine, Cut, Edge, Equal, Greater, Halo}
+use Rattle.certificate_lines.proofs.Imports.{IsBodyLine, IsTotalOrder, Keep, Less, LineKey, List, Module, None, Option}
+use Rattle.certificate_lines.proofs.Imports.{Ordering, Some, Stop, Use, [], and_parts, ap, arith, cell_cmp, cell_of}
+use Rattle.certificate_lines.proofs.Imports.{cell_total, common_steps, false, inl, inr, is_cut, is_lt, key_of}
+use Rattle.certificate_lines.proofs.Imports.{key_or_first, last_body_line, last_of, line_cmp, list_all, may_follow}
+use Rattle.certificate_lines.proofs.Imports.{may_precede, nat_cmp_total, ne_eqb, on_total, or-false, or_cases, or_right}
+use Rattle.certificate_lines.proofs.Imports.{rank_of, refl, sort_number_of, sym, then_total, true, ℕ, ◌&&◌, ◌++◌, ◌==◌}
+use Rattle.certificate_lines.proofs.Imports.{◌∙◌, ◌∷◌, ◌≡◌, ◌⊎◌}
+use Rattle.lemmas.proofs.Common.{nat_cmp, and-true}
+use Rattle.std.specs.Cmp.{nat_cmp_is}
+use Rattle.certificate_lines.specs.BuilderView.{body_line_or_none}
 use Rattle.certificate_lines.proofs.Growing.{last_pushed}
-use Rattle.module_box.specs.declared.boxes.Box2.{Box2}
 
 line_total : IsTotalOrder line_cmp
 unfolding line_cmp
 line_total = then_total (on_total rank_of nat_cmp_total)
-    (then_total (on_total number_of nat_cmp_total) (on_total cell_of cell_total))
+    (then_total (on_total sort_number_of nat_cmp_total) (on_total cell_of cell_total))
 
 is_less : (o : Ordering) → is_lt o ≡ true → o ≡ Less
 is_less Less h = refl
@@ -45,11 +39,11 @@ cut_is (Stop s) h = absurd cc
 
 -- a cut stands where any other stands
 after_cut : (m n : List ℕ) (i : CertificateLine) → line_cmp (Cut m) i ≡ line_cmp (Cut n) i
-unfolding line_cmp rank_of number_of cell_of
+unfolding line_cmp rank_of sort_number_of cell_of
 after_cut m n i = refl
 
 before_cut : (m n : List ℕ) (i : CertificateLine) → line_cmp i (Cut m) ≡ line_cmp i (Cut n)
-unfolding line_cmp rank_of number_of cell_of
+unfolding line_cmp rank_of sort_number_of cell_of
 before_cut m n i = refl
 
 by_less : (i j : CertificateLine) → line_cmp i j ≡ Less → may_precede i j ≡ true
@@ -60,59 +54,27 @@ by_cuts : (i j : CertificateLine) → is_cut i ≡ true → is_cut j ≡ true �
 unfolding may_precede
 by_cuts i j h k = or_right _ (is_cut i && is_cut j) (rw (h, k) refl)
 
--- two edge lines are in order by time and cell
-pub edges_precede : (d e : BorderLine) → is_lt (border_line_cmp d e) ≡ may_precede (Edge d) (Edge e)
-unfolding may_precede line_cmp border_line_cmp rank_of number_of cell_of is_cut
-edges_precede d e = sym (or-false _)
+-- cuts have a rank of their own
+pub cut_rank : (i : CertificateLine) → is_cut i ≡ (rank_of i == 1)
+unfolding is_cut rank_of
+cut_rank (Module b) = refl
+cut_rank (Cut n) = refl
+cut_rank (Use k) = refl
+cut_rank (Keep k) = refl
+cut_rank (Edge e) = refl
+cut_rank (Halo e) = refl
+cut_rank (Stop s) = refl
 
--- so are two halo lines
-pub halos_precede : (d e : BorderLine) → is_lt (border_line_cmp d e) ≡ may_precede (Halo d) (Halo e)
-unfolding may_precede line_cmp border_line_cmp rank_of number_of cell_of is_cut
-halos_precede d e = sym (or-false _)
-
--- two equal keys leave the order to the other
-then_equal : (o : Ordering) → is_lt (ordering_then o Equal) ≡ is_lt o
-then_equal Less = refl
-then_equal Equal = refl
-then_equal Greater = refl
-
--- two lines that use gates are in order by the gates' numbers
-pub uses_precede : (j k : ℕ) → is_lt (nat_cmp j k) ≡ may_precede (Use j) (Use k)
-unfolding may_precede line_cmp rank_of number_of cell_of is_cut cell_cmp
-uses_precede j k = sym (then_equal (nat_cmp j k)) ∙ sym (or-false _)
-
--- and two stops
-pub stops_precede : (s t : StopLine) → is_lt (line_cmp (Stop s) (Stop t)) ≡ may_precede (Stop s) (Stop t)
-unfolding may_precede is_cut
-stops_precede s t = sym (or-false _)
-
--- ---- a line by its kind
-pub edge_is : (l : CertificateLine) (e : BorderLine) → e ∷ [] ≡ edge_in l → l ≡ Edge e
-edge_is (Module b) e h = absurd cc
-edge_is (Cut n) e h = absurd cc
-edge_is (Use k) e h = absurd cc
-edge_is (Keep k) e h = absurd cc
-edge_is (Edge d) e h = ap Edge (sym (ap (λ l. get_or l 0 e) h))
-edge_is (Halo d) e h = absurd cc
-edge_is (Stop s) e h = absurd cc
-
-pub halo_is : (l : CertificateLine) (e : BorderLine) → e ∷ [] ≡ halo_in l → l ≡ Halo e
-halo_is (Module b) e h = absurd cc
-halo_is (Cut n) e h = absurd cc
-halo_is (Use k) e h = absurd cc
-halo_is (Keep k) e h = absurd cc
-halo_is (Edge d) e h = absurd cc
-halo_is (Halo d) e h = ap Halo (sym (ap (λ l. get_or l 0 e) h))
-halo_is (Stop s) e h = absurd cc
-
-pub stop_is : (l : CertificateLine) (s : StopLine) → s ∷ [] ≡ stop_in l → l ≡ Stop s
-stop_is (Module b) s h = absurd cc
-stop_is (Cut n) s h = absurd cc
-stop_is (Use k) s h = absurd cc
-stop_is (Keep k) s h = absurd cc
-stop_is (Edge d) s h = absurd cc
-stop_is (Halo d) s h = absurd cc
-stop_is (Stop t) s h = ap Stop (sym (ap (λ l. get_or l 0 s) h))
+-- lines of one kind but cuts, and of one number or time, are in order by their cells
+pub cells_precede : (i j : CertificateLine) → rank_of i ≡ rank_of j → (rank_of i ≡ 1 → ⊥) →
+    sort_number_of i ≡ sort_number_of j → is_lt (cell_cmp (cell_of i) (cell_of j)) ≡ may_precede i j
+unfolding may_precede line_cmp
+cells_precede i j ranks uncut numbers =
+    let a : nat_cmp (rank_of i) (rank_of j) ≡ Equal = sym (nat_cmp_is (rank_of i) (rank_of j) Equal ranks) in
+    let b : nat_cmp (sort_number_of i) (sort_number_of j) ≡ Equal =
+    sym (nat_cmp_is (sort_number_of i) (sort_number_of j) Equal numbers) in
+    let c : is_cut i ≡ false = cut_rank i ∙ ne_eqb (rank_of i) 1 uncut in
+    rw (a, b, c) (sym (or-false _))
 
 -- how two lines may stand one before the other
 precede_parts : (i j : CertificateLine) → may_precede i j ≡ true →
@@ -192,7 +154,7 @@ follows_none (x ∷ lines) i none = absurd (has_last x lines none)
 
 -- a `module` line comes before every other line
 module_first : (b : Box2) (i : CertificateLine) → IsBodyLine i → may_precede (Module b) i ≡ true
-unfolding may_precede line_cmp rank_of number_of cell_of is_cut
+unfolding may_precede line_cmp rank_of sort_number_of cell_of is_cut
 module_first b (Module b') inner = absurd inner
 module_first b (Cut n) inner = refl
 module_first b (Use k) inner = refl
@@ -210,6 +172,25 @@ follows_inner lines (Keep k) i inner order last = follows_last lines (Keep k) i 
 follows_inner lines (Edge e) i inner order last = follows_last lines (Edge e) i order last
 follows_inner lines (Halo e) i inner order last = follows_last lines (Halo e) i order last
 follows_inner lines (Stop s) i inner order last = follows_last lines (Stop s) i order last
+
+-- whether a line may come after the others, by the key of the last
+pub follows_key : (o : Option CertificateLine) (k : LineKey) (i : CertificateLine) (b : Bool) → IsBodyLine i →
+    k ≡ key_or_first o → ((l : CertificateLine) → k ≡ key_of l → b ≡ may_precede l i) →
+    (lines : List CertificateLine) → AreInOrder lines → last_of lines ≡ body_line_or_none o → b ≡ may_follow lines i
+unfolding rank_of sort_number_of cell_of
+follows_key None k i b inner is may lines order last =
+    let l : CertificateLine = Module (record { x = 0; y = 0; w = 0; h = 0 }) in
+    may l is ∙ follows_inner lines l i inner order last
+follows_key (Some l) k i b inner is may lines order last = may l is ∙ follows_inner lines l i inner order last
+
+pub key_pushed : (entries : List CertificateLine) (i : CertificateLine) →
+    key_of i ≡ key_or_first (last_of (entries ++ i ∷ []))
+key_pushed entries i = ap key_or_first (sym (last_pushed entries i))
+
+pub module_key : (entries : List CertificateLine) (b : Box2) →
+    key_or_first None ≡ key_or_first (last_of (entries ++ Module b ∷ []))
+unfolding rank_of sort_number_of cell_of
+module_key entries b = key_pushed entries (Module b)
 
 -- the last line after one more line
 pub inner_pushed : (entries : List CertificateLine) (i : CertificateLine) → IsBodyLine i →

@@ -1,6 +1,7 @@
 -- Lists in which each element stands as it should to every later one.
-use Rattle.lemmas.proofs.Common.{[], ◌++◌, ◌<◌, ◌∙◌, ◌∷◌, ◌≡◌, All, List, Some, ap, arith, flat_map, map, option_map}
-use Rattle.lemmas.proofs.Common.{slice_get, subst, suc, zero, ℕ, All-tail, common_steps, slice_get-map}
+use Rattle.certificate_lines.proofs.Imports.{All, All-tail, List, Some, [], ap, arith, common_steps, flat_map, map}
+use Rattle.certificate_lines.proofs.Imports.{option_map, slice_get, slice_get-map, subst, suc, zero, ℕ, ◌++◌, ◌<◌, ◌∙◌}
+use Rattle.certificate_lines.proofs.Imports.{◌∷◌, ◌≡◌}
 use Rattle.std.specs.declared.cmp.Ordering.{Ordering}
 use Rattle.std.specs.declared.cmp.Ordering.TheVariants.{Less}
 use Rattle.module_box.specs.Schedules.{IsRising}

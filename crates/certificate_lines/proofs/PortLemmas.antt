@@ -1,14 +1,10 @@
 -- The cells of a box.
-use Rattle.lemmas.proofs.Common.{[], ◌∙◌, ◌∷◌, ◌≡◌, Bool, List, ap, inl, inr, true, ℤ, list_any, or_cases, or_left}
-use Rattle.lemmas.proofs.Common.{or_right}
-use Rattle.bbm_rule.specs.Plane.{is_at}
-use Rattle.bbm_rule.specs.declared.block.Cell.{Cell}
-use Rattle.bbm_rule.proofs.SameCells.{cell_same, cell_itself}
+use Rattle.certificate_lines.proofs.Imports.{Bool, Box2, Cell, List, [], ap, cell_itself, cell_same, in_box, inl, inr}
+use Rattle.certificate_lines.proofs.Imports.{is_at, list_any, or_cases, or_right, rectangle_cells, true, ℤ, ◌∙◌, ◌∷◌}
+use Rattle.certificate_lines.proofs.Imports.{◌≡◌}
+use Rattle.lemmas.proofs.Common.{or_left}
 use Rattle.pattern.specs.Layout.{in_cells}
 use Rattle.pattern.proofs.RectangleLemmas.{in_rectangle_cells}
-use Rattle.module_box.specs.Boxes.{in_box}
-use Rattle.module_box.specs.declared.boxes.Box2.{Box2}
-use Rattle.certificate_lines.specs.Rules.{box_cells}
 
 -- ---- the cells of a box
 
@@ -29,6 +25,6 @@ has_cell test (c ∷ cells) d h t = elim (or_cases (is_at c d.x d.y) (in_cells c
   | inr more ↦ or_right (test c) _ (has_cell test cells d more t)
 ]
 
-pub in_box_cells : (b : Box2) (x y : ℤ) → in_cells (box_cells b) x y ≡ in_box b x y
+pub in_box_cells : (b : Box2) (x y : ℤ) → in_cells (rectangle_cells b) x y ≡ in_box b x y
 unfolding in_box
-in_box_cells b x y = in_rectangle_cells (record { x = b.x; y = b.y; w = b.w; h = b.h }) x y
+in_box_cells b x y = in_rectangle_cells b x y

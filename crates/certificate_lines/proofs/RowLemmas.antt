@@ -1,19 +1,14 @@
 -- The numbers of the rows with a port, for the contracts of `entry_place` and `number_rows`.
-use Rattle.lemmas.proofs.Common.{[], ◌*◌, ◌+◌, ◌-◌, ◌<◌, ◌∙◌, ◌∷◌, ◌≡◌, ◌≤◌, ◌⊎◌, List, None, Option, Some, ap, ap₂}
-use Rattle.lemmas.proofs.Common.{arith, get_or, get_or-set_same, inl, inr, length, length-set, option_map, pos, refl}
-use Rattle.lemmas.proofs.Common.{replicate, set, slice_get, subst, suc, sym, true, zero, ℕ, ℤ, and_from, and_parts}
-use Rattle.lemmas.proofs.Common.{cases_lt, common_steps, get_or_default, length-replicate, slice_get_within}
-use Rattle.lemmas.proofs.Common.{unsigned_abs}
-use Rattle.bbm_rule.proofs.Spans.{span_from, span_parts}
-use Rattle.bbm_rule.specs.declared.block.Cell.{Cell}
-use Rattle.pattern.specs.declared.layout_line.Port.{Port}
-use Rattle.module_box.specs.Boxes.{in_box}
-use Rattle.module_box.specs.declared.boxes.Box2.{Box2}
+use Rattle.certificate_lines.proofs.Imports.{AreNumberedRows, Box2, Cell, List, None, Option, Port, Some, [], abs_from}
+use Rattle.certificate_lines.proofs.Imports.{and_from, and_parts, ap, ap₂, arith, common_steps, entry_place}
+use Rattle.certificate_lines.proofs.Imports.{entry_place_by_row_number, get_or, get_or-set_same, get_or_default, in_box}
+use Rattle.certificate_lines.proofs.Imports.{inl, inr, length, length-replicate, length-set, option_map, place_in, pos}
+use Rattle.certificate_lines.proofs.Imports.{rectangle_cells, refl, replicate, set, slice_get, slice_get_within}
+use Rattle.certificate_lines.proofs.Imports.{span_from, subst, suc, sym, true, unsigned_abs, zero, ℕ, ℤ, ◌*◌, ◌+◌, ◌-◌}
+use Rattle.certificate_lines.proofs.Imports.{◌<◌, ◌∙◌, ◌∷◌, ◌≡◌, ◌≤◌, ◌⊎◌}
+use Rattle.lemmas.proofs.Common.{cases_lt}
+use Rattle.bbm_rule.proofs.Spans.{span_parts}
 use Rattle.module_box.proofs.BoxCells.{abs_within, in_table}
-use Rattle.module_box.proofs.FromCorner.{abs_from}
-use Rattle.certificate_lines.specs.PortTables.{AreNumberedRows, entry_place, entry_place_by_row_number}
-use Rattle.module_box.specs.Places.{place_in}
-use Rattle.certificate_lines.specs.Rules.{box_cells}
 use Rattle.certificate_lines.proofs.BoxPlaces.{box_place}
 use Rattle.certificate_lines.proofs.Lists.{some_is}
 
@@ -204,7 +199,8 @@ further width (suc row) column k o e = grind (arith, common_steps)
 same_place : (b : Box2) (c d : Cell) → in_box b c.x c.y ≡ true → in_box b d.x d.y ≡ true →
     place_in b c.x c.y ≡ place_in b d.x d.y → c ≡ d
 same_place b c d h k same =
-    some_is c d (sym (box_place b c.x c.y h) ∙ ap (λ (i : ℕ). slice_get (box_cells b) i) same ∙ box_place b d.x d.y k)
+    some_is c d (sym (box_place b c.x c.y h) ∙ ap (λ (i : ℕ). slice_get (rectangle_cells b) i) same
+    ∙ box_place b d.x d.y k)
 
 module _ (b : Box2) (ports : List Port) (rows : List ℕ) (count : ℕ) (are : AreNumberedRows b ports rows count) where
   pub entry_few : (x y : ℤ) (place : ℕ) → in_box b x y ≡ true → entry_place b rows x y ≡ Some place →

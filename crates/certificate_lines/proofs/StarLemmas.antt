@@ -1,11 +1,8 @@
 -- The cells of lines with a star.
-use Rattle.lemmas.proofs.Common.{[], ◌&&◌, ◌++◌, ◌||◌, ◌∙◌, ◌∷◌, ◌≡◌, Bool, List, None, Option, Some, ap, arith, false}
-use Rattle.lemmas.proofs.Common.{if◌then◌else◌, is_some, length, refl, sym, true, ℕ, common_steps, list_any}
-use Rattle.lemmas.proofs.Common.{list_any-append, or-false}
-use Rattle.bbm_rule.specs.declared.block.Cell.{Cell}
-use Rattle.certificate_lines.specs.Rules.{same_cell, is_star, is_starred_line_at}
-use Rattle.certificate_lines.specs.declared.certificate_line.BorderLine.{BorderLine}
-use Rattle.bbm_rule.proofs.SameCells.{cell_same}
+use Rattle.certificate_lines.proofs.Imports.{Bool, BorderLine, Cell, List, None, Option, Some, [], ap, arith, cell_same}
+use Rattle.certificate_lines.proofs.Imports.{common_steps, false, if◌then◌else◌, is_some, is_star, is_starred_line_at}
+use Rattle.certificate_lines.proofs.Imports.{length, list_any, list_any-append, or-false, refl, same_cell, sym, true, ℕ}
+use Rattle.certificate_lines.proofs.Imports.{◌&&◌, ◌++◌, ◌||◌, ◌∙◌, ◌∷◌, ◌≡◌}
 
 by_true : (a : Bool) → a ≡ true → a ≡ (a || true)
 by_true true h = refl

@@ -1,27 +1,23 @@
 -- The tables of ports, and the ports in a box.
-use Rattle.lemmas.proofs.Common.{[], ◌&&◌, ◌*◌, ◌++◌, ◌+◌, ◌-◌, ◌<◌, ◌||◌, ◌∙◌, ◌∷◌, ◌≡◌, ◌≤◌, Bool, List, None, Option}
-use Rattle.lemmas.proofs.Common.{Some, ap, ap₂, arith, drop, false, flat_map, get_or, get_or-set_other, get_or-set_same}
-use Rattle.lemmas.proofs.Common.{if◌then◌else◌, length, length-set, length-take-le, nat_eq, refl, replicate, set}
-use Rattle.lemmas.proofs.Common.{slice_get, subst, suc, sym, take, to_z, true, w32, zero, ℕ, ℤ, and_parts, common_steps}
-use Rattle.lemmas.proofs.Common.{eqb-true, get_or-drop, get_or_default, length-replicate, list_all, list_any}
-use Rattle.lemmas.proofs.Common.{list_any-append, mul-le-mul_right, option_map_or, or-false, range_with_len}
-use Rattle.lemmas.proofs.Common.{slice_get-get_or, slice_get_within, take-suc, same_truth}
-use Rattle.bbm_rule.specs.Plane.{is_at}
-use Rattle.bbm_rule.specs.declared.block.Cell.{Cell}
-use Rattle.pattern.specs.Layout.{HaveDistinctCells, cell, row_cells}
-use Rattle.pattern.proofs.CellLists.{cast_cell, none_in_row, row_more, rows_found}
-use Rattle.pattern.specs.declared.layout_line.LayoutHeader.{LayoutHeader}
-use Rattle.pattern.specs.declared.layout_line.Port.{Port}
-use Rattle.module_box.specs.Boxes.{in_box}
-use Rattle.module_box.specs.declared.boxes.Box2.{Box2}
-use Rattle.certificate_lines.specs.PortTables.{port_at, AreInBox, AreNumberedRows, AreOnBoard, entry_or_zero}
-use Rattle.certificate_lines.specs.PortTables.{entry_place, number_at, number_with_port_in_front}
-use Rattle.certificate_lines.specs.Rules.{box_cells, whole}
+use Rattle.certificate_lines.proofs.Imports.{AreNumberedRows, AreOnBoard, Bool, Box2, Cell, Circuit, HaveDistinctCells}
+use Rattle.certificate_lines.proofs.Imports.{LayoutHeader, List, None, Option, Port, Some, [], and_parts, ap, arith}
+use Rattle.certificate_lines.proofs.Imports.{cell, cell_itself, cell_same, common_steps, drop, entry_place, eqb-true}
+use Rattle.certificate_lines.proofs.Imports.{false, flat_map, get_or, get_or-set_same, get_or_default}
+use Rattle.certificate_lines.proofs.Imports.{get_or_from_slice_get, if◌then◌else◌, in_box, is_at, is_local}
+use Rattle.certificate_lines.proofs.Imports.{is_nonlocal_signal, length, length-replicate, length-set, list_all}
+use Rattle.certificate_lines.proofs.Imports.{list_any, list_any-append, map, nat_eq, not, number_at, option_map}
+use Rattle.certificate_lines.proofs.Imports.{or-false, port_at, pos, range_with_len, rectangle_cells, refl, replicate}
+use Rattle.certificate_lines.proofs.Imports.{row_cells, set, slice_get, slice_get-get_or, slice_get-map}
+use Rattle.certificate_lines.proofs.Imports.{slice_get_within, subst, suc, sym, take, take-suc, to_z, true, w32, whole}
+use Rattle.certificate_lines.proofs.Imports.{wire_of, zero, ℕ, ℤ, ◌&&◌, ◌*◌, ◌++◌, ◌+◌, ◌-◌, ◌<◌, ◌||◌, ◌∙◌, ◌∷◌, ◌≡◌}
+use Rattle.certificate_lines.proofs.Imports.{◌≤◌}
+use Rattle.lemmas.proofs.Common.{get_or-set_other, length-take-le, get_or-drop, mul-le-mul_right, same_truth}
+use Rattle.pattern.proofs.CellLists.{cast_cell, row_more, rows_found}
+use Rattle.certificate_lines.specs.PortTables.{AreInBox, entry_or_zero, number_with_port_in_front}
 use Rattle.certificate_lines.proofs.RowLemmas.{all_zero, entry_few, entry_own, filled, filled_less, filled_more}
 use Rattle.certificate_lines.proofs.RowLemmas.{filled_none}
 use Rattle.certificate_lines.proofs.Lists.{passed, any_at, some_is}
 use Rattle.certificate_lines.proofs.LayoutPorts.{port_stands, none_stands}
-use Rattle.bbm_rule.proofs.SameCells.{cell_same, cell_itself}
 use Rattle.certificate_lines.proofs.PortLemmas.{cell_passed, has_cell, in_box_cells}
 
 -- ---- the ports in a box
@@ -40,77 +36,67 @@ pub port_there : (ports : List Port) → HaveDistinctCells ports → (i : ℕ) (
     port_at ports p.cell.x p.cell.y ≡ Some p.name
 port_there ports apart i p at = port_from_words ports apart i p at _ refl
 
--- what a name of an option passes
-passed_name : (f : List ℕ → Bool) (o : Option (List ℕ)) → option_map_or f o false ≡ true →
-    (name : List ℕ) × (o ≡ Some name) × (f name ≡ true)
-passed_name f None h = absurd cc
-passed_name f (Some name) h = (name, refl, h)
+-- a signal that is not local has a name
+passed_name : (c : Circuit) (local : List ℕ) (o : Option (List ℕ)) → is_nonlocal_signal c local o ≡ true →
+    (name : List ℕ) × (o ≡ Some name) × (not (is_local c local name) ≡ true)
+passed_name c local None h = absurd cc
+passed_name c local (Some name) h = (name, refl, h)
 
-module _ (ports : List Port) (apart : HaveDistinctCells ports) (b : Box2) (f : List ℕ → Bool) where
+module _ (ports : List Port) (apart : HaveDistinctCells ports) (b : Box2) (c : Circuit) (local : List ℕ) where
   abbrev by_cell : Cell → Bool
-  by_cell c = option_map_or f (port_at ports c.x c.y) false
+  by_cell d = is_nonlocal_signal c local (port_at ports d.x d.y)
 
   abbrev by_port : Port → Bool
-  by_port p = in_box b p.cell.x p.cell.y && f p.name
+  by_port p = in_box b p.cell.x p.cell.y && not (is_local c local p.name)
 
-  from_cells : list_any by_cell (box_cells b) ≡ true → list_any by_port ports ≡ true
+  from_cells : list_any by_cell (rectangle_cells b) ≡ true → list_any by_port ports ≡ true
   from_cells h =
-      let r = cell_passed by_cell (box_cells b) h in
-      let n = passed_name f (port_at ports r.0.x r.0.y) r.2 in
+      let r = cell_passed by_cell (rectangle_cells b) h in
+      let n = passed_name c local (port_at ports r.0.x r.0.y) r.2 in
       let p = port_stands ports r.0.x r.0.y n.0 n.1 in
       let inside : in_box b p.port.cell.x p.port.cell.y ≡ true =
       grind (arith, common_steps, cell_same, in_box_cells) in
-      let named : f p.port.name ≡ true = ap f p.named ∙ n.2 in
+      let named : not (is_local c local p.port.name) ≡ true =
+      ap (λ n. not (is_local c local n)) p.named ∙ n.2 in
       any_at by_port ports p.number p.port p.numbered (rw (inside, named) refl)
 
-  from_ports : list_any by_port ports ≡ true → list_any by_cell (box_cells b) ≡ true
+  from_ports : list_any by_port ports ≡ true → list_any by_cell (rectangle_cells b) ≡ true
   from_ports h =
       let r = passed by_port ports h in
-      let both = and_parts (in_box b r.element.cell.x r.element.cell.y) (f r.element.name) r.passes in
+      let both = and_parts (in_box b r.element.cell.x r.element.cell.y) (not (is_local c local r.element.name))
+      r.passes in
       let there = port_there ports apart r.place r.element r.stands in
-      has_cell by_cell (box_cells b) r.element.cell (in_box_cells b r.element.cell.x r.element.cell.y ∙ both.0)
-      (ap (λ (o : Option (List ℕ)). option_map_or f o false) there ∙ both.1)
+      has_cell by_cell (rectangle_cells b) r.element.cell (in_box_cells b r.element.cell.x r.element.cell.y ∙ both.0)
+      (ap (is_nonlocal_signal c local) there ∙ both.1)
 
-  pub ports_in_box : list_any by_cell (box_cells b) ≡ list_any by_port ports
+  pub ports_in_box : list_any by_cell (rectangle_cells b) ≡ list_any by_port ports
   ports_in_box = same_truth _ _ from_cells from_ports
 
-or_again : (a b c : Bool) → ((a || b) || c) ≡ (a || (b || c))
-or_again true b c = refl
-or_again false b c = refl
-
--- the names of the ports at one cell more
-pub row_named : (test : Cell → Bool) (old mid new here : Bool) (x y k : ℕ) → x ≤ k → k < 512 → y < 512 →
-    mid ≡ (old || list_any test (row_cells x (k - x) y)) → new ≡ (mid || here) →
-    here ≡ test (record { x = to_z w32 k; y = to_z w32 y }) → new ≡ (old || list_any test (row_cells x (k + 1 - x) y))
-row_named test old mid new here x y k from low row was now is =
+-- the ports at one cell more
+pub row_named : (test : Cell → Bool) (here : Bool) (x y k : ℕ) → x ≤ k → k < 512 → y < 512 →
+    here ≡ test (record { x = to_z w32 k; y = to_z w32 y }) →
+    (list_any test (row_cells x (k - x) y) || here) ≡ list_any test (row_cells x (k + 1 - x) y)
+row_named test here x y k from low row is =
     let n : k + 1 - x ≡ (k - x) + 1 = omega arith in
-    now ∙ ap₂ (λ a b. a || b) was (is ∙ ap test (cast_cell k y low row) ∙ sym (or-false (test (cell k y))))
-    ∙ or_again old (list_any test (row_cells x (k - x) y)) (test (cell k y) || false)
-    ∙ ap (λ b. old || b) (sym (list_any-append test (row_cells x (k - x) y) (cell k y ∷ []))
+    ap (λ b. list_any test (row_cells x (k - x) y) || b)
+    (is ∙ ap test (cast_cell k y low row) ∙ sym (or-false (test (cell k y))))
+    ∙ sym (list_any-append test (row_cells x (k - x) y) (cell k y ∷ []))
     ∙ ap (list_any test) (sym (row_more x (k - x) y k (omega arith)))
-    ∙ ap (λ (m : ℕ). list_any test (row_cells x m y)) (sym n))
-
--- at no cell of a row
-pub row_nameless : (test : Cell → Bool) (old : Bool) (x n y : ℕ) → ((k : ℕ) → k < n → test (cell (x + k) y) ≡ false) →
-    old ≡ (old || list_any test (row_cells x n y))
-row_nameless test old x n y none = sym (ap (λ b. old || b) (none_in_row test x n y none) ∙ or-false old)
+    ∙ ap (λ (m : ℕ). list_any test (row_cells x m y)) (sym n)
 
 -- and at the cells of one row more
-pub rows_named : (test : Cell → Bool) (old mid new : Bool) (x w y k : ℕ) → y ≤ k →
-    mid ≡ (old || list_any test (flat_map (row_cells x w) (range_with_len y (k - y)))) →
-    new ≡ (mid || list_any test (row_cells x w k)) →
-    new ≡ (old || list_any test (flat_map (row_cells x w) (range_with_len y (k + 1 - y))))
-rows_named test old mid new x w y k from was now = grind (arith, common_steps, or_again, rows_found)
+pub rows_named : (test : Cell → Bool) (x w y k : ℕ) → y ≤ k →
+    (list_any test (flat_map (row_cells x w) (range_with_len y (k - y))) || list_any test (row_cells x w k))
+    ≡ list_any test (flat_map (row_cells x w) (range_with_len y (k + 1 - y)))
+rows_named test x w y k from = grind (arith, common_steps, rows_found)
 
 -- the ports of both kinds
-pub ports_pushed : (p q : List Port) → HaveDistinctCells p → HaveDistinctCells q →
-    (b : Box2) (old mid new : List (List ℕ))
-    (f : List ℕ → Bool)
-    → list_any f mid ≡ (list_any f old || list_any (λ c. option_map_or f (port_at p c.x c.y) false) (box_cells b))
-    → list_any f new ≡ (list_any f mid || list_any (λ c. option_map_or f (port_at q c.x c.y) false) (box_cells b))
-    → list_any f new ≡ (list_any f old || list_any (λ r. in_box b r.cell.x r.cell.y && f r.name) (p ++ q))
-ports_pushed p q apart apart' b old mid new f first second =
-    grind (arith, common_steps, ports_in_box, or_again, list_any-append)
+pub both_ports : (p q : List Port) → HaveDistinctCells p → HaveDistinctCells q →
+    (b : Box2) (c : Circuit) (local : List ℕ)
+    → (list_any (λ d. is_nonlocal_signal c local (port_at p d.x d.y)) (rectangle_cells b)
+    || list_any (λ d. is_nonlocal_signal c local (port_at q d.x d.y)) (rectangle_cells b))
+    ≡ list_any (λ r. in_box b r.cell.x r.cell.y && not (is_local c local r.name)) (p ++ q)
+both_ports p q apart apart' b c local = grind (arith, common_steps, ports_in_box, list_any-append)
 
 -- ---- the number of the port at a cell
 
@@ -156,6 +142,18 @@ pub numbered_below : (ports : List Port) (n : ℕ) (x y : ℤ) → n ≡ number_
 numbered_below ports zero x y e some = absurd (omega arith)
 numbered_below ports (suc k) x y e some =
     subst (λ (j : ℕ). IsNumbered ports j x y) (omega arith) (numbered ports k x y (sym e))
+
+-- the wire of a numbered port
+pub numbered_wire : (c : Circuit) (ports : List Port) (wires : List (Option ℕ)) (k : ℕ) (x y : ℤ) (w : Option ℕ) →
+    wires ≡ map (λ p. wire_of c p.name) ports → IsNumbered ports k x y → w ≡ get_or wires k w →
+    Some w ≡ option_map (wire_of c) (port_at ports x y)
+numbered_wire c ports wires k x y w are is at =
+    let q : Port = get_or ports k (record { cell = record { x = pos 0; y = pos 0 }; name = [] }) in
+    let there : slice_get wires k ≡ Some (wire_of c q.name) =
+    ap (λ ws. slice_get ws k) are ∙ slice_get-map (λ (p : Port). wire_of c p.name) ports k
+    ∙ ap (option_map (λ (p : Port). wire_of c p.name)) (slice_get-get_or ports k _ is.within) in
+    ap (λ (o : Option ℕ). Some o) (at ∙ get_or_from_slice_get wires k (wire_of c q.name) w there)
+    ∙ ap (option_map (wire_of c)) (is.named _)
 
 -- ---- one more port
 

@@ -1,14 +1,9 @@
 -- The gates that the last module uses, found from its last line on.
-use Rattle.lemmas.proofs.Common.{[], ◌++◌, ◌+◌, ◌-◌, ◌<◌, ◌||◌, ◌∷◌, ◌≡◌, ◌≤◌, Bool, List, Some, arith, false, get_or}
-use Rattle.lemmas.proofs.Common.{length, refl, subst, sym, take, true, ℕ, common_steps, list_any-append, take_all}
-use Rattle.lemmas.proofs.Common.{take_more}
-use Rattle.module_box.specs.Locals.{is_among}
-use Rattle.certificate_lines.specs.Entries.{ModuleLines, module_with_line, add_line, last_of, modules_of, last_module}
-use Rattle.certificate_lines.specs.Entries.{gates, use_in}
-use Rattle.certificate_lines.specs.ModuleParts.{is_module}
-use Rattle.certificate_lines.specs.declared.certificate_line.CertificateLine.{CertificateLine}
-use Rattle.certificate_lines.specs.declared.certificate_line.CertificateLine.TheVariants.{Module, Cut, Use, Keep, Edge}
-use Rattle.certificate_lines.specs.declared.certificate_line.CertificateLine.TheVariants.{Halo, Stop}
+use Rattle.certificate_lines.proofs.Imports.{Bool, CertificateLine, Cut, Edge, Halo, Keep, List, Module, ModuleLines}
+use Rattle.certificate_lines.proofs.Imports.{Some, Stop, Use, [], add_line, arith, common_steps, false, gates, get_or}
+use Rattle.certificate_lines.proofs.Imports.{is_among, is_module, last_module, last_of, length, list_any-append}
+use Rattle.certificate_lines.proofs.Imports.{module_with_line, modules_of, refl, subst, sym, take, take_all, take_more}
+use Rattle.certificate_lines.proofs.Imports.{true, use_in, ℕ, ◌++◌, ◌+◌, ◌-◌, ◌<◌, ◌||◌, ◌∷◌, ◌≡◌, ◌≤◌}
 use Rattle.certificate_lines.proofs.Growing.{modules_push, flat_push, last_pushed, last_changed}
 use Rattle.certificate_lines.proofs.Keeping.{mapped_some}
 use Rattle.certificate_lines.proofs.Lists.{some_is}

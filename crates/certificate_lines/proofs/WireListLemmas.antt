@@ -1,10 +1,10 @@
 -- The marks of a list of wires
-use Rattle.lemmas.proofs.Common.{[], ◌%◌, ◌/◌, ◌∙◌, ◌≡◌, ◌≤◌, List, ap, arith, false, get_or, length, replicate, ℕ}
-use Rattle.lemmas.proofs.Common.{common_steps, get_or-replicate, get_or_past, length-replicate}
+use Rattle.certificate_lines.proofs.Imports.{List, [], ap, arith, common_steps, false, get_or, is_among, length}
+use Rattle.certificate_lines.proofs.Imports.{length-replicate, replicate, ℕ, ◌%◌, ◌∙◌, ◌≡◌, ◌≤◌}
+use Rattle.lemmas.proofs.Common.{◌/◌, get_or-replicate, get_or_past}
 use Rattle.bbm_rule.specs.Bits.{bit}
 use Rattle.bbm_rule.specs.Rows.{cell_at}
 use Rattle.bbm_rule.proofs.BitLemmas.{by_lt_or_le, bit-zero}
-use Rattle.module_box.specs.Locals.{is_among}
 
 -- a number whose word is zero has no mark
 unmarked : (marks : List ℕ) (w : ℕ) → get_or marks (w / 64) 0 ≡ 0 → cell_at marks w ≡ false

@@ -1,20 +1,23 @@
 -- The fields of a certificate that is being read, and its view
 use Rattle.std.specs.Prelude.{◌≡◌, ℕ, ◌+◌, ◌<◌, ◌≤◌, ℤ, ◌&&◌, Bool, not, false, List, [], ◌∷◌, ◌++◌, map, length}
-use Rattle.std.specs.Prelude.{IfSome, Option, true}
+use Rattle.std.specs.Prelude.{IfSome, Option}
 use Rattle.std.specs.Prelude.{Some, None, slice_get, IsTrue}
-use Rattle.std.specs.Option.{is_some, option_map, option_to_list}
+use Rattle.std.specs.Option.{is_some, option_to_list}
 use Rattle.circuit.specs.Meaning.{Circuit, Gate, wire_of}
-use Rattle.std.specs.List.{All, filter, list_any}
+use Rattle.std.specs.List.{filter, list_any}
 use Rattle.bbm_rule.specs.Board.{Board, live}
 use Rattle.bbm_rule.specs.declared.block.Cell.{Cell}
-use Rattle.module_box.specs.Boxes.{in_box, in_halo, IsEven}
-use Rattle.certificate_lines.specs.declared.local_names.CutWire.{CutWire}
-use Rattle.module_box.specs.Tiling.{AreOwners, Owning}
-use Rattle.module_box.specs.declared.boxes.Box2.{Box2}
+use Rattle.bbm_rule.specs.Boxes.{in_box, in_halo}
+use Rattle.module_box.specs.Tiling.{AreOwners, OwnersView}
+use Rattle.bbm_rule.specs.declared.block.Box2.{Box2}
 use Rattle.certificate_lines.specs.Entries.{Setting, ModuleLines, modules_of, last_of, areas, counts_of, known, edges}
+use Rattle.certificate_lines.specs.Entries.{name_in}
 use Rattle.certificate_lines.specs.Entries.{halos}
-use Rattle.certificate_lines.specs.Rules.{in_boxes, is_local, is_local_wire, is_star, is_starred_line_at, same_cell}
+use Rattle.certificate_lines.specs.Rules.{in_boxes, is_local_wire, is_star, is_starred_line_at, same_cell}
 use Rattle.certificate_lines.specs.Rules.{has_nonlocal_port}
+use Rattle.certificate_lines.specs.LineKeys.{key_or_first}
+use Rattle.certificate_lines.specs.ModuleParts.{BeginWithModule}
+use Rattle.certificate_lines.specs.declared.order.LineKey.{LineKey}
 use Rattle.certificate_lines.specs.Modules.{IsWithinLineLimit, IsModule}
 use Rattle.certificate_lines.specs.Versions.{is_nonlocal_signal}
 use Rattle.certificate_lines.specs.declared.certificate_line.BorderLine.{BorderLine}
@@ -34,14 +37,11 @@ abbrev pub builder_view : Inside → BuilderView
 builder_view a = record { setting = a.tables; entries = a.entries.items }
 
 -- what is kept of the last module is what its lines say
-pub record IsLastModule (g : Setting) (m : ModuleLines) (last : Option CertificateLine) (names : List (List ℕ))
-    (local : List ℕ)
+pub record IsLastModule (g : Setting) (m : ModuleLines) (last : Option CertificateLine) (local : List ℕ)
     (e h : List Cell) : Type 0 where
   pub final : last_of m.lines ≡ last
-  pub ports : (f : List ℕ → Bool) →
-      list_any f names ≡ list_any (λ p. in_box m.area p.cell.x p.cell.y && f p.name) g.ports
   pub wires : local ≡ known g.circuit m
-  -- the same cells, whatever their order
+  -- e and h list the cells of the edge and halo lines with a star, in any order
   pub stars : (c : Cell) → list_any (same_cell c) e ≡ list_any (is_starred_line_at c) (edges m)
   pub halo_stars : (c : Cell) → list_any (same_cell c) h ≡ list_any (is_starred_line_at c) (halos m)
 
@@ -51,21 +51,21 @@ pub record AreApart (boxes : List Box2) : Type 0 where
       IsTrue (in_box b x y) → IsTrue (in_box b' x y) → i ≡ j
 
 -- a good module within the limit on its edge, halo and stop lines
-pub record IsWritten (g : Setting) (m : ModuleLines) : Type 0 where
+pub record IsModuleInLimits (g : Setting) (m : ModuleLines) : Type 0 where
   pub good : IsModule g m
   pub few_borders : IsWithinLineLimit m
 
 -- the modules so far are good
-pub record AreSound (g : Setting) (ms : List ModuleLines) : Type 0 where
+pub record AreGoodModulesSoFar (g : Setting) (ms : List ModuleLines) : Type 0 where
   pub few : length ms ≤ 1024
-  pub each : (k : ℕ) (m : ModuleLines) → slice_get ms k ≡ Some m → IsWritten g m
+  pub each : (k : ℕ) (m : ModuleLines) → slice_get ms k ≡ Some m → IsModuleInLimits g m
   pub apart : AreApart (areas ms)
   -- the ports' wires are local in all modules but the last
   pub ported : (i : ℕ) (m : ModuleLines) → i + 1 < length ms → slice_get ms i ≡ Some m → has_nonlocal_port g m ≡ false
 
 -- the modules so far, and what is kept of all of them
 pub record AreBuilt (g : Setting) (ms : List ModuleLines) (covered : Board) (counts : List Counts) : Type 0 where
-  pub sound : AreSound g ms
+  pub sound : AreGoodModulesSoFar g ms
   pub width : covered.width ≡ g.size.w
   pub height : covered.height ≡ g.size.h
   pub cells : (x y : ℤ) → live covered x y ≡ in_boxes (areas ms) x y
@@ -73,22 +73,20 @@ pub record AreBuilt (g : Setting) (ms : List ModuleLines) (covered : Board) (cou
 
 -- what is kept of the lines is what they say
 pub record IsTracked (g : Setting) (es : List CertificateLine) (covered : Board) (counts : List Counts)
-    (last : Option CertificateLine)
-    (names : List (List ℕ)) (local : List ℕ) (e h : List Cell) : Type 0 where
+    (last : Option CertificateLine) (local : List ℕ) (e h : List Cell) : Type 0 where
   pub built : AreBuilt g (modules_of es) covered counts
-  pub none : modules_of es ≡ [] → names ≡ []
-  pub last_module : (m : ModuleLines) → last_of (modules_of es) ≡ Some m → IsLastModule g m last names local e h
+  pub last_module : (m : ModuleLines) → last_of (modules_of es) ≡ Some m → IsLastModule g m last local e h
 
 -- one of these edge lines is for a cell in the halo of the module, and names a wire that is not local there
 abbrev pub lacks_edge_wire : Circuit → List BorderLine → ModuleLines → Bool
 lacks_edge_wire c es m = list_any (λ e. is_nonlocal_signal c (known c m) e.signal)
     (filter (λ e. in_halo m.area e.cell.x e.cell.y) es)
 
--- the cell is outside the module, and there is no such wire or it is not local there
+-- the cell is outside the module, and the wire is unknown or not local there
 abbrev pub is_outside_and_nonlocal : Circuit → Cell → Option ℕ → ModuleLines → Bool
 is_outside_and_nonlocal c cell wire m = not (in_box m.area cell.x cell.y) && not (is_local_wire (known c m) wire)
 
--- some module has the cell in its halo, and there is no such wire or it is not local there
+-- some module has the cell in its halo, and the wire is unknown or not local there
 abbrev pub is_nonlocal_in_neighbour : Circuit → List ModuleLines → Cell → Option ℕ → Bool
 is_nonlocal_in_neighbour c ms cell wire =
     list_any (λ m. in_halo m.area cell.x cell.y && not (is_local_wire (known c m) wire)) ms
@@ -98,30 +96,30 @@ abbrev pub does_neighbour_lack_wire : Circuit → List ModuleLines → BorderLin
 does_neighbour_lack_wire c ms e =
     list_any (λ m. in_halo m.area e.cell.x e.cell.y && is_nonlocal_signal c (known c m) e.signal) ms
 
--- the table is of the whole rectangle, its numbers are those of the modules that have the cells, and the boxes are even
-pub record AreModuleOwners (b : BuilderView) (o : Owning) : Type 0 where
+-- the table is of the whole rectangle, and its numbers are those of the modules that have the cells
+pub record AreModuleOwners (b : BuilderView) (o : OwnersView) : Type 0 where
   pub width : o.width ≡ b.setting.size.w
   pub height : o.height ≡ b.setting.size.h
-  pub small : (o.width ≤ 512) × (o.height ≤ 512)
   pub owners : AreOwners o (areas (modules_of b.entries))
-  pub even : (k : ℕ) (m : ModuleLines) → slice_get (modules_of b.entries) k ≡ Some m → IsEven m.area
+
+-- the module of this number has the cell, or no module has it
+abbrev pub IsModuleWithCell : List ModuleLines → Cell → Option ℕ → Type 0
+IsModuleWithCell ms cell None = (k : ℕ) (m : ModuleLines) → slice_get ms k ≡ Some m →
+    in_box m.area cell.x cell.y ≡ false
+IsModuleWithCell ms cell (Some k) = (m : ModuleLines) × (slice_get ms k ≡ Some m) × IsTrue (in_box m.area cell.x cell.y)
 
 -- The local wires of each module, behind none: `earlier` has those of all modules but the last, and `local` has its.
 abbrev pub AreLocalWiresOfModules : Circuit → List ModuleLines → List (List ℕ) → List ℕ → Type 0
 AreLocalWiresOfModules c ms earlier local = earlier ++ local ∷ [] ≡ [] ∷ map (known c) ms
 
--- each name in a slot is that of a wire of the circuit whose number is in `local`
-abbrev pub AreLocalNames : Circuit → List ℕ → List (Option CutWire) → Type 0
-AreLocalNames c local slots = All (λ slot. IfSome slot (λ n. is_local c local n.name.now ≡ true)) slots
-
--- what is kept of the lines, of the wires of all modules, and of the names of local wires
+-- what is kept of the lines, and of the wires of all modules
 pub record IsTrackedWith (g : Setting) (es : List CertificateLine) (covered : Board) (counts : List Counts)
-    (last : Option CertificateLine)
-    (names : List (List ℕ)) (earlier : List (List ℕ)) (local : List ℕ) (e h : List Cell)
-    (slots : List (Option CutWire)) : Type 0 where
-  pub kept : IsTracked g es covered counts last names local e h
+    (last : Option CertificateLine) (key : LineKey) (earlier : List (List ℕ)) (local : List ℕ)
+    (e h : List Cell) : Type 0 where
+  pub kept : IsTracked g es covered counts last local e h
   pub wires : AreLocalWiresOfModules g.circuit (modules_of es) earlier local
-  pub local_names : AreLocalNames g.circuit local slots
+  pub begun : BeginWithModule es
+  pub key_is : key ≡ key_or_first (last_of es)
 
 -- the line, if it is no `module` line
 abbrev pub body_line_or_none : Option CertificateLine → Option CertificateLine
@@ -141,20 +139,19 @@ last_body_line entries = body_line_or_none (last_of entries)
 -- the fields of every builder: its tables are those of its lines
 abbrev pub AreBuilderFields : Inside → Type 0
 AreBuilderFields a = IsTrackedWith a.tables a.entries.items a.covered a.modules.items (last_body_line a.entries.items)
-    a.names.items
-    (map (λ s. s.wires) a.earlier.items) a.known.wires a.edges.keys a.halos.keys a.local_names.slots
+    a.last (map (λ s. s.wires) a.earlier.items) a.known.wires a.edges.keys a.halos.keys
 
 -- ---- the counts of a module with one more line
 
 -- the counts of a module with one line more
-unfoldable pub counted : CertificateLine → Counts → Counts
-counted (Module b) k = k
-counted (Cut n) k = record k { cuts = k.cuts + 1 }
-counted (Use g) k = record k { gates = k.gates + 1 }
-counted (Keep g) k = k
-counted (Edge e) k = record k { edges = k.edges + 1 }
-counted (Halo e) k = record k { halos = k.halos + 1 }
-counted (Stop s) k = record k { stops = k.stops + 1 }
+unfoldable pub counts_with_line : CertificateLine → Counts → Counts
+counts_with_line (Module b) k = k
+counts_with_line (Cut n) k = record k { cuts = k.cuts + 1 }
+counts_with_line (Use g) k = record k { gates = k.gates + 1 }
+counts_with_line (Keep g) k = k
+counts_with_line (Edge e) k = record k { edges = k.edges + 1 }
+counts_with_line (Halo e) k = record k { halos = k.halos + 1 }
+counts_with_line (Stop s) k = record k { stops = k.stops + 1 }
 
 -- no count is near its greatest value
 pub record AreSmallCounts (k : Counts) : Type 0 where
@@ -163,22 +160,12 @@ pub record AreSmallCounts (k : Counts) : Type 0 where
   pub few_borders : k.edges + k.halos + k.stops ≤ 65536
 
 -- those of the edge or halo lines that have a `*`
-abbrev pub starred : List BorderLine → List BorderLine
-starred lines = filter (λ e. is_star e.time) lines
+abbrev pub starred_lines : List BorderLine → List BorderLine
+starred_lines lines = filter (λ e. is_star e.time) lines
 
--- the wire that a line names is one of the circuit, and local unless the line cuts it
-abbrev pub NamesLocalOrCutWire : Circuit → List ℕ → CertificateLine → Type 0
-NamesLocalOrCutWire c local (Cut n) = IsTrue (is_some (wire_of c n))
-NamesLocalOrCutWire c local (Edge e) = IfSome e.signal (λ n. IsTrue (is_local c local n))
-NamesLocalOrCutWire c local (Halo e) = IfSome e.signal (λ n. IsTrue (is_local c local n))
-NamesLocalOrCutWire c local (Stop s) = IsTrue (is_local c local s.wire)
-NamesLocalOrCutWire c local _ = Unit {0}
-
--- what was looked up is the wire that a cut line names, if the line is one
-abbrev pub IsCutWire : Circuit → CertificateLine → Option CutWire → Type 0
-IsCutWire c (Cut n) cut = (option_map (λ w. w.wire) cut ≡ wire_of c n)
-    × IfSome cut (λ w. (w.name.now ≡ n) × (w.wire < 4096))
-IsCutWire c _ cut = Unit {0}
+-- the circuit has a wire of the name in a line, if there is one
+abbrev pub NamesWire : Circuit → CertificateLine → Type 0
+NamesWire c line = IfSome (name_in line) (λ n. IsTrue (is_some (wire_of c n)))
 
 -- the line is no `module` line
 abbrev pub IsBodyLine : CertificateLine → Type 0

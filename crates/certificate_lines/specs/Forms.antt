@@ -1,10 +1,10 @@
 -- The line forms of the certificate section: the meaning of the words of a line
 use Rattle.std.specs.Prelude.{ℕ, List, length, codes, Option, Some, None, ◌==◌, if◌then◌else◌}
-use Rattle.section_text.specs.Words.{number_at, name_at, is_word_at, lone, lone_number, lone_name, ◌>>=◌}
+use Rattle.section_text.specs.Words.{number_at, name_at, is_word_at, if_one_word, number_after_keyword}
+use Rattle.section_text.specs.Words.{name_after_keyword, ◌>>=◌}
 use Rattle.section_text.specs.declared.section.Form.{Form}
 use Rattle.section_text.specs.declared.section.Form.TheVariants.{Header, Item, End}
-use Rattle.pattern.specs.Forms.{cell_of_words_from}
-use Rattle.module_box.specs.declared.boxes.Box2.{Box2}
+use Rattle.pattern.specs.Forms.{box_of, cell_of_words_from}
 use Rattle.certificate_lines.specs.declared.certificate_line.CertificateLine.{CertificateLine}
 use Rattle.certificate_lines.specs.declared.certificate_line.CertificateLine.TheVariants.{Module, Cut, Use, Keep, Edge}
 use Rattle.certificate_lines.specs.declared.certificate_line.CertificateLine.TheVariants.{Halo, Stop}
@@ -15,33 +15,20 @@ use Rattle.certificate_lines.specs.declared.certificate_line.StopLine.{StopLine}
 abbrev pub Line : Type 0
 Line = Form ℕ CertificateLine
 
--- a keyword and four numbers
-unfoldable pub corner_and_sides : List (List ℕ) → Option Box2
-corner_and_sides ws = do
-  x ← number_at ws 1
-  y ← number_at ws 2
-  w ← number_at ws 3
-  h ← number_at ws 4
-  Some (record { x = x; y = y; w = w; h = h })
-
--- the box of a `module` line
-unfoldable pub area_of : List (List ℕ) → Option Box2
-area_of ws = if length ws == 5 then corner_and_sides ws else None
-
 -- `*`, or a time
 unfoldable pub star_or_time_at_word : List (List ℕ) → ℕ → Option (Option ℕ)
 star_or_time_at_word ws i = if is_word_at ws i (codes "*") then Some None else (number_at ws i >>= λ t. Some (Some t))
 
 -- `1`, or a name
-unfoldable pub signal_at : List (List ℕ) → ℕ → Option (Option (List ℕ))
-signal_at ws i = if is_word_at ws i (codes "1") then Some None else (name_at ws i >>= λ n. Some (Some n))
+unfoldable pub one_or_name_at_word : List (List ℕ) → ℕ → Option (Option (List ℕ))
+one_or_name_at_word ws i = if is_word_at ws i (codes "1") then Some None else (name_at ws i >>= λ n. Some (Some n))
 
 -- a keyword, a time, a cell and a signal
 unfoldable pub border_of_five_words : List (List ℕ) → Option BorderLine
 border_of_five_words ws = do
   t ← star_or_time_at_word ws 1
   c ← cell_of_words_from ws 2
-  s ← signal_at ws 4
+  s ← one_or_name_at_word ws 4
   Some (record { time = t; cell = c; signal = s })
 
 -- the content of an edge or halo line
@@ -66,20 +53,20 @@ form_of ws =
     if is_word_at ws 0 (codes "edge") then (border_of ws >>= λ e. Some (Item (Edge e)))
     else if is_word_at ws 0 (codes "halo") then (border_of ws >>= λ e. Some (Item (Halo e)))
     else if is_word_at ws 0 (codes "stop") then (stop_of ws >>= λ s. Some (Item (Stop s)))
-    else if is_word_at ws 0 (codes "cut") then (lone_name ws >>= λ n. Some (Item (Cut n)))
-    else if is_word_at ws 0 (codes "use") then (lone_number ws >>= λ k. Some (Item (Use k)))
-    else if is_word_at ws 0 (codes "keep") then (lone_number ws >>= λ k. Some (Item (Keep k)))
-    else if is_word_at ws 0 (codes "module") then (area_of ws >>= λ b. Some (Item (Module b)))
-    else if is_word_at ws 0 (codes "certificate") then (lone_number ws >>= λ v. Some (Header v))
-    else if is_word_at ws 0 (codes "end") then lone ws End
+    else if is_word_at ws 0 (codes "cut") then (name_after_keyword ws >>= λ n. Some (Item (Cut n)))
+    else if is_word_at ws 0 (codes "use") then (number_after_keyword ws >>= λ k. Some (Item (Use k)))
+    else if is_word_at ws 0 (codes "keep") then (number_after_keyword ws >>= λ k. Some (Item (Keep k)))
+    else if is_word_at ws 0 (codes "module") then (box_of ws >>= λ b. Some (Item (Module b)))
+    else if is_word_at ws 0 (codes "certificate") then (number_after_keyword ws >>= λ v. Some (Header v))
+    else if is_word_at ws 0 (codes "end") then if_one_word ws End
     else None
 
--- the same of a line that has not five words: it begins with no module and no line about a cell
+-- the line that words mean which are not five, and which begin with no word of a line about a cell
 unfoldable pub form_of_not_five_words : List (List ℕ) → Option Line
 form_of_not_five_words ws =
-    if is_word_at ws 0 (codes "cut") then (lone_name ws >>= λ n. Some (Item (Cut n)))
-    else if is_word_at ws 0 (codes "use") then (lone_number ws >>= λ k. Some (Item (Use k)))
-    else if is_word_at ws 0 (codes "keep") then (lone_number ws >>= λ k. Some (Item (Keep k)))
-    else if is_word_at ws 0 (codes "certificate") then (lone_number ws >>= λ v. Some (Header v))
-    else if is_word_at ws 0 (codes "end") then lone ws End
+    if is_word_at ws 0 (codes "cut") then (name_after_keyword ws >>= λ n. Some (Item (Cut n)))
+    else if is_word_at ws 0 (codes "use") then (number_after_keyword ws >>= λ k. Some (Item (Use k)))
+    else if is_word_at ws 0 (codes "keep") then (number_after_keyword ws >>= λ k. Some (Item (Keep k)))
+    else if is_word_at ws 0 (codes "certificate") then (number_after_keyword ws >>= λ v. Some (Header v))
+    else if is_word_at ws 0 (codes "end") then if_one_word ws End
     else None

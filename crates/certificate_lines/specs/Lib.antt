@@ -2,14 +2,15 @@ pub mod BorderWords
 pub mod BuilderView
 pub mod Entries
 pub mod Forms
+pub mod LineKeys
 pub mod LineTablesView
 pub mod ModuleParts
 pub mod Modules
+pub mod NamedWires
 pub mod Orders
 pub mod PortTables
 pub mod Rules
 pub mod Settings
 pub mod StoredLines
 pub mod Versions
-pub mod LastNames
 pub mod WireListView

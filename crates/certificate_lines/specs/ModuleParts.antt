@@ -1,8 +1,8 @@
 -- The lines of one module
-use Rattle.std.specs.Prelude.{Bool, true, false, if◌then◌else◌, IsTrue, List, [], ◌∷◌}
+use Rattle.std.specs.Prelude.{◌≡◌, Bool, true, false, if◌then◌else◌, IsTrue, List, [], ◌∷◌}
 use Rattle.std.specs.List.{All}
-use Rattle.module_box.specs.Boxes.{in_box}
-use Rattle.module_box.specs.declared.boxes.Box2.{Box2}
+use Rattle.bbm_rule.specs.Boxes.{in_box}
+use Rattle.bbm_rule.specs.declared.block.Box2.{Box2}
 use Rattle.certificate_lines.specs.declared.certificate_line.BorderLine.{BorderLine}
 use Rattle.certificate_lines.specs.declared.certificate_line.CertificateLine.{CertificateLine}
 use Rattle.certificate_lines.specs.declared.certificate_line.CertificateLine.TheVariants.{Module}
@@ -13,9 +13,13 @@ is_module (Module b) = true
 is_module _ = false
 
 -- the lines before the next `module` line
-unfoldable pub inner : List CertificateLine → List CertificateLine
-inner [] = []
-inner (i ∷ entries) = if is_module i then [] else i ∷ inner entries
+unfoldable pub body_lines : List CertificateLine → List CertificateLine
+body_lines [] = []
+body_lines (i ∷ entries) = if is_module i then [] else i ∷ body_lines entries
+
+-- no line comes before the first `module` line
+abbrev pub BeginWithModule : List CertificateLine → Type 0
+BeginWithModule entries = body_lines entries ≡ []
 
 -- each of these lines is for a cell of the box
 abbrev pub AreInBox : Box2 → List BorderLine → Type 0

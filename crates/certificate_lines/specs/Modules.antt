@@ -2,16 +2,17 @@
 use Rattle.std.specs.Prelude.{◌≡◌, ℕ, ◌<◌, ◌≤◌, ◌%◌, ◌||◌, not, true, List, [], ◌∷◌, length, Some, slice_get, IsTrue}
 use Rattle.std.specs.Prelude.{IsFalse, IfSome}
 use Rattle.std.specs.List.{All, list_all}
-use Rattle.module_box.specs.Boxes.{in_box, in_ring, in_halo, IsEven, Tile}
+use Rattle.bbm_rule.specs.Boxes.{in_box, in_ring, in_halo, IsEven, Tile}
 use Rattle.module_box.specs.Locals.{AreLocalLines, is_among}
 use Rattle.module_box.specs.Tiling.{IsInside}
-use Rattle.module_box.specs.declared.boxes.Box2.{Box2}
+use Rattle.bbm_rule.specs.declared.block.Box2.{Box2}
 use Rattle.pattern.specs.declared.layout_line.Port.{Port}
 use Rattle.certificate_lines.specs.Entries.{Setting, ModuleLines, areas, cuts, gates, keeps, edges, halos, stops}
 use Rattle.certificate_lines.specs.Entries.{cut_wires, known}
 use Rattle.certificate_lines.specs.Orders.{AreInOrder}
-use Rattle.certificate_lines.specs.Rules.{whole, is_local, is_inverse_gate, is_star, is_starred_line_at, border_count}
-use Rattle.certificate_lines.specs.Rules.{border_limit}
+use Rattle.certificate_lines.specs.Rules.{whole, is_local, is_inverse_gate, is_star, is_starred_line_at}
+use Rattle.certificate_lines.specs.Rules.{timed_line_count}
+use Rattle.certificate_lines.specs.Rules.{timed_line_limit}
 use Rattle.certificate_lines.specs.declared.certificate_line.BorderLine.{BorderLine}
 use Rattle.certificate_lines.specs.declared.certificate_line.StopLine.{StopLine}
 
@@ -69,7 +70,7 @@ pub record IsModule (g : Setting) (m : ModuleLines) : Type 0 where
   pub stop_lines : All (IsStop g m.area (known g.circuit m)) (stops m)
 
 -- the wires of the ports in the module's box are local
-pub record HasPorts (g : Setting) (m : ModuleLines) : Type 0 where
+pub record HasLocalPorts (g : Setting) (m : ModuleLines) : Type 0 where
   pub local : (i : ℕ) (p : Port) → slice_get g.ports i ≡ Some p → IsTrue (in_box m.area p.cell.x p.cell.y) →
       IsTrue (is_local g.circuit (known g.circuit m) p.name)
 
@@ -77,9 +78,9 @@ pub record HasPorts (g : Setting) (m : ModuleLines) : Type 0 where
 pub record AreModules (g : Setting) (ms : List ModuleLines) : Type 0 where
   pub few : length ms ≤ 1024
   pub each : (k : ℕ) (m : ModuleLines) → slice_get ms k ≡ Some m → IsModule g m
-  pub ports : (k : ℕ) (m : ModuleLines) → slice_get ms k ≡ Some m → HasPorts g m
+  pub ports : (k : ℕ) (m : ModuleLines) → slice_get ms k ≡ Some m → HasLocalPorts g m
   pub tile : Tile (whole g.size) (areas ms)
 
 -- a module has at most 65,536 edge, halo and stop lines of its own
 abbrev pub IsWithinLineLimit : ModuleLines → Type 0
-IsWithinLineLimit m = border_count m ≤ border_limit
+IsWithinLineLimit m = timed_line_count m ≤ timed_line_limit

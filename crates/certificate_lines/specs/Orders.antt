@@ -25,14 +25,14 @@ time_rank None = 0
 time_rank (Some t) = t + 1
 
 -- within a kind the number of the gate, or the time of the line, comes first
-unfoldable pub number_of : CertificateLine → ℕ
-number_of (Module b) = 0
-number_of (Cut n) = 0
-number_of (Use k) = k
-number_of (Keep k) = k
-number_of (Edge e) = time_rank e.time
-number_of (Halo e) = time_rank e.time
-number_of (Stop s) = s.time
+unfoldable pub sort_number_of : CertificateLine → ℕ
+sort_number_of (Module b) = 0
+sort_number_of (Cut n) = 0
+sort_number_of (Use k) = k
+sort_number_of (Keep k) = k
+sort_number_of (Edge e) = time_rank e.time
+sort_number_of (Halo e) = time_rank e.time
+sort_number_of (Stop s) = s.time
 
 -- the cell of a line that names none
 abbrev pub default_cell : Cell
@@ -49,7 +49,7 @@ cell_of _ = default_cell
 unfoldable pub line_cmp : CertificateLine → CertificateLine → Ordering
 line_cmp i j =
     ordering_then (nat_cmp (rank_of i) (rank_of j))
-    (ordering_then (nat_cmp (number_of i) (number_of j)) (cell_cmp (cell_of i) (cell_of j)))
+    (ordering_then (nat_cmp (sort_number_of i) (sort_number_of j)) (cell_cmp (cell_of i) (cell_of j)))
 
 -- whether the line is a cut line
 unfoldable pub is_cut : CertificateLine → Bool

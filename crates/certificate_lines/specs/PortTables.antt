@@ -1,13 +1,15 @@
 -- Tables of the ports of a layout by their cells, and their view
 use Rattle.std.specs.Prelude.{◌≡◌, ℕ, zero, suc, ℤ, ◌+◌, ◌-◌, ◌*◌, ◌<◌, ◌≤◌, true, false, if◌then◌else◌, List, [], ◌∷◌}
-use Rattle.std.specs.Prelude.{length, get_or, Some, None, slice_get, Option}
+use Rattle.std.specs.Prelude.{length, get_or, map, Some, None, slice_get, Option}
 use Rattle.std.specs.Int.RustNames.{unsigned_abs}
 use Rattle.bbm_rule.specs.Plane.{is_at}
+use Rattle.circuit.specs.Bridge.{circuit_of}
+use Rattle.circuit.specs.Meaning.{Circuit, wire_of}
 use Rattle.pattern.specs.Layout.{in_layout}
 use Rattle.pattern.specs.declared.layout_line.LayoutHeader.{LayoutHeader}
 use Rattle.pattern.specs.declared.layout_line.Port.{Port}
-use Rattle.module_box.specs.Boxes.{in_box}
-use Rattle.module_box.specs.declared.boxes.Box2.{Box2}
+use Rattle.bbm_rule.specs.Boxes.{in_box}
+use Rattle.bbm_rule.specs.declared.block.Box2.{Box2}
 use Rattle.certificate_lines.specs.declared.ports.PortTable.TheInside.{Inside}
 
 -- the name of the port at the cell (x, y)
@@ -56,12 +58,17 @@ pub record AreNumberedRows (b : Box2) (ports : List Port) (rows : List ℕ) (cou
   pub own : (row other n : ℕ) → get_or rows row 0 ≡ suc n → get_or rows other 0 ≡ suc n → row ≡ other
   pub each : (i : ℕ) (p : Port) → slice_get ports i ≡ Some p → 0 < get_or rows (unsigned_abs p.cell.y - b.y) 0
 
--- the ports of a table, from its fields
-abbrev pub table_ports : Inside → List Port
-table_ports a = a.ports.now
+-- a circuit, and the inputs or the outputs of a layout
+pub record CircuitPorts : Type 0 where
+  pub circuit : Circuit
+  pub ports : List Port
+
+-- the circuit and the ports of a table, from its fields
+abbrev pub circuit_ports : Inside → CircuitPorts
+circuit_ports a = record { circuit = circuit_of a.circuit.now; ports = a.ports.now }
 
 -- each cell of a numbered row has an entry, which is the number of the port there, or 0. No port is in a row without a
--- number, or outside the area.
+-- number, or outside the area. Each port has its wire.
 pub record IsPortTable (a : Inside) : Type 0 where
   pub small : (a.area.w ≤ 512) × (a.area.h ≤ 512)
   pub sized : length a.rows.items ≡ a.area.h
@@ -69,4 +76,5 @@ pub record IsPortTable (a : Inside) : Type 0 where
       place < length a.numbers.items
   pub numbered : (x y : ℤ) → in_box a.area x y ≡ true →
       entry_or_zero a.numbers.items (entry_place a.area a.rows.items x y) ≡ number_at a.ports.now x y
+  pub wires : a.wires.items ≡ map (λ p. wire_of (circuit_of a.circuit.now) p.name) a.ports.now
   pub elsewhere : (x y : ℤ) → in_box a.area x y ≡ false → port_at a.ports.now x y ≡ None

@@ -10,10 +10,10 @@ use Rattle.circuit.specs.Gates.{is_inverse}
 use Rattle.circuit.specs.Meaning.{Circuit, Gate, wire_of}
 use Rattle.pattern.specs.Layout.{rectangle_cells}
 use Rattle.pattern.specs.declared.layout_line.LayoutHeader.{LayoutHeader}
-use Rattle.module_box.specs.Boxes.{in_box, in_ring, in_halo}
+use Rattle.bbm_rule.specs.Boxes.{in_box, in_ring, in_halo}
 use Rattle.module_box.specs.Locals.{is_among, cut_limit, use_limit}
 use Rattle.module_box.specs.Tiling.{rectangle_of}
-use Rattle.module_box.specs.declared.boxes.Box2.{Box2}
+use Rattle.bbm_rule.specs.declared.block.Box2.{Box2}
 use Rattle.certificate_lines.specs.declared.certificate_line.BorderLine.{BorderLine}
 use Rattle.certificate_lines.specs.declared.certificate_line.CertificateLine.{CertificateLine}
 use Rattle.certificate_lines.specs.declared.certificate_line.StopLine.{StopLine}
@@ -60,8 +60,8 @@ abbrev pub is_odd : ℕ → Bool
 is_odd n = n % 2 == 1
 
 -- a side is even, 2 to 64
-abbrev pub is_wrong_side : ℕ → Bool
-is_wrong_side n = is_odd n || nat_lt n 2 || nat_lt 64 n
+abbrev pub is_bad_box_side : ℕ → Bool
+is_bad_box_side n = is_odd n || nat_lt n 2 || nat_lt 64 n
 
 -- a corner is even, and the box is inside the rectangle
 abbrev pub is_misplaced : LayoutHeader → Box2 → Bool
@@ -71,19 +71,15 @@ is_misplaced s b = is_odd b.x || is_odd b.y || nat_lt s.w (b.x + b.w) || nat_lt 
 abbrev pub in_boxes : List Box2 → State
 in_boxes boxes x y = list_any (λ b. in_box b x y) boxes
 
--- the cells of a box, in order of y and then x
-abbrev pub box_cells : Box2 → List Cell
-box_cells b = rectangle_cells (record { x = b.x; y = b.y; w = b.w; h = b.h })
-
 -- a cell of the box is one of an earlier box
 abbrev pub overlaps : List Box2 → Box2 → Bool
-overlaps boxes b = list_any (λ c. in_boxes boxes c.x c.y) (box_cells b)
+overlaps boxes b = list_any (λ c. in_boxes boxes c.x c.y) (rectangle_cells b)
 
 -- the tests of a box by itself, after `count` modules, the last of them `before`
 unfoldable pub box_fault : Setting → ℕ → Option ModuleLines → Box2 → Option RefusalCode
 box_fault g count before b =
     or_else (code_if (is_last_module_incomplete g before) SomethingMissing)
-    (or_else (code_if (is_wrong_side b.w || is_wrong_side b.h || nat_le 1024 count) PastLimit)
+    (or_else (code_if (is_bad_box_side b.w || is_bad_box_side b.h || nat_le 1024 count) PastLimit)
     (code_if (is_misplaced g.size b) MisplacedBox))
 
 -- the code of a `module` line after these modules
@@ -181,34 +177,34 @@ signal_fault c local None = None
 signal_fault c local (Some name) = wire_fault local (wire_of c name)
 
 -- the most edge, halo and stop lines of a module
-abbrev pub border_limit : ℕ
-border_limit = 65536
+abbrev pub timed_line_limit : ℕ
+timed_line_limit = 65536
 
 -- the code of such a line after `count` of these lines; `placed` says whether it may have its cell and time
 unfoldable pub border_line_code : Circuit → ℕ → List ℕ → Bool → Option (List ℕ) → Option RefusalCode
 border_line_code c count local placed signal =
-    or_else (code_if (nat_le border_limit count) PastLimit)
+    or_else (code_if (nat_le timed_line_limit count) PastLimit)
     (or_else (code_if (not placed) NoPlace) (signal_fault c local signal))
 
 -- ---- a line after the lines before it
 
 -- how many edge, halo and stop lines a module has
-abbrev pub border_count : ModuleLines → ℕ
-border_count m = length (edges m) + length (halos m) + length (stops m)
+abbrev pub timed_line_count : ModuleLines → ℕ
+timed_line_count m = length (edges m) + length (halos m) + length (stops m)
 
 -- the code of an edge line of a module
 abbrev pub edge_line_code : Setting → ModuleLines → BorderLine → Option RefusalCode
-edge_line_code g m e = border_line_code g.circuit (border_count m) (known g.circuit m)
+edge_line_code g m e = border_line_code g.circuit (timed_line_count m) (known g.circuit m)
     (is_edge_place_and_time g.size m.area (list_any (is_starred_line_at e.cell) (edges m)) e) e.signal
 
 -- the code of a halo line of a module
 abbrev pub halo_line_code : Setting → ModuleLines → BorderLine → Option RefusalCode
-halo_line_code g m e = border_line_code g.circuit (border_count m) (known g.circuit m)
+halo_line_code g m e = border_line_code g.circuit (timed_line_count m) (known g.circuit m)
     (is_halo_place_and_time g.size m.area (list_any (is_starred_line_at e.cell) (halos m)) e) e.signal
 
 -- the code of a stop line of a module
 abbrev pub stop_line_code : Setting → ModuleLines → StopLine → Option RefusalCode
-stop_line_code g m s = border_line_code g.circuit (border_count m) (known g.circuit m)
+stop_line_code g m s = border_line_code g.circuit (timed_line_count m) (known g.circuit m)
     (is_stop_place_and_time g.size m.area s)
     (Some s.wire)
 
@@ -245,7 +241,7 @@ entry_fault g before (Stop s) = body_line_code g (last_module before) (Stop s)
 
 -- some cell of the rectangle lies in no box
 abbrev pub leaves_gap : LayoutHeader → List Box2 → Bool
-leaves_gap s boxes = not (list_all (λ c. in_boxes boxes c.x c.y) (box_cells (whole s)))
+leaves_gap s boxes = not (list_all (λ c. in_boxes boxes c.x c.y) (rectangle_cells (whole s)))
 
 -- the ports of the last module are local, and the boxes leave no gap
 unfoldable pub end_fault : Setting → List CertificateLine → Option RefusalCode

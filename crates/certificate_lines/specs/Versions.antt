@@ -7,9 +7,9 @@ use Rattle.std.specs.Prelude.{Option, Some, None, nat_lt}
 use Rattle.std.specs.List.{filter, flat_map, list_any}
 use Rattle.std.specs.declared.cmp.Ordering.{Ordering}
 use Rattle.std.specs.Ordering.{nat_cmp, ordering_then, is_lt}
-use Rattle.module_box.specs.Boxes.{in_halo}
+use Rattle.bbm_rule.specs.Boxes.{in_halo}
 use Rattle.module_box.specs.Moments.{cell_cmp}
-use Rattle.module_box.specs.declared.boxes.Box2.{Box2}
+use Rattle.bbm_rule.specs.declared.block.Box2.{Box2}
 use Rattle.circuit.specs.Meaning.{Circuit}
 use Rattle.certificate_lines.specs.Entries.{Setting, ModuleLines, edges, known, stops}
 use Rattle.certificate_lines.specs.Orders.{time_rank}
@@ -24,15 +24,15 @@ use Rattle.certificate_lines.specs.declared.certificate_line.CertificateLine.The
 unfoldable pub border_line_cmp : BorderLine → BorderLine → Ordering
 border_line_cmp d e = ordering_then (nat_cmp (time_rank d.time) (time_rank e.time)) (cell_cmp d.cell e.cell)
 
--- before the first line that it comes before
+-- a line inserted before the first line that it comes before
 unfoldable pub insert_border_line : BorderLine → List BorderLine → List BorderLine
 insert_border_line d [] = d ∷ []
 insert_border_line d (e ∷ es) = if is_lt (border_line_cmp d e) then d ∷ e ∷ es else e ∷ insert_border_line d es
 
--- the same lines in that order
-unfoldable pub in_order : List BorderLine → List BorderLine
-in_order [] = []
-in_order (d ∷ ds) = insert_border_line d (in_order ds)
+-- the lines in the order of edge and halo lines
+unfoldable pub sorted_border_lines : List BorderLine → List BorderLine
+sorted_border_lines [] = []
+sorted_border_lines (d ∷ ds) = insert_border_line d (sorted_border_lines ds)
 
 -- ---- halos
 
@@ -64,7 +64,7 @@ precedes_halos _ = true
 unfoldable pub with_halos : Setting → List ModuleLines → ModuleLines → ModuleLines
 with_halos g ms m =
     record m {
-      lines = filter precedes_halos m.lines ++ map Halo (in_order (edge_lines_beside g ms m.area))
+      lines = filter precedes_halos m.lines ++ map Halo (sorted_border_lines (edge_lines_beside g ms m.area))
           ++ map Stop (stops m);
     }
 

@@ -1,22 +1,23 @@
 //! A certificate that is read, line by line.
-ghost use Rattle.std.specs.Prelude.{◌≡◌, ◌+◌, ◌≤◌, ◌<◌, ◌++◌, ◌∷◌, [], not, map, ◌&&◌, Bool, None, Some, List, ℕ, length, OnOk, IfOk, IfErr};
+ghost use Rattle.std.specs.Prelude.{◌≡◌, ◌+◌, ◌≤◌, ◌<◌, ◌++◌, ◌∷◌, [], map, None, Option, Some, List, ℕ, length, OnOk, IfOk, IfErr};
 ghost use Rattle.section_text.specs.Adding.{HasRefusalCode};
-ghost use Rattle.std.specs.List.{list_any};
-ghost use Rattle.certificate_lines.specs.Entries.{ModuleLines, counts_of, known, modules_of, last_module};
-ghost use Rattle.certificate_lines.specs.Rules.{border_line_code, entry_fault, end_fault, box_fault, module_fault, body_line_code, content_code, is_last_module_incomplete};
-ghost use Rattle.module_box.specs.Boxes.{in_box};
-ghost use Rattle.certificate_lines.specs.BuilderView.{BuilderView, IsEdgeHaloOrStopLine, IsCutWire, IsBodyLine, AreSmallCounts};
+ghost use Rattle.std.specs.Option.{is_some};
+ghost use Rattle.certificate_lines.specs.Entries.{ModuleLines, counts_of, known, modules_of, last_module, name_in};
+ghost use Rattle.certificate_lines.specs.ModuleParts.{BeginWithModule};
+ghost use Rattle.certificate_lines.specs.NamedWires.{IsWireOfName};
+ghost use Rattle.certificate_lines.specs.Rules.{timed_line_count, border_line_code, entry_fault, end_fault, box_fault, module_fault, body_line_code, content_code, is_last_module_incomplete};
+ghost use Rattle.certificate_lines.specs.BuilderView.{BuilderView, IsEdgeHaloOrStopLine, IsBodyLine, AreSmallCounts};
 ghost use Rattle.certificate_lines.specs.declared.certificate_line.CertificateLine.TheVariants.{Module};
 
 use crate::certificate_line::{CertificateLine, Counts};
 use crate::counts::{count_in_last, last_counts, pop_module, push_entry, push_module};
-use crate::known::{learn_line, make_room_for_wires, move_wires_to_earlier};
 use crate::line_tables::LineTables;
-use crate::local_names::{CutWire, LocalNames, circuit_name_of_line, cut_wire};
-use crate::order::may_follow;
+use crate::local_wires::{make_room_for_wires, move_wires_to_earlier, push_line_wires};
+use crate::named_wires::NamedWire;
+use crate::order::{LineKey, first_key, key_of, may_follow};
 use crate::rules::{
-    border_code, cut_code, has_nonlocal_name, is_bad_box_side, is_misplaced_box, keep_code,
-    may_edge_be_there, may_halo_be_there, may_stop_be_there, stop_code, use_code,
+    border_code, cut_code, is_bad_box_side, is_misplaced_box, keep_code, may_edge_be_there,
+    may_halo_be_there, may_stop_be_there, use_code,
 };
 use crate::stars::{has_star, make_room_for_stars, note_stars};
 use crate::stored_line::StoredLine;
@@ -25,8 +26,8 @@ use crate::wire_list::WireList;
 use bbm_rule::{Cell, Grid};
 use indexmap::IndexSet;
 use module_box::Box2;
-use pattern::{Rectangle, fill_rectangle, is_any_live_in};
-use section_text::{LineFault, Name, RefusalCode};
+use pattern::{fill_rectangle, is_any_live_in};
+use section_text::{LineFault, RefusalCode};
 use std::alloc::{AllocError, Global};
 use std::marker::Model;
 
@@ -46,13 +47,12 @@ pub struct Builder<'a> {
     covered: Grid,
     // the wires that are local in each module before the last, behind none
     pub(crate) earlier: Vec<WireList>,
-    // of the last module: the names of its ports, its local wires, and its cells with a `*`
-    names: Vec<Name>,
+    // the key of the last line
+    last: LineKey,
+    // of the last module: its local wires, and its cells with a `*`
     pub(crate) known: WireList,
     edges: IndexSet<Cell>,
     halos: IndexSet<Cell>,
-    // names of wires that are local in the last module
-    local_names: LocalNames<'a>,
 }
 
 impl<'a> Model for Builder<'a> {
@@ -80,11 +80,10 @@ impl<'a> Builder<'a> {
             modules: Vec::new(alloc),
             covered,
             earlier: Vec::new(alloc),
-            names: Vec::new(alloc),
+            last: first_key(),
             known: WireList::new(alloc),
             edges: IndexSet::new(alloc),
             halos: IndexSet::new(alloc),
-            local_names: LocalNames::new(),
         })
     }
 
@@ -93,58 +92,57 @@ impl<'a> Builder<'a> {
         ensures { result
             ≡ is_last_module_incomplete self.now.setting (last_module self.now.entries) }
     {
-        has_nonlocal_name(&self.tables, &self.known, &self.names)
+        let _size = self.tables.size();
+        match last_counts(&self.modules) {
+            Some(counts) => self.tables.has_nonlocal_port(&self.known, counts.area),
+            None => false,
+        }
     }
 
-    // The code of an edge or halo line, by `border_code` with the names of the last module's wires.
+    // The code of an edge, halo or stop line, by `border_code` with the wires of the last module.
     #[inline(always)]
     fn border_code(
-        &mut self,
-        count: usize,
+        &self,
+        counts: Counts,
         placed: bool,
-        signal: &Option<Name>,
+        named: bool,
+        wire: Option<NamedWire<'a>>,
     ) -> Option<RefusalCode>
-        ensures code { (m : ModuleLines) → last_module self.old.entries ≡ Some m →
-            result ≡ border_line_code self.old.setting.circuit count
-            (known self.old.setting.circuit m) placed signal.now }
-        ensures same_lines { self.new ≡ self.old }
+        requires counts { AreSmallCounts counts }
+        ensures { (m : ModuleLines) (signal : Option (List ℕ)) →
+            last_module self.now.entries ≡ Some m → counts ≡ counts_of m →
+            named ≡ is_some signal → IsWireOfName self.now.setting.circuit signal wire.entry →
+            result ≡ border_line_code self.now.setting.circuit (timed_line_count m)
+            (known self.now.setting.circuit m) placed signal }
     {
-        let names = &mut self.local_names;
-        border_code(&self.tables, count, &self.known, names, placed, signal)
-    }
-
-    // The code of a stop line, by `stop_code` with the names of the last module's wires.
-    #[inline(always)]
-    fn stop_code(&mut self, count: usize, placed: bool, wire: &Name) -> Option<RefusalCode>
-        ensures code { (m : ModuleLines) → last_module self.old.entries ≡ Some m →
-            result ≡ border_line_code self.old.setting.circuit count
-            (known self.old.setting.circuit m) placed (Some wire.now) }
-        ensures same_lines { self.new ≡ self.old }
-    {
-        let names = &mut self.local_names;
-        stop_code(&self.tables, count, &self.known, names, placed, wire)
+        let borders = counts.edges + counts.halos + counts.stops;
+        border_code(
+            borders,
+            &self.known,
+            placed,
+            named,
+            wire.map(|own| own.wire),
+        )
     }
 
     // The code of the tests that come after that of the order, where these are the counts of the last module.
     #[inline(always)]
     fn content_code(
-        &mut self,
+        &self,
         counts: Counts,
         entry: &CertificateLine,
-        cut: Option<CutWire<'a>>,
+        wire: Option<NamedWire<'a>>,
     ) -> Option<RefusalCode>
         requires counts { AreSmallCounts counts }
-        requires cut { IsCutWire self.old.setting.circuit entry.now cut }
-        ensures code { (m : ModuleLines) → last_module self.old.entries ≡ Some m →
-            counts ≡ counts_of m → result ≡ content_code self.old.setting m entry.now }
-        ensures same_lines { self.new ≡ self.old }
+        requires wire { IsWireOfName self.now.setting.circuit (name_in entry.now) wire }
+        ensures { (m : ModuleLines) → last_module self.now.entries ≡ Some m →
+            counts ≡ counts_of m → result ≡ content_code self.now.setting m entry.now }
     {
         let size = self.tables.size();
-        let borders = counts.edges + counts.halos + counts.stops;
         match entry {
             CertificateLine::Module(_) => None,
             CertificateLine::Cut(_) => {
-                cut_code(counts.cuts, &self.known, cut.map(|cut| cut.wire))
+                cut_code(counts.cuts, &self.known, wire.map(|own| own.wire))
             }
             CertificateLine::Use(number) => use_code(
                 &self.tables,
@@ -160,40 +158,39 @@ impl<'a> Builder<'a> {
             CertificateLine::Edge(border) => {
                 let starred = has_star(&self.edges, border.cell);
                 let placed = may_edge_be_there(size, counts.area, starred, border);
-                self.border_code(borders, placed, &border.signal)
+                self.border_code(counts, placed, border.signal.is_some(), wire)
             }
             CertificateLine::Halo(border) => {
                 let starred = has_star(&self.halos, border.cell);
                 let placed = may_halo_be_there(size, counts.area, starred, border);
-                self.border_code(borders, placed, &border.signal)
+                self.border_code(counts, placed, border.signal.is_some(), wire)
             }
             CertificateLine::Stop(stop) => {
                 let placed = may_stop_be_there(size, counts.area, stop);
-                self.stop_code(borders, placed, &stop.wire)
+                self.border_code(counts, placed, true, wire)
             }
         }
     }
 
-    // The code of a line of a module. `cut` is the wire that the line cuts, if it cuts one.
+    // The code of a line of a module. `wire` is the wire that the line names, if it names one.
     #[inline(always)]
     fn body_line_code(
-        &mut self,
+        &self,
         entry: &CertificateLine,
-        cut: Option<CutWire<'a>>,
+        wire: Option<NamedWire<'a>>,
     ) -> Option<RefusalCode>
         requires inner { IsBodyLine entry.now }
-        requires cut { IsCutWire self.old.setting.circuit entry.now cut }
-        ensures code { result
-            ≡ body_line_code self.old.setting (last_module self.old.entries) entry.now }
-        ensures same_lines { self.new ≡ self.old }
+        requires wire { IsWireOfName self.now.setting.circuit (name_in entry.now) wire }
+        ensures { result
+            ≡ body_line_code self.now.setting (last_module self.now.entries) entry.now }
     {
         let Some(counts) = last_counts(&self.modules) else {
             return Some(RefusalCode::OutOfOrder);
         };
-        if !may_follow(self.entries.as_slice(), entry) {
+        if !may_follow(self.last, entry) {
             return Some(RefusalCode::OutOfOrder);
         }
-        self.content_code(counts, entry, cut)
+        self.content_code(counts, entry, wire)
     }
 }
 
@@ -210,16 +207,17 @@ impl<'a> Builder<'a> {
         ensures fault { IfErr result (λ e. HasRefusalCode e
             (body_line_code self.old.setting (last_module self.old.entries) entry)) }
     {
-        if let Some(code) = self.body_line_code(&entry, None) {
+        let wire = self.tables.wire_in(&entry);
+        if let Some(code) = self.body_line_code(&entry, wire) {
             return Err(LineFault::Code(code));
         }
         if make_room_for_stars(&mut self.edges, &mut self.halos, &entry).is_err() {
             return Err(LineFault::Memory);
         }
-        let name = circuit_name_of_line(&self.tables, &self.known, &self.local_names, &entry, None);
-        push_entry(&mut self.entries, StoredLine::of(&entry, name))?;
+        push_entry(&mut self.entries, StoredLine::of(&entry, wire))?;
         note_stars(&mut self.edges, &mut self.halos, &entry);
         count_in_last(&mut self.modules, &entry);
+        self.last = key_of(&entry);
         Ok(())
     }
 
@@ -233,8 +231,8 @@ impl<'a> Builder<'a> {
         ensures fault { IfErr result (λ e. HasRefusalCode e
             (body_line_code self.old.setting (last_module self.old.entries) entry)) }
     {
-        let cut = cut_wire(&self.tables, &entry);
-        if let Some(code) = self.body_line_code(&entry, cut) {
+        let wire = self.tables.wire_in(&entry);
+        if let Some(code) = self.body_line_code(&entry, wire) {
             return Err(LineFault::Code(code));
         }
         if make_room_for_wires(&mut self.known, &self.tables, &entry).is_err() {
@@ -243,32 +241,18 @@ impl<'a> Builder<'a> {
         if make_room_for_stars(&mut self.edges, &mut self.halos, &entry).is_err() {
             return Err(LineFault::Memory);
         }
-        let name = circuit_name_of_line(&self.tables, &self.known, &self.local_names, &entry, cut);
-        push_entry(&mut self.entries, StoredLine::of(&entry, name))?;
-        learn_line(&mut self.known, &self.tables, &entry, cut);
-        self.local_names
-            .cache_cut_name(&self.tables, &self.known, &entry, cut);
+        push_entry(&mut self.entries, StoredLine::of(&entry, wire))?;
+        push_line_wires(&mut self.known, &self.tables, &entry, wire);
         note_stars(&mut self.edges, &mut self.halos, &entry);
         count_in_last(&mut self.modules, &entry);
+        self.last = key_of(&entry);
         Ok(())
     }
 }
 
 impl<'a> Builder<'a> {
-    // The names of the ports in a box.
-    fn port_names_in_box(&self, alloc: Global, area: Box2) -> Result<Vec<Name>, AllocError>
-        requires { (area.x + area.w ≤ 512) × (area.y + area.h ≤ 512) }
-        ensures { IfOk result (λ names. (f : List ℕ → Bool) →
-            list_any f names.items
-            ≡ list_any (λ p. in_box area p.cell.x p.cell.y && f p.name) self.now.setting.ports) }
-    {
-        let mut names = Vec::new(alloc);
-        self.tables.push_port_names_in(&mut names, area)?;
-        Ok(names)
-    }
-
     // How many modules there are.
-    fn count(&self) -> usize
+    fn module_count(&self) -> usize
         ensures { result ≡ length (modules_of self.now.entries) }
     {
         self.modules.len()
@@ -291,7 +275,7 @@ impl<'a> Builder<'a> {
         }
         let bad_width = is_bad_box_side(area.w);
         let bad_height = is_bad_box_side(area.h);
-        if bad_width | bad_height | (self.count() >= MAX_MODULES) {
+        if bad_width | bad_height | (self.module_count() >= MAX_MODULES) {
             return Some(RefusalCode::PastLimit);
         }
         if is_misplaced_box(size, area) {
@@ -312,8 +296,7 @@ impl<'a> Builder<'a> {
         if let Some(code) = self.box_code(area) {
             return Some(code);
         }
-        let Box2 { x, y, w, h } = area;
-        if is_any_live_in(&self.covered, Rectangle { x, y, w, h }) {
+        if is_any_live_in(&self.covered, area) {
             return Some(RefusalCode::MisplacedBox);
         }
         None
@@ -330,20 +313,15 @@ impl<'a> Builder<'a> {
         if let Some(code) = self.module_code(area) {
             return Err(LineFault::Code(code));
         }
-        let Ok(names) = self.port_names_in_box(alloc, area) else {
-            return Err(LineFault::Memory);
-        };
         push_module(&mut self.entries, &mut self.modules, area)?;
         let Ok(()) = move_wires_to_earlier(alloc, &mut self.earlier, &mut self.known) else {
             pop_module(&mut self.entries, &mut self.modules);
             return Err(LineFault::Memory);
         };
-        let Box2 { x, y, w, h } = area;
-        fill_rectangle(&mut self.covered, Rectangle { x, y, w, h });
-        self.names = names;
+        fill_rectangle(&mut self.covered, area);
+        self.last = first_key();
         self.edges.truncate(0);
         self.halos.truncate(0);
-        self.local_names = LocalNames::new();
         Ok(())
     }
 
@@ -389,6 +367,7 @@ impl<'a> Builder<'a> {
     pub fn into_parts(self) -> (Vec<StoredLine<'a>>, Vec<Counts>)
         ensures entries { result.0.items ≡ self.entry.entries }
         ensures counts { result.1.items ≡ map counts_of (modules_of self.entry.entries) }
+        ensures begun { BeginWithModule self.entry.entries }
     {
         let Builder {
             entries,

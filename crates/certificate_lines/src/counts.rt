@@ -1,8 +1,8 @@
 //! How many lines of each kind a module has, line by line.
-ghost use Rattle.std.specs.Prelude.{◌≡◌, ◌+◌, ◌-◌, ◌<◌, ◌++◌, ◌∷◌, [], length, take, Some, OnOk, OnErr, IfErr};
+ghost use Rattle.std.specs.Prelude.{◌≡◌, ◌+◌, ◌-◌, ◌<◌, ◌++◌, ◌∷◌, [], List, length, map, take, Some, IfOk, OnOk, OnErr, IfErr};
 ghost use Rattle.section_text.specs.declared.section.LineFault.TheVariants.{Memory};
-ghost use Rattle.certificate_lines.specs.Entries.{change_last, last_of};
-ghost use Rattle.certificate_lines.specs.BuilderView.{counted, AreSmallCounts};
+ghost use Rattle.certificate_lines.specs.Entries.{ModuleLines, areas, change_last, counts_of, last_of};
+ghost use Rattle.certificate_lines.specs.BuilderView.{counts_with_line, AreSmallCounts};
 ghost use Rattle.certificate_lines.specs.declared.certificate_line.Counts.{Counts};
 ghost use Rattle.certificate_lines.specs.declared.certificate_line.CertificateLine.TheVariants.{Module};
 
@@ -10,13 +10,14 @@ use crate::certificate_line::{CertificateLine, Counts};
 use crate::stored_line::StoredLine;
 use module_box::Box2;
 use section_text::LineFault;
+use std::alloc::{AllocError, Global};
 
 // Counts one more line of a module.
 #[inline(always)]
-#[tactic(auto, unfolding(crate::specs::BuilderView::counted))]
+#[tactic(auto, unfolding(crate::specs::BuilderView::counts_with_line))]
 fn count_line(counts: &mut Counts, entry: &CertificateLine)
     requires { AreSmallCounts counts.old }
-    ensures { counts.new ≡ counted entry.now counts.old }
+    ensures { counts.new ≡ counts_with_line entry.now counts.old }
 {
     match entry {
         CertificateLine::Module(_) => {}
@@ -40,7 +41,7 @@ pub(crate) fn last_counts(modules: &[Counts]) -> Option<Counts>
 #[inline(always)]
 pub(crate) fn count_in_last(modules: &mut Vec<Counts>, entry: &CertificateLine)
     requires { (k : Counts) → last_of modules.old.items ≡ Some k → AreSmallCounts k }
-    ensures { modules.new.items ≡ change_last (counted entry.now) modules.old.items }
+    ensures { modules.new.items ≡ change_last (counts_with_line entry.now) modules.old.items }
 {
     if modules.is_empty() {
         return;
@@ -99,4 +100,16 @@ pub(crate) fn pop_module(entries: &mut Vec<StoredLine>, modules: &mut Vec<Counts
 {
     entries.truncate(entries.len() - 1);
     modules.truncate(modules.len() - 1);
+}
+
+/// Returns the boxes of modules.
+pub fn boxes_of(alloc: Global, modules: &[Counts]) -> Result<Vec<Box2>, AllocError>
+    ensures { IfOk result (λ boxes. (ms : List ModuleLines) → modules.now ≡ map counts_of ms →
+        boxes.items ≡ areas ms) }
+{
+    let mut boxes = Vec::with_capacity(alloc, modules.len())?;
+    'modules: for counts in modules {
+        boxes.push(counts.area)?;
+    }
+    Ok(boxes)
 }

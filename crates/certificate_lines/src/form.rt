@@ -3,27 +3,15 @@ ghost use Rattle.std.specs.Prelude.{◌≡◌, ℕ, List, ◌∷◌, take, codes
 ghost use Rattle.std.specs.Option.{option_map};
 ghost use Rattle.std.specs.Str.{bytes_eq};
 ghost use Rattle.section_text.specs.Listed.{list_of_five_words};
-ghost use Rattle.section_text.specs.Words.{words_of, lone};
+ghost use Rattle.section_text.specs.Words.{words_of, if_one_word};
 ghost use Rattle.section_text.specs.Feeds.{IsLine, line_bytes};
-ghost use Rattle.certificate_lines.specs.Forms.{Line as FormLine, area_of, border_of, form_of, form_of_not_five_words, stop_of};
+ghost use Rattle.certificate_lines.specs.Forms.{Line as FormLine, border_of, form_of, form_of_not_five_words, stop_of};
 ghost use Rattle.certificate_lines.specs.BorderWords.{leading_star_or_time, one_or_name_from_word};
 
 use crate::certificate_line::{BorderLine, CertificateLine, StopLine};
 use bbm_rule::Cell;
-use module_box::Box2;
-use pattern::cell_from_words;
+use pattern::{box_from_words, cell_from_words};
 use section_text::{Feed, FiveWords, Form, Line, Name, is_keyword, read_number, take_number};
-
-#[tactic(auto, unfolding(crate::specs::Forms::area_of, crate::specs::Forms::corner_and_sides, section_text::specs::Words::number_at))]
-fn area_of_words(words: &FiveWords) -> Option<Box2>
-    ensures { result ≡ area_of (list_of_five_words words.now) }
-{
-    let x = read_number(words.second)?;
-    let y = read_number(words.third)?;
-    let w = read_number(words.fourth)?;
-    let h = read_number(words.fifth)?;
-    Some(Box2 { x, y, w, h })
-}
 
 // Whether a line begins with a `*` and a space.
 fn begins_with_star(line: &[u8]) -> bool
@@ -84,10 +72,11 @@ fn stop_of_words(words: &FiveWords) -> Option<StopLine>
     Some(StopLine { time, wire, cell })
 }
 
-#[tactic(auto, unfolding(section_text::specs::Words::lone))]
+#[tactic(auto, unfolding(section_text::specs::Words::if_one_word))]
 fn end_form(feed: &Feed, line: &Line) -> Option<Form<u32, CertificateLine>>
     requires { IsLine feed.now line.now }
-    ensures { result ≡ lone {A = FormLine} (words_of (line_bytes feed.now line.now)) Form.End }
+    ensures { result
+        ≡ if_one_word {A = FormLine} (words_of (line_bytes feed.now line.now)) Form.End }
 {
     if feed.words(line) == 1 {
         Some(Form::End)
@@ -135,7 +124,7 @@ fn five_word_line_form(words: FiveWords) -> Option<Form<u32, CertificateLine>>
     ensures { result ≡ form_of (list_of_five_words words.entry) }
 {
     if is_keyword(words.first, b"module") {
-        Some(Form::Item(CertificateLine::Module(area_of_words(&words)?)))
+        Some(Form::Item(CertificateLine::Module(box_from_words(&words)?)))
     } else {
         None
     }
@@ -149,13 +138,13 @@ fn not_five_words_line_form(feed: &Feed, line: &Line) -> Option<Form<u32, Certif
 {
     let keyword = feed.first_word(line);
     if is_keyword(keyword, b"cut") {
-        Some(Form::Item(CertificateLine::Cut(feed.lone_name(line)?)))
+        Some(Form::Item(CertificateLine::Cut(feed.name_after_keyword(line)?)))
     } else if is_keyword(keyword, b"use") {
-        Some(Form::Item(CertificateLine::Use(feed.lone_number(line)?)))
+        Some(Form::Item(CertificateLine::Use(feed.number_after_keyword(line)?)))
     } else if is_keyword(keyword, b"keep") {
-        Some(Form::Item(CertificateLine::Keep(feed.lone_number(line)?)))
+        Some(Form::Item(CertificateLine::Keep(feed.number_after_keyword(line)?)))
     } else if is_keyword(keyword, b"certificate") {
-        Some(Form::Header(feed.lone_number(line)?))
+        Some(Form::Header(feed.number_after_keyword(line)?))
     } else if is_keyword(keyword, b"end") {
         end_form(feed, line)
     } else {

@@ -1,22 +1,29 @@
 //! The circuit and the layout that a certificate is for, with tables of the layout's ports by their cells.
-ghost use Rattle.std.specs.Prelude.{◌≡◌, ◌+◌, ◌<◌, ◌≤◌, ◌||◌, ◌&&◌, Bool, ℕ, List, false, None, slice_get, OnOk, IfOk, IfSome};
+ghost use Rattle.pattern.specs.Layout.{rectangle_cells};
+ghost use Rattle.std.specs.Prelude.{◌≡◌, ◌+◌, ◌<◌, ◌≤◌, ◌&&◌, not, slice_get, IfOk, IfSome};
 ghost use Rattle.std.specs.List.{All, list_any};
-ghost use Rattle.std.specs.Option.{option_map, option_map_or};
+ghost use Rattle.std.specs.Option.{option_and_then, option_map};
 ghost use Rattle.circuit.specs.Meaning.{wire_of};
 ghost use Rattle.circuit.specs.Wiring.{gate_of};
 ghost use Rattle.pattern.specs.Layout.{row_cells};
 ghost use Rattle.pattern.specs.Lines.{size_fault};
-ghost use Rattle.module_box.specs.Boxes.{in_box};
-ghost use Rattle.certificate_lines.specs.Rules.{box_cells, is_inverse_gate};
+ghost use Rattle.bbm_rule.specs.Boxes.{in_box};
+ghost use Rattle.certificate_lines.specs.Entries.{name_in};
+ghost use Rattle.certificate_lines.specs.NamedWires.{IsWireOfName};
+ghost use Rattle.certificate_lines.specs.Rules.{is_inverse_gate, is_local};
+ghost use Rattle.certificate_lines.specs.Versions.{is_nonlocal_signal};
 ghost use Rattle.certificate_lines.specs.PortTables.{port_at};
 ghost use Rattle.certificate_lines.specs.Settings.{setting_of};
 
+use crate::certificate_line::CertificateLine;
+use crate::named_wires::{NamedWire, SLOT_COUNT, empty_slots, find_wire, name_in};
 use crate::ports::{PortTable, port_tables};
+use crate::stored_line::StoredBorder;
+use crate::wire_list::WireList;
 use bbm_rule::Cell;
 use circuit::{Circuit, GateNo, GateWires};
 use module_box::Box2;
 use pattern::{Layout, LayoutHeader};
-use section_text::Name;
 use std::alloc::{AllocError, Global};
 use std::marker::Model;
 
@@ -27,6 +34,8 @@ pub struct LineTables<'a> {
     layout: &'a Layout,
     ins: PortTable<'a>,
     outs: PortTable<'a>,
+    // wires that lines named
+    slots: [Option<NamedWire<'a>>; SLOT_COUNT],
 }
 
 impl<'a> Model for LineTables<'a> {
@@ -41,59 +50,55 @@ impl<'a> Model for LineTables<'a> {
     ghost invariant = { AreLineTables };
 }
 
-fn push_name_if_some(names: &mut Vec<Name>, name: Option<Name>) -> Result<(), AllocError>
-    ensures { OnOk result ((f : List ℕ → Bool) →
-        list_any f names.new.items ≡ (list_any f names.old.items || option_map_or f name false)) }
+// Whether there is a port at the cell, and its wire is not local.
+#[inline(always)]
+fn is_nonlocal_port(ports: &PortTable, known: &WireList, cell: Cell) -> bool
+    ensures { result ≡ is_nonlocal_signal ports.now.circuit known.now.wires
+        (port_at ports.now.ports cell.x cell.y) }
 {
-    match name {
-        Some(name) => names.push(name)?,
-        None => {}
+    match ports.get(cell) {
+        Some(Some(wire)) => !known.contains(wire.number()),
+        Some(None) => true,
+        None => false,
     }
-    Ok(())
 }
 
-// Adds the names of the ports at `width` cells of row `y`, from column `x` on.
-fn push_port_names_in_row(
-    names: &mut Vec<Name>,
-    ports: &PortTable,
-    x: u32,
-    y: u32,
-    width: u32,
-) -> Result<(), AllocError>
+// Whether a port at one of `width` cells of row `y`, from column `x` on, has a wire that is not local.
+fn has_row_nonlocal_port(ports: &PortTable, known: &WireList, x: u32, y: u32, width: u32) -> bool
     requires { (x + width ≤ 512) × (y < 512) }
-    ensures { OnOk result ((f : List ℕ → Bool) →
-        list_any f names.new.items
-        ≡ (list_any f names.old.items || list_any
-        (λ c. option_map_or f (port_at ports.now c.x c.y) false) (row_cells x width y))) }
+    ensures { result
+        ≡ list_any (λ c. is_nonlocal_signal ports.now.circuit known.now.wires
+        (port_at ports.now.ports c.x c.y)) (row_cells x width y) }
 {
     if ports.is_row_without_port(y) {
-        return Ok(());
+        return false;
     }
     if ports.is_row_part_without_port(x, y, width) {
-        return Ok(());
+        return false;
     }
+    let mut lacks = false;
     for column in x..x + width {
         let cell = Cell {
             x: column as i32,
             y: y as i32,
         };
-        push_name_if_some(names, ports.get(cell))?;
+        lacks |= is_nonlocal_port(ports, known, cell);
     }
-    Ok(())
+    lacks
 }
 
-// Adds the names of the ports in a box.
-fn push_port_names(names: &mut Vec<Name>, ports: &PortTable, area: Box2) -> Result<(), AllocError>
+// Whether a port in a box has a wire that is not local.
+fn has_box_nonlocal_port(ports: &PortTable, known: &WireList, area: Box2) -> bool
     requires { (area.x + area.w ≤ 512) × (area.y + area.h ≤ 512) }
-    ensures { OnOk result ((f : List ℕ → Bool) →
-        list_any f names.new.items
-        ≡ (list_any f names.old.items || list_any
-        (λ c. option_map_or f (port_at ports.now c.x c.y) false) (box_cells area))) }
+    ensures { result
+        ≡ list_any (λ c. is_nonlocal_signal ports.now.circuit known.now.wires
+        (port_at ports.now.ports c.x c.y)) (rectangle_cells area) }
 {
+    let mut lacks = false;
     for y in area.y..area.y + area.h {
-        push_port_names_in_row(names, ports, area.x, y, area.w)?;
+        lacks |= has_row_nonlocal_port(ports, known, area.x, y, area.w);
     }
-    Ok(())
+    lacks
 }
 
 impl<'a> LineTables<'a> {
@@ -105,12 +110,13 @@ impl<'a> LineTables<'a> {
     ) -> Result<LineTables<'a>, AllocError>
         ensures { IfOk result (λ tables. tables ≡ setting_of circuit.now layout.now) }
     {
-        let (ins, outs) = port_tables(alloc, layout)?;
+        let (ins, outs) = port_tables(alloc, circuit, layout)?;
         Ok(LineTables {
             circuit,
             layout,
             ins,
             outs,
+            slots: empty_slots(),
         })
     }
 
@@ -122,29 +128,22 @@ impl<'a> LineTables<'a> {
         self.layout.size()
     }
 
-    /// Returns the number of the circuit's wire of this name.
-    pub(crate) fn wire(&self, name: &Name) -> Option<u16>
-        ensures wire { result ≡ wire_of self.now.circuit name.now }
-        ensures below_4096 { IfSome result (λ w. w < 4096) }
+    /// Returns the circuit's wire that a line names, if it names one.
+    #[inline(always)]
+    pub(crate) fn wire_in(&mut self, line: &CertificateLine) -> Option<NamedWire<'a>>
+        ensures wire { IsWireOfName self.old.circuit (name_in line.now) result }
+        ensures same_setting { self.new ≡ self.old }
     {
-        // A circuit has at most 4096 wires.
-        let _wire_count = self.circuit.wires();
-        let wire = self.circuit.wire(name)?;
-        Some(wire.number())
+        let name = name_in(line)?;
+        find_wire(self.circuit, &mut self.slots, name)
     }
 
-    /// Returns the number of the circuit's wire of this name, and the name as the circuit holds it.
-    pub(crate) fn named_wire(&self, name: &Name) -> Option<(u16, &'a Name)>
-        ensures wire { option_map (λ p. p.0) result ≡ wire_of self.now.circuit name.now }
-        ensures same_name { IfSome result (λ p. p.1.now ≡ name.now) }
-        ensures below_4096 { IfSome result (λ p. p.0 < 4096) }
+    /// Returns the number of the circuit's wire of a signal, or `None` if the signal is `1` or there is no such wire.
+    pub(crate) fn signal_wire(&self, border: &StoredBorder) -> Option<u16>
+        ensures { result ≡ option_and_then (wire_of self.now.circuit) border.now.signal }
     {
-        // A circuit has at most 4096 wires.
-        let _wire_count = self.circuit.wires();
-        match self.circuit.named_wire(name) {
-            None => None,
-            Some((wire, circuit_name_of_line)) => Some((wire.number(), circuit_name_of_line)),
-        }
+        let wire = border.wire_in(self.circuit)?;
+        Some(wire.number())
     }
 
     /// Returns the circuit's gate of this number.
@@ -171,20 +170,14 @@ impl<'a> LineTables<'a> {
         }
     }
 
-    /// Appends the names of the ports in a box.
-    pub(crate) fn push_port_names_in(
-        &self,
-        names: &mut Vec<Name>,
-        area: Box2,
-    ) -> Result<(), AllocError>
+    /// Returns whether a port in a box has a wire that is not local.
+    pub(crate) fn has_nonlocal_port(&self, known: &WireList, area: Box2) -> bool
         requires { (area.x + area.w ≤ 512) × (area.y + area.h ≤ 512) }
-        ensures { OnOk result ((f : List ℕ → Bool) →
-            list_any f names.new.items
-            ≡ (list_any f names.old.items || list_any
-            (λ p. in_box area p.cell.x p.cell.y && f p.name) self.now.ports)) }
+        ensures { result ≡ list_any (λ p. in_box area p.cell.x p.cell.y
+            && not (is_local self.now.circuit known.now.wires p.name)) self.now.ports }
     {
-        push_port_names(names, &self.ins, area)?;
-        push_port_names(names, &self.outs, area)?;
-        Ok(())
+        let lacks_input = has_box_nonlocal_port(&self.ins, known, area);
+        let lacks_output = has_box_nonlocal_port(&self.outs, known, area);
+        lacks_input | lacks_output
     }
 }

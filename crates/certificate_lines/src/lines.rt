@@ -6,15 +6,15 @@ ghost use Rattle.circuit.specs.Bridge.{circuit_of};
 ghost use Rattle.circuit.specs.Meaning.{wire_of};
 ghost use Rattle.module_box.specs.Locals.{is_among};
 ghost use Rattle.certificate_lines.specs.Entries.{ModuleLines, cut_in, use_in, keep_in, gates, last_module};
-ghost use Rattle.certificate_lines.specs.ModuleParts.{inner, is_module};
+ghost use Rattle.certificate_lines.specs.ModuleParts.{body_lines, is_module};
 
 use crate::certificate_line::CertificateLine;
 use crate::stored_line::StoredLine;
 use circuit::{Circuit, GateNo, WireNo};
 use std::alloc::{AllocError, Global};
 
-/// Returns whether the line begins a module.
-pub fn is_module(entry: &StoredLine) -> bool
+// Whether the line begins a module.
+fn is_module(entry: &StoredLine) -> bool
     ensures { result ≡ is_module entry.now }
 {
     match entry.line() {
@@ -28,8 +28,8 @@ pub fn lines_of_module_past<'b, 'a>(
     entries: &'b [StoredLine<'a>],
     skipped: usize,
 ) -> &'b [StoredLine<'a>]
-    requires { skipped ≤ length (inner entries.now) }
-    ensures { result.now ≡ inner entries.now }
+    requires { skipped ≤ length (body_lines entries.now) }
+    ensures { result.now ≡ body_lines entries.now }
 {
     for place in skipped..entries.len() {
         if is_module(&entries[place]) {
@@ -39,15 +39,8 @@ pub fn lines_of_module_past<'b, 'a>(
     entries
 }
 
-/// Returns the lines before the next `module` line.
-pub fn lines_of_module<'b, 'a>(entries: &'b [StoredLine<'a>]) -> &'b [StoredLine<'a>]
-    ensures { result.now ≡ inner entries.now }
-{
-    lines_of_module_past(entries, 0)
-}
-
 // Whether the line uses the gate of this number.
-fn uses(entry: &StoredLine, number: u32) -> bool
+fn uses_gate(entry: &StoredLine, number: u32) -> bool
     ensures { result ≡ is_among (use_in entry.now) number }
 {
     match entry.line() {
@@ -68,20 +61,24 @@ pub(crate) fn is_gate_used_in_last(entries: &[StoredLine], number: u32) -> bool
         if is_module(entry) {
             return false;
         }
-        if uses(entry, number) {
+        if uses_gate(entry, number) {
             return true;
         }
     }
     false
 }
 
-fn push_cut(wires: &mut Vec<WireNo>, circuit: &Circuit, line: &StoredLine) -> Result<(), AllocError>
+fn push_if_cut(
+    wires: &mut Vec<WireNo>,
+    circuit: &Circuit,
+    line: &StoredLine,
+) -> Result<(), AllocError>
     ensures { OnOk result (wires.new.items
         ≡ wires.old.items ++ flat_map (λ n. option_to_list (wire_of (circuit_of circuit.now) n))
         (cut_in line.now)) }
 {
     if let Some(cut) = line.cut() {
-        if let Some(wire) = circuit.wire_at(cut.wire, cut.name) {
+        if let Some(wire) = circuit.wire_by_hint(cut.wire, cut.name) {
             wires.push(wire)?;
         }
     }
@@ -98,7 +95,7 @@ fn push_cuts(
         (flat_map cut_in lines.now)) }
 {
     for line in lines {
-        push_cut(wires, circuit, line)?;
+        push_if_cut(wires, circuit, line)?;
     }
     Ok(())
 }
@@ -118,7 +115,7 @@ pub fn cut_list(
     Ok(wires)
 }
 
-fn push_use(gates: &mut Vec<GateNo>, line: &StoredLine) -> Result<(), AllocError>
+fn push_if_use(gates: &mut Vec<GateNo>, line: &StoredLine) -> Result<(), AllocError>
     requires { All (λ k. k < 2 ^ 16) (use_in line.now) }
     ensures { OnOk result (gates.new.items ≡ gates.old.items ++ use_in line.now) }
 {
@@ -135,7 +132,7 @@ pub fn used_gates(alloc: Global, lines: &[StoredLine]) -> Result<Vec<GateNo>, Al
 {
     let mut gates = Vec::with_capacity(alloc, lines.len())?;
     for line in lines {
-        push_use(&mut gates, line)?;
+        push_if_use(&mut gates, line)?;
     }
     Ok(gates)
 }
@@ -155,7 +152,11 @@ fn gate_place(gates: &[GateNo], number: u32) -> u16
     unreachable!()
 }
 
-fn push_keep(places: &mut Vec<u16>, gates: &[GateNo], line: &StoredLine) -> Result<(), AllocError>
+fn push_if_keep(
+    places: &mut Vec<u16>,
+    gates: &[GateNo],
+    line: &StoredLine,
+) -> Result<(), AllocError>
     requires at_most_64 { length gates.now ≤ 64 }
     requires used { All (λ k. IsTrue (is_among gates.now k)) (keep_in line.now) }
     requires within { All (λ place. place < length gates.now) places.old.items }
@@ -183,7 +184,7 @@ pub fn kept_places(
 {
     let mut places = Vec::new(alloc);
     for line in lines {
-        push_keep(&mut places, gates, line)?;
+        push_if_keep(&mut places, gates, line)?;
     }
     Ok(places)
 }

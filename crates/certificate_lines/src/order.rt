@@ -1,18 +1,20 @@
 //! The order of the lines of a module.
-ghost use Rattle.std.specs.Prelude.{◌≡◌, ℕ, List};
-ghost use Rattle.std.specs.Ordering.{is_lt};
+ghost use Rattle.std.specs.Prelude.{◌≡◌, List, None, Option};
 ghost use Rattle.certificate_lines.specs.Entries.{last_of};
-ghost use Rattle.certificate_lines.specs.Orders.{AreInOrder, rank_of, time_rank, number_of, cell_of, line_cmp, is_cut, may_precede, may_follow};
+ghost use Rattle.certificate_lines.specs.Orders.{AreInOrder, rank_of, time_rank, sort_number_of, cell_of, may_precede, may_follow};
+ghost use Rattle.certificate_lines.specs.LineKeys.{key_of, key_or_first};
 ghost use Rattle.certificate_lines.specs.Versions.{border_line_cmp};
-ghost use Rattle.certificate_lines.specs.BuilderView.{IsBodyLine, last_body_line};
+ghost use Rattle.certificate_lines.specs.BuilderView.{IsBodyLine, body_line_or_none};
 ghost use Rattle.certificate_lines.specs.declared.certificate_line.CertificateLine.{CertificateLine};
-ghost use Rattle.certificate_lines.specs.declared.certificate_line.CertificateLine.TheVariants.{Cut, Use, Stop};
 
-use crate::certificate_line::{BorderLine, CertificateLine, StopLine};
-use crate::stored_line::{StoredBorder, StoredLine, StoredStop};
+use crate::certificate_line::CertificateLine;
+use crate::stored_line::StoredBorder;
 use bbm_rule::Cell;
 use module_box::compare_cells;
 use std::cmp::Ordering;
+
+// The rank of cuts.
+const CUT_RANK: u8 = 1;
 
 /// Returns the rank of a line by its kind: the lines of a module are in order of their ranks.
 #[inline(always)]
@@ -42,9 +44,9 @@ fn rank_of_time(time: Option<u32>) -> u64
 }
 
 // The number of a gate, the place of a border line's time, or the time of a stop.
-#[tactic(auto, unfolding(crate::specs::Orders::number_of))]
-fn number(entry: &CertificateLine) -> u64
-    ensures { result ≡ number_of entry.now }
+#[tactic(auto, unfolding(crate::specs::Orders::sort_number_of))]
+fn sort_number(entry: &CertificateLine) -> u64
+    ensures { result ≡ sort_number_of entry.now }
 {
     match entry {
         CertificateLine::Module(_) => 0,
@@ -59,7 +61,7 @@ fn number(entry: &CertificateLine) -> u64
 
 // The cell of a border line or of a stop.
 #[tactic(auto, unfolding(crate::specs::Orders::cell_of))]
-fn cell(entry: &CertificateLine) -> Cell
+fn line_cell(entry: &CertificateLine) -> Cell
     ensures { result ≡ cell_of entry.now }
 {
     match entry {
@@ -73,141 +75,67 @@ fn cell(entry: &CertificateLine) -> Cell
     }
 }
 
-#[tactic(auto, unfolding(crate::specs::Orders::line_cmp))]
-fn compare(first: &CertificateLine, second: &CertificateLine) -> Ordering
-    ensures { result ≡ line_cmp first.now second.now }
-{
-    let by_kind = rank(first).cmp(&rank(second));
-    let by_number = number(first).cmp(&number(second));
-    let by_cell = compare_cells(cell(first), cell(second));
-    by_kind.then(by_number.then(by_cell))
+/// The place of a line in the order of its module's lines: its kind, its number or time, and its cell.
+#[derive(Clone, Copy)]
+pub(crate) struct LineKey {
+    rank: u8,
+    number: u64,
+    cell: Cell,
 }
 
-#[tactic(auto, unfolding(crate::specs::Orders::is_cut))]
-fn is_cut_line(entry: &CertificateLine) -> bool
-    ensures { result ≡ is_cut entry.now }
+/// Returns the key of a `module` line, and of no line.
+pub(crate) fn first_key() -> LineKey
+    ensures { result ≡ key_or_first None }
 {
-    match entry {
-        CertificateLine::Cut(_) => true,
-        _ => false,
+    LineKey {
+        rank: 0,
+        number: 0,
+        cell: Cell { x: 0, y: 0 },
     }
 }
 
-// Whether the first of two lines of any kinds may stand before the second.
-#[inline(never)]
-#[tactic(auto, unfolding(crate::specs::Orders::may_precede))]
-fn may_any_line_precede(first: &CertificateLine, second: &CertificateLine) -> bool
-    ensures { result ≡ may_precede first.now second.now }
-{
-    compare(first, second).is_lt() | (is_cut_line(first) & is_cut_line(second))
-}
-
-// Whether the first of two edge lines, or of two halo lines, may stand before the second.
+/// Returns the key of a line.
 #[inline(always)]
-#[tactic(auto, unfolding(crate::specs::Versions::border_line_cmp))]
-fn may_border_precede(first: &StoredBorder, second: &BorderLine) -> bool
-    ensures { result ≡ is_lt (border_line_cmp first.now second.now) }
+pub(crate) fn key_of(entry: &CertificateLine) -> LineKey
+    ensures { result ≡ key_of entry.now }
 {
-    let first_time = rank_of_time(first.time());
-    let second_time = rank_of_time(second.time);
-    if first_time == second_time {
-        compare_cells(first.cell(), second.cell).is_lt()
-    } else {
-        first_time < second_time
+    LineKey {
+        rank: rank(entry),
+        number: sort_number(entry),
+        cell: line_cell(entry),
     }
 }
 
-// Whether the first of two stops may stand before the second.
+// Whether a line of the first key may stand before one of the second. Cuts stand in any order.
 #[inline(always)]
-#[tactic(auto, unfolding(crate::specs::Orders::line_cmp, crate::specs::Orders::rank_of, crate::specs::Orders::number_of, crate::specs::Orders::cell_of))]
-fn may_stop_precede(first: &StoredStop, second: &StopLine) -> bool
-    ensures { result ≡ is_lt (line_cmp (Stop first.now) (Stop second.now)) }
+#[tactic(auto, unfolding(crate::specs::Orders::may_precede, crate::specs::Orders::line_cmp), using(crate::proofs::OrderLemmas::cut_rank))]
+fn may_precede(first: LineKey, second: LineKey) -> bool
+    ensures { (i j : CertificateLine) → first ≡ key_of i → second ≡ key_of j →
+        result ≡ may_precede i j }
 {
-    if first.time() == second.time {
-        compare_cells(first.cell(), second.cell).is_lt()
-    } else {
-        first.time() < second.time
+    if first.rank != second.rank {
+        return first.rank < second.rank;
     }
-}
-
-// Whether a line may stand before a cut: cuts come first, in any order.
-#[inline(always)]
-#[tactic(auto, unfolding(crate::specs::Orders::may_precede, crate::specs::Orders::line_cmp, crate::specs::Orders::rank_of, crate::specs::Orders::is_cut))]
-fn may_precede_cut(first: &StoredLine) -> bool
-    ensures { (name : List ℕ) → result ≡ may_precede first.now (Cut name) }
-{
-    match first.line() {
-        CertificateLine::Module(_) => true,
-        CertificateLine::Cut(_) => true,
-        _ => false,
+    if first.rank == CUT_RANK {
+        return true;
     }
-}
-
-// Whether a line may stand before one that uses this gate.
-#[inline(always)]
-#[tactic(auto, unfolding(crate::specs::Orders::may_precede, crate::specs::Orders::line_cmp, crate::specs::Orders::rank_of, crate::specs::Orders::is_cut))]
-fn may_precede_use(first: &StoredLine, gate: u32) -> bool
-    ensures { result ≡ may_precede first.now (Use gate) }
-{
-    match first.line() {
-        CertificateLine::Module(_) => true,
-        CertificateLine::Cut(_) => true,
-        CertificateLine::Use(before) => before.cmp(&gate).is_lt(),
-        _ => false,
+    if first.number != second.number {
+        return first.number < second.number;
     }
-}
-
-// Whether the first line may stand before the second. It makes a copy of the first line with its name.
-#[inline(never)]
-fn may_stored_any_precede(first: &StoredLine, second: &CertificateLine) -> bool
-    ensures { result ≡ may_precede first.now second.now }
-{
-    may_any_line_precede(&first.line(), second)
-}
-
-// Whether the first line may stand before the second. Most lines follow a line of their kind, or begin with cuts and
-// gates, so it compares these without a copy of the first line.
-#[inline(always)]
-fn may_stored_precede(first: &StoredLine, second: &CertificateLine) -> bool
-    ensures { result ≡ may_precede first.now second.now }
-{
-    match second {
-        CertificateLine::Cut(_) => return may_precede_cut(first),
-        CertificateLine::Use(gate) => return may_precede_use(first, *gate),
-        CertificateLine::Edge(second) => {
-            if let Some(first) = first.edge() {
-                return may_border_precede(&first, second);
-            }
-        }
-        CertificateLine::Halo(second) => {
-            if let Some(first) = first.halo() {
-                return may_border_precede(&first, second);
-            }
-        }
-        CertificateLine::Stop(second) => {
-            if let Some(first) = first.stop() {
-                return may_stop_precede(&first, second);
-            }
-        }
-        _ => {}
-    }
-    may_stored_any_precede(first, second)
+    compare_cells(first.cell, second.cell).is_lt()
 }
 
 /// Returns whether a line of a module may follow the lines of the last module of a certificate.
 ///
-/// A `module` line comes before all lines of its module.
+/// `last` is the key of the last line. A `module` line comes before all lines of its module.
 #[inline(always)]
-pub(crate) fn may_follow(entries: &[StoredLine], entry: &CertificateLine) -> bool
+pub(crate) fn may_follow(last: LineKey, entry: &CertificateLine) -> bool
     requires { IsBodyLine entry.now }
-    ensures { (lines : List CertificateLine) → AreInOrder lines →
-        last_of lines ≡ last_body_line entries.now →
+    ensures { (line : Option CertificateLine) (lines : List CertificateLine) →
+        last ≡ key_or_first line → AreInOrder lines → last_of lines ≡ body_line_or_none line →
         result ≡ may_follow lines entry.now }
 {
-    match entries.last() {
-        None => true,
-        Some(last) => may_stored_precede(last, entry),
-    }
+    may_precede(last, key_of(entry))
 }
 
 /// Compares two edge lines, or two halo lines.

@@ -1,27 +1,33 @@
 //! The ports of a layout by their cells.
-ghost use Rattle.std.specs.Prelude.{◌≡◌, ◌+◌, ◌<◌, ◌≤◌, ℕ, ℤ, length, nat_eq, pos, true, None, OnOk, IfOk};
+ghost use Rattle.std.specs.Prelude.{◌≡◌, ◌+◌, ◌<◌, ◌≤◌, ℕ, ℤ, length, map, nat_eq, pos, true, None, OnOk, IfOk};
 ghost use Rattle.std.specs.List.{list_all};
+ghost use Rattle.std.specs.Option.{option_map};
+ghost use Rattle.circuit.specs.Bridge.{circuit_of};
+ghost use Rattle.circuit.specs.Meaning.{wire_of};
 ghost use Rattle.pattern.specs.Layout.{HaveDistinctCells};
 ghost use Rattle.pattern.specs.Lines.{size_fault};
-ghost use Rattle.module_box.specs.Boxes.{in_box};
+ghost use Rattle.bbm_rule.specs.Boxes.{in_box};
 ghost use Rattle.certificate_lines.specs.PortTables.{port_at, entry_place, AreInBox, AreNumberedRows, AreOnBoard};
 
 use crate::tiles::whole_of;
 use bbm_rule::Cell;
+use circuit::{Circuit, WireNo};
 use module_box::Box2;
 use pattern::{Layout, LayoutHeader, Port};
-use section_text::Name;
 use std::alloc::{AllocError, Global};
 use std::marker::Model;
 
-/// The inputs or the outputs of a layout, with a table by which the port at a cell is looked up. Contracts see the
-/// ports.
+/// The inputs or the outputs of a layout, with a table by which the wire of the port at a cell is looked up. Contracts
+/// see the circuit and the ports.
 ///
 /// Only rows with a port have entries in the table, since most rows of a layout have none.
 #[derive(Drop)]
 pub struct PortTable<'a> {
     area: Box2,
+    circuit: &'a Circuit,
     ports: &'a [Port],
+    // the wire of each port, if the circuit has one of its name
+    wires: Vec<Option<WireNo>>,
     // for each row of the area, its number among the rows with a port, counted from 1, or 0 if it has none
     rows: Vec<u32>,
     // for each cell of the rows with a port, row by row, the number of its port plus one, or 0 where there is none
@@ -29,14 +35,13 @@ pub struct PortTable<'a> {
 }
 
 impl<'a> Model for PortTable<'a> {
-    ghost use Rattle.std.specs.Prelude.{List};
-    ghost use Rattle.pattern.specs.declared.layout_line.Port.{Port as SomePort};
+    ghost use Rattle.certificate_lines.specs.PortTables.{CircuitPorts};
 
-    ghost Value = { List SomePort };
+    ghost Value = { CircuitPorts };
 
-    ghost use Rattle.certificate_lines.specs.PortTables.{table_ports, IsPortTable};
+    ghost use Rattle.certificate_lines.specs.PortTables.{circuit_ports, IsPortTable};
 
-    ghost view = { table_ports };
+    ghost view = { circuit_ports };
 
     ghost invariant = { IsPortTable };
 }
@@ -75,16 +80,34 @@ fn number_rows(alloc: Global, area: Box2, ports: &[Port]) -> Result<(Vec<u32>, u
     Ok((rows, count))
 }
 
+// The wires of ports.
+fn port_wires(
+    alloc: Global,
+    circuit: &Circuit,
+    ports: &[Port],
+) -> Result<Vec<Option<WireNo>>, AllocError>
+    ensures { IfOk result (λ wires. wires.items
+        ≡ map (λ p. wire_of (circuit_of circuit.now) p.name) ports.now) }
+{
+    let mut wires = Vec::with_capacity(alloc, ports.len())?;
+    'ports: for port in ports {
+        wires.push(circuit.wire(&port.name))?;
+    }
+    Ok(wires)
+}
+
 // The table of some ports, of which no two stand at one cell.
 fn index_ports<'a>(
     alloc: Global,
+    circuit: &'a Circuit,
     size: LayoutHeader,
     ports: &'a [Port],
 ) -> Result<PortTable<'a>, AllocError>
     requires limits { size_fault size ≡ None }
-    requires apart { HaveDistinctCells ports.now }
+    requires cells_distinct { HaveDistinctCells ports.now }
     requires inside { AreOnBoard size ports.now }
-    ensures { IfOk result (λ table. table ≡ ports.now) }
+    ensures { IfOk result (λ table. table
+        ≡ record { circuit = circuit_of circuit.now; ports = ports.now }) }
 {
     let area = whole_of(size);
     let (rows, count) = number_rows(alloc, area, ports)?;
@@ -94,9 +117,12 @@ fn index_ports<'a>(
             numbers[place] = number as u32 + 1;
         }
     }
+    let wires = port_wires(alloc, circuit, ports)?;
     Ok(PortTable {
         area,
+        circuit,
         ports,
+        wires,
         rows,
         numbers,
     })
@@ -105,16 +131,19 @@ fn index_ports<'a>(
 /// Creates the tables of the inputs and of the outputs of a layout, by their cells.
 pub fn port_tables<'a>(
     alloc: Global,
+    circuit: &'a Circuit,
     layout: &'a Layout,
 ) -> Result<(PortTable<'a>, PortTable<'a>), AllocError>
-    ensures ins { IfOk result (λ tables. tables.0 ≡ layout.now.ins) }
-    ensures outs { IfOk result (λ tables. tables.1 ≡ layout.now.outs) }
+    ensures ins { IfOk result (λ tables. tables.0
+        ≡ record { circuit = circuit_of circuit.now; ports = layout.now.ins }) }
+    ensures outs { IfOk result (λ tables. tables.1
+        ≡ record { circuit = circuit_of circuit.now; ports = layout.now.outs }) }
     ensures ins_apart { OnOk result (HaveDistinctCells layout.now.ins) }
     ensures outs_apart { OnOk result (HaveDistinctCells layout.now.outs) }
 {
     let size = layout.size();
-    let ins = index_ports(alloc, size, layout.ins())?;
-    let outs = index_ports(alloc, size, layout.outs())?;
+    let ins = index_ports(alloc, circuit, size, layout.ins())?;
+    let outs = index_ports(alloc, circuit, size, layout.outs())?;
     Ok((ins, outs))
 }
 
@@ -128,7 +157,7 @@ impl<'a> PortTable<'a> {
     // Whether no port is in row `y`, by the row's number alone. Most rows of a layout have no port.
     #[inline(always)]
     pub(crate) fn is_row_without_port(&self, y: u32) -> bool
-        ensures { result ≡ true → (x : ℤ) → port_at self.now x (pos y) ≡ None }
+        ensures { result ≡ true → (x : ℤ) → port_at self.now.ports x (pos y) ≡ None }
     {
         let Some(row) = y.checked_sub(self.area.y) else {
             return false;
@@ -143,7 +172,7 @@ impl<'a> PortTable<'a> {
     pub(crate) fn is_row_part_without_port(&self, x: u32, y: u32, width: u32) -> bool
         requires { (x + width ≤ 512) × (y < 512) }
         ensures { result ≡ true → (k : ℕ) → k < width →
-            port_at self.now (pos (x + k)) (pos y) ≡ None }
+            port_at self.now.ports (pos (x + k)) (pos y) ≡ None }
     {
         let first = Cell {
             x: x as i32,
@@ -160,9 +189,11 @@ impl<'a> PortTable<'a> {
         are_all_zero(&self.numbers[place..place + width as usize])
     }
 
-    /// Returns the name of the port at the cell, if there is one.
-    pub fn get(&self, cell: Cell) -> Option<Name>
-        ensures { result ≡ port_at self.now cell.x cell.y }
+    /// Returns the wire of the port at the cell, if there is a port. The wire is `None` if the circuit has none of the
+    /// port's name.
+    pub fn get(&self, cell: Cell) -> Option<Option<WireNo>>
+        ensures { result ≡ option_map (wire_of self.now.circuit)
+            (port_at self.now.ports cell.x cell.y) }
     {
         if !self.area.holds(cell) {
             return None;
@@ -172,6 +203,6 @@ impl<'a> PortTable<'a> {
         if number == 0 {
             return None;
         }
-        Some(self.ports[number - 1].name)
+        Some(self.wires[number - 1])
     }
 }

@@ -2,7 +2,7 @@
 ghost use Rattle.std.specs.Prelude.{◌≡◌, ◌<◌, ◌≤◌, ◌||◌, ◌++◌, ◌∷◌, [], if◌then◌else◌, length, OnOk};
 ghost use Rattle.std.specs.List.{list_any};
 ghost use Rattle.indexmap.specs.IndexSet.{spare};
-ghost use Rattle.certificate_lines.specs.BuilderView.{starred};
+ghost use Rattle.certificate_lines.specs.BuilderView.{starred_lines};
 ghost use Rattle.certificate_lines.specs.Entries.{edge_in, halo_in};
 ghost use Rattle.certificate_lines.specs.Rules.{same_cell, is_starred_line_at};
 ghost use Rattle.bbm_rule.specs.declared.block.Cell.{Cell};
@@ -41,7 +41,7 @@ fn insert_star(stars: &mut IndexSet<Cell>, cell: Cell)
 #[inline(always)]
 #[tactic(auto, using(crate::proofs::StarLemmas::star_noted, crate::proofs::StarLemmas::no_star))]
 fn note_star(stars: &mut IndexSet<Cell>, border: &BorderLine)
-    requires { length (starred (border.now ∷ [])) ≤ spare stars.old }
+    requires { length (starred_lines (border.now ∷ [])) ≤ spare stars.old }
     ensures { (c : Cell) →
         list_any (same_cell c) stars.new.keys
         ≡ (list_any (same_cell c) stars.old.keys || is_starred_line_at c border.now) }
@@ -56,7 +56,7 @@ fn note_star(stars: &mut IndexSet<Cell>, border: &BorderLine)
 #[inline(always)]
 fn make_room_for_star(stars: &mut IndexSet<Cell>, border: &BorderLine) -> Result<(), AllocError>
     ensures keys { stars.new.keys ≡ stars.old.keys }
-    ensures room { OnOk result (length (starred (border.now ∷ [])) ≤ spare stars.new) }
+    ensures room { OnOk result (length (starred_lines (border.now ∷ [])) ≤ spare stars.new) }
 {
     if border.time.is_some() {
         return Ok(());
@@ -73,8 +73,8 @@ pub(crate) fn make_room_for_stars(
 ) -> Result<(), AllocError>
     ensures edges { edges.new.keys ≡ edges.old.keys }
     ensures halos { halos.new.keys ≡ halos.old.keys }
-    ensures edge_room { OnOk result (length (starred (edge_in entry.now)) ≤ spare edges.new) }
-    ensures halo_room { OnOk result (length (starred (halo_in entry.now)) ≤ spare halos.new) }
+    ensures edge_room { OnOk result (length (starred_lines (edge_in entry.now)) ≤ spare edges.new) }
+    ensures halo_room { OnOk result (length (starred_lines (halo_in entry.now)) ≤ spare halos.new) }
 {
     match entry {
         CertificateLine::Edge(border) => make_room_for_star(edges, border),
@@ -90,8 +90,8 @@ pub(crate) fn note_stars(
     halos: &mut IndexSet<Cell>,
     entry: &CertificateLine,
 )
-    requires edges { length (starred (edge_in entry.now)) ≤ spare edges.old }
-    requires halos { length (starred (halo_in entry.now)) ≤ spare halos.old }
+    requires edges { length (starred_lines (edge_in entry.now)) ≤ spare edges.old }
+    requires halos { length (starred_lines (halo_in entry.now)) ≤ spare halos.old }
     ensures edges { (c : Cell) →
         list_any (same_cell c) edges.new.keys
         ≡ (list_any (same_cell c) edges.old.keys || list_any (is_starred_line_at c)

@@ -8,7 +8,7 @@ ghost use Rattle.certificate_lines.specs.Versions.{is_halo};
 ghost use Rattle.certificate_lines.specs.declared.certificate_line.CertificateLine.TheVariants.{Module, Halo};
 
 use crate::certificate_line::{BorderLine, CertificateLine, StopLine};
-use crate::local_names::CutWire;
+use crate::named_wires::NamedWire;
 use bbm_rule::Cell;
 use circuit::{Circuit, WireNo};
 use module_box::Box2;
@@ -117,7 +117,7 @@ impl<'a> StoredLine<'a> {
 
     /// Returns the line, with this wire in place of its name, if it has one.
     #[inline(always)]
-    pub(crate) fn of(line: &CertificateLine, wire: Option<CutWire<'a>>) -> StoredLine<'a>
+    pub(crate) fn of(line: &CertificateLine, wire: Option<NamedWire<'a>>) -> StoredLine<'a>
         requires { option_map (λ w. w.name.now) wire ≡ name_in line.now }
         ensures { result ≡ line.now }
     {
@@ -182,11 +182,11 @@ impl<'a> StoredLine<'a> {
 
     /// Returns the wire that the line cuts, if it is a cut.
     #[inline(always)]
-    pub(crate) fn cut(&self) -> Option<CutWire<'a>>
+    pub(crate) fn cut(&self) -> Option<NamedWire<'a>>
         ensures { option_to_list (option_map (λ w. w.name.now) result) ≡ cut_in self.now }
     {
         match self.content {
-            Content::Cut(wire, name) => Some(CutWire { wire, name }),
+            Content::Cut(wire, name) => Some(NamedWire { wire, name }),
             _ => None,
         }
     }
@@ -260,7 +260,7 @@ impl<'a> StoredLine<'a> {
         }
     }
 
-    /// Returns the same line, with the same reference.
+    /// Returns a copy of the line, with the reference to its name.
     pub fn copy(&self) -> StoredLine<'a>
         ensures { result ≡ self.now }
     {
@@ -289,7 +289,7 @@ impl<'a> StoredBorder<'a> {
 
     /// Returns the name of the wire, or `None` for the constant `1`.
     #[inline(always)]
-    pub fn signal(&self) -> Option<&'a Name>
+    pub fn wire_name(&self) -> Option<&'a Name>
         ensures { option_map (λ n. n.now) result ≡ self.now.signal }
     {
         match self.signal {
@@ -305,7 +305,7 @@ impl<'a> StoredBorder<'a> {
         ensures { result ≡ option_and_then (wire_of (circuit_of circuit.now)) self.now.signal }
     {
         match self.signal {
-            StoredSignal::Wire(number, name) => circuit.wire_at(number, name),
+            StoredSignal::Wire(number, name) => circuit.wire_by_hint(number, name),
             StoredSignal::One => None,
         }
     }
@@ -326,19 +326,12 @@ impl<'a> StoredStop<'a> {
         self.cell
     }
 
-    /// Returns the name of the wire.
-    pub fn wire(&self) -> &'a Name
-        ensures { result.now ≡ self.now.wire }
-    {
-        self.wire
-    }
-
     /// Returns the wire in the circuit. Only if the circuit has another wire at the number of the line, it is looked up
     /// by its hash.
     pub fn wire_in(&self, circuit: &Circuit) -> Option<WireNo>
         ensures wire { result ≡ wire_of (circuit_of circuit.now) self.now.wire }
         ensures below { IfSome result (λ w. w < wires (netlist_of circuit.now)) }
     {
-        circuit.wire_at(self.number, self.wire)
+        circuit.wire_by_hint(self.number, self.wire)
     }
 }

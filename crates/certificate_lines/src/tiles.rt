@@ -1,9 +1,10 @@
 //! The cells of a grid that are live.
+ghost use Rattle.pattern.specs.Layout.{rectangle_cells};
 ghost use Rattle.std.specs.Prelude.{◌≡◌, ◌≤◌, ◌<◌};
 ghost use Rattle.std.specs.List.{list_all};
 ghost use Rattle.bbm_rule.specs.Board.{live};
 ghost use Rattle.pattern.specs.Layout.{row_cells};
-ghost use Rattle.certificate_lines.specs.Rules.{box_cells, whole};
+ghost use Rattle.certificate_lines.specs.Rules.{whole};
 ghost use Rattle.module_box.specs.Tiling.{rectangle_of};
 
 use bbm_rule::{Cell, Grid};
@@ -42,7 +43,7 @@ fn is_row_all_live(grid: &Grid, w: u32, y: u32) -> bool
 pub(crate) fn are_all_cells_live(grid: &Grid, w: u32, h: u32) -> bool
     requires same_size { (grid.now.width ≡ w) × (grid.now.height ≡ h) }
     requires small { (w ≤ 512) × (h ≤ 512) }
-    ensures { result ≡ list_all (λ c. live grid.now c.x c.y) (box_cells (rectangle_of w h)) }
+    ensures { result ≡ list_all (λ c. live grid.now c.x c.y) (rectangle_cells (rectangle_of w h)) }
 {
     let mut full = true;
     for y in 0..h {

@@ -10,7 +10,7 @@ use std::marker::Model;
 const WORD_COUNT: usize = 64;
 
 // For how many wires the first allocation has room: most modules know fewer.
-const FIRST_ROOM: usize = 64;
+const FIRST_CAPACITY: usize = 64;
 
 /// Wires of a circuit, in the order in which they were added.
 ///
@@ -84,7 +84,7 @@ impl WireList {
         if count <= spare {
             return Ok(());
         }
-        self.wires.reserve(count.max(FIRST_ROOM))
+        self.wires.reserve(count.max(FIRST_CAPACITY))
     }
 
     /// Adds a wire at the end of the list, which has room for it.

@@ -1,30 +1,20 @@
 -- What each status of `program` means, from its clauses
-use Rattle.lemmas.proofs.Common.{[], ◌∙◌, ◌∷◌, ◌≡◌, ◌≢◌, ◌≤◌, ◌⊎◌, Err, List, Ok, ap, arith, false, inl, inr, refl, sym}
-use Rattle.lemmas.proofs.Common.{true, ℕ}
-use Rattle.clap.specs.Walk.{Text}
-use Rattle.clap.specs.Words.{Kinds, fault_of}
-use Rattle.streams.specs.declared.streams.Source.{Ghosts as Source}
-use Rattle.streams.specs.declared.streams.Sink.{Ghosts as Sink}
-use Rattle.command_line.specs.CommandLine.{AsksForHelp, IsAccepted, AsksOnlyForHelp, asked_by, bbmcheck}
-use Rattle.command_line.specs.declared.Request.TheVariants.{Check}
-use Rattle.answers.specs.declared.outcome.Outcome.{Outcome}
-use Rattle.answers.specs.declared.outcome.Outcome.TheVariants.{Yes, No, Refused}
+use Rattle.check_main.proofs.Imports.{Check, CheckFault, Err, HoldsOfKnownInput, IsAccepted, IsNoSmallDesignText}
+use Rattle.check_main.proofs.Imports.{IsRightInFull, IsWrongIfPlain, Kinds, LinesHaveMeaning, List, Memory, No, Ok}
+use Rattle.check_main.proofs.Imports.{Outcome, Ran, Read, Refused, RelatesReadToWritten, Streams, Text, TooLong, Write}
+use Rattle.check_main.proofs.Imports.{Yes, YesMeans, YesPromises, [], ap, arith, asked_by, bbmcheck, false, fault_of}
+use Rattle.check_main.proofs.Imports.{inl, inr, refl, status_for, sym, true, ℕ, ◌∙◌, ◌∷◌, ◌≡◌, ◌≢◌, ◌≤◌, ◌⊎◌}
+use Rattle.command_line.specs.CommandLine.{AsksForHelp, AsksOnlyForHelp}
 use Rattle.meaning.specs.Headline.{IsRight}
-use Rattle.meaning.specs.Streams.{HoldsOfKnownInput, YesMeans}
-use Rattle.headline.specs.RightInFull.{IsRightInFull}
 use Rattle.headline.specs.Stops.{HasRightStops}
-use Rattle.headline.specs.Plain.{IsWrongIfPlain}
-use Rattle.headline.specs.SmallDesigns.{IsNoSmallDesignText}
-use Rattle.headline.specs.ReportLines.{LinesHaveMeaning, RelatesReadToWritten}
-use Rattle.check_main.specs.declared.fault.CheckFault.{CheckFault}
-use Rattle.check_main.specs.declared.fault.CheckFault.TheVariants.{Read, Write, TooLong, Memory}
-use Rattle.check_main.specs.declared.front.Streams.{Streams}
 use Rattle.check_main.specs.Commands.{IsAnswerTo}
-use Rattle.check_main.specs.Program.{AsksForCheck, Explained, Ran, YesPromises}
-use Rattle.check_main.specs.Status.{Says, status_for}
+use Rattle.check_main.specs.Program.{AsksForCheck, Explained}
+use Rattle.check_main.specs.Status.{WritesFaultLine}
 use Rattle.check_main.specs.Stream.{Answers, BreaksOff, GivesTooMuch}
 use Rattle.check_main.proofs.Ends.{at_fault, at_outcome, device_of, memory_of, outcome_or_memory, outcome_of}
 use Rattle.check_main.proofs.Ends.{status_known}
+use Rattle.streams.specs.declared.streams.Source.{Ghosts as Source}
+use Rattle.streams.specs.declared.streams.Sink.{Ghosts as Sink}
 
 -- words are accepted, or they are not
 split : {P : Type 0} (kinds : Kinds) → (kinds ≡ [] → P) → (¬ (kinds ≡ []) → P) → P
@@ -54,9 +44,9 @@ module _ {R W E : Type 0} {source : Source R} {sink : Sink W} {messages : Sink E
   -- a run with this fault said it
   said_as : (fault : CheckFault) (r : Ran source sink messages (asked_by words) old new status) →
       r.ended ≡ Err fault →
-      Says messages old.errors new.errors fault
+      WritesFaultLine messages old.errors new.errors fault
   said_as fault r is =
-      at_fault (Says messages old.errors new.errors) r.ended fault is r.said
+      at_fault (WritesFaultLine messages old.errors new.errors) r.ended fault is r.said
 
   -- and left the writer alone, if it is another than of the writer
   unwritten_as : (fault : CheckFault) (r : Ran source sink messages (asked_by words) old new status) →
@@ -139,11 +129,11 @@ module _ {R W E : Type 0} {source : Source R} {sink : Sink W} {messages : Sink E
   -- 4: the reader failed, or the writer, or the text is too long, and `errors` has the line for this
   pub device : status ≡ 4 →
       ((source.has_failed new.reader ≡ true)
-      × Says messages old.errors new.errors Read)
+      × WritesFaultLine messages old.errors new.errors Read)
       ⊎ ((sink.has_failed new.writer ≡ true)
-      × Says messages old.errors new.errors Write)
+      × WritesFaultLine messages old.errors new.errors Write)
       ⊎ (GivesTooMuch (source.left old.reader) (source.left new.reader)
-      × Says messages old.errors new.errors TooLong)
+      × WritesFaultLine messages old.errors new.errors TooLong)
   device four = either
       (λ r. elim (device_of r.ended (sym r.status_of_end ∙ four)) [
         | inl read ↦ inl (r.served.read read, said_as Read r read)
@@ -185,7 +175,7 @@ module _ {R W E : Type 0} {source : Source R} {sink : Sink W} {messages : Sink E
   ]
 
   -- 5: nothing is written, and `errors` has the line for this
-  pub not_decided : status ≡ 5 → (new.writer ≡ old.writer) × Says messages old.errors new.errors Memory
+  pub not_decided : status ≡ 5 → (new.writer ≡ old.writer) × WritesFaultLine messages old.errors new.errors Memory
   not_decided five = either
       (λ r. let is = memory_of r.ended (sym r.status_of_end ∙ five) in
       (unwritten_as Memory r is (λ e. cc), said_as Memory r is))
@@ -211,7 +201,7 @@ module _ {R W E : Type 0} {source : Source R} {sink : Sink W} {messages : Sink E
       IsAccepted words → asked_by words ≡ Check → status ≡ 0 → HoldsOfKnownInput IsRightInFull (source.left old.reader)
   right_in_full full a asked zero = (full (record { accepted = a; asked = asked })).by_end zero
 
-  -- a fourth line `verdict yes` of `check`, whatever the status: the same
+  -- a fourth line `verdict yes` of `check`, whatever the status: the text is right in full
   pub says_yes_in_full : (AsksForCheck words → YesPromises IsRightInFull (status ≡ 0) (source.left old.reader)
       (sink.written_bytes old.writer) (sink.written_bytes new.writer)) →
       IsAccepted words → asked_by words ≡ Check → YesMeans IsRightInFull (source.left old.reader)

@@ -1,23 +1,22 @@
 -- The book of an audit.
-use Rattle.lemmas.proofs.Common.{[], ◌++◌, ◌+◌, ◌∙◌, ◌∷◌, ◌≡◌, ◌≤◌, List, ap, arith, false, length, length-append, map}
-use Rattle.lemmas.proofs.Common.{refl, replicate, subst, suc, sym, zero, ℕ}
+use Rattle.check_main.proofs.Imports.{AreJobsOfCertificate, CertView, List, [], ap, arith, certificate_text, false}
+use Rattle.check_main.proofs.Imports.{length, length-append, map, refl, subst, suc, sym, zero, ℕ, ◌++◌, ◌+◌, ◌∙◌, ◌∷◌}
+use Rattle.check_main.proofs.Imports.{◌≡◌, ◌≤◌}
+use Rattle.lemmas.proofs.Common.{replicate}
 use Rattle.sha2.specs.Sha256.{sha256}
-use Rattle.certificate.specs.Grammars.{CertView}
-use Rattle.certificate.specs.Text.{certificate_text}
 use Rattle.core_book.specs.Book.{BookView, IsReplayed, accepted_in, after_closing, new_book}
-use Rattle.core_book.specs.Concluding.{AreJobsOfCertificate}
 use Rattle.core_book.specs.Replay.{Replayed, accepted_after, after_entry, empty_replayed, has_closing, replay}
 use Rattle.core_book.specs.Replay.{replay_from}
 use Rattle.core_book.specs.Verdicts.{AreFindingsHeldBelow}
 use Rattle.core_book.specs.declared.reply.Reply.{Reply}
-use Rattle.core_book.specs.declared.reply.Reply.TheVariants as reply
 use Rattle.core_book.proofs.Replays.{closed-by_its_history}
 use Rattle.core_book.specs.declared.log_entry.LogEntry.{LogEntry}
 use Rattle.core_book.specs.declared.log_entry.LogEntry.TheVariants.{Filed, Closing}
 use Rattle.module_job.specs.Jobs.{JobView}
 use Rattle.verdict_book.specs.Counts.{no_counts}
 use Rattle.job_pool.specs.Work.{sum_of_filed}
-use Rattle.check_main.specs.Audits.{IsAuditOf, IsClosedOnce, IsCompleted, filings_in}
+use Rattle.check_main.specs.Audits.{IsAuditOf, IsClosedOnce, IsFilledAndClosed, filings_in}
+use Rattle.core_book.specs.declared.reply.Reply.TheVariants as reply
 
 pub no_history : (b : BookView) (digest : List ℕ) (jobs : List JobView) → b ≡ new_book digest jobs → b.history ≡ []
 unfolding new_book
@@ -50,7 +49,7 @@ closed_once old new still is =
     same ∙ ap (λ l. l ++ Closing ∷ [])
     (all_filings old.history still ∙ ap (map Filed) (sym (filings_closed old.history) ∙ ap filings_in (sym same)))
 
-pub completed_closed : (digest : List ℕ) (jobs : List JobView) (b c : BookView) → IsCompleted digest jobs b c →
+pub completed_closed : (digest : List ℕ) (jobs : List JobView) (b c : BookView) → IsFilledAndClosed digest jobs b c →
     IsClosedOnce c.history
 completed_closed digest jobs b c is =
     let still : has_closing is.full.history ≡ false =
@@ -88,7 +87,8 @@ held_closed b jobs n held k j below at =
     record { finding = h.finding; held = h.held; whole = h.whole }
 
 pub audit_of : (s : CertView) (digest : List ℕ) (jobs : List JobView) (b c : BookView) →
-    digest ≡ sha256 (certificate_text s) → AreJobsOfCertificate s jobs → IsCompleted digest jobs b c → IsAuditOf s c
+    digest ≡ sha256 (certificate_text s) → AreJobsOfCertificate s jobs → IsFilledAndClosed digest jobs b c →
+    IsAuditOf s c
 audit_of s digest jobs b c of_text own is =
     let full = is.is_full in
     let same : jobs ≡ is.full.jobs = sym full.is_open.jobs_are in

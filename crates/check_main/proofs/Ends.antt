@@ -1,10 +1,7 @@
 -- The end of a command for each status
-use Rattle.lemmas.proofs.Common.{◌≡◌, ◌≢◌, ◌≤◌, ◌⊎◌, Err, IfErr, IfOk, Ok, OnOk, Result, arith, inl, inr, refl, subst}
-use Rattle.answers.specs.declared.outcome.Outcome.{Outcome}
-use Rattle.answers.specs.declared.outcome.Outcome.TheVariants.{Yes, No, Refused}
-use Rattle.check_main.specs.Status.{status_for}
-use Rattle.check_main.specs.declared.fault.CheckFault.{CheckFault}
-use Rattle.check_main.specs.declared.fault.CheckFault.TheVariants.{Read, Write, TooLong, Memory}
+use Rattle.check_main.proofs.Imports.{CheckFault, Err, IfErr, IfOk, Memory, No, Ok, OnOk, Outcome, Read, Refused}
+use Rattle.check_main.proofs.Imports.{Result, TooLong, Write, Yes, arith, inl, inr, refl, status_for, subst, ◌≡◌, ◌≢◌}
+use Rattle.check_main.proofs.Imports.{◌≤◌, ◌⊎◌}
 
 -- no two ends have the status of one outcome
 pub outcome_of : (outcome : Outcome) (ended : Result Outcome CheckFault) →

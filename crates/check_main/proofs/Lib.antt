@@ -4,3 +4,4 @@ mod Ends
 mod RightStreams
 mod SectionBytes
 mod Words
+pub mod Imports

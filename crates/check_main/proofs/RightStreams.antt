@@ -1,13 +1,11 @@
 -- What an outcome means for a text, of what a reader had to give and of what a writer holds.
-use Rattle.lemmas.proofs.Common.{[], ◌++◌, ◌↔◌, ◌∙◌, ◌≡◌, Err, IfErr, IfOk, List, None, Ok, OnOk, Option, Result, Some}
-use Rattle.lemmas.proofs.Common.{ap, append-nil, arith, subst, sym, ℕ, Appends, Consumes, IsAtEnd, append_cancel_left}
-use Rattle.answers.specs.declared.outcome.Outcome.{Outcome}
-use Rattle.answers.specs.declared.outcome.Outcome.TheVariants.{Yes}
-use Rattle.meaning.specs.Streams.{HoldsOfKnownInput, FourthLineSaysYes, YesMeans}
-use Rattle.headline.specs.ReportLines.{RelatesReadToWritten}
+use Rattle.check_main.proofs.Imports.{Appends, Consumes, Err, HoldsOfKnownInput, IfErr, IfOk, List, None, Ok, OnOk}
+use Rattle.check_main.proofs.Imports.{Option, Outcome, RelatesReadToWritten, Result, Some, Yes, YesMeans, YesPromises}
+use Rattle.check_main.proofs.Imports.{[], ap, arith, subst, sym, ℕ, ◌++◌, ◌∙◌, ◌≡◌}
+use Rattle.lemmas.proofs.Common.{◌↔◌, append-nil, IsAtEnd, append_cancel_left}
+use Rattle.meaning.specs.Streams.{FourthLineSaysYes}
 use Rattle.headline.proofs.FourthLines.{says_on}
-use Rattle.check_main.specs.Program.{YesPromises}
-use Rattle.check_main.specs.Stream.{ReadsAll, TakesPrefix}
+use Rattle.check_main.specs.Stream.{ReadsAll, AppendsProperPrefix}
 
 all_read : (left left' : Option (List ℕ)) (text known : List ℕ) → left ≡ Some known → Consumes left left' text →
     IsAtEnd left' → text ≡ known
@@ -68,7 +66,8 @@ written_right : {E : Type 0} (P : List ℕ → Type 0)
     (left left' written_bytes written_bytes' : Option (List ℕ)) (text output : List ℕ) →
     (FourthLineSaysYes output → P text) → ReadsAll left left' text →
     (result : Result Outcome E) → OnOk result (Appends written_bytes written_bytes' output) →
-    IfErr result (λ e. TakesPrefix written_bytes written_bytes' output) → YesMeans P left written_bytes written_bytes'
+    IfErr result (λ e. AppendsProperPrefix written_bytes written_bytes' output) →
+    YesMeans P left written_bytes written_bytes'
 written_right P left left' written_bytes written_bytes' text output holds read (Ok o) all front =
     all_said_right P left left' written_bytes written_bytes' text output holds read all
 written_right P left left' written_bytes written_bytes' text output holds read (Err e) all front =
@@ -91,7 +90,7 @@ pub yes_promised : {E : Type 0} (P : List ℕ → Type 0)
     FourthLineSaysYes output ↔ (outcome ≡ Yes) → (outcome ≡ Yes → P text) → ReadsAll left left' text →
     (result : Result Outcome E) →
     IfOk result (λ o. o ≡ outcome) → OnOk result (Appends written_bytes written_bytes' output) →
-    IfErr result (λ e. TakesPrefix written_bytes written_bytes' output) →
+    IfErr result (λ e. AppendsProperPrefix written_bytes written_bytes' output) →
     YesPromises P (result ≡ Ok Yes) left written_bytes written_bytes'
 yes_promised P left left' written_bytes written_bytes' text output outcome line holds read result same all front =
     record {

@@ -1,13 +1,12 @@
 -- The bytes that a reader of the section took are the text of the certificate that it gave.
-use Rattle.lemmas.proofs.Common.{◌++◌, ◌+◌, ◌∙◌, ◌≡◌, ◌≤◌, List, None, Ok, Option, Some, ap, arith, drop, flat_map}
-use Rattle.lemmas.proofs.Common.{length, length-append, refl, take, ℕ, drop-append_seam, flat_map-append, take-add}
-use Rattle.section_text.specs.Feeds.{FeedView}
+use Rattle.check_main.proofs.Imports.{CertView, FeedView, List, None, Ok, Option, Some, ap, arith, certificate_text}
+use Rattle.check_main.proofs.Imports.{drop, length, length-append, refl, take, ℕ, ◌++◌, ◌+◌, ◌∙◌, ◌≡◌, ◌≤◌}
+use Rattle.lemmas.proofs.Common.{flat_map, drop-append_seam, flat_map-append, take-add}
 use Rattle.section_text.specs.Section.{Reads, ReadsSection, with_line_feed}
 use Rattle.section_text.specs.Words.{lines_of}
 use Rattle.section_text.specs.declared.fault.ReadFault.{ReadFault}
 use Rattle.certificate_lines.specs.Entries.{Setting}
-use Rattle.certificate.specs.Grammars.{CertView, certificate_grammar, certificate_section}
-use Rattle.certificate.specs.Text.{certificate_text}
+use Rattle.certificate.specs.Grammars.{certificate_grammar, certificate_section}
 use Rattle.certificate.specs.Laws.{PrintsWhatIsRead}
 use Rattle.check_main.specs.Preparing.{taken_bytes}
 

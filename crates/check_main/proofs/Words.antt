@@ -1,14 +1,13 @@
 -- The commands that one word asks for, and that a number of workers asks for.
-use Rattle.lemmas.proofs.Common.{[], ◌%◌, ◌&&◌, ◌++◌, ◌+◌, ◌/◌, ◌<◌, ◌∙◌, ◌∷◌, ◌≡◌, ◌≤◌, Bool, List, ap, arith, codes}
-use Rattle.lemmas.proofs.Common.{cond, eqb, false, inl, inr, ltb, refl, suc, sym, true, zero, ℕ, and_parts, cases_lt}
-use Rattle.lemmas.proofs.Common.{cond-false, cond-true, decimal, eqb-true, list_all, lt-ltb, range_with_len}
+use Rattle.check_main.proofs.Imports.{Check, IsAccepted, List, Text, [], ap, arith, asked_by, bbmcheck, false, fault_of}
+use Rattle.check_main.proofs.Imports.{inl, inr, refl, suc, sym, true, zero, ℕ, ◌++◌, ◌+◌, ◌<◌, ◌∙◌, ◌∷◌, ◌≡◌, ◌≤◌}
+use Rattle.lemmas.proofs.Common.{◌%◌, ◌&&◌, ◌/◌, Bool, codes, cond, eqb, ltb, and_parts, cases_lt, cond-false}
+use Rattle.lemmas.proofs.Common.{cond-true, decimal, eqb-true, list_all, lt-ltb, range_with_len}
 use Rattle.std.proofs.lemmas.Fmt.{decimal_digit, decimal_step}
 use Rattle.clap.specs.Faults.{defaults_fault, flags_fault, walk_fault}
 use Rattle.clap.specs.Takes.{flags_pass, walk_passes}
-use Rattle.clap.specs.Walk.{Text, bundle_met, walked}
-use Rattle.clap.specs.Words.{fault_of}
-use Rattle.command_line.specs.CommandLine.{IsAccepted, asked_by, bbmcheck, workers_asked}
-use Rattle.command_line.specs.declared.Request.TheVariants.{Check}
+use Rattle.clap.specs.Walk.{bundle_met, walked}
+use Rattle.command_line.specs.CommandLine.{workers_asked}
 use Rattle.check_main.specs.Laws.{EachWorkerCountIsAccepted, CheckWordAsksForCheck, words_with_workers}
 
 -- ---- one word

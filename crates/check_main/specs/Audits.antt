@@ -30,7 +30,7 @@ pub record IsAuditOf (c : CertView) (b : BookView) : Type 0 where
   pub all_accepted : accepted_in b ≡ length b.jobs
 
 -- the first book was filled up, and closed then
-pub record IsCompleted (digest : List ℕ) (jobs : List JobView) (b c : BookView) : Type 0 where
+pub record IsFilledAndClosed (digest : List ℕ) (jobs : List JobView) (b c : BookView) : Type 0 where
   pub full : BookView
   pub is_full : IsFull digest jobs full
   pub filled : IsPartlyFilled b full

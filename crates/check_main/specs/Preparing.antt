@@ -27,7 +27,7 @@ pub record IsMadeFor (c : CertView) (made : JobsAndBorders) : Type 0 where
   pub jobs : AreJobsOfCertificate c (map arc_value made.jobs.items)
   pub borders : AreBorderFaultsOf (setting c) (modules c) made.borders.items
 
--- the same, and the certificate's digest
+-- the certificate's digest, the jobs of its modules, and the faults of its borders
 pub record IsPreparedFor (c : CertView) (prepared : Prepared) : Type 0 where
   pub digest : prepared.opening.digest ≡ sha256 (certificate_text c)
   pub jobs : AreJobsOfCertificate c (map arc_value prepared.opening.jobs.items)

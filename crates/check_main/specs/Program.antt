@@ -17,7 +17,7 @@ use Rattle.check_main.specs.declared.fault.CheckFault.{CheckFault}
 use Rattle.check_main.specs.declared.fault.CheckFault.TheVariants.{Write, Memory}
 use Rattle.check_main.specs.declared.front.Streams.{Streams}
 use Rattle.check_main.specs.Commands.{IsAnswerTo}
-use Rattle.check_main.specs.Status.{Says, status_for}
+use Rattle.check_main.specs.Status.{WritesFaultLine, status_for}
 use Rattle.check_main.specs.Stream.{Serves}
 
 -- the words are accepted, and ask for `check`
@@ -41,7 +41,7 @@ pub record Ran {R W E : Type 0} (source : Source R) (sink : Sink W) (messages : 
   pub served : Serves (IsAnswerTo request) source sink old.reader new.reader old.writer new.writer ended
   pub status_of_end : status ≡ status_for ended
   -- after a fault, `errors` got its line
-  pub said : IfErr ended (Says messages old.errors new.errors)
+  pub said : IfErr ended (WritesFaultLine messages old.errors new.errors)
   -- after an outcome, `errors` got nothing
   pub quiet : OnOk ended (new.errors ≡ old.errors)
 
@@ -60,9 +60,10 @@ pub record Explains {W E : Type 0} (sink : Sink W) (messages : Sink E) (AskForHe
   -- something is wrong with the words, and the writer got nothing
   pub refused : status ≡ 2 → (¬ AskForHelpAlone) × (writer' ≡ writer)
   -- the words ask for help, and the writer failed
-  pub cut_off : status ≡ 4 → AskForHelp × (sink.has_failed writer' ≡ true) × Says messages errors errors' Write
+  pub cut_off : status ≡ 4 → AskForHelp × (sink.has_failed writer' ≡ true)
+      × WritesFaultLine messages errors errors' Write
   -- memory ran out, and the writer got nothing
-  pub out_of_memory : status ≡ 5 → (writer' ≡ writer) × Says messages errors errors' Memory
+  pub out_of_memory : status ≡ 5 → (writer' ≡ writer) × WritesFaultLine messages errors errors' Memory
 
 -- The words were explained, and nothing was read.
 pub record Explained {R W E : Type 0} (sink : Sink W) (messages : Sink E) (words : List Text)

@@ -29,7 +29,7 @@ unfoldable pub fault_line : CheckFault → List ℕ
 fault_line fault = codes "bbmcheck: " ++ fault_text fault ++ codes "\n"
 
 -- the line for a fault was written to a sink, unless that failed
-abbrev pub Says : {E : Type 0} → Sink E → E → E → CheckFault → Type 0
-Says sink errors errors' fault =
+abbrev pub WritesFaultLine : {E : Type 0} → Sink E → E → E → CheckFault → Type 0
+WritesFaultLine sink errors errors' fault =
     sink.has_failed errors' ≡ false →
     Appends (sink.written_bytes errors) (sink.written_bytes errors') (fault_line fault)

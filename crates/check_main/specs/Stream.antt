@@ -27,7 +27,7 @@ abbrev pub closed_feed_of : List ℕ → FeedView
 closed_feed_of text = record { text = text; taken = 0; closed = true; stop = None }
 
 -- the writer took the first bytes of the output, and not all of them
-pub record TakesPrefix (old new : Option (List ℕ)) (output : List ℕ) : Type 0 where
+pub record AppendsProperPrefix (old new : Option (List ℕ)) (output : List ℕ) : Type 0 where
   pub taken : List ℕ
   pub rest : List ℕ
   pub whole : output ≡ taken ++ rest
@@ -53,7 +53,7 @@ pub record BreaksOff (R : List ℕ → List ℕ → Outcome → Type 0)
   pub outcome : Outcome
   pub read : ReadsAll left left' text
   pub right : R text output outcome
-  pub written : TakesPrefix written_bytes written_bytes' output
+  pub written : AppendsProperPrefix written_bytes written_bytes' output
 
 -- The effect of a call of the command `R` on a reader and a writer that had not failed, and its end.
 pub record Serves {X Y : Type 0} (R : List ℕ → List ℕ → Outcome → Type 0) (source : Source X) (sink : Sink Y)

@@ -9,7 +9,7 @@ ghost use Rattle.module_job.specs.Groups.{AreGroups};
 ghost use Rattle.core_book.specs.Concluding.{AreJobsOfCertificate, modules};
 ghost use Rattle.core_book.specs.Replay.{has_closing};
 ghost use Rattle.core_book.specs.Filling.{shapes_of};
-ghost use Rattle.check_main.specs.Audits.{IsAuditOf, IsClosedOnce, IsCompleted, filings_in};
+ghost use Rattle.check_main.specs.Audits.{IsAuditOf, IsClosedOnce, IsFilledAndClosed, filings_in};
 
 use certificate::{Cert, Job, job_groups};
 use core_book::{BookState, fill_open_book};
@@ -109,19 +109,19 @@ pub(crate) fn audit_opening<G: Gate + Sync, R: Threads + Wait + Sync>(
     let mut audited = audit_with_book::<Brand, Brand, G, R>(
         rt, alloc, gate, &copies, &groups, unopened,
     )?;
-    complete(alloc, &mut audited.state, digest, &copies)?;
+    fill_and_close(alloc, &mut audited.state, digest, &copies)?;
     Ok(audited)
 }
 
 // Files what the workers left, and closes the book. Nothing that they filed is lost.
-fn complete(
+fn fill_and_close(
     alloc: Global,
     state: &mut BookState,
     digest: [u8; 32],
     jobs: &[Arc<Job>],
 ) -> Result<(), AllocError>
     requires open_for_jobs { IsOpenFor digest (map arc_value jobs.now) state.old }
-    ensures completed { OnOk result (IsCompleted digest (map arc_value jobs.now) state.old
+    ensures completed { OnOk result (IsFilledAndClosed digest (map arc_value jobs.now) state.old
         state.new) }
     ensures replays { OnOk result (IsReplayed state.new) }
 {

@@ -11,7 +11,7 @@ ghost use Rattle.headline.specs.SmallDesigns.{IsNoSmallDesignText};
 
 use crate::check::report_on;
 use crate::preparing::prepare;
-use answers::{Answered, Outcome, refused};
+use answers::{Answered, Outcome, refusal_answer};
 use certificate::laws::text_round_trips;
 use certificate::read_certificate;
 use circuit::{port_names, read_circuit};
@@ -99,21 +99,21 @@ fn report_of_text<G: Gate + Sync, R: Threads + Wait + Sync>(
 {
     let mut feed = feed;
     let circuit = match read_circuit(alloc, &mut feed) {
-        Err(fault) => return refused(alloc, fault),
+        Err(fault) => return refusal_answer(alloc, fault),
         Ok(circuit) => circuit,
     };
     let ports = port_names(alloc, &circuit)?;
     let layout = match read_layout(alloc, &mut feed, &ports) {
-        Err(fault) => return refused(alloc, fault),
+        Err(fault) => return refusal_answer(alloc, fault),
         Ok(layout) => layout,
     };
     let from = feed.taken_text().len();
     let cert = match read_certificate(alloc, &mut feed, &circuit, &layout) {
-        Err(fault) => return refused(alloc, fault),
+        Err(fault) => return refusal_answer(alloc, fault),
         Ok(cert) => cert,
     };
     if let Err(fault) = feed.finish() {
-        return refused(alloc, fault);
+        return refusal_answer(alloc, fault);
     }
     // A certificate prints as the bytes that it was read from.
     text_round_trips();

@@ -10,7 +10,7 @@ ghost use Rattle.headline.specs.SmallDesigns.{IsNoSmallDesignText};
 ghost use Rattle.headline.specs.ReportLines.{LinesHaveMeaning, RelatesReadToWritten};
 ghost use Rattle.check_main.specs.Commands.{IsAnswerTo};
 ghost use Rattle.check_main.specs.Program.{AsksForCheck, Explained, Explains, IsHelp, Ran, YesPromises};
-ghost use Rattle.check_main.specs.Status.{status_for, Says};
+ghost use Rattle.check_main.specs.Status.{status_for, WritesFaultLine};
 ghost use Rattle.check_main.specs.Stream.{Serves};
 
 use crate::CheckFault;
@@ -161,14 +161,14 @@ where
 pub fn status_of<E: Sink>(ended: Result<Outcome, CheckFault>, errors: &mut E) -> u8
     ensures status { result ≡ status_for ended }
     ensures quiet { OnOk ended (errors.new ≡ errors.old) }
-    ensures said { IfErr ended (Says E.Sink errors.old errors.new) }
+    ensures said { IfErr ended (WritesFaultLine E.Sink errors.old errors.new) }
 {
     match ended {
         Ok(Outcome::Yes) => DONE,
         Ok(Outcome::No) => NO,
         Ok(Outcome::Refused) => TEXT_REFUSED,
         Err(fault) => {
-            say(errors, fault);
+            write_fault_line(errors, fault);
             match fault {
                 CheckFault::Read | CheckFault::Write | CheckFault::TooLong => DEVICE_FAULT,
                 CheckFault::Memory => NOT_DECIDED,
@@ -190,15 +190,15 @@ fn write_help_or_fault<W: Sink, E: Sink>(
     ensures memory { kind_of error.now ≡ ErrorKind.OutOfMemory → result ≡ 5 }
 {
     if matches!(error.kind(), ErrorKind::OutOfMemory) {
-        say(errors, CheckFault::Memory);
+        write_fault_line(errors, CheckFault::Memory);
         return NOT_DECIDED;
     }
     let Ok(text) = error.to_string(alloc) else {
-        say(errors, CheckFault::Memory);
+        write_fault_line(errors, CheckFault::Memory);
         return NOT_DECIDED;
     };
     match error.kind() {
-        ErrorKind::DisplayHelp | ErrorKind::DisplayVersion => show(&text, writer, errors),
+        ErrorKind::DisplayHelp | ErrorKind::DisplayVersion => write_help(&text, writer, errors),
         _ => {
             let _ = write_whole(errors, text.as_bytes());
             WORDS_REFUSED
@@ -207,25 +207,26 @@ fn write_help_or_fault<W: Sink, E: Sink>(
 }
 
 // Writes help.
-fn show<W: Sink, E: Sink>(text: &str, writer: &mut W, errors: &mut E) -> u8
+fn write_help<W: Sink, E: Sink>(text: &str, writer: &mut W, errors: &mut E) -> u8
     requires { W.has_failed writer.old ≡ false }
     ensures range { (result ≡ 0) ⊎ (result ≡ 4) }
     ensures device { result ≡ 4 →
-        (W.has_failed writer.new ≡ true) × Says E.Sink errors.old errors.new CheckFault.Write }
+        (W.has_failed writer.new ≡ true)
+        × WritesFaultLine E.Sink errors.old errors.new CheckFault.Write }
     ensures quiet { result ≡ 0 → errors.new ≡ errors.old }
     ensures works { result ≡ 0 → W.has_failed writer.new ≡ false }
 {
     if write_whole(writer, text.as_bytes()) {
         return DONE;
     }
-    say(errors, CheckFault::Write);
+    write_fault_line(errors, CheckFault::Write);
     DEVICE_FAULT
 }
 
 // Says the one line for a fault, without memory.
 #[tactic(auto, unfolding(crate::specs::Status::fault_line))]
-fn say<E: Sink>(errors: &mut E, fault: CheckFault)
-    ensures { Says E.Sink errors.old errors.new fault }
+fn write_fault_line<E: Sink>(errors: &mut E, fault: CheckFault)
+    ensures { WritesFaultLine E.Sink errors.old errors.new fault }
 {
     let _ = write_whole(errors, b"bbmcheck: ")
         && write_whole(errors, fault.text().as_bytes())

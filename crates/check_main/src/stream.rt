@@ -12,7 +12,7 @@ ghost use Rattle.answers.specs.ModulesText.{IsModulesOf};
 ghost use Rattle.answers.specs.RunText.{IsRunOf};
 ghost use Rattle.answers.specs.ValueText.{IsValueOf};
 ghost use Rattle.check_main.specs.Program.{YesPromises};
-ghost use Rattle.check_main.specs.Stream.{ReadsAll, Serves, GivesTooMuch, TakesPrefix, closed_feed_of};
+ghost use Rattle.check_main.specs.Stream.{ReadsAll, Serves, GivesTooMuch, AppendsProperPrefix, closed_feed_of};
 
 use crate::CheckFault;
 use crate::bundle::check_text;
@@ -229,7 +229,7 @@ fn write_answer<W: Sink>(writer: &mut W, answered: &Answered) -> Result<Outcome,
     ensures works { OnOk result (W.has_failed writer.new ≡ false) }
     ensures only { IfErr result (λ fault. fault ≡ CheckFault.Write) }
     ensures fails { IfErr result (λ fault. W.has_failed writer.new ≡ true) }
-    ensures prefix { IfErr result (λ fault. TakesPrefix (W.written_bytes writer.old)
+    ensures prefix { IfErr result (λ fault. AppendsProperPrefix (W.written_bytes writer.old)
         (W.written_bytes writer.new) answered.now.output.items) }
 {
     if write_whole(writer, &answered.output) {
@@ -246,7 +246,7 @@ pub(crate) fn write_whole<W: Sink>(writer: &mut W, bytes: &[u8]) -> bool
     ensures works { result ≡ true → W.has_failed writer.new ≡ W.has_failed writer.old }
     ensures fails { result ≡ false → W.has_failed writer.new ≡ true }
     ensures prefix { result ≡ false →
-        TakesPrefix (W.written_bytes writer.old) (W.written_bytes writer.new) bytes.now }
+        AppendsProperPrefix (W.written_bytes writer.old) (W.written_bytes writer.new) bytes.now }
 {
     let mut rest = bytes;
     while !rest.is_empty() {

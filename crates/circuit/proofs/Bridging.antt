@@ -1,23 +1,17 @@
 -- The gates of good lines are ordered.
-use Rattle.lemmas.proofs.Common.{[], ◌++◌, ◌+◌, ◌<◌, ◌∙◌, ◌∷◌, ◌≡◌, All, Bool, List, None, Option, Some, ap, append-nil}
-use Rattle.lemmas.proofs.Common.{append_assoc, ap₂, arith, cond, count_by, false, inl, inr, length, length-append, map}
-use Rattle.lemmas.proofs.Common.{refl, subst, sym, take, true≢false, ℕ, cases_Bool, common_steps, flat_map-append}
-use Rattle.lemmas.proofs.Common.{length-map, range_with_len, sum_by-append, sum_by-cons}
-use Rattle.circuit.specs.Entries.{defined}
-use Rattle.circuit.specs.declared.circuit_line.GateKind.{GateKind}
-use Rattle.circuit.specs.declared.circuit_line.Kind.{Kind}
-use Rattle.circuit.specs.declared.circuit_line.Kind.TheVariants.{Input, Output, Spill, Gate as GateLine}
-use Rattle.circuit.specs.declared.circuit_line.CircuitLine.{CircuitLine}
-use Rattle.section_text.specs.Words.{has}
-use Rattle.circuit.specs.Rules.{consumed, consume, define, is_gate, gate_count, add_fault, limit_fault, name_fault}
-use Rattle.section_text.specs.Codes.{or_else}
-use Rattle.circuit.specs.Meaning.{AreOrdered, Gate, number}
-use Rattle.circuit.specs.Wiring.{gate_with_outs_from}
-use Rattle.circuit.specs.Bridge.{is_input, input_count, gate_of_line_kind, gates_of, IsGoodAfter, AreGoodAfter}
-use Rattle.circuit.specs.Bridge.{AreGoodCircuitLines}
+use Rattle.circuit.proofs.Imports.{All, AreGoodAfter, AreGoodCircuitLines, AreOrdered, Bool, CircuitLine, Gate}
+use Rattle.circuit.proofs.Imports.{GateKind, Kind, List, None, Option, RefusalCode, Some, [], add_fault, ap, append-nil}
+use Rattle.circuit.proofs.Imports.{append_assoc, ap₂, arith, cases_Bool, common_steps, cond, consume_fault, consumed}
+use Rattle.circuit.proofs.Imports.{define_fault, defined, false, flat_map-append, gate_count, gate_of_line_kind}
+use Rattle.circuit.proofs.Imports.{gate_with_outs_from, gates_of, has, inl, input_count, inr, is_gate, is_input, length}
+use Rattle.circuit.proofs.Imports.{length-append, length-map, map, number, or_else, range_with_len, refl, subst}
+use Rattle.circuit.proofs.Imports.{sum_by-cons, sym, take, true≢false, ℕ, ◌++◌, ◌+◌, ◌<◌, ◌∙◌, ◌∷◌, ◌≡◌}
+use Rattle.lemmas.proofs.Common.{count_by, sum_by-append}
+use Rattle.circuit.specs.Rules.{limit_fault, name_fault}
+use Rattle.circuit.specs.Bridge.{IsGoodAfter}
 use Rattle.circuit.specs.Laws.{GatesAreOrdered}
 use Rattle.circuit.proofs.Places.{Have, number_new, numbers_left, numbers_below, consume_have, bytes_same}
-use Rattle.section_text.specs.declared.code.RefusalCode.{RefusalCode}
+use Rattle.circuit.specs.declared.circuit_line.Kind.TheVariants.{Input, Output, Spill, Gate as GateLine}
 
 -- ---- what the tests of a line say
 or_else_none : (a b : Option RefusalCode) → or_else a b ≡ None → (a ≡ None) × (b ≡ None)
@@ -25,16 +19,16 @@ or_else_none None b e = (refl, e)
 or_else_none (Some c) b e = grind (arith, common_steps)
 
 pub names_pass : (before : List CircuitLine) (r : CircuitLine) → add_fault before r ≡ None →
-    (consume (defined before) (consumed before) r.ins ≡ None) × (define (defined before) r.outs ≡ None)
+    (consume_fault (defined before) (consumed before) r.ins ≡ None) × (define_fault (defined before) r.outs ≡ None)
 unfolding add_fault
 names_pass before r e = or_else_none _ _ (or_else_none (limit_fault before r) (name_fault before r) e).1
 
 -- ---- names that are newly defined
-pub define_first : (d : List (List ℕ)) (n : List ℕ) (ns : List (List ℕ)) → define d (n ∷ ns) ≡ None →
-    (has d n ≡ false) × (define (d ++ n ∷ []) ns ≡ None)
+pub define_first : (d : List (List ℕ)) (n : List ℕ) (ns : List (List ℕ)) → define_fault d (n ∷ ns) ≡ None →
+    (has d n ≡ false) × (define_fault (d ++ n ∷ []) ns ≡ None)
 define_first d n ns e = grind (arith, common_steps, cases_Bool)
 
-pub numbers_new : (d ns e : List (List ℕ)) → define d ns ≡ None →
+pub numbers_new : (d ns e : List (List ℕ)) → define_fault d ns ≡ None →
     map (number (d ++ (ns ++ e))) ns ≡ range_with_len (length d) (length ns)
 numbers_new d [] e h = refl
 numbers_new d (n ∷ ns) e h =

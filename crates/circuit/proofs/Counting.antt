@@ -1,10 +1,9 @@
 -- There are as many names of inputs as inputs.
-use Rattle.lemmas.proofs.Common.{[], ◌++◌, ◌∷◌, ◌≡◌, List, arith, cond, length, refl, ℕ, common_steps}
-use Rattle.circuit.specs.declared.circuit_line.CircuitLine.{CircuitLine}
-use Rattle.circuit.specs.declared.circuit_line.Kind.{Kind}
-use Rattle.circuit.specs.declared.circuit_line.Kind.TheVariants.{Input, Output, Spill, Gate as GateLine}
-use Rattle.circuit.specs.Bridge.{AreGoodCircuitLines, AreGoodAfter, FitsKind, is_input, input_count, input_names}
+use Rattle.circuit.proofs.Imports.{AreGoodAfter, AreGoodCircuitLines, CircuitLine, FitsKind, Kind, List, [], arith}
+use Rattle.circuit.proofs.Imports.{common_steps, cond, input_count, input_names, is_input, length, refl, ℕ, ◌++◌, ◌∷◌}
+use Rattle.circuit.proofs.Imports.{◌≡◌}
 use Rattle.circuit.proofs.Bridging.{input_cons}
+use Rattle.circuit.specs.declared.circuit_line.Kind.TheVariants.{Input, Output, Spill, Gate as GateLine}
 
 line_counted : (kind : Kind) (ins outs : List (List ℕ)) → FitsKind (record { kind = kind; ins = ins; outs = outs }) →
     length (cond (is_input kind) outs []) ≡ cond (is_input kind) 1 0

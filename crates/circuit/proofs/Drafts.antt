@@ -1,14 +1,10 @@
 -- A draft with one more line.
-use Rattle.lemmas.proofs.Common.{[], ◌&&◌, ◌++◌, ◌+◌, ◌∷◌, ◌≡◌, ◌≤◌, Bool, List, None, Some, arith, cond, false}
-use Rattle.lemmas.proofs.Common.{get_or, length, map, nat_le, position, take, true, ℕ, bytes_eq}
-use Rattle.lemmas.proofs.Common.{common_steps, leb-false, ltb-false, or_parts}
-use Rattle.circuit.specs.Entries.{defined}
-use Rattle.circuit.specs.declared.circuit_line.CircuitLine.{CircuitLine}
-use Rattle.circuit.specs.Rules.{consumed, consume, define, is_gate, gate_count, add_fault, exceeds_limit}
-use Rattle.circuit.specs.Bridge.{FitsKind, IsNoInputAfterGate}
-use Rattle.circuit.specs.Meaning.{number}
-use Rattle.section_text.specs.Words.{has}
-use Rattle.circuit.specs.Wiring.{gate_of, gate_with_outs_from, with_marks_set}
+use Rattle.circuit.proofs.Imports.{Bool, CircuitLine, FitsKind, IsNoInputAfterGate, List, None, Some, [], add_fault}
+use Rattle.circuit.proofs.Imports.{arith, bytes_eq, common_steps, cond, consume_fault, consumed, define_fault, defined}
+use Rattle.circuit.proofs.Imports.{exceeds_limit, false, gate_count, gate_of, gate_with_outs_from, get_or, has, is_gate}
+use Rattle.circuit.proofs.Imports.{length, map, number, position, take, true, with_marks_set, ℕ, ◌++◌, ◌+◌, ◌∷◌, ◌≡◌}
+use Rattle.circuit.proofs.Imports.{◌≤◌}
+use Rattle.lemmas.proofs.Common.{◌&&◌, nat_le, leb-false, ltb-false, or_parts}
 use Rattle.circuit.specs.declared.draft.Draft.TheInside.{Inside}
 use Rattle.circuit.specs.DraftView.{IsDraft}
 use Rattle.circuit.proofs.Bridging.{gates_push, good_push, defined_push, count_append}
@@ -16,7 +12,7 @@ use Rattle.circuit.proofs.Places.{found_number}
 use Rattle.circuit.proofs.WireMarks.{mark_read, marks_push}
 
 no_fault : (entries : List CircuitLine) (r : CircuitLine) → exceeds_limit entries r ≡ false →
-    consume (defined entries) (consumed entries) r.ins ≡ None → define (defined entries) r.outs ≡ None →
+    consume_fault (defined entries) (consumed entries) r.ins ≡ None → define_fault (defined entries) r.outs ≡ None →
     add_fault entries r ≡ None
 unfolding add_fault
 no_fault entries r limit ins outs = rw (limit, ins) outs
@@ -28,8 +24,8 @@ pub record Added (a b : Inside) (r : CircuitLine) (numbers : List ℕ) : Type 0 
   pub used : b.consumed.items ≡ with_marks_set (take (length r.ins) numbers)
       (a.consumed.items ++ map (λ _. false) r.outs)
   pub limit : exceeds_limit a.entries.items r ≡ false
-  pub ins_pass : consume (defined a.entries.items) (consumed a.entries.items) r.ins ≡ None
-  pub outs_pass : define a.wires.keys r.outs ≡ None
+  pub ins_pass : consume_fault (defined a.entries.items) (consumed a.entries.items) r.ins ≡ None
+  pub outs_pass : define_fault a.wires.keys r.outs ≡ None
   pub fits : FitsKind r
   pub inputs_first : IsNoInputAfterGate a.entries.items r
   pub numbered : take (length r.ins) numbers ≡ map (number (defined a.entries.items)) r.ins

@@ -1,19 +1,12 @@
 -- A line that is read has as many names as its kind.
-use Rattle.lemmas.proofs.Common.{[], ◌+◌, ◌∙◌, ◌∷◌, ◌≡◌, ◌≤◌, List, None, Some, ap, arith, codes, cond, eqb, inl, inr}
-use Rattle.lemmas.proofs.Common.{length, refl, subst, suc, sym, true, true≢false, zero, ℕ, cond_some}
-use Rattle.lemmas.proofs.Common.{option_and_then_some, same_Some}
-use Rattle.section_text.specs.Words.{◌>>=◌, is_word_at, name_at, names_at, lone, lone_name}
-use Rattle.section_text.specs.declared.section.Form.TheVariants.{Header, Item, End}
-use Rattle.circuit.specs.declared.circuit_line.Kind.TheVariants.{Input, Gate, Output, Spill}
-use Rattle.circuit.specs.declared.circuit_line.CircuitLine.{CircuitLine}
-use Rattle.circuit.specs.declared.circuit_line.Kind.{Kind}
-use Rattle.circuit.specs.Rules.{is_gate}
-use Rattle.circuit.specs.Entries.{entry, rank_of}
-use Rattle.circuit.specs.Gates.{uses, defines}
-use Rattle.section_text.proofs.Spellings.{chosen, passed}
-use Rattle.circuit.specs.Text.{Line}
-use Rattle.circuit.specs.Forms.{gate_kind, words_before_names, gate_line_of_kind, gate_entry, form_of}
-use Rattle.circuit.specs.Bridge.{FitsKind, is_input}
+use Rattle.circuit.proofs.Imports.{CircuitLine, End, FitsKind, Header, Input, Item, Kind, Line, List, None, Output}
+use Rattle.circuit.proofs.Imports.{Some, Spill, [], ap, arith, chosen, codes, cond, cond_some, defines, entry, eqb}
+use Rattle.circuit.proofs.Imports.{form_of, gate_entry, gate_kind, gate_line_of_kind, if_one_word, inl, inr, is_gate}
+use Rattle.circuit.proofs.Imports.{is_input, is_word_at, length, name_after_keyword, names_at, option_and_then_some}
+use Rattle.circuit.proofs.Imports.{passed, rank_of, refl, same_Some, subst, suc, sym, true, true≢false, uses}
+use Rattle.circuit.proofs.Imports.{words_before_names, zero, ℕ, ◌+◌, ◌>>=◌, ◌∙◌, ◌∷◌, ◌≡◌, ◌≤◌}
+use Rattle.section_text.specs.Words.{name_at}
+use Rattle.circuit.specs.declared.circuit_line.Kind.TheVariants.{Gate}
 
 names_length : (ws : List (List ℕ)) (i n : ℕ) (ns : List (List ℕ)) → names_at ws i n ≡ Some ns → length ns ≡ n
 unfolding names_at
@@ -51,8 +44,8 @@ OfForm (Header h) = Unit {0}
 OfForm (Item r) = FitsKind r
 OfForm End = Unit {0}
 
-lone_fits : (ws : List (List ℕ)) (f g : Line) → OfForm f → lone ws f ≡ Some g → OfForm g
-unfolding lone
+lone_fits : (ws : List (List ℕ)) (f g : Line) → OfForm f → if_one_word ws f ≡ Some g → OfForm g
+unfolding if_one_word
 lone_fits ws f g h e = let found = cond_some (eqb (length ws) 1) f g e in subst OfForm found.1 h
 
 form_fits : (ws : List (List ℕ)) (f : Line) → form_of ws ≡ Some f → OfForm f
@@ -63,13 +56,13 @@ form_fits ws f e =
       | inr p ↦ elim (chosen (is_word_at ws 0 (codes "end")) _ _ (Some f) p.1) [
         | inl q ↦ lone_fits ws End f tt q.1
         | inr q ↦ elim (chosen (is_word_at ws 0 (codes "input")) _ _ (Some f) q.1) [
-          | inl r ↦ option_and_then_some (λ n. Some (Item (entry Input [] (n ∷ [])))) (lone_name ws) f r.1
+          | inl r ↦ option_and_then_some (λ n. Some (Item (entry Input [] (n ∷ [])))) (name_after_keyword ws) f r.1
               (λ n named made. subst OfForm (same_Some (Item (entry Input [] (n ∷ []))) f made) (refl, refl))
           | inr r ↦ elim (chosen (is_word_at ws 0 (codes "output")) _ _ (Some f) r.1) [
-            | inl s ↦ option_and_then_some (λ n. Some (Item (entry Output (n ∷ []) []))) (lone_name ws) f s.1
+            | inl s ↦ option_and_then_some (λ n. Some (Item (entry Output (n ∷ []) []))) (name_after_keyword ws) f s.1
                 (λ n named made. subst OfForm (same_Some (Item (entry Output (n ∷ []) [])) f made) (refl, refl))
             | inr s ↦ elim (chosen (is_word_at ws 0 (codes "spill")) _ _ (Some f) s.1) [
-              | inl t ↦ option_and_then_some (λ n. Some (Item (entry Spill (n ∷ []) []))) (lone_name ws) f t.1
+              | inl t ↦ option_and_then_some (λ n. Some (Item (entry Spill (n ∷ []) []))) (name_after_keyword ws) f t.1
                   (λ n named made. subst OfForm (same_Some (Item (entry Spill (n ∷ []) [])) f made) (refl, refl))
               | inr t ↦ option_and_then_some (λ r. Some (Item r)) (gate_entry ws) f t.1
                   (λ r known made. subst OfForm (same_Some (Item r) f made) (gate_fits ws r known))

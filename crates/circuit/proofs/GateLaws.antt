@@ -1,9 +1,7 @@
 -- Gates keep the number of ones, and inverse gates undo others.
-use Rattle.lemmas.proofs.Common.{[], ◌∷◌, ◌≡◌, Bool, List, None, Option, Some, ap, arith, false, refl, subst, sym, true}
-use Rattle.lemmas.proofs.Common.{ℕ, common_steps}
-use Rattle.circuit.specs.declared.circuit_line.GateKind.TheVariants.{Source, Fredkin, Cswap, Interact, Switch, Delay}
-use Rattle.circuit.specs.declared.circuit_line.GateKind.TheVariants.{Unswitch, Uninteract}
-use Rattle.circuit.specs.Gates.{row}
+use Rattle.circuit.proofs.Imports.{Bool, Cswap, Delay, Fredkin, Interact, List, None, Option, Some, Source, Switch}
+use Rattle.circuit.proofs.Imports.{Uninteract, Unswitch, [], ap, arith, common_steps, false, refl, row, subst, sym}
+use Rattle.circuit.proofs.Imports.{true, ℕ, ◌∷◌, ◌≡◌}
 use Rattle.circuit.specs.Laws.{ones, GatesKeepOnes, InverseGatesUndo}
 
 none : {outs : List Bool} → ◌≡◌ {A = Option (List Bool)} None (Some outs) → ⊥

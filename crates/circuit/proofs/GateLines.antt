@@ -1,13 +1,10 @@
 -- A gate line by the names on both sides of its arrow.
-use Rattle.lemmas.proofs.Common.{◌+◌, ◌==◌, ◌≡◌, Bool, List, None, Option, Some, arith, codes, false, if◌then◌else◌}
-use Rattle.lemmas.proofs.Common.{length, refl, true, ℕ, common_steps}
-use Rattle.section_text.specs.Words.{◌>>=◌, is_word_at, names_beside_arrow}
-use Rattle.circuit.specs.declared.circuit_line.CircuitLine.{CircuitLine}
-use Rattle.circuit.specs.declared.circuit_line.GateKind.{GateKind}
+use Rattle.circuit.proofs.Imports.{Bool, CircuitLine, GateKind, List, None, Option, Some, arith, codes, common_steps}
+use Rattle.circuit.proofs.Imports.{defines, entry, false, gate_entry, gate_kind, gate_line_of_kind, is_word_at, length}
+use Rattle.circuit.proofs.Imports.{refl, true, uses, words_before_names, ℕ, ◌+◌, ◌>>=◌, ◌≡◌}
+use Rattle.lemmas.proofs.Common.{◌==◌, if◌then◌else◌}
+use Rattle.section_text.specs.Words.{names_beside_arrow}
 use Rattle.circuit.specs.declared.circuit_line.Kind.TheVariants.{Gate}
-use Rattle.circuit.specs.Entries.{entry}
-use Rattle.circuit.specs.Forms.{gate_entry, gate_kind, gate_line_of_kind, words_before_names}
-use Rattle.circuit.specs.Gates.{uses, defines}
 
 abbrev pub Sides : Type 0
 Sides = List (List ℕ) × List (List ℕ)

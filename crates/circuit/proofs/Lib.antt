@@ -15,3 +15,4 @@ pub mod GateLaws
 pub mod GateLines
 pub mod WireMarks
 mod LoneNames
+pub mod Imports

@@ -1,22 +1,19 @@
 -- The form of a line of a keyword and a name, by what stands behind the keyword.
-use Rattle.lemmas.proofs.Common.{[], ◌++◌, ◌-◌, ◌∙◌, ◌∷◌, ◌≡◌, List, None, Option, Some, ap, codes, drop, length}
-use Rattle.lemmas.proofs.Common.{option_map, refl, sym, take, take-append-drop, true, ℕ, bytes_eq, bytes_eq-Decides}
-use Rattle.lemmas.proofs.Common.{take_rest}
-use Rattle.section_text.specs.Words.{is_word_at, lone_name, name_of, words_of, ◌>>=◌}
+use Rattle.circuit.proofs.Imports.{CircuitLine, Input, Item, List, None, Option, Output, Some, Spill, [], ap, bytes_eq}
+use Rattle.circuit.proofs.Imports.{bytes_eq-Decides, codes, drop, entry, form_of, is_word_at, length}
+use Rattle.circuit.proofs.Imports.{name_after_keyword, option_map, refl, sym, take, true, words_of, ℕ, ◌++◌, ◌-◌, ◌>>=◌}
+use Rattle.circuit.proofs.Imports.{◌∙◌, ◌∷◌, ◌≡◌}
+use Rattle.lemmas.proofs.Common.{take-append-drop, take_rest}
+use Rattle.section_text.specs.Words.{name_of}
 use Rattle.section_text.specs.declared.section.Form.{Form}
-use Rattle.section_text.specs.declared.section.Form.TheVariants.{Item}
 use Rattle.section_text.proofs.Splitting.{lone_name_is}
-use Rattle.circuit.specs.declared.circuit_line.CircuitLine.{CircuitLine}
-use Rattle.circuit.specs.declared.circuit_line.Kind.TheVariants.{Input, Output, Spill}
-use Rattle.circuit.specs.Entries.{entry}
-use Rattle.circuit.specs.Forms.{form_of}
 
 begins_with : (m l : List ℕ) (n : ℕ) → bytes_eq (take n l) m ≡ true → l ≡ m ++ drop n l
 begins_with m l n e = sym (take-append-drop n l) ∙ ap (λ t. t ++ drop n l) ((bytes_eq-Decides (take n l) m).0 e)
 
 behind : (keyword l : List ℕ) (n : ℕ) (f : List ℕ → Form (Unit {0}) CircuitLine) →
     option_map f (name_of (take (length l - n) (drop n l)))
-    ≡ (lone_name (keyword ∷ words_of (drop n l)) >>= λ name. Some (f name))
+    ≡ (name_after_keyword (keyword ∷ words_of (drop n l)) >>= λ name. Some (f name))
 behind keyword l n f =
     mapped (name_of (take (length l - n) (drop n l)))
     ∙ ap (λ o. o >>= λ name. Some (f name)) (ap name_of (take_rest l n) ∙ sym (lone_name_is keyword (drop n l)))

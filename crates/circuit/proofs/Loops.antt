@@ -1,13 +1,9 @@
 -- One gate after another
-use Rattle.lemmas.proofs.Common.{[], ◌++◌, ◌+◌, ◌<◌, ◌∙◌, ◌∷◌, ◌≡◌, ◌≤◌, Bool, List, None, Option, Some, ap, get_or}
-use Rattle.lemmas.proofs.Common.{length, map, option_and_then, option_map, refl, subst, suc, sym, take, zero, ℕ}
-use Rattle.lemmas.proofs.Common.{map_push, slice_get-map, slice_get_read, take_all, take_more}
-use Rattle.circuit.specs.Gates.{row}
-use Rattle.circuit.specs.Meaning.{Gate}
-use Rattle.circuit.specs.Bridge.{read}
-use Rattle.circuit.specs.Evaluate.{evaluate, EvaluatesUpTo}
-use Rattle.circuit.specs.Wiring.{gate_of}
-use Rattle.circuit.specs.declared.wiring.GateWires.{GateWires}
+use Rattle.circuit.proofs.Imports.{Bool, EvaluatesUpTo, Gate, GateWires, List, None, Option, Some, [], ap, as_values}
+use Rattle.circuit.proofs.Imports.{evaluate, gate_of, get_or, length, map, option_and_then, option_map, refl, row}
+use Rattle.circuit.proofs.Imports.{slice_get-map, slice_get_read, subst, suc, sym, take, take_more, zero, ℕ, ◌++◌, ◌+◌}
+use Rattle.circuit.proofs.Imports.{◌<◌, ◌∙◌, ◌∷◌, ◌≡◌, ◌≤◌}
+use Rattle.lemmas.proofs.Common.{map_push, take_all}
 
 pub none_done : (vs given : List Bool) → vs ≡ given → evaluate given [] ≡ Some vs
 unfolding evaluate
@@ -23,24 +19,24 @@ more_after None f g x y e h = cc
 more_after (Some r) f g x y e h = h r e
 
 evaluate_more : (vs before after : List Bool) (gs : List Gate) (g : Gate) → evaluate vs gs ≡ Some before →
-    option_map (λ (r : List Bool). before ++ r) (row g.kind (map (read before) g.ins)) ≡ Some after →
+    option_map (λ (r : List Bool). before ++ r) (row g.kind (map (as_values before) g.ins)) ≡ Some after →
     evaluate vs (gs ++ g ∷ []) ≡ Some after
 unfolding evaluate
 evaluate_more vs before after [] g e h =
     let same : vs ≡ before = some_is vs before e in
-    map_is (λ r. vs ++ r) (row g.kind (map (read vs) g.ins))
-    ∙ ap (λ (l : List Bool). option_map (λ (r : List Bool). l ++ r) (row g.kind (map (read l) g.ins))) same ∙ h
+    map_is (λ r. vs ++ r) (row g.kind (map (as_values vs) g.ins))
+    ∙ ap (λ (l : List Bool). option_map (λ (r : List Bool). l ++ r) (row g.kind (map (as_values l) g.ins))) same ∙ h
   where
     some_is : (x y : List Bool) → Some x ≡ Some y → x ≡ y
     some_is x y e = cc
 evaluate_more vs before after (f ∷ gs) g e h =
-    more_after (row f.kind (map (read vs) f.ins)) (λ r. evaluate (vs ++ r) gs)
+    more_after (row f.kind (map (as_values vs) f.ins)) (λ r. evaluate (vs ++ r) gs)
     (λ r. evaluate (vs ++ r) (gs ++ g ∷ [])) before after e
     (λ r later. evaluate_more (vs ++ r) before after gs g later h)
 
 pub values_more : (given before after : List Bool) (gs : List GateWires) (k : ℕ) (g : GateWires) → k < length gs →
     g ≡ get_or gs k g →
-    option_map (λ (r : List Bool). before ++ r) (row (gate_of g).kind (map (read before) (gate_of g).ins))
+    option_map (λ (r : List Bool). before ++ r) (row (gate_of g).kind (map (as_values before) (gate_of g).ins))
     ≡ Some after →
     evaluate given (map gate_of (take k gs)) ≡ Some before → evaluate given (map gate_of (take (k + 1) gs)) ≡ Some after
 values_more given before after gs k g h is here so_far =
@@ -61,7 +57,8 @@ map_take (g ∷ gs) (suc k) = ap (λ (l : List Gate). gate_of g ∷ l) (map_take
 -- a gate without a row
 pub values_stop : (given vs new : List Bool) (gs : List GateWires) (k : ℕ) (g : GateWires) → k < length gs →
     g ≡ get_or gs k g → new ≡ vs →
-    row (gate_of g).kind (map (read vs) (gate_of g).ins) ≡ None → evaluate given (map gate_of (take k gs)) ≡ Some vs →
+    row (gate_of g).kind (map (as_values vs) (gate_of g).ins) ≡ None →
+    evaluate given (map gate_of (take k gs)) ≡ Some vs →
     EvaluatesUpTo given (map gate_of gs) k new
 values_stop given vs new gs k g h is same none so_far =
     subst (EvaluatesUpTo given (map gate_of gs) k) (sym same) (record {

@@ -1,21 +1,17 @@
 -- The names of wires.
-use Rattle.lemmas.proofs.Common.{[], ◌++◌, ◌+◌, ◌<◌, ◌∙◌, ◌∷◌, ◌≡◌, ◌≤◌, List, None, Some, ap, append-nil, append_assoc}
-use Rattle.lemmas.proofs.Common.{arith, cond, false, inl, inr, length, position, refl, slice_get, subst, suc, sym, take}
-use Rattle.lemmas.proofs.Common.{true, zero, ℕ, bytes_eq, cases_Bool, cases_lt, common_steps, le-ltb, list_any-append}
-use Rattle.lemmas.proofs.Common.{or-true, sum_by-cons}
-use Rattle.circuit.specs.Entries.{defined}
-use Rattle.circuit.specs.declared.circuit_line.Kind.{Kind}
-use Rattle.circuit.specs.declared.circuit_line.Kind.TheVariants.{Input, Output, Spill, Gate as GateLine}
-use Rattle.circuit.specs.declared.circuit_line.CircuitLine.{CircuitLine}
-use Rattle.section_text.specs.Words.{has}
-use Rattle.circuit.specs.Rules.{define, gate_count, is_gate}
-use Rattle.circuit.specs.Meaning.{Gate, place_of, wires_after, number}
-use Rattle.circuit.specs.Bridge.{is_input, input_count, input_names, gate_of_line_kind, gates_of, FitsKind}
-use Rattle.circuit.specs.Bridge.{AreGoodAfter}
+use Rattle.circuit.proofs.Imports.{AreGoodAfter, CircuitLine, FitsKind, Gate, Kind, List, None, Some, [], ap}
+use Rattle.circuit.proofs.Imports.{append-nil, append_assoc, arith, bytes_eq, cases_Bool, cases_lt, common_steps, cond}
+use Rattle.circuit.proofs.Imports.{define_fault, defined, false, gate_count, gate_of_line_kind, gates_of, has, inl}
+use Rattle.circuit.proofs.Imports.{input_count, input_names, inr, is_gate, is_input, le-ltb, length, list_any-append}
+use Rattle.circuit.proofs.Imports.{number, position, refl, slice_get, subst, suc, sum_by-cons, sym, take, true}
+use Rattle.circuit.proofs.Imports.{wires_after, zero, ℕ, ◌++◌, ◌+◌, ◌<◌, ◌∙◌, ◌∷◌, ◌≡◌, ◌≤◌}
+use Rattle.lemmas.proofs.Common.{or-true}
+use Rattle.circuit.specs.Meaning.{place_of}
 use Rattle.circuit.specs.Laws.{WiresAreNamed, WireNamesAreDistinct, InputsAreFirst}
 use Rattle.circuit.proofs.Places.{has_front, has_left, number_left, number_new, bytes_same, position_number, look_up}
 use Rattle.circuit.proofs.Bridging.{names_pass, define_first, defined_push, push_cons, input_cons, count_append}
 use Rattle.circuit.proofs.Bridging.{no_inputs}
+use Rattle.circuit.specs.declared.circuit_line.Kind.TheVariants.{Input, Output, Spill, Gate as GateLine}
 
 -- ---- the place of a name, and its number
 
@@ -152,7 +148,7 @@ own_push d n own new w m at = elim (cases_lt w (length d)) [
       )
 ]
 
-own_all : (d ns : List (List ℕ)) → AreOwn d → define d ns ≡ None → AreOwn (d ++ ns)
+own_all : (d ns : List (List ℕ)) → AreOwn d → define_fault d ns ≡ None → AreOwn (d ++ ns)
 own_all d [] own h = subst AreOwn (sym (append-nil d)) own
 own_all d (n ∷ ns) own h =
     let first = define_first d n ns h in

@@ -1,10 +1,7 @@
 -- The first test that a line fails, from the tests of its order and of its names.
-use Rattle.lemmas.proofs.Common.{[], ◌++◌, ◌∷◌, ◌≡◌, ◌≤◌, List, Option, refl, le-ltb}
-use Rattle.circuit.specs.declared.circuit_line.CircuitLine.{CircuitLine}
-use Rattle.section_text.specs.Codes.{or_else}
-use Rattle.circuit.specs.Entries.{rank_of}
-use Rattle.circuit.specs.Rules.{order_fault, add_fault, last_rank}
-use Rattle.section_text.specs.declared.code.RefusalCode.{RefusalCode}
+use Rattle.circuit.proofs.Imports.{CircuitLine, List, Option, RefusalCode, [], add_fault, le-ltb, or_else, rank_of}
+use Rattle.circuit.proofs.Imports.{refl, ◌++◌, ◌∷◌, ◌≡◌, ◌≤◌}
+use Rattle.circuit.specs.Rules.{order_fault, last_rank}
 
 pub in_order : (entries : List CircuitLine) (r : CircuitLine) (code : Option RefusalCode) →
     last_rank entries ≤ rank_of r.kind →

@@ -1,14 +1,11 @@
 -- The places of names.
-use Rattle.lemmas.proofs.Common.{[], ◌++◌, ◌+◌, ◌<◌, ◌∙◌, ◌∷◌, ◌≡◌, All, Bool, List, None, Option, Some, ap, ap₂, arith}
-use Rattle.lemmas.proofs.Common.{cond, false, find, inl, inr, length, map, nat_lt, position, refl, suc, sym, true}
-use Rattle.lemmas.proofs.Common.{true≢false, zero, ℕ, Decides, bytes_eq, bytes_eq-Decides, cases_Bool, common_steps}
-use Rattle.lemmas.proofs.Common.{cond-true, list_any-append, lt-ltb, position_or_len}
+use Rattle.circuit.proofs.Imports.{All, Bool, ConsumedTwice, List, None, Option, RefusalCode, Some, [], ap, ap₂, arith}
+use Rattle.circuit.proofs.Imports.{bytes_eq, bytes_eq-Decides, cases_Bool, common_steps, cond, consume_fault, false}
+use Rattle.circuit.proofs.Imports.{has, inl, inr, length, list_any-append, map, number, position, refl, suc, sym, true}
+use Rattle.circuit.proofs.Imports.{true≢false, zero, ℕ, ◌++◌, ◌+◌, ◌<◌, ◌∙◌, ◌∷◌, ◌≡◌}
+use Rattle.lemmas.proofs.Common.{find, nat_lt, Decides, cond-true, lt-ltb, position_or_len}
 use Rattle.std.proofs.lemmas.List.Recursion.{is_position_or_len}
-use Rattle.circuit.specs.Meaning.{number}
-use Rattle.section_text.specs.Words.{has}
-use Rattle.circuit.specs.Rules.{consume}
-use Rattle.section_text.specs.declared.code.RefusalCode.{RefusalCode}
-use Rattle.section_text.specs.declared.code.RefusalCode.TheVariants.{UnknownName, ConsumedTwice}
+use Rattle.section_text.specs.declared.code.RefusalCode.TheVariants.{UnknownName}
 
 -- what has says at the front of a list
 pub has_front : (m n : List ℕ) (ms : List (List ℕ)) → bytes_eq n m ≡ false → has (m ∷ ms) n ≡ has ms n
@@ -85,7 +82,7 @@ numbers_below d [] h = λ k e l. absurd (omega arith)
 numbers_below d (n ∷ ns) h = all_cons (λ w. w < length d) (number d n) (map (number d) ns) (number_below d n h.0)
     (numbers_below d ns h.1)
 
-pub consume_have : (d c ns : List (List ℕ)) → consume d c ns ≡ None → Have d ns
+pub consume_have : (d c ns : List (List ℕ)) → consume_fault d c ns ≡ None → Have d ns
 consume_have d c [] e = tt
 consume_have d c (n ∷ ns) e = elim (cases_Bool (has d n)) [
   | inl h ↦ elim (cases_Bool (has c n)) [

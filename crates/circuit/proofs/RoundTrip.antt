@@ -1,12 +1,12 @@
 -- The circuit section has one text.
-use Rattle.lemmas.proofs.Common.{◌+◌, ◌∙◌, List, ap, append_assoc, drop, flat_map, length, sym, ℕ}
+use Rattle.circuit.proofs.Imports.{End, Header, Item, List, ap, append_assoc, drop, flat_map, form_text, length, sym, ℕ}
+use Rattle.circuit.proofs.Imports.{◌+◌, ◌∙◌}
 use Rattle.section_text.specs.Words.{lines_of}
 use Rattle.section_text.specs.Section.{section_of}
-use Rattle.section_text.specs.declared.section.Form.TheVariants.{Header, Item, End}
 use Rattle.section_text.proofs.Spelled.{section_text_is}
 use Rattle.section_text.proofs.Again.{section_again, lines_of_lines}
 use Rattle.circuit.specs.Grammars.{circuit_grammar}
-use Rattle.circuit.specs.Text.{circuit_text, form_text}
+use Rattle.circuit.specs.Text.{circuit_text}
 use Rattle.circuit.specs.Laws.{PrintsWhatIsRead, ReadsWhatIsPrinted}
 use Rattle.circuit.proofs.Spelling.{form_line}
 

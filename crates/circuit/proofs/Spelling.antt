@@ -1,22 +1,20 @@
 -- Each line of the circuit section is the spelling of its form.
-use Rattle.lemmas.proofs.Common.{[], ◌+◌, ◌∷◌, ◌≡◌, Bool, List, None, Option, Some, ap, arith, codes, cond, eqb, inl}
-use Rattle.lemmas.proofs.Common.{inr, length, slice_get, subst, take, true, ℕ, common_steps, cond_some, decimal}
-use Rattle.lemmas.proofs.Common.{eqb-true, option_and_then_some, same_Some}
-use Rattle.section_text.specs.Words.{◌>>=◌, words_of, is_word_at, names_at, number_at, lone, lone_name}
+use Rattle.circuit.proofs.Imports.{Bool, CircuitLine, Cswap, Delay, End, Fredkin, GateKind, Header, Input, Interact}
+use Rattle.circuit.proofs.Imports.{Item, Line, List, None, Option, Output, Some, Source, Spill, Switch, Uninteract}
+use Rattle.circuit.proofs.Imports.{Unswitch, [], ap, arith, chosen, codes, common_steps, cond, cond_some, defines}
+use Rattle.circuit.proofs.Imports.{entry, entry_text, eqb, eqb-true, form_of, form_text, gate_entry, gate_kind}
+use Rattle.circuit.proofs.Imports.{gate_line_of_kind, if_one_word, inl, inr, is_word_at, length, name_after_keyword}
+use Rattle.circuit.proofs.Imports.{names_at, option_and_then_some, passed, same_Some, slice_get, subst, take, true}
+use Rattle.circuit.proofs.Imports.{uses, words_before_names, words_of, ℕ, ◌+◌, ◌>>=◌, ◌∷◌, ◌≡◌}
+use Rattle.lemmas.proofs.Common.{decimal}
+use Rattle.section_text.specs.Words.{number_at}
 use Rattle.section_text.specs.Section.{with_line_feed}
-use Rattle.section_text.specs.declared.section.Form.TheVariants.{Header, Item, End}
 use Rattle.section_text.proofs.WordPlaces.{is_at_is, name_at_is, names_at_are, assembled, line_from_words}
-use Rattle.circuit.specs.declared.circuit_line.GateKind.{GateKind}
-use Rattle.circuit.specs.declared.circuit_line.GateKind.TheVariants.{Source, Fredkin, Cswap, Interact, Switch, Delay}
-use Rattle.circuit.specs.declared.circuit_line.GateKind.TheVariants.{Unswitch, Uninteract}
-use Rattle.circuit.specs.declared.circuit_line.Kind.TheVariants.{Input, Gate, Output, Spill}
-use Rattle.circuit.specs.declared.circuit_line.CircuitLine.{CircuitLine}
-use Rattle.circuit.specs.Entries.{entry}
-use Rattle.circuit.specs.Gates.{uses, defines}
-use Rattle.section_text.proofs.Spellings.{chosen, passed, one_word, two_words, number_at_spelled}
-use Rattle.circuit.specs.Forms.{bit_at, gate_kind, words_before_names, gate_line_of_kind, gate_entry, form_of}
+use Rattle.circuit.specs.declared.circuit_line.Kind.TheVariants.{Gate}
+use Rattle.section_text.proofs.Spellings.{one_word, two_words, number_at_spelled}
+use Rattle.circuit.specs.Forms.{bit_at}
 use Rattle.circuit.specs.Text.{bit_word, gate_word, gate_parameter_words, first_word, words_after_first}
-use Rattle.circuit.specs.Text.{words_after_keyword, entry_text, Line, form_text}
+use Rattle.circuit.specs.Text.{words_after_keyword}
 
 -- the first word of a form, and the others
 first_of : Line → List ℕ
@@ -39,13 +37,14 @@ take_two [] v w e f = absurd cc
 take_two (a ∷ []) v w e f = absurd cc
 take_two (a ∷ b ∷ ws) v w e f = cc
 
-lone_spelled : (ws : List (List ℕ)) (w : List ℕ) (f g : Line) → is_word_at ws 0 w ≡ true → lone ws f ≡ Some g →
+lone_spelled : (ws : List (List ℕ)) (w : List ℕ) (f g : Line) → is_word_at ws 0 w ≡ true → if_one_word ws f ≡ Some g →
     (ws ≡ w ∷ []) × (f ≡ g)
-unfolding lone
+unfolding if_one_word
 lone_spelled ws w f g at e = grind (arith, common_steps, cond_some, one_word, eqb-true, is_at_is)
 
-named_spelled : (ws : List (List ℕ)) (w n : List ℕ) → is_word_at ws 0 w ≡ true → lone_name ws ≡ Some n → ws ≡ w ∷ n ∷ []
-unfolding lone_name
+named_spelled : (ws : List (List ℕ)) (w n : List ℕ) → is_word_at ws 0 w ≡ true → name_after_keyword ws ≡ Some n →
+    ws ≡ w ∷ n ∷ []
+unfolding name_after_keyword
 named_spelled ws w n at e = grind (arith, common_steps, passed, two_words, eqb-true, is_at_is, name_at_is)
 
 bit_spelled : (ws : List (List ℕ)) (i : ℕ) (b : Bool) → bit_at ws i ≡ Some b → slice_get ws i ≡ Some (bit_word b)
@@ -134,15 +133,15 @@ form_words ws f e =
       | inr p ↦ elim (chosen (is_word_at ws 0 (codes "end")) _ _ (Some f) p.1) [
         | inl q ↦ let a = lone_spelled ws (codes "end") End f q.0 q.1 in subst (SpelledAs ws) a.1 a.0
         | inr q ↦ elim (chosen (is_word_at ws 0 (codes "input")) _ _ (Some f) q.1) [
-          | inl r ↦ option_and_then_some (λ n. Some (Item (entry Input [] (n ∷ [])))) (lone_name ws) f r.1
+          | inl r ↦ option_and_then_some (λ n. Some (Item (entry Input [] (n ∷ [])))) (name_after_keyword ws) f r.1
               (λ n named made. subst (SpelledAs ws) (same_Some (Item (entry Input [] (n ∷ []))) f made)
               (named_spelled ws (codes "input") n r.0 named))
           | inr r ↦ elim (chosen (is_word_at ws 0 (codes "output")) _ _ (Some f) r.1) [
-            | inl s ↦ option_and_then_some (λ n. Some (Item (entry Output (n ∷ []) []))) (lone_name ws) f s.1
+            | inl s ↦ option_and_then_some (λ n. Some (Item (entry Output (n ∷ []) []))) (name_after_keyword ws) f s.1
                 (λ n named made. subst (SpelledAs ws) (same_Some (Item (entry Output (n ∷ []) [])) f made)
                 (named_spelled ws (codes "output") n s.0 named))
             | inr s ↦ elim (chosen (is_word_at ws 0 (codes "spill")) _ _ (Some f) s.1) [
-              | inl t ↦ option_and_then_some (λ n. Some (Item (entry Spill (n ∷ []) []))) (lone_name ws) f t.1
+              | inl t ↦ option_and_then_some (λ n. Some (Item (entry Spill (n ∷ []) []))) (name_after_keyword ws) f t.1
                   (λ n named made. subst (SpelledAs ws) (same_Some (Item (entry Spill (n ∷ []) [])) f made)
                   (named_spelled ws (codes "spill") n t.0 named))
               | inr t ↦ option_and_then_some (λ r. Some (Item r)) (gate_entry ws) f t.1

@@ -1,19 +1,19 @@
 -- The first gate that has no row, if there is one; else the gates have a valuation
-use Rattle.lemmas.proofs.Common.{[], ◌++◌, ◌+◌, ◌-◌, ◌<◌, ◌∙◌, ◌∷◌, ◌≡◌, ◌≤◌, All, Bool, List, None, Option, Some, ap}
-use Rattle.lemmas.proofs.Common.{arith, false, get_or, get_or-append-add, inl, inr, length, length-append, map}
-use Rattle.lemmas.proofs.Common.{option_and_then, option_map, refl, slice_get, subst, suc, sym, take, true, zero, ℕ}
-use Rattle.lemmas.proofs.Common.{cases_Bool, cases_lt, common_steps, get_or-map-range_with_len, get_or_append_left}
-use Rattle.lemmas.proofs.Common.{get_or_from_slice_get, length-map, length-range_with_len, range_with_len, same_Some}
-use Rattle.lemmas.proofs.Common.{slice_get_within, All-head, All-tail}
+use Rattle.circuit.proofs.Imports.{All, All-head, All-tail, AreOrdered, Bool, EvaluatesUpTo, Gate, HasRow}
+use Rattle.circuit.proofs.Imports.{IsGateEvaluationError, IsValuesFault, List, Netlist, None, Option, Satisfies, Some}
+use Rattle.circuit.proofs.Imports.{Valuation, [], ap, arith, as_values, cases_Bool, cases_lt, common_steps, defines}
+use Rattle.circuit.proofs.Imports.{evaluate, false, get_or, get_or-append-add, get_or-map-range_with_len}
+use Rattle.circuit.proofs.Imports.{get_or_append_left, get_or_from_slice_get, inl, inr, is_inverse, length}
+use Rattle.circuit.proofs.Imports.{length-append, length-map, map, option_and_then, option_map, range_with_len, refl}
+use Rattle.circuit.proofs.Imports.{row, same_Some, slice_get, subst, suc, sym, take, true, uses, wires, wires_after}
+use Rattle.circuit.proofs.Imports.{zero, ℕ, ◌++◌, ◌+◌, ◌-◌, ◌<◌, ◌∙◌, ◌∷◌, ◌≡◌, ◌≤◌}
+use Rattle.lemmas.proofs.Common.{length-range_with_len, slice_get_within}
 use Rattle.circuit.specs.declared.netlist.ValuesFault.{ValuesFault}
 use Rattle.circuit.specs.declared.netlist.ValuesFault.TheVariants.{OutOfDomain, Memory}
-use Rattle.circuit.specs.Gates.{row, uses, defines, is_inverse}
-use Rattle.circuit.specs.Meaning.{Gate, Netlist, Valuation, HasRow, FirstGatesHaveRows, Satisfies, AreOrdered}
-use Rattle.circuit.specs.Meaning.{AreNonInverse, IsUndefined, first_gates, wires, wires_after}
-use Rattle.circuit.specs.Bridge.{read, StopsAt, IsValuesFault}
-use Rattle.circuit.specs.Evaluate.{evaluate, first_undefined_gate, this_or_later_undefined, EvaluatesUpTo}
-use Rattle.circuit.specs.Evaluate.{IsGateEvaluationError}
-use Rattle.circuit.specs.Laws.{HasValuation, UndefinedHasNoValuation, OnlyInverseGatesAreUndefined}
+use Rattle.circuit.specs.Meaning.{FirstGatesHaveRows, AreNonInverse, IsUndefined, first_gates}
+use Rattle.circuit.specs.Bridge.{ValuesStopAt}
+use Rattle.circuit.specs.Evaluate.{first_undefined_gate, this_or_later_undefined}
+use Rattle.circuit.specs.Laws.{HasValuationIfDefined, UndefinedHasNoValuation, OnlyInverseGatesAreUndefined}
 use Rattle.circuit.specs.Laws.{AtMostOneGateIsUndefined, ValuesStopAtUndefinedGate}
 use Rattle.circuit.proofs.Valuations.{row_of, row_cases, map_below, evaluated}
 
@@ -39,7 +39,7 @@ pub all_evaluated : (vs : List Bool) (gs : List Gate) → AreOrdered (length vs)
 unfolding evaluate first_undefined_gate AreOrdered
 all_evaluated vs [] ordered e = (vs, refl)
 all_evaluated vs (g ∷ gs) ordered e =
-    elim (row_cases g.kind (map (read vs) g.ins) (length-map g.ins (read vs) ∙ ordered.1)) [
+    elim (row_cases g.kind (map (as_values vs) g.ins) (length-map g.ins (as_values vs) ∙ ordered.1)) [
       | inl none ↦ absurd (clash 0 (sym e ∙ ap (this_or_later_undefined (λ r. first_undefined_gate (vs ++ r) gs)) none))
       | inr s ↦
           let rest = all_evaluated (vs ++ s.0) gs (subst (λ n. AreOrdered n gs) (total vs s.0 _ s.2) ordered.3)
@@ -54,40 +54,41 @@ pub up_to : (vs : List Bool) (gs : List Gate) (k : ℕ) → AreOrdered (length v
     (before : List Bool) × EvaluatesUpTo vs gs k before
 unfolding evaluate first_undefined_gate AreOrdered
 up_to vs [] k ordered e = absurd (clash k e)
-up_to vs (g ∷ gs) k ordered e = elim (row_cases g.kind (map (read vs) g.ins) (length-map g.ins (read vs) ∙ ordered.1)) [
-  | inl none ↦
-      let at : 0 ≡ k = same_Some 0 k
-      (sym (ap (this_or_later_undefined (λ r. first_undefined_gate (vs ++ r) gs)) none) ∙ e) in (
-        vs,
-        subst (λ k. EvaluatesUpTo vs (g ∷ gs) k vs) at
-            (record { gate = g; numbered = refl; before = refl; none = none }),
-      )
-  | inr s ↦
-      let later = this_or_later_undefined-cases _ k
-      (sym (ap (this_or_later_undefined (λ r. first_undefined_gate (vs ++ r) gs)) s.1) ∙ e) in
-      let m : ℕ = later.0 in
-      let rest = up_to (vs ++ s.0) gs m (subst (λ n. AreOrdered n gs) (total vs s.0 _ s.2) ordered.3) later.1 in
-      let is : EvaluatesUpTo (vs ++ s.0) gs m rest.0 = rest.1 in (
-        rest.0,
-        subst (λ k. EvaluatesUpTo vs (g ∷ gs) k rest.0) (sym later.2)
-            (record {
-              gate = is.gate;
-              numbered = is.numbered;
-              before = ap (option_and_then (λ r. evaluate (vs ++ r) (take m gs))) s.1 ∙ is.before;
-              none = is.none;
-            }),
-      )
-]
+up_to vs (g ∷ gs) k ordered e =
+    elim (row_cases g.kind (map (as_values vs) g.ins) (length-map g.ins (as_values vs) ∙ ordered.1)) [
+      | inl none ↦
+          let at : 0 ≡ k = same_Some 0 k
+          (sym (ap (this_or_later_undefined (λ r. first_undefined_gate (vs ++ r) gs)) none) ∙ e) in (
+            vs,
+            subst (λ k. EvaluatesUpTo vs (g ∷ gs) k vs) at
+                (record { gate = g; numbered = refl; before = refl; none = none }),
+          )
+      | inr s ↦
+          let later = this_or_later_undefined-cases _ k
+          (sym (ap (this_or_later_undefined (λ r. first_undefined_gate (vs ++ r) gs)) s.1) ∙ e) in
+          let m : ℕ = later.0 in
+          let rest = up_to (vs ++ s.0) gs m (subst (λ n. AreOrdered n gs) (total vs s.0 _ s.2) ordered.3) later.1 in
+          let is : EvaluatesUpTo (vs ++ s.0) gs m rest.0 = rest.1 in (
+            rest.0,
+            subst (λ k. EvaluatesUpTo vs (g ∷ gs) k rest.0) (sym later.2)
+                (record {
+                  gate = is.gate;
+                  numbered = is.numbered;
+                  before = ap (option_and_then (λ r. evaluate (vs ++ r) (take m gs))) s.1 ∙ is.before;
+                  none = is.none;
+                }),
+          )
+    ]
 
 -- ---- gates that have their rows under some values
 -- the outputs of a gate are the next values
 record IsNext (vs : List Bool) (g : Gate) (v : Valuation) : Type 0 where
-  is : row g.kind (map (read vs) g.ins) ≡ Some (map v g.outs)
+  is : row g.kind (map (as_values vs) g.ins) ≡ Some (map v g.outs)
   long : length vs + defines g.kind ≡ length (vs ++ map v g.outs)
-  agree : (w : ℕ) → w < length (vs ++ map v g.outs) → v w ≡ read (vs ++ map v g.outs) w
+  agree : (w : ℕ) → w < length (vs ++ map v g.outs) → v w ≡ as_values (vs ++ map v g.outs) w
 
 next : (vs : List Bool) (g : Gate) (gs : List Gate) (v : Valuation) → AreOrdered (length vs) (g ∷ gs) →
-    ((w : ℕ) → w < length vs → v w ≡ read vs w) → HasRow v g → IsNext vs g v
+    ((w : ℕ) → w < length vs → v w ≡ as_values vs w) → HasRow v g → IsNext vs g v
 unfolding AreOrdered
 next vs g gs v ordered agree here =
     let r : List Bool = map v g.outs in
@@ -96,13 +97,13 @@ next vs g gs v ordered agree here =
     length-map g.outs v ∙ ap length ordered.2 ∙ length-range_with_len (length vs) (defines g.kind) in
     let long = total vs r (defines g.kind) many in
     record {
-      is = ap (row g.kind) (sym (map_below (length vs) v (read vs) g.ins ordered.0 agree)) ∙ here;
+      is = ap (row g.kind) (sym (map_below (length vs) v (as_values vs) g.ins ordered.0 agree)) ∙ here;
       long = long;
       agree = λ w h. elim (cases_lt w (length vs)) [
         | inl small ↦ agree w small ∙ sym (get_or_append_left vs r false w small)
         | inr large ↦
             let at : length vs + (w - length vs) ≡ w = omega arith in
-            sym (ap (read (vs ++ r)) (sym at) ∙ get_or-append-add vs r (w - length vs) false
+            sym (ap (as_values (vs ++ r)) (sym at) ∙ get_or-append-add vs r (w - length vs) false
             ∙ ap (λ (bs : List Bool). get_or bs (w - length vs) false) outs
             ∙ get_or-map-range_with_len v (length vs) (defines g.kind) (w - length vs) w false (omega (arith, long))
             (omega arith))
@@ -111,7 +112,7 @@ next vs g gs v ordered agree here =
 
 -- where they do up to a gate that has none, that is the first one
 pub undefined_from : (vs : List Bool) (gs : List Gate) (v : Valuation) (k : ℕ) (g : Gate) → AreOrdered (length vs) gs →
-    ((w : ℕ) → w < length vs → v w ≡ read vs w) → FirstGatesHaveRows k gs v →
+    ((w : ℕ) → w < length vs → v w ≡ as_values vs w) → FirstGatesHaveRows k gs v →
     slice_get gs k ≡ Some g → row g.kind (map v g.ins) ≡ None → first_undefined_gate vs gs ≡ Some k
 unfolding first_undefined_gate AreOrdered
 undefined_from vs [] v k g ordered agree rows at none = absurd (clash g at)
@@ -120,7 +121,7 @@ undefined_from vs (h ∷ gs) v zero g ordered agree rows at none =
     let here : row h.kind (map v h.ins) ≡ None =
     subst (λ (f : Gate). row f.kind (map v f.ins) ≡ None) (sym same) none in
     ap (this_or_later_undefined (λ r. first_undefined_gate (vs ++ r) gs))
-    (ap (row h.kind) (sym (map_below (length vs) v (read vs) h.ins ordered.0 agree)) ∙ here)
+    (ap (row h.kind) (sym (map_below (length vs) v (as_values vs) h.ins ordered.0 agree)) ∙ here)
 undefined_from vs (h ∷ gs) v (suc k) g ordered agree rows at none =
     let n : IsNext vs h v = next vs h gs v ordered agree (rows 0 h (omega arith) refl) in
     let rest = undefined_from (vs ++ map v h.outs) gs v k g (subst (λ n. AreOrdered n gs) n.long ordered.3) n.agree
@@ -133,7 +134,7 @@ undefined_from vs (h ∷ gs) v (suc k) g ordered agree rows at none =
 
 -- where they all do, there is none
 pub defined_from : (vs : List Bool) (gs : List Gate) (v : Valuation) → AreOrdered (length vs) gs →
-    ((w : ℕ) → w < length vs → v w ≡ read vs w) → All (HasRow v) gs → first_undefined_gate vs gs ≡ None
+    ((w : ℕ) → w < length vs → v w ≡ as_values vs w) → All (HasRow v) gs → first_undefined_gate vs gs ≡ None
 unfolding first_undefined_gate AreOrdered
 defined_from vs [] v ordered agree rows = refl
 defined_from vs (h ∷ gs) v ordered agree rows =
@@ -146,7 +147,7 @@ defined_from vs (h ∷ gs) v ordered agree rows =
 -- some values of the given wires
 record IsGiven (n : Netlist) (a : Valuation) (given : List Bool) : Type 0 where
   pub long : length given ≡ n.given
-  pub same : (i : ℕ) → i < n.given → read given i ≡ a i
+  pub same : (i : ℕ) → i < n.given → as_values given i ≡ a i
 
 given_of : (n : Netlist) (a : Valuation) → IsGiven n a (map a (range_with_len 0 n.given))
 given_of n a = grind (arith, common_steps, length-map, length-range_with_len, get_or-map-range_with_len)
@@ -156,12 +157,12 @@ ordered_given : (n : Netlist) (given : List Bool) → length given ≡ n.given �
 ordered_given n given long ordered = subst (λ m. AreOrdered m n.gates) (sym long) ordered
 
 pub undefined_at : (n : Netlist) (a : Valuation) (given : List Bool) (k : ℕ) → AreOrdered n.given n.gates →
-    length given ≡ n.given → ((i : ℕ) → i < n.given → read given i ≡ a i) → IsUndefined n a k →
+    length given ≡ n.given → ((i : ℕ) → i < n.given → as_values given i ≡ a i) → IsUndefined n a k →
     first_undefined_gate given n.gates ≡ Some k
 undefined_at n a given k ordered long same u = grind (arith, common_steps, undefined_from, ordered_given)
 
 pub defined_at : (n : Netlist) (a v : Valuation) (given : List Bool) → AreOrdered n.given n.gates →
-    length given ≡ n.given → ((i : ℕ) → i < n.given → read given i ≡ a i) → Satisfies n a v →
+    length given ≡ n.given → ((i : ℕ) → i < n.given → as_values given i ≡ a i) → Satisfies n a v →
     first_undefined_gate given n.gates ≡ None
 defined_at n a v given ordered long same s =
     defined_from given n.gates v (ordered_given n given long ordered)
@@ -190,8 +191,8 @@ pub stopped : ValuesStopAtUndefinedGate
 stopped n a k vs s = grind (arith, common_steps, row_at, slice_get_take)
 
 pub stops : (n : Netlist) (a : Valuation) (given : List Bool) (k : ℕ) (vs : List Bool) → AreOrdered n.given n.gates →
-    length given ≡ n.given → ((i : ℕ) → i < n.given → read given i ≡ a i) →
-    EvaluatesUpTo given n.gates k vs → StopsAt n a k vs
+    length given ≡ n.given → ((i : ℕ) → i < n.given → as_values given i ≡ a i) →
+    EvaluatesUpTo given n.gates k vs → ValuesStopAt n a k vs
 stops n a given k vs ordered long same e = record {
   gate = e.gate;
   numbered = e.numbered;
@@ -200,13 +201,13 @@ stops n a given k vs ordered long same e = record {
 }
 
 pub fault_stops : (n : Netlist) (a : Valuation) (given : List Bool) (e : ValuesFault) → AreOrdered n.given n.gates →
-    length given ≡ n.given → ((i : ℕ) → i < n.given → read given i ≡ a i) →
+    length given ≡ n.given → ((i : ℕ) → i < n.given → as_values given i ≡ a i) →
     IsGateEvaluationError given n.gates e → IsValuesFault n a e
 fault_stops n a given (OutOfDomain k vs) ordered long same e = stops n a given k vs.items ordered long same e
 fault_stops n a given Memory ordered long same e = tt
 
 pub undefined_is : (n : Netlist) (a : Valuation) (given : List Bool) (k : ℕ) → AreOrdered n.given n.gates →
-    length given ≡ n.given → ((i : ℕ) → i < n.given → read given i ≡ a i) →
+    length given ≡ n.given → ((i : ℕ) → i < n.given → as_values given i ≡ a i) →
     first_undefined_gate given n.gates ≡ Some k → IsUndefined n a k
 undefined_is n a given k ordered long same e =
     let found = up_to given n.gates k (ordered_given n given long ordered) e in
@@ -217,10 +218,10 @@ by_answer : (n : Netlist) (a : Valuation) (given : List Bool) (o : Option ℕ) �
     (v : Valuation) × Satisfies n a v
 by_answer n a given None e ordered is none =
     let found = all_evaluated given n.gates (ordered_given n given is.long ordered) e in
-    (read found.0, (evaluated n a given found.0 ordered is.long is.same found.1).satisfies)
+    (as_values found.0, (evaluated n a given found.0 ordered is.long is.same found.1).satisfies)
 by_answer n a given (Some k) e ordered is none = absurd (none k (undefined_is n a given k ordered is.long is.same e))
 
-pub has_valuation : HasValuation
+pub has_valuation : HasValuationIfDefined
 has_valuation n a ordered none = by_answer n a (map a (range_with_len 0 n.given)) _ refl ordered (given_of n a) none
 
 pub undefined_has_none : UndefinedHasNoValuation
@@ -279,5 +280,5 @@ wires_take m [] (suc k) = omega arith
 wires_take m (g ∷ gs) zero = omega (arith, wires_grow (m + defines g.kind) gs)
 wires_take m (g ∷ gs) (suc k) = wires_take (m + defines g.kind) gs k
 
-pub stops_short : (n : Netlist) (a : Valuation) (k : ℕ) (vs : List Bool) → StopsAt n a k vs → length vs ≤ wires n
+pub stops_short : (n : Netlist) (a : Valuation) (k : ℕ) (vs : List Bool) → ValuesStopAt n a k vs → length vs ≤ wires n
 stops_short n a k vs s = (let all = s.before.all in let few = wires_take n.given n.gates k in omega (arith, all, few))

@@ -1,16 +1,13 @@
 -- Gates that are ordered have at most one valuation, and what `evaluate` finds is one.
-use Rattle.lemmas.proofs.Common.{[], ◌++◌, ◌+◌, ◌-◌, ◌<◌, ◌∙◌, ◌∷◌, ◌≡◌, ◌≤◌, ◌⊎◌, All, Bool, List, None, Option, Some}
-use Rattle.lemmas.proofs.Common.{ap, ap₂, arith, false, get_or, get_or-append-add, inl, inr, length, length-append, map}
-use Rattle.lemmas.proofs.Common.{option_and_then, refl, subst, suc, sym, true, true≢false, zero, ℕ, cases_lt}
-use Rattle.lemmas.proofs.Common.{common_steps, get_or-map-range_with_len, get_or_append_left, length-map}
-use Rattle.lemmas.proofs.Common.{range_with_len, All-head, All-tail}
-use Rattle.circuit.specs.declared.circuit_line.GateKind.{GateKind}
-use Rattle.circuit.specs.declared.circuit_line.GateKind.TheVariants.{Source, Fredkin, Cswap, Interact, Switch, Delay}
-use Rattle.circuit.specs.declared.circuit_line.GateKind.TheVariants.{Unswitch, Uninteract}
-use Rattle.circuit.specs.Gates.{row, uses, defines, is_inverse}
-use Rattle.circuit.specs.Meaning.{Gate, Netlist, Valuation, HasRow, Satisfies, AreOrdered, wires_after, wires}
-use Rattle.circuit.specs.Bridge.{read, AreValues}
-use Rattle.circuit.specs.Evaluate.{evaluate}
+use Rattle.circuit.proofs.Imports.{All, All-head, All-tail, AreOrdered, AreValues, Bool, Cswap, Delay, Fredkin, Gate}
+use Rattle.circuit.proofs.Imports.{GateKind, HasRow, Interact, List, Netlist, None, Option, Satisfies, Some, Source}
+use Rattle.circuit.proofs.Imports.{Switch, Uninteract, Unswitch, Valuation, [], ap, ap₂, arith, as_values, cases_lt}
+use Rattle.circuit.proofs.Imports.{common_steps, defines, evaluate, false, get_or, get_or-append-add}
+use Rattle.circuit.proofs.Imports.{get_or-map-range_with_len, get_or_append_left, inl, inr, is_inverse, length}
+use Rattle.circuit.proofs.Imports.{length-append, length-map, map, option_and_then, range_with_len, refl, row, subst}
+use Rattle.circuit.proofs.Imports.{suc, sym, true, true≢false, uses, wires, wires_after, zero, ℕ, ◌++◌, ◌+◌, ◌-◌, ◌<◌}
+use Rattle.circuit.proofs.Imports.{◌∙◌, ◌∷◌, ◌≡◌, ◌≤◌}
+use Rattle.lemmas.proofs.Common.{◌⊎◌}
 use Rattle.circuit.specs.Laws.{HasAtMostOneValuation}
 use Rattle.circuit.proofs.Places.{all_cons}
 
@@ -111,27 +108,27 @@ map_range (b ∷ r) n (suc k) f e h =
 record Found (vs : List Bool) (gs : List Gate) (out : List Bool) : Type 0 where
   all : length out ≡ wires_after (length vs) gs
   longer : length vs ≤ length out
-  same : (w : ℕ) → w < length vs → read out w ≡ read vs w
-  rows : All (HasRow (read out)) gs
+  same : (w : ℕ) → w < length vs → as_values out w ≡ as_values vs w
+  rows : All (HasRow (as_values out)) gs
 
 -- one gate more in front
 found_more : (vs out r : List Bool) (g : Gate) (gs : List Gate) → AreOrdered (length vs) (g ∷ gs) →
-    row g.kind (map (read vs) g.ins) ≡ Some r → length r ≡ defines g.kind → Found (vs ++ r) gs out →
+    row g.kind (map (as_values vs) g.ins) ≡ Some r → length r ≡ defines g.kind → Found (vs ++ r) gs out →
     Found vs (g ∷ gs) out
 unfolding AreOrdered wires_after
 found_more vs out r g gs ordered is many rest =
     let total : length (vs ++ r) ≡ length vs + defines g.kind = length-append vs r ∙ ap (λ n. length vs + n) many in
-    let below : (w : ℕ) → w < length vs → read out w ≡ read vs w =
+    let below : (w : ℕ) → w < length vs → as_values out w ≡ as_values vs w =
     λ w h. rest.same w (omega (arith, total)) ∙ get_or_append_left vs r false w h in
-    let here : HasRow (read out) g =
-    ap (row g.kind) (map_below (length vs) (read out) (read vs) g.ins ordered.0 below) ∙ is
-    ∙ ap Some (sym (ap (map (read out)) ordered.2 ∙ map_range r (length vs) (defines g.kind) (read out) many
+    let here : HasRow (as_values out) g =
+    ap (row g.kind) (map_below (length vs) (as_values out) (as_values vs) g.ins ordered.0 below) ∙ is
+    ∙ ap Some (sym (ap (map (as_values out)) ordered.2 ∙ map_range r (length vs) (defines g.kind) (as_values out) many
     (λ i h. rest.same (length vs + i) (omega (arith, total)) ∙ get_or-append-add vs r i false))) in
     record {
       all = rest.all ∙ ap (λ n. wires_after n gs) total;
       longer = omega (arith, total, rest.longer);
       same = below;
-      rows = all_cons (HasRow (read out)) g gs here rest.rows;
+      rows = all_cons (HasRow (as_values out)) g gs here rest.rows;
     }
 
 some_is : (x y : List Bool) → Some x ≡ Some y → x ≡ y
@@ -146,7 +143,7 @@ found_from : (vs : List Bool) (gs : List Gate) (out : List Bool) → AreOrdered 
 unfolding evaluate AreOrdered wires_after
 found_from vs [] out ordered e = grind (arith, common_steps, some_is)
 found_from vs (g ∷ gs) out ordered e =
-    elim (row_cases g.kind (map (read vs) g.ins) (length-map g.ins (read vs) ∙ ordered.1)) [
+    elim (row_cases g.kind (map (as_values vs) g.ins) (length-map g.ins (as_values vs) ∙ ordered.1)) [
       | inl none ↦ absurd (none_some out _ (ap (option_and_then (λ r. evaluate (vs ++ r) gs)) none) e)
       | inr s ↦
           let total : length (vs ++ s.0) ≡ length vs + defines g.kind =
@@ -185,16 +182,16 @@ at_most_one n a v v' ordered s s' w h =
 
 -- what is evaluated are the values
 pub evaluated : (n : Netlist) (a : Valuation) (given vs : List Bool) → AreOrdered n.given n.gates →
-    length given ≡ n.given → ((i : ℕ) → i < n.given → read given i ≡ a i) →
+    length given ≡ n.given → ((i : ℕ) → i < n.given → as_values given i ≡ a i) →
     evaluate given n.gates ≡ Some vs → AreValues n a vs
 evaluated n a given vs ordered len same e =
     let f : Found given n.gates vs =
     found_from given n.gates vs (subst (λ m. AreOrdered m n.gates) (sym len) ordered) e in
     let all : length vs ≡ wires n = f.all ∙ ap (λ m. wires_after m n.gates) len in
-    let s : Satisfies n a (read vs) =
+    let s : Satisfies n a (as_values vs) =
     record { given = λ i h. f.same i (omega (arith, len)) ∙ same i h; rows = f.rows } in
     record {
       all = all;
       satisfies = s;
-      only = λ v t w h. at_most_one n a v (read vs) ordered t s w (omega (arith, all));
+      only = λ v t w h. at_most_one n a v (as_values vs) ordered t s w (omega (arith, all));
     }

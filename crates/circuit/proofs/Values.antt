@@ -1,13 +1,12 @@
 -- The values of wires: their one valuation, their list, and their text.
-use Rattle.lemmas.proofs.Common.{[], ◌++◌, ◌+◌, ◌<◌, ◌∙◌, ◌∷◌, ◌≡◌, ◌≤◌, Bool, List, ap, append-nil, append_assoc}
-use Rattle.lemmas.proofs.Common.{arith, get_or, length, refl, suc, sym, take, zero, ℕ, common_steps}
-use Rattle.circuit.specs.Meaning.{wires}
-use Rattle.circuit.specs.Bridge.{netlist_of}
-use Rattle.circuit.specs.Laws.{HasOneValuation, ValuesAreTheValuation}
+use Rattle.circuit.proofs.Imports.{Bool, List, [], ap, append-nil, append_assoc, arith, common_steps, get_or, length}
+use Rattle.circuit.proofs.Imports.{netlist_of, refl, suc, sym, take, value_lines, wires, zero, ℕ, ◌++◌, ◌+◌, ◌<◌, ◌∙◌}
+use Rattle.circuit.proofs.Imports.{◌∷◌, ◌≡◌, ◌≤◌}
+use Rattle.circuit.specs.Laws.{NoninverseHasOneValuation, ValuesAreTheValuation}
+use Rattle.circuit.specs.Text.{value_line}
 use Rattle.circuit.proofs.Bridging.{gates_are_ordered}
 use Rattle.circuit.proofs.Undefined.{forward_valuation}
 use Rattle.circuit.proofs.Valuations.{at_most_one, map_range}
-use Rattle.circuit.specs.Text.{value_line, value_lines}
 
 value_lines_more : (ns : List (List ℕ)) (vs : List Bool) (k : ℕ) (n : List ℕ) (d : Bool) → k < length ns →
     k < length vs → n ≡ get_or ns k n →
@@ -32,7 +31,7 @@ pub printed_more : (out before new : List ℕ) (ns : List (List ℕ)) (vs : List
     new ≡ out ++ value_lines (take (k + 1) ns) (take (k + 1) vs)
 printed_more out before new ns vs k n d h l is so_far here = grind (arith, common_steps, value_lines_more)
 
-pub has_one_valuation : HasOneValuation
+pub has_one_valuation : NoninverseHasOneValuation
 has_one_valuation entries a good forward =
     let ordered = gates_are_ordered entries good in
     let found = forward_valuation (netlist_of entries) a ordered forward in

@@ -1,20 +1,13 @@
 -- Marks of wires, by the names that lines consume.
-use Rattle.lemmas.proofs.Common.{[], ◌++◌, ◌+◌, ◌<◌, ◌||◌, ◌∙◌, ◌∷◌, ◌≡◌, ◌≤◌, All, Bool, List, None, Some, ap}
-use Rattle.lemmas.proofs.Common.{append-nil, append_assoc, ap₂, arith, drop, eq-eqb, eqb, false, get_or, inl, inr}
-use Rattle.lemmas.proofs.Common.{length, map, refl, slice_get, slice_set, subst, suc, sym, take, true, true≢false, ℕ}
-use Rattle.lemmas.proofs.Common.{bytes_eq, bytes_eq-Decides, cases_Bool, common_steps, drop_more, eqb-true}
-use Rattle.lemmas.proofs.Common.{flat_map-append, get_or_from_slice_get, list_any, list_any-append, map-append}
-use Rattle.lemmas.proofs.Common.{take_more, take_more_set}
-use Rattle.section_text.specs.Words.{has}
-use Rattle.circuit.specs.Entries.{defined}
-use Rattle.circuit.specs.declared.circuit_line.CircuitLine.{CircuitLine}
-use Rattle.circuit.specs.Rules.{consumed, consume, define}
-use Rattle.circuit.specs.Meaning.{number}
-use Rattle.circuit.specs.Bridge.{AreGoodCircuitLines, AreGoodAfter}
-use Rattle.circuit.specs.Wiring.{with_marks_set}
+use Rattle.circuit.proofs.Imports.{All, AreGoodAfter, AreGoodCircuitLines, Bool, CircuitLine, ConsumedTwice, List, None}
+use Rattle.circuit.proofs.Imports.{Some, [], ap, append-nil, append_assoc, ap₂, arith, bytes_eq, bytes_eq-Decides}
+use Rattle.circuit.proofs.Imports.{cases_Bool, common_steps, consume_fault, consumed, define_fault, defined, drop, eqb}
+use Rattle.circuit.proofs.Imports.{eqb-true, false, flat_map-append, get_or, get_or_from_slice_get, has, inl, inr}
+use Rattle.circuit.proofs.Imports.{length, list_any-append, map, number, refl, slice_get, subst, suc, sym, take}
+use Rattle.circuit.proofs.Imports.{take_more, true, true≢false, with_marks_set, ℕ, ◌++◌, ◌+◌, ◌<◌, ◌∙◌, ◌∷◌, ◌≡◌, ◌≤◌}
+use Rattle.lemmas.proofs.Common.{◌||◌, eq-eqb, slice_set, drop_more, list_any, map-append, take_more_set}
 use Rattle.circuit.proofs.Places.{Have, has_front, has_left, have_left, numbers_left, numbers_below, consume_have}
 use Rattle.circuit.proofs.Places.{bytes_same}
-use Rattle.section_text.specs.declared.code.RefusalCode.TheVariants.{ConsumedTwice}
 use Rattle.circuit.proofs.Bridging.{names_pass, define_first, defined_push, push_cons}
 
 -- ---- equal names
@@ -60,7 +53,7 @@ distinct_push (m ∷ d) n is h =
     let new = has_other m n d h in
     (has_last d n m (other_name n m new.0) ∙ is.0, distinct_push d n is.1 new.1)
 
-distinct_all : (d ns : List (List ℕ)) → Distinct d → define d ns ≡ None → Distinct (d ++ ns)
+distinct_all : (d ns : List (List ℕ)) → Distinct d → define_fault d ns ≡ None → Distinct (d ++ ns)
 distinct_all d [] is h = subst Distinct (sym (append-nil d)) is
 distinct_all d (n ∷ ns) is h =
     let first = define_first d n ns h in
@@ -148,7 +141,7 @@ within_good before (r ∷ rest) good is =
 
 -- ---- a name that is new has no mark
 
-new_unmarked : (c d ns : List (List ℕ)) → Within c d → define d ns ≡ None →
+new_unmarked : (c d ns : List (List ℕ)) → Within c d → define_fault d ns ≡ None →
     map (λ (n : List ℕ). false) ns ≡ map (has c) ns
 new_unmarked c d [] is h = refl
 new_unmarked c d (n ∷ ns) is h =
@@ -165,7 +158,7 @@ new_unmarked c d (n ∷ ns) is h =
 -- the marks after one more line
 pub marks_push : (before : List CircuitLine) (r : CircuitLine) → AreGoodCircuitLines before →
     AreGoodCircuitLines (before ++ r ∷ []) →
-    consume (defined before) (consumed before) r.ins ≡ None → define (defined before) r.outs ≡ None →
+    consume_fault (defined before) (consumed before) r.ins ≡ None → define_fault (defined before) r.outs ≡ None →
     with_marks_set (map (number (defined before)) r.ins)
     (map (has (consumed before)) (defined before) ++ map (λ (n : List ℕ). false) r.outs)
     ≡ map (has (consumed (before ++ r ∷ []))) (defined (before ++ r ∷ []))
@@ -215,7 +208,7 @@ has_number d (m ∷ ns) n h = ap₂ (λ (a b : Bool). a || b) (one m) (has_numbe
 
 -- a line's next name, with the numbers of those before it
 pub record Next (d c ns : List (List ℕ)) (p : ℕ) (n : List ℕ) (w : ℕ) (ws : List ℕ) : Type 0 where
-  pub so_far : consume d (c ++ take p ns) (drop p ns) ≡ consume d c ns
+  pub so_far : consume_fault d (c ++ take p ns) (drop p ns) ≡ consume_fault d c ns
   pub here : p < length ns
   pub name : n ≡ get_or ns p n
   pub known : has d n ≡ true
@@ -227,16 +220,16 @@ earlier : (d c ns : List (List ℕ)) (p : ℕ) (n : List ℕ) (w : ℕ) (ws : Li
 earlier d c ns p n w ws next = grind (arith, common_steps, has_number)
 
 front : (d c ns : List (List ℕ)) (p : ℕ) (n : List ℕ) (w : ℕ) (ws : List ℕ) → Next d c ns p n w ws →
-    consume d c ns ≡ consume d (c ++ take p ns) (n ∷ drop (p + 1) ns)
+    consume_fault d c ns ≡ consume_fault d (c ++ take p ns) (n ∷ drop (p + 1) ns)
 front d c ns p n w ws next = grind (arith, common_steps, drop_more)
 
 pub named_twice : (d c ns : List (List ℕ)) (p : ℕ) (n : List ℕ) (w : ℕ) (ws : List ℕ) → Next d c ns p n w ws →
-    list_any (λ k. eqb k w) ws ≡ true → consume d c ns ≡ Some ConsumedTwice
+    list_any (λ k. eqb k w) ws ≡ true → consume_fault d c ns ≡ Some ConsumedTwice
 named_twice d c ns p n w ws next found = grind (arith, common_steps, earlier, front, list_any-append)
 
 pub consumed_next : (d c ns : List (List ℕ)) (p : ℕ) (n : List ℕ) (w : ℕ) (ws : List ℕ) → Next d c ns p n w ws →
     has c n ≡ false → list_any (λ k. eqb k w) ws ≡ false →
-    consume d (c ++ take (p + 1) ns) (drop (p + 1) ns) ≡ consume d c ns
+    consume_fault d (c ++ take (p + 1) ns) (drop (p + 1) ns) ≡ consume_fault d c ns
 consumed_next d c ns p n w ws next free new = grind (arith, common_steps, earlier, take_more, front, list_any-append)
 
 pub wires_next : (d c ns : List (List ℕ)) (p : ℕ) (n : List ℕ) (w : ℕ) (ins : List ℕ) →
@@ -245,7 +238,7 @@ pub wires_next : (d c ns : List (List ℕ)) (p : ℕ) (n : List ℕ) (w : ℕ) (
 wires_next d c ns p n w ins next short = grind (arith, common_steps, take_more_set, map-append, take_more)
 
 -- each wire that is consumed has a mark
-pub marks_reach : (d c ns : List (List ℕ)) (marks : List Bool) (ws : List ℕ) → consume d c ns ≡ None →
+pub marks_reach : (d c ns : List (List ℕ)) (marks : List Bool) (ws : List ℕ) → consume_fault d c ns ≡ None →
     ws ≡ map (number d) ns → length d ≤ length marks → All (λ w. w < length marks) ws
 marks_reach d c ns marks ws pass numbered long = grind (arith, common_steps, numbers_below, consume_have)
 

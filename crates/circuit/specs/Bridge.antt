@@ -92,23 +92,23 @@ abbrev pub AreGoodCircuitLines : List CircuitLine → Type 0
 AreGoodCircuitLines entries = AreGoodAfter [] entries
 
 -- the values of wires that are listed, and false for all others
-abbrev pub read : List Bool → Valuation
-read vs w = slice_index_or vs w false
+abbrev pub as_values : List Bool → Valuation
+as_values vs w = slice_index_or vs w false
 
 -- vs lists each wire's value in the one valuation that satisfies the netlist if the given wires have the values a
 pub record AreValues (n : Netlist) (a : Valuation) (vs : List Bool) : Type 0 where
   pub all : length vs ≡ wires n
-  pub satisfies : Satisfies n a (read vs)
-  pub only : (v : Valuation) → Satisfies n a v → (w : ℕ) → w < length vs → v w ≡ read vs w
+  pub satisfies : Satisfies n a (as_values vs)
+  pub only : (v : Valuation) → Satisfies n a v → (w : ℕ) → w < length vs → v w ≡ as_values vs w
 
 -- Gate k has no row if the given wires have the values a. vs lists the values of the wires that are defined before it.
-pub record StopsAt (n : Netlist) (a : Valuation) (k : ℕ) (vs : List Bool) : Type 0 where
+pub record ValuesStopAt (n : Netlist) (a : Valuation) (k : ℕ) (vs : List Bool) : Type 0 where
   pub gate : Gate
   pub numbered : slice_get n.gates k ≡ Some gate
   pub before : AreValues (first_gates k n) a vs
-  pub none : row gate.kind (map (read vs) gate.ins) ≡ None
+  pub none : row gate.kind (map (as_values vs) gate.ins) ≡ None
 
 -- the reason why there are no values: a gate without a row, or out of memory, about which it says no more
 abbrev pub IsValuesFault : Netlist → Valuation → ValuesFault → Type 0
-IsValuesFault n a (OutOfDomain k vs) = StopsAt n a k vs.items
+IsValuesFault n a (OutOfDomain k vs) = ValuesStopAt n a k vs.items
 IsValuesFault n a Memory = Unit {0}

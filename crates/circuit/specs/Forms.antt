@@ -1,7 +1,7 @@
 -- The line forms of the circuit section.
 use Rattle.std.specs.Prelude.{ℕ, ◌+◌, Bool, true, false, List, [], ◌∷◌, length, Option, Some, None, codes, ◌==◌}
 use Rattle.std.specs.Prelude.{if◌then◌else◌}
-use Rattle.section_text.specs.Words.{◌>>=◌, is_word_at, names_at, number_at, lone, lone_name}
+use Rattle.section_text.specs.Words.{◌>>=◌, is_word_at, names_at, number_at, if_one_word, name_after_keyword}
 use Rattle.section_text.specs.declared.section.Form.{Form}
 use Rattle.section_text.specs.declared.section.Form.TheVariants.{Header, Item, End}
 use Rattle.circuit.specs.declared.circuit_line.GateKind.{GateKind}
@@ -55,9 +55,10 @@ gate_entry ws = do
 -- the form of a line by its words, if it has one; the header has no content
 unfoldable pub form_of : List (List ℕ) → Option (Form (Unit {0}) CircuitLine)
 form_of ws =
-    if is_word_at ws 0 (codes "circuit") then lone ws (Header tt)
-    else if is_word_at ws 0 (codes "end") then lone ws End
-    else if is_word_at ws 0 (codes "input") then (lone_name ws >>= λ n. Some (Item (entry Input [] (n ∷ []))))
-    else if is_word_at ws 0 (codes "output") then (lone_name ws >>= λ n. Some (Item (entry Output (n ∷ []) [])))
-    else if is_word_at ws 0 (codes "spill") then (lone_name ws >>= λ n. Some (Item (entry Spill (n ∷ []) [])))
+    if is_word_at ws 0 (codes "circuit") then if_one_word ws (Header tt)
+    else if is_word_at ws 0 (codes "end") then if_one_word ws End
+    else if is_word_at ws 0 (codes "input") then (name_after_keyword ws >>= λ n. Some (Item (entry Input [] (n ∷ []))))
+    else if is_word_at ws 0 (codes "output") then
+    (name_after_keyword ws >>= λ n. Some (Item (entry Output (n ∷ []) [])))
+    else if is_word_at ws 0 (codes "spill") then (name_after_keyword ws >>= λ n. Some (Item (entry Spill (n ∷ []) [])))
     else (gate_entry ws >>= λ r. Some (Item r))

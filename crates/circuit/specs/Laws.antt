@@ -11,7 +11,7 @@ use Rattle.circuit.specs.declared.circuit_line.CircuitLine.{CircuitLine}
 use Rattle.circuit.specs.Grammars.{circuit_grammar}
 use Rattle.circuit.specs.Text.{circuit_text}
 use Rattle.circuit.specs.Meaning.{Netlist, Valuation, Satisfies, AreOrdered, AreNonInverse, IsUndefined, wires, wire_of}
-use Rattle.circuit.specs.Bridge.{AreGoodCircuitLines, AreValues, StopsAt, input_count, input_names, gates_of}
+use Rattle.circuit.specs.Bridge.{AreGoodCircuitLines, AreValues, ValuesStopAt, input_count, input_names, gates_of}
 use Rattle.circuit.specs.Bridge.{netlist_of}
 use Rattle.circuit.specs.Bridge.{circuit_of}
 
@@ -33,8 +33,8 @@ GatesAreOrdered = (entries : List CircuitLine) → AreGoodCircuitLines entries �
     AreOrdered (input_count entries) (gates_of (defined entries) entries)
 
 -- ordered gates have a valuation if none of them is undefined
-abbrev pub HasValuation : Type 0
-HasValuation = (n : Netlist) (a : Valuation) → AreOrdered n.given n.gates → ((k : ℕ) → ¬ IsUndefined n a k) →
+abbrev pub HasValuationIfDefined : Type 0
+HasValuationIfDefined = (n : Netlist) (a : Valuation) → AreOrdered n.given n.gates → ((k : ℕ) → ¬ IsUndefined n a k) →
     (v : Valuation) × Satisfies n a v
 
 -- and only there
@@ -55,7 +55,7 @@ AtMostOneGateIsUndefined = (n : Netlist) (a : Valuation) (k m : ℕ) → AreOrde
 
 -- a gate at which the values stop is undefined
 abbrev pub ValuesStopAtUndefinedGate : Type 0
-ValuesStopAtUndefinedGate = (n : Netlist) (a : Valuation) (k : ℕ) (vs : List Bool) → StopsAt n a k vs →
+ValuesStopAtUndefinedGate = (n : Netlist) (a : Valuation) (k : ℕ) (vs : List Bool) → ValuesStopAt n a k vs →
     IsUndefined n a k
 
 -- ordered gates have at most one, with inverse gates too
@@ -64,8 +64,8 @@ HasAtMostOneValuation = (n : Netlist) (a u v : Valuation) → AreOrdered n.given
     Satisfies n a v → (w : ℕ) → w < wires n → u w ≡ v w
 
 -- a circuit of good lines without inverse gates has one valuation, whatever its inputs are
-abbrev pub HasOneValuation : Type 0
-HasOneValuation = (entries : List CircuitLine) (a : Valuation) → AreGoodCircuitLines entries →
+abbrev pub NoninverseHasOneValuation : Type 0
+NoninverseHasOneValuation = (entries : List CircuitLine) (a : Valuation) → AreGoodCircuitLines entries →
     AreNonInverse (netlist_of entries).gates →
     (v : Valuation) × Satisfies (netlist_of entries) a v
     × ((u : Valuation) → Satisfies (netlist_of entries) a u → (w : ℕ) → w < wires (netlist_of entries) → u w ≡ v w)

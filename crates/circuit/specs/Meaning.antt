@@ -29,7 +29,7 @@ unfoldable pub number : List (List ℕ) → List ℕ → ℕ
 number [] n = 0
 number (m ∷ ms) n = if bytes_eq n m then 0 else (number ms n + 1)
 
--- the same, if the name is one of them
+-- how many names are before a name, if the name is one of them
 unfoldable pub place_of : List ℕ → List (List ℕ) → Option ℕ
 place_of n names = if has names n then Some (number names n) else None
 

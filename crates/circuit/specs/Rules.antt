@@ -31,19 +31,20 @@ gate_count entries = count_by (λ r. is_gate r.kind) entries
 -- ---- codes 3, 4 and 5, from left to right; a line's own names count as they are passed
 
 -- the names are consumed one after the other, with d defined and c consumed before
-abbrev pub consume : List (List ℕ) → List (List ℕ) → List (List ℕ) → Option RefusalCode
-consume d c [] = None
-consume d c (n ∷ ns) = if has d n then
-    (if has c n then Some ConsumedTwice else consume d (c ++ n ∷ []) ns) else Some UnknownName
+abbrev pub consume_fault : List (List ℕ) → List (List ℕ) → List (List ℕ) → Option RefusalCode
+consume_fault d c [] = None
+consume_fault d c (n ∷ ns) = if has d n then
+    (if has c n then Some ConsumedTwice else consume_fault d (c ++ n ∷ []) ns) else Some UnknownName
 
 -- the names are defined one after the other, with d defined before
-abbrev pub define : List (List ℕ) → List (List ℕ) → Option RefusalCode
-define d [] = None
-define d (n ∷ ns) = if has d n then Some DefinedTwice else define (d ++ n ∷ []) ns
+abbrev pub define_fault : List (List ℕ) → List (List ℕ) → Option RefusalCode
+define_fault d [] = None
+define_fault d (n ∷ ns) = if has d n then Some DefinedTwice else define_fault (d ++ n ∷ []) ns
 
 -- the code of the first wire that the line may not consume, else of the first that it may not define
 abbrev pub name_fault : List CircuitLine → CircuitLine → Option RefusalCode
-name_fault entries r = or_else (consume (defined entries) (consumed entries) r.ins) (define (defined entries) r.outs)
+name_fault entries r = or_else (consume_fault (defined entries) (consumed entries) r.ins)
+    (define_fault (defined entries) r.outs)
 
 -- ---- code 2
 

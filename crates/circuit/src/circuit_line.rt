@@ -116,7 +116,7 @@ impl Kind {
 
 impl CircuitLine {
     /// Creates the line of an input, an output or a spill, which has one name.
-    pub fn lone(kind: Kind, name: Name) -> CircuitLine
+    pub fn of_one_name(kind: Kind, name: Name) -> CircuitLine
         ensures { result ≡ entry kind (if is_input kind then [] else name ∷ [])
             (if is_input kind then name ∷ [] else []) }
     {

@@ -4,7 +4,7 @@ ghost use Rattle.circuit.specs.Entries.{entry, defined};
 ghost use Rattle.circuit.specs.Gates.{uses, defines};
 ghost use Rattle.circuit.specs.declared.circuit_line.Kind.TheVariants.{Input, Gate, Output, Spill};
 ghost use Rattle.circuit.specs.declared.circuit_line.GateKind.TheVariants.{Source};
-ghost use Rattle.circuit.specs.Rules.{add_fault, exceeds_limit, is_wrong_delay, is_gate, gate_count, consumed, consume, define, first_unconsumed};
+ghost use Rattle.circuit.specs.Rules.{add_fault, exceeds_limit, is_wrong_delay, is_gate, gate_count, consumed, consume_fault, define_fault, first_unconsumed};
 ghost use Rattle.circuit.specs.Wiring.{gate_of, gate_with_outs_from};
 ghost use Rattle.circuit.specs.Meaning.{number};
 ghost use Rattle.section_text.specs.Words.{has};
@@ -132,11 +132,11 @@ impl Draft {
 
     // The wire of a name, if no line consumes it yet, else the code.
     fn unconsumed_wire(&self, name: &Name) -> Result<WireNo, RefusalCode>
-        ensures known { OnOk result (has (defined self.now) name.now ≡ true) }
-        ensures free { OnOk result (has (consumed self.now) name.now ≡ false) }
+        ensures is_defined { OnOk result (has (defined self.now) name.now ≡ true) }
+        ensures is_unconsumed { OnOk result (has (consumed self.now) name.now ≡ false) }
         ensures wire { IfOk result (λ w. w ≡ number (defined self.now) name.now) }
         ensures err { IfErr result (λ code.
-            consume (defined self.now) (consumed self.now) (name.now ∷ []) ≡ Some code) }
+            consume_fault (defined self.now) (consumed self.now) (name.now ∷ []) ≡ Some code) }
     {
         let Some(index) = self.wires.get_index_of(name) else {
             return Err(RefusalCode::UnknownName);
@@ -150,11 +150,12 @@ impl Draft {
     // The wires that a line with these inputs consumes, else the code of the first input that it may not consume.
     fn unconsumed_wires(&self, names: &[Name]) -> Result<[WireNo; 4], RefusalCode>
         requires { length names.now ≤ 4 }
-        ensures ok { OnOk result (consume (defined self.now) (consumed self.now) names.now ≡ None) }
+        ensures ok { OnOk result (consume_fault (defined self.now) (consumed self.now) names.now
+            ≡ None) }
         ensures wires { IfOk result (λ ins.
             take (length names.now) ins ≡ map (number (defined self.now)) names.now) }
         ensures err { IfErr result (λ code.
-            consume (defined self.now) (consumed self.now) names.now ≡ Some code) }
+            consume_fault (defined self.now) (consumed self.now) names.now ≡ Some code) }
     {
         let mut ins = [WireNo::of(0); 4];
         'names: for (place, name) in names.iter().enumerate() {
@@ -230,7 +231,7 @@ impl Draft {
         ensures fault { IfErr result (λ e. HasRefusalCode e
             (add_fault self.old (entry Input [] (name ∷ [])))) }
     {
-        self.add(CircuitLine::lone(Kind::Input, name))
+        self.add(CircuitLine::of_one_name(Kind::Input, name))
     }
 
     /// Adds a source, a gate without inputs whose wire has the value `bit`.
@@ -294,7 +295,7 @@ impl Draft {
         ensures fault { IfErr result (λ e. HasRefusalCode e
             (add_fault self.old (entry Output (name ∷ []) []))) }
     {
-        self.add(CircuitLine::lone(Kind::Output, name))
+        self.add(CircuitLine::of_one_name(Kind::Output, name))
     }
 
     /// Adds a spill, which consumes a wire that is no output.
@@ -312,11 +313,11 @@ impl Draft {
         ensures fault { IfErr result (λ e. HasRefusalCode e
             (add_fault self.old (entry Spill (name ∷ []) []))) }
     {
-        self.add(CircuitLine::lone(Kind::Spill, name))
+        self.add(CircuitLine::of_one_name(Kind::Spill, name))
     }
 
     // The first wire that nobody consumes.
-    pub(crate) fn missing(&self) -> Option<Name>
+    pub(crate) fn unconsumed_name(&self) -> Option<Name>
         ensures { result ≡ first_unconsumed (consumed self.now) (defined self.now) }
     {
         'wires: for (number, name) in self.wires.as_slice().iter().enumerate() {
@@ -338,7 +339,7 @@ impl Draft {
         ensures err { IfErr result (λ u. (u.draft ≡ self)
             × (first_unconsumed (consumed self) (defined self) ≡ Some u.wire)) }
     {
-        if let Some(wire) = self.missing() {
+        if let Some(wire) = self.unconsumed_name() {
             return Err(Unused { draft: self, wire });
         }
         let Draft {

@@ -112,13 +112,16 @@ fn line_form_by_words(feed: &Feed, line: &Line) -> Option<Form<(), CircuitLine>>
 {
     let keyword = feed.first_word(line);
     if is_keyword(keyword, b"circuit") {
-        return feed.lone(line, Form::Header(()));
+        return feed.if_one_word(line, Form::Header(()));
     }
     if is_keyword(keyword, b"end") {
-        return feed.lone(line, Form::End);
+        return feed.if_one_word(line, Form::End);
     }
     match kind_of_keyword(keyword) {
-        Some(kind) => Some(Form::Item(CircuitLine::lone(kind, feed.lone_name(line)?))),
+        Some(kind) => Some(Form::Item(CircuitLine::of_one_name(
+            kind,
+            feed.name_after_keyword(line)?,
+        ))),
         None => Some(Form::Item(gate_entry_of(feed, line, keyword)?)),
     }
 }
@@ -131,7 +134,7 @@ fn lone_name_form(kind: Kind, name: &[u8]) -> Option<Form<(), CircuitLine>>
         (if is_input kind then n ∷ [] else []))) (name_of name.now) }
 {
     let name = Name::of(name)?;
-    Some(Form::Item(CircuitLine::lone(kind, name)))
+    Some(Form::Item(CircuitLine::of_one_name(kind, name)))
 }
 
 // Whether a line begins with `input` and a space.

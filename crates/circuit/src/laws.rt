@@ -1,5 +1,5 @@
 //! Laws of the definitions.
-ghost use Rattle.circuit.specs.Laws.{PrintsWhatIsRead, ReadsWhatIsPrinted, GatesAreOrdered, HasValuation, UndefinedHasNoValuation, OnlyInverseGatesAreUndefined, AtMostOneGateIsUndefined, ValuesStopAtUndefinedGate, HasAtMostOneValuation, HasOneValuation, ValuesAreTheValuation, WiresAreNamed, WireNamesAreDistinct, InputsAreFirst, GatesKeepOnes, InverseGatesUndo};
+ghost use Rattle.circuit.specs.Laws.{PrintsWhatIsRead, ReadsWhatIsPrinted, GatesAreOrdered, HasValuationIfDefined, UndefinedHasNoValuation, OnlyInverseGatesAreUndefined, AtMostOneGateIsUndefined, ValuesStopAtUndefinedGate, HasAtMostOneValuation, NoninverseHasOneValuation, ValuesAreTheValuation, WiresAreNamed, WireNamesAreDistinct, InputsAreFirst, GatesKeepOnes, InverseGatesUndo};
 
 /// States that a circuit has one text.
 ///
@@ -16,17 +16,17 @@ pub fn gates_are_ordered()
 {}
 
 /// States that ordered gates have a valuation exactly if no gate is the first one without a row.
-pub fn has_valuation()
-    ensures found { HasValuation }
-    ensures only { UndefinedHasNoValuation }
+pub fn has_valuation_if_defined()
+    ensures found { HasValuationIfDefined }
+    ensures undefined_has_none { UndefinedHasNoValuation }
 {}
 
 /// States that only an inverse gate is the first one without a row, and that there is at most one such gate.
 ///
 /// `Circuit::values` stops at it.
-pub fn one_gate_is_undefined()
+pub fn undefined_gate_is_unique()
     ensures inverse { OnlyInverseGatesAreUndefined }
-    ensures one { AtMostOneGateIsUndefined }
+    ensures at_most_one { AtMostOneGateIsUndefined }
     ensures stopped { ValuesStopAtUndefinedGate }
 {}
 
@@ -36,8 +36,8 @@ pub fn has_at_most_one_valuation()
 {}
 
 /// States that a circuit without inverse gates has exactly one valuation, whatever its inputs are.
-pub fn has_one_valuation()
-    ensures { HasOneValuation }
+pub fn noninverse_has_one_valuation()
+    ensures { NoninverseHasOneValuation }
 {}
 
 /// States that `Circuit::values` answers the values of that valuation, from wire 0 on.

@@ -2,7 +2,7 @@
 ghost use Rattle.std.specs.Prelude.{◌≡◌, ◌<◌, ◌≤◌, Some, true, length, take, slice_get, IfErr, IfOk, IfSome};
 ghost use Rattle.std.specs.Option.{option_map};
 ghost use Rattle.circuit.specs.Entries.{defined};
-ghost use Rattle.circuit.specs.Bridge.{AreValues, IsValuesFault, circuit_of, input_count, input_names, is_input, netlist_of, read};
+ghost use Rattle.circuit.specs.Bridge.{AreValues, IsValuesFault, circuit_of, input_count, input_names, is_input, netlist_of, as_values};
 ghost use Rattle.circuit.specs.Meaning.{AreOrdered, wire_of, wires};
 ghost use Rattle.circuit.specs.Wiring.{gate_of};
 
@@ -135,7 +135,7 @@ impl Circuit {
     ///
     /// If the wire of the number `likely` has the name, the name is compared, and not looked up by its hash.
     #[inline(always)]
-    pub fn wire_at(&self, likely: u16, name: &Name) -> Option<WireNo>
+    pub fn wire_by_hint(&self, likely: u16, name: &Name) -> Option<WireNo>
         ensures wire { result ≡ wire_of (circuit_of self.now) name.now }
         ensures below { IfSome result (λ w. w < wires (netlist_of self.now)) }
     {
@@ -192,10 +192,10 @@ impl Circuit {
     /// If there is no valuation, the first gate without a row, and the values of the wires that are defined before it.
     pub fn values(&self, alloc: Global, inputs: &[bool]) -> Result<Vec<bool>, ValuesFault>
         requires { length inputs.now ≡ (netlist_of self.now).given }
-        ensures values { IfOk result (λ vs. AreValues (netlist_of self.now) (read inputs.now)
+        ensures values { IfOk result (λ vs. AreValues (netlist_of self.now) (as_values inputs.now)
             vs.items) }
-        ensures fault { IfErr result (λ e. IsValuesFault (netlist_of self.now) (read inputs.now)
-            e) }
+        ensures fault { IfErr result (λ e. IsValuesFault (netlist_of self.now)
+            (as_values inputs.now) e) }
     {
         match values_of(alloc, inputs, self.wired.as_slice()) {
             Ok(values) => Ok(values),

@@ -8,7 +8,7 @@ use crate::netlist::Circuit;
 use section_text::{Name, PortNames};
 use std::alloc::{AllocError, Global};
 
-fn push_input_name(names: &mut Vec<Name>, entry: &CircuitLine) -> Result<(), AllocError>
+fn push_if_input(names: &mut Vec<Name>, entry: &CircuitLine) -> Result<(), AllocError>
     ensures { OnOk result (names.new.items ≡ names.old.items ++ input_names (entry.now ∷ [])) }
 {
     match entry.kind {
@@ -17,7 +17,7 @@ fn push_input_name(names: &mut Vec<Name>, entry: &CircuitLine) -> Result<(), All
     }
 }
 
-fn push_output_name(names: &mut Vec<Name>, entry: &CircuitLine) -> Result<(), AllocError>
+fn push_if_output(names: &mut Vec<Name>, entry: &CircuitLine) -> Result<(), AllocError>
     ensures { OnOk result (names.new.items ≡ names.old.items ++ output_names (entry.now ∷ [])) }
 {
     match entry.kind {
@@ -35,8 +35,8 @@ fn push_port_names_of_lines(
     ensures outs { OnOk result (outs.new.items ≡ outs.old.items ++ output_names entries.now) }
 {
     for entry in entries {
-        push_input_name(ins, entry)?;
-        push_output_name(outs, entry)?;
+        push_if_input(ins, entry)?;
+        push_if_output(outs, entry)?;
     }
     Ok(())
 }

@@ -54,7 +54,7 @@ impl Section for Reading {
     }
 
     fn missing(&self) -> Option<RefusalCode> {
-        match self.draft.missing() {
+        match self.draft.unconsumed_name() {
             Some(_) => Some(RefusalCode::SomethingMissing),
             None => None,
         }

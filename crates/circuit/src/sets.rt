@@ -2,7 +2,7 @@
 ghost use Rattle.std.specs.Prelude.{◌≡◌, ◌+◌, ◌<◌, ◌≤◌, true, false, [], ◌∷◌, ◌++◌, map, length, None, OnOk, OnErr, IfErr};
 ghost use Rattle.std.specs.List.{All};
 ghost use Rattle.section_text.specs.Words.{has};
-ghost use Rattle.circuit.specs.Rules.{define};
+ghost use Rattle.circuit.specs.Rules.{define_fault};
 ghost use Rattle.circuit.specs.Wiring.{with_marks_set};
 ghost use Rattle.section_text.specs.Adding.{HasRefusalCode};
 
@@ -14,7 +14,7 @@ fn define_one(wires: &mut IndexSet<Name, Seed>, name: Name) -> Result<(), LineFa
     ensures ok { OnOk result ((has wires.old.keys name ≡ false)
         × (wires.new.keys ≡ wires.old.keys ++ name ∷ [])) }
     ensures err { OnErr result (wires.new.keys ≡ wires.old.keys) }
-    ensures fault { IfErr result (λ e. HasRefusalCode e (define wires.old.keys (name ∷ []))) }
+    ensures fault { IfErr result (λ e. HasRefusalCode e (define_fault wires.old.keys (name ∷ []))) }
 {
     match wires.insert(name) {
         Ok(true) => Ok(()),
@@ -25,10 +25,10 @@ fn define_one(wires: &mut IndexSet<Name, Seed>, name: Name) -> Result<(), LineFa
 
 // Defines names from left to right. An error changes nothing.
 fn define_all(wires: &mut IndexSet<Name, Seed>, names: &[Name]) -> Result<(), LineFault>
-    ensures ok { OnOk result ((define wires.old.keys names.now ≡ None)
+    ensures ok { OnOk result ((define_fault wires.old.keys names.now ≡ None)
         × (wires.new.keys ≡ wires.old.keys ++ names.now)) }
     ensures err { OnErr result (wires.new.keys ≡ wires.old.keys) }
-    ensures fault { IfErr result (λ e. HasRefusalCode e (define wires.old.keys names.now)) }
+    ensures fault { IfErr result (λ e. HasRefusalCode e (define_fault wires.old.keys names.now)) }
 {
     let before = wires.len();
     for name in names {
@@ -47,13 +47,13 @@ pub(crate) fn define_wires(
     names: &[Name],
 ) -> Result<(), LineFault>
     requires { length names.now ≤ 4 }
-    ensures ok { OnOk result ((define wires.old.keys names.now ≡ None)
+    ensures ok { OnOk result ((define_fault wires.old.keys names.now ≡ None)
         × (wires.new.keys ≡ wires.old.keys ++ names.now)) }
     ensures marks { OnOk result (consumed.new.items
         ≡ consumed.old.items ++ map (λ _. false) names.now) }
     ensures err { OnErr result ((wires.new.keys ≡ wires.old.keys)
         × (consumed.new.items ≡ consumed.old.items)) }
-    ensures fault { IfErr result (λ e. HasRefusalCode e (define wires.old.keys names.now)) }
+    ensures fault { IfErr result (λ e. HasRefusalCode e (define_fault wires.old.keys names.now)) }
 {
     let first = wires.len();
     define_all(wires, names)?;

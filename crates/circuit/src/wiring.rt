@@ -2,7 +2,7 @@
 ghost use Rattle.std.specs.Prelude.{◌≡◌, ◌≤◌, ◌++◌, Bool, List, Some, None, Ok, true, false, map, length, take, option_map, OnOk, OnErr, IfErr, IfOk};
 ghost use Rattle.std.specs.List.{range_with_len};
 ghost use Rattle.circuit.specs.Gates.{row, uses};
-ghost use Rattle.circuit.specs.Bridge.{read};
+ghost use Rattle.circuit.specs.Bridge.{as_values};
 ghost use Rattle.circuit.specs.Evaluate.{evaluate, IsGateEvaluationError};
 ghost use Rattle.circuit.specs.Wiring.{gate_of, gate_with_outs_from};
 
@@ -82,7 +82,7 @@ pub(crate) fn push_gate_of_line(
 }
 
 fn value_at(values: &[bool], wire: WireNo) -> bool
-    ensures { result ≡ read values.now wire }
+    ensures { result ≡ as_values values.now wire }
 {
     values.get(wire.number() as usize).copied().unwrap_or(false)
 }
@@ -93,11 +93,11 @@ fn push_out_values(values: &mut Vec<bool>, gate: GateWires) -> Result<bool, Allo
     ensures found { result ≡ Ok true →
         option_map (λ (r : List Bool). values.old.items ++ r)
         (row gate.kind
-        (map (read values.old.items) (take (uses gate.kind) gate.ins)))
+        (map (as_values values.old.items) (take (uses gate.kind) gate.ins)))
         ≡ Some values.new.items }
-    ensures none { result ≡ Ok false →
+    ensures no_row { result ≡ Ok false →
         row gate.kind
-        (map (read values.old.items) (take (uses gate.kind) gate.ins)) ≡ None }
+        (map (as_values values.old.items) (take (uses gate.kind) gate.ins)) ≡ None }
     ensures values_unchanged { result ≡ Ok false → values.new.items ≡ values.old.items }
 {
     let [x, y, z, w] = gate.ins;

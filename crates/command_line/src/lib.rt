@@ -85,26 +85,26 @@ fn explain_number_error(alloc: Global, error: Error) -> Error
 fn worker_count_error(alloc: Global) -> Result<Error, AllocError>
     ensures { IfOk result (λ error. kind_of error ≡ ErrorKind.ValueValidation) }
 {
-    let mut check = check(alloc)?;
+    let mut check = check_command(alloc)?;
     check.error(ErrorKind::ValueValidation, texts::WORKERS)
 }
 
 fn command<'a>(alloc: Global) -> Result<Command<'a>, AllocError>
     ensures { IfOk result (λ command. app_of command ≡ bbmcheck) }
 {
-    top(alloc)?
-        .subcommand(check(alloc)?)?
-        .subcommand(plain(alloc, "run", texts::RUN))?
-        .subcommand(plain(alloc, "value", texts::VALUE))?
-        .subcommand(plain(alloc, "modules", texts::MODULES))?
-        .subcommand(plain(alloc, "migrate", texts::MIGRATE))
+    top_command(alloc)?
+        .subcommand(check_command(alloc)?)?
+        .subcommand(plain_command(alloc, "run", texts::RUN))?
+        .subcommand(plain_command(alloc, "value", texts::VALUE))?
+        .subcommand(plain_command(alloc, "modules", texts::MODULES))?
+        .subcommand(plain_command(alloc, "migrate", texts::MIGRATE))
 }
 
 // The command line without its commands.
-fn top<'a>(alloc: Global) -> Result<Command<'a>, AllocError>
+fn top_command<'a>(alloc: Global) -> Result<Command<'a>, AllocError>
     ensures app { IfOk result (λ command. app_of command ≡ top_app) }
 {
-    let named = plain(alloc, "bbmcheck", texts::ALL).bin_name("bbmcheck")?;
+    let named = plain_command(alloc, "bbmcheck", texts::PROGRAM).bin_name("bbmcheck")?;
     Ok(
         named
             .version(texts::VERSION)
@@ -114,15 +114,15 @@ fn top<'a>(alloc: Global) -> Result<Command<'a>, AllocError>
 }
 
 // The command that has an option.
-fn check<'a>(alloc: Global) -> Result<Command<'a>, AllocError>
+fn check_command<'a>(alloc: Global) -> Result<Command<'a>, AllocError>
     ensures app { IfOk result (λ command. app_of command ≡ check_app) }
     ensures local { IfOk result (λ command. (fields_of command).has_globals ≡ false) }
 {
-    plain(alloc, "check", texts::CHECK).arg(workers(alloc))
+    plain_command(alloc, "check", texts::CHECK).arg(workers_option(alloc))
 }
 
 // Its option.
-fn workers<'a>(alloc: Global) -> Arg<'a>
+fn workers_option<'a>(alloc: Global) -> Arg<'a>
     ensures rule { rule_of result ≡ workers_rule }
     ensures not_global { result.global ≡ false }
 {
@@ -134,7 +134,7 @@ fn workers<'a>(alloc: Global) -> Arg<'a>
 }
 
 // A command without options.
-fn plain<'a>(alloc: Global, name: &'a str, help: Help) -> Command<'a>
+fn plain_command<'a>(alloc: Global, name: &'a str, help: Help) -> Command<'a>
     ensures app { app_of result ≡ new_app name.entry.now }
     ensures local { (fields_of result).has_globals ≡ false }
 {

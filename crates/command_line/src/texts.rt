@@ -58,7 +58,7 @@ macro_rules! help {
 pub const VERSION: &str = concat!(
     "1.0.0\n",
     "reads circuit, layout, assign, certificate 1, certificate 2\n",
-    "proved by rattle-kit-13f logic dac8208d650f15bf",
+    "proved by rattle-kit-13b logic dac8208d650f15bf",
 );
 
 /// The message on numbers of workers that are not accepted.
@@ -66,7 +66,7 @@ pub const WORKERS: &str =
     "'--workers <N>' takes a whole number from 1 to 64, for example '--workers 4'";
 
 /// The help of the program.
-pub const ALL: Help = help!(
+pub const PROGRAM: Help = help!(
     "Checks that a layout of the billiard ball automaton computes a circuit",
     "bbmcheck <COMMAND> < TEXT",
     "one text, of at most 16 MiB, from standard input",

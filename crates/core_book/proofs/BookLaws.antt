@@ -1,22 +1,17 @@
 -- The laws of books
-use Rattle.lemmas.proofs.Common.{◌∙◌, ◌≡◌, ◌≢◌, Bool, IsSome, None, Option, Some, ap, arith, false}
-use Rattle.lemmas.proofs.Common.{get_or-set_other, get_or-set_same, if◌then◌else◌, is_some, length, nat_eq, nat_lt, not}
-use Rattle.lemmas.proofs.Common.{refl, slice_get, subst, sym, true, ℕ, bytes_decides, nat_tests, option_eq, pointwise}
-use Rattle.lemmas.proofs.Common.{same_Some, slice_get_within, common_steps}
-use Rattle.module_job.specs.Jobs.{JobView}
-use Rattle.module_job.proofs.EqualJobs.{jobs_decide}
-use Rattle.local_run.specs.Faults.{IsLeastFault, IsLeastKeepFault}
-use Rattle.local_run.specs.Shown.{digest_of, number_of, job_of, fault_of, keep_of}
-use Rattle.local_run.specs.declared.finding.Finding.{Finding}
-use Rattle.local_run.proofs.Least.{least_unique, least_keep_unique}
-use Rattle.core_book.specs.Book.{BookView, IsOwn, after_filing, found_in, is_job_of, reply_to}
+use Rattle.core_book.proofs.Imports.{Accepted, BookView, Bool, Closed, Content, Digest, Double, Finding, IsLeastFault}
+use Rattle.core_book.proofs.Imports.{IsLeastKeepFault, IsOwn, IsSome, JobView, None, Number, Option, Reply, Some}
+use Rattle.core_book.proofs.Imports.{Stranger, after_filing, ap, arith, common_steps, digest_of, false, found_in}
+use Rattle.core_book.proofs.Imports.{get_or-set_other, get_or-set_same, if◌then◌else◌, is_job_of, is_some, job_of}
+use Rattle.core_book.proofs.Imports.{jobs_decide, least_keep_unique, least_unique, length, nat_eq, nat_lt, nat_tests}
+use Rattle.core_book.proofs.Imports.{not, number_of, option_eq, pointwise, refl, reply_to, same_Some, slice_get}
+use Rattle.core_book.proofs.Imports.{slice_get_within, subst, sym, true, ℕ, ◌∙◌, ◌≡◌, ◌≢◌}
+use Rattle.lemmas.proofs.Common.{bytes_decides}
+use Rattle.local_run.specs.Shown.{fault_of, keep_of}
 use Rattle.core_book.specs.Laws.{AcceptedIsBooksAndNew, BooksAgreeOnFaults, ClosedAnswersClosed, DoubleIsBooksAndHeld}
 use Rattle.core_book.specs.Laws.{AcceptedFindingIsHeld, UnacceptedKeepsFindings, FilingKeepsHeldFindings}
 use Rattle.core_book.specs.Laws.{BooksFindingIsNoStranger, FilingKeepsBookValid, EachEntryKeepsReplay}
 use Rattle.core_book.specs.declared.reply.Mismatch.{Mismatch}
-use Rattle.core_book.specs.declared.reply.Mismatch.TheVariants.{Digest, Number, Content}
-use Rattle.core_book.specs.declared.reply.Reply.{Reply}
-use Rattle.core_book.specs.declared.reply.Reply.TheVariants.{Closed, Stranger, Double, Accepted}
 use Rattle.core_book.proofs.Filings.{IsBook-filed, accepted-inside, accepted-new, accepted-own, findings_after-accepted}
 use Rattle.core_book.proofs.Filings.{findings_after-other, is_job_of-true, reply_to-closed, reply_to-held, reply_to-new}
 use Rattle.core_book.proofs.Replays.{IsReplayed-closed, IsReplayed-filed}

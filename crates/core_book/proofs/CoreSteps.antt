@@ -1,17 +1,15 @@
 -- The parts of a core that each event keeps
-use Rattle.lemmas.proofs.Common.{[], ◌++◌, ◌+◌, ◌<◌, ◌∙◌, ◌∷◌, ◌≡◌, ◌≤◌, All, Bool, List, ap, arith, false, get_or}
-use Rattle.lemmas.proofs.Common.{if◌then◌else◌, length, length-set, map, refl, set, subst, suc, sym, true, zero}
-use Rattle.lemmas.proofs.Common.{ℕ, All-head, All-tail, length-replicate, nat_tests, common_steps}
-use Rattle.module_job.specs.Jobs.{JobView}
-use Rattle.core_book.specs.Draws.{IsDrawn, total}
-use Rattle.core_book.specs.Claims.{draws_after_claim, next_after_claim, has_seat_drawn_past_last}
-use Rattle.core_book.specs.Core.{CoreView, IsCore, HasSeatBelow, after_claim, after_event, after_events, draws_of}
-use Rattle.core_book.specs.Core.{ended, new_core, job_count_of}
-use Rattle.core_book.specs.declared.machine.Event.{Event}
-use Rattle.core_book.specs.declared.machine.Event.TheVariants as Events
-use Rattle.core_book.proofs.Counting.{drawn-none, drawn-push, has_seat_drawn_past_last-push, total-le, total-set}
+use Rattle.core_book.proofs.Imports.{All, Bool, CoreView, Event, HasSeatBelow, IsCore, IsDrawn, JobView, List, []}
+use Rattle.core_book.proofs.Imports.{after_claim, after_event, after_events, ap, arith, common_steps, draws_after_claim}
+use Rattle.core_book.proofs.Imports.{draws_of, false, get_or, if◌then◌else◌, is_seat_finished, job_count_of, length}
+use Rattle.core_book.proofs.Imports.{length-replicate, length-set, map, nat_tests, new_core, next_after_claim, refl}
+use Rattle.core_book.proofs.Imports.{set, subst, suc, sym, total, true, zero, ℕ, ◌++◌, ◌+◌, ◌<◌, ◌∙◌, ◌∷◌, ◌≡◌, ◌≤◌}
+use Rattle.lemmas.proofs.Common.{All-head, All-tail}
+use Rattle.core_book.specs.Core.{one_if_ended}
+use Rattle.core_book.proofs.Counting.{drawn-none, drawn-push, is_seat_finished-push, total-le, total-set}
 use Rattle.core_book.proofs.Filings.{IsBook-filed}
 use Rattle.core_book.proofs.Replays.{IsBook-new, IsReplayed-filed, IsReplayed-new}
+use Rattle.core_book.specs.declared.machine.Event.TheVariants as Events
 
 -- ---- a claim
 
@@ -28,12 +26,13 @@ claim-drawn n next seat lists inside true is = subst (IsDrawn next) (sym (set-sa
 claim-drawn n next seat lists inside false is = drawn-push next lists seat inside is
 
 claim-few : (n next seat : ℕ) (lists : List (List ℕ)) → seat < length lists → (has : Bool) →
-    has_seat_drawn_past_last n (get_or lists seat []) ≡ has → next ≤ n + total (ended n) lists →
+    is_seat_finished n (get_or lists seat []) ≡ has → next ≤ n + total (one_if_ended n) lists →
     (if has then next else next + 1)
-    ≤ n + total (ended n) (set lists seat (if has then get_or lists seat [] else get_or lists seat [] ++ next ∷ []))
-claim-few n next seat lists inside true e few = omega (arith, few, ap (total (ended n)) (set-same lists seat))
+    ≤ n + total (one_if_ended n) (set lists seat
+    (if has then get_or lists seat [] else get_or lists seat [] ++ next ∷ []))
+claim-few n next seat lists inside true e few = omega (arith, few, ap (total (one_if_ended n)) (set-same lists seat))
 claim-few n next seat lists inside false e few =
-    grind (arith, common_steps, total-set, has_seat_drawn_past_last-push, nat_tests)
+    grind (arith, common_steps, total-set, is_seat_finished-push, nat_tests)
 
 pub claim-core : (c : CoreView) (seat : ℕ) → seat < length c.draws → IsCore c → IsCore (after_claim c seat)
 claim-core c seat inside is = grind (arith, common_steps, claim-drawn, claim-few, c.next, c.draws)
@@ -82,8 +81,8 @@ pub length-new : (digest : List ℕ) (jobs : List JobView) (seats : ℕ) →
 unfolding new_core
 length-new digest jobs seats = length-replicate seats []
 
-ended-one : (n : ℕ) (xs : List ℕ) → ended n xs ≤ 1
-ended-one n xs = by_case (has_seat_drawn_past_last n xs)
+one_if_ended-one : (n : ℕ) (xs : List ℕ) → one_if_ended n xs ≤ 1
+one_if_ended-one n xs = by_case (is_seat_finished n xs)
   where
     by_case : (b : Bool) → (if b then 1 else 0) ≤ 1
     by_case true = omega arith
@@ -91,7 +90,8 @@ ended-one n xs = by_case (has_seat_drawn_past_last n xs)
 
 -- at most one draw of each seat is past the numbers
 pub next-few : (c : CoreView) → IsCore c → c.next ≤ job_count_of c + length c.draws
-next-few c is = omega (arith, is.few, total-le (ended (job_count_of c)) c.draws (ended-one (job_count_of c)))
+next-few c is =
+    omega (arith, is.few, total-le (one_if_ended (job_count_of c)) c.draws (one_if_ended-one (job_count_of c)))
 
 -- ---- what the code leaves of a claim
 

@@ -1,9 +1,9 @@
 -- Sums over lists, and lists of numbers that were drawn
-use Rattle.lemmas.proofs.Common.{[], ◌++◌, ◌+◌, ◌-◌, ◌<◌, ◌∷◌, ◌≡◌, ◌≤◌, List, Some, ap, arith, get_or, length}
-use Rattle.lemmas.proofs.Common.{length-append, nat_le, nat_lt, refl, replicate, set, slice_get, suc, true, zero, ℕ}
-use Rattle.lemmas.proofs.Common.{nat_tests, same_Some, common_steps}
-use Rattle.core_book.specs.Draws.{IsDrawn, past_last, one_if_below, times, total}
-use Rattle.core_book.specs.Claims.{has_seat_drawn_past_last}
+use Rattle.core_book.proofs.Imports.{IsDrawn, List, Some, [], ap, arith, common_steps, get_or, is_seat_finished, length}
+use Rattle.core_book.proofs.Imports.{length-append, nat_lt, nat_tests, occurrences, refl, replicate, same_Some, set}
+use Rattle.core_book.proofs.Imports.{slice_get, suc, total, true, zero, ℕ, ◌++◌, ◌+◌, ◌<◌, ◌∷◌, ◌≡◌, ◌≤◌}
+use Rattle.lemmas.proofs.Common.{◌-◌, nat_le}
+use Rattle.core_book.specs.Draws.{past_last, one_if_below}
 
 -- ---- sums
 
@@ -29,7 +29,7 @@ at-le-total f (x ∷ xs) (suc i) d inside = omega (arith, at-le-total f xs i d (
 
 -- ---- one draw more
 
-times-append : (x : ℕ) (xs ys : List ℕ) → times x (xs ++ ys) ≡ times x xs + times x ys
+times-append : (x : ℕ) (xs ys : List ℕ) → occurrences x (xs ++ ys) ≡ occurrences x xs + occurrences x ys
 times-append x [] ys = omega arith
 times-append x (y ∷ xs) ys = let rest = times-append x xs ys in omega (arith, rest)
 
@@ -38,9 +38,9 @@ past_last-push [] x = refl
 past_last-push (y ∷ []) x = refl
 past_last-push (y ∷ z ∷ zs) x = past_last-push (z ∷ zs) x
 
-pub has_seat_drawn_past_last-push : (n : ℕ) (xs : List ℕ) (x : ℕ) →
-    has_seat_drawn_past_last n (xs ++ x ∷ []) ≡ nat_lt n (x + 1)
-has_seat_drawn_past_last-push n xs x = ap (nat_lt n) (past_last-push xs x)
+pub is_seat_finished-push : (n : ℕ) (xs : List ℕ) (x : ℕ) →
+    is_seat_finished n (xs ++ x ∷ []) ≡ nat_lt n (x + 1)
+is_seat_finished-push n xs x = ap (nat_lt n) (past_last-push xs x)
 
 pub drawn-push : (counter : ℕ) (lists : List (List ℕ)) (seat : ℕ) → seat < length lists → IsDrawn counter lists →
     IsDrawn (counter + 1) (set lists seat (get_or lists seat [] ++ counter ∷ []))
@@ -50,7 +50,7 @@ drawn-push counter lists seat inside is =
     record {
       whole = omega (arith, total-set length lists seat ys [] inside, length-append xs (counter ∷ []), is.whole);
       once = λ x.
-          let moved = total-set (times x) lists seat ys [] inside in
+          let moved = total-set (occurrences x) lists seat ys [] inside in
           let more = times-append x xs (counter ∷ []) in
           let before = is.once x in
           grind (arith, nat_tests);
@@ -62,18 +62,18 @@ drawn-none seats = grind (arith, common_steps, total-replicate, nat_tests)
 -- ---- what a list that has ended tells
 
 -- one less than the end of a list stands in it
-end-stands : (xs : List ℕ) (n : ℕ) → n < past_last xs → (last : ℕ) × (n ≤ last) × (1 ≤ times last xs)
+end-stands : (xs : List ℕ) (n : ℕ) → n < past_last xs → (last : ℕ) × (n ≤ last) × (1 ≤ occurrences last xs)
 end-stands [] n below = absurd (omega (arith, below))
 end-stands (y ∷ []) n below = (y, omega (arith, below), grind (arith, nat_tests))
 end-stands (y ∷ z ∷ zs) n below = grind (arith, common_steps, (end-stands (z ∷ zs) n below))
 
 -- where a seat has ended, all numbers were drawn
-pub ended-all : (n counter : ℕ) (lists : List (List ℕ)) (seat : ℕ) → seat < length lists →
-    has_seat_drawn_past_last n (get_or lists seat []) ≡ true → IsDrawn counter lists → n < counter
-ended-all n counter lists seat inside has is =
+pub one_if_ended-all : (n counter : ℕ) (lists : List (List ℕ)) (seat : ℕ) → seat < length lists →
+    is_seat_finished n (get_or lists seat []) ≡ true → IsDrawn counter lists → n < counter
+one_if_ended-all n counter lists seat inside has is =
     let below : n < past_last (get_or lists seat []) = grind (arith, nat_tests) in
     let there = end-stands (get_or lists seat []) n below in
-    let within = at-le-total (times there.0) lists seat [] inside in
+    let within = at-le-total (occurrences there.0) lists seat [] inside in
     let once = is.once there.0 in
     let drawn : there.0 < counter = drawn-below there.0 counter (omega (arith, within, once, there.2)) in
     omega (arith, drawn, there.1)
@@ -94,6 +94,6 @@ some-length : (xs : List ℕ) (x : ℕ) → slice_get xs (length xs - 1) ≡ Som
 some-length [] x e = cc
 some-length (y ∷ ys) x e = omega arith
 
-pub has_seat_drawn_past_last-last : (n : ℕ) (xs : List ℕ) (x : ℕ) → slice_get xs (length xs - 1) ≡ Some x →
-    nat_le n x ≡ has_seat_drawn_past_last n xs
-has_seat_drawn_past_last-last n xs x e = grind (arith, common_steps, last-end, some-length, nat_tests)
+pub is_seat_finished-last : (n : ℕ) (xs : List ℕ) (x : ℕ) → slice_get xs (length xs - 1) ≡ Some x →
+    nat_le n x ≡ is_seat_finished n xs
+is_seat_finished-last n xs x e = grind (arith, common_steps, last-end, some-length, nat_tests)

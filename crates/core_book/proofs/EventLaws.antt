@@ -1,32 +1,27 @@
 -- The laws of the core
-use Rattle.lemmas.proofs.Common.{[], ◌+◌, ◌<◌, ◌==◌, ◌∙◌, ◌∷◌, ◌≡◌, ◌≢◌, ◌≤◌, ◌⊎◌, All, Bool, Contains, List, None}
-use Rattle.lemmas.proofs.Common.{Option, Some, ap, arith, cond, false, get_or, if◌then◌else◌, inl, inr, is_some, length}
-use Rattle.lemmas.proofs.Common.{nat_lt, refl, subst, sum_by, sym, true, ℕ, common_steps}
-use Rattle.lemmas.proofs.Common.{Contains-append_cases, Contains-append_left, Contains-append_right, Contains-push}
-use Rattle.lemmas.proofs.Common.{eqb_tells, nat_tests, same_Some, sum_by-append, nothing_in, one_in}
-use Rattle.module_job.specs.Jobs.{JobView}
-use Rattle.local_run.specs.Shown.{number_of}
-use Rattle.local_run.specs.declared.finding.Finding.{Finding}
-use Rattle.core_book.specs.Draws.{IsDrawn, times, total}
-use Rattle.core_book.specs.Claims.{claim_of_draw, has_seat_drawn_past_last}
-use Rattle.core_book.specs.Book.{IsBook, IsReplayed, after_filing, found_in, reply_to}
-use Rattle.core_book.specs.Core.{CoreView, IsCore, HasSeatBelow, after_claim, after_event, after_events}
-use Rattle.core_book.specs.Core.{answer_of_claim, answer_to, draws_of, new_core, job_count_of}
+use Rattle.core_book.proofs.Imports.{Accepted, All, Bool, Closed, CoreView, Double, Event, Finding, HasSeatBelow}
+use Rattle.core_book.proofs.Imports.{IsBook, IsCore, IsDrawn, IsReplayed, JobView, List, None, Option, Reply, Some}
+use Rattle.core_book.proofs.Imports.{Stranger, [], after_claim, after_event, after_events, after_filing, ap, arith}
+use Rattle.core_book.proofs.Imports.{common_steps, cond, draws_of, eqb_tells, false, found_in, get_or, if◌then◌else◌}
+use Rattle.core_book.proofs.Imports.{inl, inr, is_seat_finished, is_some, job_count_of, length, nat_lt, nat_tests}
+use Rattle.core_book.proofs.Imports.{new_core, number_of, occurrences, refl, reply_to, same_Some, subst, sum_by, sym}
+use Rattle.core_book.proofs.Imports.{total, true, ℕ, ◌+◌, ◌<◌, ◌==◌, ◌∙◌, ◌∷◌, ◌≡◌, ◌≢◌, ◌≤◌}
+use Rattle.lemmas.proofs.Common.{◌⊎◌, Contains, Contains-append_cases, Contains-append_left, Contains-append_right}
+use Rattle.lemmas.proofs.Common.{Contains-push, sum_by-append, nothing_in, one_in}
+use Rattle.core_book.specs.Claims.{claim_of_draw}
+use Rattle.core_book.specs.Core.{answer_of_claim, answer_to}
 use Rattle.core_book.specs.CoreLaws.{AcceptsAtMostOnePerNumber, AreAllDrawn, DrawsEachOnce, EmptyOnlyIfAllAreDrawn}
 use Rattle.core_book.specs.CoreLaws.{EventsKeepHeldFindings, HistoryReplaysAfterEvents, HeldFindingsAreBooksAndLeast}
 use Rattle.core_book.specs.CoreLaws.{HoldsWhatWasAccepted, OnlyAcceptedChangesWhatIsHeld, findings_accepted_in}
 use Rattle.core_book.specs.CoreLaws.{findings_accepted_by, finding_if_accepted, core_after}
-use Rattle.core_book.specs.declared.machine.Answer.TheVariants as Answered
-use Rattle.core_book.specs.declared.machine.Event.{Event}
-use Rattle.core_book.specs.declared.machine.Event.TheVariants as Events
-use Rattle.core_book.specs.declared.reply.Reply.{Reply}
-use Rattle.core_book.specs.declared.reply.Reply.TheVariants.{Closed, Stranger, Double, Accepted}
-use Rattle.core_book.specs.declared.claim.Claim.TheVariants as Claimed
 use Rattle.core_book.proofs.BookLaws.{held-elsewhere, holds-nothing_else, holds-what_is_accepted, keeps-what_is_held}
 use Rattle.core_book.proofs.CoreSteps.{claim-core, events-core, length-events, length-new, new-core}
-use Rattle.core_book.proofs.Counting.{ended-all}
+use Rattle.core_book.proofs.Counting.{one_if_ended-all}
 use Rattle.core_book.proofs.Filings.{IsBook-filed, accepted-new}
 use Rattle.core_book.proofs.Replays.{IsBook-new, IsReplayed-filed, IsReplayed-new, found_in-new}
+use Rattle.core_book.specs.declared.machine.Answer.TheVariants as Answered
+use Rattle.core_book.specs.declared.machine.Event.TheVariants as Events
+use Rattle.core_book.specs.declared.claim.Claim.TheVariants as Claimed
 
 -- ---- draws
 
@@ -39,10 +34,10 @@ draws-each-once digest jobs seats es seated = (all-core digest jobs seats es sea
 
 -- where a claim answers `Empty`, the next number after it is past the numbers
 empty-past : (n next : ℕ) (lists : List (List ℕ)) (seat : ℕ) → seat < length lists → IsDrawn next lists → (has : Bool) →
-    has_seat_drawn_past_last n (get_or lists seat []) ≡ has →
+    is_seat_finished n (get_or lists seat []) ≡ has →
     answer_of_claim (if has then Claimed.Empty else claim_of_draw n next) ≡ Answered.Empty →
     n ≤ (if has then next else next + 1)
-empty-past n next lists seat inside is true e h = let past = ended-all n next lists seat inside e is in
+empty-past n next lists seat inside is true e h = let past = one_if_ended-all n next lists seat inside e is in
     omega (arith, past)
 empty-past n next lists seat inside is false e h = by_case (nat_lt next n) refl h
   where
@@ -52,14 +47,14 @@ empty-past n next lists seat inside is false e h = by_case (nat_lt next n) refl 
     by_case false e h = grind (arith, nat_tests)
 
 all-below : (next : ℕ) (lists : List (List ℕ)) (n : ℕ) → IsDrawn next lists → n ≤ next → (k : ℕ) → k < n →
-    total (times k) lists ≡ 1
+    total (occurrences k) lists ≡ 1
 all-below next lists n is most k below = let once = is.once k in grind (arith, nat_tests)
 
 empty-all : (c : CoreView) (seat : ℕ) → seat < length c.draws → IsCore c →
     answer_to c (Events.Claim seat) ≡ Answered.Empty → AreAllDrawn (after_claim c seat)
 empty-all c seat inside is h =
     let n = job_count_of c in
-    let past = empty-past n c.next c.draws seat inside is.drawn (has_seat_drawn_past_last n (draws_of c seat)) refl h in
+    let past = empty-past n c.next c.draws seat inside is.drawn (is_seat_finished n (draws_of c seat)) refl h in
     all-below (after_claim c seat).next (after_claim c seat).draws n (claim-core c seat inside is).drawn past
 
 pub empty-where_all_are_drawn : EmptyOnlyIfAllAreDrawn

@@ -1,24 +1,16 @@
 -- Replies, and what filing keeps
-use Rattle.lemmas.proofs.Common.{[], ◌++◌, ◌+◌, ◌<◌, ◌∙◌, ◌∷◌, ◌≡◌, ◌≢◌, ◌≤◌, Bool, IfSome, List, None, Option, Some}
-use Rattle.lemmas.proofs.Common.{ap, arith, cond, false, get_or, get_or-set_other, get_or-set_same, if◌then◌else◌}
-use Rattle.lemmas.proofs.Common.{is_some, length, length-set, map, nat_eq, nat_lt, not, option_copied}
-use Rattle.lemmas.proofs.Common.{option_map, refl, set, slice_get, suc, sum_by, sym, true, zero, ℕ, eqb_tells}
-use Rattle.lemmas.proofs.Common.{nat_tests, option_eq, pointwise, same_text, slice_get-map, slice_get_read, sum_by-set}
-use Rattle.lemmas.proofs.Common.{false_from_not, true_from_not, common_steps}
+use Rattle.core_book.proofs.Imports.{Accepted, BookView, Bool, Closed, Content, Digest, Double, Filed, Filing, Finding}
+use Rattle.core_book.proofs.Imports.{IsBook, IsOwn, JobView, List, LogEntry, None, Number, Option, Reply, Some}
+use Rattle.core_book.proofs.Imports.{Stranger, [], accepted_in, after_closing, after_filing, ap, arith, common_steps}
+use Rattle.core_book.proofs.Imports.{cond, digest_of, eqb_tells, false, filing_of, findings_after, found_in, get_or}
+use Rattle.core_book.proofs.Imports.{get_or-set_other, get_or-set_same, if◌then◌else◌, is_job_of, is_some, job_of}
+use Rattle.core_book.proofs.Imports.{jobs_decide, length, length-set, map, nat_eq, nat_lt, nat_tests, not, number_of}
+use Rattle.core_book.proofs.Imports.{option_copied, option_eq, option_map, pointwise, refl, reply_to, same_job, set}
+use Rattle.core_book.proofs.Imports.{slice_get, slice_get-map, slice_get_read, suc, sum_by, sym, true, zero, ℕ, ◌++◌}
+use Rattle.core_book.proofs.Imports.{◌+◌, ◌<◌, ◌∙◌, ◌∷◌, ◌≡◌, ◌≢◌, ◌≤◌}
+use Rattle.lemmas.proofs.Common.{IfSome, same_text, sum_by-set, false_from_not, true_from_not}
 use Rattle.std.specs.Borrow.{Bor}
-use Rattle.module_job.specs.Equality.{same_job}
-use Rattle.module_job.specs.Jobs.{JobView}
-use Rattle.module_job.proofs.EqualJobs.{jobs_decide}
-use Rattle.local_run.specs.Shown.{digest_of, number_of, job_of}
-use Rattle.local_run.specs.declared.finding.Finding.{Finding}
-use Rattle.core_book.specs.Book.{BookView, IsBook, IsOwn, accepted_in, after_closing, after_filing}
-use Rattle.core_book.specs.Book.{accepted_count_after, filing_of, found_in, findings_after, is_job_of, reply_to}
-use Rattle.core_book.specs.declared.log_entry.LogEntry.{LogEntry}
-use Rattle.core_book.specs.declared.log_entry.LogEntry.TheVariants.{Filed}
-use Rattle.core_book.specs.declared.log_entry.Filing.{Filing}
-use Rattle.core_book.specs.declared.reply.Mismatch.TheVariants.{Digest, Number, Content}
-use Rattle.core_book.specs.declared.reply.Reply.{Reply}
-use Rattle.core_book.specs.declared.reply.Reply.TheVariants.{Closed, Stranger, Double, Accepted}
+use Rattle.core_book.specs.Book.{accepted_count_after}
 
 -- ---- which reply, by the tests
 

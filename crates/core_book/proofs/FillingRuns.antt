@@ -1,15 +1,13 @@
 -- While a book is filled up, one job of each shape is run at most
-use Rattle.lemmas.proofs.Common.{◌+◌, ◌<◌, ◌==◌, ◌∙◌, ◌≡◌, ◌≢◌, ◌≤◌, Bool, IsSome, List, None, Option, Some, ap}
-use Rattle.lemmas.proofs.Common.{arith, false, get_or, if◌then◌else◌, inl, inr, length, option_map, refl, slice_get}
-use Rattle.lemmas.proofs.Common.{slice_index, subst, suc, sym, true, zero, ℕ, cases_order, get_or_default, nat_tests}
-use Rattle.lemmas.proofs.Common.{same_Some, slice_get-map, common_steps}
-use Rattle.module_job.specs.Groups.{AreGroups, IsFirstLike}
-use Rattle.module_job.specs.Jobs.{JobView}
-use Rattle.module_job.specs.Shapes.{ShapeView, shape_of}
-use Rattle.local_run.specs.Shown.{job_of}
-use Rattle.local_run.specs.declared.finding.Finding.{Finding}
-use Rattle.core_book.specs.Book.{BookView, found_in}
-use Rattle.core_book.specs.Filling.{HoldsAlike, RunsAtMostOncePerShape, group_count_below, shapes_of}
+use Rattle.core_book.proofs.Imports.{AreGroups, BookView, Bool, Finding, HoldsOfSameShape, IsSome, JobView, List, None}
+use Rattle.core_book.proofs.Imports.{Option, Some, ap, arith, common_steps, false, found_in, get_or, group_count_below}
+use Rattle.core_book.proofs.Imports.{if◌then◌else◌, inl, inr, job_of, length, nat_tests, option_map, refl, same_Some}
+use Rattle.core_book.proofs.Imports.{shape_of, shapes_of, slice_get, slice_get-map, subst, suc, sym, true, zero, ℕ, ◌+◌}
+use Rattle.core_book.proofs.Imports.{◌<◌, ◌==◌, ◌∙◌, ◌≡◌, ◌≢◌, ◌≤◌}
+use Rattle.lemmas.proofs.Common.{slice_index, cases_order, get_or_default}
+use Rattle.module_job.specs.Groups.{IsFirstLike}
+use Rattle.module_job.specs.Shapes.{ShapeView}
+use Rattle.core_book.specs.Filling.{RunsAtMostOncePerShape}
 use Rattle.core_book.proofs.Fillings.{IsFilling}
 
 -- ---- groups
@@ -49,7 +47,7 @@ some_of (Some f) h = (f, refl)
 
 pub holds_alike : (b c : BookView) (g : List ℕ) (n : ℕ) (job : JobView) → IsFilling b c n →
     AreGroups (shapes_of c.jobs) g → n < length (shapes_of c.jobs) →
-    slice_get c.jobs n ≡ Some job → slice_index g n ≢ n → HoldsAlike c (slice_index g n) job
+    slice_get c.jobs n ≡ Some job → slice_index g n ≢ n → HoldsOfSameShape c (slice_index g n) job
 holds_alike b c g n job filling are below at other =
     let first = are.each n below in
     let g_n = slice_index g n in

@@ -1,21 +1,15 @@
 -- Books that are filled up
-use Rattle.lemmas.proofs.Common.{[], ◌++◌, ◌+◌, ◌<◌, ◌∙◌, ◌∷◌, ◌≡◌, ◌≢◌, ◌≤◌, Bool, IsSome, List, None, Option, Some}
-use Rattle.lemmas.proofs.Common.{ap, append-nil, append_assoc, arith, cond, false, get_or, if◌then◌else◌, inl, inr}
-use Rattle.lemmas.proofs.Common.{is_some, length, map, refl, slice_get, subst, suc, sym, true, ℕ, AllZip, Decides}
-use Rattle.lemmas.proofs.Common.{eqb_tells, map-append, pointwise, slice_eq-Decides, common_steps}
+use Rattle.core_book.proofs.Imports.{Accepted, BookView, Bool, Filed, Finding, IsBook, IsHeldOrFiled, IsOpenFor}
+use Rattle.core_book.proofs.Imports.{IsPartlyFilled, IsReplayed, IsSome, JobView, List, None, Option, Some, []}
+use Rattle.core_book.proofs.Imports.{accepted_in, after_filing, ap, append-nil, append_assoc, arith, common_steps, cond}
+use Rattle.core_book.proofs.Imports.{digest_of, eqb_tells, false, filing_of, found_in, get_or, if◌then◌else◌, inl, inr}
+use Rattle.core_book.proofs.Imports.{is_some, job_of, jobs_decide, length, map, new_book, number_of, pointwise, refl}
+use Rattle.core_book.proofs.Imports.{reply_to, same_job, slice_get, subst, suc, sym, true, ℕ, ◌++◌, ◌+◌, ◌<◌, ◌∙◌, ◌∷◌}
+use Rattle.core_book.proofs.Imports.{◌≡◌, ◌≢◌, ◌≤◌}
+use Rattle.lemmas.proofs.Common.{AllZip, Decides, map-append, slice_eq-Decides}
 use Rattle.std.specs.List.{count_by}
 use Rattle.std.specs.Cmp.Derive.Mapped.{pointwise-map}
-use Rattle.module_job.specs.Equality.{same_job}
-use Rattle.module_job.specs.Jobs.{JobView}
-use Rattle.module_job.proofs.EqualJobs.{jobs_decide}
-use Rattle.local_run.specs.Shown.{digest_of, number_of, job_of}
-use Rattle.local_run.specs.declared.finding.Finding.{Finding}
-use Rattle.core_book.specs.Book.{BookView, IsBook, IsReplayed, accepted_in, after_filing, filing_of, found_in}
-use Rattle.core_book.specs.Book.{new_book, reply_to}
-use Rattle.core_book.specs.Filling.{IsHeldOrFiled, IsFilledTo, IsFull, IsOpenFor, IsPartlyFilled, accepted_entry}
-use Rattle.core_book.specs.Filling.{missing_numbers_below}
-use Rattle.core_book.specs.declared.log_entry.LogEntry.TheVariants.{Filed}
-use Rattle.core_book.specs.declared.reply.Reply.TheVariants.{Accepted}
+use Rattle.core_book.specs.Filling.{IsFilledTo, IsFull, accepted_entry, missing_numbers_below}
 use Rattle.core_book.proofs.BookLaws.{held-elsewhere, holds-what_is_accepted, keeps-what_is_held, own-digest, own-job}
 use Rattle.core_book.proofs.BookLaws.{own-number}
 use Rattle.core_book.proofs.Filings.{IsBook-filed, accepted-own, reply_to-new}

@@ -1,12 +1,9 @@
 -- Books that hold a finding for each job
-use Rattle.lemmas.proofs.Common.{[], ◌+◌, ◌<◌, ◌∙◌, ◌∷◌, ◌≡◌, List, None, Option, Some, arith, cond, count_by, get_or}
-use Rattle.lemmas.proofs.Common.{is_some, length, refl, slice_get, suc, sym, true, zero, ℕ, count_by-le-length}
-use Rattle.lemmas.proofs.Common.{same_Some, sum_by-cons, common_steps}
-use Rattle.module_job.specs.Jobs.{JobView}
-use Rattle.local_run.specs.declared.finding.Finding.{Finding}
-use Rattle.core_book.specs.Book.{BookView, IsBook, found_in}
+use Rattle.core_book.proofs.Imports.{BookView, Finding, IsBook, IsHeld, JobView, List, None, Option, Some, [], arith}
+use Rattle.core_book.proofs.Imports.{common_steps, cond, count_by, found_in, get_or, is_some, length, refl, same_Some}
+use Rattle.core_book.proofs.Imports.{slice_get, suc, sym, true, zero, ℕ, ◌+◌, ◌<◌, ◌∙◌, ◌∷◌, ◌≡◌}
+use Rattle.lemmas.proofs.Common.{count_by-le-length, sum_by-cons}
 use Rattle.core_book.specs.Laws.{FullBookHoldsAll}
-use Rattle.core_book.specs.Verdicts.{IsHeld}
 
 pub count : (o : Option Finding) (os : List (Option Finding)) →
     count_by is_some (o ∷ os) ≡ cond (is_some o) 1 0 + count_by is_some os

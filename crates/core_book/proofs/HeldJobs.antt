@@ -1,16 +1,11 @@
 -- Jobs for which a finding is held, and their least faults
-use Rattle.lemmas.proofs.Common.{[], ◌++◌, ◌+◌, ◌<◌, ◌∙◌, ◌∷◌, ◌≡◌, ◌≢◌, Bool, List, Some, ap, arith, false, get_or}
-use Rattle.lemmas.proofs.Common.{inl, inr, length, length-append, map, slice_get, subst, sym, true, ℕ}
-use Rattle.lemmas.proofs.Common.{eqb_tells, same_Some, slice_get-map, slice_get_read, common_steps}
+use Rattle.core_book.proofs.Imports.{AreLeastFaultsOfJob, BookView, Bool, Finding, IsHeld, JobView, LeastFaults, List}
+use Rattle.core_book.proofs.Imports.{Some, [], ap, arith, common_steps, eqb_tells, false, found_in, get_or, inl, inr}
+use Rattle.core_book.proofs.Imports.{job_of, jobs_decide, length, length-append, map, same_Some, same_job, slice_get}
+use Rattle.core_book.proofs.Imports.{slice_get-map, slice_get_read, subst, sym, true, ℕ, ◌++◌, ◌+◌, ◌<◌, ◌∙◌, ◌∷◌, ◌≡◌}
+use Rattle.core_book.proofs.Imports.{◌≢◌}
 use Rattle.module_box.proofs.Rising.{pushed}
-use Rattle.module_job.specs.Equality.{same_job}
-use Rattle.module_job.specs.Jobs.{JobView}
-use Rattle.module_job.proofs.EqualJobs.{jobs_decide}
-use Rattle.local_run.specs.Shown.{job_of}
-use Rattle.local_run.specs.declared.finding.Finding.{Finding}
-use Rattle.core_book.specs.Book.{BookView, found_in}
-use Rattle.core_book.specs.Verdicts.{AreFindingsHeldBelow, IsFirstMissing, IsHeld, IsToldOf}
-use Rattle.core_book.specs.declared.verdict.LeastFaults.{LeastFaults}
+use Rattle.core_book.specs.Verdicts.{AreFindingsHeldBelow, IsFirstMissing}
 
 -- ---- the finding of a number, beside a job
 
@@ -34,7 +29,7 @@ pub record AreFaultsBelow (b : BookView) (jobs : List JobView) (count : ℕ) (fs
   pub held : AreFindingsHeldBelow b jobs count
   pub count_is : length fs ≡ count
   pub each : (n : ℕ) (j : JobView) (f : LeastFaults) → slice_get jobs n ≡ Some j → slice_get fs n ≡ Some f →
-      IsToldOf j f
+      AreLeastFaultsOfJob j f
 
 -- a job more
 held_more : (b : BookView) (jobs : List JobView) (n : ℕ) (j : JobView) → slice_get jobs n ≡ Some j →
@@ -48,25 +43,27 @@ held_more b jobs n j at below now k i less there =
     ]
 
 each_more : (jobs : List JobView) (fs : List LeastFaults) (n : ℕ) (j : JobView) (g : LeastFaults) → length fs ≡ n →
-    slice_get jobs n ≡ Some j → IsToldOf j g
-    → ((k : ℕ) (i : JobView) (f : LeastFaults) → slice_get jobs k ≡ Some i → slice_get fs k ≡ Some f → IsToldOf i f)
+    slice_get jobs n ≡ Some j → AreLeastFaultsOfJob j g
+    → ((k : ℕ) (i : JobView) (f : LeastFaults) → slice_get jobs k ≡ Some i → slice_get fs k ≡ Some f →
+    AreLeastFaultsOfJob i f)
     → (k : ℕ) (i : JobView) (f : LeastFaults) → slice_get jobs k ≡ Some i → slice_get (fs ++ g ∷ []) k ≡ Some f →
-    IsToldOf i f
+    AreLeastFaultsOfJob i f
 each_more jobs fs n j g count at least each k i f there got =
     elim (pushed fs g k f got) [
       | inl old ↦ each k i f there old
       | inr new ↦
           let same : j ≡ i = same_Some _ _ (sym at ∙ ap (slice_get jobs) (sym (new.0 ∙ count)) ∙ there) in
-          subst (IsToldOf i) new.1 (subst (λ (x : JobView). IsToldOf x g) same least)
+          subst (AreLeastFaultsOfJob i) new.1 (subst (λ (x : JobView). AreLeastFaultsOfJob x g) same least)
     ]
 
 pub one-more : (b : BookView) (jobs : List JobView) (n : ℕ) (fs : List LeastFaults) (j : JobView) (f : Finding)
     (r : LeastFaults) → AreFaultsBelow b jobs n fs → slice_get jobs n ≡ Some j → found_in b n ≡ Some f → job_of f ≡ j →
-    IsToldOf (job_of f) r → AreFaultsBelow b jobs (n + 1) (fs ++ r ∷ [])
+    AreLeastFaultsOfJob (job_of f) r → AreFaultsBelow b jobs (n + 1) (fs ++ r ∷ [])
 one-more b jobs n fs j f r below at held whole told = record {
   held = held_more b jobs n j at below.held (record { finding = f; held = held; whole = whole });
   count_is = length-append fs (r ∷ []) ∙ ap (λ (m : ℕ). m + 1) below.count_is;
-  each = each_more jobs fs n j r below.count_is at (subst (λ (x : JobView). IsToldOf x r) whole told) below.each;
+  each = each_more jobs fs n j r below.count_is at
+      (subst (λ (x : JobView). AreLeastFaultsOfJob x r) whole told) below.each;
 }
 
 pub first-missing : (b : BookView) (jobs : List JobView) (n : ℕ) (fs : List LeastFaults) (j : JobView) →

@@ -10,3 +10,4 @@ pub mod ReportLines
 pub mod FullBooks
 pub mod Fillings
 pub mod FillingRuns
+pub mod Imports

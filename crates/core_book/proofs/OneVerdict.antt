@@ -1,20 +1,14 @@
 -- The modules of a certificate have one verdict
-use Rattle.lemmas.proofs.Common.{[], ◌++◌, ◌<◌, ◌∙◌, ◌∷◌, ◌≡◌, ◌≤◌, List, None, Option, Some, arith, length, map}
-use Rattle.lemmas.proofs.Common.{refl, slice_get, suc, sym, zero, ℕ, same_lists, slice_get-get_or}
-use Rattle.lemmas.proofs.Common.{slice_get_within, common_steps}
-use Rattle.certificate_lines.specs.Entries.{Setting, ModuleLines}
-use Rattle.module_job.specs.Jobs.{JobView}
-use Rattle.certificate.specs.Times.{delay_and_meet_lines}
-use Rattle.local_run.proofs.Least.{least_unique, least_keep_unique}
-use Rattle.border_match.specs.BorderFaults.{AreBorderFaultsOf}
-use Rattle.border_match.specs.declared.fault.BorderFault.{BorderFault}
-use Rattle.border_match.proofs.Unique.{least_unique as least_border_unique}
+use Rattle.core_book.proofs.Imports.{AreBorderFaultsOf, AreLeastFaults, AreLeastFaultsOfJob, BorderFault, JobView}
+use Rattle.core_book.proofs.Imports.{LeastFaults, List, ModuleLines, None, Option, ReportLine, Setting, Some, [], arith}
+use Rattle.core_book.proofs.Imports.{common_steps, delay_and_meet_lines, least_keep_unique, least_unique, length, map}
+use Rattle.core_book.proofs.Imports.{refl, report_lines_from, slice_get, slice_get-get_or, slice_get_within, suc, sym}
+use Rattle.core_book.proofs.Imports.{unkept_lines, zero, ℕ, ◌++◌, ◌<◌, ◌∙◌, ◌∷◌, ◌≡◌, ◌≤◌}
+use Rattle.lemmas.proofs.Common.{same_lists}
 use Rattle.core_book.specs.CoreLaws.{VerdictIsUnique}
-use Rattle.core_book.specs.Verdicts.{AreLeastFaults, AreReportLines, IsToldOf, IsVerdict, report_lines_from}
-use Rattle.core_book.specs.Verdicts.{timing_report, unkept_lines}
-use Rattle.core_book.specs.declared.verdict.LeastFaults.{LeastFaults}
-use Rattle.core_book.specs.declared.verdict.ReportLine.{ReportLine}
+use Rattle.core_book.specs.Verdicts.{AreReportLines, IsVerdict, timing_report_line}
 use Rattle.core_book.specs.declared.verdict.Verdict.TheVariants.{Yes, No}
+use Rattle.border_match.proofs.Unique.{least_unique as least_border_unique}
 
 -- lists of one length with the same elements are the same
 pub same-elements : {X : Type 0} (xs ys : List X) → length xs ≡ length ys →
@@ -27,7 +21,7 @@ none-past [] k e = omega arith
 none-past (x ∷ xs) zero e = absurd cc
 none-past (x ∷ xs) (suc k) e = let rest = none-past xs k e in omega (arith, rest)
 
-told_unique : (j : JobView) (x y : LeastFaults) → IsToldOf j x → IsToldOf j y → x ≡ y
+told_unique : (j : JobView) (x y : LeastFaults) → AreLeastFaultsOfJob j x → AreLeastFaultsOfJob j y → x ≡ y
 told_unique j x y a b = grind (arith, common_steps, least_unique, least_keep_unique)
 
 faults-same : (jobs : List JobView) (fs gs : List LeastFaults) → AreLeastFaults jobs fs → AreLeastFaults jobs gs →
@@ -53,7 +47,7 @@ lines-same : (g : Setting) (ms : List ModuleLines) (jobs : List JobView) (xs ys 
 lines-same g ms jobs xs ys a b =
     a.lines_are ∙ (λ i. report_lines_from 0 (faults-same jobs a.faults b.faults a.are_least b.are_least i)
     (borders-same g ms a.borders b.borders a.are_border_faults b.are_border_faults i) ++ unkept_lines g ms
-    ++ map timing_report (delay_and_meet_lines g.circuit ms)) ∙ sym b.lines_are
+    ++ map timing_report_line (delay_and_meet_lines g.circuit ms)) ∙ sym b.lines_are
 
 pub verdict-is-one : VerdictIsUnique
 unfolding IsVerdict

@@ -1,20 +1,15 @@
 -- The history of a book replays to it
-use Rattle.lemmas.proofs.Common.{[], ◌++◌, ◌+◌, ◌<◌, ◌∙◌, ◌∷◌, ◌≡◌, Bool, List, None, Option, Some, ap, arith, count_by}
-use Rattle.lemmas.proofs.Common.{false, get_or, get_or-set_other, get_or-set_same, if◌then◌else◌, is_some}
-use Rattle.lemmas.proofs.Common.{length, length-append, refl, replicate, set, suc, sym, true, zero, ℕ}
-use Rattle.lemmas.proofs.Common.{common_steps, eqb_tells, length-replicate, list_any-append}
-use Rattle.module_job.specs.Jobs.{JobView}
-use Rattle.local_run.specs.Shown.{number_of}
-use Rattle.local_run.specs.declared.finding.Finding.{Finding}
+use Rattle.core_book.proofs.Imports.{Accepted, BookView, Bool, Closed, Double, Filed, Filing, Finding, IsBook}
+use Rattle.core_book.proofs.Imports.{IsReplayed, JobView, List, LogEntry, None, Option, Reply, Some, Stranger, []}
+use Rattle.core_book.proofs.Imports.{accepted_in, after_closing, after_filing, ap, arith, common_steps, count_by}
+use Rattle.core_book.proofs.Imports.{eqb_tells, false, filing_of, findings_after, found_in, get_or, get_or-set_other}
+use Rattle.core_book.proofs.Imports.{get_or-set_same, if◌then◌else◌, is_some, length, length-append, length-replicate}
+use Rattle.core_book.proofs.Imports.{new_book, number_of, refl, replicate, reply_to, set, suc, sym, true, zero, ℕ, ◌++◌}
+use Rattle.core_book.proofs.Imports.{◌+◌, ◌<◌, ◌∙◌, ◌∷◌, ◌≡◌}
+use Rattle.lemmas.proofs.Common.{list_any-append}
 use Rattle.core_book.specs.Replay.{Replayed, AreRepliesByRule, IsReplyByRule, accepted_after, after_entry}
 use Rattle.core_book.specs.Replay.{empty_replayed, has_closing, has_number, replay, replay_from}
-use Rattle.core_book.specs.Book.{BookView, IsBook, IsReplayed, accepted_in, after_closing, after_filing, filing_of}
-use Rattle.core_book.specs.Book.{findings_after, new_book, reply_to, found_in}
-use Rattle.core_book.specs.declared.log_entry.LogEntry.{LogEntry}
-use Rattle.core_book.specs.declared.log_entry.LogEntry.TheVariants.{Filed, Closing}
-use Rattle.core_book.specs.declared.log_entry.Filing.{Filing}
-use Rattle.core_book.specs.declared.reply.Reply.{Reply}
-use Rattle.core_book.specs.declared.reply.Reply.TheVariants.{Closed, Stranger, Double, Accepted}
+use Rattle.core_book.specs.declared.log_entry.LogEntry.TheVariants.{Closing}
 use Rattle.core_book.proofs.Filings.{accepted-inside, accepted_in-accepted, accepted_in-other, findings_after-accepted}
 use Rattle.core_book.proofs.Filings.{findings_after-other}
 

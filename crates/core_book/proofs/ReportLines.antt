@@ -1,24 +1,22 @@
 -- The lines of a report
-use Rattle.lemmas.proofs.Common.{[], ◌&&◌, ◌++◌, ◌+◌, ◌<◌, ◌∙◌, ◌∷◌, ◌≡◌, ◌≤◌, Bool, List, None, Option, Some, add-one}
-use Rattle.lemmas.proofs.Common.{ap, append-nil, append_assoc, ap₂, arith, cond, drop, drop-cons, false, get_or, inl}
-use Rattle.lemmas.proofs.Common.{inr, length, map, not, option_map, option_to_list, refl, slice_get, subst, suc, sym}
-use Rattle.lemmas.proofs.Common.{true, true≢false, zero, ℕ, drop_all, same_Some, slice_get-get_or, slice_get_cases}
-use Rattle.lemmas.proofs.Common.{slice_get_within, common_steps}
+use Rattle.core_book.proofs.Imports.{AreBorderFaultsOf, AreLeastFaults, AreLeastFaultsOfJob, Bool, BorderFault}
+use Rattle.core_book.proofs.Imports.{IsLeastFault, IsLeastKeepFault, JobView, LeastFaults, List, ModuleLines, None}
+use Rattle.core_book.proofs.Imports.{Option, ReportLine, Setting, Some, [], ap, append-nil, append_assoc, arith}
+use Rattle.core_book.proofs.Imports.{common_steps, cond, delay_and_meet_lines, false, get_or, inl, inr, length, map}
+use Rattle.core_book.proofs.Imports.{not, option_map, refl, report_lines_from, same_Some, slice_get, slice_get-get_or}
+use Rattle.core_book.proofs.Imports.{slice_get_within, subst, suc, sym, true, unkept_lines, zero, ℕ, ◌++◌, ◌+◌, ◌<◌}
+use Rattle.core_book.proofs.Imports.{◌∙◌, ◌∷◌, ◌≡◌, ◌≤◌}
+use Rattle.lemmas.proofs.Common.{◌&&◌, add-one, ap₂, drop, drop-cons, option_to_list, true≢false, drop_all}
+use Rattle.lemmas.proofs.Common.{slice_get_cases}
 use Rattle.circuit.specs.Gates.{is_inverse}
 use Rattle.circuit.specs.Meaning.{Gate}
-use Rattle.certificate_lines.specs.Entries.{Setting, ModuleLines}
-use Rattle.module_job.specs.Jobs.{JobView}
 use Rattle.certificate.specs.Keeps.{is_kept, unkept_from}
-use Rattle.certificate.specs.Times.{are_all_obeyed, delay_and_meet_lines}
-use Rattle.local_run.specs.Faults.{IsFault, IsKeepFault, IsLeastFault, IsLeastKeepFault}
+use Rattle.certificate.specs.Times.{are_all_obeyed}
+use Rattle.local_run.specs.Faults.{IsFault, IsKeepFault}
 use Rattle.local_run.specs.declared.fault.Fault.{Fault}
 use Rattle.local_run.specs.declared.fault.KeepFault.{KeepFault}
-use Rattle.border_match.specs.BorderFaults.{AreBorderFaultsOf, IsBorderFault, IsLeastBorderFault}
-use Rattle.border_match.specs.declared.fault.BorderFault.{BorderFault}
-use Rattle.core_book.specs.Verdicts.{Accepts, AreLeastFaults, IsToldOf, border_line, keep_line, report_lines_from}
-use Rattle.core_book.specs.Verdicts.{local_line, renumber_keep, unkept_lines}
-use Rattle.core_book.specs.declared.verdict.LeastFaults.{LeastFaults}
-use Rattle.core_book.specs.declared.verdict.ReportLine.{ReportLine}
+use Rattle.border_match.specs.BorderFaults.{IsBorderFault, IsLeastBorderFault}
+use Rattle.core_book.specs.Verdicts.{Accepts, border_line, keep_line, local_line, renumber_keep}
 use Rattle.core_book.specs.declared.verdict.ReportLine.TheVariants.{Local, Keep, Border, Unkept}
 
 -- ---- no lines
@@ -163,7 +161,7 @@ accepted g ms jobs fs bs least borders len e rules = record {
     nothing = record { fault = None; keep = None }
 
     told : (k : ℕ) (j : JobView) → slice_get jobs k ≡ Some j →
-        IsToldOf j (get_or fs k nothing) × IsClear (get_or fs k nothing)
+        AreLeastFaultsOfJob j (get_or fs k nothing) × IsClear (get_or fs k nothing)
     told k j at =
         let below : k < length jobs = slice_get_within jobs k j at in
         let got : slice_get fs k ≡ Some (get_or fs k nothing) =
@@ -198,7 +196,7 @@ accepted-no_lines g ms jobs fs bs least borders is = ap₂ (λ (x y : List Repor
     let below : k < length fs = slice_get_within fs k f got in
     elim (slice_get_cases jobs k).1 [
       | inl j ↦
-          let t : IsToldOf j.0 f = least.each k j.0 f j.2 got in (
+          let t : AreLeastFaultsOfJob j.0 f = least.each k j.0 f j.2 got in (
             no_least j.0 f.fault t.fault (λ x. is.no_fault k j.0 x j.2),
             t.same ∙ ap (λ o. option_map (renumber_keep j.0) o)
                 (no_least_keep j.0 t.keep t.least_keep (λ x. is.no_keep_fault k j.0 x j.2)),

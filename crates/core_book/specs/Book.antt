@@ -7,7 +7,7 @@ use Rattle.module_job.specs.Equality.{same_job}
 use Rattle.module_job.specs.Jobs.{JobView}
 use Rattle.local_run.specs.Shown.{digest_of, number_of, job_of}
 use Rattle.local_run.specs.declared.finding.Finding.{Finding}
-use Rattle.core_book.specs.Replay.{rule, replay, empty_replayed, has_number, AreRepliesByRule}
+use Rattle.core_book.specs.Replay.{reply_by_rule, replay, empty_replayed, has_number, AreRepliesByRule}
 use Rattle.core_book.specs.declared.log_entry.LogEntry.{LogEntry}
 use Rattle.core_book.specs.declared.log_entry.LogEntry.TheVariants.{Filed, Closing}
 use Rattle.core_book.specs.declared.log_entry.Filing.{Filing}
@@ -44,7 +44,7 @@ is_job_of jobs number job = option_eq same_job (slice_get jobs number) (Some job
 -- the reply to a finding: the first that applies
 unfoldable pub reply_to : BookView → Finding → Reply
 reply_to b f =
-    rule b.digest (length b.jobs) b.closed (is_some (found_in b (number_of f))) (digest_of f) (number_of f)
+    reply_by_rule b.digest (length b.jobs) b.closed (is_some (found_in b (number_of f))) (digest_of f) (number_of f)
     (is_job_of b.jobs (number_of f) (job_of f))
 
 -- the entry of a filing

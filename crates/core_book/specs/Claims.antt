@@ -5,8 +5,8 @@ use Rattle.core_book.specs.declared.claim.Claim.{Claim}
 use Rattle.core_book.specs.declared.claim.Claim.TheVariants.{Number, Empty}
 
 -- whether a seat's draws end with a draw of n or more
-abbrev pub has_seat_drawn_past_last : ℕ → List ℕ → Bool
-has_seat_drawn_past_last n draws = nat_lt n (past_last draws)
+abbrev pub is_seat_finished : ℕ → List ℕ → Bool
+is_seat_finished n draws = nat_lt n (past_last draws)
 
 -- a draw below n is one of the numbers
 abbrev pub claim_of_draw : ℕ → ℕ → Claim
@@ -14,12 +14,12 @@ claim_of_draw n draw = if nat_lt draw n then Number draw else Empty
 
 -- what a claim answers, if there are n numbers, the seat drew these, and the next number is `next`
 abbrev pub claim_answer : ℕ → List ℕ → ℕ → Claim
-claim_answer n draws next = if has_seat_drawn_past_last n draws then Empty else claim_of_draw n next
+claim_answer n draws next = if is_seat_finished n draws then Empty else claim_of_draw n next
 
 -- the seat's draws after it
 abbrev pub draws_after_claim : ℕ → List ℕ → ℕ → List ℕ
-draws_after_claim n draws next = if has_seat_drawn_past_last n draws then draws else draws ++ next ∷ []
+draws_after_claim n draws next = if is_seat_finished n draws then draws else draws ++ next ∷ []
 
 -- the next number after it
 abbrev pub next_after_claim : ℕ → List ℕ → ℕ → ℕ
-next_after_claim n draws next = if has_seat_drawn_past_last n draws then next else next + 1
+next_after_claim n draws next = if is_seat_finished n draws then next else next + 1

@@ -1,6 +1,6 @@
 -- The conclusion on a certificate, from a book
 use Rattle.std.specs.Prelude.{List}
-use Rattle.section_text.specs.Ports.{Named}
+use Rattle.section_text.specs.Ports.{PortNameLists}
 use Rattle.circuit.specs.Bridge.{circuit_of, input_names, output_names}
 use Rattle.circuit.specs.declared.circuit_line.CircuitLine.{CircuitLine}
 use Rattle.certificate_lines.specs.Entries.{Setting, ModuleLines}
@@ -22,5 +22,5 @@ abbrev pub AreJobsOfCertificate : CertView → List JobView → Type 0
 AreJobsOfCertificate s jobs = AreJobsOf (circuit_of s.circuit) s.layout (modules s) jobs
 
 -- the names that the ports of a layout for the circuit may have
-abbrev pub port_names_of : List CircuitLine → Named
+abbrev pub port_names_of : List CircuitLine → PortNameLists
 port_names_of lines = record { ins = input_names lines; outs = output_names lines }

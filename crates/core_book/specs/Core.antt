@@ -3,7 +3,7 @@ use Rattle.std.specs.Prelude.{ℕ, ◌+◌, ◌<◌, ◌≤◌, List, [], ◌∷
 use Rattle.std.specs.Prelude.{if◌then◌else◌, ⊤}
 use Rattle.module_job.specs.Jobs.{JobView}
 use Rattle.core_book.specs.Draws.{IsDrawn, total}
-use Rattle.core_book.specs.Claims.{claim_answer, draws_after_claim, next_after_claim, has_seat_drawn_past_last}
+use Rattle.core_book.specs.Claims.{claim_answer, draws_after_claim, next_after_claim, is_seat_finished}
 use Rattle.core_book.specs.Book.{BookView, IsBook, IsReplayed, after_filing, new_book, reply_to}
 use Rattle.core_book.specs.declared.claim.Claim.{Claim}
 use Rattle.core_book.specs.declared.claim.Claim.TheVariants as Claimed
@@ -76,13 +76,13 @@ HasSeatBelow seats (Events.Lose number) = ⊤
 -- ---- what is true of each core
 
 -- 1 for a list that has ended, and else 0
-abbrev pub ended : ℕ → List ℕ → ℕ
-ended n draws = if has_seat_drawn_past_last n draws then 1 else 0
+abbrev pub one_if_ended : ℕ → List ℕ → ℕ
+one_if_ended n draws = if is_seat_finished n draws then 1 else 0
 
 -- Each number below the next was drawn, once. No more numbers were drawn than there are, but for one of each seat that
 -- has ended. The book is one, and its history replays to it
 pub record IsCore (c : CoreView) : Type 0 where
   pub drawn : IsDrawn c.next c.draws
-  pub few : c.next ≤ job_count_of c + total (ended (job_count_of c)) c.draws
+  pub few : c.next ≤ job_count_of c + total (one_if_ended (job_count_of c)) c.draws
   pub book_is : IsBook c.book
   pub replayed : IsReplayed c.book

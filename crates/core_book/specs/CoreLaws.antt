@@ -6,7 +6,7 @@ use Rattle.module_job.specs.Jobs.{JobView}
 use Rattle.local_run.specs.Faults.{IsLeastFault, IsLeastKeepFault}
 use Rattle.local_run.specs.Shown.{number_of, job_of, fault_of, keep_of}
 use Rattle.local_run.specs.declared.finding.Finding.{Finding}
-use Rattle.core_book.specs.Draws.{IsDrawn, times, total}
+use Rattle.core_book.specs.Draws.{IsDrawn, occurrences, total}
 use Rattle.core_book.specs.Book.{IsOwn, IsReplayed, found_in, reply_to}
 use Rattle.core_book.specs.Core.{CoreView, HasSeatBelow, after_event, after_events, answer_to, new_core, job_count_of}
 use Rattle.core_book.specs.Verdicts.{IsVerdict}
@@ -32,7 +32,7 @@ DrawsEachOnce = (digest : List ℕ) (jobs : List JobView) (seats : ℕ) (events 
 
 -- each of the numbers is in one seat's list, once
 abbrev pub AreAllDrawn : CoreView → Type 0
-AreAllDrawn c = (number : ℕ) → number < job_count_of c → total (times number) c.draws ≡ 1
+AreAllDrawn c = (number : ℕ) → number < job_count_of c → total (occurrences number) c.draws ≡ 1
 
 -- a claim answers `Empty` only if all numbers were drawn
 abbrev pub EmptyOnlyIfAllAreDrawn : Type 0

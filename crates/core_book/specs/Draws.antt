@@ -7,9 +7,9 @@ total f [] = 0
 total f (x ∷ xs) = f x + total f xs
 
 -- how often x is in a list
-abbrev pub times : ℕ → List ℕ → ℕ
-times x [] = 0
-times x (y ∷ ys) = (if y == x then 1 else 0) + times x ys
+abbrev pub occurrences : ℕ → List ℕ → ℕ
+occurrences x [] = 0
+occurrences x (y ∷ ys) = (if y == x then 1 else 0) + occurrences x ys
 
 -- 1 for a number below n, and else 0
 abbrev pub one_if_below : ℕ → ℕ → ℕ
@@ -25,4 +25,4 @@ past_last (y ∷ z ∷ zs) = past_last (z ∷ zs)
 -- any.
 pub record IsDrawn (counter : ℕ) (lists : List (List ℕ)) : Type 0 where
   pub whole : total length lists ≡ counter
-  pub once : (x : ℕ) → total (times x) lists ≡ one_if_below x counter
+  pub once : (x : ℕ) → total (occurrences x) lists ≡ one_if_below x counter

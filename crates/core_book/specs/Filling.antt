@@ -18,8 +18,8 @@ pub record IsOpenFor (digest : List ℕ) (jobs : List JobView) (b : BookView) : 
   pub digest_is : b.digest ≡ digest
   pub jobs_are : b.jobs ≡ jobs
 
--- such a book, to which its history replays, and which holds a finding of each job: as many were accepted as there are
--- jobs
+-- A book that is open for this digest and these jobs, to which its history replays, and which holds a finding of each
+-- job. As many findings were accepted as there are jobs.
 pub record IsFull (digest : List ℕ) (jobs : List JobView) (b : BookView) : Type 0 where
   pub is_open : IsOpenFor digest jobs b
   pub replays : IsReplayed b
@@ -46,7 +46,7 @@ pub record IsFilledTo (b c : BookView) (below : ℕ) : Type 0 where
   pub held : (number : ℕ) → number < below → IsSome (found_in c number)
   pub rest : (number : ℕ) → below ≤ number → found_in c number ≡ found_in b number
 
--- so it is below some number, which is at most that of the jobs
+-- the book is filled below some number, which is at most that of the jobs
 pub record IsPartlyFilled (b c : BookView) : Type 0 where
   pub below : ℕ
   pub at_most : below ≤ length b.jobs
@@ -75,7 +75,7 @@ abbrev pub IsOneMore : ℕ → ℕ → Type 0
 IsOneMore before after = before < 2 ^ 64 - 1 → after ≡ before + 1
 
 -- the book holds a finding for this number, and of a job of the same shape
-pub record HoldsAlike (b : BookView) (number : ℕ) (job : JobView) : Type 0 where
+pub record HoldsOfSameShape (b : BookView) (number : ℕ) (job : JobView) : Type 0 where
   pub finding : Finding
   pub held : found_in b number ≡ Some finding
   pub alike : shape_of (job_of finding) ≡ shape_of job

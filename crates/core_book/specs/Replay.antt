@@ -11,8 +11,8 @@ use Rattle.core_book.specs.declared.reply.Reply.TheVariants.{Closed, Stranger, D
 -- The reply of a book with this digest and as many jobs, which is closed or not, to a finding of another digest and
 -- number: the first that applies. `same`: the finding's job is the book's of that number. `taken`: one is held for that
 -- number.
-abbrev pub rule : List ℕ → ℕ → Bool → Bool → List ℕ → ℕ → Bool → Reply
-rule own count closed taken digest number same =
+abbrev pub reply_by_rule : List ℕ → ℕ → Bool → Bool → List ℕ → ℕ → Bool → Reply
+reply_by_rule own count closed taken digest number same =
     if closed then Closed
     else if not (pointwise nat_eq digest own) then Stranger Digest
     else if not (nat_lt number count) then Stranger Number
@@ -61,10 +61,10 @@ has_closing (Closing ∷ es) = true
 -- the stored reply is the one that the rule gives there
 abbrev pub IsReplyByRule : List ℕ → ℕ → Replayed → LogEntry → Type 0
 IsReplyByRule own count p (Filed f) =
-    f.reply ≡ rule own count p.closed (has_number p.accepted f.number) f.digest f.number f.same
+    f.reply ≡ reply_by_rule own count p.closed (has_number p.accepted f.number) f.digest f.number f.same
 IsReplyByRule own count p Closing = ⊤
 
--- so is each of these, entry after entry
+-- each stored reply is the one that the rule gives after the entries before it
 abbrev pub AreRepliesByRule : List ℕ → ℕ → Replayed → List LogEntry → Type 0
 AreRepliesByRule own count p [] = ⊤
 AreRepliesByRule own count p (e ∷ es) = IsReplyByRule own count p e × AreRepliesByRule own count (after_entry p e) es

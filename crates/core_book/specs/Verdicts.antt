@@ -44,7 +44,7 @@ renumber_keep j f = record f { gate = circuit_gate j.locals f.gate }
 
 -- what is told of a job: its least fault, if there is one, and its least keep fault, by the number of the gate in the
 -- circuit
-pub record IsToldOf (j : JobView) (r : LeastFaults) : Type 0 where
+pub record AreLeastFaultsOfJob (j : JobView) (r : LeastFaults) : Type 0 where
   pub fault : IsLeastFault j r.fault
   pub keep : Option KeepFault
   pub least_keep : IsLeastKeepFault j keep
@@ -55,7 +55,7 @@ pub record AreLeastFaults (jobs : List JobView) (fs : List LeastFaults) : Type 0
   pub count : length fs ≡ length jobs
   pub each : (number : ℕ) (j : JobView) (f : LeastFaults) → slice_get jobs number ≡ Some j →
       slice_get fs number ≡ Some f →
-      IsToldOf j f
+      AreLeastFaultsOfJob j f
 
 -- the line for the least fault of a module's job, if it has one
 abbrev pub local_line : ℕ → Option Fault → Option ReportLine
@@ -82,9 +82,9 @@ abbrev pub unkept_lines : Setting → List ModuleLines → List ReportLine
 unkept_lines g ms = map (λ n. Unkept n) (unkept g ms)
 
 -- what stops say of a gate, as a line
-abbrev pub timing_report : TimeLine → ReportLine
-timing_report (times.Delay gate wanted gap) = Delay gate wanted gap
-timing_report (times.Meet gate at) = Meet gate at
+abbrev pub timing_report_line : TimeLine → ReportLine
+timing_report_line (times.Delay gate wanted gap) = Delay gate wanted gap
+timing_report_line (times.Meet gate at) = Meet gate at
 
 -- all lines on modules of these jobs
 pub record AreReportLines (g : Setting) (ms : List ModuleLines) (jobs : List JobView)
@@ -95,7 +95,7 @@ pub record AreReportLines (g : Setting) (ms : List ModuleLines) (jobs : List Job
   pub are_border_faults : AreBorderFaultsOf g ms borders
   -- then the inverse gates that no module keeps, and then a line for each delay and each meeting
   pub lines_are : lines ≡ report_lines_from 0 faults borders ++ unkept_lines g ms
-      ++ map timing_report (delay_and_meet_lines g.circuit ms)
+      ++ map timing_report_line (delay_and_meet_lines g.circuit ms)
 
 -- `Yes` if the modules are accepted, and else `No` with all lines
 unfoldable pub IsVerdict : Setting → List ModuleLines → List JobView → Verdict → Type 0

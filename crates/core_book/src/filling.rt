@@ -2,7 +2,7 @@
 ghost use Rattle.std.specs.Prelude.{◌≡◌, ◌≢◌, ◌<◌, ◌≤◌, ◌+◌, ◌⊎◌, length, map, slice_get, true, false, Some, IfNone, IfSome, IfOk, IsErr, OnErr, OnOk};
 ghost use Rattle.std.specs.Arc.{arc_value};
 ghost use Rattle.core_book.specs.Book.{IsReplayed, new_book};
-ghost use Rattle.core_book.specs.Filling.{HoldsAlike, IsHeldOrFiled, IsFilledTo, IsFull, IsOneMore, IsOpenFor, IsPartlyFilled, RunsAtMostOncePerShape, shapes_of};
+ghost use Rattle.core_book.specs.Filling.{HoldsOfSameShape, IsHeldOrFiled, IsFilledTo, IsFull, IsOneMore, IsOpenFor, IsPartlyFilled, RunsAtMostOncePerShape, shapes_of};
 ghost use Rattle.local_run.specs.Shown.{digest_of, job_of, number_of};
 
 use crate::book::BookState;
@@ -100,7 +100,7 @@ fn fill_number(
 ) -> Result<(), AllocError>
     requires still_open { state.old.closed ≡ false }
     requires job { slice_get state.old.jobs number ≡ Some (arc_value job.now) }
-    requires alike { first ≢ number → HoldsAlike state.old first (arc_value job.now) }
+    requires alike { first ≢ number → HoldsOfSameShape state.old first (arc_value job.now) }
     ensures held { OnOk result (IsHeldOrFiled state.old state.new number) }
     ensures unchanged { OnErr result (state.new ≡ state.old) }
     ensures no_run { first ≢ number → runs.new ≡ runs.old }
@@ -116,8 +116,8 @@ fn fill_number(
     }
 }
 
-// The finding of a job: that of the first number of its group, where one is held and the shapes are the same, else by a
-// run.
+// The finding of a job: that of the first number of its group, moved, if one is held and the shapes are equal, else
+// that of a run.
 fn moved_or_run_finding(
     alloc: Global,
     state: &BookState,
@@ -126,7 +126,7 @@ fn moved_or_run_finding(
     first: usize,
     runs: &mut usize,
 ) -> Result<Finding, AllocError>
-    requires alike { first ≢ number → HoldsAlike state.now first (arc_value job.now) }
+    requires alike { first ≢ number → HoldsOfSameShape state.now first (arc_value job.now) }
     ensures digest { IfOk result (λ f. digest_of f ≡ state.now.digest) }
     ensures number { IfOk result (λ f. number_of f ≡ number) }
     ensures job { IfOk result (λ f. job_of f ≡ arc_value job.now) }

@@ -1,7 +1,7 @@
 //! The core: seats that draw numbers, and a book.
 ghost use Rattle.std.specs.Prelude.{◌≡◌, ◌<◌, ◌≤◌, ◌^◌, IfErr, IfOk, OnErr, OnOk, [], length, map, nat_lt, replicate, vec_len};
 ghost use Rattle.std.specs.Arc.{arc_value};
-ghost use Rattle.core_book.specs.Claims.{claim_answer, draws_after_claim, next_after_claim, claim_of_draw, has_seat_drawn_past_last};
+ghost use Rattle.core_book.specs.Claims.{claim_answer, draws_after_claim, next_after_claim, claim_of_draw, is_seat_finished};
 ghost use Rattle.core_book.specs.CoreView.{lists_of};
 
 use crate::book::{BookState, NotFiled};
@@ -200,7 +200,7 @@ fn next_claim(
     ensures draws { OnOk result (drawn.new.items ≡ draws_after_claim count drawn.old.items next) }
     ensures unchanged { OnErr result (drawn.new.items ≡ drawn.old.items) }
 {
-    if has_seat_drawn_past_last(drawn.as_slice(), count) {
+    if is_seat_finished(drawn.as_slice(), count) {
         return Ok((Claim::Empty, next));
     }
     drawn.push(next)?;
@@ -208,8 +208,8 @@ fn next_claim(
 }
 
 // Whether the draws of a seat end with one that is past the numbers.
-fn has_seat_drawn_past_last(drawn: &[usize], count: usize) -> bool
-    ensures { result ≡ has_seat_drawn_past_last count drawn.now }
+fn is_seat_finished(drawn: &[usize], count: usize) -> bool
+    ensures { result ≡ is_seat_finished count drawn.now }
 {
     match drawn.last() {
         Some(last) => *last >= count,

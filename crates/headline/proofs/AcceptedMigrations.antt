@@ -1,39 +1,25 @@
 -- A text that is reported with a yes is so too after it is migrated.
-use Rattle.lemmas.proofs.Common.{[], ◌++◌, ◌==◌, ◌∙◌, ◌∷◌, ◌≡◌, ◌≤◌, Bool, List, Ok, Result, ap, ap₂, arith, false}
-use Rattle.lemmas.proofs.Common.{refl, subst, sym, true, ℕ, nat_tests}
-use Rattle.section_text.specs.declared.fault.Refusal.{Refusal}
-use Rattle.section_text.proofs.Good.{AreFaultless, IsFaultless}
-use Rattle.circuit.specs.Bridge.{circuit_of}
-use Rattle.circuit.specs.declared.circuit_line.CircuitLine.{CircuitLine}
-use Rattle.pattern.specs.FromLines.{layout_of}
-use Rattle.pattern.specs.Grammars.{layout_section}
-use Rattle.pattern.specs.Layout.{Pattern}
-use Rattle.certificate_lines.specs.Entries.{ModuleLines, Setting, modules_of}
-use Rattle.certificate.specs.Grammars.{CertView, certificate_grammar, migrated, modules_in}
-use Rattle.certificate_lines.specs.Settings.{setting_of}
-use Rattle.certificate.specs.Jobs.{AreJobsOf}
+use Rattle.headline.proofs.Imports.{Accepts, AnswersOrRefuses, AreFaultless, AreJobsOf, Bool, Bundle, CertView}
+use Rattle.headline.proofs.Imports.{CertificateLine, CircuitLine, IsFaultless, IsReportOf, IsVerdict, IsVerdictOn, List}
+use Rattle.headline.proofs.Imports.{ModuleLines, Ok, Pattern, Refusal, Result, SaysReport, Setting, Yes, [], ap, ap₂}
+use Rattle.headline.proofs.Imports.{arith, bundle_of, certificate_grammar, circuit_of, false, faultless_modules}
+use Rattle.headline.proofs.Imports.{is_haloless_version, lacks_edge_wire_beside, layout_of, layout_section}
+use Rattle.headline.proofs.Imports.{meant_modules, meant_old, migrate_of, migrated_bundle, modules_in, modules_of}
+use Rattle.headline.proofs.Imports.{nat_tests, read_complete, refl, report_text, setting_of, subst, sym, true}
+use Rattle.headline.proofs.Imports.{without_halos, ℕ, ◌++◌, ◌==◌, ◌∙◌, ◌∷◌, ◌≡◌, ◌≤◌}
+use Rattle.certificate.specs.Grammars.{migrated}
 use Rattle.certificate.specs.Laws.{AreFaultlessLines, IsSectionOf}
-use Rattle.certificate_lines.specs.Versions.{is_haloless_version, lacks_edge_wire_beside, without_halos}
-use Rattle.certificate_lines.specs.declared.certificate_line.CertificateLine.{CertificateLine}
-use Rattle.certificate.proofs.FullModules.{meant_modules, meant_old}
 use Rattle.certificate.proofs.Migrated.{migrated_lacks, migrated_modules}
-use Rattle.certificate.proofs.Soundness.{faultless_modules, read_complete, read_version}
+use Rattle.certificate.proofs.Soundness.{read_version}
 use Rattle.soundness.specs.MigrationLaws.{IsAcceptedMigration}
-use Rattle.core_book.specs.Verdicts.{Accepts, IsVerdict}
-use Rattle.core_book.specs.declared.verdict.Verdict.TheVariants as verdict
 use Rattle.soundness.proofs.Migrated.{migration_accepted}
-use Rattle.report.specs.ReportText.{report_lines}
-use Rattle.answers.specs.Answers.{Answered}
-use Rattle.answers.specs.BundleText.{Bundle, bundle_of}
-use Rattle.answers.specs.CheckText.{IsReportOf, IsVerdictOn, SaysReport}
-use Rattle.answers.specs.MigrateText.{migrated_bundle, migrate_of}
-use Rattle.answers.specs.declared.outcome.Outcome.TheVariants.{Yes}
+use Rattle.headline.specs.Migration.{MigrationKeepsYes}
 use Rattle.headline.proofs.OneAnswer.{layout_from}
-use Rattle.headline.specs.Migration.{MigrationIsAccepted}
 use Rattle.headline.proofs.FullJobs.{full_jobs}
 use Rattle.headline.proofs.Migrations.{HasSections, IsGoodBundle, IsMigrated, bundle_made, good_read, migrated_sections}
 use Rattle.headline.proofs.Migrations.{says_design, sections_read, unchanged, was_migrated}
 use Rattle.headline.proofs.YesIsRight.{by_outcome}
+use Rattle.core_book.specs.declared.verdict.Verdict.TheVariants as verdict
 
 -- ---- two words for good lines
 
@@ -142,7 +128,7 @@ module _ (text report output : List ℕ) (b : Bundle) (read : bundle_of text ≡
         judged = accepted.accepted jobs.0 are;
       }
 
-  reported : SaysReport (migrated_bundle b) (report_lines (migrated c) verdict.Yes) Yes
+  reported : SaysReport (migrated_bundle b) (report_text (migrated c) verdict.Yes) Yes
   reported = record {
     certificate = migrated c;
     its_own = record {
@@ -159,8 +145,9 @@ module _ (text report output : List ℕ) (b : Bundle) (read : bundle_of text ≡
 
   reported_yes : IsReportedYes output
   reported_yes = record {
-    report = report_lines (migrated c) verdict.Yes;
-    reported = subst (λ r. Answered SaysReport r (report_lines (migrated c) verdict.Yes) Yes) (sym read_two) reported;
+    report = report_text (migrated c) verdict.Yes;
+    reported = subst (λ r. AnswersOrRefuses SaysReport r (report_text (migrated c) verdict.Yes) Yes)
+        (sym read_two) reported;
   }
 
 -- ---- of either version
@@ -192,7 +179,7 @@ of_bundle text report output m reports b read says is = by (b.version == 2) refl
         reported_yes text report output b read says is (which_version b.version v.0 v.1 other)
         (m.says ∙ ap migrate_of same)
 
-pub migration_is-accepted : MigrationIsAccepted
+pub migration_is-accepted : MigrationKeepsYes
 migration_is-accepted text report output reports migrates =
     let m = was_migrated text output migrates in
     let r = by_outcome (IsReportedYes output) text report (of_bundle text report output m reports)

@@ -2,68 +2,30 @@
 --
 -- One is of four modules around a gate, with stops and a delay, and one of a switch and its inverse gate. Two are plain
 -- texts of two balls that meet, the second of them with a wrong layout.
-use Rattle.lemmas.proofs.Common.{[], ◌∙◌, ◌∷◌, ◌≡◌, ◌≢◌, All, List, Ok, Some, ap, arith, codes, flat_map, option_map}
-use Rattle.lemmas.proofs.Common.{refl, slice_get, subst, suc, sym, true, true≢false, unwrap_or, zero, ℕ, All-cons}
-use Rattle.lemmas.proofs.Common.{All-head, All-nil, All-tail}
-use Rattle.bbm_rule.specs.Bits.{bit}
-use Rattle.bbm_rule.specs.Plane.{partner, step, turned}
-use Rattle.bbm_rule.specs.Spans.{in_span}
-use Rattle.bbm_rule.specs.declared.block.Cell.{Cell}
-use Rattle.section_text.specs.Words as words
-use Rattle.section_text.specs.Section as section
-use Rattle.circuit.specs.Evaluate.{evaluate}
-use Rattle.circuit.specs.Forms as circuit_forms
-use Rattle.circuit.specs.Bridge.{circuit_of, netlist_of}
-use Rattle.circuit.specs.Gates.{is_inverse, row}
-use Rattle.circuit.specs.Meaning as meaning
-use Rattle.circuit.specs.Meaning.{Gate as Meant}
-use Rattle.circuit.specs.Rules as circuit_rules
-use Rattle.circuit.specs.declared.circuit_line.CircuitLine.{CircuitLine}
-use Rattle.circuit.specs.declared.circuit_line.GateKind.{GateKind}
-use Rattle.circuit.specs.declared.circuit_line.GateKind.TheVariants.{Delay, Interact, Switch, Unswitch}
-use Rattle.circuit.specs.declared.circuit_line.Kind.TheVariants.{Input, Gate, Output}
-use Rattle.pattern.specs.Forms as layout_forms
-use Rattle.pattern.specs.Layout as layouts
-use Rattle.pattern.specs.Layout.{Pattern, cell, parts_of}
-use Rattle.pattern.specs.Lines as layout_rules
-use Rattle.module_box.specs.Boxes as boxes
+use Rattle.headline.proofs.Imports.{All, All-cons, All-head, All-nil, All-tail, Bundle, Cell, CircuitLine, Cut, Delay}
+use Rattle.headline.proofs.Imports.{Gate, GateKind, HasNoDelay, Input, Interact, IsCorrect, IsDesign, IsInputName}
+use Rattle.headline.proofs.Imports.{IsPlain, IsReportOf, IsSmallDesign, List, Meet, Module, ModuleLines, No, Ok}
+use Rattle.headline.proofs.Imports.{Outcome, Output, Pattern, Refused, Some, Stop, StopHolds, StopLine, Switch}
+use Rattle.headline.proofs.Imports.{TouchesRim, Unswitch, Use, Yes, [], ap, arith, bit, bundle_of, cell, circuit_of}
+use Rattle.headline.proofs.Imports.{codes, cuts, design_text, evaluate, fault_cmp, flat_map, in_span, job_demand}
+use Rattle.headline.proofs.Imports.{job_start, local_run, modules_of, netlist_of, numbered_all_times, numbered_event}
+use Rattle.headline.proofs.Imports.{numbered_signals, option_map, partner, parts_of, plain_lines, refl, row, slice_get}
+use Rattle.headline.proofs.Imports.{step, subst, suc, sym, true, true≢false, turned, whole, zero, ℕ, ◌∙◌, ◌∷◌, ◌≡◌, ◌≢◌}
+use Rattle.lemmas.proofs.Common.{unwrap_or}
+use Rattle.circuit.specs.Gates.{is_inverse}
 use Rattle.module_box.specs.Moments.{cell_cmp}
 use Rattle.module_box.specs.Schedules.{all_times_at, event_at, signal_at}
-use Rattle.module_job.specs.Jobs.{job_demand, job_start}
-use Rattle.certificate_lines.specs.Entries as entries
-use Rattle.certificate_lines.specs.Entries.{ModuleLines, cuts, modules_of}
-use Rattle.certificate_lines.specs.Forms as forms
-use Rattle.certificate_lines.specs.Orders as orders
 use Rattle.certificate_lines.specs.PortTables.{port_at}
-use Rattle.certificate_lines.specs.Rules as rules
-use Rattle.certificate_lines.specs.Rules.{whole}
-use Rattle.certificate_lines.specs.declared.certificate_line.CertificateLine.TheVariants.{Module, Cut, Use, Stop}
-use Rattle.certificate_lines.specs.Versions as versions
 use Rattle.certificate.specs.Jobs.{end_demand, start_signal}
-use Rattle.certificate.specs.Keeps as keeps
-use Rattle.certificate.specs.Times as times
-use Rattle.local_run.specs.Order.{fault_cmp}
-use Rattle.local_run.specs.Runs.{local_run, local_step, with_halo}
-use Rattle.soundness.proofs.NumberedSignals.{numbered, numbered_all_times, numbered_event, numbered_signals}
-use Rattle.soundness.proofs.NumberedSignals.{place_among}
+use Rattle.local_run.specs.Runs.{local_step, with_halo}
+use Rattle.soundness.proofs.NumberedSignals.{numbered, place_among}
 use Rattle.soundness.proofs.SomeJobs.{demanded, placed_gate, placed_gates, placed_stop, places}
-use Rattle.soundness.specs.HeadlineLaws.{IsInputName}
-use Rattle.soundness.specs.OnTime.{StopHolds}
-use Rattle.soundness.specs.PlainCertificates.{IsPlain, TouchesRim}
-use Rattle.certificate_lines.specs.declared.certificate_line.StopLine.{StopLine}
-use Rattle.core_book.specs.declared.verdict.ReportLine.TheVariants.{Meet}
-use Rattle.answers.specs.BundleText.{Bundle, bundle_of}
-use Rattle.answers.specs.CheckText.{IsReportOf}
-use Rattle.answers.specs.declared.outcome.Outcome.{Outcome}
-use Rattle.answers.specs.declared.outcome.Outcome.TheVariants.{Yes, No, Refused}
-use Rattle.meaning.specs.Implements.{IsCorrect}
 use Rattle.headline.specs.Laws.{ThereAndBackIsAccepted, TimedModulesAreAccepted}
 use Rattle.headline.specs.PlainLaws.{ThereAndBackIsPlain, ThereAndBackIsSmall}
-use Rattle.headline.specs.PlainNo.{plain_no}
-use Rattle.headline.specs.PlainYes.{plain_yes}
-use Rattle.headline.specs.SmallDesigns.{HasNoDelay, IsDesign, IsSmallDesign, plain_lines, design_text}
-use Rattle.headline.specs.ThereAndBack.{there_and_back}
-use Rattle.headline.specs.TimedModules.{timed_modules}
+use Rattle.headline.specs.PlainNo.{plain_no_text}
+use Rattle.headline.specs.PlainYes.{plain_yes_text}
+use Rattle.headline.specs.ThereAndBack.{there_and_back_text}
+use Rattle.headline.specs.TimedModules.{timed_modules_text}
 use Rattle.headline.specs.Witnesses.{PlainNoIsRefuted, PlainYesIsAccepted, SmallDesignIsAccepted, SmallDesignIsRefuted}
 use Rattle.headline.proofs.FailingTexts.{Fails, is_refuted}
 use Rattle.headline.proofs.PassingTexts.{PassesIfRead, accepted_if}
@@ -75,6 +37,23 @@ use Rattle.headline.proofs.ReadDesigns.{design_read}
 use Rattle.headline.proofs.SomeReport.{some_report}
 use Rattle.headline.proofs.WrittenDesigns.{each_is_decided}
 use Rattle.headline.proofs.YesIsRight.{bundle_good, yes_has_right_stops, yes_is_right_as_read}
+use Rattle.section_text.specs.Words as words
+use Rattle.section_text.specs.Section as section
+use Rattle.circuit.specs.Forms as circuit_forms
+use Rattle.circuit.specs.Meaning as meaning
+use Rattle.circuit.specs.Meaning.{Gate as Meant}
+use Rattle.circuit.specs.Rules as circuit_rules
+use Rattle.pattern.specs.Forms as layout_forms
+use Rattle.pattern.specs.Layout as layouts
+use Rattle.pattern.specs.Lines as layout_rules
+use Rattle.bbm_rule.specs.Boxes as boxes
+use Rattle.certificate_lines.specs.Entries as entries
+use Rattle.certificate_lines.specs.Forms as forms
+use Rattle.certificate_lines.specs.Orders as orders
+use Rattle.certificate_lines.specs.Rules as rules
+use Rattle.certificate_lines.specs.Versions as versions
+use Rattle.certificate.specs.Keeps as keeps
+use Rattle.certificate.specs.Times as times
 
 -- ---- the switch and its inverse gate
 
@@ -195,19 +174,21 @@ meeting_plain b c = record {
 -- ---- the texts are read, and pass
 
 record AreRead : Type 0 where
-  pub timed : PassesIfRead (bundle_of timed_modules)
-  pub inverse : PassesIfRead (bundle_of there_and_back)
-  pub reads : bundle_of there_and_back ≡ Ok bundle
-  pub yes : PassesIfRead (bundle_of plain_yes)
-  pub yes_reads : bundle_of plain_yes ≡ Ok (meeting_bundle right_layout)
-  pub no_reads : bundle_of plain_no ≡ Ok (meeting_bundle wrong_layout)
+  pub timed : PassesIfRead (bundle_of timed_modules_text)
+  pub inverse : PassesIfRead (bundle_of there_and_back_text)
+  pub reads : bundle_of there_and_back_text ≡ Ok bundle
+  pub yes : PassesIfRead (bundle_of plain_yes_text)
+  pub yes_reads : bundle_of plain_yes_text ≡ Ok (meeting_bundle right_layout)
+  pub no_reads : bundle_of plain_no_text ≡ Ok (meeting_bundle wrong_layout)
   pub no_fails : Fails (meeting_bundle wrong_layout) wrong_layout one (cell 2 2) 1 (Meet 0 (Some 1) ∷ [])
 
 are_read : AreRead
-unfolding timed_modules there_and_back plain_yes plain_no bundle_of words.lines_of words.bytes_after_last_line_feed
+unfolding timed_modules_text there_and_back_text plain_yes_text plain_no_text bundle_of words.lines_of
+    words.bytes_after_last_line_feed
     words.number_of
     words.name_of
-    words.number_at words.name_at words.names_at words.is_word_at words.lone words.lone_number words.lone_name
+    words.number_at words.name_at words.names_at words.is_word_at words.if_one_word words.number_after_keyword
+    words.name_after_keyword
     section.section_of section.section_body_of circuit_forms.form_of circuit_forms.gate_entry
     circuit_forms.gate_line_of_kind
     circuit_forms.gate_kind circuit_forms.bit_at circuit_rules.add_fault meaning.number meaning.place_of
@@ -216,13 +197,14 @@ unfolding timed_modules there_and_back plain_yes plain_no bundle_of words.lines_
     layout_forms.size_of layout_forms.sides_and_steps layout_rules.size_fault layout_rules.limit_fault
     layout_rules.rank_of layout_rules.has_later_kind_before layout_rules.order_fault layout_rules.name_fault
     layout_rules.cells_of
-    layout_rules.is_inside layout_rules.begins layout_rules.ends layout_rules.cells_taken_at_start layout_rules.ended
+    layout_rules.is_inside layout_rules.takes_at_start layout_rules.takes_at_end layout_rules.cells_taken_at_start
+    layout_rules.cells_taken_at_end
     layout_rules.is_taken layout_rules.cell_fault layout_rules.line_fault layout_rules.layout_line_fault
     layout_rules.missing_fault layouts.rectangle_cells in_span boxes.in_box boxes.some_neighbour boxes.in_ring
-    boxes.in_halo entries.change_last entries.last_of entries.add_line entries.modules_of forms.corner_and_sides
-    forms.area_of forms.star_or_time_at_word forms.signal_at forms.border_of_five_words forms.border_of
+    boxes.in_halo entries.change_last entries.last_of entries.add_line entries.modules_of layout_forms.corner_and_sides
+    layout_forms.box_of forms.star_or_time_at_word forms.one_or_name_at_word forms.border_of_five_words forms.border_of
     forms.stop_of_five_words forms.stop_of
-    forms.form_of orders.rank_of orders.number_of orders.cell_of orders.line_cmp orders.is_cut orders.may_precede
+    forms.form_of orders.rank_of orders.sort_number_of orders.cell_of orders.line_cmp orders.is_cut orders.may_precede
     orders.may_follow rules.has_nonlocal_port rules.box_fault rules.module_fault rules.cut_fault
     rules.are_new_and_distinct rules.used_gate_fault
     rules.use_fault rules.keep_line_code rules.is_line_time_allowed rules.is_edge_place_and_time
@@ -232,7 +214,8 @@ unfolding timed_modules there_and_back plain_yes plain_no bundle_of words.lines_
     end_demand
     port_at places placed_gate placed_gates place_among numbered numbered_all_times numbered_event numbered_signals
     demanded placed_stop bit row evaluate job_start job_demand local_run local_step with_halo step partner turned
-    signal_at all_times_at event_at times.numbered versions.edge_lines_beside versions.in_order versions.precedes_halos
+    signal_at all_times_at event_at times.lines_by_number versions.edge_lines_beside versions.sorted_border_lines
+    versions.precedes_halos
     versions.with_halos versions.is_halo versions.lacks_edge_wire_beside fault_cmp keeps.unkept_from
 are_read = record {
   timed = record { layout = refl; tests = record { jobs = refl; kept = refl; borders = refl; on_time = refl } };
@@ -254,29 +237,29 @@ are_read = record {
 }
 
 pub timed_accepted : TimedModulesAreAccepted
-timed_accepted = accepted_if timed_modules are_read.timed
+timed_accepted = accepted_if timed_modules_text are_read.timed
 
 pub inverse_accepted : ThereAndBackIsAccepted
-inverse_accepted = accepted_if there_and_back are_read.inverse
+inverse_accepted = accepted_if there_and_back_text are_read.inverse
 
 -- ---- the second one is the plain text of a small design
 
 pub plain : ThereAndBackIsPlain
-plain = (plain_lines_decide there_and_back inverse_accepted.0 Yes circuit layout
-    ((bundle_good there_and_back bundle are_read.reads).says_all layout refl) inverse_accepted.1 (λ e. cc)).0
+plain = (plain_lines_decide there_and_back_text inverse_accepted.0 Yes circuit layout
+    ((bundle_good there_and_back_text bundle are_read.reads).says_all layout refl) inverse_accepted.1 (λ e. cc)).0
 
 pub small : ThereAndBackIsSmall
 small = record {
   circuit = circuit;
   layout = layout;
-  plain = is_plain_text there_and_back bundle layout are_read.reads refl refl refl;
+  plain = is_plain_text there_and_back_text bundle layout are_read.reads refl refl refl;
   small = record { wide = omega arith; high = omega arith; inputs = omega arith; gates = omega arith };
 }
 
 -- ---- two balls that meet, with the right layout and with a wrong one
 
-yes_accepted : (output : List ℕ) × IsReportOf plain_yes output Yes
-yes_accepted = accepted_if plain_yes are_read.yes
+yes_accepted : (output : List ℕ) × IsReportOf plain_yes_text output Yes
+yes_accepted = accepted_if plain_yes_text are_read.yes
 
 -- where the balls are after the first step
 abbrev ball : List ℕ → Cell → StopLine
@@ -285,10 +268,11 @@ ball wire c = record { time = 1; wire = wire; cell = c }
 yes_stops : All (StopHolds (circuit_of meeting) right_layout)
     (ball (codes "p") (cell 3 3) ∷ ball (codes "q") (cell 4 4) ∷ [])
 yes_stops =
-    let r = yes_has_right_stops plain_yes yes_accepted.0 yes_accepted.1 in
-    let said = (bundle_good plain_yes (meeting_bundle right_layout) are_read.yes_reads).says_all right_layout refl in
-    let same = one_design plain_yes r.circuit meeting r.layout right_layout r.says.design said.design in
-    let own = one_certificate plain_yes r.circuit meeting r.layout right_layout r.certificate
+    let r = yes_has_right_stops plain_yes_text yes_accepted.0 yes_accepted.1 in
+    let said = (bundle_good plain_yes_text (meeting_bundle right_layout) are_read.yes_reads).says_all right_layout
+    refl in
+    let same = one_design plain_yes_text r.circuit meeting r.layout right_layout r.says.design said.design in
+    let own = one_certificate plain_yes_text r.circuit meeting r.layout right_layout r.certificate
     (meeting_bundle right_layout).entries r.says said in
     subst (λ cs. All (StopHolds (circuit_of cs) right_layout) (ball (codes "p") (cell 3 3)
     ∷ ball (codes "q") (cell 4 4) ∷ [])) same.0
@@ -307,7 +291,7 @@ plain_yes_accepted = record {
     circuit = meeting;
     layout = right_layout;
     certificate = (meeting_bundle right_layout).entries;
-    says = (bundle_good plain_yes (meeting_bundle right_layout) are_read.yes_reads).says_all right_layout refl;
+    says = (bundle_good plain_yes_text (meeting_bundle right_layout) are_read.yes_reads).says_all right_layout refl;
     one = one;
     modules = (is_meeting (cell 2 2) (cell 5 5)).modules;
     plain = meeting_plain (cell 2 2) (cell 5 5);
@@ -319,14 +303,14 @@ plain_yes_accepted = record {
 
 pub plain_no_refuted : PlainNoIsRefuted
 plain_no_refuted =
-    let is = is_refuted plain_no (meeting_bundle wrong_layout) are_read.no_reads wrong_layout one (cell 2 2) 1
+    let is = is_refuted plain_no_text (meeting_bundle wrong_layout) are_read.no_reads wrong_layout one (cell 2 2) 1
     (Meet 0 (Some 1) ∷ []) are_read.no_fails in
     record {
       plain = record {
         circuit = meeting;
         layout = wrong_layout;
         certificate = (meeting_bundle wrong_layout).entries;
-        says = (bundle_good plain_no (meeting_bundle wrong_layout) are_read.no_reads).says_all wrong_layout refl;
+        says = (bundle_good plain_no_text (meeting_bundle wrong_layout) are_read.no_reads).says_all wrong_layout refl;
         one = one;
         modules = (is_meeting (cell 5 5) (cell 2 2)).modules;
         plain = meeting_plain (cell 5 5) (cell 2 2);
@@ -351,23 +335,23 @@ few : (b c : Cell) → IsSmallDesign meeting (meeting_in b c)
 few b c = record { wide = omega arith; high = omega arith; inputs = omega arith; gates = omega arith }
 
 right_design : IsDesign meeting right_layout
-right_design = design_read plain_yes (meeting_bundle right_layout) right_layout are_read.yes_reads refl
+right_design = design_read plain_yes_text (meeting_bundle right_layout) right_layout are_read.yes_reads refl
 
 wrong_design : IsDesign meeting wrong_layout
-wrong_design = design_read plain_no (meeting_bundle wrong_layout) wrong_layout are_read.no_reads refl
+wrong_design = design_read plain_no_text (meeting_bundle wrong_layout) wrong_layout are_read.no_reads refl
 
 right_correct : IsCorrect meeting right_layout
 right_correct =
-    let r = yes_is_right_as_read plain_yes yes_accepted.0 yes_accepted.1 in
-    let says = (bundle_good plain_yes (meeting_bundle right_layout) are_read.yes_reads).says right_layout refl in
-    let same = one_design plain_yes r.circuit meeting r.layout right_layout r.says says in
+    let r = yes_is_right_as_read plain_yes_text yes_accepted.0 yes_accepted.1 in
+    let says = (bundle_good plain_yes_text (meeting_bundle right_layout) are_read.yes_reads).says right_layout refl in
+    let same = one_design plain_yes_text r.circuit meeting r.layout right_layout r.says says in
     subst (λ cs. IsCorrect cs right_layout) same.0 (subst (IsCorrect r.circuit) same.1 r.correct)
 
 right_off : ¬ TouchesRim meeting right_layout
-right_off touch = yes_off_rim plain_yes yes_accepted.0 yes_accepted.1 (record {
+right_off touch = yes_off_rim plain_yes_text yes_accepted.0 yes_accepted.1 (record {
   circuit = meeting;
   layout = right_layout;
-  says = (bundle_good plain_yes (meeting_bundle right_layout) are_read.yes_reads).says right_layout refl;
+  says = (bundle_good plain_yes_text (meeting_bundle right_layout) are_read.yes_reads).says right_layout refl;
   touches = touch;
 })
 
@@ -395,7 +379,7 @@ pub design_refuted : SmallDesignIsRefuted
 design_refuted =
     let r = some_report (design_text meeting wrong_layout) in
     let d = each_is_decided meeting wrong_layout r.0 r.1 wrong_design (few (cell 5 5) (cell 2 2)) r.2 in
-    let is = is_refuted plain_no (meeting_bundle wrong_layout) are_read.no_reads wrong_layout one (cell 2 2) 1
+    let is = is_refuted plain_no_text (meeting_bundle wrong_layout) are_read.no_reads wrong_layout one (cell 2 2) 1
     (Meet 0 (Some 1) ∷ []) are_read.no_fails in
     let no : r.1 ≡ No = no_of r.1 (λ e. is.shows.real.incorrect refl (d.1.0 e).0) d.0 in
     record {

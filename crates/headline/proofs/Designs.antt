@@ -1,28 +1,17 @@
 -- The design that a text says.
-use Rattle.lemmas.proofs.Common.{◌++◌, ◌+◌, ◌∙◌, ◌≡◌, List, Ok, Option, ap, ap₂, drop, length, sym, take}
-use Rattle.lemmas.proofs.Common.{take-append-drop, ℕ}
-use Rattle.section_text.specs.Words.{lines_of}
-use Rattle.section_text.specs.Section.{section_of}
-use Rattle.section_text.specs.Ports.{Named}
-use Rattle.section_text.proofs.SaidSections.{one_section, section_said}
-use Rattle.circuit.specs.Forms.{form_of as circuit_form}
-use Rattle.circuit.specs.Grammars.{circuit_grammar}
-use Rattle.circuit.specs.declared.circuit_line.CircuitLine.{CircuitLine}
-use Rattle.pattern.specs.Grammars.{layout_grammar, layout_section}
-use Rattle.pattern.specs.Forms.{form_of as layout_form}
-use Rattle.pattern.specs.Layout.{Pattern, parts_of}
-use Rattle.meaning.specs.Design.{SaysDesign}
-use Rattle.certificate_lines.specs.Entries.{Setting}
-use Rattle.certificate_lines.specs.Forms.{form_of as certificate_form}
-use Rattle.certificate.specs.Grammars.{certificate_grammar}
-use Rattle.certificate_lines.specs.declared.certificate_line.CertificateLine.{CertificateLine}
-use Rattle.headline.specs.Stops.{SaysBundle}
+use Rattle.headline.proofs.Imports.{CertificateLine, CircuitLine, List, Ok, Option, Pattern, PortNameLists, SaysBundle}
+use Rattle.headline.proofs.Imports.{SaysDesign, Setting, ap, ap₂, certificate_grammar, circuit_grammar, drop}
+use Rattle.headline.proofs.Imports.{layout_grammar, layout_section, length, lines_of, one_section, parts_of, section_of}
+use Rattle.headline.proofs.Imports.{section_said, sym, take, take-append-drop, ℕ, ◌++◌, ◌+◌, ◌∙◌, ◌≡◌}
 use Rattle.headline.specs.Laws.{SaysOneCertificate, SaysOneDesign}
 use Rattle.headline.proofs.OneAnswer.{one_layout}
+use Rattle.circuit.specs.Forms.{form_of as circuit_form}
+use Rattle.pattern.specs.Forms.{form_of as layout_form}
+use Rattle.certificate_lines.specs.Forms.{form_of as certificate_form}
 
 -- ---- the two sections of a design
 
-pub design_said : (text : List ℕ) (circuit : List CircuitLine) (named : Option Named) (n : ℕ) (layout : Pattern)
+pub design_said : (text : List ℕ) (circuit : List CircuitLine) (named : Option PortNameLists) (n : ℕ) (layout : Pattern)
     → section_of circuit_grammar 0 (lines_of text) ≡ Ok (tt, circuit)
     → section_of (layout_grammar named) n (drop (length circuit + 2) (lines_of text)) ≡ Ok (layout_section layout)
     → SaysDesign text circuit layout
@@ -41,7 +30,7 @@ design_said text circuit named n layout first second =
     }
 
 -- and the section after them
-pub bundle_said : (text : List ℕ) (circuit : List CircuitLine) (named : Option Named) (n : ℕ) (layout : Pattern)
+pub bundle_said : (text : List ℕ) (circuit : List CircuitLine) (named : Option PortNameLists) (n : ℕ) (layout : Pattern)
     (g : Setting)
     (m version : ℕ) (lines : List CertificateLine)
     → section_of circuit_grammar 0 (lines_of text) ≡ Ok (tt, circuit)

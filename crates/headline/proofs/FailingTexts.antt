@@ -1,72 +1,45 @@
 -- A text is refuted by one `local` line if its one module passes tests, which a proof by computation can run.
 --
 -- By the tests a cell is not as asked at the end, and no fault comes before this one in the order of faults.
-use Rattle.lemmas.proofs.Common.{[], ◌&&◌, ◌++◌, ◌<◌, ◌||◌, ◌∙◌, ◌∷◌, ◌≡◌, ◌≢◌, All, Bool, Equal, Greater, Less, List}
-use Rattle.lemmas.proofs.Common.{None, Ok, Option, Ordering, Some, ap, ap₂, arith, codes, false, flat_map, length, map}
-use Rattle.lemmas.proofs.Common.{not, refl, slice_get, subst, suc, sym, true, true≢false, zero, ℕ, ℤ, All-head}
-use Rattle.lemmas.proofs.Common.{and_parts, beq, booleans_Decides, false≢true, get_or-map-range_with_len, length-map}
-use Rattle.lemmas.proofs.Common.{length-range_with_len, list_all, range_with_len, slice_get-get_or, common_steps}
-use Rattle.sha2.specs.Sha256.{sha256}
-use Rattle.bbm_rule.specs.Bits.{bit}
-use Rattle.bbm_rule.specs.declared.block.Cell.{Cell}
-use Rattle.circuit.specs.Bridge.{circuit_of, netlist_of, read}
-use Rattle.circuit.specs.Evaluate.{evaluate}
-use Rattle.circuit.specs.Meaning.{AreOrdered, Valuation}
-use Rattle.circuit.proofs.Bridging.{gates_are_ordered}
+use Rattle.headline.proofs.Imports.{All, All-head, AnswersOrRefuses, AreJobsOf, AreModules, AreOrdered, BelongTogether}
+use Rattle.headline.proofs.Imports.{Bool, Bundle, Cell, CertView, CircuitLine, Fault, IsPlain, IsRead, IsReportOf}
+use Rattle.headline.proofs.Imports.{IsVerdict, JobView, Kind, LineMeans, List, Local, ModuleLines, No, None, Ok, Option}
+use Rattle.headline.proofs.Imports.{Pattern, ReportLine, SaysNoWith, SaysReport, Setting, Some, Valuation, Verdict, []}
+use Rattle.headline.proofs.Imports.{and_parts, ap, ap₂, are_jobs_of, arith, as_values, bit, bundle_of, certificate_text}
+use Rattle.headline.proofs.Imports.{circuit_of, codes, common_steps, evaluate, false, false≢true, fault_cmp, flat_map}
+use Rattle.headline.proofs.Imports.{gates_are_ordered, in_box, in_ring, is_among, job_demand, job_of, layout_section}
+use Rattle.headline.proofs.Imports.{length, length-map, line_text, list_all, local_run, map, modules_in, modules_of}
+use Rattle.headline.proofs.Imports.{netlist_of, not, range_with_len, read_layout-names, refl, report_line_text}
+use Rattle.headline.proofs.Imports.{report_text, setting_of, sha256, slice_get, subst, suc, sym, timing_report_line}
+use Rattle.headline.proofs.Imports.{true, true≢false, vec_of, whole, zero, ℕ, ℤ, ◌&&◌, ◌++◌, ◌<◌, ◌||◌, ◌∙◌, ◌∷◌, ◌≡◌}
+use Rattle.headline.proofs.Imports.{◌≢◌}
+use Rattle.lemmas.proofs.Common.{Equal, Greater, Less, Ordering, beq, booleans_Decides, get_or-map-range_with_len}
+use Rattle.lemmas.proofs.Common.{length-range_with_len, slice_get-get_or}
 use Rattle.circuit.proofs.Valuations.{evaluated}
-use Rattle.circuit.specs.declared.circuit_line.CircuitLine.{CircuitLine}
-use Rattle.section_text.specs.Spelling.{line_text}
-use Rattle.pattern.specs.Grammars.{layout_section}
-use Rattle.pattern.specs.Layout.{Pattern}
-use Rattle.module_box.specs.Locals.{is_among}
-use Rattle.module_box.specs.Boxes.{in_box, in_ring}
 use Rattle.module_box.specs.LocalValues.{IsLocalValuation}
 use Rattle.module_box.proofs.Neighbours.{halo_parts}
-use Rattle.certificate_lines.specs.Entries.{ModuleLines, Setting, modules_of}
-use Rattle.certificate_lines.specs.Modules.{AreModules}
-use Rattle.certificate_lines.specs.Rules.{whole}
-use Rattle.certificate_lines.specs.Settings.{setting_of}
-use Rattle.certificate.specs.Grammars.{CertView, modules_in}
-use Rattle.certificate.specs.Jobs.{AreJobsOf}
-use Rattle.certificate.specs.Text.{certificate_text}
 use Rattle.certificate.specs.Times.{delay_and_meet_lines}
-use Rattle.module_job.specs.Jobs.{IsJob, JobView, job_demand}
+use Rattle.module_job.specs.Jobs.{IsJob}
 use Rattle.module_job.specs.Signals.{MeetsDemand}
 use Rattle.module_job.specs.declared.job.Demand.{Demand}
-use Rattle.module_job.specs.declared.job.Demand.TheVariants as Demanded
 use Rattle.local_run.specs.Faults.{IsFaultUnder, IsLeastFault, assignments}
-use Rattle.local_run.specs.Order.{fault_cmp}
-use Rattle.local_run.specs.Runs.{local_run}
-use Rattle.local_run.specs.declared.fault.Fault.{Fault}
-use Rattle.local_run.specs.declared.fault.Kind.{Kind}
 use Rattle.local_run.specs.declared.fault.Kind.TheVariants.{Edge, Stop, End}
 use Rattle.local_run.proofs.Decided.{decided}
 use Rattle.border_match.specs.BorderFaults.{IsBorderFault, IsLeastBorderFault}
 use Rattle.border_match.specs.declared.fault.BorderFault.{BorderFault}
-use Rattle.soundness.specs.HeadlineLaws.{BelongTogether}
-use Rattle.soundness.specs.PlainCertificates.{IsPlain, LineMeans, Shows}
-use Rattle.core_book.specs.Verdicts.{IsToldOf, IsVerdict, report_lines_from, timing_report, unkept_lines}
+use Rattle.soundness.specs.PlainCertificates.{LocalLineMeans}
+use Rattle.core_book.specs.Verdicts.{AreLeastFaultsOfJob, report_lines_from, unkept_lines}
 use Rattle.core_book.specs.declared.verdict.LeastFaults.{LeastFaults}
-use Rattle.core_book.specs.declared.verdict.ReportLine.{ReportLine}
-use Rattle.core_book.specs.declared.verdict.ReportLine.TheVariants.{Local}
-use Rattle.core_book.specs.declared.verdict.Verdict.{Verdict}
-use Rattle.core_book.specs.declared.verdict.Verdict.TheVariants as verdict
 use Rattle.soundness.proofs.FirstFaults.{ring_inside}
-use Rattle.soundness.proofs.InputRuns.{read_layout-names}
 use Rattle.soundness.proofs.PlainCertificates.{only_module, plain_lines}
-use Rattle.soundness.proofs.SomeJobs.{are_jobs_of, job_of}
-use Rattle.soundness.proofs.SomeVerdict.{IsVecOf, jobs_good, vec_of}
+use Rattle.soundness.proofs.SomeVerdict.{IsVecOf, jobs_good}
 use Rattle.soundness.proofs.Trials.{all_at, all_below, at_every, at_odd, at_odd_times, edge_test, every_cell, given_of}
 use Rattle.soundness.proofs.Trials.{implied, meets, meets_is, stop_test}
-use Rattle.soundness.proofs.YesMeansCorrect.{IsRead}
-use Rattle.report.specs.ReportText.{report_line_text, lines_before_verdict, report_lines}
-use Rattle.answers.specs.Answers.{Answered}
-use Rattle.answers.specs.BundleText.{Bundle, bundle_of}
-use Rattle.answers.specs.CheckText.{IsReportOf, SaysReport}
-use Rattle.answers.specs.declared.outcome.Outcome.TheVariants.{No}
-use Rattle.headline.specs.ReportLines.{SaysNoWith}
+use Rattle.report.specs.ReportText.{lines_before_verdict}
 use Rattle.headline.proofs.SomeReport.{certificate_by, limits, modules_good}
 use Rattle.headline.proofs.YesIsRight.{bundle_good, known}
+use Rattle.module_job.specs.declared.job.Demand.TheVariants as Demanded
+use Rattle.core_book.specs.declared.verdict.Verdict.TheVariants as verdict
 
 -- ---- tests of all elements
 
@@ -103,10 +76,10 @@ none_before j f a u = at_odd_times j.steps (edge_test j u) && (stop_test j u
 abbrev pub is_missed : JobView → Cell → Valuation → Bool
 is_missed j d u = in_box j.area d.x d.y && not (meets u (job_demand j d.x d.y) (local_run j u j.steps d.x d.y))
 
--- the same for the values that `evaluate` finds
+-- whether `evaluate` finds values and they pass the test
 abbrev pub found_by : (Valuation → Bool) → Option (List Bool) → Bool
 found_by test None = false
-found_by test (Some vs) = test (read vs)
+found_by test (Some vs) = test (as_values vs)
 
 -- this is the least fault, by tests under each assignment
 pub record IsFirstByTests (j : JobView) (d : Cell) (a : ℕ) : Type 0 where
@@ -130,7 +103,7 @@ found j a test ordered = by (evaluate (given_of j a) j.locals.netlist.gates) ref
     by (Some vs) e h =
         let n = j.locals.netlist.given in
         record {
-          values = read vs;
+          values = as_values vs;
           local = (evaluated j.locals.netlist (bit a) (given_of j a) vs ordered
               (length-map (range_with_len 0 n) (bit a) ∙ length-range_with_len 0 n)
               (λ i lt. get_or-map-range_with_len (bit a) 0 n i i false lt (omega arith)) e).satisfies;
@@ -214,7 +187,7 @@ pub record Fails (b : Bundle) (p : Pattern) (m : ModuleLines) (d : Cell) (a : �
   pub none_kept : (its_job b p m).kept ≡ []
   pub first : IsFirstByTests (its_job b p m) d a
   pub unkept : unkept_lines (setting_of b.circuit p) (m ∷ []) ≡ []
-  pub on_times : map timing_report (delay_and_meet_lines (circuit_of b.circuit) (m ∷ [])) ≡ times
+  pub on_times : map timing_report_line (delay_and_meet_lines (circuit_of b.circuit) (m ∷ [])) ≡ times
   pub few : length times < 1024
 
 -- it is reported with a no, whose lines are one on the fault, and then these
@@ -223,7 +196,7 @@ pub record IsRefuted (text : List ℕ) (b : Bundle) (p : Pattern) (m : ModuleLin
   pub output : List ℕ
   pub reported : IsReportOf text output No
   pub says : SaysNoWith output (Local 0 (end_fault_at (its_job b p m) d a) ∷ times)
-  pub shows : Shows b.circuit p m (end_fault_at (its_job b p m) d a)
+  pub shows : LocalLineMeans b.circuit p m (end_fault_at (its_job b p m) d a)
 
 -- a verdict on modules
 record IsJudged (lines : List CircuitLine) (p : Pattern) (v : Verdict) (ms : List ModuleLines) : Type 0 where
@@ -267,7 +240,7 @@ module _ (text : List ℕ) (b : Bundle) (e : bundle_of text ≡ Ok b) (p : Patte
   reasons : LeastFaults
   reasons = record { fault = Some f; keep = None }
 
-  told : IsToldOf j reasons
+  told : AreLeastFaultsOfJob j reasons
   unfolding reasons
   told = record {
     fault = least;
@@ -277,11 +250,11 @@ module _ (text : List ℕ) (b : Bundle) (e : bundle_of text ≡ Ok b) (p : Patte
   }
 
   told_at : (k : ℕ) (i : JobView) (r : LeastFaults) → slice_get (j ∷ []) k ≡ Some i →
-      slice_get (reasons ∷ []) k ≡ Some r → IsToldOf i r
+      slice_get (reasons ∷ []) k ≡ Some r → AreLeastFaultsOfJob i r
   told_at zero i r at there =
       let same : j ≡ i = cc in
       let alike : reasons ≡ r = cc in
-      subst (λ i. IsToldOf i r) same (subst (IsToldOf j) alike told)
+      subst (λ i. AreLeastFaultsOfJob i r) same (subst (AreLeastFaultsOfJob j) alike told)
   told_at (suc k) i r at there = absurd cc
 
   none_at : (k : ℕ) (o : Option BorderFault) → slice_get (None ∷ []) k ≡ Some o → IsLeastBorderFault g (m ∷ []) k o
@@ -310,7 +283,7 @@ module _ (text : List ℕ) (b : Bundle) (e : bundle_of text ≡ Ok b) (p : Patte
   on_modules = subst (IsJudged b.circuit p (verdict.No vec.vec)) (sym fails.alone)
       (record { good = good; jobs = j ∷ []; are_jobs = are_jobs; judged = judged })
 
-  abbrev says_no : SaysReport b (report_lines c (verdict.No vec.vec)) No
+  abbrev says_no : SaysReport b (report_text c (verdict.No vec.vec)) No
   says_no = record {
     certificate = c;
     its_own = record { circuit = refl; layout = fails.layout; version = refl; entries = refl };
@@ -325,8 +298,8 @@ module _ (text : List ℕ) (b : Bundle) (e : bundle_of text ≡ Ok b) (p : Patte
     ends = refl;
   }
 
-  spelled : SaysNoWith (report_lines c (verdict.No vec.vec)) lines
-  unfolding report_lines
+  spelled : SaysNoWith (report_text c (verdict.No vec.vec)) lines
+  unfolding report_text
   spelled = record {
     digest = sha256 (certificate_text c);
     modules = length (modules_of c.entries);
@@ -335,7 +308,7 @@ module _ (text : List ℕ) (b : Bundle) (e : bundle_of text ≡ Ok b) (p : Patte
   }
 
   read_so : IsRead c c.layout.size
-  read_so = known text b (report_lines c (verdict.No vec.vec)) No e says_no
+  read_so = known text b (report_text c (verdict.No vec.vec)) No e says_no
 
   together : BelongTogether b.circuit p (m ∷ []) (j ∷ [])
   together = record {
@@ -353,8 +326,8 @@ module _ (text : List ℕ) (b : Bundle) (e : bundle_of text ≡ Ok b) (p : Patte
 
   pub is_refuted : IsRefuted text b p m d a times
   is_refuted = record {
-    output = report_lines c (verdict.No vec.vec);
-    reported = subst (λ r. Answered SaysReport r (report_lines c (verdict.No vec.vec)) No) (sym e) says_no;
+    output = report_text c (verdict.No vec.vec);
+    reported = subst (λ r. AnswersOrRefuses SaysReport r (report_text c (verdict.No vec.vec)) No) (sym e) says_no;
     says = spelled;
     shows = All-head (LineMeans b.circuit p m) (Local 0 f) times means;
   }

@@ -1,28 +1,20 @@
 -- The fourth line of a report.
-use Rattle.lemmas.proofs.Common.{[], ◌%◌, ◌&&◌, ◌++◌, ◌+◌, ◌/◌, ◌<◌, ◌∙◌, ◌∷◌, ◌≡◌, Bool, List, Option, Some, ap}
-use Rattle.lemmas.proofs.Common.{append-nil, append_assoc, ap₂, arith, codes, cond, eqb, false, flat_map, get_or}
-use Rattle.lemmas.proofs.Common.{length, nat_lt, ne_eqb, not, refl, slice_get, suc, sym, true, zero, ℕ}
-use Rattle.lemmas.proofs.Common.{All-from_recursion, and_parts, decimal, digit_glyph, digits_onto, list_all}
-use Rattle.lemmas.proofs.Common.{list_all-append, onto_first, slice_split, slice_split_at}
+use Rattle.headline.proofs.Imports.{All-from_recursion, Bool, CertView, FourthLineSaysYes, IsOneLine, List, Option}
+use Rattle.headline.proofs.Imports.{Refusal, Some, Verdict, [], and_parts, ap, append-nil, append_assoc, ap₂, arith}
+use Rattle.headline.proofs.Imports.{certificate_text, codes, cond, decimal, ended-cons, eqb, false, flat_map, kept}
+use Rattle.headline.proofs.Imports.{length, line_text, lines_of, list_all, modules_of, nat_lt, not, refl, refusal_line}
+use Rattle.headline.proofs.Imports.{report_line_text, report_text, sha256, slice_get, slice_split_at, some_part}
+use Rattle.headline.proofs.Imports.{space_and_word, suc, sym, timing_report_line, true, zero, ℕ, ◌%◌, ◌&&◌, ◌++◌, ◌+◌}
+use Rattle.headline.proofs.Imports.{◌<◌, ◌∙◌, ◌∷◌, ◌≡◌}
+use Rattle.lemmas.proofs.Common.{◌/◌, get_or, ne_eqb, digit_glyph, digits_onto, list_all-append, onto_first}
+use Rattle.lemmas.proofs.Common.{slice_split}
 use Rattle.std.specs.Fmt.{digits}
 use Rattle.hex.specs.Hex.{encode_lower, encode_with, lower_digits}
-use Rattle.sha2.specs.Sha256.{sha256}
-use Rattle.section_text.specs.Spelling.{line_text, space_and_word}
-use Rattle.section_text.specs.Words.{ended, is_line_feed, lines_of}
-use Rattle.section_text.specs.declared.fault.Refusal.{Refusal}
-use Rattle.section_text.proofs.Again.{IsOneLine}
-use Rattle.section_text.proofs.Lines.{ended-cons, some_part}
+use Rattle.section_text.specs.Words.{ended_parts, is_line_feed}
 use Rattle.certificate.specs.declared.times.TimeLine.{TimeLine}
-use Rattle.core_book.specs.Verdicts.{timing_report}
-use Rattle.certificate_lines.specs.Entries.{modules_of}
-use Rattle.certificate.specs.Grammars.{CertView}
-use Rattle.certificate.specs.Text.{certificate_text}
-use Rattle.certificate_lines.proofs.Lists.{kept}
-use Rattle.core_book.specs.declared.verdict.Verdict.{Verdict}
-use Rattle.core_book.specs.declared.verdict.Verdict.TheVariants as verdict
-use Rattle.report.specs.ReportText.{report_line_text, refusal_line, report_lines, verdict_lines}
-use Rattle.meaning.specs.Streams.{FourthLineSaysYes}
+use Rattle.report.specs.ReportText.{verdict_lines}
 use Rattle.headline.specs.Laws.{SaysYesMeansFourthLine}
+use Rattle.core_book.specs.declared.verdict.Verdict.TheVariants as verdict
 
 -- ---- bytes that are no line feed
 
@@ -83,7 +75,7 @@ clean_decimal n = clean_digits 64 n [] refl
 line_ahead : (l c : List ℕ) → is_clean l ≡ true → lines_of (l ++ 10 ∷ c) ≡ l ∷ lines_of c
 unfolding lines_of
 line_ahead l c clean =
-    ap ended (slice_split_at is_line_feed l 10 c
+    ap ended_parts (slice_split_at is_line_feed l 10 c
     (All-from_recursion (λ b. is_line_feed b ≡ false) l (one_line l clean)) refl)
     ∙ ended-cons l (slice_split is_line_feed c) (some_part c)
 
@@ -117,7 +109,7 @@ fourth_by : (digest : List ℕ) (count : ℕ) (times : List TimeLine) (v : Verdi
 fourth_by digest count times verdict.Yes clean = ap (λ ls. slice_get ls 3)
     (four_lines (codes "bbmcheck 1") (codes "certificate" ++ flat_map space_and_word (digest ∷ []))
     (codes "modules" ++ flat_map space_and_word (decimal count ∷ [])) (codes "verdict yes")
-    (flat_map (λ t. report_line_text (timing_report t)) times)
+    (flat_map (λ t. report_line_text (timing_report_line t)) times)
     refl (ap is_clean (append-nil digest) ∙ clean)
     (ap is_clean (append-nil (decimal count)) ∙ clean_decimal count) refl)
 fourth_by digest count times (verdict.No lines) clean = ap (λ ls. slice_get ls 3)
@@ -127,14 +119,14 @@ fourth_by digest count times (verdict.No lines) clean = ap (λ ls. slice_get ls 
     refl (ap is_clean (append-nil digest) ∙ clean)
     (ap is_clean (append-nil (decimal count)) ∙ clean_decimal count) refl)
 
-pub fourth_line : (c : CertView) (v : Verdict) → slice_get (lines_of (report_lines c v)) 3 ≡ Some (verdict_word v)
-unfolding report_lines
+pub fourth_line : (c : CertView) (v : Verdict) → slice_get (lines_of (report_text c v)) 3 ≡ Some (verdict_word v)
+unfolding report_text
 fourth_line c v = fourth_by (encode_lower (sha256 (certificate_text c))) (length (modules_of c.entries)) _ v
     (clean_hex (sha256 (certificate_text c)))
 
 -- the fourth line is the fourth part, and more parts follow it
 from_parts : (parts : List (List ℕ)) (w : List ℕ) → (slice_get parts 3 ≡ Some w) × (4 < length parts) →
-    slice_get (ended parts) 3 ≡ Some w
+    slice_get (ended_parts parts) 3 ≡ Some w
 from_parts [] w h = absurd (let e = h.1 in omega (arith, e))
 from_parts (a ∷ []) w h = absurd (let e = h.1 in omega (arith, e))
 from_parts (a ∷ b ∷ []) w h = absurd (let e = h.1 in omega (arith, e))
@@ -142,7 +134,7 @@ from_parts (a ∷ b ∷ c ∷ []) w h = absurd (let e = h.1 in omega (arith, e))
 from_parts (a ∷ b ∷ c ∷ d ∷ []) w h = absurd (let e = h.1 in omega (arith, e))
 from_parts (a ∷ b ∷ c ∷ d ∷ e ∷ parts) w h = h.0
 
-to_parts : (parts : List (List ℕ)) (w : List ℕ) → slice_get (ended parts) 3 ≡ Some w →
+to_parts : (parts : List (List ℕ)) (w : List ℕ) → slice_get (ended_parts parts) 3 ≡ Some w →
     (slice_get parts 3 ≡ Some w) × (4 < length parts)
 to_parts [] w h = absurd cc
 to_parts (a ∷ []) w h = absurd cc
@@ -167,13 +159,13 @@ yes_is_not_no : ◌≡◌ {A = Option (List ℕ)} (Some (codes "verdict no")) (S
 yes_is_not_no e = cc
 
 -- a report that says yes is one of a yes
-pub says_yes : (c : CertView) (v : Verdict) → FourthLineSaysYes (report_lines c v) → v ≡ verdict.Yes
+pub says_yes : (c : CertView) (v : Verdict) → FourthLineSaysYes (report_text c v) → v ≡ verdict.Yes
 says_yes c verdict.Yes e = refl
 says_yes c (verdict.No lines) e =
-    absurd (yes_is_not_no (sym (fourth_line c (verdict.No lines)) ∙ has_yes (report_lines c (verdict.No lines)) e))
+    absurd (yes_is_not_no (sym (fourth_line c (verdict.No lines)) ∙ has_yes (report_text c (verdict.No lines)) e))
 
-pub yes_says : (c : CertView) → FourthLineSaysYes (report_lines c verdict.Yes)
-yes_says c = says_yes_by_line (report_lines c verdict.Yes) (fourth_line c verdict.Yes)
+pub yes_says : (c : CertView) → FourthLineSaysYes (report_text c verdict.Yes)
+yes_says c = says_yes_by_line (report_text c verdict.Yes) (fourth_line c verdict.Yes)
 
 -- and the line for a refusal does not say yes
 abbrev refused : Refusal → List ℕ
@@ -196,22 +188,22 @@ refusal_says_none r e = none_is_no_yes (refused r)
 
 record Grown (parts more : List (List ℕ)) : Type 0 where
   pub others : List (List ℕ)
-  pub are : ended more ≡ ended parts ++ others
+  pub are : ended_parts more ≡ ended_parts parts ++ others
 
 grow : (x : ℕ) (parts more : List (List ℕ)) → 0 < length parts → Grown parts more →
     Grown (onto_first x parts) (onto_first x more)
 grow x [] more h g = absurd (omega (arith, h))
-grow x (p ∷ []) more h g = record { others = ended (onto_first x more); are = refl }
+grow x (p ∷ []) more h g = record { others = ended_parts (onto_first x more); are = refl }
 grow x (p ∷ p' ∷ parts) [] h g = absurd (let e = g.are in cc)
 grow x (p ∷ p' ∷ parts) (q ∷ []) h g = absurd (let e = g.are in cc)
 grow x (p ∷ p' ∷ parts) (q ∷ q' ∷ more) h g =
     let e = g.are in
     let heads : q ≡ p = cc in
-    let tails : ended (q' ∷ more) ≡ ended (p' ∷ parts) ++ g.others = cc in
+    let tails : ended_parts (q' ∷ more) ≡ ended_parts (p' ∷ parts) ++ g.others = cc in
     record { others = g.others; are = ap₂ (λ a b. (x ∷ a) ∷ b) heads tails }
 
 grown : (front rest : List ℕ) → Grown (slice_split is_line_feed front) (slice_split is_line_feed (front ++ rest))
-grown [] rest = record { others = ended (slice_split is_line_feed rest); are = refl }
+grown [] rest = record { others = ended_parts (slice_split is_line_feed rest); are = refl }
 grown (x ∷ front) rest = by_feed (is_line_feed x) (grown front rest)
   where
     by_feed : (t : Bool) → Grown (slice_split is_line_feed front) (slice_split is_line_feed (front ++ rest)) →
@@ -232,7 +224,8 @@ has_on : (front rest : List ℕ) → HasYes front → HasYes (front ++ rest)
 unfolding lines_of
 has_on front rest e =
     let g = grown front rest in
-    ap (λ ls. slice_get ls 3) g.are ∙ kept (ended (slice_split is_line_feed front)) g.others 3 (codes "verdict yes") e
+    ap (λ ls. slice_get ls 3) g.are
+    ∙ kept (ended_parts (slice_split is_line_feed front)) g.others 3 (codes "verdict yes") e
 
 pub says_on : (front rest : List ℕ) → FourthLineSaysYes front → FourthLineSaysYes (front ++ rest)
 says_on front rest e = says_yes_by_line (front ++ rest) (has_on front rest (has_yes front e))

@@ -1,22 +1,19 @@
 -- The modules without halo lines have the jobs of the modules whose halos are the edge lines beside them
-use Rattle.lemmas.proofs.Common.{[], ◌∙◌, ◌∷◌, ◌≡◌, List, Some, ap, ap₂, arith, false, length, map, refl, slice_get}
-use Rattle.lemmas.proofs.Common.{subst, suc, sym, zero, ℕ, length-map, mapped_at, mapped_from}
-use Rattle.circuit.specs.Bridge.{circuit_of}
-use Rattle.circuit.specs.Meaning.{Circuit}
-use Rattle.circuit.specs.declared.circuit_line.CircuitLine.{CircuitLine}
-use Rattle.pattern.specs.Layout.{Pattern}
-use Rattle.certificate_lines.specs.Entries.{Setting, ModuleLines, halos, known}
-use Rattle.certificate_lines.specs.Settings.{setting_of}
-use Rattle.module_job.specs.Jobs.{JobView, job_demand, job_start}
-use Rattle.certificate.specs.Jobs.{IsJobOf, AreJobsOf, line_signals, stops_of_lines}
-use Rattle.certificate_lines.specs.Modules.{AreModules, IsHalo}
+use Rattle.headline.proofs.Imports.{AreJobsOf, AreModules, Circuit, CircuitLine, JobView, List, ModuleLines, Pattern}
+use Rattle.headline.proofs.Imports.{Setting, Some, [], ap, ap₂, arith, circuit_of, false, job_demand, job_start, known}
+use Rattle.headline.proofs.Imports.{lacks_edge_wire_beside, length, length-map, map, numbered_all_times, numbered_event}
+use Rattle.headline.proofs.Imports.{numbered_signals, refl, setting_of, slice_get, subst, suc, sym, with_halos, zero, ℕ}
+use Rattle.headline.proofs.Imports.{◌∙◌, ◌∷◌, ◌≡◌}
+use Rattle.lemmas.proofs.Common.{mapped_at, mapped_from}
+use Rattle.certificate_lines.specs.Entries.{halos}
+use Rattle.certificate.specs.Jobs.{IsJobOf, line_signals, stops_of_lines}
+use Rattle.certificate_lines.specs.Modules.{IsHalo}
 use Rattle.module_job.specs.Signals.{IsSignalWireBelow}
-use Rattle.certificate_lines.specs.Versions.{lacks_edge_wire_beside, with_halos}
 use Rattle.certificate_lines.proofs.InList.{all_in}
 use Rattle.certificate.proofs.FullModules.{all_of_each, full_cuts, full_edges, full_gates, full_keeps, full_known}
 use Rattle.certificate.proofs.FullModules.{full_modules, full_stops}
 use Rattle.certificate_lines.proofs.LineOrder.{in_each}
-use Rattle.soundness.proofs.NumberedSignals.{IsNamed, lines_back, numbered_event, numbered_all_times, numbered_signals}
+use Rattle.soundness.proofs.NumberedSignals.{IsNamed, lines_back}
 use Rattle.certificate_lines.proofs.Pairs.{Each}
 
 -- ---- the job of a module with the edge lines beside it

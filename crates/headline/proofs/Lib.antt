@@ -32,3 +32,4 @@ mod StillMirrors
 mod Printed
 pub mod YesIsPrinted
 mod AcceptedMigrations
+pub mod Imports

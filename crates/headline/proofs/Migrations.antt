@@ -1,55 +1,36 @@
 -- The output of `migrate` says what was read, in version 2.
-use Rattle.lemmas.proofs.Common.{[], ◌++◌, ◌+◌, ◌∙◌, ◌∷◌, ◌≡◌, Bool, Err, List, None, Ok, Option, Result, Some}
-use Rattle.lemmas.proofs.Common.{ap, append-nil, append_assoc, ap₂, arith, codes, false, flat_map, if◌then◌else◌}
-use Rattle.lemmas.proofs.Common.{length, length-append, not, refl, subst, sym, take, take-append-drop, true, ℕ}
-use Rattle.lemmas.proofs.Common.{drop-append_seam, flat_map-append, length-map, common_steps}
-use Rattle.section_text.specs.Words.{is_word_at, lines_of, lone_number, number_at, number_of}
-use Rattle.section_text.specs.Words.{bytes_after_last_line_feed, words_of}
-use Rattle.section_text.specs.Codes.{code_if, or_else}
-use Rattle.section_text.specs.SaidSection.{IsSection}
-use Rattle.section_text.specs.Section.{Grammar, with_line_feed}
-use Rattle.section_text.specs.Sections.{value_if_at_end, section_then}
-use Rattle.section_text.specs.declared.fault.Refusal.{Refusal}
-use Rattle.section_text.specs.declared.section.Form.TheVariants.{Header, Item, End}
-use Rattle.section_text.proofs.Again.{AreLines, lines_again, lines_clean}
-use Rattle.section_text.proofs.Good.{AreFaultless, IsFaultless, read_faultless}
+use Rattle.headline.proofs.Imports.{AnswersOrRefuses, AreFaultless, AreLines, Bool, Bundle, CertificateLine}
+use Rattle.headline.proofs.Imports.{CircuitLine, End, Err, Grammar, Header, IsFaultless, IsMigrationOf, IsSection, Item}
+use Rattle.headline.proofs.Imports.{LayoutHeader, LayoutLine, List, None, Ok, Option, Pattern, Refusal, RefusalCode}
+use Rattle.headline.proofs.Imports.{Refused, Result, SaysBundle, SaysDesign, SaysMigration, Setting, Some, Yes, [], ap}
+use Rattle.headline.proofs.Imports.{append-nil, append_assoc, ap₂, arith, bundle_of, bundle_text}
+use Rattle.headline.proofs.Imports.{bytes_after_last_line_feed, certificate_grammar, certificate_section_text}
+use Rattle.headline.proofs.Imports.{circuit_grammar, clean_both, code_if, codes, common_steps, false, flat_map}
+use Rattle.headline.proofs.Imports.{flat_map-append, if◌then◌else◌, is_word_at, layout_grammar, layout_of}
+use Rattle.headline.proofs.Imports.{layout_section_text, length, length-append, length-map, lines_again, lines_of}
+use Rattle.headline.proofs.Imports.{migrate_of, migrated_bundle, not, nothing_follows, number_after_keyword, number_at}
+use Rattle.headline.proofs.Imports.{number_of, one_line, one_section, or_else, parts_of, port_names_of, read_faultless}
+use Rattle.headline.proofs.Imports.{refl, section_made, section_said, setting_of, subst, sym, take, take-append-drop}
+use Rattle.headline.proofs.Imports.{text_said, true, value_if_at_end, with_line_feed, without_halos, words_of, ℕ, ◌++◌}
+use Rattle.headline.proofs.Imports.{◌+◌, ◌∙◌, ◌∷◌, ◌≡◌}
+use Rattle.lemmas.proofs.Common.{drop-append_seam}
+use Rattle.section_text.specs.Sections.{section_then}
+use Rattle.section_text.proofs.Again.{lines_clean}
 use Rattle.section_text.proofs.Joined.{at_the_end}
 use Rattle.section_text.proofs.Lines.{whole_text}
-use Rattle.section_text.proofs.MadeSections.{clean_both, clean_left, clean_right, forms, items_said, nothing_follows}
-use Rattle.section_text.proofs.MadeSections.{one_line, section_made, text_said}
-use Rattle.section_text.proofs.SaidSections.{one_section, section_said}
+use Rattle.section_text.proofs.MadeSections.{clean_left, clean_right, forms, items_said}
+use Rattle.certificate_lines.specs.Versions.{is_halo}
+use Rattle.headline.specs.Migration.{MigrationKeepsVersionTwo, MigrationIsIdempotent, MigrationSaysTheSame}
+use Rattle.headline.proofs.YesIsRight.{bundle_good, in_sections, past_circuit, past_layout}
 use Rattle.circuit.specs.Forms.{form_of as circuit_form}
-use Rattle.circuit.specs.Grammars.{circuit_grammar}
 use Rattle.circuit.specs.Text.{circuit_text, form_text as circuit_line}
-use Rattle.circuit.specs.declared.circuit_line.CircuitLine.{CircuitLine}
 use Rattle.circuit.proofs.Spelling.{form_line as circuit_spelled}
 use Rattle.pattern.specs.Forms.{form_of as layout_form}
-use Rattle.pattern.specs.FromLines.{layout_of}
-use Rattle.pattern.specs.Grammars.{layout_grammar}
-use Rattle.pattern.specs.Layout.{Pattern, parts_of}
 use Rattle.pattern.specs.Text.{form_text as layout_line}
-use Rattle.pattern.specs.declared.layout_line.LayoutHeader.{LayoutHeader}
-use Rattle.pattern.specs.declared.layout_line.LayoutLine.{LayoutLine}
 use Rattle.pattern.proofs.Spelling.{form_line as layout_spelled}
-use Rattle.certificate_lines.specs.Entries.{Setting}
 use Rattle.certificate_lines.specs.Forms.{form_of as certificate_form}
-use Rattle.certificate.specs.Grammars.{certificate_grammar}
-use Rattle.certificate_lines.specs.Settings.{setting_of}
 use Rattle.certificate.specs.Text.{form_text as certificate_line}
-use Rattle.certificate_lines.specs.Versions.{is_halo, without_halos}
-use Rattle.certificate_lines.specs.declared.certificate_line.CertificateLine.{CertificateLine}
 use Rattle.certificate.proofs.Spelling.{form_line as certificate_spelled}
-use Rattle.core_book.specs.Concluding.{port_names_of}
-use Rattle.answers.specs.Answers.{Answered}
-use Rattle.answers.specs.BundleText.{Bundle, bundle_of}
-use Rattle.answers.specs.MigrateText.{IsMigrationOf, SaysMigration, bundle_text, certificate_lines, migrated_bundle}
-use Rattle.answers.specs.MigrateText.{layout_lines, migrate_of}
-use Rattle.answers.specs.declared.outcome.Outcome.TheVariants.{Yes, Refused}
-use Rattle.headline.specs.Migration.{MigrationKeepsVersionTwo, MigrationIsIdempotent, MigrationSaysTheSame}
-use Rattle.meaning.specs.Design.{SaysDesign}
-use Rattle.headline.specs.Stops.{SaysBundle}
-use Rattle.section_text.specs.declared.code.RefusalCode.{RefusalCode}
-use Rattle.headline.proofs.YesIsRight.{bundle_good, in_sections, past_circuit, past_layout}
 
 -- ---- a text by its sections
 
@@ -199,7 +180,7 @@ said_so text b circuit layout certificate s says =
 sections_text : (b : Bundle) (first second third : List (List ℕ)) → IsSection circuit_form first tt b.circuit →
     IsSection layout_form second b.size b.parts → IsSection certificate_form third b.version b.entries
     → flat_map with_line_feed (first ++ (second ++ third)) ≡ bundle_text b
-unfolding bundle_text layout_lines certificate_lines circuit_text
+unfolding bundle_text layout_section_text certificate_section_text circuit_text
 sections_text b first second third c l k =
     let setting : Setting = setting_of b.circuit (layout_of b.size b.parts) in
     let one = text_said circuit_grammar circuit_line circuit_spelled first tt b.circuit c
@@ -265,7 +246,7 @@ header : List ℕ
 header = codes "certificate 2"
 
 header_said : certificate_form (words_of header) ≡ Some (Header 2)
-unfolding header certificate_form is_word_at lone_number number_at number_of
+unfolding header certificate_form is_word_at number_after_keyword number_at number_of
 header_said = refl
 
 header_clean : AreLines (header ∷ [])
@@ -316,7 +297,7 @@ not_refused e = cc
 pub was_migrated : (text output : List ℕ) → IsMigrationOf text output Yes → IsMigrated text output
 was_migrated text output says = by (bundle_of text) refl says
   where
-    by : (read : Result Bundle Refusal) → bundle_of text ≡ read → Answered SaysMigration read output Yes →
+    by : (read : Result Bundle Refusal) → bundle_of text ≡ read → AnswersOrRefuses SaysMigration read output Yes →
         IsMigrated text output
     by (Ok b) e says = record { bundle = b; read = e; says = says.says }
     by (Err refusal) e told = absurd (not_refused told.1)

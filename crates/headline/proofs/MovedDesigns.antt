@@ -1,17 +1,8 @@
 -- A small design that computes its circuit gets a yes after it is moved
-use Rattle.lemmas.proofs.Common.{◌∙◌, ◌≡◌, IsTrue, List, arith, subst, sym, ℕ, common_steps}
-use Rattle.circuit.specs.Bridge.{circuit_of}
-use Rattle.circuit.specs.declared.circuit_line.CircuitLine.{CircuitLine}
-use Rattle.pattern.specs.Layout.{Pattern}
-use Rattle.module_box.specs.Boxes.{in_ring}
-use Rattle.certificate_lines.specs.Rules.{whole}
-use Rattle.soundness.specs.PlainCertificates.{TouchesRim}
-use Rattle.answers.specs.CheckText.{IsReportOf}
-use Rattle.answers.specs.declared.outcome.Outcome.{Outcome}
-use Rattle.answers.specs.declared.outcome.Outcome.TheVariants.{Yes}
-use Rattle.meaning.specs.Implements.{IsCorrect, run_under}
-use Rattle.headline.specs.MovedDesigns.{EachCorrectDesignGetsYes, HasRoom, enlarged, moved}
-use Rattle.headline.specs.SmallDesigns.{IsDesign, IsSmallDesign, design_text}
+use Rattle.headline.proofs.Imports.{CircuitLine, HasRoom, IsCorrect, IsDesign, IsReportOf, IsSmallDesign, IsTrue, List}
+use Rattle.headline.proofs.Imports.{Outcome, Pattern, TouchesRim, Yes, arith, circuit_of, common_steps, design_text}
+use Rattle.headline.proofs.Imports.{enlarged, in_ring, moved, run_under, subst, sym, whole, ℕ, ◌∙◌, ◌≡◌}
+use Rattle.headline.specs.MovedDesigns.{EachCorrectDesignGetsYes}
 use Rattle.headline.proofs.MovedLines.{enlarged_good, moved_good}
 use Rattle.headline.proofs.MovedPlanes.{by_moved}
 use Rattle.headline.proofs.MovedRims.{not_rim}

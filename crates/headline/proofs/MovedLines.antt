@@ -1,19 +1,14 @@
 -- The lines of a moved layout keep the rules of lines
-use Rattle.lemmas.proofs.Common.{common_steps}
-use Rattle.lemmas.proofs.Common.{[], ◌&&◌, ◌++◌, ◌+ℤ◌, ◌+◌, ◌||◌, ◌∙◌, ◌∷◌, ◌≡◌, ◌≤◌, Bool, List, None, ap, ap₂, arith}
-use Rattle.lemmas.proofs.Common.{cond, false, flat_map, map, nat_le, negsuc, not, pos, refl, suc, sym, true}
-use Rattle.lemmas.proofs.Common.{zero, ℕ, ℤ, and_parts, ints, list_any, map-append, nat_tests, range_with_len}
-use Rattle.bbm_rule.specs.Spans.{in_span}
-use Rattle.bbm_rule.proofs.Spans.{in_span-negsuc, span_from, span_parts}
-use Rattle.section_text.specs.Codes.{code_if}
-use Rattle.section_text.specs.declared.code.RefusalCode.TheVariants.{PastLimit, TakenCell}
-use Rattle.pattern.specs.Layout.{Pattern, in_layout, parts_of, rectangle_cells, row_cells}
-use Rattle.pattern.specs.Lines.{AreGoodAfter, begins, cells_taken_at_start, cell_fault, cells_of, ended, ends, holds}
-use Rattle.pattern.specs.Lines.{is_inside, is_layout_side, is_taken, limit_fault, size_fault}
-use Rattle.pattern.specs.declared.layout_line.LayoutHeader.{LayoutHeader}
-use Rattle.pattern.specs.declared.layout_line.LayoutLine.{LayoutLine}
-use Rattle.pattern.specs.declared.layout_line.LayoutLine.TheVariants.{Mirror, Ball, In, Out, Waste}
-use Rattle.headline.specs.MovedDesigns.{enlarged, moved, moved_by_two, port_moved_by_two, rectangle_moved_by_two}
+use Rattle.headline.proofs.Imports.{Ball, Bool, In, LayoutHeader, LayoutLine, List, Mirror, None, Out, PastLimit}
+use Rattle.headline.proofs.Imports.{Pattern, TakenCell, Waste, [], and_parts, ap, ap₂, arith, cell_fault, cells_of}
+use Rattle.headline.proofs.Imports.{cells_taken_at_start, code_if, common_steps, cond, enlarged, false, flat_map}
+use Rattle.headline.proofs.Imports.{in_layout, in_span, in_span-negsuc, ints, is_inside, is_layout_side, is_taken}
+use Rattle.headline.proofs.Imports.{limit_fault, list_any, map, map-append, moved, moved_by_two, nat_le, nat_tests}
+use Rattle.headline.proofs.Imports.{negsuc, not, parts_of, port_moved_by_two, pos, range_with_len, rectangle_cells}
+use Rattle.headline.proofs.Imports.{rectangle_moved_by_two, refl, size_fault, span_from, span_parts, suc, sym}
+use Rattle.headline.proofs.Imports.{takes_at_start, true, zero, ℕ, ℤ, ◌&&◌, ◌++◌, ◌+ℤ◌, ◌+◌, ◌||◌, ◌∙◌, ◌∷◌, ◌≡◌, ◌≤◌}
+use Rattle.pattern.specs.Layout.{row_cells}
+use Rattle.pattern.specs.Lines.{AreGoodAfter, cells_taken_at_end, takes_at_end, holds}
 use Rattle.headline.proofs.MovedPlanes.{any_map, cells_moved}
 
 -- ---- lines
@@ -66,16 +61,16 @@ holds_moved part x y = grind (arith, common_steps, line_cells_moved, cells_moved
 
 -- ---- cells that are taken
 
-begins_moved : (part : LayoutLine) → begins (moved_line part) ≡ begins part
-unfolding begins
+begins_moved : (part : LayoutLine) → takes_at_start (moved_line part) ≡ takes_at_start part
+unfolding takes_at_start
 begins_moved (Mirror r) = refl
 begins_moved (Ball c) = refl
 begins_moved (In q) = refl
 begins_moved (Out q) = refl
 begins_moved (Waste c) = refl
 
-ends_moved : (part : LayoutLine) → ends (moved_line part) ≡ ends part
-unfolding ends
+ends_moved : (part : LayoutLine) → takes_at_end (moved_line part) ≡ takes_at_end part
+unfolding takes_at_end
 ends_moved (Mirror r) = refl
 ends_moved (Ball c) = refl
 ends_moved (In q) = refl
@@ -88,8 +83,8 @@ unfolding cells_taken_at_start
 begun_moved parts x y = grind (arith, common_steps, any_map, begins_moved, holds_moved)
 
 ended_moved : (parts : List LayoutLine) (x y : ℤ) →
-    ended (moved_lines parts) (x +ℤ pos 2) (y +ℤ pos 2) ≡ ended parts x y
-unfolding ended
+    cells_taken_at_end (moved_lines parts) (x +ℤ pos 2) (y +ℤ pos 2) ≡ cells_taken_at_end parts x y
+unfolding cells_taken_at_end
 ended_moved parts x y = grind (arith, common_steps, any_map, ends_moved, holds_moved)
 
 taken_moved : (before : List LayoutLine) (part : LayoutLine) →
@@ -103,10 +98,10 @@ taken_moved before part = λ i. cond (begins_moved part i) (at_start i) (at_end 
         ap (list_any (λ c. cells_taken_at_start (moved_lines before) c.x c.y)) (line_cells_moved part)
         ∙ any_map moved_by_two _ _ (λ c. begun_moved before c.x c.y) (cells_of part)
 
-    at_end : list_any (λ c. ended (moved_lines before) c.x c.y) (cells_of (moved_line part))
-        ≡ list_any (λ c. ended before c.x c.y) (cells_of part)
+    at_end : list_any (λ c. cells_taken_at_end (moved_lines before) c.x c.y) (cells_of (moved_line part))
+        ≡ list_any (λ c. cells_taken_at_end before c.x c.y) (cells_of part)
     at_end =
-        ap (list_any (λ c. ended (moved_lines before) c.x c.y)) (line_cells_moved part)
+        ap (list_any (λ c. cells_taken_at_end (moved_lines before) c.x c.y)) (line_cells_moved part)
         ∙ any_map moved_by_two _ _ (λ c. ended_moved before c.x c.y) (cells_of part)
 
 -- ---- cells inside

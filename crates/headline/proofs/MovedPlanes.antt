@@ -1,15 +1,14 @@
 -- The plane of a moved design is the moved plane, at each time
-use Rattle.lemmas.proofs.Common.{[], ◌&&◌, ◌+ℤ◌, ◌+◌, ◌-ℤ◌, ◌||◌, ◌∷◌, ◌≡◌, Bool, List, ap, ap₂, arith, int_eq, map}
-use Rattle.lemmas.proofs.Common.{pos, refl, subst, suc, zero, ℕ, ℤ, ints, list_any, common_steps}
+use Rattle.headline.proofs.Imports.{Bool, Box2, Cell, List, Pattern, Port, [], ap, ap₂, arith, common_steps, in_cells}
+use Rattle.headline.proofs.Imports.{in_rectangles, ints, list_any, map, moved, moved_by_two, port_moved_by_two, pos}
+use Rattle.headline.proofs.Imports.{rectangle_moved_by_two, refl, run, start, subst, suc, zero, ℕ, ℤ, ◌&&◌, ◌+ℤ◌, ◌+◌}
+use Rattle.headline.proofs.Imports.{◌-ℤ◌, ◌||◌, ◌∷◌, ◌≡◌}
+use Rattle.lemmas.proofs.Common.{int_eq}
 use Rattle.bbm_rule.specs.Moves.{IsMoved}
-use Rattle.bbm_rule.specs.Plane.{is_at, run}
-use Rattle.bbm_rule.specs.declared.block.Cell.{Cell}
+use Rattle.bbm_rule.specs.Plane.{is_at}
 use Rattle.bbm_rule.proofs.Moving.{step_moved}
-use Rattle.pattern.specs.Layout.{Pattern, in_cells, in_ports_on, in_rectangle, in_rectangles, start}
-use Rattle.pattern.specs.declared.layout_line.Port.{Port}
-use Rattle.pattern.specs.declared.layout_line.Rectangle.{Rectangle}
+use Rattle.pattern.specs.Layout.{in_ports_on, in_rectangle}
 use Rattle.module_box.proofs.MovedBoxes.{span_moved}
-use Rattle.headline.specs.MovedDesigns.{moved, moved_by_two, port_moved_by_two, rectangle_moved_by_two}
 
 -- ---- coordinates
 
@@ -25,7 +24,7 @@ by_moved P h x y =
 eq_moved : (a b : ℤ) → int_eq (a +ℤ pos 2) (b +ℤ pos 2) ≡ int_eq a b
 eq_moved a b = grind (arith, ints)
 
-area_moved : (r : Rectangle) (x y : ℤ) →
+area_moved : (r : Box2) (x y : ℤ) →
     in_rectangle (rectangle_moved_by_two r) (x +ℤ pos 2) (y +ℤ pos 2) ≡ in_rectangle r x y
 area_moved r x y = ap₂ (λ a b. a && b)
     (span_moved r.x (r.x + 2) r.w r.w (pos 2) x (from r.x) refl)
@@ -48,7 +47,7 @@ pub cells_moved : (cs : List Cell) (x y : ℤ) →
     in_cells (map moved_by_two cs) (x +ℤ pos 2) (y +ℤ pos 2) ≡ in_cells cs x y
 cells_moved cs x y = any_map moved_by_two _ _ (λ c. is_at_moved c x y) cs
 
-pub rectangles_moved : (rs : List Rectangle) (x y : ℤ) →
+pub rectangles_moved : (rs : List Box2) (x y : ℤ) →
     in_rectangles (map rectangle_moved_by_two rs) (x +ℤ pos 2) (y +ℤ pos 2) ≡ in_rectangles rs x y
 rectangles_moved rs x y = any_map rectangle_moved_by_two _ _ (λ r. area_moved r x y) rs
 

@@ -1,13 +1,9 @@
 -- A moved layout keeps off its rim
-use Rattle.lemmas.proofs.Common.{◌&&◌, ◌+ℤ◌, ◌+◌, ◌-ℤ◌, ◌∙◌, ◌≡◌, ap₂, arith, false, negsuc, pos, sym, true, ℕ, ℤ}
-use Rattle.lemmas.proofs.Common.{and_parts, ints, common_steps}
-use Rattle.bbm_rule.specs.Spans.{in_span}
-use Rattle.bbm_rule.proofs.Spans.{in_span-negsuc, span_from, span_parts}
-use Rattle.module_box.specs.Boxes.{in_box, in_ring}
+use Rattle.headline.proofs.Imports.{LayoutHeader, and_parts, ap₂, arith, common_steps, false, in_box, in_layout}
+use Rattle.headline.proofs.Imports.{in_ring, in_span, in_span-negsuc, ints, negsuc, pos, span_from, span_parts, sym}
+use Rattle.headline.proofs.Imports.{true, ℕ, ℤ, ◌&&◌, ◌+ℤ◌, ◌+◌, ◌-ℤ◌, ◌∙◌, ◌≡◌}
 use Rattle.module_box.specs.Tiling.{rectangle_of}
-use Rattle.module_box.proofs.RingTests.{ring_read}
-use Rattle.pattern.specs.Layout.{in_layout}
-use Rattle.pattern.specs.declared.layout_line.LayoutHeader.{LayoutHeader}
+use Rattle.bbm_rule.proofs.RingTests.{ring_read}
 
 -- a number of the old span, and the two numbers next to it, are in the enlarged span
 record IsInner (n : ℕ) (x : ℤ) : Type 0 where

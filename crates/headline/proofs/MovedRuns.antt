@@ -1,16 +1,12 @@
 -- A layout that computes a circuit does so after it is moved
-use Rattle.lemmas.proofs.Common.{[], ◌+ℤ◌, ◌∙◌, ◌∷◌, ◌≡◌, Bool, IsFalse, IsTrue, List, None, Some, ap, map, option_map}
-use Rattle.lemmas.proofs.Common.{pos, refl, slice_get, subst, sym, true, ℕ, ℤ, slice_get-map}
-use Rattle.bbm_rule.specs.Plane.{State}
-use Rattle.section_text.specs.Words.{has}
-use Rattle.circuit.specs.Bridge.{circuit_of, input_names, output_names}
-use Rattle.circuit.specs.Meaning.{Circuit, Valuation, values_by_name}
-use Rattle.circuit.specs.declared.circuit_line.CircuitLine.{CircuitLine}
-use Rattle.pattern.specs.Layout.{Pattern, IsDeadOutside, in_cells, in_layout, in_rectangles}
-use Rattle.pattern.specs.declared.layout_line.Port.{Port}
-use Rattle.meaning.specs.Implements.{Computes, HaveNames, Implements, IsCorrect, IsNamed, LooksAsAsked, in_ports}
-use Rattle.meaning.specs.Implements.{run_under}
-use Rattle.headline.specs.MovedDesigns.{enlarged, moved, port_moved_by_two}
+use Rattle.headline.proofs.Imports.{Bool, Circuit, CircuitLine, HaveNames, IsCorrect, IsDeadOutside, IsNamed, IsTrue}
+use Rattle.headline.proofs.Imports.{List, LooksAsAsked, None, Pattern, Port, Some, State, Valuation, [], ap, circuit_of}
+use Rattle.headline.proofs.Imports.{enlarged, has, in_cells, in_layout, in_rectangles, input_names, map, moved}
+use Rattle.headline.proofs.Imports.{option_map, output_names, port_moved_by_two, pos, refl, run_under, slice_get}
+use Rattle.headline.proofs.Imports.{slice_get-map, subst, sym, true, ℕ, ℤ, ◌+ℤ◌, ◌∙◌, ◌∷◌, ◌≡◌}
+use Rattle.lemmas.proofs.Common.{IsFalse}
+use Rattle.circuit.specs.Meaning.{values_by_name}
+use Rattle.meaning.specs.Implements.{Computes, Implements, in_ports}
 use Rattle.headline.proofs.MovedLines.{layout_enlarged}
 use Rattle.headline.proofs.MovedPlanes.{any_map, by_moved, cells_moved, is_at_moved, rectangles_moved, run_moved}
 

@@ -1,10 +1,6 @@
 -- A text has one listing of modules, and one migration.
-use Rattle.lemmas.proofs.Common.{◌∙◌, ◌≡◌, List, sym, ℕ, arith, common_steps}
-use Rattle.answers.specs.BundleText.{Bundle}
-use Rattle.answers.specs.MigrateText.{IsMigrationOf, SaysMigration}
-use Rattle.answers.specs.ModulesText.{IsModulesOf, SaysModules}
-use Rattle.answers.specs.declared.outcome.Outcome.{Outcome}
-use Rattle.headline.specs.Laws.{HasAtMostOneAnswer}
+use Rattle.headline.proofs.Imports.{Bundle, HasAtMostOneAnswer, IsMigrationOf, IsModulesOf, List, Outcome}
+use Rattle.headline.proofs.Imports.{SaysMigration, SaysModules, arith, common_steps, sym, ℕ, ◌∙◌, ◌≡◌}
 use Rattle.headline.proofs.OneAnswer.{answered_once}
 
 one_listing : (bundle : Bundle) (output output' : List ℕ) (outcome outcome' : Outcome) →

@@ -1,25 +1,15 @@
 -- A text has one report.
-use Rattle.lemmas.proofs.Common.{◌<◌, ◌∙◌, ◌≡◌, List, None, Option, Some, ap, arith}
-use Rattle.lemmas.proofs.Common.{length, refl, slice_get, subst, sym, ℕ, slice_get_within, common_steps}
-use Rattle.circuit.specs.Bridge.{circuit_of}
-use Rattle.certificate_lines.specs.Entries.{ModuleLines}
-use Rattle.certificate.specs.Grammars.{CertView, modules_in}
-use Rattle.certificate_lines.specs.Settings.{setting_of}
-use Rattle.module_job.specs.Jobs.{JobView}
-use Rattle.certificate.specs.Jobs.{AreJobsOf}
-use Rattle.certificate_lines.specs.Modules.{AreModules}
+use Rattle.headline.proofs.Imports.{AreJobsOf, AreModules, Bundle, CertView, HasAtMostOneAnswer, IsReportOf, IsVerdict}
+use Rattle.headline.proofs.Imports.{IsVerdictOn, JobView, List, ModuleLines, None, Option, Outcome, SaysReport, Some}
+use Rattle.headline.proofs.Imports.{Verdict, ap, arith, circuit_of, common_steps, length, modules_in, refl, report_text}
+use Rattle.headline.proofs.Imports.{setting_of, slice_get, slice_get_within, subst, sym, verdict_outcome, ℕ, ◌<◌, ◌∙◌}
+use Rattle.headline.proofs.Imports.{◌≡◌}
 use Rattle.soundness.proofs.ModuleJobs.{one_job}
 use Rattle.core_book.specs.CoreLaws.{AreSameVerdicts}
-use Rattle.core_book.specs.Verdicts.{IsVerdict}
-use Rattle.core_book.specs.declared.verdict.Verdict.{Verdict}
-use Rattle.core_book.specs.declared.verdict.Verdict.TheVariants as verdict
 use Rattle.core_book.proofs.OneVerdict.{none-past, same-elements, verdict-is-one}
-use Rattle.report.specs.ReportText.{report_lines}
-use Rattle.answers.specs.BundleText.{Bundle}
-use Rattle.answers.specs.CheckText.{IsCertificateOf, IsReportOf, IsVerdictOn, SaysReport, verdict_outcome}
-use Rattle.headline.specs.Laws.{HasAtMostOneAnswer}
-use Rattle.answers.specs.declared.outcome.Outcome.{Outcome}
+use Rattle.answers.specs.CheckText.{IsCertificateOf}
 use Rattle.headline.proofs.OneAnswer.{answered_once, one_layout}
+use Rattle.core_book.specs.declared.verdict.Verdict.TheVariants as verdict
 
 -- ---- modules have one list of jobs
 
@@ -58,8 +48,8 @@ one_verdict c v w a b =
 
 -- ---- what is written of it
 
-same_lines : (c : CertView) (v w : Verdict) → AreSameVerdicts v w → report_lines c v ≡ report_lines c w
-unfolding report_lines
+same_lines : (c : CertView) (v w : Verdict) → AreSameVerdicts v w → report_text c v ≡ report_text c w
+unfolding report_text
 same_lines c verdict.Yes verdict.Yes same = refl
 same_lines c verdict.Yes (verdict.No lines) same = absurd same
 same_lines c (verdict.No lines) verdict.Yes same = absurd same
@@ -87,7 +77,7 @@ one_said bundle output output' outcome outcome' h h' =
     let said : AreSameVerdicts h.verdict h'.verdict =
     one_verdict h.certificate h.verdict h'.verdict h.is_verdict
     (subst (λ c. IsVerdictOn c h'.verdict) (sym same) h'.is_verdict) in (
-      h.says ∙ same_lines h.certificate h.verdict h'.verdict said ∙ ap (λ c. report_lines c h'.verdict) same
+      h.says ∙ same_lines h.certificate h.verdict h'.verdict said ∙ ap (λ c. report_text c h'.verdict) same
           ∙ sym h'.says,
       h.ends ∙ same_outcome h.verdict h'.verdict said ∙ sym h'.ends,
     )

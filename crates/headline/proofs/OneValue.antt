@@ -1,15 +1,13 @@
 -- A circuit has one answer.
-use Rattle.lemmas.proofs.Common.{[], ◌++◌, ◌<◌, ◌∙◌, ◌∷◌, ◌≡◌, ◌⊎◌, Bool, List, ap, ap₂, arith, codes, false, inl, inr}
-use Rattle.lemmas.proofs.Common.{length, refl, slice_index_or, subst, suc, sym, zero, ℕ, decimal}
-use Rattle.circuit.specs.Entries.{defined}
-use Rattle.circuit.specs.Bridge.{AreValues, StopsAt, netlist_of, read}
-use Rattle.circuit.specs.Meaning.{AreOrdered, Netlist, Valuation, first_gates}
+use Rattle.headline.proofs.Imports.{AreOrdered, Bool, HasAtMostOneAnswer, IsValueOf, List, Outcome, SaysValues}
+use Rattle.headline.proofs.Imports.{Valuation, ValueQuestion, [], ap, ap₂, arith, as_values, codes, decimal, defined}
+use Rattle.headline.proofs.Imports.{false, inl, inr, length, line_text, netlist_of, refl, subst, suc, sym, value_lines}
+use Rattle.headline.proofs.Imports.{value_sections_of, zero, ℕ, ◌++◌, ◌<◌, ◌∙◌, ◌∷◌, ◌≡◌, ◌⊎◌}
+use Rattle.lemmas.proofs.Common.{slice_index_or}
+use Rattle.circuit.specs.Bridge.{AreValues, ValuesStopAt}
+use Rattle.circuit.specs.Meaning.{Netlist, first_gates}
 use Rattle.circuit.proofs.Undefined.{stopped, undefined_has_none, undefined_is_one}
-use Rattle.section_text.specs.Spelling.{line_text}
-use Rattle.circuit.specs.Text.{value_lines}
-use Rattle.answers.specs.ValueText.{SaysAll, SaysSome, IsValueOf, CircuitAndNamesOn, SaysValues, value_sections_of}
-use Rattle.answers.specs.declared.outcome.Outcome.{Outcome}
-use Rattle.headline.specs.Laws.{HasAtMostOneAnswer}
+use Rattle.answers.specs.ValueText.{SaysAllValues, SaysValuesBeforeGate}
 use Rattle.headline.proofs.OneAnswer.{answered_once}
 
 same_bits : (xs ys : List Bool) → length xs ≡ length ys →
@@ -21,24 +19,27 @@ same_bits (x ∷ xs) (y ∷ ys) e same =
     ap₂ (λ b bs. b ∷ bs) (same zero (omega arith)) (same_bits xs ys (omega arith) (λ w h. same (suc w) (omega arith)))
 
 one_list : (n : Netlist) (a : Valuation) (vs us : List Bool) → AreValues n a vs → AreValues n a us → vs ≡ us
-one_list n a vs us h h' = same_bits vs us (h.all ∙ sym h'.all) (λ w below. sym (h.only (read us) h'.satisfies w below))
+one_list n a vs us h h' = same_bits vs us (h.all ∙ sym h'.all)
+    (λ w below. sym (h.only (as_values us) h'.satisfies w below))
 
 -- values and a gate without a row exclude each other, and there is one such gate
 never_both : (n : Netlist) (a : Valuation) (k : ℕ) (vs us : List Bool) → AreOrdered n.given n.gates → AreValues n a vs →
-    StopsAt n a k us → ⊥
-never_both n a k vs us ordered v s = undefined_has_none n a (read vs) k ordered (stopped n a k us s) v.satisfies
+    ValuesStopAt n a k us → ⊥
+never_both n a k vs us ordered v s = undefined_has_none n a (as_values vs) k ordered (stopped n a k us s) v.satisfies
 
-one_stop : (n : Netlist) (a : Valuation) (k m : ℕ) (vs us : List Bool) → AreOrdered n.given n.gates → StopsAt n a k vs →
-    StopsAt n a m us → (k ≡ m) × (vs ≡ us)
+one_stop : (n : Netlist) (a : Valuation) (k m : ℕ) (vs us : List Bool) → AreOrdered n.given n.gates →
+    ValuesStopAt n a k vs →
+    ValuesStopAt n a m us → (k ≡ m) × (vs ≡ us)
 one_stop n a k m vs us ordered s t =
     let same : k ≡ m = undefined_is_one n a k m ordered (stopped n a k vs s) (stopped n a m us t) in
     let before : AreValues (first_gates k n) a us = subst (λ j. AreValues (first_gates j n) a us) (sym same) t.before in
     (same, one_list (first_gates k n) a vs us s.before before)
 
-one_of : (asked : CircuitAndNamesOn) (output output' : List ℕ) (outcome outcome' : Outcome) →
+one_of : (asked : ValueQuestion) (output output' : List ℕ) (outcome outcome' : Outcome) →
     AreOrdered (netlist_of asked.0).given (netlist_of asked.0).gates →
-    SaysAll asked output outcome ⊎ SaysSome asked output outcome →
-    SaysAll asked output' outcome' ⊎ SaysSome asked output' outcome' → (output ≡ output') × (outcome ≡ outcome')
+    SaysAllValues asked output outcome ⊎ SaysValuesBeforeGate asked output outcome →
+    SaysAllValues asked output' outcome' ⊎ SaysValuesBeforeGate asked output' outcome' →
+    (output ≡ output') × (outcome ≡ outcome')
 one_of asked output output' outcome outcome' ordered (inl h) (inl h') =
     let same = one_list (netlist_of asked.0) _ h.values h'.values h.are h'.are in
     (h.says ∙ ap (value_lines (defined asked.0)) same ∙ sym h'.says, h.ends ∙ sym h'.ends)
@@ -54,7 +55,7 @@ one_of asked output output' outcome outcome' ordered (inr h) (inr h') =
       h.ends ∙ sym h'.ends,
     )
 
-one_evaluation : (asked : CircuitAndNamesOn) (output output' : List ℕ) (outcome outcome' : Outcome) →
+one_evaluation : (asked : ValueQuestion) (output output' : List ℕ) (outcome outcome' : Outcome) →
     SaysValues asked output outcome → SaysValues asked output' outcome' → (output ≡ output') × (outcome ≡ outcome')
 one_evaluation asked output output' outcome outcome' h h' =
     one_of asked output output' outcome outcome' h.ordered h.says h'.says

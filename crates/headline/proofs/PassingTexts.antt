@@ -1,27 +1,12 @@
 -- A text is accepted if its modules pass tests, which a proof by computation can run.
-use Rattle.lemmas.proofs.Common.{◌≡◌, Err, List, Ok, Result, map, refl, subst, sym, ℕ}
-use Rattle.section_text.specs.declared.fault.Refusal.{Refusal}
-use Rattle.circuit.specs.Bridge.{circuit_of}
-use Rattle.circuit.proofs.Bridging.{gates_are_ordered}
-use Rattle.pattern.specs.FromLines.{layout_of}
-use Rattle.pattern.specs.Grammars.{layout_section}
-use Rattle.pattern.specs.Layout.{Pattern}
-use Rattle.certificate_lines.specs.Entries.{ModuleLines}
-use Rattle.certificate_lines.specs.Settings.{setting_of}
-use Rattle.certificate.specs.Grammars.{CertView, modules_in}
-use Rattle.certificate.specs.Jobs.{AreJobsOf}
-use Rattle.module_job.specs.Jobs.{JobView}
-use Rattle.core_book.specs.Verdicts.{IsVerdict}
-use Rattle.core_book.specs.declared.verdict.Verdict.TheVariants as verdict
-use Rattle.soundness.proofs.SomeJobs.{are_jobs_of, job_of}
+use Rattle.headline.proofs.Imports.{AnswersOrRefuses, AreJobsOf, Bundle, CertView, Err, IsReportOf, IsVerdict}
+use Rattle.headline.proofs.Imports.{IsVerdictOn, JobView, List, ModuleLines, Ok, Pattern, Refusal, Result, SaysReport}
+use Rattle.headline.proofs.Imports.{Yes, are_jobs_of, bundle_of, circuit_of, gates_are_ordered, job_of, layout_of}
+use Rattle.headline.proofs.Imports.{layout_section, map, modules_in, refl, report_text, setting_of, subst, sym, ℕ, ◌≡◌}
 use Rattle.soundness.proofs.Trials.{PassTests, accepts}
-use Rattle.report.specs.ReportText.{report_lines}
-use Rattle.answers.specs.Answers.{Answered}
-use Rattle.answers.specs.BundleText.{Bundle, bundle_of}
-use Rattle.answers.specs.CheckText.{IsReportOf, IsVerdictOn, SaysReport}
-use Rattle.answers.specs.declared.outcome.Outcome.TheVariants.{Yes}
 use Rattle.headline.proofs.SomeReport.{certificate_by, limits, modules_good, reported_by}
 use Rattle.headline.proofs.YesIsRight.{bundle_good}
+use Rattle.core_book.specs.declared.verdict.Verdict.TheVariants as verdict
 
 -- the layout and the modules of a bundle
 abbrev pub layout_in : Bundle → Pattern
@@ -68,8 +53,8 @@ module _ (text : List ℕ) (b : Bundle) (e : bundle_of text ≡ Ok b) (pass : Pa
 
   accepted_bundle : (output : List ℕ) × IsReportOf text output Yes
   accepted_bundle = (
-    report_lines c verdict.Yes,
-    subst (λ r. Answered SaysReport r (report_lines c verdict.Yes) Yes) (sym e)
+    report_text c verdict.Yes,
+    subst (λ r. AnswersOrRefuses SaysReport r (report_text c verdict.Yes) Yes) (sym e)
         (reported_by text b e p pass.layout verdict.Yes is_verdict),
   )
 

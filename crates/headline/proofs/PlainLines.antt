@@ -1,32 +1,16 @@
 -- The lines of the plain certificate of a design make a plain module
-use Rattle.lemmas.proofs.Common.{[], ◌&&◌, ◌++◌, ◌+◌, ◌<◌, ◌∙◌, ◌∷◌, ◌≡◌, ◌≤◌, All, Bool, List, Some, ap, append-nil}
-use Rattle.lemmas.proofs.Common.{append_assoc, ap₂, arith, eq-eqb, eqb, false, filter, flat_map, fold, inl, inr, length}
-use Rattle.lemmas.proofs.Common.{map, not, refl, slice_get, subst, suc, sym, true, zero, ℕ, All-cons, All-nil}
-use Rattle.lemmas.proofs.Common.{and_parts, cases_Bool, eqb-true, flat_map-append, list_all, range_with_len}
-use Rattle.lemmas.proofs.Common.{slice_get_within, false_from_not}
-use Rattle.section_text.specs.Words.{has}
-use Rattle.circuit.specs.Bridge.{AreGoodCircuitLines, input_names, netlist_of}
-use Rattle.circuit.specs.Entries.{defined}
-use Rattle.circuit.specs.declared.circuit_line.CircuitLine.{CircuitLine}
-use Rattle.circuit.proofs.Naming.{inputs_are_first}
-use Rattle.circuit.proofs.Places.{bytes_same}
-use Rattle.pattern.specs.Layout.{Pattern}
-use Rattle.module_box.specs.Locals.{is_among}
-use Rattle.module_box.specs.declared.boxes.Box2.{Box2}
-use Rattle.certificate_lines.specs.Entries.{ModuleLines, add_line, change_last, cut_in, cuts, edge_in, edges, keep_in}
-use Rattle.certificate_lines.specs.Entries.{keeps, modules_of}
-use Rattle.certificate_lines.specs.ModuleParts.{is_module}
-use Rattle.certificate_lines.specs.Rules.{is_inverse_gate, whole}
-use Rattle.certificate_lines.specs.declared.certificate_line.CertificateLine.{CertificateLine}
-use Rattle.certificate_lines.specs.declared.certificate_line.CertificateLine.TheVariants.{Module, Cut, Use, Keep, Edge}
-use Rattle.certificate_lines.specs.declared.certificate_line.CertificateLine.TheVariants.{Halo, Stop}
-use Rattle.certificate_lines.proofs.Lists.{any_at}
-use Rattle.soundness.specs.HeadlineLaws.{IsInputName}
-use Rattle.soundness.specs.PlainCertificates.{IsPlain}
-use Rattle.soundness.proofs.InputRuns.{IsPlaced, placed}
-use Rattle.headline.specs.RightInFull.{IsGoodDesign}
-use Rattle.headline.specs.Plain.{SaysPlain}
-use Rattle.headline.specs.SmallDesigns.{gate_numbers, plain_lines}
+use Rattle.headline.proofs.Imports.{All, All-cons, All-nil, AreGoodCircuitLines, Bool, Box2, CertificateLine}
+use Rattle.headline.proofs.Imports.{CircuitLine, Cut, Edge, Halo, IsGoodDesign, IsInputName, IsPlaced, IsPlain, Keep}
+use Rattle.headline.proofs.Imports.{List, Module, ModuleLines, Pattern, SaysPlain, Some, Stop, Use, [], add_line}
+use Rattle.headline.proofs.Imports.{and_parts, any_at, ap, append-nil, append_assoc, ap₂, arith, bytes_same, cases_Bool}
+use Rattle.headline.proofs.Imports.{cut_in, cuts, defined, edge_in, edges, eq-eqb, eqb, eqb-true, false, filter}
+use Rattle.headline.proofs.Imports.{flat_map, flat_map-append, gate_numbers, has, inl, input_names, inputs_are_first}
+use Rattle.headline.proofs.Imports.{inr, is_among, is_inverse_gate, is_module, keep_in, length, list_all, map}
+use Rattle.headline.proofs.Imports.{modules_of, netlist_of, not, placed, plain_lines, range_with_len, refl, slice_get}
+use Rattle.headline.proofs.Imports.{slice_get_within, subst, suc, sym, true, whole, zero, ℕ, ◌&&◌, ◌++◌, ◌+◌, ◌<◌, ◌∙◌}
+use Rattle.headline.proofs.Imports.{◌∷◌, ◌≡◌, ◌≤◌}
+use Rattle.lemmas.proofs.Common.{fold, false_from_not}
+use Rattle.certificate_lines.specs.Entries.{change_last, keeps}
 use Rattle.headline.specs.PlainLaws.{PlainLinesTextIsDecided}
 use Rattle.headline.proofs.PlainTexts.{plain_is_decided}
 use Rattle.headline.proofs.YesIsRight.{good_designs}

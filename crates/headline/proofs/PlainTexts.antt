@@ -1,62 +1,38 @@
 -- The report on a plain text
-use Rattle.lemmas.proofs.Common.{[], ◌∙◌, ◌∷◌, ◌≡◌, All, Contains, Err, Global, List, Ok, Result, Some, Vec, ap}
-use Rattle.lemmas.proofs.Common.{flat_map, inl, inr, length, map, option_map, refl, slice_get, subst, sym, ℕ, ℤ}
-use Rattle.lemmas.proofs.Common.{cases_Bool, slice_get-map, arith, common_steps}
-use Rattle.section_text.specs.declared.fault.Refusal.{Refusal}
-use Rattle.circuit.specs.Bridge.{circuit_of, netlist_of}
-use Rattle.circuit.specs.declared.circuit_line.CircuitLine.{CircuitLine}
-use Rattle.pattern.specs.Layout.{Pattern}
-use Rattle.module_box.specs.Locals.{is_among}
-use Rattle.certificate_lines.specs.Entries.{ModuleLines, Setting, cut_in, edge_in, keep_in, modules_of, stop_in, cuts}
-use Rattle.certificate_lines.specs.Entries.{edges, stops}
-use Rattle.certificate_lines.specs.Settings.{setting_of}
-use Rattle.certificate_lines.specs.Versions.{edge_lines_beside, in_order, is_haloless_version, modules_by_version}
-use Rattle.certificate_lines.specs.Versions.{with_halos}
-use Rattle.certificate_lines.specs.declared.certificate_line.CertificateLine.{CertificateLine}
-use Rattle.certificate.specs.Arrivals.{AreOnTime}
-use Rattle.certificate.specs.Grammars.{CertView, modules_in}
-use Rattle.certificate.specs.Times.{all_stops}
-use Rattle.certificate.proofs.FullModules.{meant_new, meant_old, other_lines, stop_lines}
-use Rattle.certificate.proofs.MeantLines.{stops_meant}
-use Rattle.certificate.proofs.TimeLemmas.{all_in_modules}
-use Rattle.sha2.specs.Sha256.{sha256}
-use Rattle.circuit.specs.Meaning.{Circuit, Satisfies, Valuation}
-use Rattle.certificate.specs.Text.{certificate_text}
-use Rattle.local_run.specs.declared.fault.Fault.{Fault}
-use Rattle.local_run.specs.declared.fault.Kind.{Kind}
-use Rattle.local_run.specs.declared.fault.Kind.TheVariants.{Edge, End, Stop as AtStop}
+use Rattle.headline.proofs.Imports.{Accepts, All, AnswersOrRefuses, AreOnTime, BelongTogether, Bundle, CertView}
+use Rattle.headline.proofs.Imports.{CertificateLine, Circuit, CircuitLine, Err, Fault, HasRightStops, HasRimTouch}
+use Rattle.headline.proofs.Imports.{IsCorrect, IsInputName, IsPlain, IsRead, IsRight, IsVerdict, Kind, LineMeans, List}
+use Rattle.headline.proofs.Imports.{Local, Meet, ModuleLines, No, Ok, Outcome, Pattern, Refusal, Refused, ReportLine}
+use Rattle.headline.proofs.Imports.{Result, Satisfies, SaysBundle, SaysDesign, SaysNoWith, SaysPlain, SaysReport}
+use Rattle.headline.proofs.Imports.{Setting, Some, StopHolds, TouchesRim, Valuation, Verdict, Yes, [], all_in_modules}
+use Rattle.headline.proofs.Imports.{all_stops, ap, arith, bundle_of, cases_Bool, certificate_text, circuit_of}
+use Rattle.headline.proofs.Imports.{common_steps, cut_in, cuts, edge_in, edges, flat_map, inl, inr, is_among}
+use Rattle.headline.proofs.Imports.{is_haloless_version, keep_in, length, map, meant_old, modules_in, modules_of}
+use Rattle.headline.proofs.Imports.{netlist_of, option_map, read_layout-names, refl, report_text, setting_of, sha256}
+use Rattle.headline.proofs.Imports.{slice_get, slice_get-map, stop_in, stops_meant, subst, sym, verdict_outcome}
+use Rattle.headline.proofs.Imports.{with_halos, ℕ, ℤ, ◌∙◌, ◌∷◌, ◌≡◌}
+use Rattle.lemmas.proofs.Common.{Contains, Global, Vec}
+use Rattle.certificate_lines.specs.Entries.{stops}
+use Rattle.certificate_lines.specs.Versions.{edge_lines_beside, sorted_border_lines, modules_by_version}
+use Rattle.certificate.proofs.FullModules.{meant_new, other_lines, stop_lines}
 use Rattle.soundness.proofs.EarliestLines.{earliest_is_real}
-use Rattle.report.specs.ReportText.{report_lines}
-use Rattle.headline.specs.Plain.{HasRimTouch, IsWrongIfPlain, IsWrongText, SaysPlain}
-use Rattle.headline.specs.ReportLines.{EarliestIsReal, LinesMeanIfPlain, LinesHaveMeaning, SaysNoWith}
+use Rattle.headline.specs.Plain.{IsWrongIfPlain, IsWrongText}
+use Rattle.headline.specs.ReportLines.{EarliestIsReal, LinesMeanIfPlain, LinesHaveMeaning}
 use Rattle.headline.specs.PlainLaws.{LinesOfNoHaveMeaning, PlainIsDecided, PlainNoMeansWrong, YesKeepsOffRim}
-use Rattle.core_book.specs.declared.verdict.ReportLine.TheVariants.{Local, Keep, Border, Unkept, Delay, Meet}
+use Rattle.core_book.specs.declared.verdict.ReportLine.TheVariants.{Keep, Border, Unkept, Delay}
 use Rattle.soundness.specs.FirstFaults.{GivesModuleAssignment, IsAsCertified, IsEarliestLine, IsReal}
-use Rattle.soundness.specs.HeadlineLaws.{BelongTogether, HasInputNames, IsInputName}
-use Rattle.meaning.specs.Implements.{IsCorrect}
-use Rattle.soundness.specs.PlainCertificates.{IsPlain, IsWrongDesign, LineMeans}
-use Rattle.soundness.specs.PlainCertificates.{TouchesRim}
-use Rattle.soundness.specs.OnTime.{IsOnTime, StopHolds}
-use Rattle.core_book.specs.Verdicts.{Accepts, IsVerdict}
-use Rattle.core_book.specs.declared.verdict.ReportLine.{ReportLine}
-use Rattle.core_book.specs.declared.verdict.Verdict.{Verdict}
-use Rattle.core_book.specs.declared.verdict.Verdict.TheVariants as verdict
-use Rattle.soundness.proofs.InputRuns.{read_layout-names}
+use Rattle.soundness.specs.HeadlineLaws.{HasInputNames}
+use Rattle.soundness.specs.PlainCertificates.{IsWrongDesign}
+use Rattle.soundness.specs.OnTime.{IsOnTime}
 use Rattle.soundness.proofs.PlainCertificates.{plain_no, plain_lines}
 use Rattle.soundness.proofs.WholeRuns.{off_rim}
-use Rattle.soundness.proofs.YesMeansCorrect.{IsRead, bundle_read}
-use Rattle.answers.specs.Answers.{Answered}
-use Rattle.answers.specs.BundleText.{Bundle, bundle_of}
-use Rattle.answers.specs.CheckText.{SaysReport, verdict_outcome}
-use Rattle.answers.specs.declared.outcome.Outcome.{Outcome}
-use Rattle.answers.specs.declared.outcome.Outcome.TheVariants.{Yes, No, Refused}
-use Rattle.meaning.specs.Design.{SaysDesign}
-use Rattle.meaning.specs.Headline.{IsRight}
-use Rattle.headline.specs.Stops.{HasRightStops, SaysBundle}
+use Rattle.soundness.proofs.YesMeansCorrect.{bundle_read}
 use Rattle.headline.proofs.Designs.{one_certificate, one_design}
 use Rattle.headline.proofs.YesIsRight.{bundle_good, by_outcome, certificate_faultless, known, yes_has_right_stops}
 use Rattle.headline.proofs.Printed.{printed_is_read}
 use Rattle.headline.proofs.YesIsPrinted.{yes_is_right}
+use Rattle.local_run.specs.declared.fault.Kind.TheVariants.{Edge, End, Stop as AtStop}
+use Rattle.core_book.specs.declared.verdict.Verdict.TheVariants as verdict
 
 -- ---- a plain module is plain in either version
 
@@ -67,13 +43,13 @@ full_plain g ms lines p m plain = record {
   box = plain.box;
   inputs = subst (All (IsInputName lines))
       (sym (other_lines cut_in (record { halo = λ e. refl; stop = λ s. refl }) m.lines
-      (in_order (edge_lines_beside g ms m.area))))
+      (sorted_border_lines (edge_lines_beside g ms m.area))))
       plain.inputs;
   inverses = λ n gate at inverse.
       ap (λ ks. is_among ks n) (other_lines keep_in (record { halo = λ e. refl; stop = λ s. refl }) m.lines
-      (in_order (edge_lines_beside g ms m.area))) ∙ plain.inverses n gate at inverse;
+      (sorted_border_lines (edge_lines_beside g ms m.area))) ∙ plain.inverses n gate at inverse;
   no_edge = other_lines edge_in (record { halo = λ e. refl; stop = λ s. refl }) m.lines
-      (in_order (edge_lines_beside g ms m.area)) ∙ plain.no_edge;
+      (sorted_border_lines (edge_lines_beside g ms m.area)) ∙ plain.no_edge;
 }
 
 -- ---- what a module says, and what it means
@@ -295,11 +271,11 @@ module _ (text : List ℕ) (b : Bundle) (output : List ℕ) (outcome : Outcome) 
         says.is_verdict.judged
 
     spelled : SaysNoWith output its_no.lines.items
-    unfolding report_lines
+    unfolding report_text
     spelled = record {
       digest = sha256 (certificate_text c);
       modules = length (modules_of c.entries);
-      spelled = says.says ∙ ap (report_lines c) its_no.is;
+      spelled = says.says ∙ ap (report_text c) its_no.is;
     }
 
     -- what is said of the earliest line, of a design and the lines of a certificate
@@ -351,7 +327,7 @@ not_refused : No ≡ Refused → ⊥
 not_refused e = cc
 
 by_read : (text output : List ℕ) (read : Result Bundle Refusal) → bundle_of text ≡ read →
-    Answered SaysReport read output No → IsWrongIfPlain text
+    AnswersOrRefuses SaysReport read output No → IsWrongIfPlain text
 by_read text output (Ok b) e says = wrong text b output No e says refl
 by_read text output (Err refusal) e told = absurd (not_refused told.1)
 
@@ -375,7 +351,7 @@ plain_is_decided text output No plain says some =
 plain_is_decided text output Refused plain says some = absurd (some refl)
 
 told : (text output : List ℕ) (read : Result Bundle Refusal) → bundle_of text ≡ read →
-    Answered SaysReport read output No → LinesHaveMeaning text output
+    AnswersOrRefuses SaysReport read output No → LinesHaveMeaning text output
 told text output (Ok b) e says = tells text b output No e says refl
 told text output (Err refusal) e answer = absurd (not_refused answer.1)
 

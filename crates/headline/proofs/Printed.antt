@@ -1,41 +1,28 @@
 -- A text that begins with a design says it, and the printing is the text of the sections.
-use Rattle.lemmas.proofs.Common.{[], ◌&&◌, ◌++◌, ◌<◌, ◌^◌, ◌∙◌, ◌∷◌, ◌≡◌, All, IsTrue, List, None, ap, append-nil}
-use Rattle.lemmas.proofs.Common.{append_assoc, ap₂, arith, codes, false, flat_map, length, map, pos, refl, subst, sym}
-use Rattle.lemmas.proofs.Common.{true, ℕ, ℤ, All-head, All-tail, AllByRecursion, flat_map-append}
-use Rattle.lemmas.proofs.Common.{signed_decimal, slice_split_at, common_steps}
-use Rattle.section_text.specs.Section.{with_line_feed}
-use Rattle.section_text.specs.Spelling.{line_text}
-use Rattle.section_text.specs.Words.{is_name, lines_of}
-use Rattle.section_text.specs.declared.section.Form.TheVariants.{Header, Item, End}
-use Rattle.section_text.proofs.Again.{AreLines}
-use Rattle.section_text.proofs.Lines.{ended-cons, some_part}
-use Rattle.section_text.proofs.MadeSections.{clean_both, text_said}
-use Rattle.bbm_rule.specs.declared.block.Cell.{Cell}
-use Rattle.circuit.specs.Bridge.{FitsKind, kind_in_count, kind_out_count}
-use Rattle.circuit.specs.Entries.{entry}
-use Rattle.circuit.specs.Forms.{form_of as circuit_form}
-use Rattle.circuit.specs.Grammars.{circuit_grammar}
-use Rattle.circuit.specs.Text.{circuit_text, entry_text, first_word, form_text as circuit_line, words_after_keyword}
-use Rattle.circuit.specs.declared.circuit_line.CircuitLine.{CircuitLine}
-use Rattle.circuit.specs.declared.circuit_line.GateKind.TheVariants.{Source, Fredkin, Cswap, Interact, Switch, Delay}
-use Rattle.circuit.specs.declared.circuit_line.GateKind.TheVariants.{Unswitch, Uninteract}
+use Rattle.headline.proofs.Imports.{All, All-head, All-tail, AllByRecursion, AreLines, Ball, Cell, CircuitLine, Cswap}
+use Rattle.headline.proofs.Imports.{Delay, End, FitsKind, Fredkin, Gate, Header, In, Input, Interact, IsForm, IsLine}
+use Rattle.headline.proofs.Imports.{IsTrue, Item, LayoutLine, List, Mirror, None, Out, Output, Pattern, Source, Spill}
+use Rattle.headline.proofs.Imports.{Switch, Uninteract, Unswitch, Waste, [], ap, append-nil, append_assoc, ap₂, arith}
+use Rattle.headline.proofs.Imports.{circuit_grammar, clean_both, codes, common_steps, ended-cons, entry, false}
+use Rattle.headline.proofs.Imports.{flat_map, flat_map-append, is_name, layout_grammar, length, line_text, lines_of}
+use Rattle.headline.proofs.Imports.{map, part_form, parts_of, pos, refl, slice_split_at, some_part, subst, sym}
+use Rattle.headline.proofs.Imports.{text_said, true, with_line_feed, ℕ, ℤ, ◌&&◌, ◌++◌, ◌<◌, ◌^◌, ◌∙◌, ◌∷◌, ◌≡◌}
+use Rattle.lemmas.proofs.Common.{signed_decimal}
+use Rattle.circuit.specs.Bridge.{kind_in_count, kind_out_count}
 use Rattle.circuit.specs.declared.circuit_line.Kind.{Kind}
-use Rattle.circuit.specs.declared.circuit_line.Kind.TheVariants.{Input, Gate, Output, Spill}
-use Rattle.circuit.proofs.Spelling.{form_line as circuit_spelled}
-use Rattle.pattern.specs.Forms.{form_of as layout_form}
-use Rattle.pattern.specs.Grammars.{layout_grammar}
-use Rattle.pattern.specs.Layout.{Pattern, parts_of}
-use Rattle.pattern.specs.Text.{form_text as layout_line, layout_text, part_text}
-use Rattle.pattern.specs.declared.layout_line.LayoutLine.{LayoutLine}
-use Rattle.pattern.specs.declared.layout_line.LayoutLine.TheVariants.{Mirror, Ball, In, Out, Waste}
-use Rattle.pattern.proofs.Spelling.{form_line as layout_spelled}
-use Rattle.meaning.specs.Printed.{IsForm, IsLine, circuit_printed, form, layout_printed, line_words, part_form, printed}
+use Rattle.meaning.specs.Printed.{circuit_printed, form, layout_printed, line_words, printed}
 use Rattle.headline.specs.Laws.{BeginsWithOneDesign, PrintedDesignIsRead}
 use Rattle.headline.proofs.Designs.{one_design}
 use Rattle.headline.proofs.Written.{HasLine, HasSection, has_section}
 use Rattle.headline.proofs.WrittenCircuits.{AreNames, first_line, last_line, line_of, names_left, names_right}
 use Rattle.headline.proofs.WrittenLayouts.{IsNumbered, ball_line, end_line, in_line, mirror_line, out_line, size_line}
 use Rattle.headline.proofs.WrittenLayouts.{waste_line}
+use Rattle.circuit.specs.Forms.{form_of as circuit_form}
+use Rattle.circuit.specs.Text.{circuit_text, entry_text, first_word, form_text as circuit_line, words_after_keyword}
+use Rattle.circuit.proofs.Spelling.{form_line as circuit_spelled}
+use Rattle.pattern.specs.Forms.{form_of as layout_form}
+use Rattle.pattern.specs.Text.{form_text as layout_line, layout_text, part_text}
+use Rattle.pattern.proofs.Spelling.{form_line as layout_spelled}
 
 -- ---- lines at the head of a text
 

@@ -1,35 +1,19 @@
 -- What a text says that is not refused keeps the rules of a design
-use Rattle.lemmas.proofs.Common.{[], ◌&&◌, ◌++◌, ◌+◌, ◌∷◌, ◌≡◌, Bool, Err, IsTrue, List, None, Ok, Option, Result, Some}
-use Rattle.lemmas.proofs.Common.{ap, ap₂, codes, cond, eqb, inl, inr, length, map, refl, slice_get, subst, suc, sym}
-use Rattle.lemmas.proofs.Common.{true, zero, ℕ, All-from_recursion, AllByRecursion, and_parts, cond_some, list_all}
-use Rattle.lemmas.proofs.Common.{option_and_then_some, same_Some, arith, common_steps}
-use Rattle.section_text.specs.SaidSection.{IsSection}
-use Rattle.section_text.specs.Words.{◌>>=◌, is_name, is_word_at, lone, lone_name, name_at, name_of, names_at, words_of}
-use Rattle.section_text.specs.declared.fault.Refusal.{Refusal}
-use Rattle.section_text.specs.declared.section.Form.{Form}
-use Rattle.section_text.specs.declared.section.Form.TheVariants.{Header, Item, End}
-use Rattle.section_text.proofs.Good.{AreFaultless, IsFaultless}
-use Rattle.section_text.proofs.MadeSections.{one_line, section_made}
+use Rattle.headline.proofs.Imports.{All-from_recursion, AllByRecursion, AnswersOrRefuses, AreFaultless, AreInOrder}
+use Rattle.headline.proofs.Imports.{Bool, Bundle, CircuitLine, End, Err, Form, Header, Input, IsDesign, IsFaultless}
+use Rattle.headline.proofs.Imports.{IsSection, IsTrue, Item, LayoutHeader, LayoutLine, List, None, Ok, Option, Output}
+use Rattle.headline.proofs.Imports.{Pattern, Refusal, Result, SaysReport, Some, Spill, [], add_fault, and_parts, ap}
+use Rattle.headline.proofs.Imports.{ap₂, arith, bundle_of, circuit_grammar, codes, common_steps, cond, cond_some}
+use Rattle.headline.proofs.Imports.{consumed, defined, entry, eqb, faultless_named, first_none, form_of, gate_entry}
+use Rattle.headline.proofs.Imports.{gate_line_of_kind, if_one_word, inl, inr, is_name, is_word_at, layout_grammar}
+use Rattle.headline.proofs.Imports.{layout_section, length, list_all, map, name_after_keyword, name_at, name_of}
+use Rattle.headline.proofs.Imports.{names_at, one_line, order_fault, parts_of, port_names_of, read_layout-is_named}
+use Rattle.headline.proofs.Imports.{refl, same_Some, section_made, slice_get, subst, suc, sym, true}
+use Rattle.headline.proofs.Imports.{unconsumed_wire_code, words_of, zero, ℕ, ◌&&◌, ◌++◌, ◌+◌, ◌>>=◌, ◌∷◌, ◌≡◌}
+use Rattle.lemmas.proofs.Common.{option_and_then_some}
 use Rattle.section_text.proofs.Spellings.{chosen, passed}
-use Rattle.circuit.specs.Entries.{defined, entry}
-use Rattle.circuit.specs.Forms.{form_of, gate_entry, gate_line_of_kind}
-use Rattle.circuit.specs.Grammars.{circuit_grammar, unconsumed_wire_code}
-use Rattle.circuit.specs.Rules.{add_fault, consumed, order_fault, first_unconsumed}
-use Rattle.circuit.specs.declared.circuit_line.CircuitLine.{CircuitLine}
-use Rattle.circuit.specs.declared.circuit_line.Kind.TheVariants.{Input, Output, Spill}
-use Rattle.pattern.specs.Grammars.{layout_grammar, layout_section}
-use Rattle.pattern.specs.Layout.{Pattern, parts_of}
-use Rattle.pattern.specs.declared.layout_line.LayoutHeader.{LayoutHeader}
-use Rattle.pattern.specs.declared.layout_line.LayoutLine.{LayoutLine}
-use Rattle.pattern.proofs.Named.{faultless_named}
-use Rattle.core_book.specs.Concluding.{port_names_of}
-use Rattle.soundness.proofs.PortNames.{read_layout-is_named}
-use Rattle.soundness.proofs.SomeVerdict.{first_none}
-use Rattle.answers.specs.Answers.{Answered}
-use Rattle.answers.specs.BundleText.{Bundle, bundle_of}
-use Rattle.answers.specs.CheckText.{SaysReport}
+use Rattle.circuit.specs.Rules.{first_unconsumed}
 use Rattle.headline.specs.PlainLaws.{UnrefusedKeepsDesignRules}
-use Rattle.headline.specs.SmallDesigns.{AreInOrder, IsDesign}
 use Rattle.headline.proofs.Designs.{one_design}
 use Rattle.headline.proofs.Migrations.{good_read, sections_read}
 use Rattle.headline.proofs.WrittenCircuits.{AreNames, names_both}
@@ -45,8 +29,8 @@ named_at : (ws : List (List ℕ)) (i : ℕ) (n : List ℕ) → name_at ws i ≡ 
 unfolding name_at
 named_at ws i n e = option_and_then_some name_of (slice_get ws i) n e (λ w found named. name_is w n named)
 
-lone_named : (ws : List (List ℕ)) (n : List ℕ) → lone_name ws ≡ Some n → is_name n ≡ true
-unfolding lone_name
+lone_named : (ws : List (List ℕ)) (n : List ℕ) → name_after_keyword ws ≡ Some n → is_name n ≡ true
+unfolding name_after_keyword
 lone_named ws n e = named_at ws 1 n (passed (eqb (length ws) 2) (name_at ws 1) n e).1
 
 are_named : (ws : List (List ℕ)) (i n : ℕ) (ns : List (List ℕ)) → names_at ws i n ≡ Some ns → AreNames ns
@@ -75,21 +59,21 @@ IfItem (Item r) = Names r
 IfItem End = Unit {0}
 
 form_named : (ws : List (List ℕ)) (f : Form (Unit {0}) CircuitLine) → form_of ws ≡ Some f → IfItem f
-unfolding form_of lone IfItem Names
+unfolding form_of if_one_word IfItem Names
 form_named ws f e =
     elim (chosen (is_word_at ws 0 (codes "circuit")) _ _ (Some f) e) [
       | inl p ↦ subst IfItem (passed_one (eqb (length ws) 1) (Header tt) f p.1) tt
       | inr p ↦ elim (chosen (is_word_at ws 0 (codes "end")) _ _ (Some f) p.1) [
         | inl q ↦ subst IfItem (passed_one (eqb (length ws) 1) End f q.1) tt
         | inr q ↦ elim (chosen (is_word_at ws 0 (codes "input")) _ _ (Some f) q.1) [
-          | inl r ↦ option_and_then_some (λ n. Some (Item (entry Input [] (n ∷ [])))) (lone_name ws) f r.1
+          | inl r ↦ option_and_then_some (λ n. Some (Item (entry Input [] (n ∷ [])))) (name_after_keyword ws) f r.1
               (λ n named made. subst IfItem (same_Some (Item (entry Input [] (n ∷ []))) f made)
               (ap (λ b. b && true) (lone_named ws n named)))
           | inr r ↦ elim (chosen (is_word_at ws 0 (codes "output")) _ _ (Some f) r.1) [
-            | inl s ↦ option_and_then_some (λ n. Some (Item (entry Output (n ∷ []) []))) (lone_name ws) f s.1
+            | inl s ↦ option_and_then_some (λ n. Some (Item (entry Output (n ∷ []) []))) (name_after_keyword ws) f s.1
                 (λ n named made. subst IfItem (same_Some (Item (entry Output (n ∷ []) [])) f made) refl)
             | inr s ↦ elim (chosen (is_word_at ws 0 (codes "spill")) _ _ (Some f) s.1) [
-              | inl t ↦ option_and_then_some (λ n. Some (Item (entry Spill (n ∷ []) []))) (lone_name ws) f t.1
+              | inl t ↦ option_and_then_some (λ n. Some (Item (entry Spill (n ∷ []) []))) (name_after_keyword ws) f t.1
                   (λ n named made. subst IfItem (same_Some (Item (entry Spill (n ∷ []) [])) f made) refl)
               | inr t ↦ option_and_then_some (λ r. Some (Item r)) (gate_entry ws) f t.1
                   (λ r known made. subst IfItem (same_Some (Item r) f made) (gate_named ws r known))
@@ -164,7 +148,7 @@ design_read text b p e same =
 pub designs_are_read : UnrefusedKeepsDesignRules
 designs_are_read text output outcome circuit layout reports some d = by (bundle_of text) refl reports
   where
-    by : (read : Result Bundle Refusal) → bundle_of text ≡ read → Answered SaysReport read output outcome →
+    by : (read : Result Bundle Refusal) → bundle_of text ≡ read → AnswersOrRefuses SaysReport read output outcome →
         IsDesign circuit layout
     by (Err refusal) e told = absurd (some told.1)
     by (Ok b) e says =

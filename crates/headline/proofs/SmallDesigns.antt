@@ -1,80 +1,52 @@
 -- The lines of the plain certificate of a small design are good
-use Rattle.lemmas.proofs.Common.{[], ◌%◌, ◌&&◌, ◌++◌, ◌+◌, ◌<◌, ◌==◌, ◌||◌, ◌∙◌, ◌∷◌, ◌≡◌, ◌≢◌, ◌≤◌, All, Bool}
-use Rattle.lemmas.proofs.Common.{List, None, Ok, Some, ap, append-nil, append_assoc, ap₂, arith, cond, drop, eqb, false}
-use Rattle.lemmas.proofs.Common.{filter, flat_map, inl, inr, is_lt, length, length-append, map, nat_le, nat_lt}
-use Rattle.lemmas.proofs.Common.{not, option_map, option_to_list, refl, slice_get, subst, suc, sym, take, common_steps}
-use Rattle.lemmas.proofs.Common.{take-append-drop, true, true≢false, zero, ℕ, All-append, All-cons, All-head, All-nil}
-use Rattle.lemmas.proofs.Common.{All-tail, and-false, and_parts, bytes_eq, bytes_eq-Decides, cases_Bool, eqb-true}
-use Rattle.lemmas.proofs.Common.{flat_map-append, list_all, list_any, list_any-append, map-append, nat_tests, or-true}
-use Rattle.lemmas.proofs.Common.{ordering_then, range_with_len, same_Some, slice_get-map, slice_get_within, take-length}
-use Rattle.lemmas.proofs.Common.{less_nat, not_le_test}
-use Rattle.section_text.specs.Codes.{code_if, or_else}
-use Rattle.section_text.specs.Words.{has}
-use Rattle.circuit.specs.Bridge.{AreGoodCircuitLines, AreGoodAfter, circuit_of, input_names, netlist_of, output_names}
-use Rattle.circuit.specs.Entries.{defined}
-use Rattle.circuit.specs.Gates.{defines}
-use Rattle.circuit.specs.Meaning.{AreOrdered, Circuit, Gate, number, place_of, wire_of, wires, wires_after}
-use Rattle.circuit.specs.Rules.{define}
-use Rattle.circuit.specs.declared.circuit_line.CircuitLine.{CircuitLine}
-use Rattle.circuit.proofs.Bridging.{define_first, defined_push, gates_are_ordered, names_pass, numbers_new, push_cons}
-use Rattle.circuit.proofs.Naming.{inputs_are_first, wires_are_named}
-use Rattle.circuit.proofs.Places.{bytes_same, Have}
-use Rattle.module_box.specs.Locals.{is_among, local_wires}
-use Rattle.pattern.specs.Layout.{Pattern, parts_of}
-use Rattle.module_box.specs.declared.boxes.Box2.{Box2}
-use Rattle.certificate_lines.specs.Entries.{ModuleLines, Setting, cut_in, cuts, gates, known, last_of, modules_of}
-use Rattle.certificate_lines.specs.Entries.{add_line, use_in, areas}
-use Rattle.certificate_lines.specs.ModuleParts.{is_module}
-use Rattle.certificate_lines.specs.Orders.{is_cut, line_cmp, may_follow, may_precede, number_of, rank_of}
-use Rattle.certificate_lines.specs.Rules.{are_new_and_distinct, cut_fault, entry_fault, used_gate_fault}
-use Rattle.certificate_lines.specs.Rules.{body_line_code, is_inverse_gate, keep_line_code, line_fault, use_fault}
-use Rattle.certificate_lines.specs.Rules.{content_code, box_cells, box_fault, end_fault, is_last_module_incomplete}
-use Rattle.certificate_lines.specs.Rules.{is_local, is_local_wire, is_odd, is_wrong_side, has_nonlocal_port, leaves_gap}
-use Rattle.certificate_lines.specs.Rules.{module_fault, whole}
-use Rattle.certificate_lines.specs.Settings.{setting_of}
-use Rattle.certificate_lines.specs.declared.certificate_line.CertificateLine.{CertificateLine}
-use Rattle.certificate_lines.specs.declared.certificate_line.CertificateLine.TheVariants.{Module, Cut, Use, Keep, Edge}
-use Rattle.certificate_lines.specs.declared.certificate_line.CertificateLine.TheVariants.{Halo, Stop}
-use Rattle.certificate_lines.proofs.Lists.{any_at, kept}
+use Rattle.headline.proofs.Imports.{All, All-cons, All-head, All-nil, All-tail, AnswersOrRefuses, AreFaultless}
+use Rattle.headline.proofs.Imports.{AreGoodAfter, AreGoodCircuitLines, AreOrdered, Bool, Box2, Bundle, CertificateLine}
+use Rattle.headline.proofs.Imports.{Circuit, CircuitLine, Cut, Edge, Grammar, Halo, Have, IsFaultless, IsInputName}
+use Rattle.headline.proofs.Imports.{IsPlaced, IsPlainText, IsSection, IsSmallDesign, Keep, LayoutHeader, LayoutLine}
+use Rattle.headline.proofs.Imports.{List, Module, ModuleLines, No, None, Ok, OutOfOrder, Outcome, PastLimit, Pattern}
+use Rattle.headline.proofs.Imports.{Port, Refused, SaysBundle, SaysReport, Setting, Some, SomethingMissing, Stop, Use}
+use Rattle.headline.proofs.Imports.{Verdict, Yes, [], add_line, and_parts, any_at, ap, append-nil, append_assoc, ap₂}
+use Rattle.headline.proofs.Imports.{arith, bundle_of, bytes_eq, bytes_eq-Decides, bytes_same, cases_Bool}
+use Rattle.headline.proofs.Imports.{certificate_grammar, circuit_grammar, circuit_of, code_if, common_steps, cond}
+use Rattle.headline.proofs.Imports.{cut_in, cuts, defined, defines, drop, eqb, eqb-true, false, faultless_named, filter}
+use Rattle.headline.proofs.Imports.{flat_map, flat_map-append, gate_numbers, gates_are_ordered, has, in_box, inl}
+use Rattle.headline.proofs.Imports.{input_names, inputs_are_first, inr, is_among, is_inverse_gate, is_layout_side}
+use Rattle.headline.proofs.Imports.{is_module, kept, known, layout_grammar, layout_section, length, length-append}
+use Rattle.headline.proofs.Imports.{list_all, list_any, map, map-append, modules_of, names_pass, nat_le, nat_lt}
+use Rattle.headline.proofs.Imports.{nat_tests, netlist_of, no_code, not, number, option_map, or_else, output_names}
+use Rattle.headline.proofs.Imports.{parts_of, placed, plain_lines, port_names_of, push_cons, range_with_len}
+use Rattle.headline.proofs.Imports.{read_faultless, read_layout-is_named, read_layout-names, rectangle_cells, refl}
+use Rattle.headline.proofs.Imports.{same_Some, section_made, section_of, setting_of, size_fault, slice_get}
+use Rattle.headline.proofs.Imports.{slice_get-map, slice_get_within, subst, suc, sym, take, take-append-drop, true}
+use Rattle.headline.proofs.Imports.{true≢false, verdict_outcome, whole, zero, ℕ, ◌%◌, ◌&&◌, ◌++◌, ◌+◌, ◌<◌, ◌==◌, ◌||◌}
+use Rattle.headline.proofs.Imports.{◌∙◌, ◌∷◌, ◌≡◌, ◌≢◌, ◌≤◌}
+use Rattle.lemmas.proofs.Common.{is_lt, option_to_list, All-append, and-false, list_any-append, or-true, ordering_then}
+use Rattle.lemmas.proofs.Common.{take-length, less_nat, not_le_test}
+use Rattle.circuit.specs.Meaning.{Gate, place_of, wire_of, wires, wires_after}
+use Rattle.circuit.specs.Rules.{define_fault}
+use Rattle.circuit.proofs.Bridging.{define_first, defined_push, numbers_new}
+use Rattle.circuit.proofs.Naming.{wires_are_named}
+use Rattle.module_box.specs.Locals.{local_wires}
+use Rattle.certificate_lines.specs.Entries.{gates, last_of, use_in, areas}
+use Rattle.certificate_lines.specs.Orders.{is_cut, line_cmp, may_follow, may_precede, sort_number_of, rank_of}
+use Rattle.certificate_lines.specs.Rules.{are_new_and_distinct, cut_fault, entry_fault, used_gate_fault, body_line_code}
+use Rattle.certificate_lines.specs.Rules.{keep_line_code, line_fault, use_fault, content_code, box_fault, end_fault}
+use Rattle.certificate_lines.specs.Rules.{is_last_module_incomplete, is_local, is_local_wire, is_odd, is_bad_box_side}
+use Rattle.certificate_lines.specs.Rules.{has_nonlocal_port, leaves_gap, module_fault}
 use Rattle.certificate_lines.proofs.LocalLemmas.{local_more}
-use Rattle.certificate.specs.Grammars.{certificate_grammar}
-use Rattle.section_text.proofs.Good.{AreFaultless, IsFaultless, read_faultless}
-use Rattle.circuit.specs.Grammars.{circuit_grammar}
-use Rattle.pattern.specs.Forms.{form_of as layout_form}
-use Rattle.pattern.specs.Grammars.{layout_grammar, layout_section}
-use Rattle.pattern.specs.declared.layout_line.LayoutHeader.{LayoutHeader}
-use Rattle.pattern.specs.declared.layout_line.LayoutLine.{LayoutLine}
-use Rattle.certificate_lines.specs.Forms.{form_of as certificate_form}
-use Rattle.section_text.specs.SaidSection.{IsSection}
-use Rattle.section_text.specs.Section.{Grammar, section_of}
-use Rattle.section_text.proofs.MadeSections.{section_made}
-use Rattle.pattern.specs.Lines.{AreNamed, is_layout_side, size_fault}
-use Rattle.pattern.specs.declared.layout_line.Port.{Port}
-use Rattle.pattern.proofs.Named.{faultless_named}
-use Rattle.module_box.specs.Boxes.{in_box}
+use Rattle.pattern.specs.Lines.{AreNamed}
 use Rattle.certificate_lines.proofs.BoxPlaces.{cells_inside}
-use Rattle.core_book.specs.Concluding.{port_names_of}
-use Rattle.soundness.specs.HeadlineLaws.{IsInputName}
-use Rattle.core_book.specs.declared.verdict.Verdict.{Verdict}
-use Rattle.soundness.proofs.InputRuns.{IsPlaced, placed, read_layout-names}
-use Rattle.soundness.proofs.PortNames.{no_code, read_layout-is_named}
 use Rattle.soundness.proofs.Trials.{range_at}
-use Rattle.answers.specs.Answers.{Answered}
-use Rattle.answers.specs.BundleText.{Bundle, bundle_of}
-use Rattle.answers.specs.CheckText.{SaysReport, verdict_outcome}
-use Rattle.answers.specs.declared.outcome.Outcome.{Outcome}
-use Rattle.answers.specs.declared.outcome.Outcome.TheVariants.{Yes, No, Refused}
 use Rattle.answers.proofs.Bundles.{same_setting}
-use Rattle.headline.specs.SmallDesigns.{IsPlainText, IsSmallDesign, gate_numbers, plain_lines}
 use Rattle.headline.specs.PlainLaws.{RefusedIsNoSmallDesign, SmallDesignIsDecided}
-use Rattle.headline.specs.Stops.{SaysBundle}
+use Rattle.section_text.specs.declared.code.RefusalCode.TheVariants.{MisplacedBox}
 use Rattle.headline.proofs.Migrations.{HasSections, IsGoodBundle, bundle_made, good_read, sections_read}
 use Rattle.headline.proofs.WrittenNames.{outs_have}
 use Rattle.headline.proofs.YesIsRight.{bundle_good, circuit_good}
-use Rattle.core_book.specs.declared.verdict.Verdict.TheVariants as verdict
 use Rattle.headline.proofs.PlainLines.{all_inner, among_range, none_of, own_of, is_one, plain_lines_decide}
-use Rattle.section_text.specs.declared.code.RefusalCode.TheVariants.{PastLimit, OutOfOrder}
-use Rattle.section_text.specs.declared.code.RefusalCode.TheVariants.{MisplacedBox, SomethingMissing}
+use Rattle.pattern.specs.Forms.{form_of as layout_form}
+use Rattle.certificate_lines.specs.Forms.{form_of as certificate_form}
+use Rattle.core_book.specs.declared.verdict.Verdict.TheVariants as verdict
 
 -- ---- numbers in a range
 
@@ -102,22 +74,25 @@ not_among (suc n) a w h = ap₂ (λ p q. p || q) (apart a w (omega (arith, h))) 
 
 -- ---- the names of a circuit are different
 
-define_append : (d xs ys : List (List ℕ)) → define d xs ≡ None → define (d ++ xs) ys ≡ None → define d (xs ++ ys) ≡ None
-define_append d [] ys h k = subst (λ l. define l ys ≡ None) (append-nil d) k
+define_append : (d xs ys : List (List ℕ)) → define_fault d xs ≡ None → define_fault (d ++ xs) ys ≡ None →
+    define_fault d (xs ++ ys) ≡ None
+define_append d [] ys h k = subst (λ l. define_fault l ys ≡ None) (append-nil d) k
 define_append d (x ∷ xs) ys h k =
     let first = define_first d x xs h in
     rw first.0 (define_append (d ++ x ∷ []) xs ys first.1
-    (subst (λ l. define l ys ≡ None) (sym (append_assoc d (x ∷ []) xs)) k))
+    (subst (λ l. define_fault l ys ≡ None) (sym (append_assoc d (x ∷ []) xs)) k))
 
-define_all : (before rest : List CircuitLine) → AreGoodAfter before rest → define [] (defined before) ≡ None →
-    define [] (defined (before ++ rest)) ≡ None
+define_all : (before rest : List CircuitLine) → AreGoodAfter before rest → define_fault [] (defined before) ≡ None →
+    define_fault [] (defined (before ++ rest)) ≡ None
 unfolding AreGoodAfter
-define_all before [] good h = subst (λ l. define [] (defined l) ≡ None) (sym (append-nil before)) h
+define_all before [] good h = subst (λ l. define_fault [] (defined l) ≡ None) (sym (append-nil before)) h
 define_all before (r ∷ rest) good h =
     let own = (names_pass before r good.0.adds).1 in
-    let now : define [] (defined (before ++ r ∷ [])) ≡ None =
-    subst (λ l. define [] l ≡ None) (sym (defined_push before r)) (define_append [] (defined before) r.outs h own) in
-    subst (λ l. define [] (defined l) ≡ None) (push_cons before r rest) (define_all (before ++ r ∷ []) rest good.1 now)
+    let now : define_fault [] (defined (before ++ r ∷ [])) ≡ None =
+    subst (λ l. define_fault [] l ≡ None) (sym (defined_push before r))
+    (define_append [] (defined before) r.outs h own) in
+    subst (λ l. define_fault [] (defined l) ≡ None) (push_cons before r rest)
+    (define_all (before ++ r ∷ []) rest good.1 now)
 
 module _ (circuit : List CircuitLine) (good : AreGoodCircuitLines circuit) where
   abbrev names : List (List ℕ)
@@ -245,11 +220,11 @@ unfolding may_precede is_cut line_cmp rank_of
 use_keep j k = refl
 
 use_use : (j k : ℕ) → j < k → may_precede (Use j) (Use k) ≡ true
-unfolding may_precede is_cut line_cmp rank_of number_of
+unfolding may_precede is_cut line_cmp rank_of sort_number_of
 use_use j k lt = grind (arith, common_steps, ordering_then, less_nat)
 
 keep_keep : (j k : ℕ) → j < k → may_precede (Keep j) (Keep k) ≡ true
-unfolding may_precede is_cut line_cmp rank_of number_of
+unfolding may_precede is_cut line_cmp rank_of sort_number_of
 keep_keep j k lt = grind (arith, common_steps, ordering_then, less_nat)
 
 follow_by : (g : Setting) (m : ModuleLines) (i : CertificateLine) → may_follow m.lines i ≡ true →
@@ -548,7 +523,7 @@ unfolding wires_after
 more_wires n [] = omega arith
 more_wires n (x ∷ gs) = let more = more_wires (n + defines x.kind) gs in omega (arith, more)
 
-side_ok : (n : ℕ) → is_layout_side n ≡ true → n ≤ 64 → is_wrong_side n ≡ false
+side_ok : (n : ℕ) → is_layout_side n ≡ true → n ≤ 64 → is_bad_box_side n ≡ false
 side_ok n side few =
     let first = and_parts (nat_le 2 n && nat_le n 512) (n % 2 == 0) side in
     let low = and_parts (nat_le 2 n) (nat_le n 512) first.0 in
@@ -634,7 +609,7 @@ module _ (circuit : List CircuitLine) (p : Pattern) (good : AreGoodCircuitLines 
       and-false _))
 
   no_gap : leaves_gap p.size (whole p.size ∷ []) ≡ false
-  no_gap = ap not (all_pass _ (box_cells (whole p.size)) (λ k d at.
+  no_gap = ap not (all_pass _ (rectangle_cells (whole p.size)) (λ k d at.
       ap (λ b. b || false) (cells_inside (whole p.size) k d at)))
 
   sides : (is_layout_side p.size.w ≡ true) × (is_layout_side p.size.h ≡ true)
@@ -656,7 +631,7 @@ module _ (circuit : List CircuitLine) (p : Pattern) (good : AreGoodCircuitLines 
       (ap (λ b. code_if b PastLimit) (ap₂ (λ a b. a || b || nat_le 1024 0) (side_ok p.size.w sides.0 small.wide)
       (side_ok p.size.h sides.1 small.high)))
       (ap (λ b. code_if b MisplacedBox) (ap₂ (λ a b. a || b) (not_past p.size.w) (not_past p.size.h))))
-      (ap (λ b. code_if b MisplacedBox) (none_any _ (box_cells (whole p.size)) (λ k d at. refl)))
+      (ap (λ b. code_if b MisplacedBox) (none_any _ (rectangle_cells (whole p.size)) (λ k d at. refl)))
 
   end_good : end_fault its_setting (plain_lines circuit p) ≡ None
   unfolding end_fault last_of
@@ -742,7 +717,7 @@ small_is_decided text output outcome circuit layout t small reports =
           (sym (same_setting circuit layout)) (plain_faultless circuit layout good layout_good small);
     } in
     let reads : bundle_of text ≡ Ok b = bundle_made text b sections is_good in
-    let says : SaysReport b output outcome = subst (λ r. Answered SaysReport r output outcome) reads reports in
+    let says : SaysReport b output outcome = subst (λ r. AnswersOrRefuses SaysReport r output outcome) reads reports in
     let some : outcome ≢ Refused = not_refused says.verdict outcome says.ends in
     let said : SaysBundle text circuit layout (plain_lines circuit layout) =
     (bundle_good text b reads).says_all layout refl in

@@ -1,27 +1,12 @@
 -- `modules`, `migrate` and `value` have an answer to each text
-use Rattle.lemmas.proofs.Common.{[], ◌++◌, ◌∷◌, ◌≡◌, ◌⊎◌, Err, List, Ok, Result, codes, inl, inr, refl, subst, ℕ}
-use Rattle.lemmas.proofs.Common.{decimal}
-use Rattle.section_text.specs.Spelling.{line_text}
-use Rattle.section_text.specs.Words.{lines_of}
-use Rattle.section_text.specs.Section.{section_of}
-use Rattle.section_text.specs.declared.fault.Refusal.{Refusal}
-use Rattle.circuit.specs.Bridge.{netlist_of}
-use Rattle.circuit.specs.Entries.{defined}
-use Rattle.circuit.specs.Grammars.{circuit_grammar}
-use Rattle.circuit.specs.Meaning.{AreOrdered}
-use Rattle.circuit.specs.Text.{value_lines}
-use Rattle.circuit.specs.declared.circuit_line.CircuitLine.{CircuitLine}
-use Rattle.circuit.proofs.Bridging.{gates_are_ordered}
+use Rattle.headline.proofs.Imports.{AnswersOrRefuses, AreOrdered, CircuitLine, Err, HasAnAnswer, IsMigrationOf}
+use Rattle.headline.proofs.Imports.{IsModulesOf, IsValueOf, List, No, Ok, Outcome, Refusal, Refused, Result}
+use Rattle.headline.proofs.Imports.{SaysMigration, SaysModules, SaysValues, ValueQuestion, Yes, [], bundle_of}
+use Rattle.headline.proofs.Imports.{circuit_grammar, codes, decimal, defined, gates_are_ordered, inl, inr, line_text}
+use Rattle.headline.proofs.Imports.{lines_of, netlist_of, pair_with_result, refl, refusal_line, section_of, subst}
+use Rattle.headline.proofs.Imports.{value_lines, value_sections_of, ℕ, ◌++◌, ◌∷◌, ◌≡◌, ◌⊎◌}
 use Rattle.soundness.proofs.SomeValues.{HasStop, HasValues, values_or_stop}
-use Rattle.report.specs.ReportText.{refusal_line}
-use Rattle.answers.specs.Answers.{Answered, pair_with_result}
-use Rattle.answers.specs.BundleText.{bundle_of}
-use Rattle.answers.specs.MigrateText.{IsMigrationOf, SaysMigration}
-use Rattle.answers.specs.ModulesText.{IsModulesOf, SaysModules}
-use Rattle.answers.specs.ValueText.{IsValueOf, SaysValues, CircuitAndNamesOn, assigned_inputs, value_sections_of}
-use Rattle.answers.specs.declared.outcome.Outcome.{Outcome}
-use Rattle.answers.specs.declared.outcome.Outcome.TheVariants.{Yes, No, Refused}
-use Rattle.headline.specs.Laws.{HasAnAnswer}
+use Rattle.answers.specs.ValueText.{assigned_inputs}
 use Rattle.headline.proofs.YesIsRight.{circuit_good, went_on}
 
 -- some output and some way to end
@@ -33,7 +18,7 @@ pub record SaysSomething {A : Type 0} (says : A → List ℕ → Outcome → Typ
 -- a command that answers all that is read answers each text
 pub answered_always : {A : Type 0} (says : A → List ℕ → Outcome → Type 0) (read : Result A Refusal)
     → ((asked : A) → read ≡ Ok asked → SaysSomething says asked)
-    → (output : List ℕ) × (outcome : Outcome) × Answered says read output outcome
+    → (output : List ℕ) × (outcome : Outcome) × AnswersOrRefuses says read output outcome
 answered_always says (Ok asked) each = let s = each asked refl in (s.output, s.outcome, s.is)
 answered_always says (Err refusal) each = (refusal_line refusal, Refused, (refl, refl))
 
@@ -47,7 +32,7 @@ some_migration text = answered_always SaysMigration (bundle_of text)
 
 -- ---- the values of a circuit
 
-says_values : (asked : CircuitAndNamesOn) (ordered : AreOrdered (netlist_of asked.0).given (netlist_of asked.0).gates)
+says_values : (asked : ValueQuestion) (ordered : AreOrdered (netlist_of asked.0).given (netlist_of asked.0).gates)
     → HasValues (netlist_of asked.0) (assigned_inputs asked) ordered ⊎ HasStop (netlist_of asked.0)
     (assigned_inputs asked) ordered
     → SaysSomething SaysValues asked
@@ -67,12 +52,12 @@ says_values asked ordered (inr s) = record {
 }
 
 -- what is asked has the lines of a circuit that was read
-asked_first : (entries : List CircuitLine) (read : Result (List (List ℕ)) Refusal) (asked : CircuitAndNamesOn)
+asked_first : (entries : List CircuitLine) (read : Result (List (List ℕ)) Refusal) (asked : ValueQuestion)
     → pair_with_result entries read ≡ Ok asked → entries ≡ asked.0
 asked_first entries (Ok on) asked e = cc
 asked_first entries (Err refusal) asked e = absurd cc
 
-asked_ordered : (text : List ℕ) (asked : CircuitAndNamesOn) → value_sections_of text ≡ Ok asked
+asked_ordered : (text : List ℕ) (asked : ValueQuestion) → value_sections_of text ≡ Ok asked
     → AreOrdered (netlist_of asked.0).given (netlist_of asked.0).gates
 unfolding value_sections_of
 asked_ordered text asked e =

@@ -1,28 +1,15 @@
 -- A text has a report
-use Rattle.lemmas.proofs.Common.{[], ◌++◌, ◌∙◌, ◌∷◌, ◌≡◌, List, None, Ok, Option, Some, ap, append-nil, append_assoc}
-use Rattle.lemmas.proofs.Common.{refl, subst, sym, ℕ}
-use Rattle.section_text.proofs.Good.{AreFaultless, IsFaultless}
-use Rattle.section_text.specs.Ports.{Named}
-use Rattle.pattern.specs.Grammars.{layout_grammar, layout_section}
-use Rattle.pattern.specs.Layout.{Pattern, parts_of}
-use Rattle.pattern.specs.Lines.{line_fault, order_fault, layout_line_fault, size_fault}
-use Rattle.pattern.specs.declared.layout_line.LayoutHeader.{LayoutHeader}
-use Rattle.pattern.specs.declared.layout_line.LayoutLine.{LayoutLine}
-use Rattle.pattern.specs.declared.layout_line.LayoutLine.TheVariants.{Mirror, Ball, In, Out, Waste}
+use Rattle.headline.proofs.Imports.{AreFaultless, AreModules, Ball, Bundle, CertView, HasAnAnswer, In, IsFaultless}
+use Rattle.headline.proofs.Imports.{IsReportOf, IsVerdictOn, LayoutHeader, LayoutLine, List, Mirror, None, Ok, Option}
+use Rattle.headline.proofs.Imports.{Out, Pattern, PortNameLists, SaysReport, Setting, Some, Verdict, Waste, [], ap}
+use Rattle.headline.proofs.Imports.{append-nil, append_assoc, bundle_of, certificate_grammar, faultless_modules}
+use Rattle.headline.proofs.Imports.{first_none, layout_grammar, layout_line_fault, layout_section, line_fault}
+use Rattle.headline.proofs.Imports.{meant_modules, modules_in, modules_of, parts_of, port_names_of, read_complete, refl}
+use Rattle.headline.proofs.Imports.{report_text, setting_of, size_fault, subst, sym, verdict_outcome, ℕ, ◌++◌, ◌∙◌, ◌∷◌}
+use Rattle.headline.proofs.Imports.{◌≡◌}
+use Rattle.pattern.specs.Lines.{order_fault}
 use Rattle.pattern.proofs.Added.{with_ball, with_in, with_mirror, with_out, with_waste}
-use Rattle.certificate.specs.Grammars.{CertView, certificate_grammar, modules_in}
-use Rattle.certificate_lines.specs.Entries.{Setting, modules_of}
-use Rattle.certificate_lines.specs.Modules.{AreModules}
-use Rattle.certificate_lines.specs.Settings.{setting_of}
-use Rattle.certificate.proofs.FullModules.{meant_modules}
-use Rattle.certificate.proofs.Soundness.{faultless_modules, read_complete}
-use Rattle.core_book.specs.Concluding.{port_names_of}
-use Rattle.soundness.proofs.SomeVerdict.{first_none, some_verdict}
-use Rattle.report.specs.ReportText.{report_lines}
-use Rattle.answers.specs.BundleText.{Bundle, bundle_of}
-use Rattle.answers.specs.CheckText.{IsReportOf, IsVerdictOn, SaysReport, verdict_outcome}
-use Rattle.core_book.specs.declared.verdict.Verdict.{Verdict}
-use Rattle.headline.specs.Laws.{HasAnAnswer}
+use Rattle.soundness.proofs.SomeVerdict.{some_verdict}
 use Rattle.headline.proofs.SomeAnswer.{SaysSomething, answered_always}
 use Rattle.headline.proofs.YesIsRight.{bundle_good, certificate_faultless}
 
@@ -46,12 +33,12 @@ with_part p (Out q) e = let more = p.outs ++ q ∷ [] in
 with_part p (Waste c) e = let more = p.wastes ++ c ∷ [] in
     (record p { wastes = more }, ap (λ l. (p.size, l)) (with_waste p p refl (Waste c) e c more refl refl))
 
-follows : (ports : Option Named) (s : LayoutHeader) (before : List LayoutLine) (part : LayoutLine) →
+follows : (ports : Option PortNameLists) (s : LayoutHeader) (before : List LayoutLine) (part : LayoutLine) →
     layout_line_fault ports s before part ≡ None → order_fault before part ≡ None
 unfolding layout_line_fault line_fault
 follows ports s before part e = first_none (order_fault before part) _ (first_none _ _ e)
 
-more_parts : (ports : Option Named) (s : LayoutHeader) (before parts : List LayoutLine) → HasLines s before →
+more_parts : (ports : Option PortNameLists) (s : LayoutHeader) (before parts : List LayoutLine) → HasLines s before →
     AreFaultless (layout_grammar ports) s before parts → HasLines s (before ++ parts)
 unfolding HasLines
 more_parts ports s before [] has good = subst (HasLines s) (sym (append-nil before)) has
@@ -66,7 +53,7 @@ more_parts ports s before (part ∷ parts) has good =
         (subst (λ l. order_fault l part ≡ None) (sym are) (follows ports s before part good.0)) in
         (one.0, one.1 ∙ ap (λ (v : LayoutHeader × List LayoutLine). (v.0, v.1 ++ part ∷ [])) same)
 
-pub some_layout : (ports : Option Named) (s : LayoutHeader) (parts : List LayoutLine) →
+pub some_layout : (ports : Option PortNameLists) (s : LayoutHeader) (parts : List LayoutLine) →
     IsFaultless (layout_grammar ports) s parts →
     (p : Pattern) × (layout_section p ≡ (s, parts))
 unfolding HasLines
@@ -98,7 +85,7 @@ module _ (text : List ℕ) (b : Bundle) (e : bundle_of text ≡ Ok b) (p : Patte
 
   -- a verdict on its modules is reported
   pub reported_by : (v : Verdict) → IsVerdictOn certificate_by v →
-      SaysReport b (report_lines certificate_by v) (verdict_outcome v)
+      SaysReport b (report_text certificate_by v) (verdict_outcome v)
   reported_by v is = record {
     certificate = certificate_by;
     its_own = record { circuit = refl; layout = same; version = refl; entries = refl };
@@ -116,7 +103,7 @@ reported text b e =
     let judged = some_verdict b.circuit own.0 (modules_in c) (bundle_good text b e).circuit
     (limits text b e own.0 own.1) good in
     record {
-      output = report_lines c judged.verdict;
+      output = report_text c judged.verdict;
       outcome = verdict_outcome judged.verdict;
       is = reported_by text b e own.0 own.1 judged.verdict (record {
         good = good;

@@ -1,35 +1,23 @@
 -- `run` has an answer to each text
-use Rattle.lemmas.proofs.Common.{[], ◌*◌, ◌<◌, ◌^◌, ◌∙◌, ◌∷◌, ◌≡◌, ◌≤◌, ◌⊎◌, Bool, Err, List, None, Ok, Result, arith}
-use Rattle.lemmas.proofs.Common.{cond, false, filter, flat_map, inl, inr, length, refl, subst, suc, sym, true}
-use Rattle.lemmas.proofs.Common.{true≢false, zero, ℕ, ℤ, cases_Bool, cases_lt, mul-le-mul_right}
-use Rattle.section_text.specs.Words.{has, lines_of}
-use Rattle.section_text.specs.Section.{section_of}
-use Rattle.section_text.specs.declared.fault.Refusal.{Refusal}
-use Rattle.section_text.proofs.Good.{IsFaultless, read_faultless}
-use Rattle.bbm_rule.specs.Plane.{State, partner, run, step}
-use Rattle.bbm_rule.specs.declared.block.Cell.{Cell}
+use Rattle.headline.proofs.Imports.{Bool, Cell, Cells, Err, HasAnAnswer, IsDeadOutside, IsFaultless, IsLiveOutside}
+use Rattle.headline.proofs.Imports.{IsRunEnd, IsRunOf, LayoutHeader, LayoutLine, LeftAt, List, None, Ok, Pattern}
+use Rattle.headline.proofs.Imports.{Refusal, Result, RunEnd, RunQuestion, SaysRunEnd, State, [], arith, cases_Bool}
+use Rattle.headline.proofs.Imports.{cond, false, filter, flat_map, has, in_box, in_layout, inl, inr, layout_grammar}
+use Rattle.headline.proofs.Imports.{length, lines_of, pair_with_result, partner, parts_of, plane_at, read_faultless}
+use Rattle.headline.proofs.Imports.{rectangle_cells, refl, run, run_end_outcome, run_end_text, section_of, size_fault}
+use Rattle.headline.proofs.Imports.{start, step, subst, suc, sym, true, true≢false, vec_of, whole, zero, ℕ, ℤ, ◌<◌, ◌^◌}
+use Rattle.headline.proofs.Imports.{◌∙◌, ◌∷◌, ◌≡◌, ◌≤◌, ◌⊎◌}
+use Rattle.lemmas.proofs.Common.{◌*◌, cases_lt, mul-le-mul_right}
 use Rattle.bbm_rule.proofs.PlaneLemmas.{partner_twice}
 use Rattle.bbm_rule.proofs.Steps.{step_dead}
-use Rattle.pattern.specs.Grammars.{layout_grammar}
-use Rattle.pattern.specs.Layout.{Pattern, IsDeadOutside, in_layout, parts_of, plane_at, start}
-use Rattle.pattern.specs.Lines.{size_fault}
-use Rattle.pattern.specs.Run.{GoesOutside, IsRunEnd, RunLeaves, live_cells}
-use Rattle.pattern.specs.declared.layout_line.LayoutHeader.{LayoutHeader}
-use Rattle.pattern.specs.declared.layout_line.LayoutLine.{LayoutLine}
-use Rattle.pattern.specs.declared.run.RunEnd.{RunEnd}
-use Rattle.pattern.specs.declared.run.RunEnd.TheVariants.{Cells, LeftAt}
+use Rattle.pattern.specs.Run.{RunLeaves, live_cells}
 use Rattle.pattern.proofs.InsideLemmas.{begins_inside, size_sides, start_inside}
-use Rattle.module_box.specs.Boxes.{in_box}
-use Rattle.certificate_lines.specs.Rules.{box_cells, whole}
 use Rattle.certificate_lines.proofs.BoxPlaces.{box_length, box_place}
 use Rattle.certificate_lines.proofs.LineOrder.{In, flat_in}
 use Rattle.certificate_lines.proofs.InList.{placed}
 use Rattle.certificate.proofs.FullModules.{stands}
 use Rattle.soundness.proofs.SomeLeast.{Decided, HasOne, both_decided, bools_decided, some_decided, true_decided}
-use Rattle.soundness.proofs.SomeVerdict.{vec_of}
-use Rattle.answers.specs.Answers.{pair_with_result}
-use Rattle.answers.specs.RunText.{IsRunOf, LayoutAndNamesOn, SaysRunEnd, run_end_outcome, run_end_text, run_sections_of}
-use Rattle.headline.specs.Laws.{HasAnAnswer}
+use Rattle.answers.specs.RunText.{run_sections_of}
 use Rattle.headline.proofs.SomeAnswer.{SaysSomething, answered_always}
 use Rattle.headline.proofs.SomeReport.{some_layout}
 use Rattle.headline.proofs.YesIsRight.{laid_out, went_on}
@@ -37,9 +25,9 @@ use Rattle.headline.proofs.YesIsRight.{laid_out, went_on}
 -- ---- whether a step leaves the layout
 
 module _ (s : LayoutHeader) where
-  in_whole : (x y : ℤ) → in_layout s x y ≡ true → In (record { x = x; y = y }) (box_cells (whole s))
+  in_whole : (x y : ℤ) → in_layout s x y ≡ true → In (record { x = x; y = y }) (rectangle_cells (whole s))
   unfolding in_box
-  in_whole x y h = stands (box_cells (whole s)) _ (record { x = x; y = y }) (box_place (whole s) x y h)
+  in_whole x y h = stands (rectangle_cells (whole s)) _ (record { x = x; y = y }) (box_place (whole s) x y h)
 
   module _ (t : ℕ) (state : State) (stays : IsDeadOutside s state) where
     -- the other cells of the block of a cell
@@ -49,7 +37,7 @@ module _ (s : LayoutHeader) where
 
     -- all cells outside that may become live
     abbrev near_cells : List Cell
-    near_cells = flat_map block_cells (box_cells (whole s))
+    near_cells = flat_map block_cells (rectangle_cells (whole s))
 
     abbrev IsOut : Cell → Type 0
     IsOut d = (step t state d.x d.y ≡ true) × (in_layout s d.x d.y ≡ false)
@@ -60,21 +48,21 @@ module _ (s : LayoutHeader) where
     by_opposite : (x y : ℤ) → state (partner t x) (partner t y) ≡ true → In (record { x = x; y = y }) near_cells
     unfolding In
     by_opposite x y live =
-        flat_in block_cells (record { x = x; y = y }) (box_cells (whole s))
+        flat_in block_cells (record { x = x; y = y }) (rectangle_cells (whole s))
         (record { x = partner t x; y = partner t y }) (in_whole _ _ (stays _ _ live))
         (inl (λ i. record { x = partner_twice t x i; y = partner_twice t y i }))
 
     by_column : (x y : ℤ) → state (partner t x) y ≡ true → In (record { x = x; y = y }) near_cells
     unfolding In
     by_column x y live =
-        flat_in block_cells (record { x = x; y = y }) (box_cells (whole s)) (record { x = partner t x; y = y })
+        flat_in block_cells (record { x = x; y = y }) (rectangle_cells (whole s)) (record { x = partner t x; y = y })
         (in_whole _ _ (stays _ _ live))
         (inr (inl (λ i. record { x = partner_twice t x i; y = y })))
 
     by_row : (x y : ℤ) → state x (partner t y) ≡ true → In (record { x = x; y = y }) near_cells
     unfolding In
     by_row x y live =
-        flat_in block_cells (record { x = x; y = y }) (box_cells (whole s)) (record { x = x; y = partner t y })
+        flat_in block_cells (record { x = x; y = y }) (rectangle_cells (whole s)) (record { x = x; y = partner t y })
         (in_whole _ _ (stays _ _ live))
         (inr (inr (inl (λ i. record { x = x; y = partner_twice t y i }))))
 
@@ -102,7 +90,7 @@ module _ (s : LayoutHeader) where
           absurd (none (record { number = at.0; one = record { x = x; y = y }; at = at.1; holds = (live, out) }))
     ]
 
-    step_decided : IsDeadOutside s (step t state) ⊎ GoesOutside s (step t state)
+    step_decided : IsDeadOutside s (step t state) ⊎ IsLiveOutside s (step t state)
     step_decided = elim (some_decided IsOut out_decided near_cells) [
       | inl h ↦ inr (record { x = h.one.x; y = h.one.y; lives = h.holds.0; outside = h.holds.1 })
       | inr none ↦ inl (none_out none)
@@ -153,7 +141,7 @@ few_cells s state limits =
     let wide = sides.0.most in
     let high = sides.1.most in
     let area : s.w * s.h ≤ 512 * s.h = mul-le-mul_right s.h wide in
-    let all = filter_few (λ (c : Cell). state c.x c.y) (box_cells (whole s)) in
+    let all = filter_few (λ (c : Cell). state c.x c.y) (rectangle_cells (whole s)) in
     let count = box_length (whole s) in
     omega (arith, all, count, area, high)
 
@@ -170,19 +158,19 @@ some_end p on limits inside = elim (run_to p.size (start p on) inside p.size.ste
 -- ---- the answer
 
 -- what is asked has the lines of a layout that was read
-record IsAskedLayout (asked : LayoutAndNamesOn) : Type 0 where
+record IsAskedLayout (asked : RunQuestion) : Type 0 where
   pub size : LayoutHeader
   pub parts : List LayoutLine
   pub good : IsFaultless (layout_grammar None) size parts
   pub same : (size, parts) ≡ asked.0
 
 asked_first : (lines : LayoutHeader × List LayoutLine) (read : Result (List (List ℕ)) Refusal)
-    (asked : LayoutAndNamesOn) →
+    (asked : RunQuestion) →
     pair_with_result lines read ≡ Ok asked → lines ≡ asked.0
 asked_first lines (Ok on) asked e = cc
 asked_first lines (Err refusal) asked e = absurd cc
 
-asked_layout : (text : List ℕ) (asked : LayoutAndNamesOn) → run_sections_of text ≡ Ok asked → IsAskedLayout asked
+asked_layout : (text : List ℕ) (asked : RunQuestion) → run_sections_of text ≡ Ok asked → IsAskedLayout asked
 unfolding run_sections_of
 asked_layout text asked e =
     let l = went_on (section_of (layout_grammar None) 0 (lines_of text)) _ asked e in
@@ -193,7 +181,7 @@ asked_layout text asked e =
       same = asked_first (l.header, l.items) _ asked l.then;
     }
 
-says_end : (asked : LayoutAndNamesOn) → IsAskedLayout asked → SaysSomething SaysRunEnd asked
+says_end : (asked : RunQuestion) → IsAskedLayout asked → SaysSomething SaysRunEnd asked
 says_end asked a =
     let p = some_layout None a.size a.parts a.good in
     let whole : IsFaultless (layout_grammar None) p.0.size (parts_of p.0) =

@@ -1,35 +1,25 @@
 -- A mirror that touches the rim of its rectangle: its layout computes a circuit, and gets a yes after it is moved
-use Rattle.lemmas.proofs.Common.{[], ◌&&◌, ◌+ℤ◌, ◌+◌, ◌-ℤ◌, ◌||◌, ◌∙◌, ◌∷◌, ◌≡◌, ◌≤◌, Bool, IsTrue, List, None, ap, ap₂}
-use Rattle.lemmas.proofs.Common.{arith, codes, false, inl, inr, leb, ltb, negsuc, pos, refl, subst, suc}
-use Rattle.lemmas.proofs.Common.{sym, true, zero, ℕ, ℤ, All-cons, All-nil, and_parts, ints, nat_tests}
-use Rattle.lemmas.proofs.Common.{next_neg, common_steps}
-use Rattle.section_text.specs.Words.{is_name}
-use Rattle.bbm_rule.specs.Plane.{State, partner, run, step, turned}
-use Rattle.bbm_rule.specs.Spans.{in_area, in_span}
-use Rattle.bbm_rule.proofs.Spans.{even_span, in_span-negsuc, in_span-pos, partner_near, span_from}
-use Rattle.bbm_rule.proofs.Spans.{span_parts}
+use Rattle.headline.proofs.Imports.{All-cons, All-nil, Bool, CircuitLine, Gate, HasNoDelay, HasRoom, IsCorrect}
+use Rattle.headline.proofs.Imports.{IsDesign, IsReportOf, IsSmallDesign, IsTrue, List, LooksAsAsked, No, None, Pattern}
+use Rattle.headline.proofs.Imports.{Satisfies, Source, Spill, State, TouchesRim, Valuation, [], add_fault, and_parts}
+use Rattle.headline.proofs.Imports.{ap, ap₂, arith, cell_fault, cells_of, cells_taken_at_start, codes, common_steps}
+use Rattle.headline.proofs.Imports.{design_text, false, in_box, in_layout, in_ring, in_span, in_span-negsuc, inl, inr}
+use Rattle.headline.proofs.Imports.{ints, is_inside, is_name, is_taken, limit_fault, nat_tests, negsuc, number, partner}
+use Rattle.headline.proofs.Imports.{parts_of, plane_at, pos, rectangle_cells, refl, row, run, run_under, size_fault}
+use Rattle.headline.proofs.Imports.{span_from, span_parts, start, step, subst, suc, sym, takes_at_start, true, turned}
+use Rattle.headline.proofs.Imports.{zero, ℕ, ℤ, ◌&&◌, ◌+ℤ◌, ◌+◌, ◌-ℤ◌, ◌||◌, ◌∙◌, ◌∷◌, ◌≡◌, ◌≤◌}
+use Rattle.lemmas.proofs.Common.{leb, ltb, next_neg}
+use Rattle.bbm_rule.specs.Spans.{in_area}
+use Rattle.bbm_rule.proofs.Spans.{even_span, in_span-pos, partner_near}
 use Rattle.bbm_rule.proofs.Steps.{step_same}
-use Rattle.circuit.specs.Bridge.{AreGoodCircuitLines, circuit_of, AreGoodAfter as AreGoodCircuit}
-use Rattle.circuit.specs.Rules.{add_fault}
-use Rattle.circuit.specs.Gates.{row}
-use Rattle.circuit.specs.Meaning.{Satisfies, Valuation, number}
-use Rattle.circuit.specs.declared.circuit_line.CircuitLine.{CircuitLine}
-use Rattle.circuit.specs.declared.circuit_line.GateKind.TheVariants.{Source}
-use Rattle.circuit.specs.declared.circuit_line.Kind.TheVariants.{Gate, Spill}
-use Rattle.pattern.specs.Lines.{AreGoodAfter, begins, cells_taken_at_start, cell_fault, cells_of, is_inside, is_taken}
-use Rattle.pattern.specs.Lines.{limit_fault, size_fault}
-use Rattle.pattern.specs.Layout.{Pattern, in_layout, parts_of, plane_at, rectangle_cells, start}
-use Rattle.module_box.specs.Boxes.{in_box, in_ring, some_neighbour}
-use Rattle.soundness.specs.PlainCertificates.{TouchesRim}
-use Rattle.answers.specs.CheckText.{IsReportOf}
-use Rattle.answers.specs.declared.outcome.Outcome.TheVariants.{No}
-use Rattle.meaning.specs.Implements.{IsCorrect, LooksAsAsked, run_under}
-use Rattle.headline.specs.MovedDesigns.{HasRoom, SomeDesignNeedsRoom}
-use Rattle.headline.specs.SmallDesigns.{HasNoDelay, IsDesign, IsSmallDesign, design_text}
+use Rattle.pattern.specs.Lines.{AreGoodAfter}
+use Rattle.bbm_rule.specs.Boxes.{some_neighbour}
+use Rattle.headline.specs.MovedDesigns.{SomeDesignNeedsRoom}
 use Rattle.headline.proofs.AcceptedTexts.{no_of}
 use Rattle.headline.proofs.MovedDesigns.{each_gets_yes}
 use Rattle.headline.proofs.SomeReport.{some_report}
 use Rattle.headline.proofs.WrittenDesigns.{each_is_decided}
+use Rattle.circuit.specs.Bridge.{AreGoodCircuitLines, circuit_of, AreGoodAfter as AreGoodCircuit}
 
 -- a constant that is spilled
 abbrev constant : List CircuitLine
@@ -200,7 +190,7 @@ unfolding size_fault
 mirror_size = refl
 
 mirror_good : AreGoodAfter rim_mirror.size [] (parts_of rim_mirror)
-unfolding begins cells_taken_at_start cell_fault cells_of is_inside is_taken limit_fault rectangle_cells
+unfolding takes_at_start cells_taken_at_start cell_fault cells_of is_inside is_taken limit_fault rectangle_cells
 mirror_good = (refl, refl, tt)
 
 mirror_design : IsDesign constant rim_mirror

@@ -1,14 +1,11 @@
 -- Words make a line, lines make a section, and sections make a text, which have these words, lines and sections
-use Rattle.lemmas.proofs.Common.{[], ◌&&◌, ◌++◌, ◌∙◌, ◌∷◌, ◌≡◌, Bool, List, Option, Some, ap, append-nil}
-use Rattle.lemmas.proofs.Common.{ap₂, arith, eqb, false, flat_map, map, nat_lt, refl, true, ℕ}
-use Rattle.lemmas.proofs.Common.{AllByRecursion, and_parts, cases_Bool, eqb-true, false≢true}
-use Rattle.lemmas.proofs.Common.{list_all, nat_tests, slice_split_at, slice_split_none, common_steps}
-use Rattle.section_text.specs.SaidSection.{IsSection}
-use Rattle.section_text.specs.Spelling.{space_and_word}
-use Rattle.section_text.specs.Words.{is_digit, is_name, is_name_byte, words_of}
-use Rattle.section_text.specs.declared.section.Form.{Form}
-use Rattle.section_text.specs.declared.section.Form.TheVariants.{Header, Item, End}
-use Rattle.section_text.proofs.Again.{AreLines, IsOneLine}
+use Rattle.headline.proofs.Imports.{AllByRecursion, AreLines, Bool, End, Form, Header, IsOneLine, IsSection, Item, List}
+use Rattle.headline.proofs.Imports.{Option, Some, [], and_parts, ap, append-nil, ap₂, arith, cases_Bool, common_steps}
+use Rattle.headline.proofs.Imports.{eqb, eqb-true, false, false≢true, flat_map, is_name, list_all, map, nat_lt}
+use Rattle.headline.proofs.Imports.{nat_tests, refl, slice_split_at, space_and_word, true, words_of, ℕ, ◌&&◌, ◌++◌, ◌∙◌}
+use Rattle.headline.proofs.Imports.{◌∷◌, ◌≡◌}
+use Rattle.lemmas.proofs.Common.{slice_split_none}
+use Rattle.section_text.specs.Words.{is_digit, is_name_byte}
 
 -- ---- words
 

@@ -1,28 +1,22 @@
 -- The lines of a good circuit can be written, if its wires have names
-use Rattle.lemmas.proofs.Common.{[], ◌&&◌, ◌++◌, ◌+◌, ◌<◌, ◌==◌, ◌^◌, ◌||◌, ◌∙◌, ◌∷◌, ◌≡◌, List, None, Some, ap}
-use Rattle.lemmas.proofs.Common.{append-nil, append_assoc, ap₂, arith, codes, cond, eq-eqb, false, inl, inr, length}
-use Rattle.lemmas.proofs.Common.{length-append, refl, slice_get, subst, sym, true, ℕ, AllByRecursion, and_parts}
-use Rattle.lemmas.proofs.Common.{bytes_eq, bytes_eq-Decides, cases_Bool, cond_some, decimal, false≢true, list_all}
-use Rattle.lemmas.proofs.Common.{nat_tests, left_is_false, common_steps}
-use Rattle.section_text.specs.Words.{◌>>=◌, has, is_name, is_number, is_word, is_word_at, lone, lone_name}
-use Rattle.section_text.specs.Words.{name_at, name_of, names_at, number_at, number_of}
-use Rattle.section_text.specs.declared.section.Form.TheVariants.{Header, Item, End}
-use Rattle.section_text.proofs.Numbers.{number_written}
-use Rattle.circuit.specs.Bridge.{AreGoodAfter, FitsKind}
-use Rattle.circuit.specs.Entries.{defined, entry}
-use Rattle.circuit.specs.Forms.{bit_at, form_of, gate_entry, gate_kind, gate_line_of_kind, words_before_names}
-use Rattle.circuit.specs.Gates.{defines, uses}
-use Rattle.circuit.specs.Rules.{add_fault, consumed, is_wrong_delay}
+use Rattle.headline.proofs.Imports.{AllByRecursion, AreGoodAfter, CircuitLine, Cswap, Delay, End, FitsKind, Fredkin}
+use Rattle.headline.proofs.Imports.{Gate, GateKind, Have, Header, Input, Interact, Item, List, None, Output, Some}
+use Rattle.headline.proofs.Imports.{Source, Spill, Switch, Uninteract, Unswitch, [], add_fault, and_parts, ap}
+use Rattle.headline.proofs.Imports.{append-nil, append_assoc, ap₂, arith, bytes_eq, bytes_eq-Decides, cases_Bool, codes}
+use Rattle.headline.proofs.Imports.{common_steps, cond, cond_some, consume_have, consumed, decimal, defined, defines}
+use Rattle.headline.proofs.Imports.{entry, eq-eqb, false, false≢true, first_none, form_of, gate_entry}
+use Rattle.headline.proofs.Imports.{gate_line_of_kind, has, if_one_word, inl, inr, is_name, is_word_at, length}
+use Rattle.headline.proofs.Imports.{length-append, list_all, name_after_keyword, name_at, name_of, names_at, names_pass}
+use Rattle.headline.proofs.Imports.{nat_tests, number_at, number_of, number_written, refl, slice_get, subst, sym, true}
+use Rattle.headline.proofs.Imports.{ℕ, ◌&&◌, ◌++◌, ◌+◌, ◌<◌, ◌==◌, ◌>>=◌, ◌^◌, ◌||◌, ◌∙◌, ◌∷◌, ◌≡◌}
+use Rattle.lemmas.proofs.Common.{left_is_false}
+use Rattle.section_text.specs.Words.{is_number, is_word}
+use Rattle.circuit.specs.Forms.{bit_at, gate_kind, words_before_names}
+use Rattle.circuit.specs.Gates.{uses}
+use Rattle.circuit.specs.Rules.{is_wrong_delay}
 use Rattle.circuit.specs.Text.{gate_parameter_words, gate_word}
-use Rattle.circuit.specs.declared.circuit_line.CircuitLine.{CircuitLine}
-use Rattle.circuit.specs.declared.circuit_line.GateKind.{GateKind}
-use Rattle.circuit.specs.declared.circuit_line.GateKind.TheVariants.{Source, Fredkin, Cswap, Interact, Switch, Delay}
-use Rattle.circuit.specs.declared.circuit_line.GateKind.TheVariants.{Unswitch, Uninteract}
 use Rattle.circuit.specs.declared.circuit_line.Kind.{Kind}
-use Rattle.circuit.specs.declared.circuit_line.Kind.TheVariants.{Input, Gate, Output, Spill}
-use Rattle.circuit.proofs.Bridging.{names_pass}
-use Rattle.circuit.proofs.Places.{Have, consume_have}
-use Rattle.soundness.proofs.SomeVerdict.{first_none, no_code}
+use Rattle.soundness.proofs.SomeVerdict.{no_code}
 use Rattle.headline.proofs.Written.{HasLine, HasSection, IsWord, digits_word, has_section, line_by, name_word}
 
 -- ---- names and numbers
@@ -237,7 +231,7 @@ first_of n ns h = (and_parts (is_name n) (list_all is_name ns) h).0
 
 pub line_of : (kind : Kind) (ins outs : List (List ℕ)) → FitsKind (entry kind ins outs) → AreNames ins → AreNames outs →
     IsShort kind → HasLine form_of (Item (entry kind ins outs))
-unfolding form_of is_word_at lone_name name_at
+unfolding form_of is_word_at name_after_keyword name_at
 line_of (Gate k) ins outs fits i o right = gate_line k ins outs fits i o right
 line_of Input [] (n ∷ []) fits i o right = lone_line (codes "input") n _ refl (first_of n [] o)
     (ap (λ o. o >>= λ m. Some (Item (entry Input [] (m ∷ [])))) (named n (first_of n [] o)))
@@ -282,11 +276,11 @@ lines_of before (r ∷ rest) good h k =
     )
 
 pub first_line : HasLine form_of (Header tt)
-unfolding form_of lone is_word_at
+unfolding form_of if_one_word is_word_at
 first_line = line_by form_of (Header tt) (codes "circuit") [] refl tt refl
 
 pub last_line : HasLine form_of End
-unfolding form_of lone is_word_at
+unfolding form_of if_one_word is_word_at
 last_line = line_by form_of End (codes "end") [] refl tt refl
 
 pub circuit_written : (circuit : List CircuitLine) → AreGoodAfter [] circuit → AreNames (defined circuit) →

@@ -1,48 +1,23 @@
 -- Each small design has a plain text, and `check` decides the design by it
-use Rattle.lemmas.proofs.Common.{common_steps}
-use Rattle.lemmas.proofs.Common.{[], ◌&&◌, ◌++◌, ◌+◌, ◌<◌, ◌^◌, ◌∙◌, ◌∷◌, ◌≡◌, ◌≤◌, All, Bool, IsTrue, List, Ok, Some}
-use Rattle.lemmas.proofs.Common.{ap, append-nil, append_assoc, ap₂, arith, codes, cond, false, filter, flat_map, length}
-use Rattle.lemmas.proofs.Common.{map, refl, slice_get, subst, suc, sym, true, zero, ℕ, All-head, All-nil, All-tail}
-use Rattle.lemmas.proofs.Common.{AllByRecursion, and_parts, decimal, flat_map-append, list_all, range_with_len}
-use Rattle.section_text.specs.Codes.{or_else}
-use Rattle.section_text.specs.SaidSection.{IsSection}
-use Rattle.section_text.specs.Section.{Grammar, with_line_feed, section_of}
-use Rattle.section_text.specs.Words.{◌>>=◌, is_name, is_word_at, lone, lone_name, lone_number, name_at, number_at}
-use Rattle.section_text.specs.declared.section.Form.TheVariants.{Header, Item, End}
-use Rattle.section_text.proofs.Again.{AreLines, lines_again}
-use Rattle.section_text.proofs.Good.{AreFaultless, IsFaultless}
-use Rattle.section_text.proofs.MadeSections.{clean_both, nothing_follows, section_made}
-use Rattle.section_text.proofs.Numbers.{number_written}
-use Rattle.circuit.specs.Bridge.{AreGoodAfter, circuit_of, input_names, netlist_of, output_names}
-use Rattle.circuit.specs.Entries.{defined}
-use Rattle.circuit.specs.Forms.{form_of as circuit_form}
-use Rattle.circuit.specs.Grammars.{circuit_grammar, unconsumed_wire_code}
-use Rattle.circuit.specs.Text.{circuit_text}
-use Rattle.circuit.specs.declared.circuit_line.CircuitLine.{CircuitLine}
-use Rattle.pattern.specs.Forms.{form_of as layout_form}
-use Rattle.pattern.specs.Grammars.{layout_grammar}
-use Rattle.pattern.specs.Layout.{Pattern, parts_of}
-use Rattle.pattern.specs.Text.{layout_text}
-use Rattle.certificate_lines.specs.Entries.{stop_in}
-use Rattle.certificate_lines.specs.Forms.{area_of, corner_and_sides, form_of}
-use Rattle.certificate_lines.specs.Rules.{is_inverse_gate}
-use Rattle.certificate_lines.specs.declared.certificate_line.CertificateLine.{CertificateLine}
-use Rattle.certificate_lines.specs.declared.certificate_line.CertificateLine.TheVariants.{Module, Cut, Use, Keep}
-use Rattle.certificate.specs.Arrivals.{AreOnTime}
-use Rattle.certificate.specs.Text.{certificate_text}
-use Rattle.core_book.specs.Concluding.{port_names_of}
-use Rattle.soundness.specs.OnTime.{StopHolds}
-use Rattle.soundness.specs.PlainCertificates.{TouchesRim}
-use Rattle.answers.specs.BundleText.{Bundle}
-use Rattle.answers.specs.MigrateText.{bundle_text, certificate_lines, layout_lines}
-use Rattle.meaning.specs.Design.{SaysDesign}
-use Rattle.meaning.specs.Headline.{IsRight}
-use Rattle.meaning.specs.Implements.{IsCorrect}
-use Rattle.headline.specs.Plain.{HasRimTouch}
+use Rattle.headline.proofs.Imports.{All, All-head, All-nil, All-tail, AllByRecursion, AreFaultless, AreGoodAfter}
+use Rattle.headline.proofs.Imports.{AreInOrder, AreLines, AreOnTime, Bool, Bundle, CertificateLine, CircuitLine, Cut}
+use Rattle.headline.proofs.Imports.{End, Grammar, HasNoDelay, HasRightStops, HasRimTouch, Header, IsCorrect, IsDesign}
+use Rattle.headline.proofs.Imports.{IsFaultless, IsPlainText, IsRight, IsSection, IsSmallDesign, IsTrue, Item, Keep}
+use Rattle.headline.proofs.Imports.{List, Module, Ok, Pattern, SaysBundle, SaysDesign, Some, StopHolds, TouchesRim, Use}
+use Rattle.headline.proofs.Imports.{[], and_parts, ap, append-nil, append_assoc, ap₂, arith, box_of, bundle_text}
+use Rattle.headline.proofs.Imports.{certificate_section_text, certificate_text, circuit_grammar, circuit_of}
+use Rattle.headline.proofs.Imports.{circuit_text, clean_both, codes, common_steps, cond, corner_and_sides, decimal}
+use Rattle.headline.proofs.Imports.{defined, design_text, false, filter, flat_map, flat_map-append, gate_numbers}
+use Rattle.headline.proofs.Imports.{if_one_word, input_names, is_inverse_gate, is_name, is_word_at, layout_grammar}
+use Rattle.headline.proofs.Imports.{layout_section_text, layout_text, length, lines_again, list_all, map}
+use Rattle.headline.proofs.Imports.{name_after_keyword, name_at, netlist_of, nothing_follows, number_after_keyword}
+use Rattle.headline.proofs.Imports.{number_at, number_written, or_else, output_names, parts_of, plain_lines}
+use Rattle.headline.proofs.Imports.{port_names_of, range_with_len, refl, section_made, section_of, slice_get, stop_in}
+use Rattle.headline.proofs.Imports.{subst, suc, sym, true, unconsumed_wire_code, with_line_feed, zero, ℕ, ◌&&◌, ◌++◌}
+use Rattle.headline.proofs.Imports.{◌+◌, ◌<◌, ◌>>=◌, ◌^◌, ◌∙◌, ◌∷◌, ◌≡◌, ◌≤◌}
+use Rattle.certificate_lines.specs.Forms.{form_of}
 use Rattle.headline.specs.PlainLaws.{EachSmallDesignHasPlainText, EachSmallDesignIsDecided}
-use Rattle.headline.specs.SmallDesigns.{AreInOrder, HasNoDelay, IsDesign, IsPlainText, IsSmallDesign, gate_numbers}
-use Rattle.headline.specs.SmallDesigns.{inverse_gate_numbers, plain_lines, design_text}
-use Rattle.headline.specs.Stops.{HasRightStops, SaysBundle}
+use Rattle.headline.specs.SmallDesigns.{inverse_gate_numbers}
 use Rattle.headline.proofs.Designs.{one_certificate, one_design}
 use Rattle.headline.proofs.Migrations.{HasSections, text_is}
 use Rattle.headline.proofs.PlainLines.{none_of}
@@ -53,6 +28,8 @@ use Rattle.headline.proofs.YesIsPrinted.{design_printed}
 use Rattle.headline.proofs.Written.{HasLine, HasSection, has_section, line_by, name_word}
 use Rattle.headline.proofs.WrittenCircuits.{AreNames, circuit_written, decimal_word, named}
 use Rattle.headline.proofs.WrittenLayouts.{layout_faultless, layout_written}
+use Rattle.circuit.specs.Forms.{form_of as circuit_form}
+use Rattle.pattern.specs.Forms.{form_of as layout_form}
 
 -- ---- the names of the ports
 
@@ -73,23 +50,23 @@ circuit_on before (r ∷ rest) order good =
 -- ---- the plain lines can be written
 
 cut_line : (n : List ℕ) → is_name n ≡ true → HasLine form_of (Item (Cut n))
-unfolding form_of is_word_at lone_name name_at
+unfolding form_of is_word_at name_after_keyword name_at
 cut_line n h = line_by form_of (Item (Cut n)) (codes "cut") (n ∷ []) refl (name_word n h, tt)
     (ap (λ o. o >>= λ m. Some (Item (Cut m))) (named n h))
 
 use_line : (k : ℕ) → k < 10 ^ 9 → HasLine form_of (Item (Use k))
-unfolding form_of is_word_at lone_number number_at
+unfolding form_of is_word_at number_after_keyword number_at
 use_line k h = line_by form_of (Item (Use k)) (codes "use") (decimal k ∷ []) refl (decimal_word k h, tt)
     (ap (λ o. o >>= λ m. Some (Item (Use m))) (number_written k h))
 
 keep_line : (k : ℕ) → k < 10 ^ 9 → HasLine form_of (Item (Keep k))
-unfolding form_of is_word_at lone_number number_at
+unfolding form_of is_word_at number_after_keyword number_at
 keep_line k h = line_by form_of (Item (Keep k)) (codes "keep") (decimal k ∷ []) refl (decimal_word k h, tt)
     (ap (λ o. o >>= λ m. Some (Item (Keep m))) (number_written k h))
 
 module_line : (w h : ℕ) → w < 10 ^ 9 → h < 10 ^ 9 →
     HasLine form_of (Item (Module (record { x = 0; y = 0; w = w; h = h })))
-unfolding form_of is_word_at area_of corner_and_sides number_at
+unfolding form_of is_word_at box_of corner_and_sides number_at
 module_line w h wide high =
     let none : 0 < 10 ^ 9 = omega arith in
     line_by form_of (Item (Module (record { x = 0; y = 0; w = w; h = h }))) (codes "module")
@@ -99,14 +76,14 @@ module_line w h wide high =
     number_written h high i >>= λ h. Some (record { x = x; y = y; w = w; h = h })) >>= λ b. Some (Item (Module b)))
 
 header_line : HasLine form_of (Header 1)
-unfolding form_of is_word_at lone_number number_at
+unfolding form_of is_word_at number_after_keyword number_at
 header_line =
     let one : 1 < 10 ^ 9 = omega arith in
     line_by form_of (Header 1) (codes "certificate") (decimal 1 ∷ []) refl (decimal_word 1 one, tt)
     (ap (λ o. o >>= λ m. Some (Header m)) (number_written 1 one))
 
 end_line : HasLine form_of End
-unfolding form_of lone is_word_at
+unfolding form_of if_one_word is_word_at
 end_line = line_by form_of End (codes "end") [] refl tt refl
 
 abbrev Lines : List CertificateLine → Type 0
@@ -217,7 +194,7 @@ module _ (circuit : List CircuitLine) (p : Pattern) (design : IsDesign circuit p
   }
 
   spelled : flat_map with_line_feed lines ≡ design_text circuit p
-  unfolding bundle_text layout_lines certificate_lines layout_text certificate_text
+  unfolding bundle_text layout_section_text certificate_section_text layout_text certificate_text
   spelled =
       let b : Bundle = record {
         circuit = circuit;

@@ -1,40 +1,24 @@
 -- The lines of a good layout can be written, if its ports have names, and no line has a fault after those before it
-use Rattle.lemmas.proofs.Common.{[], ◌&&◌, ◌++◌, ◌+◌, ◌<◌, ◌^◌, ◌||◌, ◌∙◌, ◌∷◌, ◌≡◌, ◌≤◌, Bool, List, None, Option}
-use Rattle.lemmas.proofs.Common.{Some, ap, append-nil, ap₂, arith, codes, false, map, nat_le, nat_lt, not, option_map}
-use Rattle.lemmas.proofs.Common.{refl, slice_get, subst, suc, sym, true, ℕ, AllByRecursion, and_parts, decimal}
-use Rattle.lemmas.proofs.Common.{list_all, list_any, nat_tests, slice_get-map, at_most_by_test, common_steps}
-use Rattle.section_text.specs.Codes.{code_if, or_else}
-use Rattle.section_text.specs.Ports.{Named}
-use Rattle.section_text.specs.Words.{◌>>=◌, has, is_name, is_word_at, lone, name_at, number_at}
-use Rattle.section_text.specs.declared.code.RefusalCode.{RefusalCode}
-use Rattle.section_text.specs.declared.code.RefusalCode.TheVariants.{SomethingMissing, TakenCell}
+use Rattle.headline.proofs.Imports.{AllByRecursion, AreFaultless, Ball, Bool, Box2, Cell, CircuitLine, End, HaveNames}
+use Rattle.headline.proofs.Imports.{Header, In, IsFaultless, IsNamed, Item, LayoutHeader, LayoutLine, List, Mirror}
+use Rattle.headline.proofs.Imports.{None, Option, Out, Pattern, Port, PortNameLists, RefusalCode, Some}
+use Rattle.headline.proofs.Imports.{SomethingMissing, TakenCell, Waste, [], and_parts, any_at, ap, append-nil, ap₂}
+use Rattle.headline.proofs.Imports.{arith, box_of, bytes_same, cell, cell_fault, code_if, codes, common_steps}
+use Rattle.headline.proofs.Imports.{corner_and_sides, decimal, false, has, if_one_word, in_box, in_layout, input_names}
+use Rattle.headline.proofs.Imports.{is_inside, is_layout_side, is_name, is_taken, is_word_at, layout_grammar}
+use Rattle.headline.proofs.Imports.{layout_line_fault, limit_fault, line_fault, list_all, list_any, map, name_at}
+use Rattle.headline.proofs.Imports.{nat_le, nat_lt, nat_tests, no_code, not, number_at, number_written, option_map}
+use Rattle.headline.proofs.Imports.{or_else, output_names, parts_of, port_names_of, refl, size_fault, slice_get}
+use Rattle.headline.proofs.Imports.{slice_get-map, subst, suc, sym, true, whole, ℕ, ◌&&◌, ◌++◌, ◌+◌, ◌<◌, ◌>>=◌, ◌^◌}
+use Rattle.headline.proofs.Imports.{◌||◌, ◌∙◌, ◌∷◌, ◌≡◌, ◌≤◌}
+use Rattle.lemmas.proofs.Common.{at_most_by_test}
 use Rattle.section_text.specs.declared.code.RefusalCode.TheVariants.{UnknownName}
-use Rattle.section_text.specs.declared.section.Form.TheVariants.{Header, Item, End}
-use Rattle.section_text.proofs.Good.{AreFaultless, IsFaultless}
-use Rattle.section_text.proofs.Numbers.{number_written}
-use Rattle.bbm_rule.specs.declared.block.Cell.{Cell}
-use Rattle.circuit.specs.Bridge.{input_names, output_names}
-use Rattle.circuit.specs.declared.circuit_line.CircuitLine.{CircuitLine}
-use Rattle.circuit.proofs.Places.{bytes_same}
-use Rattle.module_box.specs.Boxes.{in_box}
 use Rattle.module_box.proofs.BoxCells.{in_box_nats}
-use Rattle.pattern.specs.Forms.{cell_of_words_from, corner_and_sides, form_of, cell_after_keyword, port_after_keyword}
-use Rattle.pattern.specs.Forms.{port_of, rectangle_of, sides_and_steps, size_of}
-use Rattle.pattern.specs.Grammars.{layout_grammar}
-use Rattle.pattern.specs.Layout.{Pattern, cell, in_layout, parts_of}
-use Rattle.pattern.specs.Lines.{AreGoodAfter, cell_fault, is_in_line_named, is_inside, has_later_kind_before}
-use Rattle.pattern.specs.Lines.{is_out_line_named, is_layout_side, is_taken, limit_fault, line_fault, missing_fault}
-use Rattle.pattern.specs.Lines.{name_fault, order_fault, layout_line_fault, rank_of, size_fault}
-use Rattle.pattern.specs.declared.layout_line.LayoutHeader.{LayoutHeader}
-use Rattle.pattern.specs.declared.layout_line.LayoutLine.{LayoutLine}
-use Rattle.pattern.specs.declared.layout_line.LayoutLine.TheVariants.{Mirror, Ball, In, Out, Waste}
-use Rattle.pattern.specs.declared.layout_line.Port.{Port}
-use Rattle.pattern.specs.declared.layout_line.Rectangle.{Rectangle}
-use Rattle.certificate_lines.specs.Rules.{whole}
-use Rattle.certificate_lines.proofs.Lists.{any_at}
-use Rattle.core_book.specs.Concluding.{port_names_of}
-use Rattle.soundness.proofs.PortNames.{in_lines, no_code, out_lines}
-use Rattle.meaning.specs.Implements.{HaveNames, IsNamed}
+use Rattle.pattern.specs.Forms.{cell_of_words_from, form_of, cell_after_keyword, port_after_keyword, port_of}
+use Rattle.pattern.specs.Forms.{sides_and_steps, size_of}
+use Rattle.pattern.specs.Lines.{AreGoodAfter, is_in_line_named, has_later_kind_before, is_out_line_named, missing_fault}
+use Rattle.pattern.specs.Lines.{name_fault, order_fault, rank_of}
+use Rattle.soundness.proofs.PortNames.{in_lines, out_lines}
 use Rattle.headline.proofs.Written.{HasLine, HasSection, has_section, line_by, name_word}
 use Rattle.headline.proofs.WrittenCircuits.{AreNames, decimal_word, has_name, named}
 
@@ -66,7 +50,7 @@ size_line s w h t =
     Some (record { w = w; h = h; steps = t })) >>= λ s. Some (Header s))
 
 pub end_line : HasLine form_of End
-unfolding form_of lone is_word_at
+unfolding form_of if_one_word is_word_at
 end_line = line_by form_of End (codes "end") [] refl tt refl
 
 -- a cell by its numbers
@@ -117,9 +101,9 @@ out_line n c e k =
     (λ i. (named n e i >>= λ m. (number_written k.x k.x_small i >>= λ x. number_written k.y k.y_small i >>= λ y.
     Some (cell x y)) >>= λ c. Some (record { name = m; cell = c })) >>= λ q. Some (Item (Out q))))
 
-pub mirror_line : (r : Rectangle) → r.x < 10 ^ 9 → r.y < 10 ^ 9 → r.w < 10 ^ 9 → r.h < 10 ^ 9 →
+pub mirror_line : (r : Box2) → r.x < 10 ^ 9 → r.y < 10 ^ 9 → r.w < 10 ^ 9 → r.h < 10 ^ 9 →
     HasLine form_of (Item (Mirror r))
-unfolding form_of is_word_at rectangle_of corner_and_sides number_at
+unfolding form_of is_word_at box_of corner_and_sides number_at
 mirror_line r x y w k =
     line_by form_of (Item (Mirror r)) (codes "mirror") (decimal r.x ∷ decimal r.y ∷ decimal r.w ∷ decimal r.h ∷ [])
     refl
@@ -128,7 +112,7 @@ mirror_line r x y w k =
     number_written r.h k i >>= λ h. Some (record { x = x; y = y; w = w; h = h })) >>= λ r. Some (Item (Mirror r)))
 
 -- the numbers of a mirror are small
-pub record HasSmallNumbers (r : Rectangle) : Type 0 where
+pub record HasSmallNumbers (r : Box2) : Type 0 where
   pub x : r.x < 10 ^ 9
   pub y : r.y < 10 ^ 9
   pub w : r.w < 10 ^ 9
@@ -152,7 +136,7 @@ module _ (s : LayoutHeader) (l : HasLimits s) where
         y_small = omega (arith, y_low, high);
       }
 
-  pub small_mirror : (r : Rectangle) → is_inside s (Mirror r) ≡ true → HasSmallNumbers r
+  pub small_mirror : (r : Box2) → is_inside s (Mirror r) ≡ true → HasSmallNumbers r
   unfolding is_inside
   small_mirror r h =
       let inside = and_parts (nat_le (r.x + r.w) s.w) (nat_le (r.y + r.h) s.h) h in
@@ -170,7 +154,7 @@ module _ (s : LayoutHeader) (l : HasLimits s) where
   -- ---- lines that are good
 
   -- the name of a port is a name, and one that a port may have
-  abbrev pub IsPortName : Named → LayoutLine → Type 0
+  abbrev pub IsPortName : PortNameLists → LayoutLine → Type 0
   IsPortName names (In q) = (is_name q.name ≡ true) × (has names.ins q.name ≡ true)
   IsPortName names (Out q) = (is_name q.name ≡ true) × (has names.outs q.name ≡ true)
   IsPortName names _ = Unit {0}
@@ -184,7 +168,7 @@ module _ (s : LayoutHeader) (l : HasLimits s) where
   unfolding cell_fault
   inside before part e = first_holds (is_inside s part) (is_taken before part) e
 
-  line_of : (names : Named) (part : LayoutLine) → IsPortName names part → limit_fault part ≡ None →
+  line_of : (names : PortNameLists) (part : LayoutLine) → IsPortName names part → limit_fault part ≡ None →
       is_inside s part ≡ true → HasLine form_of (Item part)
   unfolding is_inside
   line_of names (Mirror r) n e h = let k = small_mirror r h in mirror_line r k.x k.y k.w k.h
@@ -193,7 +177,7 @@ module _ (s : LayoutHeader) (l : HasLimits s) where
   line_of names (Out q) n e h = out_line q.name q.cell n.0 (numbered q.cell h)
   line_of names (Waste c) n e h = waste_line c (numbered c h)
 
-  lines_of : (names : Named) (before parts : List LayoutLine) → AreGoodAfter s before parts →
+  lines_of : (names : PortNameLists) (before parts : List LayoutLine) → AreGoodAfter s before parts →
       AllByRecursion (IsPortName names) parts → AllByRecursion (λ part. HasLine form_of (Item part)) parts
   lines_of names before [] good n = tt
   lines_of names before (part ∷ parts) good n = (
@@ -260,7 +244,7 @@ in_order p =
 
 -- ---- no line has a fault
 
-name_ok : (s : LayoutHeader) (l : HasLimits s) (names : Named) (part : LayoutLine) → IsPortName s l names part →
+name_ok : (s : LayoutHeader) (l : HasLimits s) (names : PortNameLists) (part : LayoutLine) → IsPortName s l names part →
     name_fault (Some names) part ≡ None
 unfolding name_fault
 name_ok s l names (Mirror r) n = refl
@@ -273,7 +257,7 @@ all_none : (a b c d : Option RefusalCode) → a ≡ None → b ≡ None → c �
     or_else (or_else a (or_else b c)) d ≡ None
 all_none a b c d e f g h = ap₂ or_else (ap₂ or_else e (ap₂ or_else f g)) h
 
-faultless_on : (s : LayoutHeader) (l : HasLimits s) (names : Named) (before parts : List LayoutLine) →
+faultless_on : (s : LayoutHeader) (l : HasLimits s) (names : PortNameLists) (before parts : List LayoutLine) →
     InOrder before parts → AreGoodAfter s before parts → AllByRecursion (IsPortName s l names) parts →
     AreFaultless (layout_grammar (Some names)) s before parts
 unfolding layout_line_fault line_fault
@@ -324,7 +308,7 @@ module _ (circuit : List CircuitLine) (p : Pattern) (limits : size_fault p.size 
   pub l : HasLimits s
   l = has_limits s limits
 
-  abbrev pub names : Named
+  abbrev pub names : PortNameLists
   names = port_names_of circuit
 
   pub ports_named : AllByRecursion (IsPortName s l names) (parts_of p)

@@ -1,12 +1,9 @@
 -- The inputs and the outputs of a good circuit have names, if its wires do
-use Rattle.lemmas.proofs.Common.{[], ◌++◌, ◌∷◌, Bool, List, cond, false, if◌then◌else◌, refl, subst, sym, true, ℕ}
-use Rattle.lemmas.proofs.Common.{flat_map-append, arith, common_steps}
-use Rattle.circuit.specs.Bridge.{AreGoodAfter, input_names, is_output, output_names}
-use Rattle.circuit.specs.Entries.{defined}
-use Rattle.circuit.specs.Rules.{consumed}
-use Rattle.circuit.specs.declared.circuit_line.CircuitLine.{CircuitLine}
-use Rattle.circuit.proofs.Bridging.{names_pass, push_cons}
-use Rattle.circuit.proofs.Places.{Have, consume_have, have_left}
+use Rattle.headline.proofs.Imports.{AreGoodAfter, Bool, CircuitLine, Have, List, [], arith, common_steps, cond}
+use Rattle.headline.proofs.Imports.{consume_have, consumed, defined, false, flat_map-append, if◌then◌else◌, input_names}
+use Rattle.headline.proofs.Imports.{names_pass, output_names, push_cons, refl, subst, sym, true, ℕ, ◌++◌, ◌∷◌}
+use Rattle.circuit.specs.Bridge.{is_output}
+use Rattle.circuit.proofs.Places.{have_left}
 use Rattle.headline.proofs.WrittenCircuits.{AreNames, have_names, names_both, names_left, names_right}
 
 if_names : (b : Bool) (ns : List (List ℕ)) → AreNames ns → AreNames (cond b ns [])

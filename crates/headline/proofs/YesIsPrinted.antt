@@ -1,28 +1,12 @@
 -- A text that is not refused begins with the design that it says, and one that is reported with a yes is right.
-use Rattle.lemmas.proofs.Common.{[], ◌++◌, ◌<◌, ◌^◌, ◌∙◌, ◌∷◌, ◌≡◌, All, IsTrue, List, ap₂, arith, codes, map, pos}
-use Rattle.lemmas.proofs.Common.{refl, subst, sym, true, ℕ, ℤ, All-cons, All-from_recursion, All-nil, All-tail}
-use Rattle.lemmas.proofs.Common.{AllByRecursion, and_parts, list_all, common_steps}
-use Rattle.section_text.specs.Ports.{Named}
-use Rattle.section_text.specs.Words.{is_name}
-use Rattle.circuit.specs.Bridge.{AreGoodAfter}
-use Rattle.circuit.specs.Entries.{defined}
-use Rattle.circuit.specs.Rules.{consumed}
-use Rattle.circuit.specs.Text.{circuit_text}
-use Rattle.circuit.specs.declared.circuit_line.CircuitLine.{CircuitLine}
-use Rattle.circuit.proofs.Bridging.{names_pass}
-use Rattle.circuit.proofs.Places.{consume_have}
-use Rattle.bbm_rule.specs.declared.block.Cell.{Cell}
-use Rattle.pattern.specs.Layout.{Pattern, parts_of}
-use Rattle.pattern.specs.Lines as lines
-use Rattle.pattern.specs.Text.{layout_text}
-use Rattle.pattern.specs.declared.layout_line.LayoutHeader.{LayoutHeader}
-use Rattle.pattern.specs.declared.layout_line.LayoutLine.{LayoutLine}
-use Rattle.pattern.specs.declared.layout_line.LayoutLine.TheVariants.{Mirror, Ball, In, Out, Waste}
-use Rattle.core_book.specs.Concluding.{port_names_of}
-use Rattle.answers.specs.declared.outcome.Outcome.TheVariants.{Yes, Refused}
-use Rattle.meaning.specs.Printed.{BeginsWithDesign, IsForm, IsLine, layout_forms, part_form}
+use Rattle.headline.proofs.Imports.{All, All-cons, All-from_recursion, All-nil, All-tail, AllByRecursion, AreGoodAfter}
+use Rattle.headline.proofs.Imports.{Ball, Cell, CircuitLine, In, IsDesign, IsForm, IsLine, IsTrue, LayoutHeader}
+use Rattle.headline.proofs.Imports.{LayoutLine, List, Mirror, Out, Pattern, PortNameLists, Refused, Waste, Yes, []}
+use Rattle.headline.proofs.Imports.{and_parts, ap₂, arith, circuit_text, codes, common_steps, consume_have, consumed}
+use Rattle.headline.proofs.Imports.{defined, is_name, layout_text, list_all, map, names_pass, part_form, parts_of}
+use Rattle.headline.proofs.Imports.{port_names_of, pos, refl, subst, sym, true, ℕ, ℤ, ◌++◌, ◌<◌, ◌^◌, ◌∙◌, ◌∷◌, ◌≡◌}
+use Rattle.meaning.specs.Printed.{BeginsWithDesign, layout_forms}
 use Rattle.headline.specs.Laws.{TextBeginsWithReadDesign, RightSaysCorrectDesign, YesMeansRight}
-use Rattle.headline.specs.SmallDesigns.{IsDesign}
 use Rattle.headline.proofs.Printed.{IsNumber, are_names, circuit_lines, circuit_same, counts_of, layout_same}
 use Rattle.headline.proofs.Printed.{other_forms, parts_read, printed_is_read, size_form}
 use Rattle.headline.proofs.ReadDesigns.{designs_are_read}
@@ -32,6 +16,7 @@ use Rattle.headline.proofs.WrittenLayouts.{HasLimits, IsNumbered, IsPortName, ha
 use Rattle.headline.proofs.WrittenLayouts.{ports_named, small_mirror}
 use Rattle.headline.proofs.WrittenNames.{input_named, outs_named}
 use Rattle.headline.proofs.YesIsRight.{good_designs, yes_is_right_as_read}
+use Rattle.pattern.specs.Lines as lines
 
 each_name : (ns : List (List ℕ)) → AreNames ns → AllByRecursion (λ n. IsTrue (is_name n)) ns
 each_name [] h = tt
@@ -71,7 +56,7 @@ cell_numbers c k =
     subst (λ (d : Cell). All IsNumber (d.x ∷ d.y ∷ [])) (sym k.is)
     (more_numbers k.x (pos k.y ∷ []) k.x_small (more_numbers k.y [] k.y_small (All-nil IsNumber)))
 
-module _ (s : LayoutHeader) (l : HasLimits s) (names : Named) where
+module _ (s : LayoutHeader) (l : HasLimits s) (names : PortNameLists) where
   part_formed : (part : LayoutLine) → IsPortName s l names part → lines.is_inside s part ≡ true →
       IsForm (part_form part)
   unfolding lines.is_inside

@@ -1,74 +1,41 @@
 -- A text that is reported with a yes is right.
-use Rattle.lemmas.proofs.Common.{[], ◌++◌, ◌+◌, ◌∙◌, ◌∷◌, ◌≡◌, ◌≢◌, ◌≤◌, All, Err, List, None, Ok, Option, Result, Some}
-use Rattle.lemmas.proofs.Common.{ap, append-nil, append_assoc, ap₂, arith, cond, drop, eqb, flat_map, length, nat_lt}
-use Rattle.lemmas.proofs.Common.{refl, subst, sym, take, take-append-drop, ℕ, flat_map-append, ltb-false, common_steps}
-use Rattle.section_text.specs.Codes.{or_else}
-use Rattle.section_text.specs.Words.{lines_of, bytes_after_last_line_feed, words_of}
-use Rattle.section_text.specs.Section.{with_line_feed, unless, result_after_line, header_line, section_of}
-use Rattle.section_text.specs.Section.{section_body_of}
-use Rattle.section_text.proofs.Lines.{whole_text as no_byte_lost}
-use Rattle.circuit.specs.Text.{Line, circuit_text}
-use Rattle.circuit.proofs.RoundTrip.{prints_what_is_read as circuit_printed}
-use Rattle.pattern.specs.Text.{layout_text}
-use Rattle.pattern.proofs.RoundTrip.{prints_what_is_read as layout_printed}
-use Rattle.section_text.specs.Sections.{continue_after_section, value_if_at_end}
-use Rattle.section_text.specs.declared.fault.Refusal.{Refusal}
-use Rattle.section_text.specs.declared.section.Form.TheVariants.{Header, Item, End}
-use Rattle.section_text.proofs.Good.{AreFaultless, IsFaultless, read_faultless}
-use Rattle.circuit.specs.Bridge.{AreGoodAfter, AreGoodCircuitLines, circuit_of, netlist_of}
+use Rattle.headline.proofs.Imports.{All, AnswersOrRefuses, AreFaultless, AreGoodAfter, AreGoodCircuitLines, AreOnTime}
+use Rattle.headline.proofs.Imports.{Bundle, CertView, CertificateLine, CircuitLine, End, Err, FourthLineSaysYes}
+use Rattle.headline.proofs.Imports.{HasRightStops, Header, IsCorrect, IsFaultless, IsGoodDesign, IsRead, IsReportOf}
+use Rattle.headline.proofs.Imports.{IsVerdict, Item, JobView, LayoutHeader, LayoutLine, List, None, Ok, Option}
+use Rattle.headline.proofs.Imports.{OutOfOrder, Outcome, Pattern, PortNameLists, Refusal, RefusalCode, Refused, Result}
+use Rattle.headline.proofs.Imports.{SaysBundle, SaysDesign, SaysReport, Some, StopHolds, StopLine, Verdict, Yes, []}
+use Rattle.headline.proofs.Imports.{add_fault, all_in_modules, all_stops, ap, append-nil, append_assoc, ap₂, arith}
+use Rattle.headline.proofs.Imports.{bundle_of, bytes_after_last_line_feed, certificate_grammar, circuit_grammar}
+use Rattle.headline.proofs.Imports.{circuit_of, circuit_text, common_steps, cond, drop, eqb, faultless_named, flat_map}
+use Rattle.headline.proofs.Imports.{flat_map-append, form_of, gates_are_ordered, inputs_are_first, layout_grammar}
+use Rattle.headline.proofs.Imports.{layout_of, layout_section, layout_text, length, lines_of, modules_in, modules_of}
+use Rattle.headline.proofs.Imports.{nat_lt, netlist_of, or_else, order_fault, parts_of, port_names_of, read_faultless}
+use Rattle.headline.proofs.Imports.{refl, report_text, section_of, setting_of, stop_in, stops_meant, subst, sym, take}
+use Rattle.headline.proofs.Imports.{take-append-drop, value_if_at_end, verdict_outcome, with_line_feed, words_of, ℕ}
+use Rattle.headline.proofs.Imports.{◌++◌, ◌+◌, ◌∙◌, ◌∷◌, ◌≡◌, ◌≢◌, ◌≤◌}
+use Rattle.lemmas.proofs.Common.{ltb-false}
+use Rattle.section_text.specs.Section.{refused_if_code, result_after_line, result_after_header, section_body_of}
+use Rattle.circuit.specs.Text.{Line}
+use Rattle.section_text.specs.Sections.{continue_after_section}
 use Rattle.circuit.specs.Entries.{rank_of}
-use Rattle.circuit.specs.Forms.{form_of}
-use Rattle.circuit.specs.Grammars.{circuit_grammar}
-use Rattle.circuit.specs.Rules.{add_fault, gate_count, last_rank, order_fault}
-use Rattle.circuit.specs.declared.circuit_line.CircuitLine.{CircuitLine}
+use Rattle.circuit.specs.Rules.{gate_count, last_rank}
 use Rattle.circuit.proofs.Valuations.{at_most_one}
-use Rattle.circuit.proofs.Bridging.{count_append, gates_are_ordered}
+use Rattle.circuit.proofs.Bridging.{count_append}
 use Rattle.circuit.proofs.Fitting.{entry_fits, no_gate_still, no_gate_yet}
-use Rattle.circuit.proofs.Naming.{inputs_are_first}
 use Rattle.circuit.proofs.Orders.{last_rank_push}
-use Rattle.pattern.specs.Grammars.{layout_grammar, layout_section}
-use Rattle.pattern.specs.Layout.{Pattern, parts_of}
-use Rattle.pattern.specs.Lines as lines
-use Rattle.pattern.specs.declared.layout_line.LayoutLine.{LayoutLine}
-use Rattle.pattern.specs.declared.layout_line.LayoutHeader.{LayoutHeader}
-use Rattle.pattern.proofs.Named.{faultless_named}
-use Rattle.section_text.specs.Ports.{Named}
-use Rattle.certificate.specs.Grammars.{CertView, certificate_grammar, modules_in}
-use Rattle.certificate_lines.specs.Settings.{setting_of}
-use Rattle.module_job.specs.Jobs.{JobView}
-use Rattle.certificate.specs.Arrivals.{AreOnTime}
-use Rattle.certificate_lines.specs.Entries.{modules_of, stop_in}
-use Rattle.certificate.specs.Times.{all_stops}
-use Rattle.certificate_lines.specs.declared.certificate_line.CertificateLine.{CertificateLine}
-use Rattle.certificate_lines.specs.declared.certificate_line.StopLine.{StopLine}
-use Rattle.certificate.proofs.MeantLines.{stops_meant}
-use Rattle.certificate.proofs.TimeLemmas.{all_in_modules}
-use Rattle.soundness.specs.OnTime.{StopHolds}
-use Rattle.core_book.specs.Concluding.{port_names_of}
 use Rattle.soundness.proofs.SomeVerdict.{no_code}
-use Rattle.meaning.specs.Implements.{IsCorrect}
-use Rattle.core_book.specs.Verdicts.{IsVerdict}
-use Rattle.report.specs.ReportText.{report_lines}
-use Rattle.core_book.specs.declared.verdict.Verdict.{Verdict}
-use Rattle.core_book.specs.declared.verdict.Verdict.TheVariants as verdict
-use Rattle.soundness.proofs.YesMeansCorrect.{IsRead, yes_means-correct, yes_means-on_time}
-use Rattle.answers.specs.Answers.{Answered}
-use Rattle.pattern.specs.FromLines.{layout_of}
-use Rattle.answers.specs.BundleText.{Bundle, bundle_of}
-use Rattle.answers.specs.CheckText.{IsReportOf, SaysReport, verdict_outcome}
-use Rattle.meaning.specs.Design.{SaysDesign}
-use Rattle.meaning.specs.Streams.{FourthLineSaysYes}
+use Rattle.soundness.proofs.YesMeansCorrect.{yes_means-correct, yes_means-on_time}
 use Rattle.headline.specs.Laws.{FourthLineShowsOutcome, SaysCorrectDesign, UnrefusedDesignIsGood, YesHasOneValuation}
 use Rattle.headline.specs.Laws.{YesMeansRightStops}
-use Rattle.headline.specs.RightInFull.{IsGoodDesign}
 use Rattle.headline.proofs.OneAnswer.{layout_from}
 use Rattle.headline.proofs.Designs.{bundle_said, design_said, one_design}
-use Rattle.headline.specs.Stops.{HasRightStops, SaysBundle}
 use Rattle.headline.proofs.FourthLines.{refusal_says_none, says_yes, yes_says}
-use Rattle.answers.specs.declared.outcome.Outcome.{Outcome}
-use Rattle.answers.specs.declared.outcome.Outcome.TheVariants.{Yes, Refused}
-use Rattle.section_text.specs.declared.code.RefusalCode.{RefusalCode}
-use Rattle.section_text.specs.declared.code.RefusalCode.TheVariants.{OutOfOrder}
+use Rattle.section_text.proofs.Lines.{whole_text as no_byte_lost}
+use Rattle.circuit.proofs.RoundTrip.{prints_what_is_read as circuit_printed}
+use Rattle.pattern.proofs.RoundTrip.{prints_what_is_read as layout_printed}
+use Rattle.pattern.specs.Lines as lines
+use Rattle.core_book.specs.declared.verdict.Verdict.TheVariants as verdict
 
 -- ---- the lines of a circuit that is read are good
 
@@ -94,7 +61,7 @@ ok_of : (x y : Unit {0} × List CircuitLine) → ◌≡◌ {A = Result (Unit {0}
 ok_of x y e = cc
 
 unless_ok : (n : ℕ) (o : Option RefusalCode) (r : Result (Unit {0} × List CircuitLine) Refusal)
-    (y : Unit {0} × List CircuitLine) → unless n o r ≡ Ok y → (o ≡ None) × (r ≡ Ok y)
+    (y : Unit {0} × List CircuitLine) → refused_if_code n o r ≡ Ok y → (o ≡ None) × (r ≡ Ok y)
 unless_ok n None r y e = (refl, e)
 unless_ok n (Some code) r y e = absurd cc
 
@@ -141,7 +108,7 @@ body_good (l ∷ ls) before n rows none e =
     (λ i still e. body_good ls (before ++ i ∷ []) (n + 1) rows still e)
 
 header_good : (ls : List (List ℕ)) (n : ℕ) (rows : List CircuitLine) (o : Option Line) →
-    header_line circuit_grammar n (λ k. section_body_of circuit_grammar k [] (n + 1) ls) o ≡ Ok (tt, rows) →
+    result_after_header circuit_grammar n (λ k. section_body_of circuit_grammar k [] (n + 1) ls) o ≡ Ok (tt, rows) →
     AreGoodCircuitLines rows
 header_good ls n rows None e = absurd cc
 header_good ls n rows (Some (Item i)) e = absurd cc
@@ -157,9 +124,9 @@ unfolding section_of
 circuit_good n [] h rows e = absurd cc
 circuit_good n (l ∷ ls) h rows e = header_good ls n rows (form_of (words_of l)) e
 
--- ---- and so are those of a layout
+-- ---- the lines of a layout are good
 
-pub laid_out : (ports : Option Named) (s : LayoutHeader) (before parts : List LayoutLine) →
+pub laid_out : (ports : Option PortNameLists) (s : LayoutHeader) (before parts : List LayoutLine) →
     AreFaultless (layout_grammar ports) s before parts → lines.AreGoodAfter s before parts
 unfolding lines.layout_line_fault lines.line_fault
 laid_out ports s before [] good = tt
@@ -173,7 +140,7 @@ pub record BeginsWith (text : List ℕ) (circuit : List CircuitLine) (p : Patter
   pub rest : List ℕ
   pub begins : text ≡ circuit_text circuit ++ (layout_text p ++ rest)
 
-spelled : (text : List ℕ) (circuit : List CircuitLine) (ports : Option Named) (n : ℕ) (p : Pattern) →
+spelled : (text : List ℕ) (circuit : List CircuitLine) (ports : Option PortNameLists) (n : ℕ) (p : Pattern) →
     section_of circuit_grammar 0 (lines_of text) ≡ Ok (tt, circuit)
     → section_of (layout_grammar ports) n (drop (length circuit + 2) (lines_of text)) ≡ Ok (layout_section p) →
     BeginsWith text circuit p
@@ -304,7 +271,7 @@ own_design text b output outcome circuit layout reads says said =
     }))
 
 by_read : (text output : List ℕ) (outcome : Outcome) (circuit : List CircuitLine) (layout : Pattern)
-    (read : Result Bundle Refusal) → bundle_of text ≡ read → Answered SaysReport read output outcome →
+    (read : Result Bundle Refusal) → bundle_of text ≡ read → AnswersOrRefuses SaysReport read output outcome →
     outcome ≢ Refused →
     SaysDesign text circuit layout → IsGoodDesign text circuit layout
 by_read text output outcome circuit layout (Ok b) e says some said =
@@ -345,7 +312,7 @@ known text b output outcome reads says =
       named = faultless_named (Some (port_names_of c.circuit)) c.layout.size (parts_of c.layout) whole;
     }
 
--- what was judged so is right
+-- a text with the verdict yes is right
 module _ (text : List ℕ) (b : Bundle) (output : List ℕ) (outcome : Outcome) (reads : bundle_of text ≡ Ok b)
     (says : SaysReport b output outcome) (is : says.verdict ≡ verdict.Yes) where
   abbrev c : CertView
@@ -373,7 +340,7 @@ module _ (text : List ℕ) (b : Bundle) (output : List ℕ) (outcome : Outcome) 
         (yes_means-correct c p.size jobs (known text b output outcome reads says) says.is_verdict.are_jobs accepted);
   }
 
-  -- and so are its stops
+  -- the stops of the text are right
   judged_stops : HasRightStops text
   judged_stops =
       let right = yes_means-on_time c p.size jobs (known text b output outcome reads says) says.is_verdict.are_jobs
@@ -399,7 +366,7 @@ not_refused e = cc
 
 pub by_outcome : (P : Type 0) (text output : List ℕ) →
     ((b : Bundle) → bundle_of text ≡ Ok b → (says : SaysReport b output Yes) → says.verdict ≡ verdict.Yes → P) →
-    (read : Result Bundle Refusal) → bundle_of text ≡ read → Answered SaysReport read output Yes → P
+    (read : Result Bundle Refusal) → bundle_of text ≡ read → AnswersOrRefuses SaysReport read output Yes → P
 by_outcome P text output judged (Ok b) e says = judged b e says (is_yes says.verdict says.ends)
 by_outcome P text output judged (Err refusal) e told = absurd (not_refused told.1)
 
@@ -414,7 +381,7 @@ yes_has_right_stops text output says =
 -- ---- the fourth line
 
 line_tells : (output : List ℕ) (outcome : Outcome) (read : Result Bundle Refusal) →
-    Answered SaysReport read output outcome →
+    AnswersOrRefuses SaysReport read output outcome →
     (FourthLineSaysYes output → outcome ≡ Yes) × (outcome ≡ Yes → FourthLineSaysYes output)
 line_tells output outcome (Ok b) says = (
   λ line. says.ends ∙ ap verdict_outcome
@@ -422,7 +389,7 @@ line_tells output outcome (Ok b) says = (
   λ is.
       let v : says.verdict ≡ verdict.Yes = is_yes says.verdict (sym is ∙ says.ends) in
       subst FourthLineSaysYes (sym says.says)
-      (subst (λ (w : Verdict). FourthLineSaysYes (report_lines says.certificate w)) (sym v)
+      (subst (λ (w : Verdict). FourthLineSaysYes (report_text says.certificate w)) (sym v)
       (yes_says says.certificate)),
 )
 line_tells output outcome (Err refusal) told = (

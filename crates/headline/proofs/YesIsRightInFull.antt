@@ -1,14 +1,9 @@
 -- A text that is reported with a yes is right in full.
-use Rattle.lemmas.proofs.Common.{◌∙◌, ◌≡◌, List, Option, Some, sym, ℕ}
-use Rattle.circuit.specs.Bridge.{AreGoodCircuitLines}
-use Rattle.circuit.specs.declared.circuit_line.CircuitLine.{CircuitLine}
-use Rattle.circuit.proofs.Naming.{inputs_are_first, names_are_own}
-use Rattle.answers.specs.CheckText.{IsReportOf}
-use Rattle.answers.specs.declared.outcome.Outcome.TheVariants.{Yes, Refused}
-use Rattle.meaning.specs.Headline.{IsRight}
+use Rattle.headline.proofs.Imports.{AreGoodCircuitLines, CircuitLine, HasRightStops, IsReportOf, IsRight, List, Option}
+use Rattle.headline.proofs.Imports.{Refused, Some, Yes, inputs_are_first, sym, ℕ, ◌∙◌, ◌≡◌}
+use Rattle.circuit.proofs.Naming.{names_are_own}
 use Rattle.headline.specs.Laws.{YesMeansRightInFull}
 use Rattle.headline.specs.RightInFull.{HasDistinctNames, IsRightInFull}
-use Rattle.headline.specs.Stops.{HasRightStops}
 use Rattle.headline.proofs.Designs.{one_design}
 use Rattle.headline.proofs.PlainTexts.{yes_off_rim}
 use Rattle.headline.proofs.Printed.{printed_is_read}

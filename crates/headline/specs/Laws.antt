@@ -10,8 +10,8 @@ use Rattle.answers.specs.declared.outcome.Outcome.{Outcome}
 use Rattle.answers.specs.declared.outcome.Outcome.TheVariants.{Yes, Refused}
 use Rattle.answers.specs.CheckText.{IsReportOf}
 use Rattle.meaning.specs.Design.{SaysDesign}
-use Rattle.headline.specs.ThereAndBack.{there_and_back}
-use Rattle.headline.specs.TimedModules.{timed_modules}
+use Rattle.headline.specs.ThereAndBack.{there_and_back_text}
+use Rattle.headline.specs.TimedModules.{timed_modules_text}
 use Rattle.meaning.specs.Headline.{IsRight}
 use Rattle.meaning.specs.Streams.{FourthLineSaysYes}
 use Rattle.meaning.specs.Implements.{IsCorrect}
@@ -107,8 +107,8 @@ UnrefusedDesignIsGood = (text output : List ℕ) (outcome : Outcome) (circuit : 
 
 -- Something is reported with the outcome yes, so the laws are not about nothing: this text.
 abbrev pub TimedModulesAreAccepted : Type 0
-TimedModulesAreAccepted = (output : List ℕ) × IsReportOf timed_modules output Yes
+TimedModulesAreAccepted = (output : List ℕ) × IsReportOf timed_modules_text output Yes
 
 -- and this one, with an inverse gate
 abbrev pub ThereAndBackIsAccepted : Type 0
-ThereAndBackIsAccepted = (output : List ℕ) × IsReportOf there_and_back output Yes
+ThereAndBackIsAccepted = (output : List ℕ) × IsReportOf there_and_back_text output Yes

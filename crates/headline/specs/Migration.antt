@@ -43,6 +43,6 @@ pub record IsAcceptedAlike (text output : List ℕ) : Type 0 where
       SaysDesign output circuit layout
 
 -- what is reported with the outcome yes is so too after it is migrated
-abbrev pub MigrationIsAccepted : Type 0
-MigrationIsAccepted = (text report output : List ℕ) → IsReportOf text report Yes → IsMigrationOf text output Yes →
+abbrev pub MigrationKeepsYes : Type 0
+MigrationKeepsYes = (text report output : List ℕ) → IsReportOf text report Yes → IsMigrationOf text output Yes →
     IsAcceptedAlike text output

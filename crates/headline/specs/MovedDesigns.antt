@@ -9,7 +9,7 @@ use Rattle.module_box.specs.Moves.{moved_cell}
 use Rattle.pattern.specs.Layout.{Pattern}
 use Rattle.pattern.specs.declared.layout_line.LayoutHeader.{LayoutHeader}
 use Rattle.pattern.specs.declared.layout_line.Port.{Port}
-use Rattle.pattern.specs.declared.layout_line.Rectangle.{Rectangle}
+use Rattle.bbm_rule.specs.declared.block.Box2.{Box2}
 use Rattle.answers.specs.CheckText.{IsReportOf}
 use Rattle.answers.specs.declared.outcome.Outcome.{Outcome}
 use Rattle.answers.specs.declared.outcome.Outcome.TheVariants.{No, Yes}
@@ -28,7 +28,7 @@ abbrev pub port_moved_by_two : Port → Port
 port_moved_by_two q = record { name = q.name; cell = moved_by_two q.cell }
 
 -- the rectangle of the moved cells
-abbrev pub rectangle_moved_by_two : Rectangle → Rectangle
+abbrev pub rectangle_moved_by_two : Box2 → Box2
 rectangle_moved_by_two r = record { x = r.x + 2; y = r.y + 2; w = r.w; h = r.h }
 
 -- the same number of steps in a rectangle that is 4 cells wider and 4 cells higher

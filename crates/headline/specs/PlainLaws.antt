@@ -10,7 +10,7 @@ use Rattle.meaning.specs.Design.{SaysDesign}
 use Rattle.meaning.specs.Headline.{IsRight}
 use Rattle.meaning.specs.Implements.{IsCorrect}
 use Rattle.headline.specs.Stops.{HasRightStops, SaysBundle}
-use Rattle.headline.specs.ThereAndBack.{there_and_back}
+use Rattle.headline.specs.ThereAndBack.{there_and_back_text}
 use Rattle.headline.specs.Plain.{SaysPlain, HasRimTouch, IsWrongIfPlain}
 use Rattle.headline.specs.SmallDesigns.{plain_lines, design_text, HasNoDelay, IsDesign, IsNoSmallDesignText}
 use Rattle.headline.specs.SmallDesigns.{IsPlainText, IsSmallDesign}
@@ -66,13 +66,13 @@ UnrefusedKeepsDesignRules = (text output : List ℕ) (outcome : Outcome) (circui
 
 -- Some plain text is reported with the outcome yes (`ThereAndBackIsAccepted`), so the laws are not vacuous.
 abbrev pub ThereAndBackIsPlain : Type 0
-ThereAndBackIsPlain = SaysPlain there_and_back
+ThereAndBackIsPlain = SaysPlain there_and_back_text
 
 -- It is the plain text of a small design, so `SmallDesignIsDecided` is not vacuous.
 pub record ThereAndBackIsSmall : Type 0 where
   pub circuit : List CircuitLine
   pub layout : Pattern
-  pub plain : IsPlainText there_and_back circuit layout
+  pub plain : IsPlainText there_and_back_text circuit layout
   pub small : IsSmallDesign circuit layout
 
 -- the lines of a report with the outcome no have the meaning of `LinesHaveMeaning`

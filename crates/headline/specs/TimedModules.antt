@@ -3,8 +3,8 @@
 use Rattle.std.specs.Prelude.{ℕ, List, ◌++◌, codes}
 
 -- the bytes of the text
-unfoldable pub timed_modules : List ℕ
-timed_modules =
+unfoldable pub timed_modules_text : List ℕ
+timed_modules_text =
     codes
     "circuit\ninput p\ninput q\ninput r\ninteract p q -> a b c d\ndelay 3 r -> s\noutput a\noutput b\noutput c\noutput d\noutput s\nend\n"
     ++ codes "layout 8 8 3\nin p 2 2\nin q 5 5\nin r 0 4\nout a 5 2\nout b 2 2\nout c 5 5\nout d 2 5\nout s 3 7\nend\n"

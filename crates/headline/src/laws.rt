@@ -4,7 +4,7 @@ ghost use Rattle.headline.specs.Laws.{BeginsWithOneDesign, SaysYesMeansFourthLin
 ghost use Rattle.headline.specs.PlainLaws.{UnrefusedKeepsDesignRules, EachSmallDesignHasPlainText, EachSmallDesignIsDecided, PlainIsDecided, PlainLinesTextIsDecided, PlainNoMeansWrong, RefusedIsNoSmallDesign, SmallDesignIsDecided, ThereAndBackIsPlain, ThereAndBackIsSmall, YesKeepsOffRim, LinesOfNoHaveMeaning};
 ghost use Rattle.headline.specs.Witnesses.{PlainNoIsRefuted, PlainYesIsAccepted, SmallDesignIsAccepted, SmallDesignIsRefuted};
 ghost use Rattle.headline.specs.MovedDesigns.{EachCorrectDesignGetsYes, SomeDesignNeedsRoom};
-ghost use Rattle.headline.specs.Migration.{MigrationKeepsVersionTwo, MigrationIsIdempotent, MigrationIsAccepted, MigrationSaysTheSame};
+ghost use Rattle.headline.specs.Migration.{MigrationKeepsVersionTwo, MigrationIsIdempotent, MigrationKeepsYes, MigrationSaysTheSame};
 ghost use Rattle.answers.specs.MigrateText.{IsMigrationOf};
 ghost use Rattle.answers.specs.ModulesText.{IsModulesOf};
 ghost use Rattle.answers.specs.RunText.{IsRunOf};
@@ -51,7 +51,7 @@ pub fn migration_keeps_what_is_accepted()
     ensures unchanged { MigrationKeepsVersionTwo }
     ensures says_the_same { MigrationSaysTheSame }
     ensures once { MigrationIsIdempotent }
-    ensures accepted { MigrationIsAccepted }
+    ensures accepted { MigrationKeepsYes }
 {}
 
 /// States what a yes means.

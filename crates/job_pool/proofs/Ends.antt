@@ -1,14 +1,13 @@
 -- Facts on lists, for the end of a desk.
-use Rattle.lemmas.proofs.Common.{[], ◌++◌, ◌+◌, ◌-◌, ◌<◌, ◌∙◌, ◌∷◌, ◌≡◌, ◌≤◌, All, Any, List, ap, append_assoc, arith}
-use Rattle.lemmas.proofs.Common.{length, map, subst, suc, sym, zero, ℕ, map-append, nat_tests}
-use Rattle.atomic_table.proofs.Lists.{at_index, at_map}
+use Rattle.job_pool.proofs.Imports.{All, HasAllPlaces, IsDrawn, List, View, [], all_but_last, ap, append_assoc, arith}
+use Rattle.job_pool.proofs.Imports.{at_map, joined, length, map, map-append, nat_tests, occurrences, past_greatest}
+use Rattle.job_pool.proofs.Imports.{past_last, subst, suc, sym, zero, ℕ, ◌++◌, ◌+◌, ◌-◌, ◌<◌, ◌∙◌, ◌∷◌, ◌≡◌, ◌≤◌}
+use Rattle.lemmas.proofs.Common.{Any}
+use Rattle.atomic_table.proofs.Lists.{at_index}
+use Rattle.job_pool.specs.Lists.{AreAllDraws}
+use Rattle.job_pool.proofs.Sums.{at_le, joined_drawn}
 use mathlib.Core.Option.{some}
 use lib.ListN.{get_elem?}
-use Rattle.job_pool.specs.declared.rule.View.{View}
-use Rattle.core_book.specs.Draws.{past_last, times, IsDrawn}
-use Rattle.job_pool.specs.Lists.{joined, past_greatest, front, AreAllDraws}
-use Rattle.job_pool.specs.Rule.{IsWhole}
-use Rattle.job_pool.proofs.Sums.{at_le, joined_drawn}
 
 module _ {X : Type 0} (P : X → Type 0) where
   pub all_head : (xs : List X) (x : X) (ys : List X) → xs ≡ x ∷ ys → All P xs → P x
@@ -47,8 +46,8 @@ moved f g done now x rest y left all is was same h =
     ∙ (ap (λ z. map f done ++ (z ∷ map g left)) (sym same)
     ∙ (ap (λ l. map f done ++ map g l) (sym was) ∙ h))))
 
-pub shares : (n seats counter : ℕ) (lists : List (List ℕ)) (v : View) → IsWhole n seats counter v →
-    v.draws ≡ joined lists → length lists ≡ seats → All (λ xs. past_greatest (front xs) ≤ n) lists →
+pub shares : (n seats counter : ℕ) (lists : List (List ℕ)) (v : View) → HasAllPlaces n seats counter v →
+    v.draws ≡ joined lists → length lists ≡ seats → All (λ xs. past_greatest (all_but_last xs) ≤ n) lists →
     AreAllDraws n seats counter lists
 shares n seats counter lists v w is count last = record {
   count = count;
@@ -74,7 +73,7 @@ taken g done now rest y left all is was h =
     ∙ (append_assoc done (g y ∷ []) (map g left)
     ∙ (ap (λ l. done ++ map g l) (sym was) ∙ h))
 
-last_stands : (xs : List ℕ) (m : ℕ) → past_last xs ≡ m + 1 → 0 < times m xs
+last_stands : (xs : List ℕ) (m : ℕ) → past_last xs ≡ m + 1 → 0 < occurrences m xs
 last_stands [] m e = absurd (omega arith)
 last_stands (y ∷ []) m e = let same : y ≡ m = omega arith in grind (arith, nat_tests)
 last_stands (y ∷ z ∷ zs) m e = let h = last_stands (z ∷ zs) m e in omega arith
@@ -85,7 +84,7 @@ pub end_counted : (counter n i : ℕ) (lists : List (List ℕ)) (xs : List ℕ) 
 end_counted counter n i lists xs r at ends =
     let m : ℕ = past_last xs - 1 in
     let stands = last_stands xs m (omega arith) in
-    let above = at_le (times m) lists i xs at in
+    let above = at_le (occurrences m) lists i xs at in
     let once = r.once m in
     let below : m < counter = grind (arith, nat_tests) in
     omega arith

@@ -4,3 +4,4 @@ pub mod Ends
 pub mod Members
 pub mod Filed
 pub mod Risen
+pub mod Imports

@@ -1,14 +1,12 @@
 -- Groups of jobs, and the findings that are due for draws.
-use Rattle.lemmas.proofs.Common.{[], ◌++◌, ◌+◌, ◌<◌, ◌==◌, ◌∙◌, ◌∷◌, ◌≡◌, ◌≢◌, ◌≤◌, All, List, Some, ap, arith, get_or}
-use Rattle.lemmas.proofs.Common.{if◌then◌else◌, inl, inr, length, map, option_map, refl, slice_get, slice_index, subst}
-use Rattle.lemmas.proofs.Common.{suc, sym, take, zero, ℕ, All-head, All-tail, cases_lt, nat_tests, slice_get-map}
-use Rattle.lemmas.proofs.Common.{slice_get_within, take_more, some_at}
-use Rattle.core_book.specs.Draws.{total, times, IsDrawn}
+use Rattle.job_pool.proofs.Imports.{All, IsDrawn, List, [], ap, arith, due_count, get_or, if◌then◌else◌, length, map}
+use Rattle.job_pool.proofs.Imports.{nat_tests, occurrences, refl, shape_of, shapes_of, subst, suc, sym, take, total}
+use Rattle.job_pool.proofs.Imports.{zero, ℕ, ◌++◌, ◌+◌, ◌<◌, ◌==◌, ◌∙◌, ◌∷◌, ◌≡◌, ◌≢◌, ◌≤◌}
+use Rattle.lemmas.proofs.Common.{Some, inl, inr, option_map, slice_get, slice_index, All-head, All-tail, cases_lt}
+use Rattle.lemmas.proofs.Common.{slice_get-map, slice_get_within, take_more, some_at}
 use Rattle.module_job.specs.Groups.{AreGroups, IsFirstLike}
 use Rattle.module_job.specs.Jobs.{JobView}
-use Rattle.module_job.specs.Shapes.{ShapeView, shape_of}
-use Rattle.core_book.specs.Filling.{shapes_of}
-use Rattle.job_pool.specs.Work.{due}
+use Rattle.module_job.specs.Shapes.{ShapeView}
 use Rattle.job_pool.proofs.Sums.{times-append, total-add, total_same}
 
 -- ---- groups
@@ -46,14 +44,14 @@ own_first shapes groups h k g lt is =
       ]
     ]
 
-times_absent : (x : ℕ) (gs : List ℕ) → All (λ g. g ≢ x) gs → times x gs ≡ 0
+times_absent : (x : ℕ) (gs : List ℕ) → All (λ g. g ≢ x) gs → occurrences x gs ≡ 0
 times_absent x [] all = refl
 times_absent x (g ∷ gs) all = let h = times_absent x gs (All-tail (λ g. g ≢ x) g gs all) in let ne =
     All-head (λ g. g ≢ x) g gs all in grind (arith, nat_tests)
 
 -- who is not the first of a group has no members
 pub not_first : (shapes : List ShapeView) (groups : List ℕ) (number : ℕ) → AreGroups shapes groups →
-    slice_index groups number ≢ number → times number groups ≡ 0
+    slice_index groups number ≢ number → occurrences number groups ≡ 0
 not_first shapes groups number h other = times_absent number groups (λ k d lt is.
     let count = h.count in
     other (own_first shapes groups h k number (omega (arith, lt, count)) (sym (read_any groups k d lt) ∙ is)))
@@ -73,28 +71,29 @@ member_shape jobs groups number member j k h lt first own is =
     one o p a b e f g = cc
 
 pub times_step : (x : ℕ) (gs : List ℕ) (i d : ℕ) → i < length gs →
-    times x (take (i + 1) gs) ≡ times x (take i gs) + (if get_or gs i d == x then 1 else 0)
+    occurrences x (take (i + 1) gs) ≡ occurrences x (take i gs) + (if get_or gs i d == x then 1 else 0)
 times_step x gs i d lt =
-    let more = ap (times x) (take_more gs i d lt) in
+    let more = ap (occurrences x) (take_more gs i d lt) in
     let sum = times-append x (take i gs) (get_or gs i d ∷ []) in
     omega (arith, more, sum)
 
 -- ---- what is due
-due_append : (gs xs ys : List ℕ) → due gs (xs ++ ys) ≡ due gs xs + due gs ys
+due_append : (gs xs ys : List ℕ) → due_count gs (xs ++ ys) ≡ due_count gs xs + due_count gs ys
 due_append gs [] ys = omega arith
 due_append gs (x ∷ xs) ys = let h = due_append gs xs ys in omega arith
 
-pub due_more : (gs : List ℕ) (i : ℕ) (xs ys : List ℕ) → ys ≡ xs ++ i ∷ [] → due gs ys ≡ due gs xs + times i gs
-due_more gs i xs ys is = let e = ap (due gs) is in let a = due_append gs xs (i ∷ []) in omega (arith, e, a)
+pub due_more : (gs : List ℕ) (i : ℕ) (xs ys : List ℕ) → ys ≡ xs ++ i ∷ [] →
+    due_count gs ys ≡ due_count gs xs + occurrences i gs
+due_more gs i xs ys is = let e = ap (due_count gs) is in let a = due_append gs xs (i ∷ []) in omega (arith, e, a)
 
-due_none : (ys : List ℕ) → due [] ys ≡ 0
+due_none : (ys : List ℕ) → due_count [] ys ≡ 0
 due_none [] = refl
 due_none (y ∷ ys) = let h = due_none ys in omega (arith, h)
 
 one_test : (g y : ℕ) → ◌≡◌ {A = ℕ} (if g == y then 1 else 0) (if y == g then 1 else 0)
 one_test g y = grind (arith, nat_tests)
 
-due_cons : (g : ℕ) (gs ys : List ℕ) → due (g ∷ gs) ys ≡ times g ys + due gs ys
+due_cons : (g : ℕ) (gs ys : List ℕ) → due_count (g ∷ gs) ys ≡ occurrences g ys + due_count gs ys
 due_cons g gs [] = refl
 due_cons g gs (y ∷ ys) = let h = due_cons g gs ys in let t = one_test g y in omega (arith, h, t)
 
@@ -104,17 +103,17 @@ nothing (y ∷ ys) = let h = nothing ys in omega (arith, h)
 
 -- where all numbers of groups were drawn, each member's finding was due once
 pub due_in_all : (counter n : ℕ) (lists : List (List ℕ)) → IsDrawn counter lists → n ≤ counter → (gs : List ℕ) →
-    All (λ g. g < n) gs → total (due gs) lists ≡ length gs
-due_in_all counter n lists r le [] all = total_same (due []) (λ _. 0) lists due_none ∙ nothing lists
+    All (λ g. g < n) gs → total (due_count gs) lists ≡ length gs
+due_in_all counter n lists r le [] all = total_same (due_count []) (λ _. 0) lists due_none ∙ nothing lists
 due_in_all counter n lists r le (g ∷ gs) all =
     let h = due_in_all counter n lists r le gs (All-tail (λ g. g < n) g gs all) in
     let below = All-head (λ g. g < n) g gs all in
-    let s = total_same (due (g ∷ gs)) (λ ys. times g ys + due gs ys) lists (due_cons g gs) in
-    let a = total-add (times g) (due gs) lists in
+    let s = total_same (due_count (g ∷ gs)) (λ ys. occurrences g ys + due_count gs ys) lists (due_cons g gs) in
+    let a = total-add (occurrences g) (due_count gs) lists in
     let o = r.once g in
     grind (arith, nat_tests)
 
 -- no member's group has a number that is too large
-pub none_beyond : (n x : ℕ) (gs : List ℕ) → All (λ g. g < n) gs → n ≤ x → times x gs ≡ 0
+pub none_beyond : (n x : ℕ) (gs : List ℕ) → All (λ g. g < n) gs → n ≤ x → occurrences x gs ≡ 0
 none_beyond n x gs all le = times_absent x gs
     (λ k d lt is. let below = all k d lt in absurd (omega (arith, below, is, le)))

@@ -1,20 +1,18 @@
 -- Each step keeps the rule.
-use Rattle.lemmas.proofs.Common.{[], ◌%◌, ◌++◌, ◌+◌, ◌-◌, ◌<◌, ◌^◌, ◌∙◌, ◌∷◌, ◌≡◌, ◌≢◌, ◌≤◌, List, ap, arith, get_or}
-use Rattle.lemmas.proofs.Common.{get_or-set_same, length, refl, set, subst, suc, sym, ℕ, ⊎_elim, map-append, map-set}
-use Rattle.lemmas.proofs.Common.{mod-eq_of_lt, nat_tests}
+use Rattle.job_pool.proofs.Imports.{HasAllPlaces, IsDealt, IsDrawn, List, View, [], ap, arith, at_map, count_at_least}
+use Rattle.job_pool.proofs.Imports.{get_or, length, map-append, nat_tests, occurrences, refl, set, subst, suc, sym}
+use Rattle.job_pool.proofs.Imports.{total, view, ℕ, ◌++◌, ◌+◌, ◌-◌, ◌<◌, ◌∙◌, ◌∷◌, ◌≡◌, ◌≢◌, ◌≤◌}
+use Rattle.lemmas.proofs.Common.{◌%◌, ◌^◌, get_or-set_same, ⊎_elim, map-set, mod-eq_of_lt}
 use Rattle.std.proofs.Math.ListN.{length-set}
-use mathlib.Core.Option.{some, none}
-use lib.ListN.{get_elem?}
 use Rattle.atomic_table.specs.Table.{State, Me, keeps, step, Allows, Splits, Joins}
-use Rattle.atomic_table.proofs.Lists.{at_set, at_snoc, at_map, set_else, set_again}
-use Rattle.job_pool.specs.declared.rule.View.{View}
+use Rattle.atomic_table.proofs.Lists.{at_set, at_snoc, set_else, set_again}
 use Rattle.job_pool.specs.declared.rule.DeskSize.{DeskSize}
-use Rattle.core_book.specs.Draws.{total, times, IsDrawn}
-use Rattle.job_pool.specs.Lists.{count_at_least}
-use Rattle.job_pool.specs.Rule.{Fits, IsDealt, MeetsRule, lists_of, view, drew, saw, IsAfterClaim, IsAfterLook, fewer}
-use Rattle.job_pool.specs.Rule.{one_place, both, spent, IsWhole}
+use Rattle.job_pool.specs.Rule.{Fits, MeetsRule, lists_of, view_after_claim, view_after_look, IsAfterClaim, IsAfterLook}
+use Rattle.job_pool.specs.Rule.{view_after_split, split_off_view, joined_view, spent_view}
 use Rattle.job_pool.proofs.Sums.{total_set, total_snoc, total-map, total_le, at_le, count_at_least-append}
 use Rattle.job_pool.proofs.Sums.{past_greatest-append, front-snoc, late_in_all, draw_keeps, merge_keeps, empty_keeps}
+use mathlib.Core.Option.{some, none}
+use lib.ListN.{get_elem?}
 
 -- the word is at most the numbers and the seats together
 pub bound : (n seats word : ℕ) (views : List View) → IsDealt n seats word views → word ≤ n + seats
@@ -43,7 +41,7 @@ fits_set n word now id views w le others mine j v at =
     (at_set views id j w v at)
 
 fits_drew : (n word : ℕ) (v : View) → v.places ≡ 1 → count_at_least n v.draws ≡ 0 → Fits n word v →
-    Fits n (suc word) (drew v word)
+    Fits n (suc word) (view_after_claim v word)
 fits_drew n word v one clear f = record {
   late_within = let a = count_at_least-append n v.draws (word ∷ []) in grind (arith, nat_tests);
   only_last = λ _. ap (count_at_least n) (front-snoc v.draws word) ∙ clear;
@@ -69,8 +67,9 @@ same_lists views id v w at same =
     ∙ set_again (lists_of views) id v.draws (at_lists views id v at))
 
 pub claim_keeps : (n seats word id : ℕ) (views : List View) (v : View) → get_elem? views id ≡ some v → v.places ≡ 1 →
-    count_at_least n v.draws ≡ 0 → IsDealt n seats word views → IsDealt n seats (suc word) (set views id (drew v word))
-claim_keeps n seats word id views v at one clear r = let w = drew v word in record {
+    count_at_least n v.draws ≡ 0 → IsDealt n seats word views →
+    IsDealt n seats (suc word) (set views id (view_after_claim v word))
+claim_keeps n seats word id views v at one clear r = let w = view_after_claim v word in record {
   drawn = subst (IsDrawn (suc word)) (sym (lists_set views id w))
       (draw_keeps word (lists_of views) id v.draws (at_lists views id v at) r.drawn);
   places = let t = total_set (λ (u : View). u.places) views id v w at in let p = r.places in omega arith;
@@ -84,7 +83,7 @@ module _ {S : Type 0} where
       → Allows {S = S} (MeetsRule size) slots id me 0 (λ n. (n + 1) % 2 ^ 64) (IsAfterClaim (step slots 0 1 0 none) me)
   claims size slots id me small one clear s r wide at fits =
       let word : ℕ = get_or s.words 0 0 in
-      let w : View = drew me.0 word in
+      let w : View = view_after_claim me.0 word in
       let f = (r.1.each id me.0 at).seen_within in
       let b = bound size.numbers size.seats word s.views r.1 in
       let next : (word + 1) % 2 ^ 64 ≡ suc word = mod-eq_of_lt (omega arith) ∙ omega arith in
@@ -112,7 +111,7 @@ module _ {S : Type 0} where
       Allows {S = S} (MeetsRule size) slots id me 0 (λ n. n) (IsAfterLook (step slots 0 0 0 none) me)
   looks size slots id me one s r wide at fits =
       let word : ℕ = get_or s.words 0 0 in
-      let w : View = saw me.0 word in
+      let w : View = view_after_look me.0 word in
       let f = (r.1.each id me.0 at).seen_within in
       let long = r.0 in
       let here : get_or (set s.words 0 word) 0 0 ≡ word = get_or-set_same s.words 0 word 0 (omega arith) in (
@@ -127,7 +126,7 @@ module _ {S : Type 0} where
         (f, refl, refl),
       )
     where
-      fits_saw : (n word : ℕ) (v : View) → v.places ≡ 1 → Fits n word v → Fits n word (saw v word)
+      fits_saw : (n word : ℕ) (v : View) → v.places ≡ 1 → Fits n word v → Fits n word (view_after_look v word)
       fits_saw n word v one f = record {
         late_within = f.late_within;
         only_last = f.only_last;
@@ -137,8 +136,8 @@ module _ {S : Type 0} where
       }
 
       look_keeps : (n seats word id : ℕ) (views : List View) (v : View) → get_elem? views id ≡ some v → v.places ≡ 1 →
-          IsDealt n seats word views → IsDealt n seats word (set views id (saw v word))
-      look_keeps n seats word id views v at one r = let w = saw v word in record {
+          IsDealt n seats word views → IsDealt n seats word (set views id (view_after_look v word))
+      look_keeps n seats word id views v at one r = let w = view_after_look v word in record {
         drawn = subst (IsDrawn word) (sym (same_lists views id v w at refl)) r.drawn;
         places = let t = total_set (λ (u : View). u.places) views id v w at in let p = r.places in omega arith;
         each = fits_set n word word id views w (omega arith) r.each (fits_saw n word v one (r.each id v at));
@@ -176,7 +175,7 @@ split_keeps n seats word id p views at some_place r =
     }
 
 fits_both : (n word : ℕ) (v w : View) → 0 < v.places → 0 < w.places → Fits n word v → Fits n word w →
-    Fits n word (both v w)
+    Fits n word (joined_view v w)
 fits_both n word v w some_place other_place f g = record {
   late_within = let a = count_at_least-append n v.draws w.draws in let x = f.late_within in let y = g.late_within in
       omega arith;
@@ -188,36 +187,38 @@ fits_both n word v w some_place other_place f g = record {
 }
 
 join_keeps : (n seats word id other : ℕ) (views : List View) (v w : View) → get_elem? views id ≡ some v →
-    ¬ (other ≡ id) → get_elem? (set views id (both v w)) other ≡ some w → 0 < v.places → 0 < w.places →
+    ¬ (other ≡ id) → get_elem? (set views id (joined_view v w)) other ≡ some w → 0 < v.places → 0 < w.places →
     IsDealt n seats word views
-    → IsDealt n seats word (set (set views id (both v w)) other spent)
+    → IsDealt n seats word (set (set views id (joined_view v w)) other spent_view)
 join_keeps n seats word id other views v w at apart there some_place other_place r =
-    let b = both v w in
+    let b = joined_view v w in
     let vs = set views id b in
     let at' : get_elem? views other ≡ some w = sym (set_else views id other b apart) ∙ there in record {
-      drawn = subst (IsDrawn word) (sym (lists_set vs other spent ∙ ap (λ l. set l other []) (lists_set views id b)))
+      drawn = subst (IsDrawn word) (sym
+          (lists_set vs other spent_view ∙ ap (λ l. set l other []) (lists_set views id b)))
           (merge_keeps word (lists_of views) id other v.draws w.draws (at_lists views id v at)
           (subst (λ l. get_elem? l other ≡ some w.draws) (lists_set views id b) (at_lists vs other w there)) r.drawn);
       places = let t = total_set (λ (u : View). u.places) views id v b at in let a =
-          total_set (λ (u : View). u.places) vs other w spent there in let p = r.places in omega arith;
-      each = fits_set n word word other vs spent (omega arith)
+          total_set (λ (u : View). u.places) vs other w spent_view there in let p = r.places in omega arith;
+      each = fits_set n word word other vs spent_view (omega arith)
           (fits_set n word word id views b (omega arith) r.each
           (fits_both n word v w some_place other_place (r.each id v at) (r.each other w at'))) (fits_new n word 0);
     }
 
 module _ {S : Type 0} where
   pub splits : (size : DeskSize) (id p : ℕ) → 0 < p →
-      Splits {S = S} (MeetsRule size) id (view [] 0 p) (fewer (view [] 0 p)) (one_place (view [] 0 p))
+      Splits {S = S} (MeetsRule size) id (view [] 0 p) (view_after_split (view [] 0 p)) (split_off_view (view [] 0 p))
   splits size id p some_place s r at =
       (r.0, split_keeps size.numbers size.seats (get_or s.words 0 0) id p s.views at some_place r.1)
 
   pub splits_as : (size : DeskSize) (id p : ℕ) (v : View) → v ≡ view [] 0 p → 0 < p →
-      Splits {S = S} (MeetsRule size) id v (fewer v) (one_place v)
+      Splits {S = S} (MeetsRule size) id v (view_after_split v) (split_off_view v)
   splits_as size id p v is some_place =
-      subst (λ u. Splits {S = S} (MeetsRule size) id u (fewer u) (one_place u)) (sym is) (splits size id p some_place)
+      subst (λ u. Splits {S = S} (MeetsRule size) id u (view_after_split u) (split_off_view u)) (sym is)
+      (splits size id p some_place)
 
   pub joins : (size : DeskSize) (id : ℕ) (v : View) (other : ℕ) (w : View) → 0 < v.places → 0 < w.places →
-      Joins {S = S} (MeetsRule size) id v other w (both v w) spent
+      Joins {S = S} (MeetsRule size) id v other w (joined_view v w) spent_view
   joins size id v other w some_place other_place s r at apart there = (
     r.0,
     join_keeps size.numbers size.seats
@@ -231,21 +232,21 @@ nobody_else f g [] each z = refl
 nobody_else f g (v ∷ vs) each z = let h = nobody_else f g vs (λ i u e. each (suc i) u e) (omega arith) in let e =
     each 0 v refl (omega arith) in omega arith
 
-only_one : (f : View → ℕ) (views : List View) (id : ℕ) (v : View) → get_elem? views id ≡ some v → f spent ≡ 0 →
+only_one : (f : View → ℕ) (views : List View) (id : ℕ) (v : View) → get_elem? views id ≡ some v → f spent_view ≡ 0 →
     ((i : ℕ) (u : View) → get_elem? views i ≡ some u → u.places ≡ 0 → f u ≡ 0) →
     total (λ u. u.places) views ≡ v.places → total f views ≡ f v
 only_one f views id v at z each all =
-    let t = total_set f views id v spent at in
-    let p = total_set (λ (u : View). u.places) views id v spent at in
-    let h = nobody_else f (λ (u : View). u.places) (set views id spent) still (omega arith) in
+    let t = total_set f views id v spent_view at in
+    let p = total_set (λ (u : View). u.places) views id v spent_view at in
+    let h = nobody_else f (λ (u : View). u.places) (set views id spent_view) still (omega arith) in
     omega arith
   where
-    still : (i : ℕ) (u : View) → get_elem? (set views id spent) i ≡ some u → u.places ≡ 0 → f u ≡ 0
-    still i u e p = ⊎_elim (λ (x : (i ≡ id) × (spent ≡ u)). ap f (sym x.1) ∙ z)
-        (λ (x : (i ≢ id) × (get_elem? views i ≡ some u)). each i u x.1 p) (at_set views id i spent u e)
+    still : (i : ℕ) (u : View) → get_elem? (set views id spent_view) i ≡ some u → u.places ≡ 0 → f u ≡ 0
+    still i u e p = ⊎_elim (λ (x : (i ≡ id) × (spent_view ≡ u)). ap f (sym x.1) ∙ z)
+        (λ (x : (i ≢ id) × (get_elem? views i ≡ some u)). each i u x.1 p) (at_set views id i spent_view u e)
 
 pub ends : (n seats word id : ℕ) (views : List View) (v : View) → IsDealt n seats word views →
-    get_elem? views id ≡ some v → seats ≤ v.places → IsWhole n seats word v
+    get_elem? views id ≡ some v → seats ≤ v.places → HasAllPlaces n seats word v
 ends n seats word id views v r at enough =
     let p = r.places in
     let q = at_le (λ (u : View). u.places) views id v at in
@@ -256,9 +257,9 @@ ends n seats word id views v r at enough =
         whole = let o = only_one (λ u. length u.draws) views id v at refl
             (λ i u e z. ap length ((r.each i u e).spent z).0) all in let m =
             total-map length (λ (u : View). u.draws) views in let w = r.drawn.whole in omega arith;
-        once = λ x. let o = only_one (λ u. times x u.draws) views id v at refl
-            (λ i u e z. ap (times x) ((r.each i u e).spent z).0) all in let m =
-            total-map (times x) (λ (u : View). u.draws) views in let w = r.drawn.once x in omega arith;
+        once = λ x. let o = only_one (λ u. occurrences x u.draws) views id v at refl
+            (λ i u e z. ap (occurrences x) ((r.each i u e).spent z).0) all in let m =
+            total-map (occurrences x) (λ (u : View). u.draws) views in let w = r.drawn.once x in omega arith;
       };
       bounded = bound n seats word views r;
     }

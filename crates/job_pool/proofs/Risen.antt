@@ -1,13 +1,12 @@
 -- Shares count more and more.
-use Rattle.lemmas.proofs.Common.{[], ◌++◌, ◌<◌, ◌∙◌, ◌∷◌, ◌≡◌, ◌≤◌, List, ap, arith, drop, get_or, length, subst, suc}
-use Rattle.lemmas.proofs.Common.{sym, take, zero, ℕ, length-map}
+use Rattle.job_pool.proofs.Imports.{Counts, Desk, HasRisen, HasWorked, List, Worker, [], ap, arith, drop, get_or}
+use Rattle.job_pool.proofs.Imports.{length, length-map, shares_of, subst, suc, sym, take, zero, ℕ, ◌++◌, ◌<◌, ◌∙◌, ◌∷◌}
+use Rattle.job_pool.proofs.Imports.{◌≡◌, ◌≤◌}
 use Rattle.core_book.specs.Book.{accepted_count_after}
 use Rattle.core_book.specs.declared.reply.Reply.{Reply}
 use Rattle.core_book.specs.declared.reply.Reply.TheVariants.{Closed, Stranger, Double, Accepted}
-use Rattle.verdict_book.specs.Counts.{Counts, counted}
-use Rattle.job_pool.specs.declared.desk.Desk.{Desk}
-use Rattle.job_pool.specs.declared.worker.Worker.{Worker}
-use Rattle.job_pool.specs.Work.{HasRisen, HasWorked, HaveRisen, shares_of}
+use Rattle.verdict_book.specs.Counts.{counts_after_reply}
+use Rattle.job_pool.specs.Work.{HaveRisen}
 use Rattle.job_pool.proofs.Filed.{whole}
 
 not_lower : (count : ℕ) (r : Reply) → count ≤ accepted_count_after count r
@@ -21,7 +20,7 @@ pub risen_still : (a b c : Counts) → HasRisen a b → c ≡ b → HasRisen a c
 risen_still a b c before same = subst (HasRisen a) (sym same) before
 
 -- and now it counts one reply more
-pub risen_more : (a b c : Counts) (r : Reply) → HasRisen a b → c ≡ counted b r → HasRisen a c
+pub risen_more : (a b c : Counts) (r : Reply) → HasRisen a b → c ≡ counts_after_reply b r → HasRisen a c
 risen_more a b c r before more = subst (HasRisen a) (sym more) (record {
   filed = let f = before.filed in omega arith;
   accepted = let n = not_lower b.accepted r in let f = before.accepted in omega arith;

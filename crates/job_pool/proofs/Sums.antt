@@ -1,11 +1,12 @@
 -- Sums over lists, and lists of numbers that were drawn.
-use Rattle.lemmas.proofs.Common.{[], ◌++◌, ◌+◌, ◌-◌, ◌∙◌, ◌∷◌, ◌≡◌, ◌≤◌, List, ap, append-nil, append_assoc, arith}
-use Rattle.lemmas.proofs.Common.{get_or, length, length-append, map, max, min, refl, set, subst, suc, sym, zero, ℕ}
-use Rattle.lemmas.proofs.Common.{nat_tests}
+use Rattle.job_pool.proofs.Imports.{IsDrawn, List, [], all_but_last, ap, append-nil, append_assoc, arith}
+use Rattle.job_pool.proofs.Imports.{count_at_least, get_or, joined, length, map, nat_tests, occurrences, past_greatest}
+use Rattle.job_pool.proofs.Imports.{past_last, refl, set, subst, suc, sym, total, zero, ℕ, ◌++◌, ◌+◌, ◌-◌, ◌∙◌, ◌∷◌}
+use Rattle.job_pool.proofs.Imports.{◌≡◌, ◌≤◌}
+use Rattle.lemmas.proofs.Common.{length-append, max, min}
+use Rattle.job_pool.specs.Lists.{count_less_than}
 use mathlib.Core.Option.{some, some-injective, some-ne-none}
 use lib.ListN.{get_elem?}
-use Rattle.core_book.specs.Draws.{total, times, past_last, IsDrawn}
-use Rattle.job_pool.specs.Lists.{count_at_least, count_less_than, past_greatest, front, joined}
 
 module _ {X : Type 0} where
   pub total_set : (f : X → ℕ) (xs : List X) (i : ℕ) (v w : X) → get_elem? xs i ≡ some v →
@@ -41,7 +42,7 @@ module _ {X : Type 0} where
   at_le f (x ∷ xs) zero v e = let h : f x ≡ f v = ap f (some-injective x v e) in omega arith
   at_le f (x ∷ xs) (suc i) v e = let h = at_le f xs i v e in omega arith
 
-pub times-append : (x : ℕ) (xs ys : List ℕ) → times x (xs ++ ys) ≡ times x xs + times x ys
+pub times-append : (x : ℕ) (xs ys : List ℕ) → occurrences x (xs ++ ys) ≡ occurrences x xs + occurrences x ys
 times-append x [] ys = omega arith
 times-append x (y ∷ xs) ys = let h = times-append x xs ys in omega arith
 
@@ -59,7 +60,7 @@ past_last-snoc [] x = refl
 past_last-snoc (y ∷ []) x = refl
 past_last-snoc (y ∷ z ∷ zs) x = past_last-snoc (z ∷ zs) x
 
-pub front-snoc : (xs : List ℕ) (x : ℕ) → front (xs ++ x ∷ []) ≡ xs
+pub front-snoc : (xs : List ℕ) (x : ℕ) → all_but_last (xs ++ x ∷ []) ≡ xs
 front-snoc [] x = refl
 front-snoc (y ∷ []) x = refl
 front-snoc (y ∷ z ∷ zs) x = ap (λ l. y ∷ l) (front-snoc (z ∷ zs) x)
@@ -75,14 +76,14 @@ past_last-last (y ∷ z ∷ zs) (suc n) d e = past_last-last (z ∷ zs) n d (ome
 pub pushed : (xs ys : List ℕ) (x n : ℕ) → ys ≡ xs ++ x ∷ [] → past_greatest xs ≤ x → length xs ≤ past_greatest xs →
     past_greatest xs ≤ n
     → (past_greatest ys ≡ x + 1) × (length ys ≤ past_greatest ys) × (past_greatest ys ≡ past_last ys)
-    × (past_greatest (front ys) ≤ n)
+    × (past_greatest (all_but_last ys) ≤ n)
 pushed xs ys x n is above rising below =
     let t : past_greatest (xs ++ x ∷ []) ≡ x + 1 = let a = past_greatest-append xs (x ∷ []) in omega arith in
     let l = length-append xs (x ∷ []) in
     let e = past_last-snoc xs x in
     let f = ap past_greatest (front-snoc xs x) in
     subst (λ (zs : List ℕ). (past_greatest zs ≡ x + 1) × (length zs ≤ past_greatest zs)
-    × (past_greatest zs ≡ past_last zs) × (past_greatest (front zs) ≤ n))
+    × (past_greatest zs ≡ past_last zs) × (past_greatest (all_but_last zs) ≤ n))
     (sym is) (t, omega arith, omega arith, omega arith)
 
 pub none_late : (n : ℕ) (xs : List ℕ) → past_greatest xs ≤ n → count_at_least n xs ≡ 0
@@ -93,7 +94,7 @@ pub early_or_late : (n : ℕ) (xs : List ℕ) → count_less_than n xs + count_a
 early_or_late n [] = refl
 early_or_late n (y ∷ ys) = let h = early_or_late n ys in grind (arith, nat_tests)
 
-pub early_suc : (k : ℕ) (xs : List ℕ) → count_less_than (suc k) xs ≡ count_less_than k xs + times k xs
+pub early_suc : (k : ℕ) (xs : List ℕ) → count_less_than (suc k) xs ≡ count_less_than k xs + occurrences k xs
 early_suc k [] = refl
 early_suc k (y ∷ ys) = let h = early_suc k ys in grind (arith, nat_tests)
 
@@ -112,8 +113,8 @@ early_in_all counter lists r zero =
     total_same (count_less_than 0) (λ _. 0) lists early_zero ∙ (nothing lists ∙ omega arith)
 early_in_all counter lists r (suc k) =
     let h = early_in_all counter lists r k in
-    let s = total_same (count_less_than (suc k)) (λ xs. count_less_than k xs + times k xs) lists (early_suc k) in
-    let a = total-add (count_less_than k) (times k) lists in
+    let s = total_same (count_less_than (suc k)) (λ xs. count_less_than k xs + occurrences k xs) lists (early_suc k) in
+    let a = total-add (count_less_than k) (occurrences k) lists in
     let o = r.once k in
     grind (arith, nat_tests)
 
@@ -132,7 +133,7 @@ pub draw_keeps : (counter : ℕ) (lists : List (List ℕ)) (i : ℕ) (xs : List 
 draw_keeps counter lists i xs at r = let ys : List ℕ = xs ++ counter ∷ [] in record {
   whole = let t = total_set length lists i xs ys at in let a = length-append xs (counter ∷ []) in let w = r.whole in
       omega arith;
-  once = λ x. let t = total_set (times x) lists i xs ys at in let a = times-append x xs (counter ∷ []) in let o =
+  once = λ x. let t = total_set (occurrences x) lists i xs ys at in let a = times-append x xs (counter ∷ []) in let o =
       r.once x in grind (arith, nat_tests);
 }
 
@@ -143,8 +144,8 @@ pub merge_keeps : (counter : ℕ) (lists : List (List ℕ)) (i j : ℕ) (xs ys :
 merge_keeps counter lists i j xs ys at there r = let zs : List ℕ = xs ++ ys in record {
   whole = let t = total_set length lists i xs zs at in let u = total_set length (set lists i zs) j ys [] there in
       let a = length-append xs ys in let w = r.whole in omega arith;
-  once = λ x. let t = total_set (times x) lists i xs zs at in let u =
-      total_set (times x) (set lists i zs) j ys [] there in let a = times-append x xs ys in let o = r.once x in
+  once = λ x. let t = total_set (occurrences x) lists i xs zs at in let u =
+      total_set (occurrences x) (set lists i zs) j ys [] there in let a = times-append x xs ys in let o = r.once x in
       omega arith;
 }
 
@@ -152,7 +153,7 @@ merge_keeps counter lists i j xs ys at there r = let zs : List ℕ = xs ++ ys in
 pub empty_keeps : (counter : ℕ) (lists : List (List ℕ)) → IsDrawn counter lists → IsDrawn counter (lists ++ [] ∷ [])
 empty_keeps counter lists r = record {
   whole = let t = total_snoc length lists [] in let w = r.whole in omega arith;
-  once = λ x. let t = total_snoc (times x) lists [] in let o = r.once x in omega arith;
+  once = λ x. let t = total_snoc (occurrences x) lists [] in let o = r.once x in omega arith;
 }
 
 pub at_head : (xs : List ℕ) (x : ℕ) → get_elem? xs 0 ≡ some x → get_or xs 0 0 ≡ x
@@ -167,7 +168,7 @@ pub length-joined : (xss : List (List ℕ)) → length (joined xss) ≡ total le
 length-joined [] = refl
 length-joined (xs ∷ xss) = let h = length-joined xss in let a = length-append xs (joined xss) in omega arith
 
-pub times-joined : (x : ℕ) (xss : List (List ℕ)) → times x (joined xss) ≡ total (times x) xss
+pub times-joined : (x : ℕ) (xss : List (List ℕ)) → occurrences x (joined xss) ≡ total (occurrences x) xss
 times-joined x [] = refl
 times-joined x (xs ∷ xss) = let h = times-joined x xss in let a = times-append x xs (joined xss) in omega arith
 

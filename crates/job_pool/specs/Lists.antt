@@ -18,10 +18,10 @@ past_greatest [] = 0
 past_greatest (y ∷ ys) = max (y + 1) (past_greatest ys)
 
 -- a list without its last
-abbrev pub front : List ℕ → List ℕ
-front [] = []
-front (y ∷ []) = []
-front (y ∷ z ∷ zs) = y ∷ front (z ∷ zs)
+abbrev pub all_but_last : List ℕ → List ℕ
+all_but_last [] = []
+all_but_last (y ∷ []) = []
+all_but_last (y ∷ z ∷ zs) = y ∷ all_but_last (z ∷ zs)
 
 -- lists end to end
 abbrev pub joined : List (List ℕ) → List ℕ
@@ -33,4 +33,4 @@ pub record AreAllDraws (n seats counter : ℕ) (lists : List (List ℕ)) : Type 
   pub count : length lists ≡ seats
   pub drawn : IsDrawn counter lists
   pub at_most : counter ≤ n + seats
-  pub only_last : All (λ xs. past_greatest (front xs) ≤ n) lists
+  pub only_last : All (λ xs. past_greatest (all_but_last xs) ≤ n) lists

@@ -5,7 +5,7 @@ use mathlib.Core.Option.{some}
 use lib.ListN.{get_elem?}
 use Rattle.atomic_table.specs.Table.{State, Me, Step}
 use Rattle.core_book.specs.Draws.{total, IsDrawn}
-use Rattle.job_pool.specs.Lists.{count_at_least, past_greatest, front}
+use Rattle.job_pool.specs.Lists.{count_at_least, past_greatest, all_but_last}
 use Rattle.job_pool.specs.declared.rule.DeskSize.{DeskSize}
 use Rattle.job_pool.specs.declared.rule.View.{View}
 
@@ -16,7 +16,7 @@ use Rattle.job_pool.specs.declared.rule.View.{View}
 -- each of its draws and at most the word. A view with no place has nothing
 pub record Fits (n word : ℕ) (v : View) : Type 0 where
   pub late_within : count_at_least n v.draws ≤ v.places
-  pub only_last : v.places ≡ 1 → count_at_least n (front v.draws) ≡ 0
+  pub only_last : v.places ≡ 1 → count_at_least n (all_but_last v.draws) ≡ 0
   pub seen_within : v.seen ≤ word
   pub seen_above : past_greatest v.draws ≤ v.seen
   pub spent : v.places ≡ 0 → (v.draws ≡ []) × (v.seen ≡ 0)
@@ -48,41 +48,43 @@ opening_view size = view [] 0 size.seats
 -- ---- steps
 
 -- a claim appends what it found
-abbrev pub drew : View → ℕ → View
-drew v found = view (v.draws ++ found ∷ []) (found + 1) v.places
+abbrev pub view_after_claim : View → ℕ → View
+view_after_claim v found = view (v.draws ++ found ∷ []) (found + 1) v.places
 
 -- a look sees what it found
-abbrev pub saw : View → ℕ → View
-saw v found = view v.draws found v.places
+abbrev pub view_after_look : View → ℕ → View
+view_after_look v found = view v.draws found v.places
 
 -- what is found is at least what was seen
 abbrev pub IsAfterClaim : {S : Type 0} → Step S → Me S View → ℕ → Me S View → Type 0
-IsAfterClaim step before found after = (before.0.seen ≤ found) × (after.0 ≡ drew before.0 found) × (after.1 ≡ before.1)
+IsAfterClaim step before found after =
+    (before.0.seen ≤ found) × (after.0 ≡ view_after_claim before.0 found) × (after.1 ≡ before.1)
 
 -- a look finds at least what was seen
 abbrev pub IsAfterLook : {S : Type 0} → Step S → Me S View → ℕ → Me S View → Type 0
-IsAfterLook step before found after = (before.0.seen ≤ found) × (after.0 ≡ saw before.0 found) × (after.1 ≡ before.1)
+IsAfterLook step before found after =
+    (before.0.seen ≤ found) × (after.0 ≡ view_after_look before.0 found) × (after.1 ≡ before.1)
 
 -- a split gives one place away, to a seat that drew nothing
-abbrev pub fewer : View → View
-fewer v = view v.draws v.seen (v.places - 1)
+abbrev pub view_after_split : View → View
+view_after_split v = view v.draws v.seen (v.places - 1)
 
 -- a view of no draws with the place that is given away
-abbrev pub one_place : View → View
-one_place v = view [] 0 1
+abbrev pub split_off_view : View → View
+split_off_view v = view [] 0 1
 
 -- a join puts two lists in one, and the other seat is spent
-abbrev pub both : View → View → View
-both v w = view (v.draws ++ w.draws) (max v.seen w.seen) (v.places + w.places)
+abbrev pub joined_view : View → View → View
+joined_view v w = view (v.draws ++ w.draws) (max v.seen w.seen) (v.places + w.places)
 
 -- the view without draws and places
-abbrev pub spent : View
-spent = view [] 0 0
+abbrev pub spent_view : View
+spent_view = view [] 0 0
 
 -- ---- the end
 
 -- one view has all places, and so all draws
-pub record IsWhole (n seats word : ℕ) (v : View) : Type 0 where
+pub record HasAllPlaces (n seats word : ℕ) (v : View) : Type 0 where
   pub places : v.places ≡ seats
   pub drawn : IsDrawn word (v.draws ∷ [])
   pub bounded : word ≤ n + seats

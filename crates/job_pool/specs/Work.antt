@@ -1,7 +1,7 @@
 -- The results of workers
 use Rattle.std.specs.Prelude.{◌≡◌, ℕ, ◌+◌, ◌<◌, ◌≤◌, false, List, [], ◌∷◌, map, slice_index_or, sum_by}
 use Rattle.std.specs.Prelude.{length}
-use Rattle.core_book.specs.Draws.{past_last, times}
+use Rattle.core_book.specs.Draws.{past_last, occurrences}
 use Rattle.verdict_book.specs.Counts.{Counts}
 use Rattle.job_pool.specs.Seats.{IsSeatOf, IsNewSeatOf, drawn_by, number_count_of}
 use Rattle.job_pool.specs.declared.desk.Desk.{Desk}
@@ -12,21 +12,21 @@ use Rattle.job_pool.specs.declared.worker.Worker.{Worker}
 abbrev pub sum_of_filed : List Counts → ℕ
 sum_of_filed shares = sum_by (λ (s : Counts). s.filed) shares
 
--- a share counted this, and then more
+-- a share's later counts are not less
 pub record HasRisen (before after : Counts) : Type 0 where
   pub filed : before.filed ≤ after.filed
   pub accepted : before.accepted ≤ after.accepted
 
--- as many shares, and each has counted more, or nothing more
+-- the number of shares stays, and no count is less
 pub record HaveRisen (before after : List Counts) : Type 0 where
   pub count : length after ≡ length before
   pub each : (i : ℕ) (d : Counts) → i < length before → HasRisen (slice_index_or before i d) (slice_index_or after i d)
 
 -- For each job `groups` has the number of the first of its shape. This many findings are due from the seat that drew
 -- these numbers: those of all members of the groups whose first numbers they are
-abbrev pub due : List ℕ → List ℕ → ℕ
-due groups [] = 0
-due groups (y ∷ ys) = times y groups + due groups ys
+abbrev pub due_count : List ℕ → List ℕ → ℕ
+due_count groups [] = 0
+due_count groups (y ∷ ys) = occurrences y groups + due_count groups ys
 
 module _ {F A : Type 0} where
   -- a worker that may begin
@@ -37,7 +37,7 @@ module _ {F A : Type 0} where
   pub record HasWorked (desk : Desk) (groups : List ℕ) (before after : Worker F A) : Type 0 where
     pub seat : IsSeatOf desk after.seat
     pub risen : HasRisen before.share after.share
-    pub filed : after.starved ≡ false → after.share.filed ≡ before.share.filed + due groups (drawn_by after.seat)
+    pub filed : after.starved ≡ false → after.share.filed ≡ before.share.filed + due_count groups (drawn_by after.seat)
     pub ended : after.starved ≡ false → number_count_of desk < past_last (drawn_by after.seat)
 
   abbrev pub shares_of : List (Worker F A) → List Counts

@@ -29,7 +29,7 @@ pub struct CloseFault {
 
 impl Desk {
     ghost use Rattle.job_pool.specs.Closings.{draws_of};
-    ghost use Rattle.job_pool.specs.Rule.{IsWhole};
+    ghost use Rattle.job_pool.specs.Rule.{HasAllPlaces};
 
     /// Ends the desk, for all its seats. It tests first whether a seat is missing.
     pub fn close(self, alloc: Global, seats: Vec<DeskSeat>) -> Result<Closed, CloseFault>
@@ -59,7 +59,7 @@ impl Desk {
             });
         };
         let (seat, draws) = self.join(seats, draws);
-        let counter = self.end(seat);
+        let counter = self.final_count(seat);
         Ok(Closed { draws, counter })
     }
 
@@ -103,10 +103,10 @@ impl Desk {
     }
 
     // The last count of the word, once one seat has all places.
-    fn end(self, seat: Seat<(), View>) -> usize
+    fn final_count(self, seat: Seat<(), View>) -> usize
         requires { (seat.table_id ≡ self.table.shared.table_id)
             × (seat_count_of self ≤ seat.me.0.places) }
-        ensures { IsWhole (number_count_of self) (seat_count_of self) result seat.me.0 }
+        ensures { HasAllPlaces (number_count_of self) (seat_count_of self) result seat.me.0 }
     {
         let Desk { table, .. } = self;
         let closed = table.close_with(seat);

@@ -1,7 +1,7 @@
 //! The desk as threads share it, and the seats that they draw with.
 ghost use Rattle.std.specs.Prelude.{◌≡◌, ◌-◌, ◌<◌, ◌≤◌, [], length, vec_len, vec_capacity, IfOk, All};
 ghost use Rattle.core_book.specs.Draws.{past_last};
-ghost use Rattle.job_pool.specs.Lists.{front, past_greatest};
+ghost use Rattle.job_pool.specs.Lists.{all_but_last, past_greatest};
 
 use crate::rule::{Claims, DeskRule, DeskSize, LookStep, SplitOrJoinStep, View};
 use atomic_table::{Seat, Table};
@@ -39,15 +39,15 @@ pub struct DeskSeat {
     ghost seen_above: { past_greatest drawn.items ≤ seat.me.0.seen },
     ghost rising: { length drawn.items ≤ past_greatest drawn.items },
     ghost last_is_top: { past_greatest drawn.items ≡ past_last drawn.items },
-    ghost front_below: { past_greatest (front drawn.items) ≤ numbers },
+    ghost front_below: { past_greatest (all_but_last drawn.items) ≤ numbers },
 }
 
 impl DeskSeat {
-    ghost use Rattle.core_book.specs.Claims.{has_seat_drawn_past_last};
+    ghost use Rattle.core_book.specs.Claims.{is_seat_finished};
 
     // Whether the seat met the end: then it draws no more.
-    fn has_seat_drawn_past_last(&self) -> bool
-        ensures { result ≡ has_seat_drawn_past_last self.now.numbers self.now.drawn.items }
+    fn is_finished(&self) -> bool
+        ensures { result ≡ is_seat_finished self.now.numbers self.now.drawn.items }
     {
         let count = self.drawn.len();
         count > 0 && self.drawn[count - 1] >= self.numbers
@@ -123,7 +123,7 @@ impl Desk {
         ensures answer { IsAnswerToClaim (number_count_of self.now) seat.old seat.new result }
         ensures seen { seen_by seat.old ≤ seen_by seat.new }
     {
-        if seat.has_seat_drawn_past_last() {
+        if seat.is_finished() {
             return Claim::Empty;
         }
         let found = self.table.shared.fetch_add::<Claims>(&mut seat.seat, 0, 1) as usize;

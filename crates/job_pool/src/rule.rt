@@ -53,17 +53,17 @@ impl<S> Play<S, View> for LookStep {
 pub struct SplitOrJoinStep;
 
 impl Split<View> for SplitOrJoinStep {
-    ghost use Rattle.job_pool.specs.Rule.{fewer, one_place};
+    ghost use Rattle.job_pool.specs.Rule.{view_after_split, split_off_view};
 
-    ghost left = { fewer };
+    ghost left = { view_after_split };
 
-    ghost right = { one_place };
+    ghost right = { split_off_view };
 }
 
 impl Join<View> for SplitOrJoinStep {
-    ghost use Rattle.job_pool.specs.Rule.{both, spent};
+    ghost use Rattle.job_pool.specs.Rule.{joined_view, spent_view};
 
-    ghost both = { both };
+    ghost both = { joined_view };
 
-    ghost spent = { spent };
+    ghost spent = { spent_view };
 }

@@ -1,11 +1,11 @@
 //! One worker.
 ghost use Rattle.std.specs.Prelude.{◌≡◌, ◌≢◌, ◌+◌, ◌<◌, IfOk, OnErr, OnOk, Some, length, map, slice_get, slice_index};
 ghost use Rattle.std.specs.Arc.{arc_value};
-ghost use Rattle.core_book.specs.Draws.{times};
+ghost use Rattle.core_book.specs.Draws.{occurrences};
 ghost use Rattle.module_job.specs.Groups.{AreGroups};
 ghost use Rattle.module_job.specs.Shapes.{shape_of};
 ghost use Rattle.local_run.specs.Shown.{digest_of, job_of};
-ghost use Rattle.verdict_book.specs.Counts.{counted};
+ghost use Rattle.verdict_book.specs.Counts.{counts_after_reply};
 ghost use Rattle.verdict_book.specs.Replies.{IsReplyOf};
 ghost use Rattle.job_pool.specs.Seats.{number_count_of};
 ghost use Rattle.core_book.specs.Filling.{IsOneMore, shapes_of};
@@ -87,7 +87,7 @@ fn run_group_if_first<F: Filings, A: Ledger, G, R: Wait>(
     requires groups { AreGroups (shapes_of (map arc_value shared_work.now.jobs.now))
         shared_work.now.groups.now }
     ensures filed { OnOk result (share.new.filed
-        ≡ share.old.filed + times number shared_work.now.groups.now) }
+        ≡ share.old.filed + occurrences number shared_work.now.groups.now) }
     ensures risen { HasRisen share.old share.new }
     ensures no_run { slice_index shared_work.now.groups.now number ≢ number → runs.new ≡ runs.old }
     ensures one_run { slice_index shared_work.now.groups.now number ≡ number →
@@ -132,7 +132,7 @@ fn file_members<F: Filings, A: Ledger, G, R: Wait>(
         ≡ Some (job_of finding.now) }
     requires digest { digest_of finding.now ≡ F.digest }
     ensures filed { OnOk result (share.new.filed
-        ≡ share.old.filed + times number shared_work.now.groups.now) }
+        ≡ share.old.filed + occurrences number shared_work.now.groups.now) }
     ensures risen { HasRisen share.old share.new }
 {
     let (jobs, groups) = (shared_work.jobs, shared_work.groups);
@@ -144,7 +144,8 @@ fn file_members<F: Filings, A: Ledger, G, R: Wait>(
     Ok(())
 }
 
-// Files the finding of a job of the same shape.
+// Files the finding of a job of the same shape. Inlined, it would slow the search for the members.
+#[inline(never)]
 fn file_member<F: Filings, A: Ledger, R: Wait>(
     rt: &R,
     book: &Book<F, A>,
@@ -156,12 +157,10 @@ fn file_member<F: Filings, A: Ledger, R: Wait>(
     requires shape { shape_of (job_of finding.now) ≡ shape_of (arc_value job.now) }
     requires digest { digest_of finding.now ≡ F.digest }
     ensures reply { IfOk result (IsReplyOf F.digest F.jobs F.digest member (arc_value job.now)) }
-    ensures counted { IfOk result (λ reply. share.new ≡ counted share.old reply) }
+    ensures counted { IfOk result (λ reply. share.new ≡ counts_after_reply share.old reply) }
     ensures unchanged { OnErr result (share.new ≡ share.old) }
 {
-    let Some(own) = finding.for_job(member, job.clone()?) else {
-        unreachable!()
-    };
+    let own = finding.for_same_shape(member, job.clone()?);
     match book.file(rt, share, own) {
         Ok(reply) => Ok(reply),
         Err(_) => Err(AllocError),

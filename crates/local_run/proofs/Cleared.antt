@@ -1,10 +1,8 @@
 -- Values that are cleared under the assignments under which some used gate lacks a row
-use Rattle.lemmas.proofs.Common.{◌%◌, ◌*◌, ◌<◌, ◌∙◌, ◌≡◌, ◌≤◌, List, ap, arith, bit_and, length, slice_index, subst}
-use Rattle.lemmas.proofs.Common.{sym, true, ℕ, and-true, common_steps, mod-mul-add, mul_comm}
-use Rattle.bbm_rule.specs.Bits.{bit}
-use Rattle.bbm_rule.proofs.BitLemmas.{by_lt_or_le, bit-and}
-use Rattle.circuit.specs.Meaning.{Netlist, Satisfies, Valuation}
-use Rattle.module_box.specs.LocalValues.{AreRowsAt, AreValueRows, bit_of_row, value_of}
+use Rattle.local_run.proofs.Imports.{AreRowsAt, AreValueRows, List, Netlist, Satisfies, Valuation, and-true, ap, arith}
+use Rattle.local_run.proofs.Imports.{bit, bit-and, bit_and, bit_of_row, by_lt_or_le, common_steps, length, subst, sym}
+use Rattle.local_run.proofs.Imports.{true, value_of, ℕ, ◌%◌, ◌*◌, ◌<◌, ◌∙◌, ◌≡◌, ◌≤◌}
+use Rattle.lemmas.proofs.Common.{slice_index, mod-mul-add, mul_comm}
 use Rattle.module_box.specs.declared.values.ValueRows.{ValueRows}
 use Rattle.local_run.specs.Scans.{KeepsDefinedValues}
 

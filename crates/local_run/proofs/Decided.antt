@@ -1,28 +1,19 @@
 -- Whether a job has a fault does not depend on the local valuation that is taken
-use Rattle.lemmas.proofs.Common.{[], ◌<◌, ◌∙◌, ◌∷◌, ◌≡◌, ◌≢◌, ◌⊎◌, Bool, Contains, List, ap, arith, false, inl, inr}
-use Rattle.lemmas.proofs.Common.{refl, subst, suc, sym, true, true≢false, zero, ℕ, ℤ, and_from, and_parts, cases_Bool}
-use Rattle.lemmas.proofs.Common.{common_steps, eqb-true, props, same_Some, slice_get-get_or, ∥∥₁_elim, ∥∥₁_map}
-use Rattle.lemmas.proofs.Common.{nothing_prop, three_ways}
-use Rattle.circuit.specs.Meaning.{Valuation, AreOrdered, wires}
+use Rattle.local_run.proofs.Imports.{AreOrdered, Bool, Contains, Demand, Edge, End, Fault, HasFault, IsDemandWireBelow}
+use Rattle.local_run.proofs.Imports.{IsFaultUnder, IsJob, IsStopFault, JobView, Kind, List, MeetsDemand, Moment}
+use Rattle.local_run.proofs.Imports.{NamesOwnWires, Stop, Valuation, [], and_from, and_parts, ap, arith, cases_Bool}
+use Rattle.local_run.proofs.Imports.{common_steps, false, inl, inr, is_first, is_moment_at, local_run, moment_total}
+use Rattle.local_run.proofs.Imports.{props, refl, same_Some, slice_get-get_or, subst, suc, sym, three_ways, true}
+use Rattle.local_run.proofs.Imports.{true≢false, wires, zero, ℕ, ℤ, ∥∥₁_elim, ∥∥₁_map, ◌<◌, ◌∙◌, ◌∷◌, ◌≡◌, ◌≢◌, ◌⊎◌}
+use Rattle.lemmas.proofs.Common.{eqb-true, nothing_prop}
 use Rattle.circuit.proofs.Valuations.{at_most_one}
 use Rattle.module_box.specs.LocalValues.{IsLocalValuation}
-use Rattle.module_box.specs.Schedules.{is_moment_at}
-use Rattle.module_box.specs.declared.schedules.Moment.{Moment}
-use Rattle.module_box.proofs.Rising.{is_first, moment_total}
 use Rattle.bbm_rule.proofs.SameCells.{cell_same, cell_itself}
-use Rattle.module_job.specs.Jobs.{JobView, IsJob, NamesOwnWires}
-use Rattle.module_job.specs.Signals.{MeetsDemand, IsDemandWireBelow}
-use Rattle.module_job.specs.declared.job.Demand.{Demand}
-use Rattle.module_job.specs.declared.job.Demand.TheVariants as Demanded
-use Rattle.module_job.specs.declared.job.Stop as listed
-use Rattle.local_run.specs.Faults.{IsFaultUnder, IsStopFault, HasFault}
-use Rattle.local_run.specs.Runs.{local_run}
 use Rattle.local_run.specs.Laws.{OneValuationDecidesFault}
-use Rattle.local_run.specs.declared.fault.Fault.{Fault}
-use Rattle.local_run.specs.declared.fault.Kind.{Kind}
-use Rattle.local_run.specs.declared.fault.Kind.TheVariants.{Edge, Stop, End}
 use Rattle.local_run.proofs.LocalRuns.{AgreeBelow, live_same, run_same}
 use Rattle.local_run.proofs.OwnWires.{edge_below, demand_below}
+use Rattle.module_job.specs.declared.job.Demand.TheVariants as Demanded
+use Rattle.module_job.specs.declared.job.Stop as listed
 
 -- ---- the same fault under valuations that agree
 meets_same : (n : ℕ) (u u' : Valuation) (d : Demand) (b : Bool) → AgreeBelow n u u' → IsDemandWireBelow n d →

@@ -1,25 +1,13 @@
 -- From the cells that were looked at, in order, to the first fault
-use Rattle.lemmas.proofs.Common.{◌&&◌, ◌+ℤ◌, ◌+◌, ◌-ℤ◌, ◌-◌, ◌<ℤ◌, ◌<◌, ◌∙◌, ◌≡◌, ◌≢◌, ◌≤◌, ◌⊎◌, Bool, None, Option}
-use Rattle.lemmas.proofs.Common.{Some, ap, arith, false, negsuc, not, pos, refl, subst, sym, true, ℕ, ℤ, and_from}
-use Rattle.lemmas.proofs.Common.{and_parts, common_steps, false≢true, ints}
-use Rattle.bbm_rule.specs.Spans.{in_span}
-use Rattle.module_box.specs.Boxes.{in_box, in_ring}
-use Rattle.module_box.specs.declared.boxes.Box2.{Box2}
-use Rattle.bbm_rule.proofs.Spans.{span_parts, span_from, in_span-negsuc}
-use Rattle.circuit.specs.Meaning.{Valuation}
-use Rattle.module_job.specs.Signals.{is_live, MeetsDemand}
-use Rattle.module_job.specs.Jobs.{JobView, job_demand}
-use Rattle.local_run.specs.Runs.{local_run}
-use Rattle.local_run.specs.Faults.{IsFaultUnder, assignments}
-use Rattle.module_box.specs.declared.schedules.Signal.{Signal}
-use Rattle.module_job.specs.declared.job.Demand.{Demand}
-use Rattle.local_run.specs.declared.fault.Kind.{Kind}
-use Rattle.local_run.specs.declared.fault.Kind.TheVariants.{Edge, Stop, End}
-use Rattle.local_run.specs.Places.{box_coord}
-use Rattle.module_box.proofs.RingTests.{ring_read}
-use Rattle.local_run.specs.Scans.{IsLeastBelow, IsScanStride, IsKindSoughtAt, IsFirst, IsFaultWhereDefined}
-use Rattle.local_run.specs.Scans.{HasNoFaultOfKind, is_defined_under, valuation}
-use Rattle.local_run.specs.declared.values.Values.{Values}
+use Rattle.local_run.proofs.Imports.{Bool, Box2, Demand, Edge, End, HasNoFaultOfKind, IsFaultUnder, IsFaultWhereDefined}
+use Rattle.local_run.proofs.Imports.{IsFirstOfKind, IsKindSoughtAt, IsLeastBelow, IsScanStride, JobView, Kind}
+use Rattle.local_run.proofs.Imports.{MeetsDemand, None, Option, Signal, Some, Stop, Valuation, Values, and_from}
+use Rattle.local_run.proofs.Imports.{and_parts, ap, arith, assignments, box_coord, common_steps, false, false≢true}
+use Rattle.local_run.proofs.Imports.{in_box, in_ring, in_span, in_span-negsuc, ints, is_defined_under, is_live}
+use Rattle.local_run.proofs.Imports.{job_demand, local_run, negsuc, not, pos, refl, span_from, span_parts, subst, sym}
+use Rattle.local_run.proofs.Imports.{true, valuation, ℕ, ℤ, ◌&&◌, ◌+ℤ◌, ◌+◌, ◌-ℤ◌, ◌-◌, ◌<ℤ◌, ◌<◌, ◌∙◌, ◌≡◌, ◌≢◌, ◌≤◌}
+use Rattle.local_run.proofs.Imports.{◌⊎◌}
+use Rattle.bbm_rule.proofs.RingTests.{ring_read}
 
 -- ---- numbers of columns and rows
 pub inner_in_span : (c n k : ℕ) → k < n → in_span c n (box_coord c k) ≡ true
@@ -104,7 +92,7 @@ pub first_from : (j : JobView) (vs : Values) (t : ℕ) (kind : Kind) (x y a : �
     IsLeastBelow (assignments j) (λ a'.
     IsFaultWhereDefined j vs a' t kind (box_coord j.area.x x) (box_coord j.area.y y))
     (Some a) →
-    IsFirst j vs t kind (record { time = t; kind = kind; cell = record { x = cx; y = cy }; assignment = a })
+    IsFirstOfKind j vs t kind (record { time = t; kind = kind; cell = record { x = cx; y = cy }; assignment = a })
 unfolding in_box
 first_from j vs t kind x y a cx cy s ex ey lx ly rows cells least = rw (ex, ey) (record {
   at_time = refl;

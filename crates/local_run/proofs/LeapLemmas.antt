@@ -1,29 +1,18 @@
 -- Runs that stay as they are, and times that can be leapt over
-use Rattle.lemmas.proofs.Common.{◌%◌, ◌&&◌, ◌+ℤ◌, ◌+◌, ◌-◌, ◌<◌, ◌||◌, ◌∙◌, ◌≡◌, ◌≢◌, ◌≤◌, Greater, Less, List, None}
-use Rattle.lemmas.proofs.Common.{Option, Some, ap, ap₂, arith, false, inl, inr, length, nat_cmp, refl}
-use Rattle.lemmas.proofs.Common.{slice_get, subst, suc, sym, true, unwrap_or, zero, ℕ, ℤ, and_parts, common_steps}
-use Rattle.lemmas.proofs.Common.{false≢true, slice_get_within, int_itself, int_same}
-use Rattle.bbm_rule.specs.Plane.{State, is_at, partner, step}
-use Rattle.bbm_rule.specs.declared.block.Cell.{Cell}
-use Rattle.module_box.specs.declared.schedules.AllTimes.{AllTimes}
-use Rattle.bbm_rule.proofs.BitLemmas.{by_lt_or_le}
-use Rattle.circuit.specs.Meaning.{Valuation}
-use Rattle.module_box.specs.Boxes.{in_box, in_halo}
-use Rattle.module_box.specs.Moments.{moment_cmp}
-use Rattle.module_box.specs.Schedules.{IsRising, Signals, event_at, all_times_at, moment_of, signal_at}
-use Rattle.module_box.specs.declared.schedules.TimedSignal.{TimedSignal}
-use Rattle.module_box.specs.declared.schedules.Moment.{Moment}
-use Rattle.module_box.specs.declared.schedules.Signal.TheVariants.{Zero}
-use Rattle.module_box.specs.Moves.{moved_signals}
-use Rattle.module_box.proofs.MovedBoxes.{signals_moved}
-use Rattle.module_box.specs.declared.schedules.Signal.{Signal}
-use Rattle.module_box.proofs.Rising.{all_times_found, all_times_none, event_found, event_none, is_first, moment_total}
-use Rattle.module_job.specs.Jobs.{JobView}
-use Rattle.module_job.specs.Signals.{is_live}
+use Rattle.local_run.proofs.Imports.{AllTimesSignal, Cell, Greater, HasSameSignalsAtOddTimes, IsOddOf, IsRising}
+use Rattle.local_run.proofs.Imports.{IsRunUnchangedUntil, IsTimePlaceBetween, JobView, Less, List, Moment, None, Option}
+use Rattle.local_run.proofs.Imports.{Signal, Signals, Some, State, TimedSignal, Valuation, Zero, all_times_at}
+use Rattle.local_run.proofs.Imports.{all_times_none, and_parts, ap, ap₂, arith, by_lt_or_le, common_steps, event_at}
+use Rattle.local_run.proofs.Imports.{event_none, false, false≢true, in_box, in_halo, inl, inr, is_at, is_first, is_live}
+use Rattle.local_run.proofs.Imports.{length, local_run, moment_cmp, moment_total, moved_signals, nat_cmp, partner, refl}
+use Rattle.local_run.proofs.Imports.{signal_at, signals_moved, slice_get, slice_get_within, step, subst, suc, sym, true}
+use Rattle.local_run.proofs.Imports.{unwrap_or, with_halo, zero, ℕ, ℤ, ◌%◌, ◌&&◌, ◌+ℤ◌, ◌+◌, ◌-◌, ◌<◌, ◌||◌, ◌∙◌, ◌≡◌}
+use Rattle.local_run.proofs.Imports.{◌≢◌, ◌≤◌}
+use Rattle.lemmas.proofs.Common.{int_itself, int_same}
+use Rattle.module_box.specs.Schedules.{moment_of}
+use Rattle.module_box.proofs.Rising.{all_times_found, event_found}
 use Rattle.local_run.specs.Laws.{QuietRunStaysUnchanged, QuietRunAddsNoEdgeFault}
-use Rattle.local_run.specs.Leaps.{HasNoEventsBetween, IsOddOf, HasSameSignalsAtOddTimes, IsTimeBetween}
-use Rattle.local_run.specs.Leaps.{IsRunUnchangedUntil}
-use Rattle.local_run.specs.Runs.{with_halo, local_run}
+use Rattle.local_run.specs.Leaps.{HasNoEventsBetween}
 use Rattle.local_run.proofs.LocalRuns.{even_or_odd, local_even, local_odd, step_all_same}
 
 -- ---- the signal of an event
@@ -38,18 +27,19 @@ at_itself : (c : Cell) → is_at c c.x c.y ≡ true
 at_itself c = rw (int_itself c.x, int_itself c.y) refl
 
 -- no signal at a place before k is at the cell
-abbrev pub AreOther : List AllTimes → Cell → ℕ → Type 0
-AreOther hs c k = (i : ℕ) (h : AllTimes) → i < k → slice_get hs i ≡ Some h → h.cell ≢ c
+abbrev pub AreOther : List AllTimesSignal → Cell → ℕ → Type 0
+AreOther hs c k = (i : ℕ) (h : AllTimesSignal) → i < k → slice_get hs i ≡ Some h → h.cell ≢ c
 
-pub one_more_other : (hs : List AllTimes) (c : Cell) (k : ℕ) (h : AllTimes) → slice_get hs k ≡ Some h →
+pub one_more_other : (hs : List AllTimesSignal) (c : Cell) (k : ℕ) (h : AllTimesSignal) → slice_get hs k ≡ Some h →
     is_at h.cell c.x c.y ≡ false → AreOther hs c k → AreOther hs c (k + 1)
 one_more_other hs c k h at differs other i g l e same = grind (arith, common_steps, by_lt_or_le, false≢true, at_itself)
 
-pub all_times_there : (hs : List AllTimes) (k : ℕ) (c : Cell) (h : AllTimes) → AreOther hs c k →
+pub all_times_there : (hs : List AllTimesSignal) (k : ℕ) (c : Cell) (h : AllTimesSignal) → AreOther hs c k →
     slice_get hs k ≡ Some h → is_at h.cell c.x c.y ≡ true → all_times_at hs c.x c.y ≡ Some h.signal
 all_times_there hs k c h other at same = grind (arith, common_steps, at_cell, all_times_found)
 
-pub all_times_nowhere : (hs : List AllTimes) (c : Cell) → AreOther hs c (length hs) → all_times_at hs c.x c.y ≡ None
+pub all_times_nowhere : (hs : List AllTimesSignal) (c : Cell) → AreOther hs c (length hs) →
+    all_times_at hs c.x c.y ≡ None
 all_times_nowhere hs c other = all_times_none hs c (λ i h e. other i h (slice_get_within hs i h e) e)
 
 pub steady_there : (s : Signals) (t : ℕ) (x y : ℤ) (v : Signal) → all_times_at s.all_times x y ≡ Some v →
@@ -157,12 +147,12 @@ no_new_faults j u t o n k x y of stays halos edges from l f =
     }
 
 -- ---- events by their times
-pub met : (es : List TimedSignal) (t low high : ℕ) → high ≤ low → IsTimeBetween es t low high →
-    IsTimeBetween es t low low
+pub met : (es : List TimedSignal) (t low high : ℕ) → high ≤ low → IsTimePlaceBetween es t low high →
+    IsTimePlaceBetween es t low low
 met es t low high l b = grind (arith, common_steps)
 
 -- before the search nothing is known, and then that events at a place and before it are earlier
-pub any_place : (es : List TimedSignal) (t : ℕ) → IsTimeBetween es t 0 (length es)
+pub any_place : (es : List TimedSignal) (t : ℕ) → IsTimePlaceBetween es t 0 (length es)
 any_place es t = grind (arith, common_steps, slice_get_within)
 
 nat_less : (a b : ℕ) → nat_cmp a b ≢ Greater → a ≤ b
@@ -186,36 +176,38 @@ later es i j a b rising le ea eb = by_lt_or_le i j
     same_event o a b ea eb = let e : a.at.time ≡ b.at.time = cc in omega arith
 
 pub raise_time : (es : List TimedSignal) (t low high m : ℕ) (a : TimedSignal) → IsRising moment_cmp moment_of es →
-    IsTimeBetween es t low high → slice_get es m ≡ Some a → a.at.time < t → IsTimeBetween es t (m + 1) high
+    IsTimePlaceBetween es t low high → slice_get es m ≡ Some a → a.at.time < t → IsTimePlaceBetween es t (m + 1) high
 raise_time es t low high m a rising b at less = grind (arith, common_steps, later)
 
 pub sure : (es : List TimedSignal) (t place : ℕ) (a : TimedSignal) → IsRising moment_cmp moment_of es → 0 < place →
-    slice_get es (place - 1) ≡ Some a → a.at.time < t → IsTimeBetween es t place (length es)
+    slice_get es (place - 1) ≡ Some a → a.at.time < t → IsTimePlaceBetween es t place (length es)
 sure es t place a rising some at less =
     let e : place - 1 + 1 ≡ place = omega arith in
-    subst (λ n. IsTimeBetween es t n (length es)) e
+    subst (λ n. IsTimePlaceBetween es t n (length es)) e
     (raise_time es t 0 (length es) (place - 1) a rising (any_place es t) at less)
 
 pub drop_time : (es : List TimedSignal) (t low high m : ℕ) (a : TimedSignal) → IsRising moment_cmp moment_of es →
-    IsTimeBetween es t low high → slice_get es m ≡ Some a → t ≤ a.at.time → IsTimeBetween es t low m
+    IsTimePlaceBetween es t low high → slice_get es m ≡ Some a → t ≤ a.at.time → IsTimePlaceBetween es t low m
 drop_time es t low high m a rising b at le = grind (arith, common_steps, later)
 
 -- the bounds have met at an event: there is none between t and its time
 pub none_until : (es : List TimedSignal) (t low high n : ℕ) (a : TimedSignal) → IsRising moment_cmp moment_of es →
-    IsTimeBetween es t low high → high ≤ low → slice_get es low ≡ Some a → n ≤ a.at.time → HasNoEventsBetween es t n
+    IsTimePlaceBetween es t low high → high ≤ low → slice_get es low ≡ Some a → n ≤ a.at.time →
+    HasNoEventsBetween es t n
 none_until es t low high n a rising b met at le i e ei from to = grind (arith, common_steps, by_lt_or_le, later)
 
 pub none_before : (es : List TimedSignal) (t low high : ℕ) (a : TimedSignal) → IsRising moment_cmp moment_of es →
-    IsTimeBetween es t low high → high ≤ low → slice_get es low ≡ Some a → HasNoEventsBetween es t a.at.time
+    IsTimePlaceBetween es t low high → high ≤ low → slice_get es low ≡ Some a → HasNoEventsBetween es t a.at.time
 none_before es t low high a rising b met at = none_until es t low high a.at.time a rising b met at (omega arith)
 
 -- that time is not before t
-pub above_at : (es : List TimedSignal) (t low high : ℕ) (a : TimedSignal) → IsTimeBetween es t low high → high ≤ low →
+pub above_at : (es : List TimedSignal) (t low high : ℕ) (a : TimedSignal) → IsTimePlaceBetween es t low high →
+    high ≤ low →
     slice_get es low ≡ Some a → t ≤ a.at.time
 above_at es t low high a b met at = b.above low a met at
 
 -- or at the end
-pub none_at_all : (es : List TimedSignal) (t low high n : ℕ) → IsTimeBetween es t low high → length es ≤ low →
+pub none_at_all : (es : List TimedSignal) (t low high n : ℕ) → IsTimePlaceBetween es t low high → length es ≤ low →
     HasNoEventsBetween es t n
 none_at_all es t low high n b met i e ei from to = grind (arith, common_steps, by_lt_or_le, slice_get_within)
 

@@ -1,17 +1,12 @@
 -- Runs under all assignments that leap over times
-use Rattle.lemmas.proofs.Common.{◌%◌, ◌+◌, ◌-◌, ◌<◌, ◌||◌, ◌∙◌, ◌≡◌, ◌≤◌, ◌⊎◌, Bool, arith, false, inl, inr}
-use Rattle.lemmas.proofs.Common.{subst, sym, ℕ, ℤ, and_parts, cases_Bool, common_steps, or_parts}
-use Rattle.bbm_rule.specs.Spans.{in_span}
-use Rattle.bbm_rule.proofs.BitLemmas.{by_lt_or_le, by_eq_or_not}
-use Rattle.module_box.specs.Boxes.{in_box}
-use Rattle.module_job.specs.Jobs.{JobView, IsJob}
-use Rattle.local_run.specs.Faults.{assignments}
-use Rattle.local_run.specs.Leaps.{IsLeap, IsOddOf, HasSameSignalsAtOddTimes, IsRunUnchangedUntil}
-use Rattle.local_run.specs.Runs.{local_run}
-use Rattle.local_run.specs.Places.{box_coord}
-use Rattle.local_run.specs.Scans.{IsNextStop, IsPassed, IsReady, Shows, valuation}
-use Rattle.local_run.specs.declared.planes.Planes.{Planes}
-use Rattle.local_run.specs.declared.values.Values.{Values}
+use Rattle.local_run.proofs.Imports.{Bool, HasSameSignalsAtOddTimes, IsJob, IsNextStop, IsOddOf, IsReady}
+use Rattle.local_run.proofs.Imports.{IsRunUnchangedUntil, JobView, Planes, Shows, Values, and_parts, arith, assignments}
+use Rattle.local_run.proofs.Imports.{box_coord, by_eq_or_not, by_lt_or_le, cases_Bool, common_steps, false, in_box}
+use Rattle.local_run.proofs.Imports.{in_span, inl, inr, local_run, subst, sym, valuation, ℕ, ℤ, ◌%◌, ◌+◌, ◌-◌, ◌<◌}
+use Rattle.local_run.proofs.Imports.{◌||◌, ◌∙◌, ◌≡◌, ◌≤◌, ◌⊎◌}
+use Rattle.lemmas.proofs.Common.{or_parts}
+use Rattle.local_run.specs.Leaps.{IsLeap}
+use Rattle.local_run.specs.Scans.{IsPassed}
 use Rattle.local_run.proofs.Firsts.{span_at}
 use Rattle.local_run.proofs.LeapLemmas.{quiet_runs, no_new_faults}
 use Rattle.local_run.proofs.Leasts.{AreFreeBefore, free_more}

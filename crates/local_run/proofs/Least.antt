@@ -1,15 +1,10 @@
 -- A job has one least fault
-use Rattle.lemmas.proofs.Common.{◌≡◌, ◌≢◌, Equal, Greater, Less, None, Ordering, Some, ap, arith, refl, suc, zero, ℕ, ℤ}
-use Rattle.lemmas.proofs.Common.{CmpEqualImpliesEq, IsTotalOrder, common_steps, exact_pairs, exact_signed}
-use Rattle.lemmas.proofs.Common.{exact_unsigned, int_cmp_total, nat_cmp_total, on_total, ordering_reverse, then_total}
-use Rattle.local_run.specs.Order.{kind_number, fault_cmp, keep_cmp}
-use Rattle.module_box.specs.Moments.{cell_cmp}
-use Rattle.bbm_rule.specs.declared.block.Cell.{Cell}
+use Rattle.local_run.proofs.Imports.{Cell, Edge, End, Equal, Fault, Greater, KeepFault, Kind, Less, None, Ordering}
+use Rattle.local_run.proofs.Imports.{Some, Stop, ap, arith, cell_cmp, common_steps, fault_cmp, keep_cmp, kind_number}
+use Rattle.local_run.proofs.Imports.{refl, suc, zero, ℕ, ℤ, ◌≡◌, ◌≢◌}
+use Rattle.lemmas.proofs.Common.{CmpEqualImpliesEq, IsTotalOrder, exact_pairs, exact_signed, exact_unsigned}
+use Rattle.lemmas.proofs.Common.{int_cmp_total, nat_cmp_total, on_total, ordering_reverse, then_total}
 use Rattle.local_run.specs.Laws.{LeastFaultIsUnique, LeastKeepFaultIsUnique}
-use Rattle.local_run.specs.declared.fault.Fault.{Fault}
-use Rattle.local_run.specs.declared.fault.KeepFault.{KeepFault}
-use Rattle.local_run.specs.declared.fault.Kind.{Kind}
-use Rattle.local_run.specs.declared.fault.Kind.TheVariants.{Edge, Stop, End}
 
 cell_total : IsTotalOrder cell_cmp
 unfolding cell_cmp
@@ -60,9 +55,7 @@ pub least_unique : LeastFaultIsUnique
 least_unique j None None f g = refl
 least_unique j None (Some b) f g = absurd (f b g.0)
 least_unique j (Some a) None f g = absurd (g a f.0)
-least_unique j (Some a) (Some b) f g =
-    ap Some (fault_exact a b (both_ways (fault_cmp a b) (fault_cmp b a) (fault_total.antisymm a b) (f.1 b g.0)
-    (g.1 a f.0)))
+least_unique j (Some a) (Some b) f g = grind (arith, common_steps, fault_exact, both_ways, fault_total)
 
 keep_total : IsTotalOrder keep_cmp
 unfolding keep_cmp
@@ -77,5 +70,4 @@ pub least_keep_unique : LeastKeepFaultIsUnique
 least_keep_unique j None None f g = refl
 least_keep_unique j None (Some b) f g = absurd (f b g.0)
 least_keep_unique j (Some a) None f g = absurd (g a f.0)
-least_keep_unique j (Some a) (Some b) f g =
-    ap Some (keep_exact a b (both_ways (keep_cmp a b) (keep_cmp b a) (keep_total.antisymm a b) (f.1 b g.0) (g.1 a f.0)))
+least_keep_unique j (Some a) (Some b) f g = grind (arith, common_steps, keep_exact, both_ways, keep_total)

@@ -1,28 +1,20 @@
 -- From the first fault of a time and a kind to the least fault of the job
-use Rattle.lemmas.proofs.Common.{◌%◌, ◌+◌, ◌<ℤ◌, ◌<◌, ◌↔◌, ◌∙◌, ◌≡◌, ◌≢◌, ◌≤◌, ◌⊎◌, All, Equal, Greater, IsTrue, Less}
-use Rattle.lemmas.proofs.Common.{MatchOption, None, Option, Ordering, Some, arith, false, inl, inr, int_cmp, length}
-use Rattle.lemmas.proofs.Common.{nat_cmp, refl, subst, sym, true, true≢false, ℕ, ℤ, cases_Bool, cases_lt, common_steps}
-use Rattle.lemmas.proofs.Common.{ordering_then, props, slice_get_within, ∥∥₁_elim, int_equal, nat_equal}
-use Rattle.module_box.specs.Locals.{is_among}
-use Rattle.bbm_rule.specs.Bits.{bit}
+use Rattle.local_run.proofs.Imports.{All, AreRowsAt, Edge, End, Equal, Fault, Greater, HasNoFaultOfKind, IsFault}
+use Rattle.local_run.proofs.Imports.{IsFaultWhereDefined, IsFirstOfKind, IsKeepFault, IsLeastBelow, IsLeastFault}
+use Rattle.local_run.proofs.Imports.{IsReady, IsTrue, JobView, KeepFault, Kind, Less, None, Option, Ordering, Some}
+use Rattle.local_run.proofs.Imports.{Stop, Values, arith, assignments, bit, by_lt_or_le, cases_Bool, cases_lt, cell_cmp}
+use Rattle.local_run.proofs.Imports.{common_steps, false, fault_cmp, inl, inr, int_equal, is_among, is_defined_under}
+use Rattle.local_run.proofs.Imports.{keep_cmp, kind_number, length, nat_cmp, nat_equal, ordering_then, props, refl}
+use Rattle.local_run.proofs.Imports.{slice_get_within, subst, sym, true, true≢false, valuation, value_of, ℕ, ℤ}
+use Rattle.local_run.proofs.Imports.{∥∥₁_elim, ◌%◌, ◌+◌, ◌<ℤ◌, ◌<◌, ◌∙◌, ◌≡◌, ◌≢◌, ◌≤◌, ◌⊎◌}
+use Rattle.lemmas.proofs.Common.{◌↔◌, MatchOption, int_cmp}
 use Rattle.circuit.proofs.Undefined.{undefined_has_none}
-use Rattle.module_box.specs.LocalValues.{AreRowsAt, value_of}
-use Rattle.bbm_rule.proofs.BitLemmas.{by_lt_or_le}
-use Rattle.module_box.specs.Moments.{cell_cmp}
 use Rattle.circuit.specs.Meaning.{IsUndefined}
-use Rattle.module_job.specs.Jobs.{JobView}
-use Rattle.module_job.specs.declared.job.Stop as listed
-use Rattle.local_run.specs.Order.{kind_number, fault_cmp, keep_cmp}
-use Rattle.local_run.specs.Faults.{IsFault, IsKeepFault, IsLeastFault, IsLeastKeepFault, assignments}
-use Rattle.local_run.specs.declared.fault.Fault.{Fault}
-use Rattle.local_run.specs.declared.fault.KeepFault.{KeepFault}
-use Rattle.local_run.specs.declared.fault.Kind.{Kind}
-use Rattle.local_run.specs.declared.fault.Kind.TheVariants.{Edge, Stop, End}
-use Rattle.local_run.proofs.Decided.{decided}
+use Rattle.local_run.specs.Faults.{IsLeastKeepFault}
 use Rattle.local_run.specs.Laws.{NoFaultWhereUndefined}
-use Rattle.local_run.specs.Scans.{HasNoEdgeFaultAtOddTime, IsReady, IsFirst, IsFirstFaultAt, IsFaultWhereDefined}
-use Rattle.local_run.specs.Scans.{HasNoFaultOfKind, IsLeastBelow, is_defined_under, valuation}
-use Rattle.local_run.specs.declared.values.Values.{Values}
+use Rattle.local_run.specs.Scans.{HasNoEdgeFaultAtOddTime, IsFirstFaultAt}
+use Rattle.local_run.proofs.Decided.{decided}
+use Rattle.module_job.specs.declared.job.Stop as listed
 
 nat_greater : (a b : ℕ) → nat_cmp a b ≡ Greater → b < a
 nat_greater a b h = grind arith
@@ -89,7 +81,7 @@ shown : (j : JobView) (vs : Values) (f : Fault) → IsReady j vs → f.assignmen
 shown j vs f ready small h = (decided j f (valuation vs f.assignment) ready.job ready.ordered small
     ((rows_at j vs f.assignment ready small).local h.0)).1 h.1
 
-first_least : (j : JobView) (vs : Values) (f : Fault) → IsReady j vs → IsFirst j vs f.time f.kind f →
+first_least : (j : JobView) (vs : Values) (f : Fault) → IsReady j vs → IsFirstOfKind j vs f.time f.kind f →
     ((g : Fault) → IsFault j g → ¬ (g.time < f.time)) →
     ((g : Fault) → IsFault j g → f.time ≡ g.time → ¬ (kind_number g.kind < kind_number f.kind)) →
     IsLeastFault j (Some f)
@@ -119,9 +111,7 @@ pub record AreFreeBefore (j : JobView) (vs : Values) (t : ℕ) : Type 0 where
 pub free_more : (j : JobView) (vs : Values) (t : ℕ) → AreFreeBefore j vs t → HasNoEdgeFaultAtOddTime j vs t →
     HasNoFaultOfKind j vs t Stop → AreFreeBefore j vs (t + 1)
 free_more j vs t free edges stops = record {
-  edges = λ s l odd. by_lt_or_le s t (λ h. free.edges s h odd)
-      (λ h. let e : t ≡ s = omega (arith, l, h) in
-      subst (λ (n : ℕ). HasNoFaultOfKind j vs n Edge) e (edges (subst (λ (n : ℕ). n % 2 ≡ 1) (sym e) odd)));
+  edges = grind (arith, common_steps, by_lt_or_le);
   stops = λ s l. by_lt_or_le s t (λ h. free.stops s h)
       (λ h. let e : t ≡ s = omega (arith, l, h) in subst (λ (n : ℕ). HasNoFaultOfKind j vs n Stop) e stops);
 }
@@ -138,13 +128,13 @@ none_before : (j : JobView) (vs : Values) (t : ℕ) → IsReady j vs → t ≤ j
 none_before j vs t ready early free f h l =
     before_free j vs t early free f.time f.kind f.cell.x f.cell.y f.assignment h.in_range (under j vs f ready h) l
 
-is_first : (j : JobView) (vs : Values) (t : ℕ) (k : Kind) (f : Fault) → IsFirst j vs t k f →
-    IsFirst j vs f.time f.kind f
+is_first : (j : JobView) (vs : Values) (t : ℕ) (k : Kind) (f : Fault) → IsFirstOfKind j vs t k f →
+    IsFirstOfKind j vs f.time f.kind f
 is_first j vs t k f first = grind (arith, common_steps)
 
 -- from the first fault of a kind at a time, where the kinds before it have no fault at the time
 least_at : (j : JobView) (vs : Values) (t : ℕ) (k : Kind) (f : Fault) → IsReady j vs → t ≤ j.steps →
-    AreFreeBefore j vs t → IsFirst j vs t k f →
+    AreFreeBefore j vs t → IsFirstOfKind j vs t k f →
     ((l : Kind) (x y : ℤ) (a : ℕ) → a < assignments j → IsFaultWhereDefined j vs a t l x y →
     ¬ (kind_number l < kind_number k)) →
     IsLeastFault j (Some f)
@@ -185,7 +175,7 @@ early_least j vs t f ready early free (inr stop) =
 
 -- the first fault of a stop at the last time
 pub last_stop_least : (j : JobView) (vs : Values) (f : Fault) → IsReady j vs → AreFreeBefore j vs j.steps →
-    IsFirst j vs j.steps Stop f → IsLeastFault j (Some f)
+    IsFirstOfKind j vs j.steps Stop f → IsLeastFault j (Some f)
 last_stop_least j vs f ready free first =
     least_at j vs j.steps Stop f ready (omega arith) free first (none_below_stop j vs j.steps (no_last_edge j vs))
 
@@ -202,13 +192,12 @@ none_left j vs free stops ends timed t Stop x y a small d =
     let time = d.1.time in
     let e : t ≡ j.steps = omega (arith, here, time, h) in
     stops x y a small (subst (λ (n : ℕ). IsFaultWhereDefined j vs a n Stop x y) e d))
-none_left j vs free stops ends timed t End x y a small d =
-    ends x y a small (subst (λ (n : ℕ). IsFaultWhereDefined j vs a n End x y) d.1.last d)
+none_left j vs free stops ends timed t End x y a small d = grind (arith, common_steps)
 
 -- the first fault of a demand, or none
 pub end_least_fault : (j : JobView) (vs : Values) (o : Option Fault) → IsReady j vs → AreFreeBefore j vs j.steps →
     HasNoFaultOfKind j vs j.steps Stop →
-    MatchOption o (HasNoFaultOfKind j vs j.steps End) (λ f. IsFirst j vs j.steps End f) → IsLeastFault j o
+    MatchOption o (HasNoFaultOfKind j vs j.steps End) (λ f. IsFirstOfKind j vs j.steps End f) → IsLeastFault j o
 end_least_fault j vs (Some f) ready free stops first =
     least_at j vs j.steps End f ready (omega arith) free first (none_below_end j vs stops)
 end_least_fault j vs None ready free stops ends = λ g h.

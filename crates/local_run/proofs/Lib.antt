@@ -4,18 +4,7 @@ pub mod OwnWires
 pub mod LocalRuns
 pub mod Decided
 pub mod Least
-pub mod LaneLemmas
-pub mod HeldLemmas
-pub mod MarkFlips
-pub mod MarkSearch
 pub mod Scans
-pub mod TurnLemmas
-pub mod CalmLemmas
-pub mod LiveLemmas
-pub mod InsideLemmas
-pub mod FieldLemmas
-pub mod RunLemmas
-pub mod FrozenLemmas
 pub mod QuietLemmas
 pub mod Firsts
 pub mod Stepping
@@ -26,3 +15,4 @@ pub mod Leasts
 pub mod LeapRuns
 pub mod MovedJobs
 pub mod SameHalos
+pub mod Imports

@@ -1,17 +1,12 @@
 -- The run of a module: its two steps, that it stays in its box, and which wires it reads
-use Rattle.lemmas.proofs.Common.{◌%◌, ◌&&◌, ◌<◌, ◌||◌, ◌∙◌, ◌≡◌, ◌⊎◌, ap, ap₂, arith, eq-eqb, inl, inr, ne_eqb, refl}
-use Rattle.lemmas.proofs.Common.{suc, sym, zero, ℕ, ℤ, cases_eq, cond-false, cond-true}
-use Rattle.bbm_rule.specs.Plane.{State, step}
+use Rattle.local_run.proofs.Imports.{IsSignalWireBelow, JobView, NamesOwnWires, One, Signal, State, Valuation, Wire}
+use Rattle.local_run.proofs.Imports.{Zero, ap, ap₂, arith, cond-false, cond-true, eq-eqb, in_box, in_halo, inl, inr}
+use Rattle.local_run.proofs.Imports.{is_live, local_run, ne_eqb, refl, signal_at, step, suc, sym, wires, with_halo}
+use Rattle.local_run.proofs.Imports.{zero, ℕ, ℤ, ◌%◌, ◌&&◌, ◌<◌, ◌||◌, ◌∙◌, ◌≡◌, ◌⊎◌}
+use Rattle.lemmas.proofs.Common.{cases_eq}
 use Rattle.bbm_rule.proofs.Steps.{step_same}
-use Rattle.circuit.specs.Meaning.{Valuation, wires}
-use Rattle.module_box.specs.Boxes.{in_box, in_halo}
-use Rattle.module_box.specs.Schedules.{signal_at}
-use Rattle.module_box.specs.declared.schedules.Signal.{Signal}
-use Rattle.module_box.specs.declared.schedules.Signal.TheVariants.{Zero, One, Wire}
 use Rattle.module_box.proofs.BoxSteps.{even_stays}
-use Rattle.module_job.specs.Jobs.{JobView, NamesOwnWires}
-use Rattle.module_job.specs.Signals.{is_live, IsSignalWireBelow}
-use Rattle.local_run.specs.Runs.{with_halo, local_step, local_run}
+use Rattle.local_run.specs.Runs.{local_step}
 use Rattle.local_run.specs.Laws.{LocalRunStaysInBox}
 use Rattle.local_run.proofs.OwnWires.{start_below, halo_below, start_outside}
 

@@ -1,37 +1,26 @@
 -- Jobs of the same shape have the same faults but for where they lie
-use Rattle.lemmas.proofs.Common.{[], ◌%◌, ◌&&◌, ◌+ℤ◌, ◌+◌, ◌-ℤ◌, ◌-◌, ◌<◌, ◌^◌, ◌||◌, ◌∙◌, ◌∷◌, ◌≡◌, ◌≤◌, Contains}
-use Rattle.lemmas.proofs.Common.{List, None, Some, ap, ap₂, arith, if◌then◌else◌, inl, inr, map, pos, refl, slice_get}
-use Rattle.lemmas.proofs.Common.{subst, suc, sym, true, unwrap_or, zero, ℕ, ℤ, and_parts, cases_Bool, common_steps}
-use Rattle.lemmas.proofs.Common.{ints, props, ∥∥₁_elim, ∥∥₁_map}
-use Rattle.bbm_rule.specs.Bits.{bit}
+use Rattle.local_run.proofs.Imports.{Box2, Contains, Edge, End, Fault, HasFault, IsFault, IsFaultUnder, IsJob}
+use Rattle.local_run.proofs.Imports.{IsKeepFault, JobView, KeepFault, Kind, List, Netlist, None, Satisfies, ShapeView}
+use Rattle.local_run.proofs.Imports.{Signals, Some, State, Stop, Valuation, [], and_parts, ap, ap₂, arith, bit}
+use Rattle.local_run.proofs.Imports.{cases_Bool, common_steps, fault_cmp, if◌then◌else◌, in_box, in_ring, inl, inr}
+use Rattle.local_run.proofs.Imports.{ints, is_live, job_demand, job_start, local_run, moved_signals, place_in, pos}
+use Rattle.local_run.proofs.Imports.{props, refl, shape_of, shift_to_origin, signal_at, signals_moved, slice_get, subst}
+use Rattle.local_run.proofs.Imports.{suc, sym, true, unwrap_or, with_halo, zero, ℕ, ℤ, ∥∥₁_elim, ∥∥₁_map, ◌%◌, ◌&&◌}
+use Rattle.local_run.proofs.Imports.{◌+ℤ◌, ◌+◌, ◌-ℤ◌, ◌-◌, ◌<◌, ◌^◌, ◌||◌, ◌∙◌, ◌∷◌, ◌≡◌, ◌≤◌}
+use Rattle.lemmas.proofs.Common.{map}
 use Rattle.bbm_rule.specs.Moves.{IsMoved}
-use Rattle.bbm_rule.specs.Plane.{State, parity}
+use Rattle.bbm_rule.specs.Plane.{parity}
 use Rattle.bbm_rule.proofs.Moving.{parity_moved, step_moved}
-use Rattle.circuit.specs.Meaning.{Netlist, Satisfies, Valuation}
-use Rattle.module_box.specs.Boxes.{IsEven, in_box, in_ring}
-use Rattle.module_box.specs.Moves.{BoxMovesAlong, IsMovedBox, IsInShiftRange, IsSmallShift, moved_cell, moved_signals}
-use Rattle.module_box.specs.Schedules.{Signals, signal_at}
-use Rattle.module_box.specs.declared.boxes.Box2.{Box2}
-use Rattle.module_box.specs.declared.schedules.Signal.TheVariants.{Zero}
+use Rattle.bbm_rule.specs.Boxes.{IsEven}
+use Rattle.module_box.specs.Moves.{BoxMovesAlong, IsMovedBox, IsInShiftRange, IsSmallShift, moved_cell}
 use Rattle.module_box.proofs.BoxCells.{in_box_nats}
-use Rattle.module_box.proofs.MovedBoxes.{boxes_moved, cell_back, cell_cmp_moved, signals_moved}
-use Rattle.module_job.specs.Jobs.{JobView, IsJob, job_demand, job_start}
-use Rattle.module_box.specs.Places.{place_in}
-use Rattle.module_job.specs.Shapes.{ShapeView, shift_to_origin, moved_stop, shape_of}
-use Rattle.module_job.specs.Signals.{MeetsDemand, is_live}
-use Rattle.module_job.specs.declared.job.Demand.TheVariants as Demanded
-use Rattle.module_job.specs.declared.job.Stop as listed
+use Rattle.module_box.proofs.MovedBoxes.{boxes_moved, cell_back, cell_cmp_moved}
+use Rattle.module_job.specs.Shapes.{moved_stop}
 use Rattle.module_job.proofs.ShapeParts.{back_forth, stops_back}
-use Rattle.local_run.specs.Faults.{HasFault, IsFault, IsFaultUnder, IsKeepFault}
 use Rattle.local_run.specs.Moves.{FaultsMoveWithJob, LeastFaultMovesWithJob, SameShapeSameLeastKeepFault}
 use Rattle.local_run.specs.Moves.{columns_between, fault_moved_to_job, rows_between}
-use Rattle.local_run.specs.Order.{fault_cmp}
-use Rattle.local_run.specs.Runs.{local_run, with_halo}
-use Rattle.local_run.specs.declared.fault.Fault.{Fault}
-use Rattle.local_run.specs.declared.fault.KeepFault.{KeepFault}
-use Rattle.local_run.specs.declared.fault.Kind.{Kind}
-use Rattle.local_run.specs.declared.fault.Kind.TheVariants.{Edge, Stop, End}
 use Rattle.local_run.proofs.LocalRuns.{even_or_odd, local_even, local_odd}
+use Rattle.module_job.specs.declared.job.Stop as listed
 
 -- ---- what is alike in two jobs where the faults of one are those of the other, moved
 record AreAlike (dx dy : ℤ) (j k : JobView) : Type 0 where
@@ -71,12 +60,7 @@ contains_mapped f xs x h = grind (arith, common_steps)
 
 under_alike : (dx dy : ℤ) (j k : JobView) → AreAlike dx dy j k → (u : Valuation) (t : ℕ) (kind : Kind) (x y : ℤ) →
     IsFaultUnder j u t kind x y → IsFaultUnder k u t kind (x +ℤ dx) (y +ℤ dy)
-under_alike dx dy j k a u t Edge x y f = record {
-  odd = f.odd;
-  early = subst (λ s. t < s) a.steps f.early;
-  ring = a.area.ring x y ∙ f.ring;
-  differs = λ e. f.differs (sym (run_alike dx dy j k a u t x y) ∙ e ∙ ap (is_live u) (a.edges t x y));
-}
+under_alike dx dy j k a u t Edge x y f = grind (arith, common_steps, run_alike)
 under_alike dx dy j k a u t Stop x y f = record {
   stop = moved_stop dx dy f.stop;
   is_listed = subst (λ (l : List listed.Stop). Contains l (moved_stop dx dy f.stop)) (sym a.stops)
@@ -86,12 +70,7 @@ under_alike dx dy j k a u t Stop x y f = record {
   row = ap (λ z. z +ℤ dy) f.row;
   differs = λ e. f.differs (sym (run_alike dx dy j k a u t x y) ∙ e);
 }
-under_alike dx dy j k a u t End x y f = record {
-  last = f.last ∙ a.steps;
-  inside = a.area.box x y ∙ f.inside;
-  differs = λ m. f.differs (subst (λ d. MeetsDemand u d (local_run j u t x y)) (a.demand x y)
-      (subst (MeetsDemand u (job_demand k (x +ℤ dx) (y +ℤ dy))) (run_alike dx dy j k a u t x y) m));
-}
+under_alike dx dy j k a u t End x y f = grind (arith, common_steps, run_alike)
 
 moved_fault : ℤ → ℤ → Fault → Fault
 moved_fault dx dy f = record { time = f.time; kind = f.kind; cell = moved_cell dx dy f.cell; assignment = f.assignment }
@@ -178,24 +157,16 @@ alike j k ej ek same =
       area = along;
       steps = ap (λ (s : ShapeView). s.steps) same;
       netlist = ap (λ (s : ShapeView). s.netlist) same;
-      start = looked_up dx dy j.area k.area Zero j.starts k.starts box along
-          (ap (λ (s : ShapeView). s.starts) (sym same));
-      demand = looked_up dx dy j.area k.area Demanded.Dead j.demands k.demands box along
-          (ap (λ (s : ShapeView). s.demands) (sym same));
+      start = grind (arith, common_steps, looked_up);
+      demand = grind (arith, common_steps, looked_up);
       edges = carried_on j.area.x k.area.x j.area.y k.area.y j.edges k.edges (ap (λ (s : ShapeView). s.edges) same);
       halos = carried_on j.area.x k.area.x j.area.y k.area.y j.halos k.halos (ap (λ (s : ShapeView). s.halos) same);
-      stops =
-          sym (stops_back (shift_to_origin k.area.x) (shift_to_origin k.area.y) (pos k.area.x) (pos k.area.y) k.stops
-          (back_forth k.area.x)
-          (back_forth k.area.y))
-          ∙ ap (map (moved_stop (pos k.area.x) (pos k.area.y))) (ap (λ (s : ShapeView). s.stops) (sym same))
-          ∙ stops_twice j.area.x k.area.x j.area.y k.area.y j.stops;
+      stops = grind (arith, common_steps, stops_back, back_forth, map, stops_twice);
     }
 
 pub faults_moved : FaultsMoveWithJob
 unfolding moved_fault
-faults_moved j k f is_j is_k same is =
-    fault_alike (columns_between j k) (rows_between j k) j k (alike j k is_j.even is_k.even same) f is
+faults_moved j k f is_j is_k same is = grind (arith, common_steps, fault_alike, alike)
 
 -- ---- the least fault
 there_and_back : (a b : ℕ) → (pos b -ℤ pos a) +ℤ (pos a -ℤ pos b) ≡ pos 0
@@ -224,8 +195,7 @@ keep_stays j k f same is = grind (arith, common_steps)
 
 pub least_keep_stays : SameShapeSameLeastKeepFault
 least_keep_stays j k None same least = λ f is. least f (keep_stays k j f (sym same) is)
-least_keep_stays j k (Some f) same least =
-    (keep_stays j k f same least.0, λ g is. least.1 g (keep_stays k j g (sym same) is))
+least_keep_stays j k (Some f) same least = grind (arith, common_steps, keep_stays)
 
 -- ---- the cell of a fault is in the box, and so near
 under_inside : (j : JobView) (u : Valuation) (t : ℕ) (kind : Kind) (x y : ℤ) → IsJob j → IsFaultUnder j u t kind x y →

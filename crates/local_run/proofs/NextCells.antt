@@ -1,25 +1,12 @@
 -- Cells of a row that are known to be dead
-use Rattle.lemmas.proofs.Common.{◌*◌, ◌+◌, ◌<◌, ◌∙◌, ◌≡◌, ◌≤◌, Bool, ap, arith, false, if◌then◌else◌, refl, slice_get}
-use Rattle.lemmas.proofs.Common.{sym, true, unwrap_or, ℕ, ℤ, common_steps}
-use Rattle.circuit.specs.Meaning.{Valuation}
-use Rattle.module_box.specs.Places.{place_in}
-use Rattle.module_box.specs.declared.boxes.Box2.{Box2}
-use Rattle.module_box.specs.declared.schedules.Signal.TheVariants.{Zero}
-use Rattle.module_job.specs.Jobs.{JobView, job_demand, job_start}
-use Rattle.module_job.specs.Signals.{is_live}
-use Rattle.module_job.specs.declared.job.Demand.TheVariants as Demanded
-use Rattle.local_run.specs.Faults.{assignments}
-use Rattle.local_run.specs.Lanes.{lane}
-use Rattle.local_run.specs.Places.{box_coord}
-use Rattle.local_run.specs.Runs.{local_run}
-use Rattle.local_run.specs.Scans.{IsReady, IsKindSoughtAt, IsScanStride, Shows}
-use Rattle.local_run.specs.declared.fault.Kind.{Kind}
-use Rattle.local_run.specs.declared.fault.Kind.TheVariants.{End}
-use Rattle.local_run.specs.declared.planes.Planes.{Planes}
-use Rattle.local_run.specs.declared.values.Values.{Values}
-use Rattle.bbm_rule.proofs.BitLemmas.{by_eq_or_not, by_lt_or_le}
+use Rattle.local_run.proofs.Imports.{Bool, Box2, End, IsKindSoughtAt, IsReady, IsScanStride, JobView, Kind, Planes}
+use Rattle.local_run.proofs.Imports.{Shows, Valuation, Values, Zero, ap, arith, assignments, box_coord, by_eq_or_not}
+use Rattle.local_run.proofs.Imports.{by_lt_or_le, common_steps, false, if◌then◌else◌, is_live, job_demand, job_start}
+use Rattle.local_run.proofs.Imports.{lane, local_run, place_in, refl, slice_get, sym, true, unwrap_or, ℕ, ℤ, ◌*◌, ◌+◌}
+use Rattle.local_run.proofs.Imports.{◌<◌, ◌∙◌, ◌≡◌, ◌≤◌}
 use Rattle.local_run.proofs.Firsts.{FreeAt, IsAtEnd, end_least, inner_in_box}
 use Rattle.local_run.proofs.Stepping.{run_start}
+use Rattle.module_job.specs.declared.job.Demand.TheVariants as Demanded
 
 either : {A : Type 0} (b : Bool) (s t : A) → s ≡ t → (if b then s else t) ≡ t
 either true s t e = e
@@ -41,7 +28,7 @@ pub demand_dead : (j : JobView) (x y : ℕ) →
 unfolding job_demand
 demand_dead j x y none = grind (arith, common_steps, either, placed)
 
--- such a cell is dead at time 0
+-- a cell that starts as `Zero` is dead at time 0
 pub dead_start : (j : JobView) (u : Valuation) (x y : ℤ) → job_start j x y ≡ Zero → false ≡ local_run j u 0 x y
 dead_start j u x y none = sym (ap (is_live u) none) ∙ run_start j u x y
 

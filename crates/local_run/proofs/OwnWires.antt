@@ -1,17 +1,10 @@
 -- Each wire that a job names is one of its own, at each cell and time
-use Rattle.lemmas.proofs.Common.{[], ◌∷◌, ◌≡◌, All, Bool, List, false, if◌then◌else◌, inl, inr, slice_get, suc}
-use Rattle.lemmas.proofs.Common.{true, unwrap_or, zero, ℕ, ℤ, cases_Bool, cond-false, All-head, All-tail}
-use Rattle.bbm_rule.specs.Plane.{is_at}
-use Rattle.circuit.specs.Meaning.{wires}
-use Rattle.module_box.specs.Boxes.{in_box}
-use Rattle.module_box.specs.Schedules.{Signals, is_moment_at, all_times_at, event_at, signal_at}
-use Rattle.module_box.specs.declared.schedules.TimedSignal.{TimedSignal}
-use Rattle.module_box.specs.declared.schedules.AllTimes.{AllTimes}
-use Rattle.module_box.specs.declared.schedules.Signal.{Signal}
-use Rattle.module_box.specs.declared.schedules.Signal.TheVariants.{Zero}
-use Rattle.module_job.specs.Jobs.{JobView, NamesOwnWires, job_start, job_demand}
-use Rattle.module_box.specs.Places.{place_in}
-use Rattle.module_job.specs.Signals.{IsSignalWireBelow, IsDemandWireBelow}
+use Rattle.local_run.proofs.Imports.{All, AllTimesSignal, Bool, IsDemandWireBelow, IsSignalWireBelow, JobView, List}
+use Rattle.local_run.proofs.Imports.{NamesOwnWires, Signal, Signals, TimedSignal, Zero, [], all_times_at, cases_Bool}
+use Rattle.local_run.proofs.Imports.{cond-false, event_at, false, if◌then◌else◌, in_box, inl, inr, is_at, is_moment_at}
+use Rattle.local_run.proofs.Imports.{job_demand, job_start, place_in, signal_at, slice_get, suc, true, unwrap_or, wires}
+use Rattle.local_run.proofs.Imports.{zero, ℕ, ℤ, ◌∷◌, ◌≡◌}
+use Rattle.lemmas.proofs.Common.{All-head, All-tail}
 use Rattle.module_job.specs.declared.job.Demand.TheVariants as Demanded
 
 -- an element of a list, or another value
@@ -25,14 +18,14 @@ chosen : {A : Type 0} (P : A → Type 0) (b : Bool) (x y : A) → P x → P y �
 chosen P true x y h k = h
 chosen P false x y h k = k
 
-all_times : (n : ℕ) (hs : List AllTimes) (x y : ℤ) (d : Signal) → All (λ h. IsSignalWireBelow n h.signal) hs →
+all_times : (n : ℕ) (hs : List AllTimesSignal) (x y : ℤ) (d : Signal) → All (λ h. IsSignalWireBelow n h.signal) hs →
     IsSignalWireBelow n d →
     IsSignalWireBelow n (unwrap_or (all_times_at hs x y) d)
 unfolding all_times_at
 all_times n [] x y d all b = b
 all_times n (h ∷ hs) x y d all b = elim (cases_Bool (is_at h.cell x y)) [
-  | inl e ↦ rw e (All-head (λ (g : AllTimes). IsSignalWireBelow n g.signal) h hs all)
-  | inr e ↦ rw e (all_times n hs x y d (All-tail (λ (g : AllTimes). IsSignalWireBelow n g.signal) h hs all) b)
+  | inl e ↦ rw e (All-head (λ (g : AllTimesSignal). IsSignalWireBelow n g.signal) h hs all)
+  | inr e ↦ rw e (all_times n hs x y d (All-tail (λ (g : AllTimesSignal). IsSignalWireBelow n g.signal) h hs all) b)
 ]
 
 event : (n : ℕ) (es : List TimedSignal) (t : ℕ) (x y : ℤ) (d : Signal) → All (λ e. IsSignalWireBelow n e.signal) es →

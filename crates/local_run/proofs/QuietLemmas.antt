@@ -1,23 +1,12 @@
 -- Cells of which no line of a module says anything
-use Rattle.lemmas.proofs.Common.{◌%◌, ◌*◌, ◌+ℤ◌, ◌+◌, ◌-ℤ◌, ◌/◌, ◌<◌, ◌∙◌, ◌≡◌, ◌≤◌, List, Some, ap, ap₂, arith, inl}
-use Rattle.lemmas.proofs.Common.{inr, pos, slice_get, sym, ℕ, ℤ, common_steps, ints}
-use Rattle.bbm_rule.specs.declared.block.Cell.{Cell}
-use Rattle.module_box.specs.Schedules.{Signals, signal_at}
-use Rattle.module_box.specs.declared.boxes.Box2.{Box2}
-use Rattle.module_box.specs.declared.schedules.AllTimes.{AllTimes}
-use Rattle.module_box.specs.declared.schedules.TimedSignal.{TimedSignal}
-use Rattle.module_box.specs.declared.schedules.Signal.TheVariants.{Zero}
-use Rattle.module_box.specs.Moves.{moved_signals}
-use Rattle.module_box.proofs.MovedBoxes.{signals_moved}
-use Rattle.module_box.proofs.Rising.{all_times_none, event_none}
-use Rattle.module_job.specs.Shapes.{shift_to_origin}
-use Rattle.local_run.specs.Places.{box_coord, halo_coord}
+use Rattle.local_run.proofs.Imports.{AllTimesSignal, Box2, Cell, IsCellMarked, IsTimePlaceBetween, KeepsMarks, List}
+use Rattle.local_run.proofs.Imports.{Signals, Some, TimedSignal, Zero, all_times_none, ap, ap₂, arith, box_coord}
+use Rattle.local_run.proofs.Imports.{by_lt_or_le, common_steps, event_none, halo_coord, inl, inr, ints, moved_signals}
+use Rattle.local_run.proofs.Imports.{number_at, pos, shift_to_origin, signal_at, signals_moved, slice_get, sym, ℕ, ℤ}
+use Rattle.local_run.proofs.Imports.{◌%◌, ◌*◌, ◌+ℤ◌, ◌+◌, ◌-ℤ◌, ◌/◌, ◌<◌, ◌∙◌, ◌≡◌, ◌≤◌}
 use Rattle.bbm_rule.specs.Marks.{MarksOne}
-use Rattle.local_run.specs.Leaps.{IsTimeBetween}
-use Rattle.local_run.specs.Quiet.{AreAllTimesCellsMarked, IsCellMarked, IsZeroAtUnmarked, KeepsMarks, LacksCellMark}
-use Rattle.local_run.specs.Quiet.{own_mark_number_at, number_at}
-use Rattle.bbm_rule.proofs.BitLemmas.{by_lt_or_le}
-use Rattle.local_run.proofs.LaneLemmas.{place_below}
+use Rattle.local_run.specs.Quiet.{AreStarredCellsMarked, IsZeroAtUnmarked, LacksCellMark, own_mark_number_at}
+use Rattle.lanes.proofs.LaneLemmas.{place_below}
 
 pub outer_same : (c a b : ℕ) → halo_coord c a ≡ halo_coord c b → a ≡ b
 unfolding halo_coord
@@ -43,7 +32,7 @@ still_marked b c old new keeps marked x y lx ly ex ey free = grind (arith, commo
 
 -- where no line names the cell at the time, its signal is `Zero`
 pub zero_signal : (s : Signals) (t : ℕ) (x y : ℤ) →
-    ((i : ℕ) (h : AllTimes) → slice_get s.all_times i ≡ Some h → (h.cell.x ≡ x) × (h.cell.y ≡ y) → ⊥) →
+    ((i : ℕ) (h : AllTimesSignal) → slice_get s.all_times i ≡ Some h → (h.cell.x ≡ x) × (h.cell.y ≡ y) → ⊥) →
     ((i : ℕ) (e : TimedSignal) → slice_get s.events i ≡ Some e → e.at.time ≡ t → (e.at.cell.x ≡ x) × (e.at.cell.y ≡ y) →
     ⊥) →
     signal_at s t x y ≡ Zero
@@ -59,11 +48,11 @@ zero_signal s t x y all_times events =
     refl' = cc
 
 pub still_all_times : (s : Signals) (b : Box2) (old new : List ℕ) → KeepsMarks old new →
-    AreAllTimesCellsMarked s b old →
-    AreAllTimesCellsMarked s b new
+    AreStarredCellsMarked s b old →
+    AreStarredCellsMarked s b new
 still_all_times s b old new keeps all_times i h at = still_marked b h.cell old new keeps (all_times i h at)
 
-pub quiet_in : (s : Signals) (b : Box2) (t : ℕ) (marks : List ℕ) → AreAllTimesCellsMarked s b marks →
+pub quiet_in : (s : Signals) (b : Box2) (t : ℕ) (marks : List ℕ) → AreStarredCellsMarked s b marks →
     ((i : ℕ) (e : TimedSignal) → slice_get s.events i ≡ Some e → e.at.time ≡ t → IsCellMarked b e.at.cell marks) →
     IsZeroAtUnmarked s b t marks
 quiet_in s b t marks all_times events x y lx ly free = grind (arith, common_steps, zero_signal)
@@ -74,8 +63,8 @@ pub still_quiet : (s : Signals) (b : Box2) (t : ℕ) (old new : List ℕ) → Ke
 still_quiet s b t old new keeps quiet x y lx ly free = quiet x y lx ly (lacks_line b x y old new keeps free)
 
 -- the events from the first one of a time up to the first one of the next
-pub events_between : (es : List TimedSignal) (t m n : ℕ) (P : TimedSignal → Type 0) → IsTimeBetween es t m m →
-    IsTimeBetween es (t + 1) n n →
+pub events_between : (es : List TimedSignal) (t m n : ℕ) (P : TimedSignal → Type 0) → IsTimePlaceBetween es t m m →
+    IsTimePlaceBetween es (t + 1) n n →
     ((i : ℕ) (e : TimedSignal) → m ≤ i → i < n → slice_get es i ≡ Some e → P e) → (i : ℕ) (e : TimedSignal) →
     slice_get es i ≡ Some e → e.at.time ≡ t → P e
 events_between es t m n P from to have i e at same = grind (arith, common_steps, by_lt_or_le)

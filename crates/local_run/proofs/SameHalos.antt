@@ -1,18 +1,11 @@
 -- Jobs whose halos say the same at each odd time have the same faults
-use Rattle.lemmas.proofs.Common.{◌%◌, ◌&&◌, ◌<◌, ◌∙◌, ◌≡◌, ◌≤◌, All, Contains, List, ap, arith, inl, inr, refl, subst}
-use Rattle.lemmas.proofs.Common.{suc, sym, zero, ℕ, ℤ, cases_Bool, common_steps, ∥∥₁_map}
-use Rattle.bbm_rule.specs.Plane.{State}
-use Rattle.circuit.specs.Meaning.{Valuation}
-use Rattle.module_box.specs.Boxes.{in_box}
-use Rattle.module_box.specs.Schedules.{Signals}
-use Rattle.module_job.specs.Jobs.{JobView, job_demand, job_start}
-use Rattle.module_job.specs.declared.job.Stop as listed
-use Rattle.local_run.specs.Faults.{HasFault, IsFaultUnder}
+use Rattle.local_run.proofs.Imports.{All, Contains, Edge, End, HasFault, IsFaultUnder, JobView, Kind, List, Signals}
+use Rattle.local_run.proofs.Imports.{State, Stop, Valuation, ap, arith, cases_Bool, common_steps, in_box, inl, inr}
+use Rattle.local_run.proofs.Imports.{job_demand, job_start, local_run, refl, subst, suc, sym, with_halo, zero, ℕ, ℤ}
+use Rattle.local_run.proofs.Imports.{∥∥₁_map, ◌%◌, ◌&&◌, ◌<◌, ◌∙◌, ◌≡◌, ◌≤◌}
 use Rattle.local_run.specs.Laws.{JobsWithSameHalosAgree, HasSameHaloSignals}
-use Rattle.local_run.specs.Runs.{local_run, with_halo}
-use Rattle.local_run.specs.declared.fault.Kind.{Kind}
-use Rattle.local_run.specs.declared.fault.Kind.TheVariants.{Edge, Stop, End}
 use Rattle.local_run.proofs.LocalRuns.{even_or_odd, local_even, local_odd, step_all_same}
+use Rattle.module_job.specs.declared.job.Stop as listed
 
 -- a stop that is listed is at a time up to the last one
 stop_time : (j : JobView) (ss : List listed.Stop) (s : listed.Stop) → All (λ s. s.at.time ≤ j.steps) ss →

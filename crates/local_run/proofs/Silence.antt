@@ -1,42 +1,19 @@
 -- Cells that are known to be dead and have no line
-use Rattle.lemmas.proofs.Common.{◌%◌, ◌*◌, ◌+◌, ◌-◌, ◌/◌, ◌<◌, ◌∙◌, ◌≡◌, ◌≢◌, ◌≤◌, List, None, ap, ap₂, arith, false}
-use Rattle.lemmas.proofs.Common.{inl, inr, refl, subst, sym, true, ℕ, ℤ, and_parts, common_steps, false≢true}
-use Rattle.lemmas.proofs.Common.{mul-le-mul_left}
-use Rattle.bbm_rule.specs.Spans.{in_span}
-use Rattle.module_box.specs.Boxes.{in_box, in_ring}
-use Rattle.module_box.specs.Schedules.{signal_at}
-use Rattle.module_box.specs.declared.schedules.Signal.{Signal}
-use Rattle.module_box.specs.declared.boxes.Box2.{Box2}
-use Rattle.bbm_rule.proofs.BitLemmas.{by_eq_or_not, by_lt_or_le, bit-zero}
-use Rattle.module_job.specs.Jobs.{JobView}
-use Rattle.module_job.specs.Signals.{is_live}
-use Rattle.local_run.specs.Borders.{AreSkippableBetween}
-use Rattle.local_run.specs.Calm.{AreFourCellsDead}
-use Rattle.local_run.specs.Faults.{assignments}
-use Rattle.local_run.specs.Runs.{local_run}
-use Rattle.local_run.specs.Lanes.{lane}
-use Rattle.local_run.specs.Places.{box_coord, halo_coord}
+use Rattle.local_run.proofs.Imports.{AreSkippableBetween, Box2, Edge, IsEdgeCorrectAt, IsFaultWhereDefined}
+use Rattle.local_run.proofs.Imports.{IsHaloCellSet, IsLeastBelow, IsOutsideBoxFromHalo, IsReady, JobView, List, None}
+use Rattle.local_run.proofs.Imports.{Planes, Shows, Signal, Values, and_parts, ap, ap₂, arith, assignments, box_coord}
+use Rattle.local_run.proofs.Imports.{by_eq_or_not, by_lt_or_le, common_steps, dead_lane, false, false≢true, halo_coord}
+use Rattle.local_run.proofs.Imports.{in_box, in_ring, in_span, inl, inr, is_defined_under, is_live, lane, local_run}
+use Rattle.local_run.proofs.Imports.{mul-le-mul_left, number_at, refl, signal_at, subst, sym, true, valuation, ℕ, ℤ}
+use Rattle.local_run.proofs.Imports.{◌%◌, ◌*◌, ◌+◌, ◌-◌, ◌/◌, ◌<◌, ◌∙◌, ◌≡◌, ◌≢◌, ◌≤◌}
+use Rattle.lanes.specs.Calm.{AreFourCellsDead}
 use Rattle.bbm_rule.specs.Marks.{IsUnmarked}
-use Rattle.local_run.specs.Quiet.{AreLines, number_at}
-use Rattle.local_run.specs.Scans.{IsEdgeCorrectAt, AreEdgesCorrectAtPlace, IsHaloCellSet, AreHaloCellsSetAtPlace}
-use Rattle.local_run.specs.Scans.{IsFaultWhereDefined, IsLeastBelow, IsHaloCountOutsideBox, IsReady, IsSilent, Shows}
-use Rattle.local_run.specs.Scans.{is_defined_under, valuation}
-use Rattle.local_run.specs.declared.fault.Kind.TheVariants.{Edge}
-use Rattle.local_run.specs.Live.{AllUnmarkedDead}
-use Rattle.local_run.specs.declared.live.LiveMarks.{LiveMarks}
-use Rattle.local_run.specs.declared.planes.Planes.{Planes}
-use Rattle.local_run.specs.declared.values.Values.{Values}
-use Rattle.local_run.proofs.Scans.{plane_odd, plane_down, plane_right, plane_even}
+use Rattle.local_run.specs.Quiet.{AreLineMarks}
+use Rattle.local_run.specs.Scans.{AreEdgesCorrectAtPlace, AreHaloCellsSetAtPlace, IsSilent}
+use Rattle.lanes.proofs.InsideLemmas.{in_row}
 use Rattle.local_run.proofs.Firsts.{not_in_ring, span_at}
-use Rattle.local_run.proofs.InsideLemmas.{in_row}
 use Rattle.local_run.proofs.QuietLemmas.{outer_same}
 use Rattle.local_run.proofs.Stepping.{box_out, outer_inner}
-
-pub dead_lane : (p : Planes) (x y a : ℕ) → AreFourCellsDead (p.stride * (y / 2) + x / 2) p → a < 64 * p.words →
-    lane p a x y ≡ false
-unfolding lane
-dead_lane p x y a dead l =
-    grind (arith, common_steps, by_eq_or_not, plane_odd, bit-zero, plane_down, plane_right, plane_even)
 
 -- a cell of the box is in the planes as in the run
 shown_at : (j : JobView) (vs : Values) (p : Planes) (t x y a : ℕ) → Shows j vs t p → a < assignments j →
@@ -82,11 +59,11 @@ silent_halo j vs p t column row ready shows silent x y lx ly ex ey a l outside =
 
 pub silent_from : (j : JobView) (p : Planes) (t u : ℕ) (marks : List ℕ) → p.stride ≡ j.area.w / 2 + 1 →
     AreFourCellsDead u p →
-    AreLines j t marks → IsUnmarked marks u → IsSilent j t p u
+    AreLineMarks j t marks → IsUnmarked marks u → IsSilent j t p u
 silent_from j p t u marks es dead lines free = grind (arith, common_steps, dead_lane)
 
 -- ---- cells outside the box have no edge fault
-pub outer_edge : (j : JobView) (vs : Values) (t x y : ℕ) → IsHaloCountOutsideBox j.area x y → IsEdgeCorrectAt j vs t x y
+pub outer_edge : (j : JobView) (vs : Values) (t x y : ℕ) → IsOutsideBoxFromHalo j.area x y → IsEdgeCorrectAt j vs t x y
 outer_edge j vs t x y out a l f = false≢true (sym (box_out j.area x y out) ∙ ring_in_box j.area _ _ f.1.ring)
 
 pub inner_edge : (j : JobView) (vs : Values) (t x y : ℕ) → 1 ≤ x → 1 ≤ y →
@@ -121,7 +98,7 @@ inner_is_outer c k l = sym (ap (halo_coord c) (next k l) ∙ outer_inner c (k - 
 
 -- nor does a dead cell of which no line says something
 pub unsaid_edge : (j : JobView) (vs : Values) (p : Planes) (t x y : ℕ) (marks : List ℕ) → IsReady j vs →
-    Shows j vs t p → AreLines j t marks → x < j.area.w + 2 → y < j.area.h + 2 →
+    Shows j vs t p → AreLineMarks j t marks → x < j.area.w + 2 → y < j.area.h + 2 →
     IsUnmarked marks (p.stride * (y / 2) + x / 2 + 1152 * (1 + 2 * (y % 2) + x % 2)) →
     ((a : ℕ) → a < 64 * p.words → lane p a x y ≡ false) → IsEdgeCorrectAt j vs t x y
 unsaid_edge j vs p t x y marks ready shows lines lx ly free dead a l f =
@@ -135,35 +112,10 @@ unsaid_edge j vs p t x y marks ready shows lines lx ly free dead a l f =
 
 -- and it is as a halo signal says
 pub unsaid_halo : (j : JobView) (vs : Values) (p : Planes) (t x y : ℕ) (marks : List ℕ) → IsReady j vs →
-    Shows j vs t p → AreLines j t marks → x < j.area.w + 2 → y < j.area.h + 2 →
+    Shows j vs t p → AreLineMarks j t marks → x < j.area.w + 2 → y < j.area.h + 2 →
     IsUnmarked marks (p.stride * (y / 2) + x / 2 + 1152 * (1 + 2 * (y % 2) + x % 2)) →
     ((a : ℕ) → a < 64 * p.words → lane p a x y ≡ false) → IsHaloCellSet j vs t p x y
 unsaid_halo j vs p t x y marks ready shows lines lx ly free dead a l out = grind (arith, common_steps)
-
--- ---- cells that are known to be dead by their mark
-small_number : (s r x y : ℕ) → x / 2 < s → y / 2 < r → s * (y / 2) + x / 2 < s * r
-small_number s r x y lx ly = let m : s * (y / 2 + 1) ≤ s * r = mul-le-mul_left s (omega arith) in omega arith
-
-pub dead_odd : (l : LiveMarks) (p : Planes) (x y a : ℕ) → x % 2 ≡ 0 → y % 2 ≡ 0 → x / 2 < p.stride → y / 2 < p.rows →
-    AllUnmarkedDead l p → IsUnmarked l.odd.items (p.stride * (y / 2) + x / 2) → a < 64 * p.words → lane p a x y ≡ false
-unfolding lane
-dead_odd l p x y a ex ey lx ly dead free la = grind (arith, common_steps, plane_odd, small_number, bit-zero)
-
-pub dead_down : (l : LiveMarks) (p : Planes) (x y a : ℕ) → x % 2 ≡ 0 → y % 2 ≡ 1 → x / 2 < p.stride → y / 2 < p.rows →
-    AllUnmarkedDead l p → IsUnmarked l.down.items (p.stride * (y / 2) + x / 2) → a < 64 * p.words → lane p a x y ≡ false
-unfolding lane
-dead_down l p x y a ex ey lx ly dead free la = grind (arith, common_steps, plane_down, small_number, bit-zero)
-
-pub dead_right : (l : LiveMarks) (p : Planes) (x y a : ℕ) → x % 2 ≡ 1 → y % 2 ≡ 0 → x / 2 < p.stride → y / 2 < p.rows →
-    AllUnmarkedDead l p → IsUnmarked l.right.items (p.stride * (y / 2) + x / 2) → a < 64 * p.words →
-    lane p a x y ≡ false
-unfolding lane
-dead_right l p x y a ex ey lx ly dead free la = grind (arith, common_steps, plane_right, small_number, bit-zero)
-
-pub dead_even : (l : LiveMarks) (p : Planes) (x y a : ℕ) → x % 2 ≡ 1 → y % 2 ≡ 1 → x / 2 < p.stride → y / 2 < p.rows →
-    AllUnmarkedDead l p → IsUnmarked l.even.items (p.stride * (y / 2) + x / 2) → a < 64 * p.words → lane p a x y ≡ false
-unfolding lane
-dead_even l p x y a ex ey lx ly dead free la = grind (arith, common_steps, plane_even, small_number, bit-zero)
 
 -- the four cells in a column and row of the planes
 pub four_cells : (c r : ℕ) (P : ℕ → ℕ → Type 0) → P (2 * c) (2 * r) → P (2 * c + 1) (2 * r) → P (2 * c) (2 * r + 1) →
@@ -190,7 +142,7 @@ number_in : (j : JobView) (vs : Values) (t : ℕ) (p : Planes) (x y : ℕ) → S
 number_in j vs t p x y shows = ap (λ s. s * (y / 2) + x / 2) (sym shows.size.1)
 
 pub passed_edges : (j : JobView) (vs : Values) (p : Planes) (t from to x y : ℕ) (marks : List ℕ) → IsReady j vs →
-    Shows j vs t p → AreLines j t marks → AreSkippableBetween from to marks p →
+    Shows j vs t p → AreLineMarks j t marks → AreSkippableBetween from to marks p →
     x < j.area.w + 2 → y < j.area.h + 2 → from ≤ number_at j.area x y → number_at j.area x y < to →
     IsEdgeCorrectAt j vs t x y
 passed_edges j vs p t from to x y marks ready shows lines passed lx ly after before =
@@ -207,7 +159,7 @@ passed_edges j vs p t from to x y marks ready shows lines passed lx ly after bef
     ]
 
 pub passed_halo : (j : JobView) (vs : Values) (p : Planes) (t from to x y : ℕ) (marks : List ℕ) → IsReady j vs →
-    Shows j vs t p → AreLines j t marks → AreSkippableBetween from to marks p →
+    Shows j vs t p → AreLineMarks j t marks → AreSkippableBetween from to marks p →
     x < j.area.w + 2 → y < j.area.h + 2 → from ≤ number_at j.area x y → number_at j.area x y < to →
     IsHaloCellSet j vs t p x y
 passed_halo j vs p t from to x y marks ready shows lines passed lx ly after before =

@@ -1,29 +1,20 @@
 -- The steps of the planes are those of the definition
-use Rattle.lemmas.proofs.Common.{◌%◌, ◌&&◌, ◌*◌, ◌+ℤ◌, ◌+◌, ◌-ℤ◌, ◌-◌, ◌/◌, ◌<◌, ◌||◌, ◌∙◌, ◌≡◌, ◌≢◌, ◌≤◌, Bool}
-use Rattle.lemmas.proofs.Common.{add-one, ap, ap₂, arith, eq-eqb, false, ne_eqb, negsuc, pos, refl, subst, suc, sym}
-use Rattle.lemmas.proofs.Common.{true, zero, ℕ, ℤ, and_from, and_parts, cases_Bool, common_steps, cond-false, cond-true}
-use Rattle.lemmas.proofs.Common.{false≢true, ints, not_from_false, or-false, pred_pos}
+use Rattle.local_run.proofs.Imports.{Bool, Box2, HasWordsStrideRows, IsOutsideBoxFromHalo, IsReady, JobView, Planes}
+use Rattle.local_run.proofs.Imports.{Shows, State, Valuation, Values, and_from, and_parts, ap, ap₂, arith, assignments}
+use Rattle.local_run.proofs.Imports.{box_coord, by_eq_or_not, by_lt_or_le, cases_Bool, common_steps, cond-false}
+use Rattle.local_run.proofs.Imports.{cond-true, eq-eqb, false, false≢true, halo_coord, in_box, in_halo, in_span}
+use Rattle.local_run.proofs.Imports.{in_span-negsuc, ints, is_live, job_start, lane, local_run, ne_eqb, negsuc, partner}
+use Rattle.local_run.proofs.Imports.{pos, refl, signal_at, span_from, span_parts, step, subst, suc, sym, true}
+use Rattle.local_run.proofs.Imports.{valuation, with_halo, zero, ℕ, ℤ, ◌%◌, ◌&&◌, ◌*◌, ◌+ℤ◌, ◌+◌, ◌-ℤ◌, ◌-◌, ◌/◌, ◌<◌}
+use Rattle.local_run.proofs.Imports.{◌||◌, ◌∙◌, ◌≡◌, ◌≢◌, ◌≤◌}
+use Rattle.lemmas.proofs.Common.{add-one, not_from_false, or-false, pred_pos}
 use Rattle.bbm_rule.specs.Rows.{mate}
-use Rattle.bbm_rule.proofs.BitLemmas.{by_lt_or_le, by_eq_or_not}
 use Rattle.bbm_rule.proofs.PairLemmas.{mate_even, mate_odd}
-use Rattle.bbm_rule.specs.Plane.{State, partner, turned, step}
-use Rattle.bbm_rule.specs.Spans.{in_span}
-use Rattle.module_box.specs.Boxes.{in_box, in_halo}
-use Rattle.module_box.specs.declared.boxes.Box2.{Box2}
-use Rattle.bbm_rule.proofs.Spans.{span_parts, span_from, in_span-negsuc}
-use Rattle.module_box.proofs.RingTests.{halo_read}
-use Rattle.circuit.specs.Meaning.{Valuation}
-use Rattle.module_job.specs.Signals.{is_live}
-use Rattle.module_box.specs.Schedules.{signal_at}
-use Rattle.module_job.specs.Jobs.{JobView, job_start}
-use Rattle.local_run.specs.Runs.{with_halo, local_run}
-use Rattle.local_run.specs.Places.{box_coord, halo_coord}
-use Rattle.local_run.specs.Lanes.{lane, HasWordsStrideRows, AreSameInBox}
-use Rattle.local_run.specs.Faults.{assignments}
-use Rattle.local_run.specs.Scans.{IsReady, Shows, IsHaloSet, IsHaloCountOutsideBox, valuation}
-use Rattle.local_run.specs.declared.values.Values.{Values}
+use Rattle.bbm_rule.specs.Plane.{turned}
+use Rattle.bbm_rule.proofs.RingTests.{halo_read}
+use Rattle.lanes.specs.Lanes.{AreSameInBox}
+use Rattle.local_run.specs.Scans.{IsHaloSet}
 use Rattle.local_run.proofs.LocalRuns.{local_even, local_odd, stays}
-use Rattle.local_run.specs.declared.planes.Planes.{Planes}
 use Rattle.local_run.proofs.Firsts.{inner_in_box}
 
 -- ---- one block
@@ -69,8 +60,7 @@ partner_inner c t x ec et = by_eq_or_not (x % 2) 0
 
 outer_up : (t n : ℕ) → t % 2 ≡ 1 → n % 2 ≡ 0 → partner t (pos n -ℤ pos 1) ≡ pos (1 + n) -ℤ pos 1
 outer_up t zero et en = ap (partner t) less_none ∙ up_last t et ∙ sym (less_plus 0)
-outer_up t (suc m) et en = ap (partner t) (pred_pos m) ∙ up_pos t m (omega arith) ∙ ap pos (omega arith)
-    ∙ sym (less_plus (suc m))
+outer_up t (suc m) et en = grind (arith, common_steps, pred_pos, up_pos, less_plus)
 
 outer_down : (t n : ℕ) → t % 2 ≡ 1 → n % 2 ≡ 0 → partner t (pos (1 + n) -ℤ pos 1) ≡ pos n -ℤ pos 1
 outer_down t n et en = ap (partner t) (less_plus n) ∙ down_pos t n (omega arith)
@@ -176,7 +166,7 @@ span_outer_parts : (c n x : ℕ) → in_span c n (halo_coord c x) ≡ true → (
 unfolding halo_coord
 span_outer_parts c n x h = grind (arith, common_steps, false≢true, less_none, in_span-negsuc, span_parts, pred_pos)
 
-pub box_out : (b : Box2) (x y : ℕ) → IsHaloCountOutsideBox b x y →
+pub box_out : (b : Box2) (x y : ℕ) → IsOutsideBoxFromHalo b x y →
     in_box b (halo_coord b.x x) (halo_coord b.y y) ≡ false
 unfolding in_box
 box_out b x y m = grind (arith, common_steps, cases_Bool, and_parts, span_outer_parts)
@@ -200,23 +190,21 @@ near_span : (c n x : ℕ) → x < n + 2 → 2 ≤ n →
     (in_span c n (halo_coord c x -ℤ pos 1) || in_span c n (halo_coord c x) || in_span c n (halo_coord c x +ℤ pos 1))
     ≡ true
 unfolding halo_coord
-near_span c n x l two = by_lt_or_le n x
-    (λ above. let e : c + x ≡ 2 + (c + (n - 1)) = omega arith in
-    or_first (in_span c n (pos (c + x) -ℤ pos 1 -ℤ pos 1)) (in_span c n (pos (c + x) -ℤ pos 1))
-    (in_span c n (pos (c + x) -ℤ pos 1 +ℤ pos 1))
-    (ap (λ m. in_span c n (pos m -ℤ pos 1 -ℤ pos 1)) e ∙ ap (in_span c n) (less_two (c + (n - 1)))
-    ∙ span_from c n (c + (n - 1)) (omega arith) (omega arith)))
-    (λ under. by_eq_or_not x 0
-    (λ e. or_third (in_span c n (pos (c + x) -ℤ pos 1 -ℤ pos 1)) (in_span c n (pos (c + x) -ℤ pos 1))
-    (in_span c n (pos (c + x) -ℤ pos 1 +ℤ pos 1))
-    (ap (in_span c n) (less_more (c + x)) ∙ span_from c n (c + x) (omega arith) (omega arith)))
-    (λ ne. let e : c + x ≡ 1 + (c + (x - 1)) = omega arith in
-    or_second (in_span c n (pos (c + x) -ℤ pos 1 -ℤ pos 1)) (in_span c n (pos (c + x) -ℤ pos 1))
-    (in_span c n (pos (c + x) -ℤ pos 1 +ℤ pos 1))
-    (ap (λ m. in_span c n (pos m -ℤ pos 1)) e ∙ ap (in_span c n) (less_plus (c + (x - 1)))
-    ∙ span_from c n (c + (x - 1)) (omega arith) (omega arith))))
+near_span c n x l two = grind (
+  arith,
+  common_steps,
+  by_lt_or_le,
+  or_first,
+  less_two,
+  span_from,
+  by_eq_or_not,
+  or_third,
+  less_more,
+  or_second,
+  less_plus,
+)
 
-margin_halo : (b : Box2) (x y : ℕ) → 2 ≤ b.w → 2 ≤ b.h → x < b.w + 2 → y < b.h + 2 → IsHaloCountOutsideBox b x y →
+margin_halo : (b : Box2) (x y : ℕ) → 2 ≤ b.w → 2 ≤ b.h → x < b.w + 2 → y < b.h + 2 → IsOutsideBoxFromHalo b x y →
     in_halo b (halo_coord b.x x) (halo_coord b.y y) ≡ true
 margin_halo b x y tw th lx ly m =
     sym (halo_read b (halo_coord b.x x) (halo_coord b.y y) _ _ _ refl refl refl)
@@ -257,7 +245,7 @@ halo_cells j vs t p ready shows halo a x y la lx ly =
     no_less : {m n : ℕ} → m < n → n ≤ m → ⊥
     no_less l h = omega arith
 
-    margin : IsHaloCountOutsideBox j.area x y → lane p a x y ≡ s (halo_coord j.area.x x) (halo_coord j.area.y y)
+    margin : IsOutsideBoxFromHalo j.area x y → lane p a x y ≡ s (halo_coord j.area.x x) (halo_coord j.area.y y)
     margin m = halo x y lx ly a la m
         ∙ sym (with_halo_outside j u t (local_run j u t) _ _ (stays j u t ready.job _ _ (box_out j.area x y m))
         (margin_halo j.area x y ready.job.width.0 ready.job.height.0 lx ly m))

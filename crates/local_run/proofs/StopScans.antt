@@ -1,20 +1,15 @@
 -- Stops in their order, and the first of them that has a fault
-use Rattle.lemmas.proofs.Common.{◌+◌, ◌<ℤ◌, ◌<◌, ◌∙◌, ◌≡◌, ◌≢◌, ◌≤◌, ◌⊎◌, Equal, Greater, Less, None, Ordering, Some}
-use Rattle.lemmas.proofs.Common.{ap, arith, get_or, inl, inr, length, refl, slice_get, subst, sym, true, ℕ, ℤ, cases_lt}
-use Rattle.lemmas.proofs.Common.{common_steps, ints, ordering_then, same_Some, slice_get-get_or, slice_get_within}
-use Rattle.lemmas.proofs.Common.{below_or_same, int_equal, int_less, nat_equal, nat_less, three_ways}
-use Rattle.circuit.specs.Meaning.{Valuation}
-use Rattle.module_box.specs.Moments.{cell_cmp, moment_cmp}
-use Rattle.module_box.specs.Schedules.{IsRising}
-use Rattle.module_box.specs.declared.schedules.Moment.{Moment}
-use Rattle.module_job.specs.Jobs.{JobView, stop_moment}
+use Rattle.local_run.proofs.Imports.{Equal, Greater, HasNoFaultOfKind, IsFirstOfKind, IsLeastBelow, IsNextStop}
+use Rattle.local_run.proofs.Imports.{IsRising, IsStopFault, JobView, Less, Moment, None, Ordering, Some, Stop}
+use Rattle.local_run.proofs.Imports.{Valuation, Values, ap, arith, assignments, cases_lt, cell_cmp, common_steps}
+use Rattle.local_run.proofs.Imports.{get_or, inl, inr, int_equal, ints, is_defined_under, length, local_run, moment_cmp}
+use Rattle.local_run.proofs.Imports.{nat_equal, ordering_then, refl, same_Some, slice_get, slice_get-get_or}
+use Rattle.local_run.proofs.Imports.{slice_get_within, subst, sym, three_ways, true, valuation, ℕ, ℤ, ◌+◌, ◌<ℤ◌, ◌<◌}
+use Rattle.local_run.proofs.Imports.{◌∙◌, ◌≡◌, ◌≢◌, ◌≤◌, ◌⊎◌}
+use Rattle.lemmas.proofs.Common.{below_or_same, int_less, nat_less}
+use Rattle.module_job.specs.Jobs.{stop_moment}
+use Rattle.local_run.specs.Scans.{IsStopMissed}
 use Rattle.module_job.specs.declared.job.Stop as listed
-use Rattle.local_run.specs.Faults.{IsStopFault, assignments}
-use Rattle.local_run.specs.Runs.{local_run}
-use Rattle.local_run.specs.Scans.{IsFirst, HasNoFaultOfKind, IsLeastBelow, IsStopMissed, IsNextStop, is_defined_under}
-use Rattle.local_run.specs.Scans.{valuation}
-use Rattle.local_run.specs.declared.fault.Kind.TheVariants.{Stop}
-use Rattle.local_run.specs.declared.values.Values.{Values}
 
 -- ---- the order of moments
 
@@ -97,7 +92,7 @@ not_itself x y (inr p) = less_itself x p.1
 pub stop_first : (j : JobView) (vs : Values) (t place a : ℕ) (s : listed.Stop) →
     IsRising moment_cmp stop_moment j.stops → AreTried j vs t place → slice_get j.stops place ≡ Some s →
     s.at.time ≡ t → IsLeastBelow (assignments j) (λ b. IsStopMissed j vs b s) (Some a) →
-    IsFirst j vs t Stop (record { time = t; kind = Stop; cell = s.at.cell; assignment = a })
+    IsFirstOfKind j vs t Stop (record { time = t; kind = Stop; cell = s.at.cell; assignment = a })
 stop_first j vs t place a s rising tried e at least = record {
   at_time = refl;
   same_kind = refl;
@@ -173,11 +168,7 @@ all_tried j vs t place tried left = record {
   free = λ x y a la found. let f : IsStopFault j (valuation vs a) t x y = found.1 in
       tried.free f.is_listed.0 f.stop a (soon x y a f) (stop_at j (valuation vs a) t x y f) f.time la
       (found.0, λ is. f.differs (sym (λ i. local_run j (valuation vs a) (f.time i) (f.column i) (f.row i)) ∙ is));
-  next = record {
-    within = tried.within;
-    before = λ k s l e. (let le = tried.before k s l e in omega (arith, le));
-    from = λ k s l e. (let lt = left k s l e in omega (arith, lt));
-  };
+  next = grind (arith, common_steps);
 }
   where
     soon : (x y : ℤ) (a : ℕ) (f : IsStopFault j (valuation vs a) t x y) → f.is_listed.0 < place

@@ -3,7 +3,7 @@ use Rattle.std.specs.Prelude.{◌≡◌, ◌≢◌, ℕ, ℤ, ◌<◌, ◌%◌, 
 use Rattle.std.specs.declared.cmp.Ordering.TheVariants.{Greater}
 use Rattle.std.proofs.Props.{props}
 use Rattle.circuit.specs.Meaning.{Valuation}
-use Rattle.module_box.specs.Boxes.{in_box, in_ring}
+use Rattle.bbm_rule.specs.Boxes.{in_box, in_ring}
 use Rattle.module_box.specs.Locals.{is_among}
 use Rattle.module_box.specs.LocalValues.{IsLocalValuation, IsFirstLocalGateWithoutRow}
 use Rattle.module_box.specs.Schedules.{signal_at}
@@ -55,7 +55,7 @@ pub record HasFault (j : JobView) (f : Fault) : Type 0 where
   pub local : IsLocalValuation j.locals f.assignment values
   pub differs : IsFaultUnder j values f.time f.kind f.cell.x f.cell.y
 
--- a fault of the job: there is such a valuation
+-- a fault of the job: some local valuation under its assignment has it
 pub record IsFault (j : JobView) (f : Fault) : Type 0 where
   pub in_range : f.assignment < assignments j
   pub shown : ∥ HasFault j f ∥₁

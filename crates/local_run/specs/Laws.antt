@@ -4,7 +4,7 @@ use Rattle.std.specs.List.{All}
 use Rattle.circuit.specs.Meaning.{Valuation, AreOrdered}
 use Rattle.module_box.specs.LocalValues.{IsLocalValuation, IsFirstLocalGateWithoutRow}
 use Rattle.module_box.specs.Laws.{LiesInBox}
-use Rattle.module_box.specs.Boxes.{in_halo}
+use Rattle.bbm_rule.specs.Boxes.{in_halo}
 use Rattle.module_box.specs.Schedules.{Signals, signal_at}
 use Rattle.module_job.specs.Jobs.{JobView, IsJob}
 use Rattle.local_run.specs.Faults.{IsEdgeFault, IsFault, IsFaultUnder, IsKeepFault, IsLeastFault, IsLeastKeepFault}
@@ -53,12 +53,12 @@ OneValuationDecidesFault = (j : JobView) (f : Fault) (u : Valuation) → IsJob j
     f.assignment < assignments j → IsLocalValuation j.locals f.assignment u →
     IsFault j f ↔ IsFaultUnder j u f.time f.kind f.cell.x f.cell.y
 
--- at each odd time below the steps these say the same of each cell of the halo as the job
+-- at each odd time below the steps, these signals and the job's halos agree at each cell of the halo
 abbrev pub HasSameHaloSignals : JobView → Signals → Type 0
 HasSameHaloSignals j halos = (t : ℕ) (x y : ℤ) → t % 2 ≡ 1 → t < j.steps → IsTrue (in_halo j.area x y) →
     signal_at j.halos t x y ≡ signal_at halos t x y
 
--- so the job has the same faults if they are its halos, if its stops are at times up to the last one
+-- the job keeps its faults if its halos are replaced by these, if its stops are at times up to the last one
 abbrev pub JobsWithSameHalosAgree : Type 0
 JobsWithSameHalosAgree = (j : JobView) (halos : Signals) (f : Fault) → All (λ s. s.at.time ≤ j.steps) j.stops →
     HasSameHaloSignals j halos → IsFault j f → IsFault (record j { halos = halos }) f

@@ -21,7 +21,7 @@ pub record IsOddOf (t o : ℕ) : Type 0 where
   pub next : o ≤ t + 1
 
 -- the times of the events before place `low` are less than t, and those from place `high` on are not
-pub record IsTimeBetween (es : List TimedSignal) (t low high : ℕ) : Type 0 where
+pub record IsTimePlaceBetween (es : List TimedSignal) (t low high : ℕ) : Type 0 where
   pub below : (i : ℕ) (e : TimedSignal) → i < low → slice_get es i ≡ Some e → e.at.time < t
   pub above : (i : ℕ) (e : TimedSignal) → high ≤ i → slice_get es i ≡ Some e → t ≤ e.at.time
 

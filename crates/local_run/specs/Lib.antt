@@ -3,16 +3,6 @@ pub mod Order
 pub mod Faults
 pub mod Shown
 pub mod Laws
-pub mod Across
-pub mod Blocks
-pub mod Turns
-pub mod Sweeps
-pub mod Borders
-pub mod Calm
-pub mod Live
-pub mod Lanes
-pub mod Held
-pub mod Frozen
 pub mod Places
 pub mod Scans
 pub mod Moves

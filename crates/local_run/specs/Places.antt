@@ -1,15 +1,15 @@
 -- The coordinates of the cells of a box and of the cells around it, counted from the box
 use Rattle.std.specs.Prelude.{ℕ, ℤ, pos, ◌+◌, ◌-ℤ◌, ◌≤◌}
-use Rattle.module_box.specs.declared.boxes.Box2.{Box2}
+use Rattle.bbm_rule.specs.declared.block.Box2.{Box2}
 
 -- number k of the columns or rows of a box whose first is c
 unfoldable pub box_coord : ℕ → ℕ → ℤ
 box_coord c k = pos (c + k)
 
--- the same, if the one before the first has number 0
+-- number k of the columns or rows of a box and its halo, if number 1 is c
 unfoldable pub halo_coord : ℕ → ℕ → ℤ
 halo_coord c k = pos (c + k) -ℤ pos 1
 
--- the box is near the plane's corner, and so is the place
+-- the box is near the plane's corner, and the place near the box's corner
 abbrev pub HasSmallCoordinates : Box2 → ℕ → ℕ → Type 0
 HasSmallCoordinates b x y = (b.x ≤ 512) × (b.y ≤ 512) × (x ≤ 66) × (y ≤ 66)

@@ -1,10 +1,9 @@
 -- Cells of which no line of a module says anything
 use Rattle.std.specs.Prelude.{◌≡◌, ℕ, ◌+◌, ◌*◌, ◌/◌, ◌%◌, ◌<◌, ◌≤◌, ◌⊎◌, List, length, slice_get, Some}
-use Rattle.std.specs.Int.{div_ceil}
 use Rattle.bbm_rule.specs.declared.block.Cell.{Cell}
 use Rattle.module_box.specs.Schedules.{Signals, signal_at}
-use Rattle.module_box.specs.declared.boxes.Box2.{Box2}
-use Rattle.module_box.specs.declared.schedules.AllTimes.{AllTimes}
+use Rattle.bbm_rule.specs.declared.block.Box2.{Box2}
+use Rattle.module_box.specs.declared.schedules.AllTimesSignal.{AllTimesSignal}
 use Rattle.module_box.specs.declared.schedules.Signal.TheVariants.{Zero}
 use Rattle.module_job.specs.Jobs.{JobView}
 use Rattle.module_job.specs.Shapes.{ShapeView}
@@ -39,20 +38,19 @@ abbrev pub KeepsMarks : List ℕ → List ℕ → Type 0
 KeepsMarks old new = (u : ℕ) → IsUnmarked new u → IsUnmarked old u
 
 -- the cells of signals at all times have marks
-abbrev pub AreAllTimesCellsMarked : Signals → Box2 → List ℕ → Type 0
-AreAllTimesCellsMarked s b marks =
-    (i : ℕ) (h : AllTimes) → slice_get s.all_times i ≡ Some h → IsCellMarked b h.cell marks
+abbrev pub AreStarredCellsMarked : Signals → Box2 → List ℕ → Type 0
+AreStarredCellsMarked s b marks =
+    (i : ℕ) (h : AllTimesSignal) → slice_get s.all_times i ≡ Some h → IsCellMarked b h.cell marks
 
 -- the box of a shape, with its corner at (0, 0)
 abbrev pub box_at_origin : ShapeView → Box2
 box_at_origin s = record { x = 0; y = 0; w = s.width; h = s.height }
 
 -- marks, a word for 64, that leave no cell out of which a line of a shape says something at all times
-pub record AreAllTimesMarks (s : ShapeView) (marks : List ℕ) : Type 0 where
-  pub long : length marks ≡ div_ceil ((s.width / 2 + 1) * (s.height / 2 + 1)) 64 + 72
+pub record AreStarredCellMarks (s : ShapeView) (marks : List ℕ) : Type 0 where
   pub room : HasRoomForCellNumbers (box_at_origin s) marks
-  pub edges : AreAllTimesCellsMarked s.edges (box_at_origin s) marks
-  pub halos : AreAllTimesCellsMarked s.halos (box_at_origin s) marks
+  pub edges : AreStarredCellsMarked s.edges (box_at_origin s) marks
+  pub halos : AreStarredCellsMarked s.halos (box_at_origin s) marks
 
 -- at cells that lack a mark the signal of a schedule at time t is `Zero`
 abbrev pub IsZeroAtUnmarked : Signals → Box2 → ℕ → List ℕ → Type 0
@@ -60,6 +58,7 @@ IsZeroAtUnmarked s b t marks = (x y : ℕ) → x < b.w + 2 → y < b.h + 2 → L
     signal_at s t (halo_coord b.x x) (halo_coord b.y y) ≡ Zero
 
 -- marks that leave no cell out of which an edge or halo line of a job says something at time t
-pub record AreLines (j : JobView) (t : ℕ) (marks : List ℕ) : Type 0 where
+pub record AreLineMarks (j : JobView) (t : ℕ) (marks : List ℕ) : Type 0 where
+  pub room : (j.area.w / 2 + 1) * (j.area.h / 2 + 1) + 4608 ≤ 64 * length marks
   pub edges : IsZeroAtUnmarked j.edges j.area t marks
   pub halos : IsZeroAtUnmarked j.halos j.area t marks

@@ -2,7 +2,7 @@
 use Rattle.std.specs.Prelude.{ℕ, zero, suc, ◌%◌, ◌==◌, ◌&&◌, ◌||◌, if◌then◌else◌}
 use Rattle.bbm_rule.specs.Plane.{State, step}
 use Rattle.circuit.specs.Meaning.{Valuation}
-use Rattle.module_box.specs.Boxes.{in_box, in_halo}
+use Rattle.bbm_rule.specs.Boxes.{in_box, in_halo}
 use Rattle.module_box.specs.Schedules.{signal_at}
 use Rattle.module_job.specs.Jobs.{JobView, job_start}
 use Rattle.module_job.specs.Signals.{is_live}

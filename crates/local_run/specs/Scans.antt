@@ -4,22 +4,21 @@ use Rattle.std.specs.Prelude.{slice_get, Option, Some, None, ◌⊎◌}
 use Rattle.circuit.specs.Meaning.{Valuation, AreOrdered, wires}
 use Rattle.module_box.specs.LocalValues.{AreValueRows, bit_of_row, value_of}
 use Rattle.module_box.specs.Schedules.{signal_at}
-use Rattle.module_box.specs.declared.boxes.Box2.{Box2}
+use Rattle.bbm_rule.specs.declared.block.Box2.{Box2}
 use Rattle.module_box.specs.declared.schedules.Signal.{Signal}
 use Rattle.module_box.specs.declared.schedules.Signal.TheVariants.{Zero, One, Wire}
 use Rattle.module_job.specs.Jobs.{JobView, IsJob}
-use Rattle.module_job.specs.Shapes.{shape_of}
 use Rattle.module_job.specs.Signals.{is_live}
 use Rattle.module_job.specs.declared.job.Stop as listed
 use Rattle.local_run.specs.Faults.{IsFaultUnder, assignments}
-use Rattle.local_run.specs.Lanes.{HasWordsStrideRows, lane}
+use Rattle.lanes.specs.Lanes.{HasWordsStrideRows, lane}
 use Rattle.local_run.specs.Places.{box_coord, halo_coord}
-use Rattle.local_run.specs.Quiet.{AreAllTimesMarks, number_at}
+use Rattle.local_run.specs.Quiet.{number_at}
 use Rattle.local_run.specs.Runs.{local_run}
 use Rattle.local_run.specs.declared.fault.Fault.{Fault}
 use Rattle.local_run.specs.declared.fault.Kind.{Kind}
 use Rattle.local_run.specs.declared.fault.Kind.TheVariants.{Edge, Stop, End}
-use Rattle.local_run.specs.declared.planes.Planes.{Planes}
+use Rattle.lanes.specs.declared.planes.Planes.{Planes}
 use Rattle.local_run.specs.declared.values.Values.{Values}
 
 -- the least number below n of which a fact holds
@@ -66,7 +65,6 @@ pub record IsReady (j : JobView) (vs : Values) : Type 0 where
   pub room : vs.count ≤ 64 * vs.words
   pub long : vs.words * wires j.locals.netlist ≤ length vs.rows.values.items
   pub rows : AreValueRows j.locals.netlist vs.words vs.rows
-  pub all_times_marks : AreAllTimesMarks (shape_of j) vs.all_times_marks.items
 
 -- the cells of the box are those of the run at time t, under each assignment
 pub record Shows (j : JobView) (vs : Values) (t : ℕ) (p : Planes) : Type 0 where
@@ -92,7 +90,7 @@ abbrev pub IsScanStride : Kind → ℕ → ℕ → ℕ → ℕ → Type 0
 IsScanStride kind w h y stride = (1 ≤ stride) × (stride ≤ 64) × ((stride ≡ 1) ⊎ HasBothEnds kind w h y stride)
 
 -- f comes first among the faults of a kind at a time
-pub record IsFirst (j : JobView) (vs : Values) (t : ℕ) (kind : Kind) (f : Fault) : Type 0 where
+pub record IsFirstOfKind (j : JobView) (vs : Values) (t : ℕ) (kind : Kind) (f : Fault) : Type 0 where
   pub at_time : f.time ≡ t
   pub same_kind : f.kind ≡ kind
   pub small : f.assignment < assignments j
@@ -118,12 +116,12 @@ pub record PutsCell (vs : Values) (x y : ℕ) (signal : Signal) (p q : Planes) :
       lane q a x' y' ≡ lane p a x' y'
 
 -- whether a cell, counted from the halo, is outside the box
-abbrev pub IsHaloCountOutsideBox : Box2 → ℕ → ℕ → Type 0
-IsHaloCountOutsideBox b x y = (1 ≤ x) × (x ≤ b.w) × (1 ≤ y) × (y ≤ b.h) → ⊥
+abbrev pub IsOutsideBoxFromHalo : Box2 → ℕ → ℕ → Type 0
+IsOutsideBoxFromHalo b x y = (1 ≤ x) × (x ≤ b.w) × (1 ≤ y) × (y ≤ b.h) → ⊥
 
 -- the cell of the halo is what its signal says, under each assignment
 abbrev pub IsHaloCellSet : JobView → Values → ℕ → Planes → ℕ → ℕ → Type 0
-IsHaloCellSet j vs t p x y = (a : ℕ) → a < assignments j → IsHaloCountOutsideBox j.area x y →
+IsHaloCellSet j vs t p x y = (a : ℕ) → a < assignments j → IsOutsideBoxFromHalo j.area x y →
     lane p a x y ≡ is_live (valuation vs a) (signal_at j.halos t (halo_coord j.area.x x) (halo_coord j.area.y y))
 
 -- all cells of the halo are
@@ -141,14 +139,14 @@ pub record IsNextStop (j : JobView) (t place : ℕ) : Type 0 where
   pub before : (k : ℕ) (s : listed.Stop) → k < place → slice_get j.stops k ≡ Some s → s.at.time < t
   pub from : (k : ℕ) (s : listed.Stop) → place ≤ k → slice_get j.stops k ≡ Some s → t ≤ s.at.time
 
--- a cell has a fault of its edge at the time if that is odd; so it has none if the time is even
+-- no cell has an edge fault at the time, if the time is odd
 abbrev pub HasNoEdgeFaultAtOddTime : JobView → Values → ℕ → Type 0
 HasNoEdgeFaultAtOddTime j vs t = t % 2 ≡ 1 → HasNoFaultOfKind j vs t Edge
 
 -- f comes first among all faults at a time before the last
 abbrev pub IsFirstFaultAt : JobView → Values → ℕ → Fault → Type 0
-IsFirstFaultAt j vs t f = ((t % 2 ≡ 1) × IsFirst j vs t Edge f)
-    ⊎ (HasNoEdgeFaultAtOddTime j vs t × IsFirst j vs t Stop f)
+IsFirstFaultAt j vs t f = ((t % 2 ≡ 1) × IsFirstOfKind j vs t Edge f)
+    ⊎ (HasNoEdgeFaultAtOddTime j vs t × IsFirstOfKind j vs t Stop f)
 
 -- a time before the last without a fault: the place is that of the next stop after it
 pub record IsPassed (j : JobView) (vs : Values) (t place : ℕ) : Type 0 where
@@ -192,13 +190,13 @@ abbrev pub IsEdgeCorrectAt : JobView → Values → ℕ → ℕ → ℕ → Type
 IsEdgeCorrectAt j vs t x y = (a : ℕ) → a < assignments j →
     ¬ IsFaultWhereDefined j vs a t Edge (halo_coord j.area.x x) (halo_coord j.area.y y)
 
--- so do the cells with the numbers from one to another
+-- each cell of the ring with a number from one to another carries what its signal says
 abbrev pub AreEdgesCorrectBetweenNumbers : JobView → Values → ℕ → ℕ → ℕ → Type 0
 AreEdgesCorrectBetweenNumbers j vs t from end =
     (x y : ℕ) → x < j.area.w + 2 → y < j.area.h + 2 → from ≤ number_at j.area x y →
     number_at j.area x y < end → IsEdgeCorrectAt j vs t x y
 
--- so do the cells in this column and row of the planes
+-- each cell of the ring in this column and row of the planes carries what its signal says
 abbrev pub AreEdgesCorrectAtPlace : JobView → Values → ℕ → ℕ → ℕ → Type 0
 AreEdgesCorrectAtPlace j vs t column row =
     (x y : ℕ) → x < j.area.w + 2 → y < j.area.h + 2 → x / 2 ≡ column → y / 2 ≡ row → IsEdgeCorrectAt j vs t x y

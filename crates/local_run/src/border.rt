@@ -1,37 +1,44 @@
 //! The cells of ring and halo at an odd time.
 ghost use Rattle.std.specs.Prelude.{ℕ, ◌≡◌, ◌+◌, ◌*◌, ◌/◌, ◌%◌, ◌<◌, ◌≤◌, true, false};
 ghost use Rattle.bbm_rule.specs.Bits.{bit};
-ghost use Rattle.local_run.specs.Borders.{AreSkippableBetween};
+ghost use Rattle.lanes.specs.Borders.{AreSkippableBetween};
 ghost use Rattle.circuit.specs.Meaning.{wires};
 ghost use Rattle.module_box.specs.Schedules.{signal_at};
 ghost use Rattle.module_job.specs.Jobs.{IsJob};
 ghost use Rattle.module_job.specs.Signals.{IsSignalWireBelow};
 ghost use Rattle.local_run.specs.Places.{halo_coord};
-ghost use Rattle.local_run.specs.Quiet.{AreLines};
-ghost use Rattle.local_run.specs.Scans.{IsEdgeCorrectAt, AreEdgesCorrectBetweenNumbers, AreEdgesCorrectAtPlace, IsHaloSet, IsHaloCellSet, AreHaloCellsSetBetween, AreHaloCellsSetAtPlace, HasNoFaultOfKind, IsHaloCountOutsideBox, IsReady, IsKindSoughtAt, IsSameBeforeNumber, IsSameButAtPlace, IsSameButAtCell, Shows};
+ghost use Rattle.local_run.specs.Quiet.{AreLineMarks};
+ghost use Rattle.local_run.specs.Scans.{IsEdgeCorrectAt, AreEdgesCorrectBetweenNumbers, AreEdgesCorrectAtPlace, IsHaloSet, IsHaloCellSet, AreHaloCellsSetBetween, AreHaloCellsSetAtPlace, HasNoFaultOfKind, IsOutsideBoxFromHalo, IsReady, IsKindSoughtAt, IsSameBeforeNumber, IsSameButAtPlace, IsSameButAtCell, Shows};
 
 use crate::fault::Kind;
-use crate::marked_planes::MarkedPlanes;
-use crate::marks::take_first;
+use crate::line_marks::LineMarks;
 use crate::places::{edge_at, halo_at};
 use crate::values::Values;
+use lanes::{MarkedPlanes, take_first};
 use module_box::Signal;
 use module_job::Job;
 
 // What a cell, counted from the halo, carries at an odd time, if it is in the halo. Where no line says something it is
 // not sought.
-fn halo_signal(marked_planes: &MarkedPlanes, job: &Job, time: u32, x: usize, y: usize) -> Signal
+fn halo_signal(
+    marked_planes: &MarkedPlanes,
+    job: &Job,
+    lines: &LineMarks,
+    x: usize,
+    y: usize,
+) -> Signal
     requires job { IsJob job.now }
     requires stride { marked_planes.now.planes.stride ≡ job.now.area.w / 2 + 1 }
     requires rows { marked_planes.now.planes.rows ≡ job.now.area.h / 2 + 1 }
-    requires lines { AreLines job.now time marked_planes.now.line_marks.items }
+    requires lines { AreLineMarks job.now lines.now.time lines.now.marks.items }
     requires place { (x < job.now.area.w + 2) × (y < job.now.area.h + 2) }
     ensures signal_is_exact { result
-        ≡ signal_at job.now.halos time (halo_coord job.now.area.x x) (halo_coord job.now.area.y y) }
+        ≡ signal_at job.now.halos lines.now.time (halo_coord job.now.area.x x)
+        (halo_coord job.now.area.y y) }
     ensures below { IsSignalWireBelow (wires job.now.locals.netlist) result }
 {
-    if marked_planes.has_line(x, y) {
-        halo_at(job, time, x, y, marked_planes.line_places().halos)
+    if lines.may_have_line(marked_planes.planes(), x, y) {
+        halo_at(job, lines.time(), x, y, lines.places().halos)
     } else {
         Signal::Zero
     }
@@ -39,19 +46,27 @@ fn halo_signal(marked_planes: &MarkedPlanes, job: &Job, time: u32, x: usize, y: 
 
 // What a cell of the box, counted from the halo, carries at an odd time, if it is in the ring. Where no line says
 // something it is not sought.
-fn edge_signal(marked_planes: &MarkedPlanes, job: &Job, time: u32, x: usize, y: usize) -> Signal
+#[tactic(auto, using(crate::proofs::Silence::inner_is_outer))]
+fn edge_signal(
+    marked_planes: &MarkedPlanes,
+    job: &Job,
+    lines: &LineMarks,
+    x: usize,
+    y: usize,
+) -> Signal
     requires job { IsJob job.now }
     requires stride { marked_planes.now.planes.stride ≡ job.now.area.w / 2 + 1 }
     requires rows { marked_planes.now.planes.rows ≡ job.now.area.h / 2 + 1 }
-    requires lines { AreLines job.now time marked_planes.now.line_marks.items }
+    requires lines { AreLineMarks job.now lines.now.time lines.now.marks.items }
     requires column { (1 ≤ x) × (x ≤ job.now.area.w) }
     requires row { (1 ≤ y) × (y ≤ job.now.area.h) }
     ensures signal_is_exact { result
-        ≡ signal_at job.now.edges time (halo_coord job.now.area.x x) (halo_coord job.now.area.y y) }
+        ≡ signal_at job.now.edges lines.now.time (halo_coord job.now.area.x x)
+        (halo_coord job.now.area.y y) }
     ensures below { IsSignalWireBelow (wires job.now.locals.netlist) result }
 {
-    if marked_planes.has_line(x, y) {
-        edge_at(job, time, x - 1, y - 1, marked_planes.line_places().edges)
+    if lines.may_have_line(marked_planes.planes(), x, y) {
+        edge_at(job, lines.time(), x - 1, y - 1, lines.places().edges)
     } else {
         Signal::Zero
     }
@@ -59,27 +74,27 @@ fn edge_signal(marked_planes: &MarkedPlanes, job: &Job, time: u32, x: usize, y: 
 
 // Whether a cell of the box, counted from the halo, carries what its edge signal says, if it is in the ring; only
 // `true` is proved to be right.
-#[tactic(auto, using(crate::proofs::Scans::row_from))]
+#[tactic(auto, using(crate::proofs::Scans::row_from, crate::proofs::Silence::between_edges))]
 fn is_edge_correct(
     marked_planes: &MarkedPlanes,
     values: &Values,
     job: &Job,
-    time: u32,
+    lines: &LineMarks,
     x: usize,
     y: usize,
 ) -> bool
     requires ready { IsReady job.now values.now }
-    requires shows { Shows job.now values.now time marked_planes.now.planes }
-    requires lines { AreLines job.now time marked_planes.now.line_marks.items }
+    requires shows { Shows job.now values.now lines.now.time marked_planes.now.planes }
+    requires lines { AreLineMarks job.now lines.now.time lines.now.marks.items }
     requires column { (1 ≤ x) × (x ≤ job.now.area.w) }
     requires row { (1 ≤ y) × (y ≤ job.now.area.h) }
-    ensures { result ≡ true → IsEdgeCorrectAt job.now values.now time x y }
+    ensures { result ≡ true → IsEdgeCorrectAt job.now values.now lines.now.time x y }
 {
     let area = job.area();
     if 2 <= x && x < area.w as usize && 2 <= y && y < area.h as usize {
         return true;
     }
-    let signal = edge_signal(marked_planes, job, time, x, y);
+    let signal = edge_signal(marked_planes, job, lines, x, y);
     values
         .first_difference(marked_planes.planes(), x, y, signal)
         .is_none()
@@ -91,88 +106,87 @@ fn set_halo_cell(
     marked_planes: &mut MarkedPlanes,
     values: &Values,
     job: &Job,
-    time: u32,
+    lines: &LineMarks,
     x: usize,
     y: usize,
 )
     requires ready { IsReady job.now values.now }
-    requires shows { Shows job.now values.now time marked_planes.old.planes }
-    requires lines { AreLines job.now time marked_planes.old.line_marks.items }
+    requires shows { Shows job.now values.now lines.now.time marked_planes.old.planes }
+    requires lines { AreLineMarks job.now lines.now.time lines.now.marks.items }
     requires place { (x < job.now.area.w + 2) × (y < job.now.area.h + 2) }
-    requires halo_coord { IsHaloCountOutsideBox job.now.area x y }
-    ensures shows { Shows job.now values.now time marked_planes.new.planes }
-    ensures lines { marked_planes.new.line_marks ≡ marked_planes.old.line_marks }
-    ensures here { IsHaloCellSet job.now values.now time marked_planes.new.planes x y }
+    requires halo_coord { IsOutsideBoxFromHalo job.now.area x y }
+    ensures shows { Shows job.now values.now lines.now.time marked_planes.new.planes }
+    ensures here { IsHaloCellSet job.now values.now lines.now.time marked_planes.new.planes x y }
     ensures rest { IsSameButAtCell job.now marked_planes.old.planes marked_planes.new.planes x y }
 {
-    let signal = halo_signal(marked_planes, job, time, x, y);
+    let signal = halo_signal(marked_planes, job, lines, x, y);
     if values.is_different(marked_planes.planes(), x, y, signal) {
-        marked_planes.put(values, x, y, signal);
+        values.put(marked_planes, x, y, signal);
     }
 }
 
 // Sets a cell of box or halo, counted from the halo, to what its halo signal says, if it is in the halo. Returns
 // whether it carries what its edge signal says, if it is in the ring; only `true` is proved to be right.
+#[tactic(auto, using(crate::proofs::Silence::unsaid_halo, crate::proofs::Silence::outer_edge, crate::proofs::Silence::unsaid_edge))]
 #[inline(always)]
 fn set_halo_or_test_ring_cell(
     marked_planes: &mut MarkedPlanes,
     values: &Values,
     job: &Job,
-    time: u32,
+    lines: &LineMarks,
     x: usize,
     y: usize,
 ) -> bool
     requires ready { IsReady job.now values.now }
-    requires shows { Shows job.now values.now time marked_planes.old.planes }
-    requires lines { AreLines job.now time marked_planes.old.line_marks.items }
-    requires sought { IsKindSoughtAt job.now time Kind.Edge }
+    requires shows { Shows job.now values.now lines.now.time marked_planes.old.planes }
+    requires lines { AreLineMarks job.now lines.now.time lines.now.marks.items }
+    requires sought { IsKindSoughtAt job.now lines.now.time Kind.Edge }
     requires place { (x < job.now.area.w + 2) × (y < job.now.area.h + 2) }
-    ensures shows { Shows job.now values.now time marked_planes.new.planes }
-    ensures lines { marked_planes.new.line_marks ≡ marked_planes.old.line_marks }
-    ensures edge { result ≡ true → IsEdgeCorrectAt job.now values.now time x y }
-    ensures halo { IsHaloCellSet job.now values.now time marked_planes.new.planes x y }
+    ensures shows { Shows job.now values.now lines.now.time marked_planes.new.planes }
+    ensures edge { result ≡ true → IsEdgeCorrectAt job.now values.now lines.now.time x y }
+    ensures halo { IsHaloCellSet job.now values.now lines.now.time marked_planes.new.planes x y }
     ensures rest { IsSameButAtCell job.now marked_planes.old.planes marked_planes.new.planes x y }
 {
     let area = job.area();
     // Most cells have no line and are dead.
-    if !marked_planes.has_line(x, y) && !marked_planes.may_be_live(x, y) {
+    if !lines.may_have_line(marked_planes.planes(), x, y) && !marked_planes.may_be_live(x, y) {
         return true;
     }
     if 1 <= x && x <= area.w as usize && 1 <= y && y <= area.h as usize {
-        return is_edge_correct(marked_planes, values, job, time, x, y);
+        return is_edge_correct(marked_planes, values, job, lines, x, y);
     }
-    set_halo_cell(marked_planes, values, job, time, x, y);
+    set_halo_cell(marked_planes, values, job, lines, x, y);
     true
 }
 
-// Does the same for the four cells in a column and row of the planes.
+// Sets or tests the four cells in a column and row of the planes, each as `set_halo_or_test_ring_cell` does.
 fn set_or_test_four_cells(
     marked_planes: &mut MarkedPlanes,
     values: &Values,
     job: &Job,
-    time: u32,
+    lines: &LineMarks,
     column: usize,
     row: usize,
 ) -> bool
     requires ready { IsReady job.now values.now }
-    requires shows { Shows job.now values.now time marked_planes.old.planes }
-    requires lines { AreLines job.now time marked_planes.old.line_marks.items }
-    requires sought { IsKindSoughtAt job.now time Kind.Edge }
+    requires shows { Shows job.now values.now lines.now.time marked_planes.old.planes }
+    requires lines { AreLineMarks job.now lines.now.time lines.now.marks.items }
+    requires sought { IsKindSoughtAt job.now lines.now.time Kind.Edge }
     requires place { (column < job.now.area.w / 2 + 1) × (row < job.now.area.h / 2 + 1) }
-    ensures shows { Shows job.now values.now time marked_planes.new.planes }
-    ensures lines { marked_planes.new.line_marks ≡ marked_planes.old.line_marks }
-    ensures edges { result ≡ true → AreEdgesCorrectAtPlace job.now values.now time column row }
-    ensures halo { AreHaloCellsSetAtPlace job.now values.now time marked_planes.new.planes column
-        row }
+    ensures shows { Shows job.now values.now lines.now.time marked_planes.new.planes }
+    ensures edges { result ≡ true →
+        AreEdgesCorrectAtPlace job.now values.now lines.now.time column row }
+    ensures halo { AreHaloCellsSetAtPlace job.now values.now lines.now.time marked_planes.new.planes
+        column row }
     ensures rest { IsSameButAtPlace job.now marked_planes.old.planes marked_planes.new.planes column
         row }
 {
     let x = 2 * column;
     let y = 2 * row;
-    let first = set_halo_or_test_ring_cell(marked_planes, values, job, time, x, y);
-    let second = set_halo_or_test_ring_cell(marked_planes, values, job, time, x + 1, y);
-    let third = set_halo_or_test_ring_cell(marked_planes, values, job, time, x, y + 1);
-    let fourth = set_halo_or_test_ring_cell(marked_planes, values, job, time, x + 1, y + 1);
+    let first = set_halo_or_test_ring_cell(marked_planes, values, job, lines, x, y);
+    let second = set_halo_or_test_ring_cell(marked_planes, values, job, lines, x + 1, y);
+    let third = set_halo_or_test_ring_cell(marked_planes, values, job, lines, x, y + 1);
+    let fourth = set_halo_or_test_ring_cell(marked_planes, values, job, lines, x + 1, y + 1);
     first & second & third & fourth
 }
 
@@ -181,32 +195,32 @@ fn set_or_test_four_cells(
 //
 // The numbers without a mark in the word need no look. It was read before: a cell that is set changes live marks of its
 // own number alone.
+#[tactic(auto, using(crate::proofs::QuietLemmas::number_below, lanes::proofs::FieldLemmas::past_all))]
 fn set_halo_test_ring_in_word(
     marked_planes: &mut MarkedPlanes,
     values: &Values,
     job: &Job,
-    time: u32,
+    lines: &LineMarks,
     first: usize,
     word: u64,
 ) -> bool
     requires ready { IsReady job.now values.now }
-    requires shows { Shows job.now values.now time marked_planes.old.planes }
-    requires lines { AreLines job.now time marked_planes.old.line_marks.items }
-    requires sought { IsKindSoughtAt job.now time Kind.Edge }
+    requires shows { Shows job.now values.now lines.now.time marked_planes.old.planes }
+    requires lines { AreLineMarks job.now lines.now.time lines.now.marks.items }
+    requires sought { IsKindSoughtAt job.now lines.now.time Kind.Edge }
     requires first { (first % 64 ≡ 0) × (first < marked_planes.old.planes.stride
         * marked_planes.old.planes.rows) }
     requires passed { (u : ℕ) → u / 64 ≡ first / 64 → bit word (u % 64) ≡ false →
-        AreSkippableBetween u (u + 1) marked_planes.old.line_marks.items marked_planes.old.planes }
-    ensures shows { Shows job.now values.now time marked_planes.new.planes }
-    ensures lines { marked_planes.new.line_marks ≡ marked_planes.old.line_marks }
-    ensures halo { AreHaloCellsSetBetween job.now values.now time first (first + 64)
+        AreSkippableBetween u (u + 1) lines.now.marks.items marked_planes.old.planes }
+    ensures shows { Shows job.now values.now lines.now.time marked_planes.new.planes }
+    ensures halo { AreHaloCellsSetBetween job.now values.now lines.now.time first (first + 64)
         marked_planes.new.planes }
     ensures edges { result ≡ true →
-        AreEdgesCorrectBetweenNumbers job.now values.now time first (first + 64) }
+        AreEdgesCorrectBetweenNumbers job.now values.now lines.now.time first (first + 64) }
     ensures rest { IsSameBeforeNumber job.now marked_planes.old.planes marked_planes.new.planes
         first }
 {
-    let cells = marked_planes.planes().cells();
+    let cells = marked_planes.planes().cells_per_plane();
     let mut is_right = true;
     let mut rest = word;
     'border: while rest != 0 {
@@ -216,8 +230,8 @@ fn set_halo_test_ring_in_word(
             return is_right;
         }
         rest = others;
-        let (column, row) = marked_planes.planes().place(u);
-        is_right &= set_or_test_four_cells(marked_planes, values, job, time, column, row);
+        let (column, row) = marked_planes.planes().column_and_row(u);
+        is_right &= set_or_test_four_cells(marked_planes, values, job, lines, column, row);
     }
     is_right
 }
@@ -228,25 +242,25 @@ pub fn set_halo_check_ring(
     marked_planes: &mut MarkedPlanes,
     values: &Values,
     job: &Job,
-    time: u32,
+    lines: &LineMarks,
 ) -> bool
     requires ready { IsReady job.now values.now }
-    requires shows { Shows job.now values.now time marked_planes.old.planes }
-    requires lines { AreLines job.now time marked_planes.old.line_marks.items }
-    requires sought { IsKindSoughtAt job.now time Kind.Edge }
-    ensures shows { Shows job.now values.now time marked_planes.new.planes }
-    ensures halo { IsHaloSet job.now values.now time marked_planes.new.planes }
-    ensures edges { result ≡ true → HasNoFaultOfKind job.now values.now time Kind.Edge }
+    requires shows { Shows job.now values.now lines.now.time marked_planes.old.planes }
+    requires lines { AreLineMarks job.now lines.now.time lines.now.marks.items }
+    requires sought { IsKindSoughtAt job.now lines.now.time Kind.Edge }
+    ensures shows { Shows job.now values.now lines.now.time marked_planes.new.planes }
+    ensures halo { IsHaloSet job.now values.now lines.now.time marked_planes.new.planes }
+    ensures edges { result ≡ true → HasNoFaultOfKind job.now values.now lines.now.time Kind.Edge }
 {
     let _area = job.area();
-    let cells = marked_planes.planes().cells();
+    let cells = marked_planes.planes().cells_per_plane();
     let mut is_right = true;
     'words: for k in 0..cells.div_ceil(64) {
-        let word = marked_planes.border_word(k);
+        let word = marked_planes.border_word(lines.marks(), k);
         if word == 0 {
             continue;
         }
-        is_right &= set_halo_test_ring_in_word(marked_planes, values, job, time, 64 * k, word);
+        is_right &= set_halo_test_ring_in_word(marked_planes, values, job, lines, 64 * k, word);
     }
     is_right
 }

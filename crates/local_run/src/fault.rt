@@ -38,7 +38,7 @@ pub struct KeepFault {
 }
 
 // The place of the kind in the order of kinds.
-fn number_of(kind: Kind) -> u8
+fn kind_number(kind: Kind) -> u8
     ensures { result ≡ kind_number kind }
 {
     match kind {
@@ -56,7 +56,7 @@ impl Fault {
     {
         self.time
             .cmp(&other.time)
-            .then(number_of(self.kind).cmp(&number_of(other.kind)))
+            .then(kind_number(self.kind).cmp(&kind_number(other.kind)))
             .then(compare_cells(self.cell, other.cell))
             .then(self.assignment.cmp(&other.assignment))
     }

@@ -28,6 +28,7 @@ pub struct Finding {
 }
 
 // The fault at the place in the box of `to` that the fault has in the box of `from`.
+#[tactic(auto, using(crate::proofs::MovedJobs::fault_near))]
 fn fault_moved_to_job(from: &Job, to: &Job, fault: Fault) -> Fault
     requires { IsFault from.now fault }
     ensures { result ≡ fault_moved_to_job from.now to.now fault }
@@ -114,7 +115,7 @@ impl Finding {
     }
 
     /// Returns the least keep fault of the job, or `None` if it has none.
-    pub fn keep(&self) -> Option<KeepFault>
+    pub fn keep_fault(&self) -> Option<KeepFault>
         ensures value { result ≡ keep_of self.now }
         ensures honest { IsLeastKeepFault (job_of self.now) result }
     {
@@ -125,6 +126,7 @@ impl Finding {
     ///
     /// It is for a module of this number of the certificate with the same digest. Its fault is that of this finding,
     /// moved to where the job lies, and its keep fault is the same. It takes no memory.
+    #[tactic(auto, using(module_job::proofs::EqualJobs::shapes_decide))]
     pub fn for_job(&self, number: usize, job: Arc<Job>) -> Option<Finding>
         ensures shapes { IfSome result (λ _. shape_of (job_of self.now)
             ≡ shape_of (arc_value job)) }
@@ -137,12 +139,27 @@ impl Finding {
             ≡ option_map (fault_moved_to_job (job_of self.now) (arc_value job))
             (fault_of self.now)) }
     {
-        let own: &Job = &self.job;
-        let same = **own.shape() == **job.shape();
+        let same = **self.job.shape() == **job.shape();
         if !same {
             return None;
         }
-        let fault = least_fault_moved(own, &job, self.fault);
-        Some(Finding::new(self.digest, number, job, fault, self.keep))
+        Some(self.for_same_shape(number, job))
+    }
+
+    /// Makes the finding of another job, as [`for_job`](Finding::for_job) does, where it is known that the job has the
+    /// same shape. It compares nothing.
+    #[tactic(auto, using(crate::proofs::MovedJobs::least_keep_stays))]
+    pub fn for_same_shape(&self, number: usize, job: Arc<Job>) -> Finding
+        requires shapes { shape_of (job_of self.now) ≡ shape_of (arc_value job) }
+        ensures digest { digest_of result ≡ digest_of self.now }
+        ensures number { number_of result ≡ number }
+        ensures job { job_of result ≡ arc_value job }
+        ensures keep { keep_of result ≡ keep_of self.now }
+        ensures fault { fault_of result
+            ≡ option_map (fault_moved_to_job (job_of self.now) (arc_value job))
+            (fault_of self.now) }
+    {
+        let fault = least_fault_moved(&self.job, &job, self.fault);
+        Finding::new(self.digest, number, job, fault, self.keep)
     }
 }

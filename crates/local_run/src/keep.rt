@@ -9,6 +9,7 @@ use module_job::Job;
 /// Returns the least keep fault of a job, by gate and assignment, if there is one.
 ///
 /// Each assignment counts, also one under which an earlier gate has no row and the run looks for no faults.
+#[tactic(auto, using(crate::proofs::Leasts::keep_free_more))]
 pub fn find_least_keep_fault(values: &Values, job: &Job) -> Option<KeepFault>
     requires { IsReady job.now values.now }
     ensures { IsLeastKeepFault job.now result }
@@ -16,7 +17,7 @@ pub fn find_least_keep_fault(values: &Values, job: &Job) -> Option<KeepFault>
     let gates = job.wiring().gates();
     'gates: for gate in 0..gates {
         if job.keeps(gate as u16) {
-            if let Some(assignment) = values.first_undefined(gate) {
+            if let Some(assignment) = values.first_undefined_assignment(gate) {
                 return Some(KeepFault { gate, assignment });
             }
         }

@@ -3,17 +3,18 @@
 ghost use Rattle.std.specs.Prelude.{◌≡◌, ◌+◌, ◌<◌, ◌≤◌, ◌⊎◌, length};
 ghost use Rattle.module_box.specs.Moments.{moment_cmp};
 ghost use Rattle.module_box.specs.Schedules.{IsRising, moment_of};
-ghost use Rattle.local_run.specs.Leaps.{HasNoEventsBetween, IsLeap, HasSameSignalsAtOddTimes, IsTimeBetween};
+ghost use Rattle.local_run.specs.Leaps.{HasNoEventsBetween, IsLeap, HasSameSignalsAtOddTimes, IsTimePlaceBetween};
 ghost use Rattle.local_run.specs.Scans.{IsNextStop};
 
 use module_box::{Schedule, TimedSignal};
 use module_job::{Job, Shape};
 
 /// Returns the place of the first event at the time or after it, or how many events there are.
+#[tactic(auto, using(crate::proofs::LeapLemmas::met))]
 pub fn first_event_place(events: &[TimedSignal], time: u32) -> usize
     requires rising { IsRising moment_cmp moment_of events.now }
     ensures range { result ≤ length events.now }
-    ensures first { IsTimeBetween events.now time result result }
+    ensures first { IsTimePlaceBetween events.now time result result }
 {
     let mut low = 0;
     let mut high = events.len();
@@ -29,10 +30,11 @@ pub fn first_event_place(events: &[TimedSignal], time: u32) -> usize
 }
 
 // A place before which all events are earlier than the time: `place`, if it is one, or the first.
+#[tactic(auto, using(crate::proofs::LeapLemmas::any_place))]
 fn valid_start_place(events: &[TimedSignal], place: usize, time: u32) -> usize
     requires rising { IsRising moment_cmp moment_of events.now }
     ensures range { result ≤ length events.now }
-    ensures below { IsTimeBetween events.now time result (length events.now) }
+    ensures below { IsTimePlaceBetween events.now time result (length events.now) }
 {
     if place == 0 || events.len() < place {
         return 0;
@@ -45,10 +47,11 @@ fn valid_start_place(events: &[TimedSignal], place: usize, time: u32) -> usize
 
 /// Returns the place of the first event at or after the time, as [`first_event_place`] does, by a search from a place
 /// on. If the event is near it, a few looks are enough.
+#[tactic(auto, using(crate::proofs::LeapLemmas::raise_time, crate::proofs::LeapLemmas::met))]
 pub fn first_event_place_from(events: &[TimedSignal], place: usize, time: u32) -> usize
     requires rising { IsRising moment_cmp moment_of events.now }
     ensures range { result ≤ length events.now }
-    ensures first { IsTimeBetween events.now time result result }
+    ensures first { IsTimePlaceBetween events.now time result result }
 {
     let mut low = valid_start_place(events, place, time);
     let mut high = events.len();
@@ -63,6 +66,7 @@ pub fn first_event_place_from(events: &[TimedSignal], place: usize, time: u32) -
 }
 
 // The first time from `time` on at which there is an event, or `end`, whichever comes first.
+#[tactic(auto, using(crate::proofs::LeapLemmas::above_at))]
 fn next_event_time(events: &[TimedSignal], time: u32, end: u32) -> u32
     requires rising { IsRising moment_cmp moment_of events.now }
     requires range { time ≤ end }

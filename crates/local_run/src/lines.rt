@@ -4,14 +4,14 @@ ghost use Rattle.module_job.specs.Jobs.{IsJob};
 ghost use Rattle.module_job.specs.Shapes.{shape_of};
 ghost use Rattle.module_box.specs.Moments.{moment_cmp};
 ghost use Rattle.module_box.specs.Schedules.{IsRising, all_times_at, event_at, moment_of, signal_at};
-ghost use Rattle.local_run.specs.Quiet.{AreAllTimesMarks, AreAllTimesCellsMarked, AreLines, box_at_origin, HasRoomForCellNumbers, IsCellMarked, IsZeroAtUnmarked, KeepsMarks};
+ghost use Rattle.local_run.specs.Quiet.{AreStarredCellMarks, AreStarredCellsMarked, AreLineMarks, box_at_origin, HasRoomForCellNumbers, IsCellMarked, IsZeroAtUnmarked, KeepsMarks};
 ghost use Rattle.local_run.specs.Places.{halo_coord};
 ghost use Rattle.std.specs.Prelude.{ℕ, ◌≢◌, MatchOption, ◌≡◌, ◌<◌, ◌+◌, ◌*◌, ◌/◌, ◌%◌, ◌^◌, ◌≤◌, length, slice_index, slice_get, Some, IfOk, IfSome};
 
 use crate::leaps::first_event_place_from;
 use bbm_rule::Cell;
 use bbm_rule::marks::mark;
-use module_box::{AllTimes, Box2, Moment, Schedule, Signal, TimedSignal};
+use module_box::{AllTimesSignal, Box2, Moment, Schedule, Signal, TimedSignal};
 use module_job::{Job, Shape};
 use std::alloc::{AllocError, Global};
 
@@ -30,7 +30,7 @@ fn number_from_halo(coordinate: i32, first: u32, count: u32) -> Option<usize>
 }
 
 /// The number of words of marks that single cells have: four planes of at most 1152 cells.
-pub const CELL_WORDS: usize = 72;
+pub const CELL_MARK_WORDS: usize = 72;
 
 /// Returns the number of a cell's own mark, where `number` is that of its cells in the planes.
 #[inline(always)]
@@ -59,10 +59,10 @@ fn mark_cell(marks: &mut [u64], area: Box2, cell: Cell)
 }
 
 // Marks the cells of signals at all times.
-fn mark_all_times_cells(marks: &mut [u64], area: Box2, list: &[AllTimes])
+fn mark_starred_cells(marks: &mut [u64], area: Box2, list: &[AllTimesSignal])
     requires { HasRoomForCellNumbers area marks.old }
     ensures keeps { KeepsMarks marks.old marks.new }
-    ensures marked { (i : ℕ) (h : AllTimes) → slice_get list.now i ≡ Some h →
+    ensures marked { (i : ℕ) (h : AllTimesSignal) → slice_get list.now i ≡ Some h →
         IsCellMarked area h.cell marks.new }
 {
     for all_times in list {
@@ -84,6 +84,7 @@ fn mark_events(marks: &mut [u64], area: Box2, list: &[TimedSignal], first: usize
 }
 
 // Marks the cells of the events of a time, which are sought from a place on, and returns their places.
+#[tactic(auto, using(crate::proofs::QuietLemmas::events_between))]
 fn mark_events_at(
     marks: &mut [u64],
     area: Box2,
@@ -115,7 +116,7 @@ fn mark_schedule(
 ) -> EventPlaces
     requires room_for_marks { HasRoomForCellNumbers area marks.old }
     requires range { time < 65536 }
-    requires all_times { AreAllTimesCellsMarked schedule.now area marks.old }
+    requires all_times { AreStarredCellsMarked schedule.now area marks.old }
     ensures keeps { KeepsMarks marks.old marks.new }
     ensures quiet { IsZeroAtUnmarked schedule.now area time marks.new }
 {
@@ -143,6 +144,11 @@ pub struct EventPlaces {
     end: usize,
 }
 
+impl EventPlaces {
+    /// No place.
+    pub const NO_PHASE: EventPlaces = EventPlaces { first: 0, end: 0 };
+}
+
 /// The places of the edge and halo lines of the time that was looked at last.
 #[derive(Clone, Copy)]
 pub struct LinePlaces {
@@ -152,19 +158,8 @@ pub struct LinePlaces {
     pub halos: EventPlaces,
 }
 
-impl LinePlaces {
-    /// Returns the places before the first lines.
-    pub fn first() -> LinePlaces {
-        let none = EventPlaces { first: 0, end: 0 };
-        LinePlaces {
-            edges: none,
-            halos: none,
-        }
-    }
-}
-
 // The most lines among which a cell's is sought one by one.
-const MOST_NEAR_LINES: usize = 8;
+const MAX_NEAR_LINES: usize = 8;
 
 // The signal of the event of a moment, if it is among the events at a few places.
 fn signal_of_event_near(events: &[TimedSignal], moment: Moment, near: EventPlaces) -> Option<Signal>
@@ -172,7 +167,7 @@ fn signal_of_event_near(events: &[TimedSignal], moment: Moment, near: EventPlace
     ensures { IfSome result
         (λ s. event_at events.now moment.time moment.cell.x moment.cell.y ≡ Some s) }
 {
-    if near.end > near.first.saturating_add(MOST_NEAR_LINES) {
+    if near.end > near.first.saturating_add(MAX_NEAR_LINES) {
         return None;
     }
     for k in near.first..near.end.min(events.len()) {
@@ -185,7 +180,8 @@ fn signal_of_event_near(events: &[TimedSignal], moment: Moment, near: EventPlace
 }
 
 // The signal that a cell has at all times, which is sought one by one.
-fn find_all_times_signal(all_times: &[AllTimes], cell: Cell) -> Option<Signal>
+#[tactic(auto, using(crate::proofs::LeapLemmas::all_times_nowhere))]
+fn find_all_times_signal(all_times: &[AllTimesSignal], cell: Cell) -> Option<Signal>
     ensures { result ≡ all_times_at all_times.now cell.x cell.y }
 {
     for k in 0..all_times.len() {
@@ -199,11 +195,12 @@ fn find_all_times_signal(all_times: &[AllTimes], cell: Cell) -> Option<Signal>
 
 /// Returns the signal of a cell at a time, as [`Schedule::at`] does. It looks first at the signals at all times, if
 /// they are few, and then at the events at a few places.
+#[tactic(auto, using(crate::proofs::LeapLemmas::steady_there, crate::proofs::LeapLemmas::signal_there))]
 pub fn signal_at_moment(schedule: &Schedule, moment: Moment, near: EventPlaces) -> Signal
     ensures { result ≡ signal_at schedule.now moment.time moment.cell.x moment.cell.y }
 {
     let all_times = schedule.all_times();
-    if all_times.len() <= MOST_NEAR_LINES {
+    if all_times.len() <= MAX_NEAR_LINES {
         if let Some(signal) = find_all_times_signal(all_times, moment.cell) {
             return signal;
         }
@@ -217,10 +214,11 @@ pub fn signal_at_moment(schedule: &Schedule, moment: Moment, near: EventPlaces) 
 /// Marks the cells of which an edge or halo line says something at the time.
 ///
 /// Those of which a line says something at all times have marks before.
+#[tactic(auto, using(crate::proofs::QuietLemmas::still_quiet, crate::proofs::QuietLemmas::quiet_moved))]
 pub fn mark_lines(marks: &mut [u64], places: &mut LinePlaces, job: &Job, time: u32)
-    requires all_times { AreAllTimesMarks (shape_of job.now) marks.old }
+    requires all_times { AreStarredCellMarks (shape_of job.now) marks.old }
     requires range { time < 65536 }
-    ensures { AreLines job.now time marks.new }
+    ensures { AreLineMarks job.now time marks.new }
 {
     let shape: &Shape = job.shape();
     let area = box_at_origin_of(shape);
@@ -229,25 +227,25 @@ pub fn mark_lines(marks: &mut [u64], places: &mut LinePlaces, job: &Job, time: u
 }
 
 // Marks the cells of which an edge or halo line says something at all times.
-fn mark_all_times_of_shape(marks: &mut [u64], shape: &Shape)
+fn mark_stars_of_shape(marks: &mut [u64], shape: &Shape)
     requires { HasRoomForCellNumbers (box_at_origin shape.now) marks.old }
     ensures keeps { KeepsMarks marks.old marks.new }
-    ensures edges { AreAllTimesCellsMarked shape.now.edges (box_at_origin shape.now) marks.new }
-    ensures halos { AreAllTimesCellsMarked shape.now.halos (box_at_origin shape.now) marks.new }
+    ensures edges { AreStarredCellsMarked shape.now.edges (box_at_origin shape.now) marks.new }
+    ensures halos { AreStarredCellsMarked shape.now.halos (box_at_origin shape.now) marks.new }
 {
     let area = box_at_origin_of(shape);
-    mark_all_times_cells(marks, area, shape.edges().all_times());
-    mark_all_times_cells(marks, area, shape.halos().all_times());
+    mark_starred_cells(marks, area, shape.edges().all_times());
+    mark_starred_cells(marks, area, shape.halos().all_times());
 }
 
 /// Marks the cells of which an edge or halo line says something at all times, and their numbers in the planes.
-pub fn marks_of_all_times_cells(alloc: Global, job: &Job) -> Result<Vec<u64>, AllocError>
+pub fn marks_of_starred_cells(alloc: Global, job: &Job) -> Result<Vec<u64>, AllocError>
     requires { IsJob job.now }
-    ensures { IfOk result (λ m. AreAllTimesMarks (shape_of job.now) m.items) }
+    ensures { IfOk result (λ m. AreStarredCellMarks (shape_of job.now) m.items) }
 {
     let area = job.area();
     let cells = (area.w as usize / 2 + 1) * (area.h as usize / 2 + 1);
-    let mut marks = vec![in alloc; 0u64; cells.div_ceil(64) + CELL_WORDS]?;
-    mark_all_times_of_shape(&mut marks, job.shape());
+    let mut marks = vec![in alloc; 0u64; cells.div_ceil(64) + CELL_MARK_WORDS]?;
+    mark_stars_of_shape(&mut marks, job.shape());
     Ok(marks)
 }

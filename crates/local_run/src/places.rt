@@ -1,7 +1,7 @@
 //! Cells of a job by their places in its box, and in the box together with its halo.
 ghost use Rattle.std.specs.Prelude.{ℕ, pos, ◌≡◌, ◌+◌, ◌-ℤ◌, ◌<◌, ◌≤◌, IsTrue};
 ghost use Rattle.circuit.specs.Meaning.{wires};
-ghost use Rattle.module_box.specs.Boxes.{in_box, in_ring};
+ghost use Rattle.bbm_rule.specs.Boxes.{in_box, in_ring};
 ghost use Rattle.module_box.specs.Schedules.{signal_at};
 ghost use Rattle.module_job.specs.Jobs.{job_demand, job_start};
 ghost use Rattle.module_job.specs.Signals.{IsSignalWireBelow, IsDemandWireBelow};
@@ -39,7 +39,7 @@ fn box_cell(x: usize, y: usize) -> Cell
     }
 }
 
-// The cell at a column and row that are counted from the halo of such a box.
+// The cell at a column and row that are counted from the halo of a box at the plane's corner.
 fn halo_cell(x: usize, y: usize) -> Cell
     requires { (x ≤ 66) × (y ≤ 66) }
     ensures x { result.x ≡ pos x -ℤ pos 1 }
@@ -52,6 +52,7 @@ fn halo_cell(x: usize, y: usize) -> Cell
 }
 
 /// Returns what the cell at a column and row of the box carries at time 0.
+#[tactic(auto, using(crate::proofs::OwnWires::start_below))]
 pub fn start_signal_at(job: &Job, x: usize, y: usize) -> Signal
     requires { (x < job.now.area.w) × (y < job.now.area.h) }
     ensures start_is_exact { result
@@ -64,6 +65,7 @@ pub fn start_signal_at(job: &Job, x: usize, y: usize) -> Signal
 /// Returns a column from `x` on, at most the box width. All cells of row `y` from `x` to before it are dead at time 0.
 ///
 /// Contracts do not exclude that the cell at the result is dead too.
+#[tactic(auto, using(crate::proofs::NextCells::start_dead))]
 pub fn skip_dead_starts(job: &Job, x: usize, y: usize) -> usize
     requires { (x ≤ job.now.area.w) × (y < job.now.area.h) }
     ensures range { (x ≤ result) × (result ≤ job.now.area.w) }
@@ -77,6 +79,7 @@ pub fn skip_dead_starts(job: &Job, x: usize, y: usize) -> usize
 }
 
 /// Returns what the cell at a column and row of the box must be at the last time.
+#[tactic(auto, using(crate::proofs::OwnWires::demand_below))]
 pub fn demand_at(job: &Job, x: usize, y: usize) -> Demand
     requires { (x < job.now.area.w) × (y < job.now.area.h) }
     ensures demand_is_exact { result
@@ -90,6 +93,7 @@ pub fn demand_at(job: &Job, x: usize, y: usize) -> Demand
 /// the last time.
 ///
 /// Contracts do not exclude that the cell at the result must be dead too.
+#[tactic(auto, using(crate::proofs::NextCells::demand_dead))]
 pub fn skip_dead_demands(job: &Job, x: usize, y: usize) -> usize
     requires { (x ≤ job.now.area.w) × (y < job.now.area.h) }
     ensures range { (x ≤ result) × (result ≤ job.now.area.w) }
@@ -104,6 +108,7 @@ pub fn skip_dead_demands(job: &Job, x: usize, y: usize) -> usize
 
 /// Returns what the cell at a column and row of the box carries at an odd time, if it is in the ring. Its event is
 /// sought first at some places, whatever they are.
+#[tactic(auto, using(crate::proofs::QuietLemmas::inner_signal, crate::proofs::OwnWires::edge_below))]
 pub fn edge_at(job: &Job, time: u32, x: usize, y: usize, near: EventPlaces) -> Signal
     requires { (x < job.now.area.w) × (y < job.now.area.h) }
     ensures signal_is_exact { result
@@ -118,6 +123,7 @@ pub fn edge_at(job: &Job, time: u32, x: usize, y: usize, near: EventPlaces) -> S
 
 /// Returns what the cell at a column and row, counted from the halo, carries at an odd time, if it is in the halo. Its
 /// event is sought first at some places, whatever they are.
+#[tactic(auto, using(crate::proofs::QuietLemmas::outer_signal, crate::proofs::OwnWires::halo_below))]
 pub fn halo_at(job: &Job, time: u32, x: usize, y: usize, near: EventPlaces) -> Signal
     requires { (x < job.now.area.w + 2) × (y < job.now.area.h + 2) }
     ensures signal_is_exact { result
@@ -131,7 +137,7 @@ pub fn halo_at(job: &Job, time: u32, x: usize, y: usize, near: EventPlaces) -> S
 }
 
 /// Returns whether the cell at a column and row of the box is in its ring.
-pub fn is_ring(job: &Job, x: usize, y: usize) -> bool
+pub fn is_in_ring(job: &Job, x: usize, y: usize) -> bool
     requires { (x < job.now.area.w) × (y < job.now.area.h) }
     ensures { result
         ≡ in_ring job.now.area (box_coord job.now.area.x x) (box_coord job.now.area.y y) }

@@ -1,8 +1,10 @@
 //! The run of a job, and its finding.
 ghost use Rattle.std.specs.Prelude.{◌≡◌, ◌+◌, ◌%◌, ◌<◌, IfOk, MatchOption, false};
 ghost use Rattle.std.specs.Arc.{arc_value};
+ghost use Rattle.module_job.specs.Shapes.{shape_of};
+ghost use Rattle.local_run.specs.Quiet.{AreStarredCellMarks};
 ghost use Rattle.local_run.specs.Faults.{IsLeastFault, IsLeastKeepFault};
-ghost use Rattle.local_run.specs.Scans.{IsHaloSet, IsFirst, IsFirstFaultAt, HasNoFaultOfKind, IsNextStop, IsPassed, IsReady, IsKindSoughtAt, Shows};
+ghost use Rattle.local_run.specs.Scans.{IsHaloSet, IsFirstOfKind, IsFirstFaultAt, HasNoFaultOfKind, IsNextStop, IsPassed, IsReady, IsKindSoughtAt, Shows};
 ghost use Rattle.local_run.specs.Shown.{digest_of, number_of, job_of, fault_of, keep_of};
 
 use crate::border::set_halo_check_ring;
@@ -10,11 +12,12 @@ use crate::fault::{Fault, KeepFault, Kind};
 use crate::finding::Finding;
 use crate::keep::find_least_keep_fault;
 use crate::leaps::next_time;
-use crate::marked_planes::MarkedPlanes;
-use crate::planes::Planes;
-use crate::scan::{first_fault, first_stop_fault};
+use crate::line_marks::LineMarks;
+use crate::lines::EventPlaces;
+use crate::scan::{FaultSearch, first_fault, first_stop_fault};
 use crate::steps::{make_even_step, make_odd_step, put_start};
 use crate::values::Values;
+use lanes::MarkedPlanes;
 use module_job::Job;
 use std::alloc::{AllocError, Global};
 use std::sync::Arc;
@@ -22,23 +25,32 @@ use std::sync::Arc;
 // The first fault of an edge at an odd time before the last. The cells of the halo become what their signals say.
 fn set_halo_find_edge_fault(
     marked_planes: &mut MarkedPlanes,
+    lines: &mut LineMarks,
     values: &Values,
     job: &Job,
     time: u32,
 ) -> Option<Fault>
     requires ready { IsReady job.now values.now }
+    requires lines { AreStarredCellMarks (shape_of job.now) lines.old.all_times.items }
     requires sought { IsKindSoughtAt job.now time Kind.Edge }
     requires shows { Shows job.now values.now time marked_planes.old.planes }
     ensures shows { Shows job.now values.now time marked_planes.new.planes }
     ensures halo { IsHaloSet job.now values.now time marked_planes.new.planes }
+    ensures lines { lines.new.all_times ≡ lines.old.all_times }
     ensures fault { MatchOption result (HasNoFaultOfKind job.now values.now time Kind.Edge)
-        (λ f. IsFirst job.now values.now time Kind.Edge f) }
+        (λ f. IsFirstOfKind job.now values.now time Kind.Edge f) }
 {
-    marked_planes.mark_lines_at(values, job, time);
-    if set_halo_check_ring(marked_planes, values, job, time) {
+    marked_planes.count_down_busy_times();
+    lines.look_at(job, time);
+    if set_halo_check_ring(marked_planes, values, job, lines) {
         return None;
     }
-    first_fault(marked_planes, values, job, time, Kind::Edge)
+    let search = FaultSearch {
+        kind: Kind::Edge,
+        time,
+        near: lines.places().edges,
+    };
+    first_fault(marked_planes, values, job, search)
 }
 
 // The first fault of a time before the last, where `next` is the place of the first stop that is not earlier. If there
@@ -46,22 +58,25 @@ fn set_halo_find_edge_fault(
 // signals say.
 fn fault_at_time(
     marked_planes: &mut MarkedPlanes,
+    lines: &mut LineMarks,
     values: &Values,
     job: &Job,
     time: u32,
     next: &mut usize,
 ) -> Option<Fault>
     requires ready { IsReady job.now values.now }
+    requires lines { AreStarredCellMarks (shape_of job.now) lines.old.all_times.items }
     requires early { time < job.now.steps }
     requires shows { Shows job.now values.now time marked_planes.old.planes }
     requires next { IsNextStop job.now time next.old }
     ensures shows { Shows job.now values.now time marked_planes.new.planes }
     ensures halo { time % 2 ≡ 1 → IsHaloSet job.now values.now time marked_planes.new.planes }
+    ensures lines { lines.new.all_times ≡ lines.old.all_times }
     ensures fault { MatchOption result (IsPassed job.now values.now time next.new)
         (λ f. IsFirstFaultAt job.now values.now time f) }
 {
     if time % 2 == 1 {
-        if let Some(fault) = set_halo_find_edge_fault(marked_planes, values, job, time) {
+        if let Some(fault) = set_halo_find_edge_fault(marked_planes, lines, values, job, time) {
             return Some(fault);
         }
     }
@@ -91,15 +106,27 @@ fn least_fault(alloc: Global, values: &Values, job: &Job) -> Result<Option<Fault
     ensures { IfOk result (λ o. IsLeastFault job.now o) }
 {
     let area = job.area();
-    let planes = Planes::new(alloc, area.w as usize, area.h as usize, values.words())?;
-    let mut marked_planes = MarkedPlanes::new(alloc, planes)?;
+    let mut marked_planes = MarkedPlanes::new(
+        alloc,
+        area.w as usize,
+        area.h as usize,
+        values.words(),
+    )?;
+    let mut lines = LineMarks::new(alloc, job)?;
     put_start(&mut marked_planes, values, job);
     let steps = job.steps();
     let mut next = 0;
     let mut time = 0;
     let mut changed = true;
     'times: while time < steps {
-        if let Some(fault) = fault_at_time(&mut marked_planes, values, job, time, &mut next) {
+        if let Some(fault) = fault_at_time(
+            &mut marked_planes,
+            &mut lines,
+            values,
+            job,
+            time,
+            &mut next,
+        ) {
             return Ok(Some(fault));
         }
         let before = changed;
@@ -109,10 +136,16 @@ fn least_fault(alloc: Global, values: &Values, job: &Job) -> Result<Option<Fault
     if let Some(fault) = first_stop_fault(&marked_planes, values, job, steps, &mut next) {
         return Ok(Some(fault));
     }
-    Ok(first_fault(&marked_planes, values, job, steps, Kind::End))
+    let search = FaultSearch {
+        kind: Kind::End,
+        time: steps,
+        near: EventPlaces::NO_PHASE,
+    };
+    Ok(first_fault(&marked_planes, values, job, search))
 }
 
 // The least fault of the job. If a used gate lacks a row under every assignment, the job has no fault and is not run.
+#[tactic(auto, using(crate::proofs::Leasts::none_undefined))]
 fn least_fault_if_defined(
     alloc: Global,
     values: &Values,
@@ -121,7 +154,7 @@ fn least_fault_if_defined(
     requires { IsReady job.now values.now }
     ensures { IfOk result (λ o. IsLeastFault job.now o) }
 {
-    if values.is_some_defined() {
+    if values.has_defined_assignment() {
         least_fault(alloc, values, job)
     } else {
         Ok(None)
@@ -145,7 +178,7 @@ fn least_fault_and_keep_fault(
 
 /// Runs a job under all assignments of its cuts, for a module of this number of the certificate with this digest.
 ///
-/// This function and [`Finding::for_job`] are the only makers of findings.
+/// Findings are made by this function, and by [`Finding::for_job`] and [`Finding::for_same_shape`] from other findings.
 ///
 /// # Errors
 ///

@@ -1,20 +1,21 @@
 //! The first fault of a kind at a time.
 ghost use Rattle.std.specs.Prelude.{ℕ, ◌≡◌, ◌≢◌, ◌+◌, ◌*◌, ◌/◌, ◌<◌, ◌≤◌, length, true, false, IsTrue, MatchOption};
 ghost use Rattle.circuit.specs.Meaning.{wires};
-ghost use Rattle.module_box.specs.Boxes.{in_box};
+ghost use Rattle.bbm_rule.specs.Boxes.{in_box};
 ghost use Rattle.local_run.specs.Faults.{assignments};
 ghost use Rattle.local_run.specs.Places.{box_coord};
-ghost use Rattle.local_run.specs.Lanes.{lane};
+ghost use Rattle.lanes.specs.Lanes.{lane};
 ghost use Rattle.module_job.specs.Jobs.{job_demand};
 ghost use Rattle.module_job.specs.Signals.{is_live};
-ghost use Rattle.local_run.specs.Scans.{IsFirst, IsFaultWhereDefined, HasNoFaultOfKind, IsLeastBelow, IsStopMissed, IsNextStop, IsReady, IsKindSoughtAt, IsScanStride, Shows, is_defined_under, valuation};
+ghost use Rattle.local_run.specs.Scans.{IsFirstOfKind, IsFaultWhereDefined, HasNoFaultOfKind, IsLeastBelow, IsStopMissed, IsNextStop, IsReady, IsKindSoughtAt, IsScanStride, Shows, is_defined_under, valuation};
 
 use crate::fault::{Fault, Kind};
-use crate::marked_planes::MarkedPlanes;
+use crate::lines::EventPlaces;
 use crate::places::{
-    box_cell_at, column_and_row_of, demand_at, edge_at, is_ring, skip_dead_demands,
+    box_cell_at, column_and_row_of, demand_at, edge_at, is_in_ring, skip_dead_demands,
 };
 use crate::values::Values;
+use lanes::MarkedPlanes;
 use module_box::Signal;
 use module_job::{Demand, Job, Stop};
 
@@ -41,32 +42,41 @@ fn first_live_assignment(
     values.first_difference(marked_planes.planes(), x, y, Signal::Zero)
 }
 
+/// The kind and the time of the faults that are sought.
+#[derive(Clone, Copy)]
+pub struct FaultSearch {
+    pub kind: Kind,
+    pub time: u32,
+    /// The places at which edge lines of the time are looked for first.
+    pub near: EventPlaces,
+}
+
 /// Returns the least assignment under which the cell at a column and row of the box has a fault of the kind.
+#[tactic(auto, using(crate::proofs::Firsts::end_least, crate::proofs::Firsts::inner_in_box, crate::proofs::Firsts::edge_not_found, crate::proofs::Scans::row_from))]
 pub fn cell_fault_assignment(
     marked_planes: &MarkedPlanes,
     values: &Values,
     job: &Job,
-    time: u32,
-    kind: Kind,
+    search: FaultSearch,
     x: usize,
     y: usize,
 ) -> Option<u32>
     requires ready { IsReady job.now values.now }
-    requires shows { Shows job.now values.now time marked_planes.now.planes }
-    requires sought { IsKindSoughtAt job.now time kind }
+    requires shows { Shows job.now values.now search.time marked_planes.now.planes }
+    requires sought { IsKindSoughtAt job.now search.time search.kind }
     requires place { (x < job.now.area.w) × (y < job.now.area.h) }
     ensures { IsLeastBelow (assignments job.now)
-        (λ a. IsFaultWhereDefined job.now values.now a time kind (box_coord job.now.area.x x)
-        (box_coord job.now.area.y y)) result }
+        (λ a. IsFaultWhereDefined job.now values.now a search.time search.kind
+        (box_coord job.now.area.x x) (box_coord job.now.area.y y)) result }
 {
     let planes = marked_planes.planes();
-    match kind {
+    match search.kind {
         Kind::Edge => {
-            if !is_ring(job, x, y) {
+            if !is_in_ring(job, x, y) {
                 return None;
             }
-            let near = marked_planes.line_places().edges;
-            values.first_difference(planes, 1 + x, 1 + y, edge_at(job, time, x, y, near))
+            let signal = edge_at(job, search.time, x, y, search.near);
+            values.first_difference(planes, 1 + x, 1 + y, signal)
         }
         Kind::Stop => None,
         Kind::End => match demand_at(job, x, y) {
@@ -113,7 +123,7 @@ fn skip_faultless_columns(
 {
     match kind {
         Kind::End if !marked_planes.may_be_live(1 + x, 1 + y) => {
-            let live = marked_planes.next_live(1 + x, 1 + y) - 1;
+            let live = marked_planes.skip_dead_in_row(1 + x, 1 + y) - 1;
             skip_dead_demands(job, x, y).min(live)
         }
         _ => x,
@@ -121,19 +131,20 @@ fn skip_faultless_columns(
 }
 
 /// Returns the first fault of the kind at the time, by row, column and assignment, if there is one.
+#[tactic(auto, using(crate::proofs::Firsts::free_from))]
 pub fn first_fault(
     marked_planes: &MarkedPlanes,
     values: &Values,
     job: &Job,
-    time: u32,
-    kind: Kind,
+    search: FaultSearch,
 ) -> Option<Fault>
     requires ready { IsReady job.now values.now }
-    requires shows { Shows job.now values.now time marked_planes.now.planes }
-    requires sought { IsKindSoughtAt job.now time kind }
-    ensures { MatchOption result (HasNoFaultOfKind job.now values.now time kind)
-        (λ f. IsFirst job.now values.now time kind f) }
+    requires shows { Shows job.now values.now search.time marked_planes.now.planes }
+    requires sought { IsKindSoughtAt job.now search.time search.kind }
+    ensures { MatchOption result (HasNoFaultOfKind job.now values.now search.time search.kind)
+        (λ f. IsFirstOfKind job.now values.now search.time search.kind f) }
 {
+    let FaultSearch { kind, time, .. } = search;
     let area = job.area();
     let width = area.w as usize;
     let height = area.h as usize;
@@ -149,8 +160,7 @@ pub fn first_fault(
                 marked_planes,
                 values,
                 job,
-                time,
-                kind,
+                search,
                 x,
                 y,
             ) {
@@ -195,6 +205,7 @@ fn stop_fault_assignment(
 ///
 /// `next` is the place of the first stop that is not earlier. If there is no fault, `next` is then the place of the
 /// first later stop.
+#[tactic(auto, using(crate::proofs::StopScans::one_more))]
 pub fn first_stop_fault(
     marked_planes: &MarkedPlanes,
     values: &Values,
@@ -208,7 +219,7 @@ pub fn first_stop_fault(
     ensures { MatchOption result
         (HasNoFaultOfKind job.now values.now time Kind.Stop
         × IsNextStop job.now (time + 1) next.new)
-        (λ f. IsFirst job.now values.now time Kind.Stop f) }
+        (λ f. IsFirstOfKind job.now values.now time Kind.Stop f) }
 {
     let mut place = *next;
     'stops: while place < job.stops() {

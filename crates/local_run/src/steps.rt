@@ -1,14 +1,14 @@
 //! The start of a run over planes, and its steps.
 ghost use Rattle.std.specs.Prelude.{ℕ, ◌≡◌, ◌+◌, ◌*◌, ◌/◌, ◌%◌, ◌<◌, ◌≤◌, true, false};
 ghost use Rattle.module_job.specs.Jobs.{job_start};
-ghost use Rattle.local_run.specs.Calm.{AreAllCellsDead};
-ghost use Rattle.local_run.specs.Lanes.{HasWordsStrideRows, lane};
+ghost use Rattle.lanes.specs.Calm.{AreAllCellsDead};
+ghost use Rattle.lanes.specs.Lanes.{HasWordsStrideRows, lane};
 ghost use Rattle.local_run.specs.Places.{box_coord};
 ghost use Rattle.local_run.specs.Scans.{IsHaloSet, IsReady, PutsCell, Shows};
 
-use crate::marked_planes::MarkedPlanes;
 use crate::places::{skip_dead_starts, start_signal_at};
 use crate::values::Values;
+use lanes::MarkedPlanes;
 use module_box::Signal;
 use module_job::Job;
 
@@ -29,10 +29,11 @@ fn put_start_cell(marked_planes: &mut MarkedPlanes, values: &Values, job: &Job, 
     if let Signal::Zero = signal {
         return;
     }
-    marked_planes.put(values, 1 + x, 1 + y, signal);
+    values.put(marked_planes, 1 + x, 1 + y, signal);
 }
 
 /// Sets the cells of the box to those of time 0. All cells are dead before.
+#[tactic(auto, using(crate::proofs::NextCells::dead_start, bbm_rule::proofs::BitLemmas::by_lt_or_le, crate::proofs::Stepping::run_start))]
 pub fn put_start(marked_planes: &mut MarkedPlanes, values: &Values, job: &Job)
     requires ready { IsReady job.now values.now }
     requires size { HasWordsStrideRows values.now.words (job.now.area.w / 2 + 1)
@@ -69,6 +70,7 @@ pub fn make_odd_step(
 }
 
 /// Makes an even step, inside the box. Returns whether a cell of the box may have changed.
+#[tactic(auto, using(crate::proofs::Stepping::inside_shows))]
 pub fn make_even_step(
     marked_planes: &mut MarkedPlanes,
     values: &Values,

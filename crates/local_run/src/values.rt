@@ -3,16 +3,11 @@ ghost use Rattle.std.specs.Prelude.{ℕ, ◌≡◌, ◌≢◌, ◌+◌, ◌*◌,
 ghost use Rattle.bbm_rule.specs.Bits.{bit};
 ghost use Rattle.module_job.specs.Jobs.{IsJob};
 ghost use Rattle.module_job.specs.Signals.{is_live};
-ghost use Rattle.local_run.specs.Blocks.{block_at};
-ghost use Rattle.local_run.specs.Calm.{ChangesCells};
-ghost use Rattle.local_run.specs.declared.blocks.Partition.TheVariants.{Odd};
-ghost use Rattle.local_run.specs.Turns.{is_on_main_diagonal};
-ghost use Rattle.local_run.specs.Lanes.{lane};
+ghost use Rattle.lanes.specs.Lanes.{HasWords, lane, word_of};
 ghost use Rattle.local_run.specs.Scans.{HasValueRow, IsLeastBelow, IsReady, IsCellAsSignalUnderWords, KeepsDefinedValues, PutsCell, is_defined_under, valuation};
 ghost use Rattle.module_box.specs.LocalValues.{value_of};
 
-use crate::lines::marks_of_all_times_cells;
-use crate::planes::Planes;
+use lanes::{MarkedPlanes, Planes, WordSource};
 use module_box::{Signal, ValueRows};
 use module_job::Job;
 use std::alloc::{AllocError, Global};
@@ -67,8 +62,6 @@ pub struct Values {
     // how many assignments there are
     count: usize,
     rows: ValueRows,
-    // marks on the numbers of cells of which an edge or halo line says something at all times
-    all_times_marks: Vec<u64>,
 }
 
 impl Values {
@@ -81,20 +74,7 @@ impl Values {
         let count = 1usize << wiring.cuts();
         let words = count.div_ceil(64);
         let rows = without_undefined(wiring.value_rows(alloc, words)?);
-        let all_times_marks = marks_of_all_times_cells(alloc, job)?;
-        Ok(Values {
-            words,
-            count,
-            rows,
-            all_times_marks,
-        })
-    }
-
-    /// Returns marks on the numbers of cells of which an edge or halo line says something at all times.
-    pub fn all_times_marks(&self) -> &[u64]
-        ensures { result.now ≡ self.now.all_times_marks.items }
-    {
-        &self.all_times_marks
+        Ok(Values { words, count, rows })
     }
 
     /// Returns how many words a wire has.
@@ -104,17 +84,31 @@ impl Values {
         self.words
     }
 
+    // The words of a signal: a constant, or those of its row.
+    #[tactic(auto, using(bbm_rule::proofs::MarkLemmas::bit_ones, crate::proofs::Scans::value_in_word))]
+    #[inline(always)]
+    fn source(&self, signal: Signal) -> WordSource
+        requires { HasValueRow self.now signal }
+        ensures words { HasWords self.now.words self.now.rows.values.items result }
+        ensures values { (k b : ℕ) → k < self.now.words → b < 64 →
+            bit (word_of self.now.rows.values.items result k) b
+            ≡ is_live (valuation self.now (64 * k + b)) signal }
+    {
+        match signal {
+            Signal::Zero => WordSource::Constant(0),
+            Signal::One => WordSource::Constant(0xFFFF_FFFF_FFFF_FFFF),
+            Signal::Wire(wire) => WordSource::From(self.words * wire as usize),
+        }
+    }
+
     /// Returns word k of a signal: bit b is whether it is true under assignment 64 k + b.
+    #[inline(always)]
     pub fn word(&self, signal: Signal, k: usize) -> u64
         requires { (k < self.now.words) × HasValueRow self.now signal }
         ensures { (b : ℕ) → b < 64 →
             bit result b ≡ is_live (valuation self.now (64 * k + b)) signal }
     {
-        match signal {
-            Signal::Zero => 0,
-            Signal::One => 0xFFFF_FFFF_FFFF_FFFF,
-            Signal::Wire(wire) => self.rows.values[self.words * wire as usize + k],
-        }
+        self.source(signal).word(&self.rows.values, k)
     }
 
     /// Returns the least assignment at which each used gate has a row and a cell is not as the signal says.
@@ -146,6 +140,7 @@ impl Values {
 
     // The least assignment at which each used gate has a row and a cell is not as the signal says. It looks at each
     // word.
+    #[tactic(auto, using(crate::proofs::Scans::differs_not))]
     fn seek_difference(&self, planes: &Planes, x: usize, y: usize, signal: Signal) -> Option<u32>
         requires place { (x / 2 < planes.now.stride) × (y / 2 < planes.now.rows) }
         requires words { (self.now.words ≡ planes.now.words) × (self.now.words ≤ 64) }
@@ -185,13 +180,13 @@ impl Values {
             Signal::Zero => planes.differs_from_word(x, y, 0),
             Signal::One => planes.differs_from_word(x, y, 0xFFFF_FFFF_FFFF_FFFF),
             Signal::Wire(wire) => {
-                planes.differs_from_row(x, y, &self.rows.values, self.words * wire as usize)
+                planes.differs_from_words(x, y, &self.rows.values, self.words * wire as usize)
             }
         }
     }
 
     /// Returns whether each used gate has a row under some assignment. Only `false` is proved to be right.
-    pub fn is_some_defined(&self) -> bool
+    pub fn has_defined_assignment(&self) -> bool
         requires defined { self.now.words ≤ length self.now.rows.defined.items }
         requires room_for_assignments { self.now.count ≤ 64 * self.now.words }
         ensures { result ≡ false → (a : ℕ) → a < self.now.count →
@@ -206,7 +201,7 @@ impl Values {
     }
 
     /// Returns the least assignment under which a used gate is the first without a row, if there is one.
-    pub fn first_undefined(&self, gate: usize) -> Option<u32>
+    pub fn first_undefined_assignment(&self, gate: usize) -> Option<u32>
         requires words { self.now.words ≤ 64 }
         requires gate_below_64 { gate < 64 }
         requires room_for_assignments { self.now.count ≤ 64 * self.now.words }
@@ -229,17 +224,13 @@ impl Values {
     }
 
     /// Sets a cell, counted from the halo, to what the signal says.
-    pub fn put(&self, planes: &mut Planes, x: usize, y: usize, signal: Signal)
-        requires place { (x / 2 < planes.old.stride) × (y / 2 < planes.old.rows) }
-        requires words { (self.now.words ≡ planes.old.words) × (self.now.words ≤ 64) }
+    pub fn put(&self, marked_planes: &mut MarkedPlanes, x: usize, y: usize, signal: Signal)
+        requires place { (x / 2 < marked_planes.old.planes.stride)
+            × (y / 2 < marked_planes.old.planes.rows) }
+        requires words { self.now.words ≡ marked_planes.old.planes.words }
         requires row { HasValueRow self.now signal }
-        ensures put { PutsCell self.now x y signal planes.old planes.new }
-        ensures cells { ChangesCells (is_on_main_diagonal x y) (not (is_on_main_diagonal x y))
-            (block_at Odd planes.old.stride (planes.old.stride * (y / 2) + x / 2))
-            planes.old planes.new }
+        ensures { PutsCell self.now x y signal marked_planes.old.planes marked_planes.new.planes }
     {
-        for k in 0..self.words {
-            planes.set_word(x, y, k, self.word(signal, k));
-        }
+        marked_planes.put(x, y, &self.rows.values, self.source(signal));
     }
 }

@@ -1,12 +1,10 @@
 -- The cells of a box, and the place of a cell's block in a table of owners
-use Rattle.lemmas.proofs.Common.{◌%◌, ◌*◌, ◌+◌, ◌/◌, ◌<◌, ◌∙◌, ◌≡◌, ◌≤◌, Option, Some, arith, get_or, length, negsuc}
-use Rattle.lemmas.proofs.Common.{pos, refl, sym, true, ℕ, ℤ, and_parts, common_steps, false≢true, get_or_from_slice_get}
-use Rattle.lemmas.proofs.Common.{mul-le-mul_right, slice_get_read, unsigned_abs}
-use Rattle.bbm_rule.specs.Spans.{in_span}
-use Rattle.bbm_rule.proofs.Spans.{span_parts, in_span-negsuc}
-use Rattle.module_box.specs.Boxes.{in_box}
-use Rattle.module_box.specs.Tiling.{Owning, rectangle, owner_of, IsTable}
-use Rattle.module_box.specs.declared.boxes.Box2.{Box2}
+use Rattle.module_box.proofs.Imports.{Box2, IsOwnersTable, Option, OwnersView, Some, and_parts, arith, common_steps}
+use Rattle.module_box.proofs.Imports.{false≢true, get_or, get_or_from_slice_get, in_box, in_span, length}
+use Rattle.module_box.proofs.Imports.{mul-le-mul_right, owner_of, pos, rectangle, refl, slice_get_read, span_parts, sym}
+use Rattle.module_box.proofs.Imports.{true, unsigned_abs, ℕ, ℤ, ◌%◌, ◌*◌, ◌+◌, ◌/◌, ◌<◌, ◌∙◌, ◌≡◌, ◌≤◌}
+use Rattle.lemmas.proofs.Common.{negsuc}
+use Rattle.bbm_rule.proofs.Spans.{in_span-negsuc}
 
 pub in_span_nat : (f n : ℕ) (x : ℤ) → in_span f n x ≡ true → (k : ℕ) × (x ≡ pos k) × (f ≤ k) × (k < f + n)
 in_span_nat f n (pos k) h = let p = span_parts f n k h in (k, refl, p.0, p.1)
@@ -30,7 +28,7 @@ same_some o a b e f = cc
 halves : (a b : ℕ) → a < b → b % 2 ≡ 0 → a / 2 < b / 2
 halves a b p q = omega arith
 
-pub owner_index : (o : Owning) (x y : ℤ) → IsTable o → in_box (rectangle o) x y ≡ true →
+pub owner_index : (o : OwnersView) (x y : ℤ) → IsOwnersTable o → in_box (rectangle o) x y ≡ true →
     (unsigned_abs y / 2) * (o.width / 2) + unsigned_abs x / 2 < (o.height / 2) * (o.width / 2)
 owner_index o x y t h =
     let p = abs_within (rectangle o) x y h in
@@ -38,11 +36,12 @@ owner_index o x y t h =
     (halves _ _ (let q : unsigned_abs y < o.height = omega (arith, p.1) in q) t.height.2)
     (halves _ _ (let q : unsigned_abs x < o.width = omega (arith, p.0) in q) t.width.2)
 
-pub owner_in_table : (o : Owning) (x y : ℤ) → IsTable o → in_box (rectangle o) x y ≡ true →
+pub owner_in_table : (o : OwnersView) (x y : ℤ) → IsOwnersTable o → in_box (rectangle o) x y ≡ true →
     (unsigned_abs y / 2) * (o.width / 2) + unsigned_abs x / 2 < length o.numbers
 owner_in_table o x y t h = grind (arith, common_steps, owner_index)
 
-pub owner_read : (o : Owning) (x y : ℤ) (a b r : ℕ) → IsTable o → in_box (rectangle o) x y ≡ true → a ≡ unsigned_abs y →
+pub owner_read : (o : OwnersView) (x y : ℤ) (a b r : ℕ) → IsOwnersTable o → in_box (rectangle o) x y ≡ true →
+    a ≡ unsigned_abs y →
     b ≡ unsigned_abs x →
     r ≡ get_or o.numbers ((a / 2) * (o.width / 2) + b / 2) r → r ≡ owner_of o x y
 unfolding owner_of

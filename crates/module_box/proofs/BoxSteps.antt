@@ -1,12 +1,9 @@
 -- The cells of a box after a step
-use Rattle.lemmas.proofs.Common.{◌%◌, ◌&&◌, ◌≡◌, ap, ap₂, arith, ℕ, ℤ, common_steps}
-use Rattle.bbm_rule.specs.Plane.{State, partner, step}
-use Rattle.bbm_rule.specs.Spans.{in_span}
-use Rattle.module_box.specs.Boxes.{in_box, IsEven}
-use Rattle.module_box.specs.Laws.{LiesInBox, SameInBox, EvenStep}
-use Rattle.module_box.specs.declared.boxes.Box2.{Box2}
+use Rattle.module_box.proofs.Imports.{Box2, IsEven, SameInBox, State, ap, ap₂, arith, common_steps, in_box, in_span}
+use Rattle.module_box.proofs.Imports.{partner, step, step_same, ℕ, ℤ, ◌%◌, ◌&&◌, ◌≡◌}
+use Rattle.module_box.specs.Laws.{LiesInBox, EvenStep}
 use Rattle.bbm_rule.proofs.Spans.{even_span}
-use Rattle.bbm_rule.proofs.Steps.{step_same, step_dead}
+use Rattle.bbm_rule.proofs.Steps.{step_dead}
 
 -- in an even step the cells of a block lie together in an even box, or outside it
 pub even_both : (b : Box2) (t : ℕ) (x y : ℤ) → IsEven b → t % 2 ≡ 0 →

@@ -1,9 +1,9 @@
 -- The words of cuts: the bits of a counter, 64 values of the counter at once
-use Rattle.lemmas.proofs.Common.{[], ◌*◌, ◌++◌, ◌+◌, ◌-◌, ◌<◌, ◌∙◌, ◌∷◌, ◌≡◌, ◌≤◌, Bool, List, ap, arith, false, length}
-use Rattle.lemmas.proofs.Common.{refl, slice_index_or, sym, true, ℕ, bit_at_cat_high, bit_at_cat_low, bit_at_ones}
-use Rattle.lemmas.proofs.Common.{cases_lt, common_steps, get_or_append_left}
-use Rattle.bbm_rule.specs.Bits.{bit}
-use Rattle.bbm_rule.proofs.BitLemmas.{holds_below, below_from_test, bit-zero}
+use Rattle.module_box.proofs.Imports.{Bool, List, [], ap, arith, bit, bit-zero, cases_lt, common_steps, false}
+use Rattle.module_box.proofs.Imports.{get_or_append_left, length, refl, slice_index_or, sym, true, ℕ, ◌*◌, ◌++◌, ◌+◌}
+use Rattle.module_box.proofs.Imports.{◌-◌, ◌<◌, ◌∙◌, ◌∷◌, ◌≡◌, ◌≤◌}
+use Rattle.lemmas.proofs.Common.{bit_at_cat_high, bit_at_cat_low, bit_at_ones}
+use Rattle.bbm_rule.proofs.BitLemmas.{holds_below, below_from_test}
 
 abbrev pub same : Bool → Bool → Bool
 same true y = y

@@ -1,22 +1,14 @@
 -- The tests of equality answer whether two values are equal
-use Rattle.lemmas.proofs.Common.{[], ◌&&◌, ◌∷◌, ◌≡◌, Bool, List, None, Option, Some, ap, arith, false, get_or, map}
-use Rattle.lemmas.proofs.Common.{nat_eq, refl, true, ℕ, Decides, Decides-eqb, and_parts, common_steps, on, option_eq}
-use Rattle.lemmas.proofs.Common.{pointwise, slice_eq-Decides}
-use Rattle.bbm_rule.specs.declared.block.Cell.{Cell}
-use Rattle.circuit.specs.declared.circuit_line.GateKind.{GateKind}
-use Rattle.circuit.specs.declared.circuit_line.GateKind.TheVariants.{Source, Fredkin, Cswap, Interact, Switch, Delay}
-use Rattle.circuit.specs.declared.circuit_line.GateKind.TheVariants.{Unswitch, Uninteract}
-use Rattle.circuit.specs.Meaning.{Gate, Netlist}
-use Rattle.module_box.specs.declared.schedules.AllTimes.{AllTimes}
-use Rattle.module_box.specs.declared.schedules.TimedSignal.{TimedSignal}
+use Rattle.module_box.proofs.Imports.{AllTimesSignal, Bool, Cell, Cswap, Delay, Fredkin, Gate, GateKind, Interact, List}
+use Rattle.module_box.proofs.Imports.{LocalGate, Netlist, None, Option, Some, Source, Switch, TimedSignal, Uninteract}
+use Rattle.module_box.proofs.Imports.{Unswitch, Zero, [], and_parts, ap, arith, common_steps, false, gate_kind_number}
+use Rattle.module_box.proofs.Imports.{gate_of_local_gate, get_or, map, nat_eq, refl, true, ℕ, ◌&&◌, ◌∷◌, ◌≡◌}
+use Rattle.lemmas.proofs.Common.{Decides, Decides-eqb, on, option_eq, pointwise, slice_eq-Decides}
 use Rattle.module_box.specs.declared.schedules.Signal.{Signal}
-use Rattle.module_box.specs.declared.schedules.Signal.TheVariants.{Zero, One, Wire}
-use Rattle.module_box.specs.declared.locals.LocalGate.{LocalGate}
-use Rattle.module_box.specs.LocalGates.{gate_of_local_gate}
+use Rattle.module_box.specs.declared.schedules.Signal.TheVariants.{One, Wire}
 use Rattle.module_box.specs.Laws.{LocalsEqualityDecides, ScheduleEqualityDecides}
 use Rattle.module_box.specs.Equality.{is_one, signal_wire, same_signal, same_cell, same_all_times, same_event}
-use Rattle.module_box.specs.Equality.{gate_kind_number, source_bit, delay_steps, same_gate_kind, same_gate}
-use Rattle.module_box.specs.Equality.{same_netlist}
+use Rattle.module_box.specs.Equality.{source_bit, delay_steps, same_gate_kind, same_gate, same_netlist}
 
 -- two tests, of two parts
 pub both : {P Q R : Type 0} (r s : Bool) → Decides r P → Decides s Q → (P → Q → R) → (R → P) → (R → Q) →
@@ -52,7 +44,7 @@ signal_decides a b = grind (arith, common_steps, both, options, signal_back, sig
 pub cell_decides : (a b : Cell) → Decides (same_cell a b) (a ≡ b)
 cell_decides a b = grind (arith, common_steps, both)
 
-pub all_times_decides : (a b : AllTimes) → Decides (same_all_times a b) (a ≡ b)
+pub all_times_decides : (a b : AllTimesSignal) → Decides (same_all_times a b) (a ≡ b)
 all_times_decides a b =
     both _ _ (cell_decides a.cell b.cell) (signal_decides a.signal b.signal)
     (λ cell signal i. record { cell = cell i; signal = signal i }) (λ e. ap (λ h. h.cell) e) (λ e. ap (λ h. h.signal) e)

@@ -1,7 +1,5 @@
 -- The cells of a box, counted from its corner
-use Rattle.lemmas.proofs.Common.{◌≡◌, ◌≤◌, arith, true, ℤ, common_steps, unsigned_abs}
-use Rattle.module_box.specs.Boxes.{in_box}
-use Rattle.module_box.specs.declared.boxes.Box2.{Box2}
+use Rattle.module_box.proofs.Imports.{Box2, arith, common_steps, in_box, true, unsigned_abs, ℤ, ◌≡◌, ◌≤◌}
 use Rattle.module_box.proofs.BoxCells.{in_box_nats}
 
 -- a column or row of a box is not before the first

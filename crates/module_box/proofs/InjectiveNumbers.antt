@@ -1,13 +1,11 @@
 -- Lists of numbers that tell what they were made of
-use Rattle.lemmas.proofs.Common.{[], ◌++◌, ◌+◌, ◌∙◌, ◌∷◌, ◌≡◌, List, ap, append_assoc, ap₂, arith, false, flat_map}
-use Rattle.lemmas.proofs.Common.{get_or, length, nat_eq, refl, suc, sym, true, zero, ℕ, common_steps, range_with_len}
+use Rattle.module_box.proofs.Imports.{Cswap, Delay, Fredkin, GateKind, Interact, List, Source, Switch, Uninteract}
+use Rattle.module_box.proofs.Imports.{Unswitch, [], ap, append_assoc, ap₂, arith, common_steps, false, flat_map}
+use Rattle.module_box.proofs.Imports.{gate_code_numbers, gate_kind_number, get_or, length, nat_eq, range_with_len, refl}
+use Rattle.module_box.proofs.Imports.{suc, sym, true, zero, ℕ, ◌++◌, ◌+◌, ◌∙◌, ◌∷◌, ◌≡◌}
 use Rattle.lemmas.proofs.Common.{same_head, same_tail}
-use Rattle.circuit.specs.declared.circuit_line.GateKind.{GateKind}
-use Rattle.circuit.specs.declared.circuit_line.GateKind.TheVariants.{Source, Fredkin, Cswap, Interact, Switch, Delay}
-use Rattle.circuit.specs.declared.circuit_line.GateKind.TheVariants.{Unswitch, Uninteract}
-use Rattle.module_box.specs.Equality.{gate_kind_number}
-use Rattle.module_box.specs.Numbers.{IsPrefixFree, NumbersDetermineGates, length_prefixed, gate_code_numbers}
-use Rattle.module_box.specs.Numbers.{netlist_numbers, gate_kind_parameter}
+use Rattle.module_box.specs.Numbers.{IsPrefixFree, NumbersDetermineGates, length_prefixed, netlist_numbers}
+use Rattle.module_box.specs.Numbers.{gate_kind_parameter}
 
 range_suc : (a n : ℕ) → range_with_len a (suc n) ≡ range_with_len a n ++ (a + n) ∷ []
 range_suc a zero = ap (λ k. k ∷ []) (omega arith)

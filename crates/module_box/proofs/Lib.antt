@@ -1,6 +1,5 @@
 pub mod BoxSteps
 pub mod Neighbours
-pub mod RingTests
 pub mod BoxCells
 pub mod Tilings
 pub mod Takings
@@ -17,3 +16,4 @@ pub mod MovedBoxes
 pub mod NearBoxes
 pub mod InjectiveNumbers
 pub mod FromCorner
+pub mod Imports

@@ -1,18 +1,14 @@
 -- The wires and gates of a module, gate after gate
-use Rattle.lemmas.proofs.Common.{[], ◌*◌, ◌++◌, ◌+◌, ◌<◌, ◌∙◌, ◌∷◌, ◌≡◌, ◌≤◌, ◌⊎◌, All, IsTrue, List, Some, ap}
-use Rattle.lemmas.proofs.Common.{append-nil, append_assoc, ap₂, arith, drop, flat_map, get_or, inl, inr, length}
-use Rattle.lemmas.proofs.Common.{length-append, map, refl, slice_get, slice_index, subst, suc, sym, take}
-use Rattle.lemmas.proofs.Common.{take-append-drop, zero, ℕ, All-head, All-tail, common_steps, flat_map-append}
-use Rattle.lemmas.proofs.Common.{get_or_append_left, get_or_at, get_or_default, length-map, length-range_with_len}
-use Rattle.lemmas.proofs.Common.{length_push, range_with_len, same_Some, slice_get-get_or, slice_get_read, take_all}
-use Rattle.lemmas.proofs.Common.{take_more}
-use Rattle.circuit.specs.declared.circuit_line.GateKind.{GateKind}
-use Rattle.circuit.specs.declared.circuit_line.GateKind.TheVariants.{Source, Fredkin, Cswap, Interact, Switch, Delay}
-use Rattle.circuit.specs.declared.circuit_line.GateKind.TheVariants.{Unswitch, Uninteract}
-use Rattle.circuit.specs.Gates.{uses, defines}
-use Rattle.circuit.specs.Meaning.{Gate, Netlist, AreOrdered, wires_after}
-use Rattle.module_box.specs.Locals.{outs_of, local_wires, is_among, AreDifferent, IsKnown, AreLocalLines, renumber_gate}
-use Rattle.module_box.specs.Locals.{AreLocalsOf}
+use Rattle.module_box.proofs.Imports.{All, All-head, All-tail, AreDistinct, AreLocalsOf, AreOrdered, Cswap, Delay}
+use Rattle.module_box.proofs.Imports.{Fredkin, Gate, GateKind, Interact, IsTrue, List, Netlist, Some, Source, Switch}
+use Rattle.module_box.proofs.Imports.{Uninteract, Unswitch, [], ap, append_assoc, ap₂, arith, common_steps, defines}
+use Rattle.module_box.proofs.Imports.{drop, flat_map, get_or, get_or_append_left, get_or_default, inl, inr, is_among}
+use Rattle.module_box.proofs.Imports.{length, length-append, length-map, length-range_with_len, length_push, map}
+use Rattle.module_box.proofs.Imports.{range_with_len, refl, renumber_gate, same_Some, slice_get, slice_get-get_or}
+use Rattle.module_box.proofs.Imports.{slice_get_read, slice_index, subst, suc, sym, take, take-append-drop, take_more}
+use Rattle.module_box.proofs.Imports.{uses, wires_after, zero, ℕ, ◌*◌, ◌++◌, ◌+◌, ◌<◌, ◌∙◌, ◌∷◌, ◌≡◌, ◌≤◌, ◌⊎◌}
+use Rattle.lemmas.proofs.Common.{append-nil, flat_map-append, get_or_at, take_all}
+use Rattle.module_box.specs.Locals.{outs_of, local_wires, UsesOnlyKnownWires, AreLocalLines}
 use Rattle.module_box.proofs.WireLists.{different_front}
 
 -- ---- gates in order
@@ -128,25 +124,26 @@ part_none n cuts gates keys lines is = grind (arith, common_steps, append-nil)
 -- the wires that it uses are known
 pub next_known : (n : Netlist) (cuts gates : List ℕ) (i k : ℕ) (keys : List ℕ) (done : List Gate) →
     AreLocalLines n cuts gates → IsPart n cuts gates i keys done → i < length gates → k ≡ get_or gates i k →
-    IsKnown n keys k
+    UsesOnlyKnownWires n keys k
 next_known n cuts gates i k keys done lines part within is = grind (arith, common_steps, slice_get_read)
 
 -- and so for the gate that the circuit has there
-pub known_ins : (n : Netlist) (keys : List ℕ) (k : ℕ) (g : Gate) → IsKnown n keys k → slice_get n.gates k ≡ Some g →
+pub known_ins : (n : Netlist) (keys : List ℕ) (k : ℕ) (g : Gate) → UsesOnlyKnownWires n keys k →
+    slice_get n.gates k ≡ Some g →
     All (λ w. IsTrue (is_among keys w)) g.ins
 known_ins n keys k g known at = grind (arith, common_steps, same_Some)
 
 -- those that it defines are not
 pub next_new : (n : Netlist) (cuts gates : List ℕ) (i k : ℕ) (keys : List ℕ) (done : List Gate) (g : Gate) →
     AreLocalLines n cuts gates → IsPart n cuts gates i keys done → i < length gates → k ≡ get_or gates i k →
-    slice_get n.gates k ≡ Some g → AreDifferent (keys ++ g.outs)
+    slice_get n.gates k ≡ Some g → AreDistinct (keys ++ g.outs)
 next_new n cuts gates i k keys done g lines part within is at =
     let more : local_wires n cuts (take (i + 1) gates) ≡ keys ++ g.outs =
     known_more n cuts gates i k g within is at ∙ ap (λ (l : List ℕ). l ++ g.outs) (sym part.known) in
     let whole : local_wires n cuts gates ≡ (keys ++ g.outs) ++ flat_map (outs_of n) (drop (i + 1) gates) =
     known_rest n cuts gates (i + 1) ∙ ap (λ (l : List ℕ). l ++ flat_map (outs_of n) (drop (i + 1) gates)) more in
     different_front (keys ++ g.outs) (flat_map (outs_of n) (drop (i + 1) gates))
-    (subst AreDifferent whole lines.different)
+    (subst AreDistinct whole lines.different)
 
 -- it is done
 pub part_more : (n : Netlist) (cuts gates : List ℕ) (i k : ℕ) (keys new : List ℕ) (done : List Gate) (g h : Gate) →

@@ -1,19 +1,17 @@
 -- The values of all wires of a module, and its gates without a row: one assignment, and rows of assignments
-use Rattle.lemmas.proofs.Common.{[], ◌%◌, ◌*◌, ◌++◌, ◌+◌, ◌/◌, ◌<◌, ◌∙◌, ◌∷◌, ◌≡◌, ◌≢◌, ◌≤◌, All, Bool, List, None}
-use Rattle.lemmas.proofs.Common.{Option, Some, ap, arith, eq-eqb, false, get_or, get_or-append-add, get_or-set_other}
-use Rattle.lemmas.proofs.Common.{get_or-set_same, inl, inr, length, length-set, map, refl, set, slice_index}
-use Rattle.lemmas.proofs.Common.{slice_index_or, subst, sym, true, true≢false, ℕ, All-cons, All-head, All-nil, All-tail}
-use Rattle.lemmas.proofs.Common.{cases_Bool, cases_lt, common_steps, eqb-true, get_or-range_with_len}
-use Rattle.lemmas.proofs.Common.{get_or_append_left, length-map, length-range_with_len, length_push, mul-le-mul_left}
-use Rattle.lemmas.proofs.Common.{range_with_len, slice_get_within}
-use Rattle.bbm_rule.specs.Bits.{bit}
-use Rattle.circuit.specs.Gates.{row, defines}
-use Rattle.circuit.specs.Meaning.{Gate, Netlist, Valuation, HasRow, Satisfies, AreOrdered, wires, wires_after}
-use Rattle.circuit.specs.Bridge.{read}
+use Rattle.module_box.proofs.Imports.{All, All-head, All-tail, AreOrdered, Bool, Gate, HasRow, IsColumnAt, List}
+use Rattle.module_box.proofs.Imports.{Netlist, None, Option, Satisfies, SaysColumn, Some, Valuation, [], ap, arith}
+use Rattle.module_box.proofs.Imports.{as_values, bit, cases_Bool, cases_lt, common_steps, defines, eq-eqb, eqb-true}
+use Rattle.module_box.proofs.Imports.{false, get_or, get_or-append-add, get_or_append_left, inl, inr, is_none}
+use Rattle.module_box.proofs.Imports.{is_this_gate, lane, length, length-map, length-range_with_len, length_push, map}
+use Rattle.module_box.proofs.Imports.{mul-le-mul_left, range_with_len, refl, row, slice_get_within, slice_index}
+use Rattle.module_box.proofs.Imports.{slice_index_or, subst, sym, true, true≢false, wires, wires_after, ℕ, ◌%◌, ◌*◌}
+use Rattle.module_box.proofs.Imports.{◌++◌, ◌+◌, ◌/◌, ◌<◌, ◌∙◌, ◌∷◌, ◌≡◌, ◌≢◌, ◌≤◌}
+use Rattle.lemmas.proofs.Common.{get_or-set_other, get_or-set_same, length-set, set, All-cons, All-nil}
+use Rattle.lemmas.proofs.Common.{get_or-range_with_len}
 use Rattle.circuit.proofs.Undefined.{undefined_at, undefined_is}
 use Rattle.circuit.proofs.Valuations.{evaluated, map_below}
-use Rattle.module_box.specs.LocalValues.{AreRowsAt, IsColumnAt, SaysColumn, bit_of_row, is_this_gate, is_none, value_of}
-use Rattle.module_box.specs.LocalValues.{lane}
+use Rattle.module_box.specs.LocalValues.{AreRowsAt, bit_of_row, value_of}
 use Rattle.module_box.proofs.WordRows.{read_lane}
 
 -- ---- what satisfies a netlist does so by its values of the netlist's wires
@@ -114,7 +112,7 @@ value_put : (words place n : ℕ) (column old new : List ℕ) (a w : ℕ) → Is
 unfolding value_of
 value_put words place n column old new a w is at below = grind (arith, common_steps)
 
--- the columns of so many chunks are written
+-- the columns of the first `chunk` chunks are written
 pub record AreRowsBelow (l : Netlist) (words chunk : ℕ) (values undefined defined : List ℕ) : Type 0 where
   pub long : length values ≡ words * wires l
   pub tall : length undefined ≡ words * length l.gates
@@ -164,7 +162,7 @@ rows_more l words chunk word column gaps values values' undefined undefined' def
             ap (λ k. bit k b) (ap (λ (ws : List ℕ). slice_index ws (a / 64)) pushed
             ∙ ap (λ n. slice_index (defined ++ word ∷ []) n) (sym place) ∙ get_or-append-add defined (word ∷ []) 0 0) in
             record {
-              local = λ e. satisfies_same l (bit a) (read (lane b column)) (value_of words values' a) ordered
+              local = λ e. satisfies_same l (bit a) (as_values (lane b column)) (value_of words values' a) ordered
                   (λ w below. read_lane column b w
                   ∙ sym (value_put words chunk (wires l) column values values' a w written at below))
                   (is.values (sym same ∙ e)).satisfies;
@@ -207,7 +205,7 @@ pub column_at : (l : Netlist) (given words undefined : List ℕ) (defined a b : 
 column_at l given words undefined defined a b ordered long bits says =
     let vs : List Bool = lane b given in
     let len : length vs ≡ l.given = length-map given (λ x. bit x b) ∙ long in
-    let same : (i : ℕ) → i < l.given → read vs i ≡ bit a i = λ i h. read_lane given b i ∙ bits i h in
+    let same : (i : ℕ) → i < l.given → as_values vs i ≡ bit a i = λ i h. read_lane given b i ∙ bits i h in
     record {
       values = λ e. evaluated l (bit a) vs (lane b words) ordered len same (says.values e);
       undefined = λ k below. (

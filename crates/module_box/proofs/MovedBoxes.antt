@@ -1,22 +1,15 @@
 -- Boxes and signals that are moved
-use Rattle.lemmas.proofs.Common.{[], ◌&&◌, ◌+ℤ◌, ◌+◌, ◌∷◌, ◌≡◌, Equal, Greater, Less, List, Ordering, Some, ap}
-use Rattle.lemmas.proofs.Common.{ap₂, arith, if◌then◌else◌, map, nat_eq, not, pos, refl, unwrap_or}
-use Rattle.lemmas.proofs.Common.{ℕ, ℤ, common_steps, int_le, int_lt, ints, ordering_then, down_moved, mapped_from}
+use Rattle.module_box.proofs.Imports.{AllTimesSignal, Box2, Cell, Equal, Greater, IsRising, Less, List, Ordering, Some}
+use Rattle.module_box.proofs.Imports.{State, TimedSignal, Zero, [], all_times_at, ap, ap₂, arith, cell_cmp, cell_of}
+use Rattle.module_box.proofs.Imports.{common_steps, event_at, in_box, in_halo, in_ring, in_span, ints, is_at, map}
+use Rattle.module_box.proofs.Imports.{moment_cmp, moment_of, moved_all_times, moved_event, nat_eq, not, pos, refl}
+use Rattle.module_box.proofs.Imports.{some_neighbour, ℕ, ℤ, ◌&&◌, ◌+ℤ◌, ◌+◌, ◌∷◌, ◌≡◌}
+use Rattle.lemmas.proofs.Common.{if◌then◌else◌, unwrap_or, int_le, int_lt, ordering_then, down_moved, mapped_from}
 use Rattle.lemmas.proofs.Common.{up_moved}
 use Rattle.std.specs.Ordering.{int_eq, int_cmp, nat_cmp}
 use Rattle.bbm_rule.specs.Moves.{IsMoved}
-use Rattle.bbm_rule.specs.Plane.{State, is_at}
-use Rattle.bbm_rule.specs.Spans.{in_span}
-use Rattle.bbm_rule.specs.declared.block.Cell.{Cell}
-use Rattle.module_box.specs.Boxes.{in_box, in_ring, in_halo, some_neighbour}
-use Rattle.module_box.specs.Moments.{cell_cmp, moment_cmp}
-use Rattle.module_box.specs.Moves.{moved_cell, moved_all_times, moved_event, moved_signals, IsMovedBox, BoxesMoveAlong}
-use Rattle.module_box.specs.Moves.{SignalsMoveAlong}
-use Rattle.module_box.specs.Schedules.{IsRising, Signals, cell_of, moment_of, all_times_at, event_at, signal_at}
-use Rattle.module_box.specs.declared.boxes.Box2.{Box2}
-use Rattle.module_box.specs.declared.schedules.TimedSignal.{TimedSignal}
-use Rattle.module_box.specs.declared.schedules.AllTimes.{AllTimes}
-use Rattle.module_box.specs.declared.schedules.Signal.TheVariants.{Zero}
+use Rattle.module_box.specs.Moves.{moved_cell, moved_signals, IsMovedBox, BoxesMoveAlong, SignalsMoveAlong}
+use Rattle.module_box.specs.Schedules.{Signals, signal_at}
 
 -- ---- comparisons of numbers that are moved alike
 le_moved : (a b d : ℤ) → int_le (a +ℤ d) (b +ℤ d) ≡ int_le a b
@@ -64,7 +57,7 @@ boxes_moved dx dy b b' m =
 at_moved : (dx dy : ℤ) (c : Cell) (x y : ℤ) → is_at (moved_cell dx dy c) (x +ℤ dx) (y +ℤ dy) ≡ is_at c x y
 at_moved dx dy c x y = ap₂ (λ p q. p && q) (eq_moved c.x x dx) (eq_moved c.y y dy)
 
-all_times_moved : (dx dy : ℤ) (hs : List AllTimes) (x y : ℤ) →
+all_times_moved : (dx dy : ℤ) (hs : List AllTimesSignal) (x y : ℤ) →
     all_times_at (map (moved_all_times dx dy) hs) (x +ℤ dx) (y +ℤ dy) ≡ all_times_at hs x y
 unfolding all_times_at
 all_times_moved dx dy [] x y = refl
@@ -114,7 +107,7 @@ rising_mapped : {A K : Type 0} (cmp : K → K → Ordering) (key : A → K) (f :
     IsRising cmp key (map f xs)
 rising_mapped cmp key f same xs rising = grind (arith, common_steps, mapped_from)
 
-pub all_times_rising : (dx dy : ℤ) (hs : List AllTimes) → IsRising cell_cmp cell_of hs →
+pub all_times_rising : (dx dy : ℤ) (hs : List AllTimesSignal) → IsRising cell_cmp cell_of hs →
     IsRising cell_cmp cell_of (map (moved_all_times dx dy) hs)
 all_times_rising dx dy hs rising = grind (arith, common_steps, rising_mapped, cell_cmp_moved)
 

@@ -1,11 +1,11 @@
 -- Boxes that a halo reaches
-use Rattle.lemmas.proofs.Common.{◌+ℤ◌, ◌+◌, ◌-ℤ◌, ◌<◌, ◌||◌, ◌∙◌, ◌≡◌, ◌≤◌, ◌⊎◌, arith, inl, inr, pos, refl, true, ℕ, ℤ}
-use Rattle.lemmas.proofs.Common.{and_from, and_parts, common_steps, ints, lt-ltb, or_cases}
-use Rattle.bbm_rule.specs.Spans.{in_span}
-use Rattle.module_box.specs.Boxes.{in_box, in_halo, is_near}
-use Rattle.module_box.specs.declared.boxes.Box2.{Box2}
+use Rattle.module_box.proofs.Imports.{Box2, and_from, and_parts, arith, common_steps, in_box, in_halo, in_span, inl}
+use Rattle.module_box.proofs.Imports.{inr, ints, or_cases, pos, refl, true, ℕ, ℤ, ◌+ℤ◌, ◌+◌, ◌-ℤ◌, ◌<◌, ◌||◌, ◌∙◌, ◌≡◌}
+use Rattle.module_box.proofs.Imports.{◌≤◌, ◌⊎◌}
+use Rattle.lemmas.proofs.Common.{lt-ltb}
+use Rattle.bbm_rule.specs.Boxes.{is_near}
+use Rattle.bbm_rule.proofs.RingTests.{halo_read}
 use Rattle.module_box.proofs.BoxCells.{in_span_nat}
-use Rattle.module_box.proofs.RingTests.{halo_read}
 
 -- a cell of a halo is beside a column and a row of the box
 pub near_parts : (b : Box2) (x y : ℤ) → in_halo b x y ≡ true →

@@ -1,13 +1,11 @@
 -- The eight neighbours of a cell, rings and halos
-use Rattle.lemmas.proofs.Common.{◌+ℤ◌, ◌-ℤ◌, ◌||◌, ◌∙◌, ◌≡◌, ◌⊎◌, Bool, List, Some, ap, ap₂, arith, false, inl, inr}
-use Rattle.lemmas.proofs.Common.{not, pos, slice_get, sym, true, ℕ, ℤ, and_from, and_parts, cases_Bool, common_steps}
-use Rattle.lemmas.proofs.Common.{false≢true, ints, not-true, not_from_false, or_cases, or_left, or_right}
-use Rattle.bbm_rule.specs.Plane.{State, partner, step}
-use Rattle.module_box.specs.Boxes.{in_box, some_neighbour, in_ring, in_halo}
-use Rattle.module_box.specs.Laws.{SameInBox, SameInHalo, HaloCellIsRingCellOfOwner}
-use Rattle.module_box.specs.declared.boxes.Box2.{Box2}
+use Rattle.module_box.proofs.Imports.{Bool, Box2, List, SameInBox, Some, State, and_from, and_parts, ap, ap₂, arith}
+use Rattle.module_box.proofs.Imports.{cases_Bool, common_steps, false, false≢true, in_box, in_halo, in_ring, inl, inr}
+use Rattle.module_box.proofs.Imports.{ints, not, or_cases, partner, pos, slice_get, some_neighbour, step, step_same}
+use Rattle.module_box.proofs.Imports.{sym, true, ℕ, ℤ, ◌+ℤ◌, ◌-ℤ◌, ◌||◌, ◌∙◌, ◌≡◌, ◌⊎◌}
+use Rattle.lemmas.proofs.Common.{not-true, not_from_false, or_left, or_right}
+use Rattle.module_box.specs.Laws.{SameInHalo, HaloCellIsRingCellOfOwner}
 use Rattle.bbm_rule.proofs.Spans.{partner_near}
-use Rattle.bbm_rule.proofs.Steps.{step_same}
 
 or_more : (a b c d : Bool) → (a ≡ true → c ≡ true) → (b ≡ true → d ≡ true) → (a || b) ≡ true → (c || d) ≡ true
 or_more a b c d f g h = elim (or_cases a b h) [ inl p ↦ or_left c d (f p) | inr q ↦ or_right c d (g q) ]

@@ -1,11 +1,8 @@
 -- A fault that `owner_table` names means that the boxes do not tile
-use Rattle.lemmas.proofs.Common.{◌%◌, ◌*◌, ◌+◌, ◌-◌, ◌/◌, ◌<◌, ◌∙◌, ◌≡◌, ◌≤◌, ap₂, arith, pos, refl, true, ℕ, and_from}
-use Rattle.lemmas.proofs.Common.{and_parts, common_steps}
-use Rattle.bbm_rule.proofs.Spans.{span_from, span_parts}
-use Rattle.module_box.specs.Boxes.{in_box}
+use Rattle.module_box.proofs.Imports.{Box2, and_from, and_parts, ap₂, arith, common_steps, in_box, pos, refl, span_from}
+use Rattle.module_box.proofs.Imports.{span_parts, true, ℕ, ◌%◌, ◌*◌, ◌+◌, ◌-◌, ◌/◌, ◌<◌, ◌∙◌, ◌≡◌, ◌≤◌}
 use Rattle.module_box.specs.Tiling.{rectangle_of}
 use Rattle.module_box.specs.Laws.{FaultMeansNoTiling}
-use Rattle.module_box.specs.declared.boxes.Box2.{Box2}
 use Rattle.module_box.specs.declared.tile.TileFault.TheVariants.{Outside, Overlap, Gap, Memory}
 use Rattle.module_box.proofs.Tilings.{div_small}
 

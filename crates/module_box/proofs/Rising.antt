@@ -1,17 +1,14 @@
 -- Facts about a rising list by comparing its keys with a key
-use Rattle.lemmas.proofs.Common.{[], ◌++◌, ◌+◌, ◌<◌, ◌∙◌, ◌∷◌, ◌≡◌, ◌≢◌, ◌≤◌, ◌⊎◌, Equal, Greater, Less, List, None}
-use Rattle.lemmas.proofs.Common.{Option, Ordering, Some, ap, arith, eqb, inl, inr, length, refl, rules}
-use Rattle.lemmas.proofs.Common.{slice_get, suc, sym, true, zero, ℕ, ℤ, CmpEqualImpliesEq, IsTotalOrder, and_parts}
-use Rattle.lemmas.proofs.Common.{cases_Bool, common_steps, cond-false, cond-true, eqb-true, exact_pairs, exact_signed}
+use Rattle.module_box.proofs.Imports.{AllTimesSignal, Cell, Equal, Greater, IsRising, Less, List, None, Option}
+use Rattle.module_box.proofs.Imports.{Ordering, Some, TimedSignal, [], all_times_at, and_parts, ap, arith}
+use Rattle.module_box.proofs.Imports.{below_or_from, below_or_same, cases_Bool, cell_cmp, common_steps, eqb, eqb-true}
+use Rattle.module_box.proofs.Imports.{event_at, inl, inr, is_at, length, moment_cmp, refl, rules, slice_get, suc, sym}
+use Rattle.module_box.proofs.Imports.{true, zero, ℕ, ℤ, ◌++◌, ◌+◌, ◌<◌, ◌∙◌, ◌∷◌, ◌≡◌, ◌≢◌, ◌≤◌, ◌⊎◌}
+use Rattle.lemmas.proofs.Common.{CmpEqualImpliesEq, IsTotalOrder, cond-false, cond-true, exact_pairs, exact_signed}
 use Rattle.lemmas.proofs.Common.{exact_unsigned, int_cmp_total, nat_cmp_total, on_total, then_total, tied_itself}
-use Rattle.lemmas.proofs.Common.{below_or_from, below_or_same, int_itself, int_same, same_or_higher}
-use Rattle.bbm_rule.specs.Plane.{is_at}
-use Rattle.bbm_rule.specs.declared.block.Cell.{Cell}
+use Rattle.lemmas.proofs.Common.{int_itself, int_same, same_or_higher}
 use Rattle.module_box.specs.declared.schedules.Moment.{Moment}
-use Rattle.module_box.specs.declared.schedules.AllTimes.{AllTimes}
-use Rattle.module_box.specs.declared.schedules.TimedSignal.{TimedSignal}
-use Rattle.module_box.specs.Moments.{cell_cmp, moment_cmp}
-use Rattle.module_box.specs.Schedules.{IsRising, is_moment_at, all_times_at, event_at}
+use Rattle.module_box.specs.Schedules.{is_moment_at}
 
 -- ---- the two orders
 pub cell_total : IsTotalOrder cell_cmp
@@ -92,7 +89,8 @@ then_moment m n h = grind (arith, common_steps, and_parts, eqb-true, at_cell)
 then_own_moment : (m : Moment) → is_moment_at m m.time m.cell.x m.cell.y ≡ true
 then_own_moment m = rw (eqb_itself m.time, at_own_cell m.cell)
 
-pub all_times_none : (hs : List AllTimes) (c : Cell) → ((i : ℕ) (h : AllTimes) → slice_get hs i ≡ Some h → h.cell ≢ c) →
+pub all_times_none : (hs : List AllTimesSignal) (c : Cell) →
+    ((i : ℕ) (h : AllTimesSignal) → slice_get hs i ≡ Some h → h.cell ≢ c) →
     all_times_at hs c.x c.y ≡ None
 unfolding all_times_at
 all_times_none [] c f = refl
@@ -101,8 +99,8 @@ all_times_none (h ∷ hs) c f = elim (cases_Bool (is_at h.cell c.x c.y)) [
   | inr e ↦ cond-false _ _ _ e ∙ all_times_none hs c (λ i h'. f (suc i) h')
 ]
 
-pub all_times_some : (hs : List AllTimes) (i : ℕ) (h : AllTimes) → slice_get hs i ≡ Some h →
-    ((j : ℕ) (h' : AllTimes) → j < i → slice_get hs j ≡ Some h' → h'.cell ≢ h.cell) →
+pub all_times_some : (hs : List AllTimesSignal) (i : ℕ) (h : AllTimesSignal) → slice_get hs i ≡ Some h →
+    ((j : ℕ) (h' : AllTimesSignal) → j < i → slice_get hs j ≡ Some h' → h'.cell ≢ h.cell) →
     all_times_at hs h.cell.x h.cell.y ≡ Some h.signal
 unfolding all_times_at
 all_times_some [] i h e f = grind (arith, common_steps)
@@ -133,8 +131,9 @@ event_some (g ∷ hs) (suc i) h e f = elim (cases_Bool (is_moment_at g.at h.at.t
   | inr n ↦ cond-false _ _ _ n ∙ event_some hs i h e (λ j h' lt. f (suc j) h' (omega arith))
 ]
 
-pub all_times_found : (hs : List AllTimes) (i : ℕ) (h : AllTimes) (c : Cell) → h.cell ≡ c → slice_get hs i ≡ Some h →
-    ((j : ℕ) (h' : AllTimes) → j < i → slice_get hs j ≡ Some h' → h'.cell ≢ h.cell) →
+pub all_times_found : (hs : List AllTimesSignal) (i : ℕ) (h : AllTimesSignal) (c : Cell) → h.cell ≡ c →
+    slice_get hs i ≡ Some h →
+    ((j : ℕ) (h' : AllTimesSignal) → j < i → slice_get hs j ≡ Some h' → h'.cell ≢ h.cell) →
     all_times_at hs c.x c.y ≡ Some h.signal
 all_times_found hs i h c same e f = grind (arith, common_steps, all_times_some)
 

@@ -1,14 +1,13 @@
 -- The values of a circuit's wires, as a module sees them
-use Rattle.lemmas.proofs.Common.{◌%◌, ◌*◌, ◌+◌, ◌/◌, ◌<◌, ◌^◌, ◌∙◌, ◌≡◌, All, Bool, List, Option, Some, ap, arith, eqb}
-use Rattle.lemmas.proofs.Common.{false, get_or, map, refl, slice_get, subst, suc, sym, true, zero, ℕ, bit_at-suc}
-use Rattle.lemmas.proofs.Common.{bit_at_lowest, common_steps, get_or_from_slice_get, map-map, same_Some}
-use Rattle.lemmas.proofs.Common.{slice_get-get_or, slice_get_within}
-use Rattle.bbm_rule.specs.Bits.{bit}
+use Rattle.module_box.proofs.Imports.{All, AreLocalsOf, Bool, Gate, HasRow, List, LocalNet, Netlist, Option, Satisfies}
+use Rattle.module_box.proofs.Imports.{Some, Valuation, ap, arith, bit, circuit_wire, common_steps, eqb, false, get_or}
+use Rattle.module_box.proofs.Imports.{get_or_from_slice_get, map, refl, renumber_gate, row, same_Some, slice_get}
+use Rattle.module_box.proofs.Imports.{slice_get-get_or, slice_get_within, subst, suc, sym, true, zero, ℕ, ◌%◌, ◌*◌, ◌+◌}
+use Rattle.module_box.proofs.Imports.{◌/◌, ◌<◌, ◌∙◌, ◌≡◌}
+use Rattle.lemmas.proofs.Common.{◌^◌, bit_at-suc, bit_at_lowest, map-map}
 use Rattle.bbm_rule.specs.Plane.{one_if}
-use Rattle.circuit.specs.Gates.{row}
-use Rattle.circuit.specs.Meaning.{Gate, Netlist, Valuation, HasRow, Satisfies}
 use Rattle.circuit.proofs.Valuations.{at_most_one}
-use Rattle.module_box.specs.Locals.{LocalNet, AreLocalsOf, circuit_gate, circuit_wire, renumber_gate}
+use Rattle.module_box.specs.Locals.{circuit_gate}
 use Rattle.module_box.specs.LocalValues.{IsLocalValuation, values_by_local_number}
 use Rattle.module_box.specs.Laws.{ChoicesAreAssignments, LocalValuesAgree, UndefinedGateIsSeenLocally}
 

@@ -1,11 +1,10 @@
 -- Boxes that take the places of their blocks, row by row
-use Rattle.lemmas.proofs.Common.{◌%◌, ◌*◌, ◌+◌, ◌/◌, ◌<◌, ◌∙◌, ◌≡◌, ◌≤◌, List, arith, inl, inr, length, min}
-use Rattle.lemmas.proofs.Common.{slice_index, ℕ, and_from, and_parts, common_steps, div-add-mod', div-mul-add, mod-lt}
-use Rattle.lemmas.proofs.Common.{mod-mul-add, mul-le-mul_right, below_or_from}
-use Rattle.bbm_rule.proofs.Spans.{span_from, span_parts}
-use Rattle.module_box.specs.Boxes.{in_box, IsEven}
-use Rattle.module_box.specs.Taking.{TakesRow, TakesBox, HasBlockAtPlace, FitsTable}
-use Rattle.module_box.specs.declared.boxes.Box2.{Box2}
+use Rattle.module_box.proofs.Imports.{Box2, HasBlockAtPlace, IsEven, List, TakesBox, TakesRow, and_from, and_parts}
+use Rattle.module_box.proofs.Imports.{arith, below_or_from, common_steps, div-mul-add, in_box, inl, inr, length}
+use Rattle.module_box.proofs.Imports.{mod-mul-add, mul-le-mul_right, slice_index, span_from, span_parts, ℕ, ◌%◌, ◌*◌}
+use Rattle.module_box.proofs.Imports.{◌+◌, ◌/◌, ◌<◌, ◌∙◌, ◌≡◌, ◌≤◌}
+use Rattle.lemmas.proofs.Common.{min, div-add-mod', mod-lt}
+use Rattle.module_box.specs.Taking.{FitsTable}
 
 -- the rows and columns of blocks that a box has
 record IsAmong (b : Box2) (row column : ℕ) : Type 0 where

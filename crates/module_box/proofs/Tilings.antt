@@ -1,18 +1,14 @@
 -- From the blocks of a rectangle to its cells
-use Rattle.lemmas.proofs.Common.{◌%◌, ◌*◌, ◌+◌, ◌/◌, ◌<◌, ◌∙◌, ◌≡◌, ◌≤◌, ◌⊎◌, IsTrue, List, Some, ap, ap₂, arith}
-use Rattle.lemmas.proofs.Common.{get_or, inl, inr, length, length-take-le, pos, slice_get, slice_index, subst, sym}
-use Rattle.lemmas.proofs.Common.{take, true, ℕ, ℤ, and_from, and_parts, cases_Bool, common_steps, div-add-mod}
-use Rattle.lemmas.proofs.Common.{div-mul-add, false≢true, get_or-take, get_or_from_slice_get, mod-mul-add}
-use Rattle.lemmas.proofs.Common.{mul-le-mul_left, slice_get-get_or, slice_get_within, below_or_from, below_or_same}
-use Rattle.module_box.specs.Boxes.{in_box, IsEven}
-use Rattle.bbm_rule.specs.Spans.{in_span}
-use Rattle.bbm_rule.specs.declared.block.Cell.{Cell}
-use Rattle.module_box.specs.declared.boxes.Box2.{Box2}
-use Rattle.bbm_rule.proofs.Spans.{span_from, span_parts}
-use Rattle.module_box.specs.Tiling.{Owning, rectangle, owner_of, IsTable, AreOwners, block_corner_x, block_corner_y}
-use Rattle.module_box.specs.Tiling.{IsInside, AreFirstBoxesInside, Holds, IsHolder, AreFirstBlocksInOneBox, HeldTwice}
-use Rattle.module_box.specs.Tiling.{IsBadBlock}
-use Rattle.module_box.specs.Taking.{TakesBox, HasBlockAtPlace}
+use Rattle.module_box.proofs.Imports.{AreFirstBoxesInside, Box2, Cell, HasBlockAtPlace, IsEven, IsOwnersTable, IsTrue}
+use Rattle.module_box.proofs.Imports.{List, OwnersView, Some, TakesBox, and_from, and_parts, ap, ap₂, arith}
+use Rattle.module_box.proofs.Imports.{below_or_from, below_or_same, cases_Bool, common_steps, div-mul-add, false≢true}
+use Rattle.module_box.proofs.Imports.{get_or, get_or_from_slice_get, in_box, in_span, inl, inr, length, mod-mul-add}
+use Rattle.module_box.proofs.Imports.{mul-le-mul_left, owner_of, pos, rectangle, slice_get, slice_get-get_or}
+use Rattle.module_box.proofs.Imports.{slice_get_within, slice_index, span_from, span_parts, subst, sym, take, true, ℕ}
+use Rattle.module_box.proofs.Imports.{ℤ, ◌%◌, ◌*◌, ◌+◌, ◌/◌, ◌<◌, ◌∙◌, ◌≡◌, ◌≤◌, ◌⊎◌}
+use Rattle.lemmas.proofs.Common.{length-take-le, div-add-mod, get_or-take}
+use Rattle.module_box.specs.Tiling.{AreOwners, block_corner_x, block_corner_y, IsInside, Holds, IsHolder}
+use Rattle.module_box.specs.Tiling.{AreFirstBlocksInOneBox, HeldTwice, IsBadBlock}
 use Rattle.module_box.proofs.BoxCells.{in_box_nats, same_some, owner_in_table, abs_within}
 
 span_down : (f n k : ℕ) → f % 2 ≡ 0 → n % 2 ≡ 0 → in_span f n (pos k) ≡ true → in_span f n (pos (2 * (k / 2))) ≡ true
@@ -201,7 +197,7 @@ cell_holder boxes x y n even h = record {
       (record { area = g.area; numbered = g.numbered; has = box_down g.area x y (even j g.area g.numbered) g.has });
 }
 
-named_cell : (o : Owning) (boxes : List Box2) (x y : ℕ) → IsTable o →
+named_cell : (o : OwnersView) (boxes : List Box2) (x y : ℕ) → IsOwnersTable o →
     ((k : ℕ) (b : Box2) → slice_get boxes k ≡ Some b → IsEven b) →
     IsFilled (o.width / 2) boxes ((o.height / 2) * (o.width / 2)) o.numbers →
     in_box (rectangle o) (pos x) (pos y) ≡ true → IsHolder boxes (pos x) (pos y) (owner_of o (pos x) (pos y))
@@ -227,12 +223,12 @@ named_cell o boxes x y t even f h =
 inside_span : (f n w k : ℕ) → f + n ≤ w → in_span f n (pos k) ≡ true → in_span 0 w (pos k) ≡ true
 inside_span f n w k le h = let p = span_parts f n k h in span_from 0 w k (omega arith) (omega (arith, p.1))
 
-inside_box : (o : Owning) (b : Box2) (x y : ℕ) → IsInside o.width o.height b → in_box b (pos x) (pos y) ≡ true →
+inside_box : (o : OwnersView) (b : Box2) (x y : ℕ) → IsInside o.width o.height b → in_box b (pos x) (pos y) ≡ true →
     in_box (rectangle o) (pos x) (pos y) ≡ true
 unfolding in_box
 inside_box o b x y is h = grind (arith, common_steps, and_parts, and_from, inside_span)
 
-pub owners_from : (o : Owning) (boxes : List Box2) → IsTable o →
+pub owners_from : (o : OwnersView) (boxes : List Box2) → IsOwnersTable o →
     ((k : ℕ) (b : Box2) → slice_get boxes k ≡ Some b → IsEven b) →
     IsFilled (o.width / 2) boxes ((o.height / 2) * (o.width / 2)) o.numbers →
     AreFirstBoxesInside o.width o.height (length boxes) boxes → AreOwners o boxes

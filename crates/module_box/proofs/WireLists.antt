@@ -1,14 +1,14 @@
 -- Lists of wires: the place of a wire, and wires that are added
-use Rattle.lemmas.proofs.Common.{[], ◌++◌, ◌+◌, ◌<◌, ◌==◌, ◌||◌, ◌∙◌, ◌∷◌, ◌≡◌, ◌≤◌, Contains, IfSome, List, None}
-use Rattle.lemmas.proofs.Common.{Option, Some, ap, append_assoc, ap₂, arith, drop, false, get_or}
-use Rattle.lemmas.proofs.Common.{get_or-append-add, inl, inr, is_some, length, length-append, nat_eq, ne_eqb, position}
-use Rattle.lemmas.proofs.Common.{refl, slice_get, subst, suc, sym, take, take-append-drop, zero, ℕ, cases_lt}
-use Rattle.lemmas.proofs.Common.{common_steps, drop_more, eqb-true, false_from_ne_true, false≢true, get_or_append_left}
-use Rattle.lemmas.proofs.Common.{list_any, list_any_at, position_or_len_is, same_Some, slice_get-get_or}
-use Rattle.lemmas.proofs.Common.{slice_get_within, take_more, eq_itself, eq_sym}
+use Rattle.module_box.proofs.Imports.{AreDistinct, IfSome, List, None, Option, Some, [], ap, append_assoc, ap₂, arith}
+use Rattle.module_box.proofs.Imports.{cases_lt, common_steps, drop, eqb-true, false, false≢true, get_or}
+use Rattle.module_box.proofs.Imports.{get_or-append-add, get_or_append_left, inl, inr, is_among, is_some, length}
+use Rattle.module_box.proofs.Imports.{length-append, nat_eq, ne_eqb, position, refl, same_Some, slice_get}
+use Rattle.module_box.proofs.Imports.{slice_get-get_or, slice_get_within, subst, suc, sym, take, take-append-drop}
+use Rattle.module_box.proofs.Imports.{take_more, zero, ℕ, ◌++◌, ◌+◌, ◌<◌, ◌==◌, ◌||◌, ◌∙◌, ◌∷◌, ◌≡◌, ◌≤◌}
+use Rattle.lemmas.proofs.Common.{Contains, drop_more, false_from_ne_true, list_any, list_any_at, position_or_len_is}
+use Rattle.lemmas.proofs.Common.{eq_itself, eq_sym}
 use Rattle.std.proofs.lemmas.List.Quantifiers.{position-Some}
 use Rattle.std.proofs.lemmas.Map.Views.{Contains-from_any}
-use Rattle.module_box.specs.Locals.{AreDifferent, is_among}
 
 -- the wire that stands at the place that a look-up finds
 pub place_same : (ws : List ℕ) (w i : ℕ) → Some i ≡ position (λ v. v == w) ws → get_or ws i 0 ≡ w
@@ -26,7 +26,7 @@ place_among [] w = refl
 place_among (v ∷ ws) w = grind (arith, common_steps, place_among ws w)
 
 -- the wires at the front of different ones are different
-pub different_front : (xs ys : List ℕ) → AreDifferent (xs ++ ys) → AreDifferent xs
+pub different_front : (xs ys : List ℕ) → AreDistinct (xs ++ ys) → AreDistinct xs
 different_front xs ys different i j w at there = different i j w (longer xs ys i w at) (longer xs ys j w there)
   where
     longer : (xs ys : List ℕ) (i w : ℕ) → slice_get xs i ≡ Some w → slice_get (xs ++ ys) i ≡ Some w
@@ -39,7 +39,7 @@ among [] w = refl
 among (v ∷ ws) w = ap₂ (λ a b. a || b) (eq_sym v w) (among ws w)
 
 -- a wire that stands after others is not among them
-fresh : (xs ys : List ℕ) (w : ℕ) → AreDifferent (xs ++ w ∷ ys) → is_among xs w ≡ false
+fresh : (xs ys : List ℕ) (w : ℕ) → AreDistinct (xs ++ w ∷ ys) → is_among xs w ≡ false
 fresh xs ys w different = false_from_ne_true _ (λ e.
     let found : Contains xs w = Contains-from_any {eq = nat_eq} (λ x y h. eqb-true x y h) w xs (among xs w ∙ e) in
     let k : ℕ = found.0 in
@@ -53,7 +53,7 @@ fresh xs ys w different = false_from_ne_true _ (λ e.
     omega (arith, found.1, same))
 
 -- the next of some different wires
-module _ (old ws : List ℕ) (i w : ℕ) (different : AreDifferent (old ++ ws)) (within : i < length ws)
+module _ (old ws : List ℕ) (i w : ℕ) (different : AreDistinct (old ++ ws)) (within : i < length ws)
     (is : w ≡ get_or ws i w) where
   -- it is not among those before it
   pub next_fresh : (known : List ℕ) → known ≡ old ++ take i ws → is_among known w ≡ false
@@ -64,7 +64,7 @@ module _ (old ws : List ℕ) (i w : ℕ) (different : AreDifferent (old ++ ws)) 
       let whole : old ++ ws ≡ (old ++ take i ws) ++ w ∷ drop (i + 1) ws =
       ap (λ (l : List ℕ). old ++ l) cut ∙ sym (append_assoc old (take i ws) (w ∷ drop (i + 1) ws)) in
       ap (λ (l : List ℕ). is_among l w) so_far
-      ∙ fresh (old ++ take i ws) (drop (i + 1) ws) w (subst AreDifferent whole different)
+      ∙ fresh (old ++ take i ws) (drop (i + 1) ws) w (subst AreDistinct whole different)
 
   -- it is added to them
   pub wire_added : (known new : List ℕ) → known ≡ old ++ take i ws → new ≡ known ++ w ∷ [] →
@@ -74,7 +74,7 @@ module _ (old ws : List ℕ) (i w : ℕ) (different : AreDifferent (old ++ ws)) 
 -- ---- the place of a wire among different ones
 
 -- the place at which it stands
-pub place_of_different : (ws : List ℕ) (w n : ℕ) → AreDifferent ws → slice_get ws n ≡ Some w →
+pub place_of_different : (ws : List ℕ) (w n : ℕ) → AreDistinct ws → slice_get ws n ≡ Some w →
     Some n ≡ position (λ v. v == w) ws
 place_of_different ws w n different at =
     let l : n < length ws = slice_get_within ws n w at in
@@ -100,7 +100,7 @@ last_wire (u ∷ ws) w zero v l at = absurd (omega arith)
 last_wire (u ∷ ws) w (suc i) v l at = let r = last_wire ws w i v (omega arith) at in (omega (arith, r.0), r.1)
 
 -- one more wire that is not among them
-pub different_push : (ws : List ℕ) (w : ℕ) → AreDifferent ws → is_among ws w ≡ false → AreDifferent (ws ++ w ∷ [])
+pub different_push : (ws : List ℕ) (w : ℕ) → AreDistinct ws → is_among ws w ≡ false → AreDistinct (ws ++ w ∷ [])
 different_push ws w different new i j v at there = elim (cases_lt i (length ws)) [
   | inl a ↦ elim (cases_lt j (length ws)) [
     | inl b ↦ different i j v (front_wire ws w i v a at) (front_wire ws w j v b there)

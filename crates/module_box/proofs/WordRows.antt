@@ -1,25 +1,19 @@
 -- The words of a gate's wires: at each bit they are the gate's row
-use Rattle.lemmas.proofs.Common.{[], ◌&&◌, ◌++◌, ◌+◌, ◌<◌, ◌||◌, ◌∙◌, ◌∷◌, ◌≡◌, ◌≤◌, Bool, List, None, Option, Some}
-use Rattle.lemmas.proofs.Common.{add-one, ap, ap₂, arith, bit_and, bit_xor, cond, drop, drop-cons, drop_of_length-le}
-use Rattle.lemmas.proofs.Common.{eq-eqb, false, get_or, get_or-append-add, inl, inr, length, length-append, map, ne_eqb}
-use Rattle.lemmas.proofs.Common.{not, option_and_then, option_map, refl, slice_index, slice_index_or, subst, sym, take}
-use Rattle.lemmas.proofs.Common.{true, true≢false, ℕ, cases_lt, common_steps, get_or_append_left, length-map}
-use Rattle.lemmas.proofs.Common.{map-append}
-use Rattle.std.proofs.Math.ListN as listn
-use Rattle.bbm_rule.specs.Bits.{bit}
-use Rattle.bbm_rule.proofs.BitLemmas.{bit-and, bit-or, bit-xor, bit-zero, xor}
-use Rattle.circuit.specs.declared.circuit_line.GateKind.{GateKind}
-use Rattle.circuit.specs.declared.circuit_line.GateKind.TheVariants.{Source, Fredkin, Cswap, Interact, Switch, Delay}
-use Rattle.circuit.specs.declared.circuit_line.GateKind.TheVariants.{Unswitch, Uninteract}
-use Rattle.circuit.specs.Gates.{row, uses, defines}
-use Rattle.circuit.specs.Meaning.{Gate, wires_after}
-use Rattle.circuit.specs.Bridge.{read}
+use Rattle.module_box.proofs.Imports.{Bool, Cswap, Delay, Fredkin, Gate, GateKind, Interact, List, LocalGate, None}
+use Rattle.module_box.proofs.Imports.{Option, SaysColumn, Some, Source, Switch, Uninteract, Unswitch, [], ap, ap₂}
+use Rattle.module_box.proofs.Imports.{arith, as_values, bit, bit-zero, cases_lt, common_steps, defines, drop, eq-eqb}
+use Rattle.module_box.proofs.Imports.{false, gate_of_local_gate, gate_out_words, get_or, get_or-append-add}
+use Rattle.module_box.proofs.Imports.{get_or_append_left, inl, inr, is_none, is_this_gate, lane, length, length-append}
+use Rattle.module_box.proofs.Imports.{length-map, map, ne_eqb, not, refl, row, slice_index, slice_index_or, subst, sym}
+use Rattle.module_box.proofs.Imports.{take, true, true≢false, uses, wires_after, word_of_input, ℕ, ◌&&◌, ◌++◌, ◌+◌, ◌<◌}
+use Rattle.module_box.proofs.Imports.{◌||◌, ◌∙◌, ◌∷◌, ◌≡◌, ◌≤◌}
+use Rattle.lemmas.proofs.Common.{add-one, bit_and, bit_xor, cond, drop-cons, drop_of_length-le, option_and_then}
+use Rattle.lemmas.proofs.Common.{option_map, map-append}
+use Rattle.bbm_rule.proofs.BitLemmas.{bit-and, bit-or, bit-xor, xor}
 use Rattle.circuit.specs.Evaluate.{evaluate, first_undefined_gate, this_or_later_undefined}
-use Rattle.module_box.specs.declared.locals.LocalGate.{LocalGate}
-use Rattle.module_box.specs.LocalGates.{gate_of_local_gate}
-use Rattle.module_box.specs.LocalValues.{lane, gate_out_words, undefined_bits, row_unless_undefined, word_of_in_wire}
-use Rattle.module_box.specs.LocalValues.{AddsRow, SaysColumn, is_none, is_this_gate}
+use Rattle.module_box.specs.LocalValues.{undefined_bits, row_unless_undefined, AddsRow}
 use Rattle.module_box.proofs.CutWords.{bit_ones}
+use Rattle.std.proofs.Math.ListN as listn
 
 -- which of two
 pick_first : (a x y : Bool) → xor y (a && xor x y) ≡ cond a x y
@@ -117,7 +111,7 @@ words_row Unswitch a x y z b h = grind (arith, common_steps, unswitch_bits, seco
 words_row Uninteract a x y z b h = grind (arith, common_steps, uninteract_bits, bit-or, xor, bit-xor, bit-and)
 
 -- reading a lane
-pub read_lane : (ws : List ℕ) (b w : ℕ) → read (lane b ws) w ≡ bit (slice_index_or ws w 0) b
+pub read_lane : (ws : List ℕ) (b w : ℕ) → as_values (lane b ws) w ≡ bit (slice_index_or ws w 0) b
 read_lane ws b w = ap (λ (d : Bool). get_or (lane b ws) w d) (sym (bit-zero b)) ∙ listn.get_or-map (λ x. bit x b) ws w 0
 
 -- ---- one gate
@@ -140,25 +134,25 @@ front_ins Uninteract f (a ∷ b ∷ c ∷ d ∷ l) e = refl
 
 -- the words of the wires that a gate uses
 abbrev outs_of : GateKind → List ℕ → List ℕ → List ℕ
-outs_of kind ws ins = gate_out_words kind (word_of_in_wire ws ins 0) (word_of_in_wire ws ins 1)
-    (word_of_in_wire ws ins 2) (word_of_in_wire ws ins 3)
+outs_of kind ws ins = gate_out_words kind (word_of_input ws ins 0) (word_of_input ws ins 1)
+    (word_of_input ws ins 2) (word_of_input ws ins 3)
 
 abbrev none_of : GateKind → List ℕ → List ℕ → ℕ
-none_of kind ws ins = undefined_bits kind (word_of_in_wire ws ins 0) (word_of_in_wire ws ins 1)
-    (word_of_in_wire ws ins 2)
-    (word_of_in_wire ws ins 3)
+none_of kind ws ins = undefined_bits kind (word_of_input ws ins 0) (word_of_input ws ins 1)
+    (word_of_input ws ins 2)
+    (word_of_input ws ins 3)
 
 lane_row : (kind : GateKind) (ins ws : List ℕ) (b : ℕ) → b < 64 → length ins ≡ 4 →
-    row kind (map (read (lane b ws)) (take (uses kind) ins))
+    row kind (map (as_values (lane b ws)) (take (uses kind) ins))
     ≡ row_unless_undefined (bit (none_of kind ws ins) b) (lane b (outs_of kind ws ins))
 lane_row kind ins ws b h e =
-    ap (row kind) (front_ins kind (read (lane b ws)) ins e
+    ap (row kind) (front_ins kind (as_values (lane b ws)) ins e
     ∙ ap (take (uses kind))
     (ap₂ (λ (p : Bool) (l : List Bool). p ∷ l) (read_lane ws b (get_or ins 0 0))
     (ap₂ (λ (p : Bool) (l : List Bool). p ∷ l) (read_lane ws b (get_or ins 1 0))
     (ap₂ (λ (q r : Bool). q ∷ r ∷ []) (read_lane ws b (get_or ins 2 0)) (read_lane ws b (get_or ins 3 0))))))
-    ∙ words_row kind (word_of_in_wire ws ins 0) (word_of_in_wire ws ins 1) (word_of_in_wire ws ins 2)
-    (word_of_in_wire ws ins 3) b h
+    ∙ words_row kind (word_of_input ws ins 0) (word_of_input ws ins 1) (word_of_input ws ins 2)
+    (word_of_input ws ins 3) b h
 
 many_outs : (kind : GateKind) (a x y z : ℕ) → length (gate_out_words kind a x y z) ≡ defines kind
 many_outs (Source true) a x y z = refl
@@ -186,7 +180,7 @@ gate_done ws new g none long more is = record {
     outs : List ℕ
     outs = outs_of g.kind ws g.ins
 
-    at : (b : ℕ) → b < 64 → row g.kind (map (read (lane b ws)) (take (uses g.kind) g.ins))
+    at : (b : ℕ) → b < 64 → row g.kind (map (as_values (lane b ws)) (take (uses g.kind) g.ins))
         ≡ row_unless_undefined (bit none b) (lane b outs)
     at b small = lane_row g.kind g.ins ws b small long
         ∙ ap (λ (n : ℕ). row_unless_undefined (bit n b) (lane b outs)) (sym is)

@@ -11,7 +11,7 @@ use Rattle.circuit.specs.declared.circuit_line.GateKind.{GateKind}
 use Rattle.circuit.specs.declared.circuit_line.GateKind.TheVariants.{Source, Fredkin, Cswap, Interact, Switch, Delay}
 use Rattle.circuit.specs.declared.circuit_line.GateKind.TheVariants.{Unswitch, Uninteract}
 use Rattle.circuit.specs.Meaning.{Gate, Netlist}
-use Rattle.module_box.specs.declared.schedules.AllTimes.{AllTimes}
+use Rattle.module_box.specs.declared.schedules.AllTimesSignal.{AllTimesSignal}
 use Rattle.module_box.specs.declared.schedules.TimedSignal.{TimedSignal}
 use Rattle.module_box.specs.declared.schedules.Signal.{Signal}
 use Rattle.module_box.specs.declared.schedules.Signal.TheVariants.{Zero, One, Wire}
@@ -40,7 +40,7 @@ abbrev pub same_cell : Cell → Cell → Bool
 same_cell = eq_of_both (on (λ c. c.x) int_eq) (on (λ c. c.y) int_eq)
 
 -- whether two signals at all times are the same
-abbrev pub same_all_times : AllTimes → AllTimes → Bool
+abbrev pub same_all_times : AllTimesSignal → AllTimesSignal → Bool
 same_all_times = eq_of_both (on (λ h. h.cell) same_cell) (on (λ h. h.signal) same_signal)
 
 -- whether two events are the same

@@ -4,13 +4,13 @@ use Rattle.std.specs.Bool.{Decides}
 use Rattle.bbm_rule.specs.Plane.{State, step}
 use Rattle.bbm_rule.specs.Bits.{bit}
 use Rattle.circuit.specs.Meaning.{IsUndefined, Netlist, Satisfies, Valuation, wires}
-use Rattle.module_box.specs.Boxes.{in_box, in_ring, in_halo, IsEven, Tile}
-use Rattle.module_box.specs.Tiling.{rectangle_of, IsTask, IsTileFault}
+use Rattle.bbm_rule.specs.Boxes.{in_box, in_ring, in_halo, IsEven, Tile}
+use Rattle.module_box.specs.Tiling.{rectangle_of, MayHaveOwnerTable, IsTileFault}
 use Rattle.module_box.specs.Schedules.{Signals}
 use Rattle.module_box.specs.Locals.{LocalNet, AreLocalsOf, circuit_gate}
 use Rattle.module_box.specs.LocalValues.{IsLocalValuation, IsFirstLocalGateWithoutRow, values_by_local_number}
 use Rattle.module_box.specs.Equality.{same_locals, same_signals}
-use Rattle.module_box.specs.declared.boxes.Box2.{Box2}
+use Rattle.bbm_rule.specs.declared.block.Box2.{Box2}
 use Rattle.module_box.specs.declared.tile.TileFault.{TileFault}
 use Rattle.module_box.specs.declared.tile.TileFault.TheVariants.{Memory}
 
@@ -48,7 +48,7 @@ HaloCellIsRingCellOfOwner = (rectangle : Box2) (boxes : List Box2) → Tile rect
 
 -- If `owner_table` names a fault other than out of memory, the boxes do not tile the rectangle.
 abbrev pub FaultMeansNoTiling : Type 0
-FaultMeansNoTiling = (w h : ℕ) (boxes : List Box2) (fault : TileFault) → IsTask w h boxes →
+FaultMeansNoTiling = (w h : ℕ) (boxes : List Box2) (fault : TileFault) → MayHaveOwnerTable w h boxes →
     IsTileFault w h boxes fault → fault ≢ Memory →
     ¬ Tile (rectangle_of w h) boxes
 
@@ -56,7 +56,7 @@ FaultMeansNoTiling = (w h : ℕ) (boxes : List Box2) (fault : TileFault) → IsT
 abbrev pub LocalsEqualityDecides : Type 0
 LocalsEqualityDecides = (l m : LocalNet) → Decides (same_locals l m) (l ≡ m)
 
--- and so are two schedules
+-- two schedules are equal by `==` exactly if they are the same
 abbrev pub ScheduleEqualityDecides : Type 0
 ScheduleEqualityDecides = (s t : Signals) → Decides (same_signals s t) (s ≡ t)
 

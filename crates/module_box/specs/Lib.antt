@@ -1,4 +1,4 @@
-pub mod Boxes
+pub use Rattle.bbm_rule.specs.Boxes
 pub mod Tiling
 pub mod Taking
 pub mod OwnersView

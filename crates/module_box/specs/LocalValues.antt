@@ -8,7 +8,7 @@ use Rattle.circuit.specs.declared.circuit_line.GateKind.TheVariants.{Unswitch}
 use Rattle.circuit.specs.declared.circuit_line.GateKind.TheVariants.{Uninteract}
 use Rattle.circuit.specs.Gates.{row, defines}
 use Rattle.circuit.specs.Meaning.{Gate, Netlist, Valuation, Satisfies, IsUndefined, wires}
-use Rattle.circuit.specs.Bridge.{AreValues, read}
+use Rattle.circuit.specs.Bridge.{AreValues, as_values}
 use Rattle.circuit.specs.Evaluate.{evaluate, first_undefined_gate}
 use Rattle.module_box.specs.declared.values.LocalValuesError.{LocalValuesError}
 use Rattle.module_box.specs.declared.values.LocalValuesError.TheVariants.{NoRow, Memory}
@@ -90,14 +90,14 @@ row_unless_undefined true r = None
 row_unless_undefined false r = Some r
 
 -- the word of the wire at a place of ins
-abbrev pub word_of_in_wire : List ℕ → List ℕ → ℕ → ℕ
-word_of_in_wire words ins place = slice_index_or words (slice_index_or ins place 0) 0
+abbrev pub word_of_input : List ℕ → List ℕ → ℕ → ℕ
+word_of_input words ins place = slice_index_or words (slice_index_or ins place 0) 0
 
 -- a gate is done: the words of its outputs are added, but at the bits of `none`, where it has no row
 pub record AddsRow (g : Gate) (old new : List ℕ) (none : ℕ) : Type 0 where
   pub long : length new ≡ length old + defines g.kind
   pub has : (b : ℕ) → b < 64 → bit none b ≡ false → evaluate (lane b old) (g ∷ []) ≡ Some (lane b new)
-  pub lacks : (b : ℕ) → b < 64 → bit none b ≡ true → row g.kind (map (read (lane b old)) g.ins) ≡ None
+  pub lacks : (b : ℕ) → b < 64 → bit none b ≡ true → row g.kind (map (as_values (lane b old)) g.ins) ≡ None
 
 -- ---- gate after gate, at one bit
 
@@ -119,7 +119,7 @@ pub record SaysColumn (given : List ℕ) (gs : List Gate) (words lacking : List 
   pub undefined : (k : ℕ) → k < length gs →
       bit (slice_index lacking k) b ≡ is_this_gate (first_undefined_gate (lane b given) gs) k
 
--- the same of a module under an assignment
+-- the meaning of words for the gates of a module under an assignment, at bit b
 pub record IsColumnAt (n : Netlist) (a : ℕ) (words lacking : List ℕ) (whole b : ℕ) : Type 0 where
   pub values : bit whole b ≡ true → AreValues n (bit a) (lane b words)
   pub undefined : (k : ℕ) → k < length n.gates → (bit (slice_index lacking k) b ≡ true) ↔ IsUndefined n (bit a) k

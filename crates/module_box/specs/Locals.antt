@@ -20,11 +20,11 @@ abbrev pub is_among : List ℕ → ℕ → Bool
 is_among ws w = list_any (λ v. v == w) ws
 
 -- no wire is in the list twice
-abbrev pub AreDifferent : List ℕ → Type 0
-AreDifferent ws = (i j w : ℕ) → slice_get ws i ≡ Some w → slice_get ws j ≡ Some w → i ≡ j
+abbrev pub AreDistinct : List ℕ → Type 0
+AreDistinct ws = (i j w : ℕ) → slice_get ws i ≡ Some w → slice_get ws j ≡ Some w → i ≡ j
 
 -- the gate of this number is one of the circuit, and all wires that it uses are among these
-pub record IsKnown (n : Netlist) (known : List ℕ) (k : ℕ) : Type 0 where
+pub record UsesOnlyKnownWires (n : Netlist) (known : List ℕ) (k : ℕ) : Type 0 where
   pub gate : Gate
   pub numbered : slice_get n.gates k ≡ Some gate
   pub ins : All (λ w. IsTrue (is_among known w)) gate.ins
@@ -43,8 +43,8 @@ pub record AreLocalLines (n : Netlist) (cuts gates : List ℕ) : Type 0 where
   pub few_cuts : length cuts ≤ cut_limit
   pub few_gates : length gates ≤ use_limit
   pub rising : (i j k m : ℕ) → i < j → slice_get gates i ≡ Some k → slice_get gates j ≡ Some m → k < m
-  pub known : (i k : ℕ) → slice_get gates i ≡ Some k → IsKnown n (local_wires n cuts (take i gates)) k
-  pub different : AreDifferent (local_wires n cuts gates)
+  pub known : (i k : ℕ) → slice_get gates i ≡ Some k → UsesOnlyKnownWires n (local_wires n cuts (take i gates)) k
+  pub different : AreDistinct (local_wires n cuts gates)
 
 -- ---- the same numbered anew
 

@@ -2,18 +2,18 @@
 use Rattle.std.specs.Prelude.{◌≡◌, ℕ, ℤ, pos, negsuc, ◌+ℤ◌, ◌≤ℤ◌, map}
 use Rattle.bbm_rule.specs.Moves.{IsMoved}
 use Rattle.bbm_rule.specs.declared.block.Cell.{Cell}
-use Rattle.module_box.specs.Boxes.{in_box, in_ring, in_halo}
+use Rattle.bbm_rule.specs.Boxes.{in_box, in_ring, in_halo}
 use Rattle.module_box.specs.Schedules.{Signals, signal_at}
-use Rattle.module_box.specs.declared.boxes.Box2.{Box2}
+use Rattle.bbm_rule.specs.declared.block.Box2.{Box2}
 use Rattle.module_box.specs.declared.schedules.TimedSignal.{TimedSignal}
-use Rattle.module_box.specs.declared.schedules.AllTimes.{AllTimes}
+use Rattle.module_box.specs.declared.schedules.AllTimesSignal.{AllTimesSignal}
 
 -- by dx columns and dy rows
 abbrev pub moved_cell : ℤ → ℤ → Cell → Cell
 moved_cell dx dy c = record { x = c.x +ℤ dx; y = c.y +ℤ dy }
 
 -- a signal at all times, moved by dx columns and dy rows
-abbrev pub moved_all_times : ℤ → ℤ → AllTimes → AllTimes
+abbrev pub moved_all_times : ℤ → ℤ → AllTimesSignal → AllTimesSignal
 moved_all_times dx dy h = record { cell = moved_cell dx dy h.cell; signal = h.signal }
 
 -- an event, moved by dx columns and dy rows

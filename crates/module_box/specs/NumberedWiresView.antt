@@ -1,6 +1,6 @@
 -- Wires that are numbered anew, by the fields that keep them
 use Rattle.std.specs.Prelude.{◌≤◌, ◌^◌, ℕ, List, length}
-use Rattle.module_box.specs.Locals.{AreDifferent}
+use Rattle.module_box.specs.Locals.{AreDistinct}
 use Rattle.module_box.specs.declared.numbered_wires.NumberedWires.TheInside.{Inside}
 
 -- the wires in their order, from the fields
@@ -9,5 +9,5 @@ wires_in_order a = a.wires.items
 
 -- no wire is there twice, and each new number has 16 bits
 pub record AreNumbered (a : Inside) : Type 0 where
-  pub different : AreDifferent a.wires.items
+  pub different : AreDistinct a.wires.items
   pub few : length a.wires.items ≤ 2 ^ 16

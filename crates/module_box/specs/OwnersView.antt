@@ -1,11 +1,11 @@
 -- The view of a table of owners, from the fields
 use Rattle.module_box.specs.declared.owners.Owners.TheInside.{Inside}
-use Rattle.module_box.specs.Tiling.{Owning, IsTable}
+use Rattle.module_box.specs.Tiling.{OwnersView, IsOwnersTable}
 
 -- the table of owners, from the fields
-abbrev pub owners_view : Inside → Owning
+abbrev pub owners_view : Inside → OwnersView
 owners_view o = record { width = o.width; height = o.height; numbers = o.numbers.items }
 
 -- the fields of every table of owners
 abbrev pub AreOwnersFields : Inside → Type 0
-AreOwnersFields o = IsTable (owners_view o)
+AreOwnersFields o = IsOwnersTable (owners_view o)

@@ -1,7 +1,7 @@
 -- The places of the cells of a box
 use Rattle.std.specs.Prelude.{ℕ, ℤ, ◌+◌, ◌-◌, ◌*◌}
 use Rattle.std.specs.Int.RustNames.{unsigned_abs}
-use Rattle.module_box.specs.declared.boxes.Box2.{Box2}
+use Rattle.bbm_rule.specs.declared.block.Box2.{Box2}
 
 -- the place of the cell (x, y) of a box, whose cells are counted row by row
 abbrev pub place_in : Box2 → ℤ → ℤ → ℕ

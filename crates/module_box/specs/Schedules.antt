@@ -6,14 +6,14 @@ use Rattle.std.specs.declared.cmp.Ordering.TheVariants.{Less}
 use Rattle.bbm_rule.specs.Plane.{is_at}
 use Rattle.bbm_rule.specs.declared.block.Cell.{Cell}
 use Rattle.module_box.specs.declared.schedules.Moment.{Moment}
-use Rattle.module_box.specs.declared.schedules.AllTimes.{AllTimes}
+use Rattle.module_box.specs.declared.schedules.AllTimesSignal.{AllTimesSignal}
 use Rattle.module_box.specs.declared.schedules.TimedSignal.{TimedSignal}
 use Rattle.module_box.specs.declared.schedules.Signal.{Signal}
 use Rattle.module_box.specs.declared.schedules.Signal.TheVariants.{Zero}
 
 -- the signals at all times and the events of a schedule
 pub record Signals : Type 0 where
-  pub all_times : List AllTimes
+  pub all_times : List AllTimesSignal
   pub events : List TimedSignal
 
 -- whether the moment is time t at the cell (x, y)
@@ -21,7 +21,7 @@ abbrev pub is_moment_at : Moment → ℕ → ℤ → ℤ → Bool
 is_moment_at m t x y = (m.time == t) && is_at m.cell x y
 
 -- the signal of the first element with the cell (x, y)
-unfoldable pub all_times_at : List AllTimes → ℤ → ℤ → Option Signal
+unfoldable pub all_times_at : List AllTimesSignal → ℤ → ℤ → Option Signal
 all_times_at [] x y = None
 all_times_at (h ∷ hs) x y = if is_at h.cell x y then Some h.signal else all_times_at hs x y
 
@@ -40,7 +40,7 @@ pub record IsRising {A K : Type 0} (cmp : K → K → Ordering) (key : A → K) 
       cmp (key a) (key b) ≡ Less
 
 -- the cell of a signal at all times
-abbrev pub cell_of : AllTimes → Cell
+abbrev pub cell_of : AllTimesSignal → Cell
 cell_of h = h.cell
 
 -- the time and the cell of an event

@@ -1,8 +1,8 @@
 -- A table of the blocks of a rectangle, row by row, in which boxes take the places of their blocks
 use Rattle.std.specs.Prelude.{◌≡◌, ℕ, ◌+◌, ◌*◌, ◌<◌, ◌≤◌, List, length, slice_index, IsTrue}
-use Rattle.module_box.specs.Boxes.{in_box}
+use Rattle.bbm_rule.specs.Boxes.{in_box}
 use Rattle.module_box.specs.Tiling.{block_corner_x, block_corner_y}
-use Rattle.module_box.specs.declared.boxes.Box2.{Box2}
+use Rattle.bbm_rule.specs.declared.block.Box2.{Box2}
 
 -- the places from `from` to before `stop` were free and have the number now, the others are as before; a `stop` before
 -- the end is not free

@@ -2,8 +2,8 @@
 use Rattle.std.specs.Prelude.{◌≡◌, ℕ, ℤ, pos, ◌<◌, ◌≤◌, ◌+◌, ◌*◌, ◌/◌, ◌%◌, List, length, Some, slice_get, slice_index}
 use Rattle.std.specs.Prelude.{IsTrue}
 use Rattle.std.specs.Int.RustNames.{unsigned_abs}
-use Rattle.module_box.specs.Boxes.{in_box, IsEven, Tile}
-use Rattle.module_box.specs.declared.boxes.Box2.{Box2}
+use Rattle.bbm_rule.specs.Boxes.{in_box, IsEven, Tile}
+use Rattle.bbm_rule.specs.declared.block.Box2.{Box2}
 use Rattle.bbm_rule.specs.declared.block.Cell.{Cell}
 use Rattle.module_box.specs.declared.tile.TileFault.{TileFault}
 use Rattle.module_box.specs.declared.tile.TileFault.TheVariants.{Outside, Overlap, Gap, Memory}
@@ -45,7 +45,7 @@ abbrev pub AreFirstBlocksInOneBox : ℕ → ℕ → List Box2 → Type 0
 AreFirstBlocksInOneBox columns place boxes =
     (k : ℕ) → k < place → (i : ℕ) × IsHolder boxes (block_corner_x columns k) (block_corner_y columns k) i
 
--- a block that lies in two boxes or in none, the first such
+-- the first block that lies in two boxes or in none
 pub record IsBadBlock (w h : ℕ) (boxes : List Box2) (c : Cell) : Type 0 where
   pub inside : AreFirstBoxesInside w h (length boxes) boxes
   pub place : ℕ
@@ -71,20 +71,20 @@ IsTileFault w h boxes (Gap c) = IsBadBlock w h boxes c × ((i : ℕ) → ¬ Hold
 IsTileFault w h boxes Memory = Unit {0}
 
 -- what `owner_table` asks of its caller
-pub record IsTask (w h : ℕ) (boxes : List Box2) : Type 0 where
+pub record MayHaveOwnerTable (w h : ℕ) (boxes : List Box2) : Type 0 where
   pub width : (2 ≤ w) × (w ≤ 512) × (w % 2 ≡ 0)
   pub height : (2 ≤ h) × (h ≤ 512) × (h % 2 ≡ 0)
   pub even : (k : ℕ) (b : Box2) → slice_get boxes k ≡ Some b → IsEven b
   pub sides : (k : ℕ) (b : Box2) → slice_get boxes k ≡ Some b → (2 ≤ b.w) × (2 ≤ b.h)
 
 -- a rectangle, and the number of a box for each of its blocks, row by row
-pub record Owning : Type 0 where
+pub record OwnersView : Type 0 where
   pub width : ℕ
   pub height : ℕ
   pub numbers : List ℕ
 
 -- its rectangle
-abbrev pub rectangle : Owning → Box2
+abbrev pub rectangle : OwnersView → Box2
 rectangle o = rectangle_of o.width o.height
 
 -- the column or row of the block that has a column or row of cells
@@ -92,17 +92,17 @@ abbrev pub block_index : ℤ → ℕ
 block_index z = unsigned_abs z / 2
 
 -- the number for the block that has the cell (x, y)
-unfoldable pub owner_of : Owning → ℤ → ℤ → ℕ
+unfoldable pub owner_of : OwnersView → ℤ → ℤ → ℕ
 owner_of o x y = slice_index o.numbers (block_index y * (o.width / 2) + block_index x)
 
 -- its sides, and one number for each block
-pub record IsTable (o : Owning) : Type 0 where
+pub record IsOwnersTable (o : OwnersView) : Type 0 where
   pub width : (2 ≤ o.width) × (o.width ≤ 512) × (o.width % 2 ≡ 0)
   pub height : (2 ≤ o.height) × (o.height ≤ 512) × (o.height % 2 ≡ 0)
   pub sized : length o.numbers ≡ (o.height / 2) * (o.width / 2)
 
 -- the boxes tile the rectangle, and the number for each of its cells is that of the box that has the cell
-pub record AreOwners (o : Owning) (boxes : List Box2) : Type 0 where
+pub record AreOwners (o : OwnersView) (boxes : List Box2) : Type 0 where
   pub tile : Tile (rectangle o) boxes
   pub named : (x y : ℤ) → IsTrue (in_box (rectangle o) x y) →
       (b : Box2) × (slice_get boxes (owner_of o x y) ≡ Some b) × IsTrue (in_box b x y)

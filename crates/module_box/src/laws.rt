@@ -27,9 +27,8 @@ pub fn fault_means_no_tiling()
     ensures { FaultMeansNoTiling }
 {}
 
-/// States that two [`Locals`](crate::Locals) are equal exactly if contracts see the same of both.
-///
-/// It states the same of two [`Schedule`](crate::Schedule)s.
+/// States that two [`Locals`](crate::Locals) are equal exactly if contracts see the same of both, and so two
+/// [`Schedule`](crate::Schedule)s.
 pub fn equality_is_of_content()
     ensures locals { LocalsEqualityDecides }
     ensures schedules { ScheduleEqualityDecides }

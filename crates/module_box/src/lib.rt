@@ -12,7 +12,6 @@
 //! their numbers mean. If its cuts have values, the others follow, as `specs/LocalValues.antt` says.
 #![tactic(auto)]
 
-mod boxes;
 mod equalities;
 pub mod laws;
 mod locals;
@@ -27,12 +26,12 @@ mod tile;
 mod values;
 mod wiring;
 
-pub use boxes::Box2;
+pub use bbm_rule::Box2;
 pub use locals::Locals;
 pub use moving::{moved_cell, moved_event};
 pub use owners::Owners;
 pub use places::place_in;
-pub use schedules::{AllTimes, Moment, Schedule, Signal, TimedSignal, compare_cells};
+pub use schedules::{AllTimesSignal, Moment, Schedule, Signal, TimedSignal, compare_cells};
 pub use tile::{TileFault, owner_table};
 pub use values::{LocalValuesError, ValueRows};
 pub use wiring::Wiring;

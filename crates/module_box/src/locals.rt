@@ -7,7 +7,7 @@ ghost use Rattle.circuit.specs.Gates.{uses};
 ghost use Rattle.circuit.specs.Meaning.{Gate, wires};
 ghost use Rattle.circuit.specs.Wiring.{gate_of};
 ghost use Rattle.module_box.specs.LocalGates.{gate_of_local_gate};
-ghost use Rattle.module_box.specs.Locals.{AreDifferent, AreLocalLines, AreLocalsOf, circuit_gate, circuit_wire, is_among, local_wires};
+ghost use Rattle.module_box.specs.Locals.{AreDistinct, AreLocalLines, AreLocalsOf, circuit_gate, circuit_wire, is_among, local_wires};
 
 use crate::numbered_wires::NumberedWires;
 use crate::wiring::Wiring;
@@ -49,7 +49,7 @@ impl Model for Locals {
 
 // Adds wires that are not known yet.
 fn add_wires(known: &mut NumberedWires, wires: &[WireNo]) -> Result<(), AllocError>
-    requires different { AreDifferent (known.old ++ wires.now) }
+    requires different { AreDistinct (known.old ++ wires.now) }
     requires at_most_65536 { length known.old + length wires.now ≤ 2 ^ 16 }
     ensures { OnOk result (known.new ≡ known.old ++ wires.now) }
 {
@@ -100,7 +100,7 @@ fn number_cuts_and_gates(
     cuts: &[WireNo],
     gates: &[GateNo],
 ) -> Result<Vec<LocalGate>, AllocError>
-    requires none { known.old ≡ [] }
+    requires known_is_empty { known.old ≡ [] }
     requires lines { AreLocalLines (netlist_of circuit.now) cuts.now gates.now }
     ensures locals { IfOk result (λ made. AreLocalsOf (netlist_of circuit.now)
         (record {
@@ -205,7 +205,7 @@ impl Locals {
     }
 
     /// Returns the module's number, below `wires()`, of a wire of the circuit, if the module knows it.
-    pub fn local(&self, wire: WireNo) -> Option<u16>
+    pub fn module_number(&self, wire: WireNo) -> Option<u16>
         ensures place { result ≡ position (λ w. w == wire) self.now.circuit_wires }
         ensures found { is_some result ≡ is_among self.now.circuit_wires wire }
         ensures within { IfSome result (λ i. i < length self.now.circuit_wires) }

@@ -4,13 +4,13 @@ ghost use Rattle.std.specs.Prelude.{◌≡◌, map};
 ghost use Rattle.std.specs.List.{All};
 ghost use Rattle.module_box.specs.Moves.{IsInShiftRange, IsSmallShift, moved_cell, moved_event, moved_all_times, moved_signals};
 
-use crate::schedules::{AllTimes, Moment, Schedule, TimedSignal};
+use crate::schedules::{AllTimesSignal, Moment, Schedule, TimedSignal};
 use bbm_rule::Cell;
 
 /// Returns the cell that lies `dx` columns and `dy` rows further. All these numbers are from -1024 to 1023.
 pub fn moved_cell(cell: Cell, dx: i32, dy: i32) -> Cell
     requires cell { IsInShiftRange cell }
-    requires by { IsSmallShift dx × IsSmallShift dy }
+    requires small_shift { IsSmallShift dx × IsSmallShift dy }
     ensures { result ≡ moved_cell dx dy cell }
 {
     Cell {
@@ -19,12 +19,12 @@ pub fn moved_cell(cell: Cell, dx: i32, dy: i32) -> Cell
     }
 }
 
-fn moved_all_times(all_times: AllTimes, dx: i32, dy: i32) -> AllTimes
+fn moved_all_times(all_times: AllTimesSignal, dx: i32, dy: i32) -> AllTimesSignal
     requires cell { IsInShiftRange all_times.cell }
-    requires by { IsSmallShift dx × IsSmallShift dy }
+    requires small_shift { IsSmallShift dx × IsSmallShift dy }
     ensures { result ≡ moved_all_times dx dy all_times }
 {
-    AllTimes {
+    AllTimesSignal {
         cell: moved_cell(all_times.cell, dx, dy),
         signal: all_times.signal,
     }
@@ -34,7 +34,7 @@ fn moved_all_times(all_times: AllTimes, dx: i32, dy: i32) -> AllTimes
 /// 1023.
 pub fn moved_event(event: TimedSignal, dx: i32, dy: i32) -> TimedSignal
     requires cell { IsInShiftRange event.at.cell }
-    requires by { IsSmallShift dx × IsSmallShift dy }
+    requires small_shift { IsSmallShift dx × IsSmallShift dy }
     ensures { result ≡ moved_event dx dy event }
 {
     TimedSignal {
@@ -47,9 +47,9 @@ pub fn moved_event(event: TimedSignal, dx: i32, dy: i32) -> TimedSignal
 }
 
 // Moves each signal at all times.
-fn move_all_times(all_times: &mut Vec<AllTimes>, dx: i32, dy: i32)
+fn move_all_times(all_times: &mut Vec<AllTimesSignal>, dx: i32, dy: i32)
     requires cells { All (λ h. IsInShiftRange h.cell) all_times.old.items }
-    requires by { IsSmallShift dx × IsSmallShift dy }
+    requires small_shift { IsSmallShift dx × IsSmallShift dy }
     ensures { all_times.new.items ≡ map (moved_all_times dx dy) all_times.old.items }
 {
     for signal in all_times.iter_mut() {
@@ -60,7 +60,7 @@ fn move_all_times(all_times: &mut Vec<AllTimes>, dx: i32, dy: i32)
 // Moves each event.
 fn move_events(events: &mut Vec<TimedSignal>, dx: i32, dy: i32)
     requires cells { All (λ e. IsInShiftRange e.at.cell) events.old.items }
-    requires by { IsSmallShift dx × IsSmallShift dy }
+    requires small_shift { IsSmallShift dx × IsSmallShift dy }
     ensures { events.new.items ≡ map (moved_event dx dy) events.old.items }
 {
     for event in events.iter_mut() {
@@ -74,7 +74,7 @@ impl Schedule {
     pub fn moved(self, dx: i32, dy: i32) -> Schedule
         requires all_times { All (λ h. IsInShiftRange h.cell) self.all_times }
         requires events { All (λ e. IsInShiftRange e.at.cell) self.events }
-        requires by { IsSmallShift dx × IsSmallShift dy }
+        requires small_shift { IsSmallShift dx × IsSmallShift dy }
         ensures { result ≡ moved_signals dx dy self }
     {
         let (mut all_times, mut events) = self.into_lists();

@@ -92,7 +92,7 @@ impl NumberedWires {
 
     /// Adds a wire that is not one of these yet. It gets the next number.
     pub(crate) fn push(&mut self, wire: u16) -> Result<(), AllocError>
-        requires new { is_among self.old wire ≡ false }
+        requires wire_is_new { is_among self.old wire ≡ false }
         requires few { length self.old < 2 ^ 16 }
         ensures added { OnOk result (self.new ≡ self.old ++ wire ∷ []) }
         ensures unchanged_on_error { OnErr result (self.new ≡ self.old) }

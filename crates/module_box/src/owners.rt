@@ -1,7 +1,7 @@
 //! Which box has each cell of a rectangle.
 
 ghost use Rattle.std.specs.Prelude.{◌≡◌, IsTrue};
-ghost use Rattle.module_box.specs.Boxes.{in_box};
+ghost use Rattle.bbm_rule.specs.Boxes.{in_box};
 ghost use Rattle.module_box.specs.Tiling.{rectangle, owner_of};
 
 use bbm_rule::Cell;
@@ -19,9 +19,9 @@ pub struct Owners {
 }
 
 impl Model for Owners {
-    ghost use Rattle.module_box.specs.Tiling.{Owning};
+    ghost use Rattle.module_box.specs.Tiling.{OwnersView};
 
-    ghost Value = { Owning };
+    ghost Value = { OwnersView };
 
     ghost use Rattle.module_box.specs.OwnersView.{owners_view, AreOwnersFields};
 

@@ -1,10 +1,9 @@
 //! The places of the cells of a box.
 ghost use Rattle.std.specs.Prelude.{◌≡◌, ◌+◌, ◌≤◌, IsTrue};
 ghost use Rattle.module_box.specs.Places.{place_in};
-ghost use Rattle.module_box.specs.Boxes.{in_box};
+ghost use Rattle.bbm_rule.specs.Boxes.{in_box};
 
-use crate::boxes::Box2;
-use bbm_rule::Cell;
+use bbm_rule::{Box2, Cell};
 
 /// Returns the place of a cell of a box, whose cells are counted row by row.
 pub fn place_in(area: Box2, cell: Cell) -> usize

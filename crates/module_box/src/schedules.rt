@@ -28,7 +28,7 @@ pub struct Moment {
 
 /// A signal that a cell has at all times.
 #[derive(Clone, Copy, Debug, PartialEq, Eq)]
-pub struct AllTimes {
+pub struct AllTimesSignal {
     pub cell: Cell,
     pub signal: Signal,
 }
@@ -44,7 +44,7 @@ pub struct TimedSignal {
 // The signals at all times rise strictly by y and x of their cells, the events by time, y and x.
 #[derive(Debug, Drop)]
 pub struct Schedule {
-    all_times: Vec<AllTimes>,
+    all_times: Vec<AllTimesSignal>,
     events: Vec<TimedSignal>,
 }
 
@@ -81,7 +81,7 @@ impl Moment {
 }
 
 // the signal that the list holds for the cell.
-fn find_all_times(all_times: &[AllTimes], cell: Cell) -> Option<Signal>
+fn find_all_times(all_times: &[AllTimesSignal], cell: Cell) -> Option<Signal>
     requires { IsRising cell_cmp cell_of all_times.now }
     ensures { result ≡ all_times_at all_times.now cell.x cell.y }
 {
@@ -123,7 +123,7 @@ impl Schedule {
     ///
     /// The signals at all times rise strictly by y, then x of their cells. The events rise strictly by time, then y,
     /// then x.
-    pub fn new(all_times: Vec<AllTimes>, events: Vec<TimedSignal>) -> Schedule
+    pub fn new(all_times: Vec<AllTimesSignal>, events: Vec<TimedSignal>) -> Schedule
         requires all_times { IsRising cell_cmp cell_of all_times.items }
         requires events { IsRising moment_cmp moment_of events.items }
         ensures all_times { result.all_times ≡ all_times.items }
@@ -133,7 +133,7 @@ impl Schedule {
     }
 
     // Returns the signals at all times and the events.
-    pub(crate) fn into_lists(self) -> (Vec<AllTimes>, Vec<TimedSignal>)
+    pub(crate) fn into_lists(self) -> (Vec<AllTimesSignal>, Vec<TimedSignal>)
         ensures all_times { result.0.items ≡ self.all_times }
         ensures events { result.1.items ≡ self.events }
         ensures rising_cells { IsRising cell_cmp cell_of result.0.items }
@@ -144,7 +144,7 @@ impl Schedule {
     }
 
     /// Returns the signals at all times, rising strictly by y, then x of their cells.
-    pub fn all_times(&self) -> &[AllTimes]
+    pub fn all_times(&self) -> &[AllTimesSignal]
         ensures same_list { result.now ≡ self.now.all_times }
         ensures rising { IsRising cell_cmp cell_of result.now }
     {

@@ -1,10 +1,10 @@
 //! A table with a place for each block of a rectangle, row by row, which boxes take one after the other.
 
 ghost use Rattle.std.specs.Prelude.{◌≤◌, length};
-ghost use Rattle.module_box.specs.Boxes.{IsEven};
+ghost use Rattle.bbm_rule.specs.Boxes.{IsEven};
 ghost use Rattle.module_box.specs.Taking.{TakesRow, TakesBox, FitsTable};
 
-use crate::boxes::Box2;
+use bbm_rule::Box2;
 
 // Puts the number at the places from `from` on, up to the first that is not free: that one, or the end, is the result.
 fn fill_row_until_taken(

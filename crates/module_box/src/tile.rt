@@ -1,14 +1,13 @@
 //! The table of which box has each block of a rectangle.
 
 ghost use Rattle.std.specs.Prelude.{◌≡◌, ◌<◌, ◌≤◌, ◌+◌, ◌↔◌, ◌*◌, ℕ, IsTrue, MatchResult, Some, slice_get, slice_index, length};
-ghost use Rattle.module_box.specs.declared.boxes.Box2.{Box2};
+ghost use Rattle.bbm_rule.specs.declared.block.Box2.{Box2};
 ghost use Rattle.module_box.specs.declared.tile.TileFault.TheVariants.{Memory};
-ghost use Rattle.module_box.specs.Tiling.{AreOwners, AreFirstBoxesInside, IsTask, IsTileFault, IsInside, block_corner_x, block_corner_y};
+ghost use Rattle.module_box.specs.Tiling.{AreOwners, AreFirstBoxesInside, MayHaveOwnerTable, IsTileFault, IsInside, block_corner_x, block_corner_y};
 
-use crate::boxes::Box2;
 use crate::owners::Owners;
 use crate::taking::fill_box_until_taken;
-use bbm_rule::Cell;
+use bbm_rule::{Box2, Cell};
 use std::alloc::{AllocError, Global};
 
 /// The reason why [`owner_table`] makes no table.
@@ -78,7 +77,7 @@ fn first_free_place(table: &[usize], free: usize) -> usize
 }
 
 // the upper left cell of the block at a place.
-fn corner(columns: usize, place: usize) -> Cell
+fn block_corner(columns: usize, place: usize) -> Cell
     requires columns { (0 < columns) × (columns ≤ 256) }
     requires place { place < 256 * columns }
     ensures { (result.x ≡ block_corner_x columns place)
@@ -113,7 +112,7 @@ pub fn owner_table(
     height: u32,
     boxes: &[Box2],
 ) -> Result<Owners, TileFault>
-    requires { IsTask width height boxes.now }
+    requires { MayHaveOwnerTable width height boxes.now }
     ensures { MatchResult result
         (λ owners. (owners.width ≡ width) × (owners.height ≡ height) × AreOwners owners boxes.now)
         (λ fault. IsTileFault width height boxes.now fault) }
@@ -134,10 +133,10 @@ pub fn owner_table(
     }
     let gap = first_free_place(&numbers, free);
     if gap < numbers.len() {
-        return Err(TileFault::Gap(corner(columns, gap)));
+        return Err(TileFault::Gap(block_corner(columns, gap)));
     }
     if numbers.len() < blocks {
-        return Err(TileFault::Overlap(corner(columns, numbers.len())));
+        return Err(TileFault::Overlap(block_corner(columns, numbers.len())));
     }
     Ok(Owners {
         width,

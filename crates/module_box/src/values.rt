@@ -159,9 +159,9 @@ fn bits_at_place(alloc: Global, words: &[u64], place: u32) -> Result<Vec<bool>, 
 // The first word that has bit `place`.
 fn first_word_with_bit(words: &[u64], place: u32) -> Option<usize>
     requires { place < 64 }
-    ensures some { IfSome result (λ k. (k < length words.now)
+    ensures found_bit_set { IfSome result (λ k. (k < length words.now)
         × (bit (slice_index words.now k) place ≡ true)) }
-    ensures none { result ≡ None → (k : ℕ) → k < length words.now →
+    ensures none_means_unset { result ≡ None → (k : ℕ) → k < length words.now →
         bit (slice_index words.now k) place ≡ false }
 {
     for (number, word) in words.iter().enumerate() {
@@ -253,7 +253,7 @@ impl Wiring {
     }
 
     // The word of each wire: at bit b its value under assignment 64 * chunk + b.
-    fn column(&self, alloc: Global, chunk: u32) -> Result<ValueWords, AllocError>
+    fn words_of_chunk(&self, alloc: Global, chunk: u32) -> Result<ValueWords, AllocError>
         ensures ordered { AreOrdered self.now.given self.now.gates }
         ensures count { IfOk result (λ c. length c.words.items ≡ wires self.now) }
         ensures gates { IfOk result (λ c. length c.undefined.items ≡ length self.now.gates) }
@@ -272,7 +272,7 @@ impl Wiring {
         ensures values { IfOk result (λ vs. AreValues self.now (bit cut_bits) vs.items) }
         ensures fault { IfErr result (λ e. IsLocalValuesError self.now cut_bits e) }
     {
-        let column = self.column(alloc, cut_bits / 64)?;
+        let column = self.words_of_chunk(alloc, cut_bits / 64)?;
         match first_word_with_bit(column.undefined.as_slice(), cut_bits % 64) {
             Some(gate) => Err(LocalValuesError::NoRow(gate)),
             None => {
@@ -293,7 +293,7 @@ impl Wiring {
         let mut undefined = vec![in alloc; 0; words * self.gates()]?;
         let mut defined = Vec::with_capacity(alloc, words)?;
         'chunks: for chunk in 0..words {
-            let column = self.column(alloc, chunk as u32)?;
+            let column = self.words_of_chunk(alloc, chunk as u32)?;
             put_word_in_each_row(&mut values, words, chunk, &column.words);
             put_word_in_each_row(&mut undefined, words, chunk, &column.undefined);
             defined.push(column.defined)?;

@@ -1,9 +1,8 @@
 -- The entries of cells tell what the cells carry, and those of more cells follow them.
-use Rattle.lemmas.proofs.Common.{[], ◌++◌, ◌+◌, ◌<◌, ◌∙◌, ◌∷◌, ◌≡◌, ◌≤◌, ◌⊎◌, List, ap, append_assoc, ap₂, arith, inl}
-use Rattle.lemmas.proofs.Common.{inr, length, map, refl, sym, ℕ, cases_Bool, common_steps, cond-false, cond-true}
-use Rattle.lemmas.proofs.Common.{length-map, nat_tests, same_head, same_tail}
-use Rattle.module_box.specs.Numbers.{IsPrefixFree}
-use Rattle.module_job.specs.Keys.{sparse_entry, sparse_list_numbers, sparse_entries_from}
+use Rattle.module_job.proofs.Imports.{IsPrefixFree, List, [], ap, append_assoc, ap₂, arith, cases_Bool, common_steps}
+use Rattle.module_job.proofs.Imports.{cond-false, cond-true, inl, inr, length, length-map, map, nat_tests, refl}
+use Rattle.module_job.proofs.Imports.{same_head, same_tail, sparse_entries_from, sparse_entry, sparse_list_numbers, sym}
+use Rattle.module_job.proofs.Imports.{ℕ, ◌++◌, ◌+◌, ◌<◌, ◌∙◌, ◌∷◌, ◌≡◌, ◌≤◌, ◌⊎◌}
 
 -- ---- one cell
 

@@ -1,18 +1,16 @@
 -- The tests of equality answer whether two jobs are equal.
-use Rattle.lemmas.proofs.Common.{◌&&◌, ◌∙◌, ◌≡◌, Bool, List, None, Option, Some, ap, arith, false, nat_eq, refl, suc}
-use Rattle.lemmas.proofs.Common.{sym, true, zero, ℕ, Decides, Decides-eqb, common_steps, pointwise}
-use Rattle.module_box.proofs.EqualTests.{both, lists, options, signal_decides, cell_decides, signals_decides}
-use Rattle.module_box.proofs.EqualTests.{locals_decides, netlists_decide}
-use Rattle.module_box.specs.Equality.{same_cell, same_signal}
-use Rattle.module_box.specs.declared.boxes.Box2.{Box2}
-use Rattle.module_job.specs.Equality.{same_box, demand_kind_number, demand_wire, same_demand, same_job, same_shape}
-use Rattle.module_job.specs.Equality.{same_stop}
+use Rattle.module_job.proofs.Imports.{Bool, Decides, Decides-eqb, Demand, List, None, Option, ShapeView, Some, Stop, ap}
+use Rattle.module_job.proofs.Imports.{arith, both, common_steps, job_of_shape, lists, nat_eq, pointwise, refl}
+use Rattle.module_job.proofs.Imports.{same_demand, same_job, same_shape, same_signal, shape_of, signal_decides, suc}
+use Rattle.module_job.proofs.Imports.{sym, zero, ℕ, ◌&&◌, ◌∙◌, ◌≡◌}
+use Rattle.lemmas.proofs.Common.{false, true}
+use Rattle.module_box.proofs.EqualTests.{options, cell_decides, signals_decides, locals_decides, netlists_decide}
+use Rattle.module_box.specs.Equality.{same_cell}
+use Rattle.bbm_rule.specs.declared.block.Box2.{Box2}
+use Rattle.module_job.specs.Equality.{same_box, demand_kind_number, demand_wire, same_stop}
 use Rattle.module_job.specs.Laws.{JobEqualityDecides, ShapeEqualityDecides}
-use Rattle.module_job.specs.Shapes.{ShapeView, placed, shape_of}
-use Rattle.module_job.specs.declared.job.Demand.{Demand}
-use Rattle.module_job.specs.declared.job.Demand.TheVariants as Demanded
-use Rattle.module_job.specs.declared.job.Stop.{Stop}
 use Rattle.module_job.proofs.ShapeParts.{shape_placed}
+use Rattle.module_job.specs.declared.job.Demand.TheVariants as Demanded
 use Rattle.module_job.specs.contracts.job.StopPartialEq.TheImpl as stops
 
 -- the derived test is this
@@ -143,7 +141,7 @@ one_fact false true d e = grind (arith, common_steps)
 
 parts_decide : (x y x' y' : ℕ) (ws gs ws' gs' : List ℕ) (s t : ShapeView) →
     Decides ((((nat_eq x x' && nat_eq y y') && pointwise nat_eq ws ws') && pointwise nat_eq gs gs') && same_shape s t)
-    (placed x y ws gs s ≡ placed x' y' ws' gs' t)
+    (job_of_shape x y ws gs s ≡ job_of_shape x' y' ws' gs' t)
 parts_decide x y x' y' ws gs ws' gs' s t =
     both _ _
     (both {R = (((x ≡ x') × (y ≡ y')) × (ws ≡ ws')) × (gs ≡ gs')} _ _
@@ -152,7 +150,7 @@ parts_decide x y x' y' ws gs ws' gs' s t =
     (lists nat_eq Decides-eqb ws ws') (λ p q. (p, q)) (λ p. p.0) (λ p. p.1))
     (lists nat_eq Decides-eqb gs gs') (λ p q. (p, q)) (λ p. p.0) (λ p. p.1))
     (shapes_decide s t)
-    (λ p shape i. placed (p.0.0.0 i) (p.0.0.1 i) (p.0.1 i) (p.1 i) (shape i))
+    (λ p shape i. job_of_shape (p.0.0.0 i) (p.0.0.1 i) (p.0.1 i) (p.1 i) (shape i))
     (λ e. (
       ((ap (λ j. j.area.x) e, ap (λ j. j.area.y) e), ap (λ j. j.locals.circuit_wires) e),
       ap (λ j. j.locals.circuit_gates) e,
@@ -161,6 +159,7 @@ parts_decide x y x' y' ws gs ws' gs' s t =
 
 pub parts_tell : (x y x' y' : ℕ) (ws gs ws' gs' : List ℕ) (s t : ShapeView) →
     ((((nat_eq x x' && nat_eq y y') && pointwise nat_eq ws ws') && pointwise nat_eq gs gs') && same_shape s t)
-    ≡ same_job (placed x y ws gs s) (placed x' y' ws' gs' t)
+    ≡ same_job (job_of_shape x y ws gs s) (job_of_shape x' y' ws' gs' t)
 parts_tell x y x' y' ws gs ws' gs' s t =
-    one_fact _ _ (parts_decide x y x' y' ws gs ws' gs' s t) (jobs_decide (placed x y ws gs s) (placed x' y' ws' gs' t))
+    one_fact _ _ (parts_decide x y x' y' ws gs ws' gs' s t)
+    (jobs_decide (job_of_shape x y ws gs s) (job_of_shape x' y' ws' gs' t))

@@ -1,8 +1,7 @@
 -- The first keys that are the same, as a map has them
-use Rattle.lemmas.proofs.Common.{◌+◌, ◌<◌, ◌∙◌, ◌≡◌, ◌≢◌, List, None, Option, Some, arith, if◌then◌else◌, refl}
-use Rattle.lemmas.proofs.Common.{slice_get, sym, unwrap_or, ℕ, cases_Bool, cases_lt, common_steps, false≢true}
-use Rattle.module_box.proofs.EqualTests.{lists}
-use Rattle.module_job.specs.Groups.{IsFirstLike, same_key}
+use Rattle.module_job.proofs.Imports.{IsFirstLike, List, None, Option, Some, arith, cases_Bool, cases_lt, common_steps}
+use Rattle.module_job.proofs.Imports.{false≢true, if◌then◌else◌, lists, refl, same_key, slice_get, sym, unwrap_or, ℕ}
+use Rattle.module_job.proofs.Imports.{◌+◌, ◌<◌, ◌∙◌, ◌≡◌, ◌≢◌}
 
 -- what is known of a key after the first n
 abbrev pub IsFirstOf : List (List ℕ) → ℕ → List ℕ → Option ℕ → Type 0

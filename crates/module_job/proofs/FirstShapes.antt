@@ -1,9 +1,8 @@
 -- Shapes at their places in a list of references.
-use Rattle.lemmas.proofs.Common.{[], ◌++◌, ◌+◌, ◌<◌, ◌∙◌, ◌∷◌, ◌≡◌, List, Option, Some, ap, arith, get_or, length, map}
-use Rattle.lemmas.proofs.Common.{refl, slice_get, slice_index, suc, sym, unwrap_or, zero, ℕ, cases_lt, common_steps}
-use Rattle.lemmas.proofs.Common.{length-map, slice_get-get_or, slice_get-map}
-use Rattle.module_job.specs.Groups.{AreGroups, AreKeys, IsFirstLike}
-use Rattle.module_job.specs.Shapes.{ShapeView}
+use Rattle.module_job.proofs.Imports.{IsFirstLike, List, Option, ShapeView, Some, [], ap, arith, cases_lt, common_steps}
+use Rattle.module_job.proofs.Imports.{get_or, length, length-map, map, refl, slice_get, slice_get-get_or, slice_get-map}
+use Rattle.module_job.proofs.Imports.{slice_index, suc, sym, unwrap_or, zero, ℕ, ◌++◌, ◌+◌, ◌<◌, ◌∙◌, ◌∷◌, ◌≡◌}
+use Rattle.module_job.specs.Groups.{AreGroups, AreKeys}
 
 pub value_at : {A B : Type 0} (v : A → B) (xs : List A) (k : ℕ) (d : A) (b : B) → k < length xs → d ≡ get_or xs k d →
     b ≡ v d → slice_get (map v xs) k ≡ Some b

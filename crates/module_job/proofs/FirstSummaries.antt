@@ -1,9 +1,9 @@
 -- The first of a list with each summary, and the first with each key of those that differ from it: for `job_groups`.
-use Rattle.lemmas.proofs.Common.{◌+◌, ◌<◌, ◌∙◌, ◌≡◌, ◌≢◌, ◌⊎◌, List, None, Option, Some, ap, arith, if◌then◌else◌, inl}
-use Rattle.lemmas.proofs.Common.{inr, map, option_map, slice_get, sym, unwrap_or, ℕ, cases_Bool, cases_lt, common_steps}
-use Rattle.lemmas.proofs.Common.{cond-false, cond-true, false≢true, slice_get-map, mapped_at}
-use Rattle.module_box.proofs.EqualTests.{lists}
-use Rattle.module_job.specs.Groups.{IsFirstLike, same_key}
+use Rattle.module_job.proofs.Imports.{IsFirstLike, List, None, Option, Some, ap, arith, cases_Bool, cases_lt}
+use Rattle.module_job.proofs.Imports.{common_steps, cond-false, cond-true, false≢true, if◌then◌else◌, inl, inr, lists}
+use Rattle.module_job.proofs.Imports.{map, mapped_at, same_key, slice_get, slice_get-map, sym, unwrap_or, ℕ, ◌+◌, ◌<◌}
+use Rattle.module_job.proofs.Imports.{◌∙◌, ◌≡◌, ◌≢◌, ◌⊎◌}
+use Rattle.lemmas.proofs.Common.{option_map}
 use Rattle.module_job.proofs.FirstKeys.{IsFirstOf, first_found}
 use Rattle.module_job.proofs.FirstShapes.{one_value}
 

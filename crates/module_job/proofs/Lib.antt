@@ -7,3 +7,4 @@ pub mod NumberedCells
 pub mod ShapeParts
 pub mod SparseLists
 pub mod TellingShapes
+pub mod Imports

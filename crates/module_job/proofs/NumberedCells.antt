@@ -1,18 +1,13 @@
 -- Lists of what cells carry or must be, by their numbers.
-use Rattle.lemmas.proofs.Common.{[], ◌++◌, ◌+◌, ◌<◌, ◌∙◌, ◌∷◌, ◌≡◌, All, Bool, List, ap, ap₂, arith, length, map}
-use Rattle.lemmas.proofs.Common.{nat_eq, refl, replicate, slice_get, suc, sym, unwrap_or, zero, ℕ, All-head, All-tail}
-use Rattle.lemmas.proofs.Common.{Decides, Decides-eqb, common_steps, get_or-replicate, length-map, length-replicate}
-use Rattle.lemmas.proofs.Common.{map-append, pointwise, same_from_decides}
-use Rattle.module_box.proofs.EqualTests.{lists, signal_decides}
-use Rattle.module_box.specs.Equality.{same_signal}
-use Rattle.module_box.specs.declared.schedules.Signal.{Signal}
-use Rattle.module_box.specs.declared.schedules.Signal.TheVariants.{Zero, One, Wire}
-use Rattle.module_job.specs.CellLists.{demand_from_number, signal_from_number}
-use Rattle.module_job.specs.Equality.{same_demand}
-use Rattle.module_job.specs.Keys.{sparse_list_numbers, demand_number, sparse_entries_from, signal_number}
-use Rattle.module_job.specs.declared.job.Demand.{Demand}
-use Rattle.module_job.specs.declared.job.Demand.TheVariants as Demanded
+use Rattle.module_job.proofs.Imports.{All, All-head, All-tail, Bool, Decides, Decides-eqb, Demand, List, One, Signal}
+use Rattle.module_job.proofs.Imports.{Wire, Zero, [], ap, ap₂, arith, common_steps, demand_from_number, demand_number}
+use Rattle.module_job.proofs.Imports.{length, length-map, length-replicate, lists, map, nat_eq, pointwise, refl}
+use Rattle.module_job.proofs.Imports.{replicate, same_demand, same_from_decides, same_signal, signal_decides}
+use Rattle.module_job.proofs.Imports.{signal_from_number, signal_number, slice_get, sparse_entries_from}
+use Rattle.module_job.proofs.Imports.{sparse_list_numbers, suc, sym, unwrap_or, zero, ℕ, ◌++◌, ◌+◌, ◌<◌, ◌∙◌, ◌∷◌, ◌≡◌}
+use Rattle.lemmas.proofs.Common.{get_or-replicate, map-append}
 use Rattle.module_job.proofs.EqualJobs.{demand_decides}
+use Rattle.module_job.specs.declared.job.Demand.TheVariants as Demanded
 
 -- ---- one signal, one demand
 

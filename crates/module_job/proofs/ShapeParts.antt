@@ -1,13 +1,13 @@
 -- Jobs and their shapes
-use Rattle.lemmas.proofs.Common.{[], ◌+ℤ◌, ◌∙◌, ◌∷◌, ◌≡◌, List, ap₂, arith, map, pos, refl, sym, ℕ, ℤ, common_steps}
-use Rattle.lemmas.proofs.Common.{ints}
+use Rattle.module_job.proofs.Imports.{List, ShapeView, Stop, [], ap₂, arith, common_steps, ints, job_of_shape, map}
+use Rattle.module_job.proofs.Imports.{moved_stop, pos, refl, shape_of, sym, ℕ, ℤ, ◌∙◌, ◌∷◌, ◌≡◌}
+use Rattle.lemmas.proofs.Common.{◌+ℤ◌}
 use Rattle.module_box.specs.Moves.{moved_signals}
 use Rattle.module_box.specs.Schedules.{Signals, signal_at}
 use Rattle.module_box.proofs.MovedBoxes.{cell_back, signals_back, signals_moved}
 use Rattle.module_job.specs.Jobs.{JobView}
 use Rattle.module_job.specs.Laws.{ShapesAreParts}
-use Rattle.module_job.specs.Shapes.{ShapeView, shift_to_origin, moved_stop, placed, shape_of}
-use Rattle.module_job.specs.declared.job.Stop.{Stop}
+use Rattle.module_job.specs.Shapes.{shift_to_origin}
 
 pub forth_back : (n : ℕ) → pos n +ℤ shift_to_origin n ≡ pos 0
 forth_back n = omega (arith, ints)
@@ -24,11 +24,11 @@ pub placed_again : (x y : ℕ) (s : Signals) →
     moved_signals (pos x) (pos y) (moved_signals (shift_to_origin x) (shift_to_origin y) s) ≡ s
 placed_again x y s = grind (arith, common_steps, signals_back, back_forth)
 
-pub shape_placed : (x y : ℕ) (wires gates : List ℕ) (s : ShapeView) → shape_of (placed x y wires gates s) ≡ s
+pub shape_placed : (x y : ℕ) (wires gates : List ℕ) (s : ShapeView) → shape_of (job_of_shape x y wires gates s) ≡ s
 shape_placed x y wires gates s = grind (arith, common_steps, signals_back, forth_back, stops_back)
 
 pub placed_shape : (j : JobView) →
-    placed j.area.x j.area.y j.locals.circuit_wires j.locals.circuit_gates (shape_of j) ≡ j
+    job_of_shape j.area.x j.area.y j.locals.circuit_wires j.locals.circuit_gates (shape_of j) ≡ j
 placed_shape j = grind (arith, common_steps, placed_again, stops_back, back_forth)
 
 pub job_is_placed_shape : ShapesAreParts

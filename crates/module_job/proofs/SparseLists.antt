@@ -1,13 +1,12 @@
 -- A list of numbers from the entries of those that are not 0, and the search for an entry.
-use Rattle.lemmas.proofs.Common.{[], ◌&&◌, ◌*◌, ◌++◌, ◌+◌, ◌-◌, ◌/◌, ◌<◌, ◌∙◌, ◌∷◌, ◌≡◌, ◌≢◌, ◌≤◌, ◌⊎◌, List, ap}
-use Rattle.lemmas.proofs.Common.{append-nil, append_assoc, ap₂, arith, drop, get_or, get_or-append-add, inl, inr}
-use Rattle.lemmas.proofs.Common.{length, length-append, length-take-le, nat_eq, refl, replicate, slice_get, subst, suc}
-use Rattle.lemmas.proofs.Common.{sym, take, take-append-drop, unwrap_or, zero, ℕ, cases_Bool, cases_lt, common_steps}
-use Rattle.lemmas.proofs.Common.{cond-false, cond-true, drop_more, get_or-append_right, get_or_append_left, get_or_past}
-use Rattle.lemmas.proofs.Common.{length-drop, length-replicate, length-take, nat_tests, pointwise, same_from_decides}
-use Rattle.lemmas.proofs.Common.{unwrap_or-slice_get}
-use Rattle.module_box.proofs.EqualTests.{both, lists}
-use Rattle.module_job.specs.Keys.{sparse_entry, sparse_entries_from}
+use Rattle.module_job.proofs.Imports.{List, [], ap, append_assoc, ap₂, arith, both, cases_Bool, cases_lt, common_steps}
+use Rattle.module_job.proofs.Imports.{cond-false, cond-true, get_or, inl, inr, length, length-append, length-replicate}
+use Rattle.module_job.proofs.Imports.{lists, nat_eq, nat_tests, pointwise, refl, replicate, same_from_decides}
+use Rattle.module_job.proofs.Imports.{slice_get, sparse_entries_from, sparse_entry, subst, suc, sym, take, unwrap_or}
+use Rattle.module_job.proofs.Imports.{unwrap_or-slice_get, zero, ℕ, ◌&&◌, ◌*◌, ◌++◌, ◌+◌, ◌-◌, ◌<◌, ◌∙◌, ◌∷◌, ◌≡◌, ◌≢◌}
+use Rattle.module_job.proofs.Imports.{◌≤◌, ◌⊎◌}
+use Rattle.lemmas.proofs.Common.{◌/◌, append-nil, drop, get_or-append-add, length-take-le, take-append-drop, drop_more}
+use Rattle.lemmas.proofs.Common.{get_or-append_right, get_or_append_left, get_or_past, length-drop, length-take}
 use Rattle.module_job.specs.SparseNumbers.{numbers_from_entries}
 use Rattle.module_job.proofs.CellEntries.{entries_append, forms}
 
@@ -185,7 +184,7 @@ unfolding sparse_entries_from
 few place [] = omega arith
 few place (n ∷ ns) = grind (arith, common_steps, few (place + 1) ns, forms)
 
--- entries of places among so many from this one on
+-- the first number of each entry is greater than `place`, by at most `count`
 abbrev AreWithin : ℕ → ℕ → List ℕ → Type 0
 AreWithin place count es =
     (i : ℕ) → 2 * i < length es → (place < get_or es (2 * i) 0) × (get_or es (2 * i) 0 ≤ place + count)

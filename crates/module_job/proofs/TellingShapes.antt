@@ -1,19 +1,17 @@
 -- The numbers of a shape tell it, and the bytes of numbers tell them
-use Rattle.lemmas.proofs.Common.{[], ◌++◌, ◌<◌, ◌^◌, ◌∙◌, ◌∷◌, ◌≡◌, ◌⊎◌, List, ap, append_assoc, ap₂, arith, flat_map}
-use Rattle.lemmas.proofs.Common.{inl, inr, negsuc, pos, refl, sym, ℕ, ℤ, All-head, All-tail, cases_Bool, common_steps}
-use Rattle.lemmas.proofs.Common.{cond-false, cond-true, from_le_bytes-to_le_bytes_2, from_le_bytes-to_le_bytes_8}
-use Rattle.lemmas.proofs.Common.{nat_tests, to_le_bytes, w16, same_head, same_tail}
+use Rattle.module_job.proofs.Imports.{All-head, All-tail, Demand, IsPrefixFree, List, One, ShapeView, Signal, Wire}
+use Rattle.module_job.proofs.Imports.{Zero, [], all_times_numbers, ap, append_assoc, ap₂, arith, cases_Bool}
+use Rattle.module_job.proofs.Imports.{common_steps, cond-false, cond-true, demand_number, event_numbers, flat_map, inl}
+use Rattle.module_job.proofs.Imports.{inr, nat_tests, number_bytes, pos, refl, same_head, same_tail, signal_number}
+use Rattle.module_job.proofs.Imports.{sparse_list_numbers, stop_numbers, sym, ℕ, ℤ, ◌++◌, ◌<◌, ◌∙◌, ◌∷◌, ◌≡◌, ◌⊎◌}
+use Rattle.lemmas.proofs.Common.{◌^◌, negsuc, from_le_bytes-to_le_bytes_2, from_le_bytes-to_le_bytes_8, to_le_bytes}
+use Rattle.lemmas.proofs.Common.{w16}
 use Rattle.std.specs.Int.{w64}
-use Rattle.module_box.specs.Numbers.{IsPrefixFree, length_prefixed, netlist_numbers}
-use Rattle.module_box.specs.declared.schedules.Signal.{Signal}
-use Rattle.module_box.specs.declared.schedules.Signal.TheVariants.{Zero, One, Wire}
+use Rattle.module_box.specs.Numbers.{length_prefixed, netlist_numbers}
 use Rattle.module_box.proofs.InjectiveNumbers.{counted_tell, listed, lists_tell, netlists_tell, same_length}
-use Rattle.module_job.specs.Keys.{BytesDetermineNumbers, NumbersDetermineShapes, cell_numbers, sparse_list_numbers}
-use Rattle.module_job.specs.Keys.{demand_number, event_numbers, all_times_numbers, zigzag_number, number_bytes}
-use Rattle.module_job.specs.Keys.{shape_numbers, signal_number, signals_numbers, stop_numbers}
+use Rattle.module_job.specs.Keys.{BytesDetermineNumbers, NumbersDetermineShapes, cell_numbers, zigzag_number}
+use Rattle.module_job.specs.Keys.{shape_numbers, signals_numbers}
 use Rattle.module_job.proofs.CellEntries.{cells_tell_all}
-use Rattle.module_job.specs.Shapes.{ShapeView}
-use Rattle.module_job.specs.declared.job.Demand.{Demand}
 use Rattle.module_job.specs.declared.job.Demand.TheVariants as Demanded
 
 -- ---- one number

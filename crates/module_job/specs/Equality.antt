@@ -7,7 +7,7 @@ use Rattle.std.specs.Option.{option_eq}
 use Rattle.module_box.specs.Equality.{same_signal, signal_equivalence, same_cell, cell_equivalence, same_signals}
 use Rattle.module_box.specs.Equality.{signals_equivalence, same_locals, locals_equivalence, same_netlist}
 use Rattle.module_box.specs.Equality.{netlist_equivalence}
-use Rattle.module_box.specs.declared.boxes.Box2.{Box2}
+use Rattle.bbm_rule.specs.declared.block.Box2.{Box2}
 use Rattle.module_job.specs.Jobs.{JobView}
 use Rattle.module_job.specs.Shapes.{ShapeView}
 use Rattle.module_job.specs.declared.job.Demand.{Demand}

@@ -5,7 +5,7 @@ use Rattle.std.specs.List.{All}
 use Rattle.circuit.specs.Meaning.{wires}
 use Rattle.module_box.specs.Moves.{IsInShiftRange}
 use Rattle.module_job.specs.Jobs.{JobView, IsJob}
-use Rattle.module_job.specs.Shapes.{ShapeView, placed}
+use Rattle.module_job.specs.Shapes.{ShapeView, job_of_shape}
 use Rattle.module_job.specs.declared.job.Job.TheInside.{Inside}
 
 -- the shape of a job, from its fields
@@ -14,7 +14,7 @@ own_shape a = arc_value a.shape
 
 -- the view of a job: its shape, placed at its corner and over its wires and gates
 abbrev pub job_view : Inside → JobView
-job_view a = placed a.x a.y a.wires.items a.gates.items (own_shape a)
+job_view a = job_of_shape a.x a.y a.wires.items a.gates.items (own_shape a)
 
 -- it is a job, each of its wires has its number in the circuit, and no line of its shape is about a cell far away
 pub record IsStoredJob (a : Inside) : Type 0 where

@@ -2,11 +2,11 @@
 use Rattle.std.specs.Prelude.{ℕ, ℤ, ◌+◌, ◌<◌, ◌≤◌, if◌then◌else◌, List, unwrap_or, slice_get, IsTrue}
 use Rattle.std.specs.List.{All}
 use Rattle.circuit.specs.Meaning.{wires}
-use Rattle.module_box.specs.Boxes.{in_box, IsEven}
+use Rattle.bbm_rule.specs.Boxes.{in_box, IsEven}
 use Rattle.module_box.specs.Locals.{LocalNet}
 use Rattle.module_box.specs.Moments.{moment_cmp}
 use Rattle.module_box.specs.Schedules.{Signals, IsRising}
-use Rattle.module_box.specs.declared.boxes.Box2.{Box2}
+use Rattle.bbm_rule.specs.declared.block.Box2.{Box2}
 use Rattle.module_box.specs.declared.schedules.Moment.{Moment}
 use Rattle.module_box.specs.declared.schedules.Signal.{Signal}
 use Rattle.module_box.specs.declared.schedules.Signal.TheVariants.{Zero}

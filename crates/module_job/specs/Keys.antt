@@ -8,7 +8,7 @@ use Rattle.bbm_rule.specs.declared.block.Cell.{Cell}
 use Rattle.module_box.specs.Numbers.{IsPrefixFree, length_prefixed, netlist_numbers}
 use Rattle.module_box.specs.Schedules.{Signals}
 use Rattle.module_box.specs.declared.schedules.TimedSignal.{TimedSignal}
-use Rattle.module_box.specs.declared.schedules.AllTimes.{AllTimes}
+use Rattle.module_box.specs.declared.schedules.AllTimesSignal.{AllTimesSignal}
 use Rattle.module_box.specs.declared.schedules.Signal.{Signal}
 use Rattle.module_box.specs.declared.schedules.Signal.TheVariants.{Zero, One, Wire}
 use Rattle.module_job.specs.Shapes.{ShapeView}
@@ -56,7 +56,7 @@ abbrev pub cell_numbers : Cell → List ℕ
 cell_numbers c = zigzag_number c.x ∷ zigzag_number c.y ∷ []
 
 -- the numbers of a signal at all times
-abbrev pub all_times_numbers : AllTimes → List ℕ
+abbrev pub all_times_numbers : AllTimesSignal → List ℕ
 all_times_numbers h = cell_numbers h.cell ++ signal_numbers h.signal
 
 -- the numbers of an event
@@ -86,8 +86,8 @@ number_bytes n = if nat_lt n 254 then n
     ∷ [] else (if nat_lt n 65536 then 254 ∷ to_le_bytes w16 n else 255 ∷ to_le_bytes w64 n)
 
 -- the key of a shape
-abbrev pub shape_key : ShapeView → List ℕ
-shape_key s = sha256 (flat_map number_bytes (shape_numbers s))
+abbrev pub shape_digest : ShapeView → List ℕ
+shape_digest s = sha256 (flat_map number_bytes (shape_numbers s))
 
 -- ---- laws: different shapes have different numbers, and different numbers different bytes
 -- Two shapes with the same numbers are the same, also if more numbers follow.

@@ -3,7 +3,7 @@ use Rattle.std.specs.Prelude.{ℕ, ℤ, pos, ◌-ℤ◌, List, map}
 use Rattle.circuit.specs.Meaning.{Netlist}
 use Rattle.module_box.specs.Moves.{moved_cell, moved_signals}
 use Rattle.module_box.specs.Schedules.{Signals}
-use Rattle.module_box.specs.declared.boxes.Box2.{Box2}
+use Rattle.bbm_rule.specs.declared.block.Box2.{Box2}
 use Rattle.module_box.specs.declared.schedules.Signal.{Signal}
 use Rattle.module_job.specs.Jobs.{JobView}
 use Rattle.module_job.specs.declared.job.Demand.{Demand}
@@ -33,7 +33,7 @@ moved_stop dx dy s = record { at = record { time = s.at.time; cell = moved_cell 
 abbrev pub signals_in_plane : Box2 → Signals → Signals
 signals_in_plane b s = moved_signals (pos b.x) (pos b.y) s
 
--- and stops likewise
+-- stops whose cells are counted from the corner of the box, counted from that of the plane
 abbrev pub stops_in_plane : Box2 → List Stop → List Stop
 stops_in_plane b ss = map (moved_stop (pos b.x) (pos b.y)) ss
 
@@ -42,8 +42,8 @@ abbrev pub shift_to_origin : ℕ → ℤ
 shift_to_origin n = pos 0 -ℤ pos n
 
 -- the job of this shape whose box has its corner at (x, y), and whose wires and gates are these of the circuit
-abbrev pub placed : ℕ → ℕ → List ℕ → List ℕ → ShapeView → JobView
-placed x y wires gates s = record {
+abbrev pub job_of_shape : ℕ → ℕ → List ℕ → List ℕ → ShapeView → JobView
+job_of_shape x y wires gates s = record {
   area = record { x = x; y = y; w = s.width; h = s.height };
   steps = s.steps;
   locals = record { netlist = s.netlist; circuit_wires = wires; circuit_gates = gates };

@@ -3,7 +3,7 @@ use Rattle.std.specs.Prelude.{◌≡◌, ℕ, ◌<◌, Bool, true, false, map}
 use Rattle.circuit.specs.Meaning.{Valuation}
 use Rattle.module_box.specs.Schedules.{Signals}
 use Rattle.module_box.specs.declared.schedules.TimedSignal.{TimedSignal}
-use Rattle.module_box.specs.declared.schedules.AllTimes.{AllTimes}
+use Rattle.module_box.specs.declared.schedules.AllTimesSignal.{AllTimesSignal}
 use Rattle.module_box.specs.declared.schedules.Signal.{Signal}
 use Rattle.module_box.specs.declared.schedules.Signal.TheVariants.{Zero, One, Wire}
 use Rattle.module_job.specs.declared.job.Demand.{Demand}
@@ -36,7 +36,7 @@ abbrev pub IsDemandWireBelow : ℕ → Demand → Type 0
 IsDemandWireBelow n (Demanded.Wire w) = w < n
 IsDemandWireBelow n _ = Unit {0}
 
--- ---- the same by other numbers of the wires
+-- ---- signals and demands with other numbers of the wires
 
 -- the signal with another number for its wire
 abbrev pub renumber_signal : (ℕ → ℕ) → Signal → Signal
@@ -52,7 +52,7 @@ renumber_demand f (Demanded.Wire w) = Demanded.Wire (f w)
 renumber_demand f Demanded.Any = Demanded.Any
 
 -- the signal at all times with another number for its wire
-abbrev pub renumber_all_times : (ℕ → ℕ) → AllTimes → AllTimes
+abbrev pub renumber_all_times : (ℕ → ℕ) → AllTimesSignal → AllTimesSignal
 renumber_all_times f h = record h { signal = renumber_signal f h.signal }
 
 -- the event with another number for its wire

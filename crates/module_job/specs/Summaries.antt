@@ -1,7 +1,7 @@
 -- The summary of a shape: some of its numbers, by which most shapes that differ can be told apart at once
 use Rattle.std.specs.Prelude.{ℕ, ◌-◌, ◌/◌, pos, List, ◌∷◌, ◌++◌, length, slice_get, unwrap_or}
 use Rattle.module_box.specs.declared.schedules.TimedSignal.{TimedSignal}
-use Rattle.module_box.specs.declared.schedules.AllTimes.{AllTimes}
+use Rattle.module_box.specs.declared.schedules.AllTimesSignal.{AllTimesSignal}
 use Rattle.module_box.specs.declared.schedules.Signal.TheVariants.{Zero}
 use Rattle.module_job.specs.Keys.{all_times_numbers, event_numbers}
 use Rattle.module_job.specs.Shapes.{ShapeView}
@@ -12,7 +12,7 @@ event_at_place events place = unwrap_or (slice_get events place)
     (record { at = record { time = 0; cell = record { x = pos 0; y = pos 0 } }; signal = Zero })
 
 -- the last signal at all times, or that the cell (0, 0) is dead if there is none
-abbrev pub last_all_times : List AllTimes → AllTimes
+abbrev pub last_all_times : List AllTimesSignal → AllTimesSignal
 last_all_times all_times = unwrap_or (slice_get all_times (length all_times - 1))
     (record { cell = record { x = pos 0; y = pos 0 }; signal = Zero })
 

@@ -32,7 +32,7 @@ fn first_number_with_key<K: Copy + Eq + Hash>(
     }
 }
 
-// For each key the number of the first that is the same.
+// For each key the number of the first key that equals it.
 fn first_numbers_of_keys(alloc: Global, keys: &[[u8; 32]]) -> Result<Vec<usize>, AllocError>
     ensures { IfOk result (λ groups. AreGroups keys.now groups.items) }
 {
@@ -45,8 +45,8 @@ fn first_numbers_of_keys(alloc: Global, keys: &[[u8; 32]]) -> Result<Vec<usize>,
     Ok(groups)
 }
 
-// The number of the first shape that is the same as this one, where `first` is that of the first with the same key.
-// Where keys tell shapes apart, that is the one, or there is none before.
+// The number of the first shape that equals shape `number`, where `first` is the number of the first shape with its
+// key. If different shapes have different keys, the result is `first`.
 fn first_equal_shape(shapes: &[Arc<Shape>], keys: &[[u8; 32]], number: usize, first: usize) -> usize
     requires keys { AreKeys (map arc_value shapes.now) keys.now }
     requires number { number < length shapes.now }
@@ -66,7 +66,7 @@ fn first_equal_shape(shapes: &[Arc<Shape>], keys: &[[u8; 32]], number: usize, fi
     number
 }
 
-/// Returns for each shape the number of the first that is the same, by content.
+/// Returns for each shape the number of the first shape that equals it.
 ///
 /// Shapes that are the same must have the same key. Two shapes with one key may still differ.
 ///

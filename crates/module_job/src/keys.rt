@@ -2,12 +2,12 @@
 ghost use Rattle.std.specs.Prelude.{◌≡◌, ◌^◌, ◌<◌, ◌++◌, [], ◌∷◌, length, IfOk, OnOk};
 ghost use Rattle.std.specs.List.{All, flat_map};
 ghost use Rattle.module_box.specs.Numbers.{length_prefixed};
-ghost use Rattle.module_job.specs.Keys.{cell_numbers, sparse_list_numbers, demand_number, event_numbers, all_times_numbers, zigzag_number, number_bytes, shape_key, shape_numbers, signal_number, signal_numbers, signals_numbers, stop_numbers};
+ghost use Rattle.module_job.specs.Keys.{cell_numbers, sparse_list_numbers, demand_number, event_numbers, all_times_numbers, zigzag_number, number_bytes, shape_digest, shape_numbers, signal_number, signal_numbers, signals_numbers, stop_numbers};
 
 use crate::job::{Demand, Stop};
 use crate::shape::Shape;
 use bbm_rule::Cell;
-use module_box::{AllTimes, Schedule, Signal, TimedSignal};
+use module_box::{AllTimesSignal, Schedule, Signal, TimedSignal};
 use sha2::{Digest, Sha256};
 use std::alloc::{AllocError, Global};
 
@@ -55,7 +55,7 @@ fn push_cell(numbers: &mut Vec<u64>, cell: Cell) -> Result<(), AllocError>
     Ok(())
 }
 
-fn push_all_times(numbers: &mut Vec<u64>, all_times: AllTimes) -> Result<(), AllocError>
+fn push_all_times(numbers: &mut Vec<u64>, all_times: AllTimesSignal) -> Result<(), AllocError>
     ensures { OnOk result (numbers.new.items ≡ numbers.old.items ++ all_times_numbers all_times) }
 {
     push_cell(numbers, all_times.cell)?;
@@ -83,7 +83,7 @@ fn push_stop(numbers: &mut Vec<u64>, stop: Stop) -> Result<(), AllocError>
 
 fn push_all_times_list(
     numbers: &mut Vec<u64>,
-    all_times_list: &[AllTimes],
+    all_times_list: &[AllTimesSignal],
 ) -> Result<(), AllocError>
     ensures { OnOk result (numbers.new.items
         ≡ numbers.old.items ++ flat_map all_times_numbers all_times_list.now) }
@@ -198,7 +198,7 @@ impl Shape {
     /// Shapes that are the same have the same key. Shapes that differ have different numbers, and these different bytes
     /// (laws). One key for both would be a collision of SHA-256.
     pub fn key(&self, alloc: Global) -> Result<[u8; 32], AllocError>
-        ensures key { IfOk result (λ key. key ≡ shape_key self.now) }
+        ensures key { IfOk result (λ key. key ≡ shape_digest self.now) }
         ensures small { IfOk result (λ _. All (λ n. n < 2 ^ 64) (shape_numbers self.now)) }
     {
         let numbers = self.numbers(alloc)?;

@@ -2,9 +2,8 @@
 ghost use Rattle.module_job.specs.Keys.{BytesDetermineNumbers, NumbersDetermineShapes};
 ghost use Rattle.module_job.specs.Laws.{JobEqualityDecides, ShapeEqualityDecides, ShapesAreParts};
 
-/// States that two [`Job`](crate::Job)s are equal exactly if contracts see the same of both.
-///
-/// It states the same of two [`Shape`](crate::Shape)s.
+/// States that two [`Job`](crate::Job)s are equal exactly if contracts see the same of both, and so two
+/// [`Shape`](crate::Shape)s.
 pub fn equality_is_of_content()
     ensures jobs { JobEqualityDecides }
     ensures shapes { ShapeEqualityDecides }

@@ -34,7 +34,7 @@ impl Model for SparseNumbers {
 }
 
 // For how many words the first allocation of entries has room. Most lists are short, and are not moved then.
-const FIRST_ROOM: usize = 64;
+const FIRST_CAPACITY: usize = 64;
 
 // Adds an entry: a place plus one, and its number.
 fn push_entry(entries: &mut Vec<u64>, place: u64, number: u64) -> Result<(), AllocError>
@@ -43,7 +43,7 @@ fn push_entry(entries: &mut Vec<u64>, place: u64, number: u64) -> Result<(), All
     ensures unchanged_on_error { OnErr result (entries.new.items ≡ entries.old.items) }
 {
     if entries.is_empty() {
-        entries.reserve(FIRST_ROOM)?;
+        entries.reserve(FIRST_CAPACITY)?;
     }
     entries.extend_from_slice(&[place, number])
 }

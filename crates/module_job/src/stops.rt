@@ -11,7 +11,7 @@ use std::alloc::{AllocError, Global};
 /// Returns the stop at the cell that lies `dx` columns and `dy` rows further. All these numbers are from -1024 to 1023.
 pub(crate) fn moved_stop(stop: Stop, dx: i32, dy: i32) -> Stop
     requires cell { IsInShiftRange stop.at.cell }
-    requires by { IsSmallShift dx × IsSmallShift dy }
+    requires small_shift { IsSmallShift dx × IsSmallShift dy }
     ensures { result ≡ moved_stop dx dy stop }
 {
     Stop {
@@ -26,7 +26,7 @@ pub(crate) fn moved_stop(stop: Stop, dx: i32, dy: i32) -> Stop
 /// Returns the same stops at the cells that lie `dx` columns and `dy` rows further.
 pub fn moved_stops(alloc: Global, stops: &[Stop], dx: i32, dy: i32) -> Result<Vec<Stop>, AllocError>
     requires cells { All (λ s. IsInShiftRange s.at.cell) stops.now }
-    requires by { IsSmallShift dx × IsSmallShift dy }
+    requires small_shift { IsSmallShift dx × IsSmallShift dy }
     ensures { IfOk result (λ v. v.items ≡ map (moved_stop dx dy) stops.now) }
 {
     let mut moved = Vec::with_capacity(alloc, stops.len())?;

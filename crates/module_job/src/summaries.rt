@@ -5,7 +5,7 @@ ghost use Rattle.module_job.specs.Summaries.{last_all_times, event_at_place, sha
 use crate::keys::{signal_number, zigzag_number};
 use crate::shape::Shape;
 use bbm_rule::Cell;
-use module_box::{AllTimes, Moment, Signal, TimedSignal};
+use module_box::{AllTimesSignal, Moment, Signal, TimedSignal};
 
 // The cell of a signal that a list does not have.
 const CORNER: Cell = Cell { x: 0, y: 0 };
@@ -27,12 +27,12 @@ fn event_at_place(events: &[TimedSignal], place: usize) -> TimedSignal
 }
 
 // The last signal at all times, or that the corner is dead if there is none.
-fn last_all_times(all_times: &[AllTimes]) -> AllTimes
+fn last_all_times(all_times: &[AllTimesSignal]) -> AllTimesSignal
     ensures { result ≡ last_all_times all_times.now }
 {
     match all_times.last() {
         Some(last) => *last,
-        None => AllTimes {
+        None => AllTimesSignal {
             cell: CORNER,
             signal: Signal::Zero,
         },

@@ -1,19 +1,13 @@
 -- A layout with one more line.
-use Rattle.lemmas.proofs.Common.{[], ◌&&◌, ◌++◌, ◌==◌, ◌||◌, ◌∙◌, ◌∷◌, ◌≡◌, Bool, List, None, ap, append-nil}
-use Rattle.lemmas.proofs.Common.{append_assoc, arith, false, length, not, refl, subst, sym, true, ℕ, ℤ, common_steps}
-use Rattle.lemmas.proofs.Common.{list_any-append, map-append, nat_tests, or_last}
-use Rattle.bbm_rule.specs.declared.block.Cell.{Cell}
-use Rattle.section_text.specs.Codes.{code_if}
-use Rattle.pattern.specs.declared.layout_line.Rectangle.{Rectangle}
-use Rattle.pattern.specs.declared.layout_line.Port.{Port}
-use Rattle.pattern.specs.declared.layout_line.LayoutHeader.{LayoutHeader}
-use Rattle.pattern.specs.declared.layout_line.LayoutLine.{LayoutLine}
-use Rattle.pattern.specs.declared.layout_line.LayoutLine.TheVariants.{Mirror, Ball, In, Out, Waste}
-use Rattle.pattern.specs.Layout.{Pattern, parts_of}
-use Rattle.pattern.specs.Lines.{has_later_kind_before, order_fault, limit_fault, cell_fault, begins, ends, holds}
-use Rattle.pattern.specs.Lines.{cells_taken_at_start, ended, AreGoodAfter}
-use Rattle.pattern.proofs.Orders.{some, late_mirror, late_ball, late_in, late_out}
-use Rattle.section_text.specs.declared.code.RefusalCode.{RefusalCode}
+use Rattle.pattern.proofs.Imports.{AreGoodAfter, Ball, Bool, Box2, Cell, In, LayoutHeader, LayoutLine, List, Mirror}
+use Rattle.pattern.proofs.Imports.{None, Out, Pattern, Port, RefusalCode, Waste, [], ap, append-nil, append_assoc}
+use Rattle.pattern.proofs.Imports.{arith, cell_fault, cells_taken_at_end, cells_taken_at_start, code_if, common_steps}
+use Rattle.pattern.proofs.Imports.{false, has_later_kind_before, length, limit_fault, list_any-append, nat_tests, not}
+use Rattle.pattern.proofs.Imports.{or_last, order_fault, parts_of, refl, subst, sym, takes_at_end, takes_at_start, true}
+use Rattle.pattern.proofs.Imports.{ℕ, ℤ, ◌&&◌, ◌++◌, ◌==◌, ◌||◌, ◌∙◌, ◌∷◌, ◌≡◌}
+use Rattle.lemmas.proofs.Common.{map-append}
+use Rattle.pattern.specs.Lines.{holds}
+use Rattle.pattern.proofs.Orders.{is_nonempty, late_mirror, late_ball, late_in, late_out}
 
 -- no code: the test was not failed
 pub no_code : (b : Bool) (code : RefusalCode) → code_if b code ≡ None → b ≡ false
@@ -23,7 +17,7 @@ no_code false code e = refl
 is_zero : (n : ℕ) → not (n == 0) ≡ false → n ≡ 0
 is_zero n e = grind (arith, nat_tests)
 
-none_of : {X : Type 0} (xs : List X) → some xs ≡ false → xs ≡ []
+none_of : {X : Type 0} (xs : List X) → is_nonempty xs ≡ false → xs ≡ []
 none_of [] e = refl
 none_of (x ∷ xs) e = let none : length (x ∷ xs) ≡ 0 = is_zero (length (x ∷ xs)) e in absurd (omega arith)
 
@@ -42,9 +36,9 @@ module _ {A B C D : Type 0} (ks : List A) (ls : List B) (ms : List C) (ns : List
   bits false false true d e = absurd cc
   bits false false false true e = absurd cc
 
-  pub are_empty : (some ks || (some ls || (some ms || some ns))) ≡ false → AreEmpty
+  pub are_empty : (is_nonempty ks || (is_nonempty ls || (is_nonempty ms || is_nonempty ns))) ≡ false → AreEmpty
   are_empty e =
-      let none = bits (some ks) (some ls) (some ms) (some ns) e in
+      let none = bits (is_nonempty ks) (is_nonempty ls) (is_nonempty ms) (is_nonempty ns) e in
       record {
         first = none_of ks none.0;
         second = none_of ls none.1;
@@ -61,17 +55,17 @@ module _ (p v : Pattern) (same : v ≡ p) (part : LayoutLine) (follows : order_f
   on_old : (q : Pattern) → parts_of q ≡ parts_of p ++ part ∷ [] → parts_of q ≡ parts_of v ++ part ∷ []
   on_old q e = e ∙ ap (λ (u : Pattern). parts_of u ++ part ∷ []) (sym same)
 
-  pub with_mirror : (r : Rectangle) (ms : List Rectangle) → part ≡ Mirror r → ms ≡ p.mirrors ++ r ∷ [] →
+  pub with_mirror : (r : Box2) (ms : List Box2) → part ≡ Mirror r → ms ≡ p.mirrors ++ r ∷ [] →
       parts_of (record p { mirrors = ms }) ≡ parts_of v ++ part ∷ []
   with_mirror r ms is more = grind (arith, common_steps, are_empty, late_mirror, not_late, on_old, map-append)
 
   pub with_ball : (c : Cell) (bs : List Cell) → part ≡ Ball c → bs ≡ p.balls ++ c ∷ [] →
       parts_of (record p { balls = bs }) ≡ parts_of v ++ part ∷ []
-  with_ball c bs is more = grind (arith, common_steps, are_empty, some, late_ball, not_late, on_old, map-append)
+  with_ball c bs is more = grind (arith, common_steps, are_empty, is_nonempty, late_ball, not_late, on_old, map-append)
 
   pub with_in : (q : Port) (is : List Port) → part ≡ In q → is ≡ p.ins ++ q ∷ [] →
       parts_of (record p { ins = is }) ≡ parts_of v ++ part ∷ []
-  with_in q ins is more = grind (arith, common_steps, are_empty, some, late_in, not_late, on_old, map-append)
+  with_in q ins is more = grind (arith, common_steps, are_empty, is_nonempty, late_in, not_late, on_old, map-append)
 
   pub with_out : (q : Port) (os : List Port) → part ≡ Out q → os ≡ p.outs ++ q ∷ [] →
       parts_of (record p { outs = os }) ≡ parts_of v ++ part ∷ []
@@ -102,11 +96,13 @@ good_more s p v same q part good more limit cells = grind (arith, common_steps, 
 -- ---- the cells that are taken after one more line
 
 pub begun_push : (parts : List LayoutLine) (part : LayoutLine) (x y : ℤ) →
-    cells_taken_at_start (parts ++ part ∷ []) x y ≡ (cells_taken_at_start parts x y || (begins part && holds part x y))
+    cells_taken_at_start (parts ++ part ∷ []) x y
+    ≡ (cells_taken_at_start parts x y || (takes_at_start part && holds part x y))
 unfolding cells_taken_at_start
-begun_push parts part x y = list_any-append (λ b. begins b && holds b x y) parts (part ∷ []) ∙ or_last _ _
+begun_push parts part x y = list_any-append (λ b. takes_at_start b && holds b x y) parts (part ∷ []) ∙ or_last _ _
 
 pub ended_push : (parts : List LayoutLine) (part : LayoutLine) (x y : ℤ) →
-    ended (parts ++ part ∷ []) x y ≡ (ended parts x y || (ends part && holds part x y))
-unfolding ended
-ended_push parts part x y = list_any-append (λ b. ends b && holds b x y) parts (part ∷ []) ∙ or_last _ _
+    cells_taken_at_end (parts ++ part ∷ []) x y
+    ≡ (cells_taken_at_end parts x y || (takes_at_end part && holds part x y))
+unfolding cells_taken_at_end
+ended_push parts part x y = list_any-append (λ b. takes_at_end b && holds b x y) parts (part ∷ []) ∙ or_last _ _

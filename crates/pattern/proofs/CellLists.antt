@@ -1,12 +1,12 @@
 -- The cells of rows and rectangles.
-use Rattle.lemmas.proofs.Common.{[], ◌++◌, ◌+◌, ◌-◌, ◌<◌, ◌||◌, ◌∙◌, ◌∷◌, ◌≡◌, ◌≤◌, Bool, List, ap, append-nil}
-use Rattle.lemmas.proofs.Common.{append_assoc, ap₂, arith, cond, false, inl, inr, nat_lt, refl, suc, sym, to_z, true}
-use Rattle.lemmas.proofs.Common.{w32, zero, ℕ, cases_Bool, common_steps, filter-append}
-use Rattle.lemmas.proofs.Common.{filter_of_map_range_with_len_more, flat_map-append, ints, list_any, list_any-append}
-use Rattle.lemmas.proofs.Common.{map-id, map-range_with_len_more, nat_tests, or-true, range_with_len}
-use Rattle.std.specs.List.{flat_map, filter}
-use Rattle.bbm_rule.specs.declared.block.Cell.{Cell}
-use Rattle.pattern.specs.Layout.{cell, row_cells}
+use Rattle.pattern.proofs.Imports.{Bool, Cell, List, [], ap, append-nil, append_assoc, ap₂, arith, cases_Bool}
+use Rattle.pattern.proofs.Imports.{common_steps, cond, false, filter, flat_map-append, inl, inr, list_any}
+use Rattle.pattern.proofs.Imports.{list_any-append, nat_lt, nat_tests, range_with_len, refl, row_cells, suc, sym, true}
+use Rattle.pattern.proofs.Imports.{zero, ℕ, ◌++◌, ◌+◌, ◌-◌, ◌<◌, ◌||◌, ◌∙◌, ◌∷◌, ◌≡◌, ◌≤◌}
+use Rattle.lemmas.proofs.Common.{to_z, w32, filter-append, filter_of_map_range_with_len_more, ints, map-id}
+use Rattle.lemmas.proofs.Common.{map-range_with_len_more, or-true}
+use Rattle.std.specs.List.{flat_map}
+use Rattle.pattern.specs.Layout.{cell}
 
 pub row_more : (x n y j : ℕ) → x + n ≡ j → row_cells x (n + 1) y ≡ row_cells x n y ++ cell j y ∷ []
 row_more x n y j e = map-range_with_len_more (λ c. cell c y) x n j e

@@ -1,22 +1,12 @@
 -- The cells that are live at the start of a good layout lie inside it.
-use Rattle.lemmas.proofs.Common.{[], ◌%◌, ◌&&◌, ◌++◌, ◌+◌, ◌<◌, ◌||◌, ◌∷◌, ◌≡◌, ◌≤◌, Bool, List, None, arith, false}
-use Rattle.lemmas.proofs.Common.{get_or, length, negsuc, not, pos, refl, suc, true, zero, ℕ, ℤ, common_steps, list_all}
-use Rattle.lemmas.proofs.Common.{list_all-append, list_all-map, list_any, nat_tests, left_is_true, right_is_true}
-use Rattle.bbm_rule.specs.Plane.{is_at}
-use Rattle.bbm_rule.specs.Spans.{in_span}
-use Rattle.bbm_rule.specs.declared.block.Cell.{Cell}
-use Rattle.section_text.specs.Codes.{code_if}
-use Rattle.pattern.specs.declared.layout_line.Rectangle.{Rectangle}
-use Rattle.pattern.specs.declared.layout_line.Port.{Port}
-use Rattle.pattern.specs.declared.layout_line.LayoutHeader.{LayoutHeader}
-use Rattle.pattern.specs.declared.layout_line.LayoutLine.{LayoutLine}
-use Rattle.pattern.specs.declared.layout_line.LayoutLine.TheVariants.{Mirror, Ball, In}
-use Rattle.pattern.specs.Layout.{Pattern, in_rectangle, in_layout, in_cells, in_rectangles, in_ports_on, start}
-use Rattle.pattern.specs.Layout.{parts_of}
+use Rattle.pattern.proofs.Imports.{AreGoodAfter, Ball, Bool, Box2, Cell, In, LayoutHeader, LayoutLine, List, Mirror}
+use Rattle.pattern.proofs.Imports.{None, Pattern, Port, RefusalCode, TakenCell, [], arith, cell_fault, code_if}
+use Rattle.pattern.proofs.Imports.{common_steps, false, get_or, in_cells, in_layout, in_ports_on, in_rectangle}
+use Rattle.pattern.proofs.Imports.{in_rectangles, in_span, is_at, is_inside, is_layout_side, is_taken, length, list_all}
+use Rattle.pattern.proofs.Imports.{list_any, nat_tests, negsuc, not, parts_of, pos, refl, size_fault, start, suc, true}
+use Rattle.pattern.proofs.Imports.{zero, ℕ, ℤ, ◌%◌, ◌&&◌, ◌++◌, ◌+◌, ◌<◌, ◌||◌, ◌∷◌, ◌≡◌, ◌≤◌}
+use Rattle.lemmas.proofs.Common.{list_all-append, list_all-map, left_is_true, right_is_true}
 use Rattle.pattern.proofs.TakenLemmas.{mirror_fits}
-use Rattle.pattern.specs.Lines.{size_fault, cell_fault, is_inside, is_taken, is_layout_side, AreGoodAfter}
-use Rattle.section_text.specs.declared.code.RefusalCode.{RefusalCode}
-use Rattle.section_text.specs.declared.code.RefusalCode.TheVariants.{TakenCell}
 
 -- ---- the size
 
@@ -62,9 +52,9 @@ pub begins_inside : (p : Pattern) → AreGoodAfter p.size [] (parts_of p) → Be
 begins_inside p h =
     grind (arith, common_steps, parts_inside, list_all-append, right_is_true, list_all-map, left_is_true)
 
-pub mirrors_fit : (s : LayoutHeader) (rs : List Rectangle) → list_all (λ r. is_inside s (Mirror r)) rs ≡ true →
+pub mirrors_fit : (s : LayoutHeader) (rs : List Box2) → list_all (λ r. is_inside s (Mirror r)) rs ≡ true →
     s.w ≤ 512 →
-    s.h ≤ 512 → (k : ℕ) (d : Rectangle) → k < length rs →
+    s.h ≤ 512 → (k : ℕ) (d : Box2) → k < length rs →
     ((get_or rs k d).x + (get_or rs k d).w ≤ 512) × ((get_or rs k d).y + (get_or rs k d).h ≤ 512)
 mirrors_fit s [] e w h k d lt = absurd (omega arith)
 mirrors_fit s (r ∷ rs) e w h zero d lt = let f = mirror_fits s r (left_is_true _ _ e) in
@@ -89,7 +79,7 @@ unfolding in_span
 span_within a n m (pos x) fits e = grind (arith, nat_tests)
 span_within a n m (negsuc x) fits e = cc
 
-rectangle_inside : (s : LayoutHeader) (r : Rectangle) (x y : ℤ) → is_inside s (Mirror r) ≡ true →
+rectangle_inside : (s : LayoutHeader) (r : Box2) (x y : ℤ) → is_inside s (Mirror r) ≡ true →
     in_rectangle r x y ≡ true →
     in_layout s x y ≡ true
 rectangle_inside s r x y e h = grind (arith, common_steps, mirror_fits, span_within, left_is_true, right_is_true)
@@ -118,7 +108,7 @@ pub start_inside : (p : Pattern) (on : List ℕ → Bool) → BeginsInside p →
 unfolding start
 start_inside p on all x y h =
     or_either (in_rectangles p.mirrors x y) (in_cells p.balls x y) (in_ports_on on p.ins x y) _ h
-    (any_among _ (λ (r : Rectangle). is_inside p.size (Mirror r)) _
+    (any_among _ (λ (r : Box2). is_inside p.size (Mirror r)) _
     (λ r e a. rectangle_inside p.size r x y e a) p.mirrors all.mirrors)
     (any_among _ (λ (c : Cell). is_inside p.size (Ball c)) _ (λ c e a. ball_inside p.size c x y e a) p.balls all.balls)
     (any_among _ (λ (q : Port). is_inside p.size (In q)) _

@@ -14,3 +14,4 @@ pub mod PlaneRuns
 pub mod Spelling
 pub mod RoundTrip
 pub mod PortLines
+pub mod Imports

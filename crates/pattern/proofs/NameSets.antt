@@ -1,8 +1,7 @@
 -- The names of a set after one more.
-use Rattle.lemmas.proofs.Common.{[], ◌++◌, ◌<◌, ◌||◌, ◌∙◌, ◌∷◌, ◌≡◌, Bool, List, arith, false, get_or, length, suc}
-use Rattle.lemmas.proofs.Common.{true, zero, ℕ, bytes_eq, bytes_eq-Decides, cases_Bool, common_steps, list_any-append}
-use Rattle.lemmas.proofs.Common.{or_last}
-use Rattle.section_text.specs.Words.{has}
+use Rattle.pattern.proofs.Imports.{Bool, List, [], arith, cases_Bool, common_steps, false, get_or, has, length}
+use Rattle.pattern.proofs.Imports.{list_any-append, or_last, suc, true, zero, ℕ, ◌++◌, ◌<◌, ◌||◌, ◌∙◌, ◌∷◌, ◌≡◌}
+use Rattle.lemmas.proofs.Common.{bytes_eq, bytes_eq-Decides}
 
 pub has_push : (d : List (List ℕ)) (m n : List ℕ) → has (d ++ m ∷ []) n ≡ (has d n || bytes_eq n m)
 has_push d m n = list_any-append (bytes_eq n) d (m ∷ []) ∙ or_last (has d n) (bytes_eq n m)

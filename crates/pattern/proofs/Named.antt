@@ -1,25 +1,23 @@
 -- The names of the ports of a layout that was read.
-use Rattle.lemmas.proofs.Common.{[], ◌++◌, ◌∷◌, ◌≡◌, List, None, Option, arith, AllByRecursion, common_steps}
-use Rattle.section_text.specs.Ports.{Named}
+use Rattle.pattern.proofs.Imports.{AllByRecursion, AreNamed, LayoutHeader, LayoutLine, List, None, Option}
+use Rattle.pattern.proofs.Imports.{PortNameLists, [], arith, common_steps, layout_grammar, line_fault, name_fault, ◌++◌}
+use Rattle.pattern.proofs.Imports.{◌∷◌, ◌≡◌}
 use Rattle.section_text.proofs.Good.{AreFaultless, IsFaultless}
-use Rattle.pattern.specs.declared.layout_line.LayoutHeader.{LayoutHeader}
-use Rattle.pattern.specs.declared.layout_line.LayoutLine.{LayoutLine}
-use Rattle.pattern.specs.Lines.{AreNamed, line_fault, name_fault, layout_line_fault}
-use Rattle.pattern.specs.Grammars.{layout_grammar}
+use Rattle.pattern.specs.Lines.{layout_line_fault}
 use Rattle.pattern.proofs.ReadingLemmas.{no_code_first, no_code_second}
 
-named_part : (ports : Option Named) (s : LayoutHeader) (before : List LayoutLine) (part : LayoutLine) →
+named_part : (ports : Option PortNameLists) (s : LayoutHeader) (before : List LayoutLine) (part : LayoutLine) →
     layout_line_fault ports s before part ≡ None → name_fault ports part ≡ None
 unfolding layout_line_fault line_fault
 named_part ports s before part e = grind (arith, common_steps, no_code_first, no_code_second)
 
-named_parts : (ports : Option Named) (s : LayoutHeader) (before parts : List LayoutLine) →
+named_parts : (ports : Option PortNameLists) (s : LayoutHeader) (before parts : List LayoutLine) →
     AreFaultless (layout_grammar ports) s before parts → AllByRecursion (λ part. name_fault ports part ≡ None) parts
 named_parts ports s before [] good = tt
 named_parts ports s before (part ∷ parts) good =
     (named_part ports s before part good.0, named_parts ports s (before ++ part ∷ []) parts good.1)
 
 -- where they have no fault
-pub faultless_named : (ports : Option Named) (s : LayoutHeader) (parts : List LayoutLine) →
+pub faultless_named : (ports : Option PortNameLists) (s : LayoutHeader) (parts : List LayoutLine) →
     IsFaultless (layout_grammar ports) s parts → AreNamed ports parts
 faultless_named ports s parts good = grind (arith, common_steps, named_parts)

@@ -1,19 +1,12 @@
 -- The ports of a good layout have cells of their own.
-use Rattle.lemmas.proofs.Common.{[], ◌++◌, ◌||◌, ◌∙◌, ◌∷◌, ◌≡◌, Bool, List, None, Some, ap, append-nil, arith, false}
-use Rattle.lemmas.proofs.Common.{map, not, refl, slice_get, subst, suc, sym, true, true≢false, zero, ℕ, ℤ, common_steps}
-use Rattle.lemmas.proofs.Common.{same_Some, left_is_false}
-use Rattle.bbm_rule.specs.Plane.{State, is_at}
-use Rattle.bbm_rule.specs.declared.block.Cell.{Cell}
-use Rattle.section_text.specs.Codes.{code_if}
-use Rattle.pattern.specs.declared.layout_line.Port.{Port}
-use Rattle.pattern.specs.declared.layout_line.LayoutHeader.{LayoutHeader}
-use Rattle.pattern.specs.declared.layout_line.LayoutLine.{LayoutLine}
-use Rattle.pattern.specs.declared.layout_line.LayoutLine.TheVariants.{Mirror, Ball, In, Out, Waste}
-use Rattle.pattern.specs.Layout.{Pattern, HaveDistinctCells, parts_of}
-use Rattle.pattern.specs.Lines.{is_inside, is_taken, cell_fault, begins, ends, cells_of, cells_taken_at_start, ended}
-use Rattle.pattern.specs.Lines.{AreGoodAfter}
+use Rattle.pattern.proofs.Imports.{AreGoodAfter, Ball, Bool, Cell, HaveDistinctCells, In, LayoutHeader, LayoutLine}
+use Rattle.pattern.proofs.Imports.{List, Mirror, None, Out, Pattern, Port, Some, State, TakenCell, Waste, [], ap}
+use Rattle.pattern.proofs.Imports.{append-nil, arith, cell_fault, cells_of, cells_taken_at_end, cells_taken_at_start}
+use Rattle.pattern.proofs.Imports.{code_if, common_steps, false, is_at, is_inside, is_taken, map, not, parts_of, refl}
+use Rattle.pattern.proofs.Imports.{same_Some, slice_get, subst, suc, sym, takes_at_end, takes_at_start, true, zero, ℕ}
+use Rattle.pattern.proofs.Imports.{ℤ, ◌++◌, ◌||◌, ◌∙◌, ◌∷◌, ◌≡◌}
+use Rattle.lemmas.proofs.Common.{true≢false, left_is_false}
 use Rattle.pattern.proofs.Added.{no_code, begun_push, ended_push}
-use Rattle.section_text.specs.declared.code.RefusalCode.TheVariants.{TakenCell}
 
 -- the lines behind others are good after them
 good_behind : (s : LayoutHeader) (before front back : List LayoutLine) → AreGoodAfter s before (front ++ back) →
@@ -75,22 +68,22 @@ module _ (make : Port → LayoutLine) (taken : List LayoutLine → State)
 
 in_free : (s : LayoutHeader) (before : List LayoutLine) (p : Port) → cell_fault s before (In p) ≡ None →
     cells_taken_at_start before p.cell.x p.cell.y ≡ false
-unfolding cell_fault is_taken cells_of begins
+unfolding cell_fault is_taken cells_of takes_at_start
 in_free s before p e = one_of (cells_taken_at_start before p.cell.x p.cell.y) (not_taken (is_inside s (In p)) _ e)
 
 out_free : (s : LayoutHeader) (before : List LayoutLine) (p : Port) → cell_fault s before (Out p) ≡ None →
-    ended before p.cell.x p.cell.y ≡ false
-unfolding cell_fault is_taken cells_of begins
-out_free s before p e = one_of (ended before p.cell.x p.cell.y) (not_taken (is_inside s (Out p)) _ e)
+    cells_taken_at_end before p.cell.x p.cell.y ≡ false
+unfolding cell_fault is_taken cells_of takes_at_start
+out_free s before p e = one_of (cells_taken_at_end before p.cell.x p.cell.y) (not_taken (is_inside s (Out p)) _ e)
 
 in_more : (before : List LayoutLine) (p : Port) (x y : ℤ) →
     cells_taken_at_start (before ++ In p ∷ []) x y ≡ (cells_taken_at_start before x y || (is_at p.cell x y || false))
-unfolding cells_of begins
+unfolding cells_of takes_at_start
 in_more before p x y = begun_push before (In p) x y
 
 out_more : (before : List LayoutLine) (p : Port) (x y : ℤ) →
-    ended (before ++ Out p ∷ []) x y ≡ (ended before x y || (is_at p.cell x y || false))
-unfolding cells_of ends
+    cells_taken_at_end (before ++ Out p ∷ []) x y ≡ (cells_taken_at_end before x y || (is_at p.cell x y || false))
+unfolding cells_of takes_at_end
 out_more before p x y = ended_push before (Out p) x y
 
 module _ (p : Pattern) (good : AreGoodAfter p.size [] (parts_of p)) where
@@ -113,5 +106,5 @@ module _ (p : Pattern) (good : AreGoodAfter p.size [] (parts_of p)) where
 
   -- no two output cells are one
   pub outs_apart : HaveDistinctCells p.outs
-  outs_apart = own Out ended out_free out_more p.size (map Waste p.wastes)
+  outs_apart = own Out cells_taken_at_end out_free out_more p.size (map Waste p.wastes)
       ((map Mirror p.mirrors ++ map Ball p.balls) ++ map In p.ins) p.outs from_outs

@@ -1,14 +1,12 @@
 -- Boards that run on the plane.
-use Rattle.lemmas.proofs.Common.{◌+◌, ◌<◌, ◌∙◌, ◌≡◌, ◌≤◌, Bool, Err, List, Ok, OnErr, OnOk, Result, add-one, ap, arith}
-use Rattle.lemmas.proofs.Common.{false, get_or, length, refl, subst, sym, true, ℕ, ℤ, cases_lt, common_steps, is_err}
-use Rattle.lemmas.proofs.Common.{list_any_at}
-use Rattle.bbm_rule.specs.Plane.{State, step, run}
-use Rattle.bbm_rule.specs.Board.{Board, live, is_inside, IsStep, Leaves}
-use Rattle.bbm_rule.specs.declared.block.Cell.{Cell}
-use Rattle.bbm_rule.proofs.Boards.{inside_is_span, live_is_inside}
-use Rattle.pattern.specs.declared.layout_line.LayoutHeader.{LayoutHeader}
-use Rattle.pattern.specs.Layout.{Pattern, in_cells, in_layout, start, IsDeadOutside}
-use Rattle.pattern.specs.Run.{RunsInside, RunLeaves, LeavesAt, EndsWith, live_cells}
+use Rattle.pattern.proofs.Imports.{Bool, Cell, EndsWith, IsDeadOutside, LayoutHeader, LeavesAt, List, Pattern, State}
+use Rattle.pattern.proofs.Imports.{ap, arith, common_steps, false, get_or, in_cells, in_layout, inside_is_span, length}
+use Rattle.pattern.proofs.Imports.{live, live_cells, refl, run, start, subst, sym, true, ℕ, ℤ, ◌+◌, ◌<◌, ◌∙◌, ◌≡◌, ◌≤◌}
+use Rattle.lemmas.proofs.Common.{Err, Ok, OnErr, OnOk, Result, add-one, cases_lt, is_err, list_any_at}
+use Rattle.bbm_rule.specs.Plane.{step}
+use Rattle.bbm_rule.specs.Board.{Board, is_inside, IsStep, Leaves}
+use Rattle.bbm_rule.proofs.Boards.{live_is_inside}
+use Rattle.pattern.specs.Run.{RunsInside, RunLeaves}
 
 pub same_state : {s s' : State} → ((x y : ℤ) → s x y ≡ s' x y) → s ≡ s'
 same_state e = λ i x y. e x y i

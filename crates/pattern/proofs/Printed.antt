@@ -1,9 +1,9 @@
 -- The lists of a layout, printed one after the other, are its text.
-use Rattle.lemmas.proofs.Common.{◌++◌, ◌≡◌, List, ap, append_assoc, arith, codes, flat_map, refl, ℕ, common_steps}
-use Rattle.lemmas.proofs.Common.{flat_map-append, flat_map-map}
-use Rattle.section_text.specs.Spelling.{line_text}
-use Rattle.pattern.specs.Layout.{Pattern, parts_of}
-use Rattle.pattern.specs.Text.{cell_words, rectangle_words, port_words, size_words, part_text, layout_text}
+use Rattle.pattern.proofs.Imports.{List, Pattern, ap, append_assoc, arith, cell_words, codes, common_steps, flat_map}
+use Rattle.pattern.proofs.Imports.{flat_map-append, layout_text, line_text, parts_of, port_words, rectangle_words, refl}
+use Rattle.pattern.proofs.Imports.{size_words, ℕ, ◌++◌, ◌≡◌}
+use Rattle.lemmas.proofs.Common.{flat_map-map}
+use Rattle.pattern.specs.Text.{part_text}
 
 module _ (p : Pattern) where
   mirrors : List ℕ

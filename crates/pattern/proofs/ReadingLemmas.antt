@@ -1,16 +1,13 @@
 -- The tables of a reader of layouts, for the lines so far.
-use Rattle.lemmas.proofs.Common.{[], ◌&&◌, ◌∙◌, ◌∷◌, ◌≡◌, Bool, Global, List, None, Option, Some, Vec, ap, arith, not}
-use Rattle.lemmas.proofs.Common.{refl, sym, ℕ, common_steps, list_all, list_any}
-use Rattle.section_text.specs.Codes.{or_else, code_if}
-use Rattle.section_text.specs.Ports.{Named, named_ports}
+use Rattle.pattern.proofs.Imports.{Bool, LayoutLine, List, None, Option, PortNameLists, RefusalCode, Some}
+use Rattle.pattern.proofs.Imports.{SomethingMissing, [], ap, arith, code_if, common_steps, has, limit_fault, line_fault}
+use Rattle.pattern.proofs.Imports.{list_all, list_any, missing_fault, name_fault, named_ports, not, order_fault, refl}
+use Rattle.pattern.proofs.Imports.{sym, ℕ, ◌&&◌, ◌∙◌, ◌∷◌, ◌≡◌}
+use Rattle.lemmas.proofs.Common.{Global, Vec}
+use Rattle.section_text.specs.Codes.{or_else}
 use Rattle.section_text.specs.declared.ports.PortNames.{PortNames}
 use Rattle.section_text.specs.declared.ports.PortNames.TheVariants.{Any, Only}
-use Rattle.pattern.specs.declared.layout_line.LayoutLine.{LayoutLine}
-use Rattle.section_text.specs.Words.{has}
-use Rattle.pattern.specs.Lines.{is_in_line_named, is_out_line_named, order_fault, limit_fault, name_fault, line_fault}
-use Rattle.pattern.specs.Lines.{missing_fault}
-use Rattle.section_text.specs.declared.code.RefusalCode.{RefusalCode}
-use Rattle.section_text.specs.declared.code.RefusalCode.TheVariants.{SomethingMissing}
+use Rattle.pattern.specs.Lines.{is_in_line_named, is_out_line_named}
 
 pub no_code_first : (a b : Option RefusalCode) → or_else a b ≡ None → a ≡ None
 no_code_first None b e = refl
@@ -20,7 +17,7 @@ pub no_code_second : (a b : Option RefusalCode) → or_else a b ≡ None → b �
 no_code_second None b e = e
 no_code_second (Some code) b e = absurd cc
 
-module _ (ports : Option Named) (before : List LayoutLine) (part : LayoutLine)
+module _ (ports : Option PortNameLists) (before : List LayoutLine) (part : LayoutLine)
     (good : line_fault ports before part ≡ None) where
   pub in_order : order_fault before part ≡ None
   unfolding line_fault

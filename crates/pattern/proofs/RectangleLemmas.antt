@@ -1,12 +1,9 @@
 -- The places of the cells of a rectangle.
-use Rattle.lemmas.proofs.Common.{◌&&◌, ◌+◌, ◌-◌, ◌||◌, ◌∙◌, ◌≡◌, ◌≤◌, arith, false, negsuc, pos, refl, suc, zero, ℕ, ℤ}
-use Rattle.lemmas.proofs.Common.{common_steps, list_any-append, nat_tests, range_with_len}
+use Rattle.pattern.proofs.Imports.{Box2, State, arith, common_steps, false, in_cells, in_rectangle, in_span}
+use Rattle.pattern.proofs.Imports.{list_any-append, nat_tests, negsuc, pos, range_with_len, rectangle_cells, refl}
+use Rattle.pattern.proofs.Imports.{row_cells, suc, zero, ℕ, ℤ, ◌&&◌, ◌+◌, ◌-◌, ◌||◌, ◌∙◌, ◌≡◌, ◌≤◌}
 use Rattle.std.specs.List.{flat_map}
 use Rattle.std.specs.Ordering.{int_eq}
-use Rattle.bbm_rule.specs.Plane.{State}
-use Rattle.bbm_rule.specs.Spans.{in_span}
-use Rattle.pattern.specs.declared.layout_line.Rectangle.{Rectangle}
-use Rattle.pattern.specs.Layout.{row_cells, rectangle_cells, in_cells, in_rectangle}
 
 span_none : (a : ℕ) (x : ℤ) → in_span a 0 x ≡ false
 unfolding in_span
@@ -27,7 +24,7 @@ in_rows : (a w b n : ℕ) (x y : ℤ) →
 in_rows a w b zero x y = rw (span_none b y) (grind arith)
 in_rows a w b (suc n) x y = grind (arith, common_steps, in_rows a w (b + 1) n x y, list_any-append, in_row, span_more)
 
-pub in_rectangle_cells : (r : Rectangle) (x y : ℤ) → in_cells (rectangle_cells r) x y ≡ in_rectangle r x y
+pub in_rectangle_cells : (r : Box2) (x y : ℤ) → in_cells (rectangle_cells r) x y ≡ in_rectangle r x y
 unfolding rectangle_cells
 in_rectangle_cells r x y = in_rows r.x r.w r.y r.h x y
 

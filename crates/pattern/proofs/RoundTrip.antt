@@ -1,13 +1,11 @@
 -- The layout section has one text.
-use Rattle.lemmas.proofs.Common.{◌+◌, ◌∙◌, List, ap, append_assoc, drop, flat_map, length, sym, ℕ}
-use Rattle.pattern.specs.Layout.{parts_of}
+use Rattle.pattern.proofs.Imports.{End, Header, Item, List, ap, append_assoc, flat_map, form_text, layout_grammar}
+use Rattle.pattern.proofs.Imports.{layout_text, length, parts_of, sym, ℕ, ◌+◌, ◌∙◌}
+use Rattle.lemmas.proofs.Common.{drop}
 use Rattle.section_text.specs.Words.{lines_of}
 use Rattle.section_text.specs.Section.{section_of}
-use Rattle.section_text.specs.declared.section.Form.TheVariants.{Header, Item, End}
 use Rattle.section_text.proofs.Spelled.{section_text_is}
 use Rattle.section_text.proofs.Again.{section_again, lines_of_lines}
-use Rattle.pattern.specs.Grammars.{layout_grammar}
-use Rattle.pattern.specs.Text.{layout_text, form_text}
 use Rattle.pattern.specs.Laws.{PrintsWhatIsRead, ReadsWhatIsPrinted}
 use Rattle.pattern.proofs.Spelling.{form_line}
 

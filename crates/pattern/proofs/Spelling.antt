@@ -1,25 +1,22 @@
 -- Each line of the layout section is the spelling of its form.
-use Rattle.lemmas.proofs.Common.{[], ◌+◌, ◌∷◌, ◌≡◌, List, Some, ap, arith, codes, eqb, inl, inr, length, slice_get}
-use Rattle.lemmas.proofs.Common.{subst, true, ℕ, common_steps, decimal, eqb-true, option_and_then_some, same_Some}
-use Rattle.section_text.specs.Words.{◌>>=◌, words_of, is_word_at, lone, name_at, number_at}
+use Rattle.pattern.proofs.Imports.{Ball, Box2, Cell, End, Header, In, Item, LayoutHeader, List, Mirror, Out, Port, Some}
+use Rattle.pattern.proofs.Imports.{Waste, [], ap, arith, box_of, cell_after_keyword, cell_of_words_from, cell_words}
+use Rattle.pattern.proofs.Imports.{codes, common_steps, form_text, inl, inr, length, name_at, number_at}
+use Rattle.pattern.proofs.Imports.{port_after_keyword, port_of, port_words, rectangle_words, same_Some, size_of}
+use Rattle.pattern.proofs.Imports.{size_words, slice_get, subst, true, ℕ, ◌+◌, ◌∷◌, ◌≡◌}
+use Rattle.lemmas.proofs.Common.{eqb, decimal, eqb-true, option_and_then_some}
+use Rattle.section_text.specs.Words.{◌>>=◌, words_of, is_word_at, if_one_word}
 use Rattle.section_text.specs.Section.{with_line_feed}
-use Rattle.section_text.specs.declared.section.Form.TheVariants.{Header, Item, End}
 use Rattle.section_text.proofs.Spellings.{chosen, passed, number_at_spelled, one_word, three_words, four_words}
 use Rattle.section_text.proofs.Spellings.{five_words}
 use Rattle.section_text.proofs.WordPlaces.{is_at_is, name_at_is, line_from_words}
-use Rattle.bbm_rule.specs.declared.block.Cell.{Cell}
-use Rattle.pattern.specs.declared.layout_line.Rectangle.{Rectangle}
-use Rattle.pattern.specs.declared.layout_line.Port.{Port}
-use Rattle.pattern.specs.declared.layout_line.LayoutHeader.{LayoutHeader}
-use Rattle.pattern.specs.declared.layout_line.LayoutLine.TheVariants.{Mirror, Ball, In, Out, Waste}
-use Rattle.pattern.specs.Forms.{Line, cell_of_words_from, cell_after_keyword, port_after_keyword, port_of}
-use Rattle.pattern.specs.Forms.{corner_and_sides, rectangle_of, sides_and_steps, size_of, form_of}
-use Rattle.pattern.specs.Text.{coordinate, cell_words, rectangle_words, port_words, size_words, form_text}
+use Rattle.pattern.specs.Forms.{Line, corner_and_sides, sides_and_steps, form_of}
+use Rattle.pattern.specs.Text.{natural_or_zero}
 
 -- two words are a cell
 record CellAt (ws : List (List ℕ)) (i j : ℕ) (c : Cell) : Type 0 where
-  column : slice_get ws i ≡ Some (decimal (coordinate c.x))
-  row : slice_get ws j ≡ Some (decimal (coordinate c.y))
+  column : slice_get ws i ≡ Some (decimal (natural_or_zero c.x))
+  row : slice_get ws j ≡ Some (decimal (natural_or_zero c.y))
 
 cell_spelled : (ws : List (List ℕ)) (i : ℕ) (c : Cell) → cell_of_words_from ws i ≡ Some c → CellAt ws i (i + 1) c
 unfolding cell_of_words_from
@@ -32,7 +29,7 @@ unfolding cell_after_keyword
 lone_cell_spelled ws w c at e =
     let found = passed (eqb (length ws) 3) (cell_of_words_from ws 1) c e in
     let words = cell_spelled ws 1 c found.1 in
-    three_words ws w (decimal (coordinate c.x)) (decimal (coordinate c.y)) (eqb-true _ _ found.0)
+    three_words ws w (decimal (natural_or_zero c.x)) (decimal (natural_or_zero c.y)) (eqb-true _ _ found.0)
     (is_at_is ws 0 w at) words.column words.row
 
 port_spelled : (ws : List (List ℕ)) (w : List ℕ) (p : Port) → is_word_at ws 0 w ≡ true → port_of ws ≡ Some p →
@@ -46,12 +43,13 @@ port_spelled ws w p at e =
     option_and_then_some (λ c. Some (record { name = n; cell = c })) (cell_of_words_from ws 2) p rest (λ c at_cell made.
     let words = cell_spelled ws 2 c at_cell in
     subst (λ (q : Port). ws ≡ w ∷ port_words q) (same_Some (record { name = n; cell = c }) p made)
-    (four_words ws w n (decimal (coordinate c.x)) (decimal (coordinate c.y)) (eqb-true _ _ found.0) (is_at_is ws 0 w at)
+    (four_words ws w n (decimal (natural_or_zero c.x)) (decimal (natural_or_zero c.y)) (eqb-true _ _ found.0)
+    (is_at_is ws 0 w at)
     (name_at_is ws 1 n named) words.column words.row)))
 
-rectangle_spelled : (ws : List (List ℕ)) (v : List ℕ) (r : Rectangle) → is_word_at ws 0 v ≡ true →
-    rectangle_of ws ≡ Some r → ws ≡ v ∷ rectangle_words r
-unfolding rectangle_of corner_and_sides
+rectangle_spelled : (ws : List (List ℕ)) (v : List ℕ) (r : Box2) → is_word_at ws 0 v ≡ true →
+    box_of ws ≡ Some r → ws ≡ v ∷ rectangle_words r
+unfolding box_of corner_and_sides
 rectangle_spelled ws v r at e =
     let found = passed (eqb (length ws) 5) (corner_and_sides ws) r e in
     option_and_then_some (λ x. number_at ws 2 >>= λ y. number_at ws 3 >>= λ w. number_at ws 4 >>= λ h.
@@ -61,7 +59,7 @@ rectangle_spelled ws v r at e =
     option_and_then_some (λ w. number_at ws 4 >>= λ h. Some (record { x = x; y = y; w = w; h = h }))
     (number_at ws 3) r ry (λ w ew rw'.
     option_and_then_some (λ h. Some (record { x = x; y = y; w = w; h = h })) (number_at ws 4) r rw' (λ h eh made.
-    subst (λ (q : Rectangle). ws ≡ v ∷ rectangle_words q) (same_Some (record { x = x; y = y; w = w; h = h }) r made)
+    subst (λ (q : Box2). ws ≡ v ∷ rectangle_words q) (same_Some (record { x = x; y = y; w = w; h = h }) r made)
     (five_words ws v (decimal x) (decimal y) (decimal w) (decimal h) (eqb-true _ _ found.0) (is_at_is ws 0 v at)
     (number_at_spelled ws 1 x ex) (number_at_spelled ws 2 y ey) (number_at_spelled ws 3 w ew)
     (number_at_spelled ws 4 h eh))))))
@@ -103,14 +101,14 @@ abbrev SpelledAs : List (List ℕ) → Line → Type 0
 SpelledAs ws f = ws ≡ first_of f ∷ others_of f
 
 form_words : (ws : List (List ℕ)) (f : Line) → form_of ws ≡ Some f → SpelledAs ws f
-unfolding form_of lone first_of others_of
+unfolding form_of if_one_word first_of others_of
 form_words ws f e =
     elim (chosen (is_word_at ws 0 (codes "layout")) _ _ (Some f) e) [
       | inl p ↦ option_and_then_some (λ s. Some (Header s)) (size_of ws) f p.1
           (λ s found made. subst (SpelledAs ws) (same_Some (Header s) f made)
           (size_spelled ws (codes "layout") s p.0 found))
       | inr p ↦ elim (chosen (is_word_at ws 0 (codes "mirror")) _ _ (Some f) p.1) [
-        | inl q ↦ option_and_then_some (λ r. Some (Item (Mirror r))) (rectangle_of ws) f q.1
+        | inl q ↦ option_and_then_some (λ r. Some (Item (Mirror r))) (box_of ws) f q.1
             (λ r found made. subst (SpelledAs ws) (same_Some (Item (Mirror r)) f made)
             (rectangle_spelled ws (codes "mirror") r q.0 found))
         | inr q ↦ elim (chosen (is_word_at ws 0 (codes "ball")) _ _ (Some f) q.1) [
@@ -130,7 +128,7 @@ form_words ws f e =
                     (λ c found made. subst (SpelledAs ws) (same_Some (Item (Waste c)) f made)
                     (lone_cell_spelled ws (codes "waste") c u.0 found))
                 | inr u ↦
-                    let at_end = passed (is_word_at ws 0 (codes "end")) (lone ws End) f u.1 in
+                    let at_end = passed (is_word_at ws 0 (codes "end")) (if_one_word ws End) f u.1 in
                     let alone = passed (eqb (length ws) 1) (Some End) f at_end.1 in
                     subst (SpelledAs ws) (same_Some End f alone.1)
                     (one_word ws (codes "end") (eqb-true _ _ alone.0) (is_at_is ws 0 (codes "end") at_end.0))

@@ -1,15 +1,12 @@
 -- The start as a list of cells.
-use Rattle.lemmas.proofs.Common.{[], ◌&&◌, ◌++◌, ◌||◌, ◌∙◌, ◌∷◌, ◌≡◌, Bool, List, ap, arith, cond, false, filter}
-use Rattle.lemmas.proofs.Common.{flat_map, map, refl, true, ℕ, ℤ, common_steps, list_any-append}
-use Rattle.bbm_rule.specs.Plane.{is_at}
-use Rattle.bbm_rule.specs.declared.block.Cell.{Cell}
-use Rattle.pattern.specs.declared.layout_line.Rectangle.{Rectangle}
-use Rattle.pattern.specs.declared.layout_line.Port.{Port}
-use Rattle.pattern.specs.Layout.{Pattern, in_cells, in_rectangles, in_ports_on, rectangle_cells, start}
-use Rattle.pattern.specs.Run.{start_cells_by_kind}
+use Rattle.pattern.proofs.Imports.{Bool, Box2, Cell, List, Pattern, Port, [], ap, arith, common_steps, cond, false}
+use Rattle.pattern.proofs.Imports.{flat_map, in_cells, in_ports_on, in_rectangles, is_at, list_any-append, map}
+use Rattle.pattern.proofs.Imports.{rectangle_cells, refl, start, start_cells_by_kind, true, ℕ, ℤ, ◌&&◌, ◌++◌, ◌||◌, ◌∙◌}
+use Rattle.pattern.proofs.Imports.{◌∷◌, ◌≡◌}
+use Rattle.lemmas.proofs.Common.{filter}
 use Rattle.pattern.proofs.RectangleLemmas.{in_rectangle_cells}
 
-in_mirrors : (rs : List Rectangle) (x y : ℤ) → in_cells (flat_map rectangle_cells rs) x y ≡ in_rectangles rs x y
+in_mirrors : (rs : List Box2) (x y : ℤ) → in_cells (flat_map rectangle_cells rs) x y ≡ in_rectangles rs x y
 in_mirrors [] x y = refl
 in_mirrors (r ∷ rs) x y = list_any-append (λ (c : Cell). is_at c x y) (rectangle_cells r) (flat_map rectangle_cells rs)
     ∙ rw (in_rectangle_cells r x y, in_mirrors rs x y) refl

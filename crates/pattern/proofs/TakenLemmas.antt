@@ -1,23 +1,15 @@
 -- The cells of a line, and the cells that are taken.
-use Rattle.lemmas.proofs.Common.{[], ◌%◌, ◌&&◌, ◌++◌, ◌+◌, ◌<◌, ◌||◌, ◌∙◌, ◌∷◌, ◌≡◌, ◌≤◌, All, Bool, List, None, Some}
-use Rattle.lemmas.proofs.Common.{arith, false, flat_map, if◌then◌else◌, not, pos, refl, subst, suc, sym, true}
-use Rattle.lemmas.proofs.Common.{zero, ℕ, ℤ, All-from_recursion, AllByRecursion, common_steps, list_any, nat_tests}
-use Rattle.lemmas.proofs.Common.{range_with_len, and_parts, at_most_by_test}
-use Rattle.bbm_rule.specs.Board.{Board, live, is_inside as is_on_board}
-use Rattle.bbm_rule.specs.Spans.{in_span}
-use Rattle.bbm_rule.proofs.Boards.{inside_is_span}
-use Rattle.bbm_rule.specs.declared.block.Cell.{Cell}
-use Rattle.pattern.specs.declared.layout_line.Rectangle.{Rectangle}
-use Rattle.pattern.specs.declared.layout_line.LayoutHeader.{LayoutHeader}
-use Rattle.pattern.specs.declared.layout_line.LayoutLine.{LayoutLine}
-use Rattle.pattern.specs.declared.layout_line.LayoutLine.TheVariants.{Mirror, Ball, In, Out, Waste}
+use Rattle.pattern.proofs.Imports.{All, AllByRecursion, Ball, Bool, Box2, Cell, In, LayoutHeader, LayoutLine, List}
+use Rattle.pattern.proofs.Imports.{Mirror, None, Out, Some, TakenCell, Waste, [], arith, cell_fault, cells_of}
+use Rattle.pattern.proofs.Imports.{cells_taken_at_end, cells_taken_at_start, code_if, common_steps, false, flat_map}
+use Rattle.pattern.proofs.Imports.{in_cells, in_layout, in_span, inside_is_span, is_inside, is_layout_side, is_taken}
+use Rattle.pattern.proofs.Imports.{list_any, nat_tests, not, pos, range_with_len, rectangle_cells, refl, row_cells}
+use Rattle.pattern.proofs.Imports.{size_fault, subst, suc, sym, takes_at_end, takes_at_start, true, zero, ℕ, ℤ, ◌%◌}
+use Rattle.pattern.proofs.Imports.{◌&&◌, ◌++◌, ◌+◌, ◌<◌, ◌||◌, ◌∙◌, ◌∷◌, ◌≡◌, ◌≤◌}
+use Rattle.lemmas.proofs.Common.{if◌then◌else◌, All-from_recursion, and_parts, at_most_by_test}
 use Rattle.pattern.specs.DraftBoards.{LiesOn}
-use Rattle.pattern.specs.Layout.{row_cells, rectangle_cells, in_cells, in_layout}
-use Rattle.pattern.specs.Lines.{is_layout_side, size_fault, is_inside, cells_of, begins, ends, cells_taken_at_start}
-use Rattle.pattern.specs.Lines.{ended, is_taken, cell_fault}
 use Rattle.pattern.proofs.Added.{no_code, begun_push, ended_push}
-use Rattle.section_text.specs.Codes.{code_if}
-use Rattle.section_text.specs.declared.code.RefusalCode.TheVariants.{TakenCell}
+use Rattle.bbm_rule.specs.Board.{Board, live, is_inside as is_on_board}
 
 -- ---- a size within its limits
 
@@ -67,7 +59,7 @@ rows_inside s x w y (suc n) wide high =
     (row_inside s x w y wide (omega arith)) (rows_inside s x w (y + 1) n wide (omega arith))
 
 -- where the corner of a mirror that lies inside is
-pub mirror_fits : (s : LayoutHeader) (r : Rectangle) → is_inside s (Mirror r) ≡ true →
+pub mirror_fits : (s : LayoutHeader) (r : Box2) → is_inside s (Mirror r) ≡ true →
     (r.x + r.w ≤ s.w) × (r.y + r.h ≤ s.h)
 unfolding is_inside
 mirror_fits s r e = grind (arith, common_steps, and_parts, at_most_by_test)
@@ -130,16 +122,16 @@ one_lies_on b part c are on =
     subst (λ (cells : List Cell). All (λ k. is_on_board b k.x k.y ≡ true) cells) are (cells_lie_on b part on)
 
 -- where the corner of a mirror on a board is
-pub mirror_lies_on : (b : Board) (part : LayoutLine) (r : Rectangle) → part ≡ Mirror r → LiesOn b part →
+pub mirror_lies_on : (b : Board) (part : LayoutLine) (r : Box2) → part ≡ Mirror r → LiesOn b part →
     ((r.x + r.w ≤ b.width) × (r.x + r.w ≤ 512)) × ((r.y + r.h ≤ b.height) × (r.y + r.h ≤ 512))
 mirror_lies_on b part r is on =
     let size : LayoutHeader = record { w = b.width; h = b.height; steps = 0 } in
     let fits = mirror_fits size r (subst (λ (p : LayoutLine). is_inside size p ≡ true) is on.inside) in
     omega (arith, fits.0, fits.1, on.width, on.height)
 
-pub among_cells_of : (p q : Cell → Bool) (part : LayoutLine) (cells : List Cell) (b : Bool) → begins part ≡ b →
+pub among_cells_of : (p q : Cell → Bool) (part : LayoutLine) (cells : List Cell) (b : Bool) → takes_at_start part ≡ b →
     cells_of part ≡ cells → (if b then list_any p cells else list_any q cells)
-    ≡ (if begins part then list_any p (cells_of part) else list_any q (cells_of part))
+    ≡ (if takes_at_start part then list_any p (cells_of part) else list_any q (cells_of part))
 among_cells_of p q part cells b begin are = rw (begin, are) refl
 
 -- ---- cells that are taken
@@ -149,9 +141,10 @@ any_same p q same [] = refl
 any_same p q same (c ∷ cells) = rw (same c, any_same p q same cells) refl
 
 pub taken_by : (one other : Board) (parts : List LayoutLine) (part : LayoutLine) (cells : List Cell) →
-    ((x y : ℤ) → live one x y ≡ cells_taken_at_start parts x y) → ((x y : ℤ) → live other x y ≡ ended parts x y) →
+    ((x y : ℤ) → live one x y ≡ cells_taken_at_start parts x y) →
+    ((x y : ℤ) → live other x y ≡ cells_taken_at_end parts x y) →
     cells ≡ cells_of part
-    → (if begins part then list_any (λ c. live one c.x c.y) cells else list_any (λ c. live other c.x c.y) cells)
+    → (if takes_at_start part then list_any (λ c. live one c.x c.y) cells else list_any (λ c. live other c.x c.y) cells)
     ≡ is_taken parts part
 unfolding is_taken
 taken_by one other parts part cells same_begun same_ended are =
@@ -159,7 +152,8 @@ taken_by one other parts part cells same_begun same_ended are =
       are,
       any_same (λ c. live one c.x c.y) (λ c. cells_taken_at_start parts c.x c.y) (λ c. same_begun c.x c.y)
           (cells_of part),
-      any_same (λ c. live other c.x c.y) (λ c. ended parts c.x c.y) (λ c. same_ended c.x c.y) (cells_of part),
+      any_same (λ c. live other c.x c.y) (λ c. cells_taken_at_end parts c.x c.y) (λ c. same_ended c.x c.y)
+          (cells_of part),
     ) refl
 
 -- ---- the boards after one more line
@@ -168,13 +162,13 @@ module _ (old new : Board) (parts more : List LayoutLine) (part : LayoutLine) (c
     (are : cells ≡ cells_of part)
     (longer : more ≡ parts ++ part ∷ []) where
   pub begun_more : ((x y : ℤ) → live old x y ≡ cells_taken_at_start parts x y) →
-      ((x y : ℤ) → live new x y ≡ (live old x y || (begins part && in_cells cells x y))) → (x y : ℤ) →
+      ((x y : ℤ) → live new x y ≡ (live old x y || (takes_at_start part && in_cells cells x y))) → (x y : ℤ) →
       live new x y ≡ cells_taken_at_start more x y
   begun_more before after x y = after x y ∙ rw (before x y, are, longer, begun_push parts part x y) refl
 
-  pub ended_more : ((x y : ℤ) → live old x y ≡ ended parts x y) →
-      ((x y : ℤ) → live new x y ≡ (live old x y || (ends part && in_cells cells x y))) → (x y : ℤ) →
-      live new x y ≡ ended more x y
+  pub ended_more : ((x y : ℤ) → live old x y ≡ cells_taken_at_end parts x y) →
+      ((x y : ℤ) → live new x y ≡ (live old x y || (takes_at_end part && in_cells cells x y))) → (x y : ℤ) →
+      live new x y ≡ cells_taken_at_end more x y
   ended_more before after x y = after x y ∙ rw (before x y, are, longer, ended_push parts part x y) refl
 
 -- ---- the code for the cells of a line

@@ -1,6 +1,6 @@
 -- The assign section: the names that are on.
 use Rattle.std.specs.Prelude.{ℕ, not, List, Option, Some, None, codes, if◌then◌else◌}
-use Rattle.section_text.specs.Words.{◌>>=◌, is_word_at, has, lone, lone_name}
+use Rattle.section_text.specs.Words.{◌>>=◌, is_word_at, has, if_one_word, name_after_keyword}
 use Rattle.section_text.specs.Codes.{code_if, or_else}
 use Rattle.section_text.specs.Section.{Grammar}
 use Rattle.section_text.specs.declared.section.Form.{Form}
@@ -15,9 +15,9 @@ AssignLine = Form (Unit {0}) (List ℕ)
 -- the form of a line by its words, if it has one
 unfoldable pub form_in_assign_section : List (List ℕ) → Option AssignLine
 form_in_assign_section ws =
-    if is_word_at ws 0 (codes "assign") then lone ws (Header tt)
-    else if is_word_at ws 0 (codes "on") then (lone_name ws >>= λ n. Some (Item n))
-    else if is_word_at ws 0 (codes "end") then lone ws End
+    if is_word_at ws 0 (codes "assign") then if_one_word ws (Header tt)
+    else if is_word_at ws 0 (codes "on") then (name_after_keyword ws >>= λ n. Some (Item n))
+    else if is_word_at ws 0 (codes "end") then if_one_word ws End
     else None
 
 -- a name that may be on, and is not on yet

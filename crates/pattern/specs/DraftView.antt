@@ -3,7 +3,7 @@ use Rattle.std.specs.Prelude.{◌≡◌, ℤ}
 use Rattle.bbm_rule.specs.Board.{live}
 use Rattle.pattern.specs.declared.draft.Draft.TheInside.{Inside}
 use Rattle.pattern.specs.Layout.{Pattern, parts_of}
-use Rattle.pattern.specs.Lines.{cells_taken_at_start, ended}
+use Rattle.pattern.specs.Lines.{cells_taken_at_start, cells_taken_at_end}
 
 -- the layout of the lines so far
 abbrev pub pattern_of : Inside → Pattern
@@ -13,7 +13,7 @@ pattern_of a = a.layout
 pub record IsDraft (a : Inside) : Type 0 where
   pub begun_width : a.cells_taken_at_start.width ≡ a.layout.size.w
   pub begun_height : a.cells_taken_at_start.height ≡ a.layout.size.h
-  pub ended_width : a.ended.width ≡ a.layout.size.w
-  pub ended_height : a.ended.height ≡ a.layout.size.h
+  pub ended_width : a.cells_taken_at_end.width ≡ a.layout.size.w
+  pub ended_height : a.cells_taken_at_end.height ≡ a.layout.size.h
   pub cells_taken_at_start : (x y : ℤ) → live a.cells_taken_at_start x y ≡ cells_taken_at_start (parts_of a.layout) x y
-  pub ended : (x y : ℤ) → live a.ended x y ≡ ended (parts_of a.layout) x y
+  pub cells_taken_at_end : (x y : ℤ) → live a.cells_taken_at_end x y ≡ cells_taken_at_end (parts_of a.layout) x y

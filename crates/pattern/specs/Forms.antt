@@ -1,10 +1,10 @@
 -- The line forms of the layout section: the meaning of the words of a line.
 use Rattle.std.specs.Prelude.{ℕ, ◌+◌, List, length, Option, Some, None, codes, ◌==◌, if◌then◌else◌}
-use Rattle.section_text.specs.Words.{◌>>=◌, is_word_at, name_at, number_at, lone}
+use Rattle.section_text.specs.Words.{◌>>=◌, is_word_at, name_at, number_at, if_one_word}
 use Rattle.section_text.specs.declared.section.Form.{Form}
 use Rattle.section_text.specs.declared.section.Form.TheVariants.{Header, Item, End}
 use Rattle.bbm_rule.specs.declared.block.Cell.{Cell}
-use Rattle.pattern.specs.declared.layout_line.Rectangle.{Rectangle}
+use Rattle.bbm_rule.specs.declared.block.Box2.{Box2}
 use Rattle.pattern.specs.declared.layout_line.Port.{Port}
 use Rattle.pattern.specs.declared.layout_line.LayoutHeader.{LayoutHeader}
 use Rattle.pattern.specs.declared.layout_line.LayoutLine.{LayoutLine}
@@ -38,7 +38,7 @@ unfoldable pub port_of : List (List ℕ) → Option Port
 port_of ws = if length ws == 4 then port_after_keyword ws else None
 
 -- a keyword and four numbers
-unfoldable pub corner_and_sides : List (List ℕ) → Option Rectangle
+unfoldable pub corner_and_sides : List (List ℕ) → Option Box2
 corner_and_sides ws = do
   x ← number_at ws 1
   y ← number_at ws 2
@@ -46,9 +46,9 @@ corner_and_sides ws = do
   h ← number_at ws 4
   Some (record { x = x; y = y; w = w; h = h })
 
--- the rectangle of a `mirror` line
-unfoldable pub rectangle_of : List (List ℕ) → Option Rectangle
-rectangle_of ws = if length ws == 5 then corner_and_sides ws else None
+-- the box of a `mirror` or `module` line
+unfoldable pub box_of : List (List ℕ) → Option Box2
+box_of ws = if length ws == 5 then corner_and_sides ws else None
 
 -- a keyword and three numbers
 unfoldable pub sides_and_steps : List (List ℕ) → Option LayoutHeader
@@ -66,10 +66,10 @@ size_of ws = if length ws == 4 then sides_and_steps ws else None
 unfoldable pub form_of : List (List ℕ) → Option Line
 form_of ws =
     if is_word_at ws 0 (codes "layout") then (size_of ws >>= λ s. Some (Header s))
-    else if is_word_at ws 0 (codes "mirror") then (rectangle_of ws >>= λ r. Some (Item (Mirror r)))
+    else if is_word_at ws 0 (codes "mirror") then (box_of ws >>= λ r. Some (Item (Mirror r)))
     else if is_word_at ws 0 (codes "ball") then (cell_after_keyword ws >>= λ c. Some (Item (Ball c)))
     else if is_word_at ws 0 (codes "in") then (port_of ws >>= λ p. Some (Item (In p)))
     else if is_word_at ws 0 (codes "out") then (port_of ws >>= λ p. Some (Item (Out p)))
     else if is_word_at ws 0 (codes "waste") then (cell_after_keyword ws >>= λ c. Some (Item (Waste c)))
-    else if is_word_at ws 0 (codes "end") then lone ws End
+    else if is_word_at ws 0 (codes "end") then if_one_word ws End
     else None

@@ -7,10 +7,10 @@ use Rattle.pattern.specs.declared.layout_line.LayoutHeader.{LayoutHeader}
 use Rattle.pattern.specs.declared.layout_line.LayoutLine.{LayoutLine}
 use Rattle.pattern.specs.declared.layout_line.LayoutLine.TheVariants.{Mirror, Ball, In, Out, Waste}
 use Rattle.pattern.specs.declared.layout_line.Port.{Port}
-use Rattle.pattern.specs.declared.layout_line.Rectangle.{Rectangle}
+use Rattle.bbm_rule.specs.declared.block.Box2.{Box2}
 
 -- the rectangle of a line, if it is a mirror
-abbrev pub mirror_in : LayoutLine → List Rectangle
+abbrev pub mirror_in : LayoutLine → List Box2
 mirror_in (Mirror r) = r ∷ []
 mirror_in _ = []
 

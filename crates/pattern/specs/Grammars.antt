@@ -1,7 +1,7 @@
 -- The layout section.
 use Rattle.std.specs.Prelude.{List, Option}
 use Rattle.section_text.specs.Section.{Grammar}
-use Rattle.section_text.specs.Ports.{Named}
+use Rattle.section_text.specs.Ports.{PortNameLists}
 use Rattle.pattern.specs.declared.layout_line.LayoutHeader.{LayoutHeader}
 use Rattle.pattern.specs.declared.layout_line.LayoutLine.{LayoutLine}
 use Rattle.pattern.specs.Layout.{Pattern, parts_of}
@@ -9,7 +9,7 @@ use Rattle.pattern.specs.Forms.{form_of}
 use Rattle.pattern.specs.Lines.{size_fault, layout_line_fault, missing_fault}
 
 -- the section, if ports have these names, or any
-abbrev pub layout_grammar : Option Named → Grammar LayoutHeader LayoutLine
+abbrev pub layout_grammar : Option PortNameLists → Grammar LayoutHeader LayoutLine
 layout_grammar ports = record {
   form = form_of;
   header_fault = size_fault;

@@ -4,7 +4,7 @@ use Rattle.std.specs.List.{list_any, flat_map, range_with_len}
 use Rattle.bbm_rule.specs.Plane.{State, is_at, run}
 use Rattle.bbm_rule.specs.Spans.{in_area}
 use Rattle.bbm_rule.specs.declared.block.Cell.{Cell}
-use Rattle.pattern.specs.declared.layout_line.Rectangle.{Rectangle}
+use Rattle.bbm_rule.specs.declared.block.Box2.{Box2}
 use Rattle.pattern.specs.declared.layout_line.LayoutLine.{LayoutLine}
 use Rattle.pattern.specs.declared.layout_line.LayoutLine.TheVariants.{Mirror, Ball, In, Out, Waste}
 use Rattle.pattern.specs.declared.layout_line.Port.{Port}
@@ -13,7 +13,7 @@ use Rattle.pattern.specs.declared.layout_line.LayoutHeader.{LayoutHeader}
 -- a layout: its size, and the lists of its lines by kind
 pub record Pattern : Type 0 where
   pub size : LayoutHeader
-  pub mirrors : List Rectangle
+  pub mirrors : List Box2
   pub balls : List Cell
   pub ins : List Port
   pub outs : List Port
@@ -26,7 +26,7 @@ parts_of p = map Mirror p.mirrors ++ (map Ball p.balls ++ (map In p.ins ++ (map 
 -- ---- sets of cells
 
 -- whether the cell (x, y) is in the rectangle
-abbrev pub in_rectangle : Rectangle → State
+abbrev pub in_rectangle : Box2 → State
 in_rectangle r x y = in_area r.x r.y r.w r.h x y
 
 -- the whole rectangle of the layout, whose upper left cell is the origin of the plane
@@ -38,7 +38,7 @@ abbrev pub in_cells : List Cell → State
 in_cells cells x y = list_any (λ c. is_at c x y) cells
 
 -- whether the cell (x, y) is in one of the rectangles
-abbrev pub in_rectangles : List Rectangle → State
+abbrev pub in_rectangles : List Box2 → State
 in_rectangles rectangles x y = list_any (λ r. in_rectangle r x y) rectangles
 
 -- the cells of the ports whose name is on
@@ -75,5 +75,5 @@ abbrev pub row_cells : ℕ → ℕ → ℕ → List Cell
 row_cells x n y = map (λ c. cell c y) (range_with_len x n)
 
 -- the cells of a rectangle, in order of y and then x
-unfoldable pub rectangle_cells : Rectangle → List Cell
+unfoldable pub rectangle_cells : Box2 → List Cell
 rectangle_cells r = flat_map (λ y. row_cells r.x r.w y) (range_with_len r.y r.h)

@@ -8,7 +8,7 @@ use Rattle.bbm_rule.specs.Plane.{State, is_at}
 use Rattle.bbm_rule.specs.declared.block.Cell.{Cell}
 use Rattle.section_text.specs.Words.{has}
 use Rattle.section_text.specs.Codes.{code_if, or_else}
-use Rattle.section_text.specs.Ports.{Named}
+use Rattle.section_text.specs.Ports.{PortNameLists}
 use Rattle.pattern.specs.declared.layout_line.LayoutHeader.{LayoutHeader}
 use Rattle.pattern.specs.declared.layout_line.LayoutLine.{LayoutLine}
 use Rattle.pattern.specs.declared.layout_line.LayoutLine.TheVariants.{Mirror, Ball, In, Out, Waste}
@@ -57,22 +57,22 @@ order_fault before part = code_if (has_later_kind_before before part) OutOfOrder
 -- ---- names; any is good if no names of ports are given
 
 -- whether ports may have any name
-abbrev pub allows_any_name : Option Named → Bool
+abbrev pub allows_any_name : Option PortNameLists → Bool
 allows_any_name None = true
 allows_any_name (Some names) = false
 
 -- whether an input cell may have the name
-abbrev pub may_name_input : Option Named → List ℕ → Bool
+abbrev pub may_name_input : Option PortNameLists → List ℕ → Bool
 may_name_input None n = true
 may_name_input (Some names) n = has names.ins n
 
 -- whether an output cell may have the name
-abbrev pub may_name_output : Option Named → List ℕ → Bool
+abbrev pub may_name_output : Option PortNameLists → List ℕ → Bool
 may_name_output None n = true
 may_name_output (Some names) n = has names.outs n
 
 -- the name of an input cell is one of the inputs, that of an output cell one of the outputs
-unfoldable pub name_fault : Option Named → LayoutLine → Option RefusalCode
+unfoldable pub name_fault : Option PortNameLists → LayoutLine → Option RefusalCode
 name_fault ports (In p) = code_if (not (may_name_input ports p.name)) UnknownName
 name_fault ports (Out p) = code_if (not (may_name_output ports p.name)) UnknownName
 name_fault ports _ = None
@@ -96,16 +96,16 @@ is_inside s (Out p) = in_layout s p.cell.x p.cell.y
 is_inside s (Waste c) = in_layout s c.x c.y
 
 -- mirrors, balls and input cells take their cells at the start
-unfoldable pub begins : LayoutLine → Bool
-begins (Out p) = false
-begins (Waste c) = false
-begins _ = true
+unfoldable pub takes_at_start : LayoutLine → Bool
+takes_at_start (Out p) = false
+takes_at_start (Waste c) = false
+takes_at_start _ = true
 
 -- mirrors, output cells and waste cells take theirs at the end
-unfoldable pub ends : LayoutLine → Bool
-ends (Ball c) = false
-ends (In p) = false
-ends _ = true
+unfoldable pub takes_at_end : LayoutLine → Bool
+takes_at_end (Ball c) = false
+takes_at_end (In p) = false
+takes_at_end _ = true
 
 -- whether the line has the cell (x, y)
 abbrev pub holds : LayoutLine → State
@@ -113,17 +113,17 @@ holds part x y = list_any (λ c. is_at c x y) (cells_of part)
 
 -- the cells that are taken at the start, and at the end
 unfoldable pub cells_taken_at_start : List LayoutLine → State
-cells_taken_at_start parts x y = list_any (λ b. begins b && holds b x y) parts
+cells_taken_at_start parts x y = list_any (λ b. takes_at_start b && holds b x y) parts
 
 -- whether one of the lines takes the cell (x, y) at the end
-unfoldable pub ended : List LayoutLine → State
-ended parts x y = list_any (λ b. ends b && holds b x y) parts
+unfoldable pub cells_taken_at_end : List LayoutLine → State
+cells_taken_at_end parts x y = list_any (λ b. takes_at_end b && holds b x y) parts
 
 -- one of its cells is taken at the start, if it takes them then, or at the end
 unfoldable pub is_taken : List LayoutLine → LayoutLine → Bool
 is_taken before part =
-    if begins part then list_any (λ c. cells_taken_at_start before c.x c.y) (cells_of part)
-    else list_any (λ c. ended before c.x c.y) (cells_of part)
+    if takes_at_start part then list_any (λ c. cells_taken_at_start before c.x c.y) (cells_of part)
+    else list_any (λ c. cells_taken_at_end before c.x c.y) (cells_of part)
 
 -- the code of a line with a cell outside the layout, or a cell that is taken
 unfoldable pub cell_fault : LayoutHeader → List LayoutLine → LayoutLine → Option RefusalCode
@@ -132,11 +132,12 @@ cell_fault s before part = code_if (not (is_inside s part) || is_taken before pa
 -- ---- a line after the lines before it
 
 -- the code of the tests that come before those of the cells
-unfoldable pub line_fault : Option Named → List LayoutLine → LayoutLine → Option RefusalCode
+unfoldable pub line_fault : Option PortNameLists → List LayoutLine → LayoutLine → Option RefusalCode
 line_fault ports before part = or_else (order_fault before part) (or_else (limit_fault part) (name_fault ports part))
 
 -- the code of a line after those before it
-unfoldable pub layout_line_fault : Option Named → LayoutHeader → List LayoutLine → LayoutLine → Option RefusalCode
+unfoldable pub layout_line_fault : Option PortNameLists → LayoutHeader → List LayoutLine → LayoutLine →
+    Option RefusalCode
 layout_line_fault ports s before part = or_else (line_fault ports before part) (cell_fault s before part)
 
 -- each input and each output has a cell
@@ -150,14 +151,14 @@ is_out_line_named n (Out p) = bytes_eq n p.name
 is_out_line_named n _ = false
 
 -- the code of a layout in which an input or an output has no cell
-unfoldable pub missing_fault : Option Named → List LayoutLine → Option RefusalCode
+unfoldable pub missing_fault : Option PortNameLists → List LayoutLine → Option RefusalCode
 missing_fault None parts = None
 missing_fault (Some names) parts =
     code_if (not (list_all (λ n. list_any (is_in_line_named n) parts) names.ins
     && list_all (λ n. list_any (is_out_line_named n) parts) names.outs)) SomethingMissing
 
 -- the names of the ports are good, and each input and each output that is asked for has a cell
-pub record AreNamed (ports : Option Named) (parts : List LayoutLine) : Type 0 where
+pub record AreNamed (ports : Option PortNameLists) (parts : List LayoutLine) : Type 0 where
   pub good : All (λ part. name_fault ports part ≡ None) parts
   pub whole : missing_fault ports parts ≡ None
 

@@ -9,7 +9,7 @@ use Rattle.pattern.specs.declared.run.RunEnd.TheVariants.{Cells, LeftAt}
 use Rattle.pattern.specs.Layout.{Pattern, IsDeadOutside, in_layout, start, plane_at, rectangle_cells}
 
 -- some live cell lies outside the layout
-pub record GoesOutside (s : LayoutHeader) (state : State) : Type 0 where
+pub record IsLiveOutside (s : LayoutHeader) (state : State) : Type 0 where
   pub x : ℤ
   pub y : ℤ
   pub lives : state x y ≡ true
@@ -24,7 +24,7 @@ pub record RunsInside (s : LayoutHeader) (first final : State) : Type 0 where
 pub record RunLeaves (s : LayoutHeader) (first : State) (k : ℕ) : Type 0 where
   pub within : k ≤ s.steps
   pub stays : (j : ℕ) → j < k → IsDeadOutside s (run first j)
-  pub leaves : GoesOutside s (run first k)
+  pub leaves : IsLiveOutside s (run first k)
 
 -- the cells of the start: the mirrors' row by row, the balls, the input cells whose name is on
 unfoldable pub start_cells_by_kind : Pattern → (List ℕ → Bool) → List Cell

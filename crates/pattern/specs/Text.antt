@@ -5,7 +5,7 @@ use Rattle.std.specs.Fmt.{decimal}
 use Rattle.section_text.specs.Spelling.{line_text}
 use Rattle.section_text.specs.declared.section.Form.TheVariants.{Header, Item, End}
 use Rattle.bbm_rule.specs.declared.block.Cell.{Cell}
-use Rattle.pattern.specs.declared.layout_line.Rectangle.{Rectangle}
+use Rattle.bbm_rule.specs.declared.block.Box2.{Box2}
 use Rattle.pattern.specs.declared.layout_line.Port.{Port}
 use Rattle.pattern.specs.declared.layout_line.LayoutHeader.{LayoutHeader}
 use Rattle.pattern.specs.declared.layout_line.LayoutLine.{LayoutLine}
@@ -14,16 +14,16 @@ use Rattle.pattern.specs.Layout.{Pattern, parts_of}
 use Rattle.pattern.specs.Forms.{Line}
 
 -- the coordinate of a cell of a layout, which is not negative
-abbrev pub coordinate : ℤ → ℕ
-coordinate (pos n) = n
-coordinate (negsuc n) = 0
+abbrev pub natural_or_zero : ℤ → ℕ
+natural_or_zero (pos n) = n
+natural_or_zero (negsuc n) = 0
 
 -- the words of a cell
 abbrev pub cell_words : Cell → List (List ℕ)
-cell_words c = decimal (coordinate c.x) ∷ decimal (coordinate c.y) ∷ []
+cell_words c = decimal (natural_or_zero c.x) ∷ decimal (natural_or_zero c.y) ∷ []
 
 -- the words of a rectangle
-abbrev pub rectangle_words : Rectangle → List (List ℕ)
+abbrev pub rectangle_words : Box2 → List (List ℕ)
 rectangle_words r = decimal r.x ∷ decimal r.y ∷ decimal r.w ∷ decimal r.h ∷ []
 
 -- the words of a port

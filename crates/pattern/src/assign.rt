@@ -20,11 +20,11 @@ fn line_form(feed: &Feed, line: &Line) -> Option<Form<(), Name>>
 {
     let keyword = feed.first_word(line);
     if is_keyword(keyword, b"assign") {
-        feed.lone(line, Form::Header(()))
+        feed.if_one_word(line, Form::Header(()))
     } else if is_keyword(keyword, b"on") {
-        Some(Form::Item(feed.lone_name(line)?))
+        Some(Form::Item(feed.name_after_keyword(line)?))
     } else if is_keyword(keyword, b"end") {
-        feed.lone(line, Form::End)
+        feed.if_one_word(line, Form::End)
     } else {
         None
     }
@@ -82,7 +82,7 @@ fn read_names(
     reading: &mut AssignReader,
 ) -> Result<Vec<Name>, ReadFault>
     requires closed { feed.old.closed ≡ true }
-    requires none { reading.old.on.keys ≡ [] }
+    requires none_on { reading.old.on.keys ≡ [] }
     ensures { Reads (assign_grammar reading.old.ins.now) (λ names. assign_section names.items)
         feed.old feed.new result }
 {

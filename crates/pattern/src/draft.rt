@@ -6,7 +6,7 @@ ghost use Rattle.pattern.specs.Lines.{cell_fault, limit_fault, order_fault, size
 
 use crate::layout::Layout;
 use crate::layout_line::{LayoutHeader, LayoutLine};
-use crate::taken::{is_any_cell_taken, take_cells_if};
+use crate::taken_cells::{is_any_cell_taken, take_cells_if};
 use bbm_rule::Grid;
 use section_text::{LineFault, RefusalCode};
 use std::alloc::{AllocError, Global};
@@ -17,7 +17,7 @@ use std::marker::Model;
 pub(crate) struct Draft {
     layout: Layout,
     cells_taken_at_start: Grid,
-    ended: Grid,
+    cells_taken_at_end: Grid,
 }
 
 impl Model for Draft {
@@ -40,11 +40,11 @@ impl Draft {
         ensures parts { IfOk result (λ draft. parts_of draft ≡ []) }
     {
         let cells_taken_at_start = Grid::new(alloc, size.w, size.h)?;
-        let ended = Grid::new(alloc, size.w, size.h)?;
+        let cells_taken_at_end = Grid::new(alloc, size.w, size.h)?;
         Ok(Draft {
             layout: Layout::new(alloc, size),
             cells_taken_at_start,
-            ended,
+            cells_taken_at_end,
         })
     }
 
@@ -55,7 +55,7 @@ impl Draft {
         let Draft {
             layout,
             cells_taken_at_start: _,
-            ended: _,
+            cells_taken_at_end: _,
         } = self;
         layout
     }
@@ -74,7 +74,7 @@ impl Draft {
         if !part.is_inside(self.layout.size()) {
             return Some(RefusalCode::TakenCell);
         }
-        if is_any_cell_taken(&self.cells_taken_at_start, &self.ended, part) {
+        if is_any_cell_taken(&self.cells_taken_at_start, &self.cells_taken_at_end, part) {
             return Some(RefusalCode::TakenCell);
         }
         None
@@ -84,7 +84,8 @@ impl Draft {
     pub(crate) fn add(&mut self, part: LayoutLine) -> Result<(), LineFault>
         requires order { order_fault (parts_of self.old) part ≡ None }
         requires limit { limit_fault part ≡ None }
-        ensures free { OnOk result (cell_fault self.old.size (parts_of self.old) part ≡ None) }
+        ensures cells_free { OnOk result (cell_fault self.old.size (parts_of self.old) part
+            ≡ None) }
         ensures size { self.new.size ≡ self.old.size }
         ensures parts { OnOk result (parts_of self.new ≡ parts_of self.old ++ part ∷ []) }
         ensures err { OnErr result (self.new ≡ self.old) }
@@ -99,8 +100,8 @@ impl Draft {
         let Ok(()) = self.layout.add(part) else {
             return Err(LineFault::Memory);
         };
-        take_cells_if(part.begins(), &mut self.cells_taken_at_start, &part);
-        take_cells_if(part.ends(), &mut self.ended, &part);
+        take_cells_if(part.takes_at_start(), &mut self.cells_taken_at_start, &part);
+        take_cells_if(part.takes_at_end(), &mut self.cells_taken_at_end, &part);
         Ok(())
     }
 }

@@ -1,16 +1,17 @@
 //! The line forms of the layout section.
+ghost use Rattle.pattern.specs.Forms.{box_of};
 ghost use Rattle.std.specs.Prelude.{◌≡◌, ◌≤◌};
 ghost use Rattle.section_text.specs.Listed.{list_of_four_words, list_of_five_words};
 ghost use Rattle.section_text.specs.Words.{words_of};
 ghost use Rattle.section_text.specs.Feeds.{IsLine, line_bytes};
 ghost use Rattle.pattern.specs.PortWords.{cell_from_words, port_from_words};
-ghost use Rattle.pattern.specs.Forms.{cell_of_words_from, cell_after_keyword, port_of, rectangle_of, size_of, form_of};
+ghost use Rattle.pattern.specs.Forms.{cell_of_words_from, cell_after_keyword, port_of, size_of, form_of};
 
-use crate::layout_line::{LayoutHeader, LayoutLine, Port, Rectangle};
-use bbm_rule::Cell;
+use crate::layout_line::{LayoutHeader, LayoutLine, Port};
+use bbm_rule::{Box2, Cell};
 use section_text::{Feed, FiveWords, Form, FourWords, Line, Name, is_keyword, read_number};
 
-fn lone_cell_from_line(feed: &Feed, line: &Line) -> Option<Cell>
+fn cell_from_line(feed: &Feed, line: &Line) -> Option<Cell>
     requires { IsLine feed.now line.now }
     ensures { result ≡ cell_after_keyword (words_of (line_bytes feed.now line.now)) }
 {
@@ -53,25 +54,26 @@ fn port_from_line(feed: &Feed, line: &Line) -> Option<Port>
     port_of_words(&words)
 }
 
-#[tactic(auto, unfolding(crate::specs::Forms::rectangle_of, crate::specs::Forms::corner_and_sides, section_text::specs::Words::number_at))]
-fn rectangle_of_words(words: &FiveWords) -> Option<Rectangle>
-    ensures { result ≡ rectangle_of (list_of_five_words words.now) }
+/// Returns the box that a keyword and four numbers are, its corner and its sides, or `None` if one is no number.
+#[tactic(auto, unfolding(crate::specs::Forms::box_of, crate::specs::Forms::corner_and_sides, section_text::specs::Words::number_at))]
+pub fn box_from_words(words: &FiveWords) -> Option<Box2>
+    ensures { result ≡ box_of (list_of_five_words words.now) }
 {
     let x = read_number(words.second)?;
     let y = read_number(words.third)?;
     let w = read_number(words.fourth)?;
     let h = read_number(words.fifth)?;
-    Some(Rectangle { x, y, w, h })
+    Some(Box2 { x, y, w, h })
 }
 
-fn rectangle_from_line(feed: &Feed, line: &Line) -> Option<Rectangle>
+fn box_from_line(feed: &Feed, line: &Line) -> Option<Box2>
     requires { IsLine feed.now line.now }
-    ensures { result ≡ rectangle_of (words_of (line_bytes feed.now line.now)) }
+    ensures { result ≡ box_of (words_of (line_bytes feed.now line.now)) }
 {
     let Some(words) = feed.five_words(line) else {
         return None;
     };
-    rectangle_of_words(&words)
+    box_from_words(&words)
 }
 
 #[tactic(auto, unfolding(crate::specs::Forms::size_of, crate::specs::Forms::sides_and_steps, section_text::specs::Words::number_at))]
@@ -104,17 +106,17 @@ pub(crate) fn line_form(feed: &Feed, line: &Line) -> Option<Form<LayoutHeader, L
     if is_keyword(keyword, b"layout") {
         Some(Form::Header(size_from_line(feed, line)?))
     } else if is_keyword(keyword, b"mirror") {
-        Some(Form::Item(LayoutLine::Mirror(rectangle_from_line(feed, line)?)))
+        Some(Form::Item(LayoutLine::Mirror(box_from_line(feed, line)?)))
     } else if is_keyword(keyword, b"ball") {
-        Some(Form::Item(LayoutLine::Ball(lone_cell_from_line(feed, line)?)))
+        Some(Form::Item(LayoutLine::Ball(cell_from_line(feed, line)?)))
     } else if is_keyword(keyword, b"in") {
         Some(Form::Item(LayoutLine::In(port_from_line(feed, line)?)))
     } else if is_keyword(keyword, b"out") {
         Some(Form::Item(LayoutLine::Out(port_from_line(feed, line)?)))
     } else if is_keyword(keyword, b"waste") {
-        Some(Form::Item(LayoutLine::Waste(lone_cell_from_line(feed, line)?)))
+        Some(Form::Item(LayoutLine::Waste(cell_from_line(feed, line)?)))
     } else if is_keyword(keyword, b"end") {
-        feed.lone(line, Form::End)
+        feed.if_one_word(line, Form::End)
     } else {
         None
     }

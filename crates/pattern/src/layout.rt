@@ -3,8 +3,8 @@ ghost use Rattle.std.specs.Prelude.{◌≡◌, ◌++◌, [], ◌∷◌, None, On
 ghost use Rattle.pattern.specs.Layout.{HaveDistinctCells, parts_of};
 ghost use Rattle.pattern.specs.Lines.{AreGoodAfter, cell_fault, limit_fault, has_later_kind_before, order_fault, size_fault};
 
-use crate::layout_line::{LayoutHeader, LayoutLine, Port, Rectangle};
-use bbm_rule::Cell;
+use crate::layout_line::{LayoutHeader, LayoutLine, Port};
+use bbm_rule::{Box2, Cell};
 use section_text::RefusalCode;
 use std::alloc::{AllocError, Global};
 use std::marker::Model;
@@ -16,7 +16,7 @@ use std::marker::Model;
 #[derive(Drop)]
 pub struct Layout {
     pub(crate) size: LayoutHeader,
-    pub(crate) mirrors: Vec<Rectangle>,
+    pub(crate) mirrors: Vec<Box2>,
     pub(crate) balls: Vec<Cell>,
     pub(crate) ins: Vec<Port>,
     pub(crate) outs: Vec<Port>,
@@ -54,7 +54,7 @@ impl Layout {
 
     // Whether a line of a later kind stands already.
     #[tactic(auto, using(crate::proofs::Orders::late_mirror, crate::proofs::Orders::late_ball, crate::proofs::Orders::late_in, crate::proofs::Orders::late_out, crate::proofs::Orders::late_waste))]
-    fn has_later(&self, part: &LayoutLine) -> bool
+    fn has_later_kind(&self, part: &LayoutLine) -> bool
         ensures { result ≡ has_later_kind_before (parts_of self.now) part.now }
     {
         let waste = !self.wastes.is_empty();
@@ -75,7 +75,7 @@ impl Layout {
     pub(crate) fn order_code(&self, part: &LayoutLine) -> Option<RefusalCode>
         ensures { result ≡ order_fault (parts_of self.now) part.now }
     {
-        if self.has_later(part) {
+        if self.has_later_kind(part) {
             Some(RefusalCode::OutOfOrder)
         } else {
             None
@@ -111,7 +111,7 @@ impl Layout {
     }
 
     /// Returns the mirrors, in the order of their lines.
-    pub fn mirrors(&self) -> &[Rectangle]
+    pub fn mirrors(&self) -> &[Box2]
         ensures { result.now ≡ self.now.mirrors }
     {
         self.mirrors.as_slice()
@@ -127,7 +127,7 @@ impl Layout {
     /// Returns the input cells, in the order of their lines. No two are the same cell.
     pub fn ins(&self) -> &[Port]
         ensures same_ports { result.now ≡ self.now.ins }
-        ensures apart { HaveDistinctCells result.now }
+        ensures cells_distinct { HaveDistinctCells result.now }
     {
         self.ins.as_slice()
     }
@@ -135,7 +135,7 @@ impl Layout {
     /// Returns the output cells, in the order of their lines. No two are the same cell.
     pub fn outs(&self) -> &[Port]
         ensures same_ports { result.now ≡ self.now.outs }
-        ensures apart { HaveDistinctCells result.now }
+        ensures cells_distinct { HaveDistinctCells result.now }
     {
         self.outs.as_slice()
     }

@@ -10,19 +10,10 @@
 //! - `Waste`: a cell that may be live or dead at the end.
 ghost use Rattle.std.specs.Prelude.{◌≡◌, ◌+◌, ◌&&◌, nat_le};
 ghost use Rattle.pattern.specs.Layout.{in_layout};
-ghost use Rattle.pattern.specs.Lines.{begins, ends, is_inside, is_layout_side, is_mirror_side, limit_fault, size_fault};
+ghost use Rattle.pattern.specs.Lines.{takes_at_start, takes_at_end, is_inside, is_layout_side, is_mirror_side, limit_fault, size_fault};
 
-use bbm_rule::Cell;
+use bbm_rule::{Box2, Cell};
 use section_text::{Name, RefusalCode};
-
-/// A filled rectangle of cells: the column and the row of its upper left cell, its width and its height, in cells.
-#[derive(Clone, Copy, Debug, PartialEq, Eq)]
-pub struct Rectangle {
-    pub x: u32,
-    pub y: u32,
-    pub w: u32,
-    pub h: u32,
-}
 
 /// A cell of an input or of an output, with the name of its wire. Several cells may have one name.
 #[derive(Clone, Copy)]
@@ -42,7 +33,7 @@ pub struct LayoutHeader {
 /// A line of a layout between its first and its last.
 #[derive(Clone, Copy)]
 pub enum LayoutLine {
-    Mirror(Rectangle),
+    Mirror(Box2),
     Ball(Cell),
     In(Port),
     Out(Port),
@@ -55,13 +46,13 @@ fn is_side_in_limits(n: u32) -> bool
     2 <= n && n <= 512 && n % 2 == 0
 }
 
-fn are_mirror_sides_in_limits(r: Rectangle) -> bool
+fn are_mirror_sides_in_limits(r: Box2) -> bool
     ensures { result ≡ (is_mirror_side r.w && is_mirror_side r.h) }
 {
     1 <= r.w && r.w <= 512 && 1 <= r.h && r.h <= 512
 }
 
-fn fits(r: Rectangle, size: LayoutHeader) -> bool
+fn fits(r: Box2, size: LayoutHeader) -> bool
     ensures { result ≡ (nat_le (r.x + r.w) size.w && nat_le (r.y + r.h) size.h) }
 {
     u64::from(r.x) + u64::from(r.w) <= u64::from(size.w)
@@ -96,9 +87,9 @@ impl LayoutHeader {
 
 impl LayoutLine {
     /// Returns whether its cells are taken at the start.
-    #[tactic(auto, unfolding(crate::specs::Lines::begins))]
-    pub(crate) fn begins(&self) -> bool
-        ensures { result ≡ begins self.now }
+    #[tactic(auto, unfolding(crate::specs::Lines::takes_at_start))]
+    pub(crate) fn takes_at_start(&self) -> bool
+        ensures { result ≡ takes_at_start self.now }
     {
         match self {
             LayoutLine::Mirror(_) => true,
@@ -110,9 +101,9 @@ impl LayoutLine {
     }
 
     /// Returns whether its cells are taken at the end.
-    #[tactic(auto, unfolding(crate::specs::Lines::ends))]
-    pub(crate) fn ends(&self) -> bool
-        ensures { result ≡ ends self.now }
+    #[tactic(auto, unfolding(crate::specs::Lines::takes_at_end))]
+    pub(crate) fn takes_at_end(&self) -> bool
+        ensures { result ≡ takes_at_end self.now }
     {
         match self {
             LayoutLine::Mirror(_) => true,

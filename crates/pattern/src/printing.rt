@@ -2,17 +2,17 @@
 ghost use Rattle.std.specs.Prelude.{◌≡◌, ◌++◌, [], ◌∷◌, ℕ, List, OnOk, OnErr, IfOk, codes};
 ghost use Rattle.std.specs.List.{flat_map};
 ghost use Rattle.section_text.specs.Spelling.{space_and_word, line_text};
-ghost use Rattle.pattern.specs.Text.{cell_words, coordinate, layout_text, port_words, rectangle_words, size_words};
+ghost use Rattle.pattern.specs.Text.{cell_words, natural_or_zero, layout_text, port_words, rectangle_words, size_words};
 
 use crate::layout::Layout;
-use crate::layout_line::{LayoutHeader, Port, Rectangle};
-use bbm_rule::Cell;
+use crate::layout_line::{LayoutHeader, Port};
+use bbm_rule::{Box2, Cell};
 use section_text::{print_number, print_word};
 use std::alloc::{AllocError, Global};
 
 // A coordinate of a cell, which is not negative in a layout.
 fn natural_or_zero(x: i32) -> u32
-    ensures { result ≡ coordinate x }
+    ensures { result ≡ natural_or_zero x }
 {
     if x < 0 { 0 } else { x as u32 }
 }
@@ -46,7 +46,7 @@ fn print_size(out: &mut Vec<u8>, size: LayoutHeader) -> Result<(), AllocError>
     Ok(())
 }
 
-fn print_mirror(out: &mut Vec<u8>, r: Rectangle) -> Result<(), AllocError>
+fn print_mirror(out: &mut Vec<u8>, r: Box2) -> Result<(), AllocError>
     ensures { OnOk result (out.new.items
         ≡ out.old.items ++ line_text (codes "mirror") (rectangle_words r)) }
 {
@@ -59,7 +59,7 @@ fn print_mirror(out: &mut Vec<u8>, r: Rectangle) -> Result<(), AllocError>
     Ok(())
 }
 
-fn print_mirrors(out: &mut Vec<u8>, mirrors: &[Rectangle]) -> Result<(), AllocError>
+fn print_mirrors(out: &mut Vec<u8>, mirrors: &[Box2]) -> Result<(), AllocError>
     ensures { OnOk result (out.new.items
         ≡ out.old.items ++ flat_map (λ r. line_text (codes "mirror") (rectangle_words r))
         mirrors.now) }

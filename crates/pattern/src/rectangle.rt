@@ -2,8 +2,7 @@
 ghost use Rattle.std.specs.Prelude.{◌≡◌, ◌+◌, ◌≤◌, ◌<◌, ◌++◌, OnOk};
 ghost use Rattle.pattern.specs.Layout.{row_cells, rectangle_cells};
 
-use crate::layout_line::Rectangle;
-use bbm_rule::Cell;
+use bbm_rule::{Box2, Cell};
 use std::alloc::AllocError;
 
 fn push_row_cells(out: &mut Vec<Cell>, x: u32, w: u32, y: u32) -> Result<(), AllocError>
@@ -25,7 +24,7 @@ fn push_row_cells(out: &mut Vec<Cell>, x: u32, w: u32, y: u32) -> Result<(), All
 /// # Errors
 ///
 /// Out of memory. A part of the cells may then be there.
-pub fn push_rectangle(out: &mut Vec<Cell>, r: Rectangle) -> Result<(), AllocError>
+pub fn push_rectangle(out: &mut Vec<Cell>, r: Box2) -> Result<(), AllocError>
     requires columns { r.x + r.w ≤ 512 }
     requires rows { r.y + r.h ≤ 512 }
     ensures { OnOk result (out.new.items ≡ out.old.items ++ rectangle_cells r) }

@@ -7,11 +7,11 @@ ghost use Rattle.section_text.specs.Words.{has};
 ghost use Rattle.pattern.specs.Run.{IsRunEnd, RunLeaves, RunsInside, live_cells, start_cells_by_kind};
 
 use crate::layout::Layout;
-use crate::layout_line::{LayoutHeader, Port, Rectangle};
+use crate::layout_line::{LayoutHeader, Port};
 use crate::names::name_set;
 use crate::rectangle::push_rectangle;
-use crate::taken::make_live;
-use bbm_rule::{Cell, Grid};
+use crate::taken_cells::make_live;
+use bbm_rule::{Box2, Cell, Grid};
 use indexmap::IndexSet;
 use section_text::{Name, Seed};
 use std::alloc::{AllocError, Global};
@@ -25,7 +25,7 @@ pub enum RunEnd {
     LeftAt(u32),
 }
 
-fn push_mirror_cells(out: &mut Vec<Cell>, mirrors: &[Rectangle]) -> Result<(), AllocError>
+fn push_mirror_cells(out: &mut Vec<Cell>, mirrors: &[Box2]) -> Result<(), AllocError>
     requires { All (λ r. (r.x + r.w ≤ 512) × (r.y + r.h ≤ 512)) mirrors.now }
     ensures { OnOk result (out.new.items ≡ out.old.items ++ flat_map rectangle_cells mirrors.now) }
 {

@@ -2,7 +2,7 @@
 //! hand.
 ghost use Rattle.std.specs.Prelude.{◌<◌, ◌≤◌};
 
-use crate::bundles::{NO, YES};
+use crate::bundles::{NO_REPORT, YES_REPORT};
 use crate::gates::{HoldRule, HoldingGate};
 use certificate::read_certificate;
 use check_main::{Audited, Feed, Outcome, Watched, audit, check_stream, check_text};
@@ -13,7 +13,7 @@ use std::process::Abort;
 use std::random::RandomSource;
 use std::sync::Wait;
 use std::thread::Threads;
-use test_support::{ALONE, GOOD, fed, sections};
+use test_support::{BAD_BUNDLE, GOOD_BUNDLE, closed_feed, read_circuit_and_layout};
 
 /// Returns whether `check` ends like this over a text, and writes this.
 fn is_check_answer_as_worked<G: Gate + Sync, T: Threads + Wait + RandomSource + Sync>(
@@ -28,17 +28,17 @@ fn is_check_answer_as_worked<G: Gate + Sync, T: Threads + Wait + RandomSource + 
     let mut reader = Watched::new(text.as_bytes());
     let mut writer = Watched::new(Vec::new(alloc));
     let result = check_stream(rt, alloc, &mut reader, &mut writer, workers, gate);
-    let (outcome, written) = if text == GOOD {
-        (Outcome::Yes, YES)
+    let (outcome, written) = if text == GOOD_BUNDLE {
+        (Outcome::Yes, YES_REPORT)
     } else {
-        (Outcome::No, NO)
+        (Outcome::No, NO_REPORT)
     };
     result == Ok(outcome) && writer.get_ref().as_slice() == written.as_bytes()
 }
 
 #[test]
 fn writes_the_same_for_each_number_of_workers(rt: HostRuntime) {
-    for text in [GOOD, ALONE] {
+    for text in [GOOD_BUNDLE, BAD_BUNDLE] {
         for workers in [1usize, 2, 3, 64] {
             assert!(rt;
                 is_check_answer_as_worked(&rt, rt.alloc(), text, workers, &OpenGate),
@@ -71,12 +71,12 @@ fn is_check_text_answer<T: Threads + Wait + RandomSource + Sync>(
 
 #[test]
 fn answers_to_texts_in_memory(rt: HostRuntime) {
-    assert!(rt; is_check_text_answer(&rt, rt.alloc(), GOOD, Outcome::Yes, YES));
-    assert!(rt; is_check_text_answer(&rt, rt.alloc(), ALONE, Outcome::No, NO));
+    assert!(rt; is_check_text_answer(&rt, rt.alloc(), GOOD_BUNDLE, Outcome::Yes, YES_REPORT));
+    assert!(rt; is_check_text_answer(&rt, rt.alloc(), BAD_BUNDLE, Outcome::No, NO_REPORT));
 }
 
 /// The ways to hold workers back, each with the number of workers.
-const HOLDS: [(HoldRule, usize); 7] = [
+const HOLD_CASES: [(HoldRule, usize); 7] = [
     (HoldRule::Reverse, 4),
     (HoldRule::FirstTwo, 2),
     (HoldRule::UntilOthers(0), 2),
@@ -88,8 +88,8 @@ const HOLDS: [(HoldRule, usize); 7] = [
 
 #[test]
 fn writes_the_same_whatever_is_held_back(rt: HostRuntime) {
-    for text in [GOOD, ALONE] {
-        for (hold, workers) in HOLDS {
+    for text in [GOOD_BUNDLE, BAD_BUNDLE] {
+        for (hold, workers) in HOLD_CASES {
             assert!(rt; 0 < workers && workers <= 64);
             let gate = HoldingGate::new(hold);
             assert!(rt;
@@ -105,11 +105,11 @@ fn writes_the_same_whatever_is_held_back(rt: HostRuntime) {
 fn number_of(entry: &LogEntry) -> usize {
     match entry {
         LogEntry::Closing => 4,
-        LogEntry::Filed(filing) => accepted(filing),
+        LogEntry::Filed(filing) => accepted_number(filing),
     }
 }
 
-fn accepted(filing: &Filing) -> usize {
+fn accepted_number(filing: &Filing) -> usize {
     if filing.reply == Reply::Accepted {
         filing.number
     } else {
@@ -136,15 +136,15 @@ pub(crate) fn audit_of_text<T: Abort + Threads + Wait + Sync, G: Gate + Sync>(
 ) -> Audited
     requires { (0 < workers) × (workers ≤ 64) }
 {
-    let mut feed = fed(alloc, text.as_bytes()).expect(rt, "a text");
-    let (circuit, layout) = sections(alloc, &mut feed).expect(rt, "two sections");
+    let mut feed = closed_feed(alloc, text.as_bytes()).expect(rt, "a text");
+    let (circuit, layout) = read_circuit_and_layout(alloc, &mut feed).expect(rt, "two sections");
     let certificate = read_certificate(alloc, &mut feed, &circuit, &layout);
     let certificate = certificate.expect(rt, "a certificate");
     audit(rt, alloc, &certificate, workers, gate).expect(rt, "an audit")
 }
 
 /// Returns how the numbers of the findings end.
-fn past_last(hold: HoldRule) -> &'static [usize] {
+fn last_numbers(hold: HoldRule) -> &'static [usize] {
     match hold {
         HoldRule::FirstTwo => &[4],
         HoldRule::Reverse => &[3, 2, 1, 0, 4],
@@ -159,14 +159,14 @@ fn past_last(hold: HoldRule) -> &'static [usize] {
 
 #[test]
 fn an_audit_files_in_the_order_of_the_gate(rt: HostRuntime) {
-    for (hold, workers) in HOLDS {
+    for (hold, workers) in HOLD_CASES {
         assert!(rt; 0 < workers && workers <= 64);
         let gate = HoldingGate::new(hold);
-        let Audited { state, memory } = audit_of_text(&rt, rt.alloc(), GOOD, workers, &gate);
+        let Audited { state, memory } = audit_of_text(&rt, rt.alloc(), GOOD_BUNDLE, workers, &gate);
         assert!(rt; !memory && state.is_closed());
         assert!(rt; state.accepted() == 4 && state.history().len() == 5);
         let numbers = accepted_numbers_of(state.history());
-        assert!(rt; numbers.ends_with(past_last(hold)), "{numbers:?}");
+        assert!(rt; numbers.ends_with(last_numbers(hold)), "{numbers:?}");
         assert!(rt; gate.was_gate_kept());
     }
 }

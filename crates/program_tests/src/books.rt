@@ -15,7 +15,7 @@ use std::sync::ledger::{Blank, Ledger};
 use std::sync::{Arc, Wait};
 use std::thread;
 use std::thread::Threads;
-use test_support::{GOOD, Work, work_of};
+use test_support::{GOOD_BUNDLE, Work, work_of};
 use verdict_book::*;
 
 /// The counts of each of the four numbers that was accepted, and that was answered `Double` with itself.
@@ -43,7 +43,12 @@ impl ReplyCounts {
 }
 
 /// Returns the finding of a job: that of the second run, if no memory was found for the first.
-fn found(alloc: Global, digest: [u8; 32], number: usize, job: &Arc<Job>) -> Option<Finding> {
+fn finding_at_second_try(
+    alloc: Global,
+    digest: [u8; 32],
+    number: usize,
+    job: &Arc<Job>,
+) -> Option<Finding> {
     let (once, again) = (job.clone().ok()?, job.clone().ok()?);
     match run_job(alloc, digest, number, once) {
         Ok(finding) => Some(finding),
@@ -61,17 +66,17 @@ fn file_finding_of_each_job<F: Filings, A: Ledger, R: Wait>(
     replies: &ReplyCounts,
 ) {
     for (number, job) in work.jobs.iter().enumerate() {
-        let Some(finding) = found(alloc, work.digest, number, job) else {
+        let Some(finding) = finding_at_second_try(alloc, work.digest, number, job) else {
             return;
         };
-        if let Some(reply) = filed(rt, book, share, finding) {
+        if let Some(reply) = reply_at_second_try(rt, book, share, finding) {
             replies.count(number, reply);
         }
     }
 }
 
 /// Returns the reply to a finding: to the second filing, if there was no memory for the first.
-pub(crate) fn filed<F: Filings, A: Ledger, R: Wait>(
+pub(crate) fn reply_at_second_try<F: Filings, A: Ledger, R: Wait>(
     rt: &R,
     book: &Book<F, A>,
     share: &mut Share<F, A>,
@@ -112,7 +117,7 @@ fn gathered_after_all_file<
     requires ledger_names_book { (state.digest ≡ F.digest) × (state.jobs ≡ F.jobs) }
     requires fresh { state.history ≡ [] }
 {
-    let work = work_of(alloc, GOOD).expect(rt, "work");
+    let work = work_of(alloc, GOOD_BUNDLE).expect(rt, "work");
     let opened: (Book<F, A>, Vec<Share<F, A>>) = Book::open(alloc, f, a, state, 4).expect(
         rt, "a book",
     );
@@ -150,7 +155,7 @@ fn gathered_from_four_threads<R: Abort + Threads + Wait + Sync>(
     replies: &ReplyCounts,
     kept_back: bool,
 ) -> Option<Gathered> {
-    let state = new_book_of_text(rt, alloc, GOOD);
+    let state = new_book_of_text(rt, alloc, GOOD_BUNDLE);
     let (f, a) = (Blank::new(4), Blank::new(4));
     gathered_after_all_file::<Brand, Brand, R>(rt, alloc, f, a, state, replies, kept_back)
 }
@@ -198,9 +203,9 @@ fn gathered_from_one_share<F: Filings, A: Ledger, R: Abort + Wait>(
     }
 }
 
-/// Files all findings in the same way, with a state and shares of its own.
+/// Files all findings through one of two shares, with a state and shares of its own.
 fn gathered_in_new_book<R: Abort + Wait>(rt: &R, alloc: Global, work: &Work) -> Option<Gathered> {
-    let state = new_book_of_text(rt, alloc, GOOD);
+    let state = new_book_of_text(rt, alloc, GOOD_BUNDLE);
     let (f, a) = (Blank::new(2), Blank::new(2));
     gathered_from_one_share::<Brand, Brand, R>(rt, alloc, f, a, state, work)
 }
@@ -208,7 +213,7 @@ fn gathered_in_new_book<R: Abort + Wait>(rt: &R, alloc: Global, work: &Work) -> 
 /// Opens a book. It is made to be run with each growth of memory refused in turn.
 #[test]
 fn a_book_opens_at_the_second_try(rt: HostRuntime) {
-    let work = work_of(rt.alloc(), GOOD).expect(&rt, "work");
+    let work = work_of(rt.alloc(), GOOD_BUNDLE).expect(&rt, "work");
     let first = gathered_in_new_book(&rt, rt.alloc(), &work);
     let gathered = match first {
         Some(gathered) => Some(gathered),

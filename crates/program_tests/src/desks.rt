@@ -10,7 +10,7 @@ use std::thread;
 use std::thread::Threads;
 
 /// Returns what was drawn, if every seat is handed in.
-fn closed(rt: &impl Abort, alloc: Global, desk: Desk, seats: Vec<DeskSeat>) -> Closed
+fn close_with_all_seats(rt: &impl Abort, alloc: Global, desk: Desk, seats: Vec<DeskSeat>) -> Closed
     requires { All (IsSeatOf desk) seats.items }
 {
     match desk.close(alloc, seats) {
@@ -77,7 +77,7 @@ fn two_seats_draw_three_numbers(rt: HostRuntime) {
         missing: _,
     } = fault;
     seats.push(second).expect(&rt, "room");
-    let Closed { draws, counter } = closed(&rt, rt.alloc(), desk, seats);
+    let Closed { draws, counter } = close_with_all_seats(&rt, rt.alloc(), desk, seats);
     assert!(rt; are_two_draw_lists(&draws, &[0, 2], &[1, 3]) && counter == 4);
 }
 
@@ -92,7 +92,7 @@ fn draw_every_number<R: Abort + Threads + Sync>(
 {
     let (desk, mut seats) = Desk::open(alloc, numbers, threads).expect(rt, "a desk");
     draw_in_threads(rt, &desk, seats.as_mut_slice());
-    let Closed { draws, counter } = closed(rt, alloc, desk, seats);
+    let Closed { draws, counter } = close_with_all_seats(rt, alloc, desk, seats);
     let all = sorted_draws(alloc, &draws).expect(rt, "memory");
     assert!(rt; counter == numbers + threads && all.iter().copied().eq(0..counter));
 }
@@ -111,7 +111,7 @@ fn sorted_draws(alloc: Global, draws: &[Vec<usize>]) -> Result<Vec<usize>, Alloc
 fn no_number_is_drawn_where_there_is_none(rt: HostRuntime) {
     let (desk, mut seats) = Desk::open(rt.alloc(), 0, 1).expect(&rt, "a desk");
     assert!(rt; draws_empty_twice(&desk, &mut seats[0]));
-    let Closed { draws, counter } = closed(&rt, rt.alloc(), desk, seats);
+    let Closed { draws, counter } = close_with_all_seats(&rt, rt.alloc(), desk, seats);
     assert!(rt; draws.len() == 1 && draws[0].as_slice() == [0].as_slice() && counter == 1);
 }
 
@@ -157,7 +157,7 @@ fn a_desk_opens_and_closes_at_the_second_try(rt: HostRuntime) {
         Ok(closed) => closed,
         Err(fault) => {
             assert!(rt; !fault.missing);
-            closed(&rt, rt.alloc(), fault.desk, fault.seats)
+            close_with_all_seats(&rt, rt.alloc(), fault.desk, fault.seats)
         }
     };
     assert!(rt; are_two_draw_lists(&draws, &[], &[0]) && counter == 1);

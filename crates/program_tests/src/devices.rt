@@ -94,7 +94,7 @@ impl ProgramResult {
 }
 
 /// Returns what the program does over a reader and a writer, if standard error takes a number of bytes and then fails.
-pub(crate) fn call<'a, T: Threads + Wait + RandomSource + Sync, R: Read + Drop>(
+pub(crate) fn run_program<'a, T: Threads + Wait + RandomSource + Sync, R: Read + Drop>(
     rt: &T,
     alloc: Global,
     words: &'a [&'a str],

@@ -12,11 +12,11 @@ use std::sync::atomic::{AtomicU64, Ordering};
 use std::sync::ledger::{Blank, Ledger};
 use std::thread;
 use std::thread::Threads;
-use test_support::{GOOD, Work, work_of};
+use test_support::{GOOD_BUNDLE, Work, work_of};
 use verdict_book::*;
 
 /// The number of findings that each thread files for another certificate.
-const STRANGERS: u32 = 1000;
+const STRANGERS_PER_THREAD: u32 = 1000;
 
 /// The modules of a bundle, and how often which reply came for the first of them.
 #[derive(Drop)]
@@ -80,7 +80,7 @@ fn file_strangers_then_own<F: Filings, A: Ledger, R: Wait>(
     share: &mut Share<F, A>,
     flood: &FloodCounts,
 ) {
-    for _ in 0..STRANGERS {
+    for _ in 0..STRANGERS_PER_THREAD {
         file_first_job_under_digest(rt, alloc, [7; 32], book, share, flood);
     }
     file_first_job_under_digest(rt, alloc, flood.work.digest, book, share, flood);
@@ -124,7 +124,7 @@ fn gathered_own_book_after_flood<R: Abort + Threads + Wait + Sync>(
     alloc: Global,
     flood: &FloodCounts,
 ) -> Option<Gathered> {
-    let state = new_book_of_text(rt, alloc, GOOD);
+    let state = new_book_of_text(rt, alloc, GOOD_BUNDLE);
     let (f, a) = (Blank::new(8), Blank::new(8));
     gathered_after_flood::<Brand, Brand, R>(rt, alloc, f, a, state, flood)
 }
@@ -132,7 +132,7 @@ fn gathered_own_book_after_flood<R: Abort + Threads + Wait + Sync>(
 #[test]
 fn strangers_do_not_fill_book(rt: HostRuntime) {
     let flood = FloodCounts {
-        work: work_of(rt.alloc(), GOOD).expect(&rt, "work"),
+        work: work_of(rt.alloc(), GOOD_BUNDLE).expect(&rt, "work"),
         strangers: AtomicU64::new(0),
         accepted: AtomicU64::new(0),
         double: AtomicU64::new(0),

@@ -143,7 +143,7 @@ fn audit_holds_64_findings(rt: HostRuntime) {
 /// Returns a text with a full module, then this line, and another module.
 ///
 /// The full module has an edge line for 32 cells at each odd time below 4096, so 65,536 in all.
-fn borders(alloc: Global, line: &str) -> Result<String, AllocError> {
+fn text_of_full_module(alloc: Global, line: &str) -> Result<String, AllocError> {
     let mut text = format!(in alloc;
         "circuit\nend\nlayout 66 64 4096\nend\ncertificate 1\nmodule 0 0 64 64\n"
     )?;
@@ -177,7 +177,7 @@ const MOST_LINES: [(&[&str], &str, u8, &str); 5] = [
 #[test]
 fn full_module_is_listed(rt: HostRuntime) {
     for (words, line, wanted, told) in MOST_LINES {
-        let text = borders(rt.alloc(), line).expect(&rt, "a text");
+        let text = text_of_full_module(rt.alloc(), line).expect(&rt, "a text");
         let (status, written) = answer(&rt, rt.alloc(), words, &text, &OpenGate);
         assert!(rt;
             status == wanted && written.as_slice() == told.as_bytes(),

@@ -1,14 +1,14 @@
 //! The program's statuses and texts, over readers and writers of which some fail.
 
-use crate::bundles::{NO, YES};
-use crate::devices::{FailingReader, FailingWriter, LetterReader, ProgramResult, call};
+use crate::bundles::{NO_REPORT, YES_REPORT};
+use crate::devices::{FailingReader, FailingWriter, LetterReader, ProgramResult, run_program};
 use crate::gates::{HoldRule, HoldingGate};
 use check_main::{CheckFault, OpenGate, Streams, Watched, program};
 use std::alloc::Global;
 use std::random::RandomSource;
 use std::sync::Wait;
 use std::thread::Threads;
-use test_support::{ALONE, GOOD};
+use test_support::{BAD_BUNDLE, GOOD_BUNDLE};
 
 /// A layout in which two balls collide, and both its inputs.
 const RUN_TEXT: &str =
@@ -64,9 +64,9 @@ const COMMANDS: [Command; 4] = [
     },
     Command {
         words: &["check", "--workers", "2"],
-        text: ALONE,
+        text: BAD_BUNDLE,
         status: 1,
-        answer: NO,
+        answer: NO_REPORT,
     },
     Command {
         words: &["value", "--help"],
@@ -77,7 +77,7 @@ const COMMANDS: [Command; 4] = [
 ];
 
 // More than any answer here, and more calls than any text here needs.
-const MUCH: usize = 1_000;
+const AMPLE: usize = 1_000;
 
 /// Returns what a command does if its text comes in pieces of `piece` bytes, and a read fails after `calls_left` calls.
 fn result_in_pieces<T: Threads + Wait + RandomSource + Sync>(
@@ -92,9 +92,9 @@ fn result_in_pieces<T: Threads + Wait + RandomSource + Sync>(
         piece,
         calls_left,
     };
-    let writer = FailingWriter::new(alloc, MUCH, true);
-    let errors = FailingWriter::new(alloc, MUCH, true);
-    call(rt, alloc, command.words, reader, writer, errors)
+    let writer = FailingWriter::new(alloc, AMPLE, true);
+    let errors = FailingWriter::new(alloc, AMPLE, true);
+    run_program(rt, alloc, command.words, reader, writer, errors)
 }
 
 #[test]
@@ -136,9 +136,9 @@ const LONG_TEXTS: [(usize, usize, u8, &str, &str); 3] = [
 fn too_long_texts_are_refused(rt: HostRuntime) {
     for (left, piece, status, written, said) in LONG_TEXTS {
         let reader = LetterReader { left, piece };
-        let writer = FailingWriter::new(rt.alloc(), MUCH, true);
-        let errors = FailingWriter::new(rt.alloc(), MUCH, true);
-        let seen = call(&rt, rt.alloc(), &["run"], reader, writer, errors);
+        let writer = FailingWriter::new(rt.alloc(), AMPLE, true);
+        let errors = FailingWriter::new(rt.alloc(), AMPLE, true);
+        let seen = run_program(&rt, rt.alloc(), &["run"], reader, writer, errors);
         assert!(rt; seen.is(status, written.as_bytes(), said), "{left}");
     }
 }
@@ -153,8 +153,8 @@ fn result_with_room<T: Threads + Wait + RandomSource + Sync>(
 ) -> ProgramResult {
     let reader = command.text.as_bytes();
     let writer = FailingWriter::new(alloc, room, errs);
-    let errors = FailingWriter::new(alloc, MUCH, true);
-    call(rt, alloc, command.words, reader, writer, errors)
+    let errors = FailingWriter::new(alloc, AMPLE, true);
+    run_program(rt, alloc, command.words, reader, writer, errors)
 }
 
 #[test]
@@ -177,7 +177,7 @@ const NUMBERS: &str =
     "error: '--workers <N>' takes a whole number from 1 to 64, for example '--workers 4'\n\nUsage: bbmcheck check [--workers N] < BUNDLE\n\nFor more information, try '--help'.\n";
 
 /// Words, the status, and what is said, if nothing can be read.
-const UNREAD: [(&[&str], u8, &str, &str); 5] = [
+const UNREAD_CASES: [(&[&str], u8, &str, &str); 5] = [
     (&["value", "--help"], 0, HELP, ""),
     (&["check", "--workers", "four"], 2, "", NUMBERS),
     (&["check", "--workers=65"], 2, "", NUMBERS),
@@ -197,21 +197,21 @@ const UNREAD: [(&[&str], u8, &str, &str); 5] = [
 
 #[test]
 fn reads_nothing_for_wrong_words(rt: HostRuntime) {
-    for (words, status, written, said) in &UNREAD {
+    for (words, status, written, said) in &UNREAD_CASES {
         let reader = FailingReader {
             text: b"",
             piece: 1,
             calls_left: 0,
         };
-        let writer = FailingWriter::new(rt.alloc(), MUCH, true);
-        let errors = FailingWriter::new(rt.alloc(), MUCH, true);
-        let seen = call(&rt, rt.alloc(), words, reader, writer, errors);
+        let writer = FailingWriter::new(rt.alloc(), AMPLE, true);
+        let errors = FailingWriter::new(rt.alloc(), AMPLE, true);
+        let seen = run_program(&rt, rt.alloc(), words, reader, writer, errors);
         assert!(rt; seen.is(*status, written.as_bytes(), said), "{words:?}");
     }
 }
 
 /// Words, how many reads succeed, and the status, if standard error fails.
-const UNHEARD: [(&[&str], u32, u8, &str, &str); 3] = [
+const UNHEARD_CASES: [(&[&str], u32, u8, &str, &str); 3] = [
     (&["prove"], 0, 2, "", "error: unrecognized subcommand"),
     (&["run"], 3, 4, "", "bbmcheck: read fault\n"),
     (&["run"], 1_000, 0, RUN_ANSWER, ""),
@@ -219,16 +219,16 @@ const UNHEARD: [(&[&str], u32, u8, &str, &str); 3] = [
 
 #[test]
 fn failing_stderr_is_ignored(rt: HostRuntime) {
-    for (words, calls_left, status, written, said) in &UNHEARD {
+    for (words, calls_left, status, written, said) in &UNHEARD_CASES {
         for room in [0, 1, 10, 12] {
             let reader = FailingReader {
                 text: RUN_TEXT.as_bytes(),
                 piece: 8,
                 calls_left: *calls_left,
             };
-            let writer = FailingWriter::new(rt.alloc(), MUCH, true);
+            let writer = FailingWriter::new(rt.alloc(), AMPLE, true);
             let errors = FailingWriter::new(rt.alloc(), room, true);
-            let seen = call(&rt, rt.alloc(), words, reader, writer, errors);
+            let seen = run_program(&rt, rt.alloc(), words, reader, writer, errors);
             let said = said.get(..room).unwrap_or("");
             assert!(rt; seen.is(*status, written.as_bytes(), said), "{words:?}");
         }
@@ -254,13 +254,13 @@ fn names_each_fault_in_words(rt: HostRuntime) {
 fn workers_option_is_obeyed(rt: HostRuntime) {
     let gate = HoldingGate::new(HoldRule::FirstTwo);
     let mut streams = Streams {
-        reader: Watched::new(GOOD.as_bytes()),
+        reader: Watched::new(GOOD_BUNDLE.as_bytes()),
         writer: Watched::new(Vec::new(rt.alloc())),
         errors: Watched::new(Vec::new(rt.alloc())),
     };
     let words = ["check", "--workers", "2"];
     let status = program(&rt, rt.alloc(), &words, &mut streams, &gate);
-    assert!(rt; status == 0 && streams.writer.get_ref().as_slice() == YES.as_bytes());
+    assert!(rt; status == 0 && streams.writer.get_ref().as_slice() == YES_REPORT.as_bytes());
     assert!(rt; gate.was_gate_kept());
 }
 

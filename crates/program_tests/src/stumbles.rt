@@ -1,6 +1,6 @@
 //! Devices that fail once and then go on, and writers that take few bytes a call.
 
-use crate::bundles::{NO, YES};
+use crate::bundles::{NO_REPORT, YES_REPORT};
 use check_main::{CheckFault, Outcome, Sink, Source, Streams, Watched, check_stream, program};
 use job_pool::OpenGate;
 use std::alloc::Global;
@@ -9,7 +9,7 @@ use std::io::{ErrorKind, Read, Write};
 use std::random::RandomSource;
 use std::sync::Wait;
 use std::thread::Threads;
-use test_support::{ALONE, GOOD};
+use test_support::{BAD_BUNDLE, GOOD_BUNDLE};
 
 /// A reader that gives a text in pieces of eight bytes. The call after `before` calls fails, and those after it go on.
 #[derive(Drop)]
@@ -83,7 +83,7 @@ fn check_with_failing_read<T: Threads + Wait + RandomSource + Sync>(
 
 #[test]
 fn a_read_that_fails_once_ends_it(rt: HostRuntime) {
-    for text in [GOOD, ALONE] {
+    for text in [GOOD_BUNDLE, BAD_BUNDLE] {
         // pieces of eight bytes, and the end
         for before in 0..text.len().div_ceil(8) + 1 {
             let seen = check_with_failing_read(&rt, rt.alloc(), text, before);
@@ -102,7 +102,7 @@ fn check_with_failing_write<T: Threads + Wait + RandomSource + Sync>(
     before: usize,
     errs: bool,
 ) -> (Result<Outcome, CheckFault>, Vec<u8>, bool) {
-    let mut reader = Watched::new(ALONE.as_bytes());
+    let mut reader = Watched::new(BAD_BUNDLE.as_bytes());
     let mut writer = Watched::new(StumblingWriter {
         taken: Vec::new(alloc),
         piece: 7,
@@ -122,10 +122,10 @@ fn check_with_failing_write<T: Threads + Wait + RandomSource + Sync>(
 #[test]
 fn a_write_that_fails_once_ends_it(rt: HostRuntime) {
     for errs in [false, true] {
-        for before in 0..NO.len().div_ceil(7) {
+        for before in 0..NO_REPORT.len().div_ceil(7) {
             let (ended, taken, stays) = check_with_failing_write(&rt, rt.alloc(), before, errs);
             assert!(rt; ended == Err(CheckFault::Write) && stays, "{before}");
-            let front = NO.as_bytes().chunks(7).take(before).flatten();
+            let front = NO_REPORT.as_bytes().chunks(7).take(before).flatten();
             assert!(rt; taken.iter().eq(front), "{before}");
         }
     }
@@ -155,7 +155,7 @@ fn report_by_short_writes<T: Threads + Wait + RandomSource + Sync>(
 
 #[test]
 fn short_writes_make_the_same_report(rt: HostRuntime) {
-    for (text, report) in [(GOOD, YES), (ALONE, NO)] {
+    for (text, report) in [(GOOD_BUNDLE, YES_REPORT), (BAD_BUNDLE, NO_REPORT)] {
         for piece in [1, 2, 7] {
             let taken = report_by_short_writes(&rt, rt.alloc(), text, piece);
             assert!(rt; taken.as_slice() == report.as_bytes(), "{piece}");

@@ -5,16 +5,16 @@ use command_line::{Request, read_words};
 use std::alloc::Global;
 
 /// The command and the number of workers, or why the words are refused.
-type Read = Result<(Request, usize), ErrorKind>;
+type WordsResult = Result<(Request, usize), ErrorKind>;
 
-fn read(alloc: Global, words: &[&str]) -> Read {
+fn read_test_words(alloc: Global, words: &[&str]) -> WordsResult {
     match read_words(alloc, words) {
         Ok(asked) => Ok((asked.request, asked.workers)),
         Err(error) => Err(error.kind()),
     }
 }
 
-const WORDS: [(&[&str], Read); 29] = [
+const WORDS: [(&[&str], WordsResult); 29] = [
     (&["run"], Ok((Request::Run, 1))),
     (&["value"], Ok((Request::Value, 1))),
     (&["modules"], Ok((Request::Modules, 1))),
@@ -59,11 +59,11 @@ const WORDS: [(&[&str], Read); 29] = [
     ),
 ];
 
-const VALUE: Read = Err(ErrorKind::ValueValidation);
+const VALUE: WordsResult = Err(ErrorKind::ValueValidation);
 
 #[test]
 fn requests_of_words(rt: HostRuntime) {
     for (words, wanted) in &WORDS {
-        assert!(rt; read(rt.alloc(), words) == *wanted, "{words:?}");
+        assert!(rt; read_test_words(rt.alloc(), words) == *wanted, "{words:?}");
     }
 }

@@ -11,11 +11,15 @@ use std::process::Abort;
 use std::sync::ledger::{Blank, Ledger};
 use std::sync::{Arc, Wait};
 use std::thread::Threads;
-use test_support::{GOOD, Work, work_of};
+use test_support::{GOOD_BUNDLE, Work, work_of};
 use verdict_book::{Book, Filings, Gathered, Share, gather};
 
 /// Returns what the shares counted of the jobs, by one worker a share, and how many jobs were run.
-fn worked<F: Filings + Send + Sync, A: Ledger + Send + Sync, R: Abort + Threads + Wait + Sync>(
+fn file_by_workers<
+    F: Filings + Send + Sync,
+    A: Ledger + Send + Sync,
+    R: Abort + Threads + Wait + Sync,
+>(
     rt: &R,
     alloc: Global,
     jobs: &[Arc<Job>],
@@ -62,7 +66,7 @@ fn check_filed_and_run_counts<R: Abort + Threads + Wait + Sync>(
     let state = new_book_of_text(rt, alloc, text);
     let jobs = work_of(alloc, text).expect(rt, "work").jobs;
     assert!(rt; jobs.len() <= 1024);
-    let (gathered, runs) = worked::<Brand, Brand, R>(rt, alloc, &jobs, f, a, state, count);
+    let (gathered, runs) = file_by_workers::<Brand, Brand, R>(rt, alloc, &jobs, f, a, state, count);
     assert!(rt; runs == wanted, "{count}");
     let all = jobs.len();
     assert!(rt;
@@ -79,19 +83,19 @@ fn check_filed_and_run_counts<R: Abort + Threads + Wait + Sync>(
 #[test]
 fn workers_file_each_finding_once(rt: HostRuntime) {
     for count in [1usize, 2, 4, 64] {
-        check_filed_and_run_counts(&rt, rt.alloc(), GOOD, 4, count);
+        check_filed_and_run_counts(&rt, rt.alloc(), GOOD_BUNDLE, 4, count);
     }
 }
 
 /// Two modules of one shape, accepted with two steps and not with four.
-const EQUAL: [&str; 2] = [
+const SAME_SHAPE_TEXTS: [&str; 2] = [
     "circuit\ninput a\ninput b\noutput a\noutput b\nend\nlayout 8 4 2\nin a 0 0\nin b 4 0\nout a 2 2\nout b 6 2\nend\ncertificate 1\nmodule 0 0 4 4\ncut a\nmodule 4 0 4 4\ncut b\nend\n",
     "circuit\ninput a\ninput b\noutput a\noutput b\nend\nlayout 8 4 4\nin a 0 0\nin b 4 0\nout a 2 2\nout b 6 2\nend\ncertificate 1\nmodule 0 0 4 4\ncut a\nmodule 4 0 4 4\ncut b\nend\n",
 ];
 
 #[test]
 fn jobs_of_one_shape_run_once(rt: HostRuntime) {
-    for text in EQUAL {
+    for text in SAME_SHAPE_TEXTS {
         check_filed_and_run_counts(&rt, rt.alloc(), text, 1, 2);
     }
 }

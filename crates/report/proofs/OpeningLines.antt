@@ -4,7 +4,7 @@ use Rattle.hex.specs.Hex.{encode_lower}
 use Rattle.section_text.specs.Spelling.{line_text}
 use Rattle.report.specs.ReportText.{lines_before_verdict}
 
--- the same from the digits of the digest and of the count
+-- the lines before the verdict, from the digits of the digest and of the count
 piece : List ℕ → List ℕ → List ℕ
 piece h m = codes "bbmcheck 1\ncertificate " ++ (h ++ (codes "\nmodules " ++ (m ++ codes "\n")))
 

@@ -19,7 +19,7 @@ use Rattle.local_run.specs.declared.fault.KeepFault.{KeepFault}
 use Rattle.local_run.specs.declared.fault.Kind.{Kind}
 use Rattle.local_run.specs.declared.fault.Kind.TheVariants.{Edge, Stop, End}
 use Rattle.border_match.specs.declared.fault.BorderFault.{BorderFault}
-use Rattle.core_book.specs.Verdicts.{timing_report}
+use Rattle.core_book.specs.Verdicts.{timing_report_line}
 use Rattle.core_book.specs.declared.verdict.ReportLine.{ReportLine}
 use Rattle.core_book.specs.declared.verdict.ReportLine.TheVariants.{Local, Keep, Border, Unkept, Delay, Meet}
 use Rattle.core_book.specs.declared.verdict.Verdict.{Verdict}
@@ -71,7 +71,7 @@ report_line_text (Meet k at) = line_text (codes "meet") (decimal k ∷ meet_word
 -- `yes` and then these lines of delays and meetings, or `no` and then the lines of the verdict
 abbrev pub verdict_lines : List TimeLine → Verdict → List ℕ
 verdict_lines times Yes = line_text (codes "verdict") (codes "yes" ∷ [])
-    ++ flat_map (λ t. report_line_text (timing_report t)) times
+    ++ flat_map (λ t. report_line_text (timing_report_line t)) times
 verdict_lines times (No lines) = line_text (codes "verdict") (codes "no" ∷ []) ++ flat_map report_line_text lines.items
 
 -- before the verdict: the version of reports, the certificate's digest in lower case, and how many modules it has
@@ -81,6 +81,6 @@ lines_before_verdict digest modules =
     ++ line_text (codes "modules") (decimal modules ∷ [])
 
 -- the report on a certificate
-unfoldable pub report_lines : CertView → Verdict → List ℕ
-report_lines c v = lines_before_verdict (sha256 (certificate_text c)) (length (modules_of c.entries))
+unfoldable pub report_text : CertView → Verdict → List ℕ
+report_text c v = lines_before_verdict (sha256 (certificate_text c)) (length (modules_of c.entries))
     ++ verdict_lines (delay_and_meet_lines (circuit_of c.circuit) (modules_in c)) v

@@ -4,12 +4,12 @@ ghost use Rattle.std.specs.List.{flat_map};
 ghost use Rattle.std.specs.String.{string_bytes};
 ghost use Rattle.sha2.specs.Sha256.{sha256};
 ghost use Rattle.core_book.specs.declared.verdict.ReportLine.TheVariants.{Border, Delay, Keep, Local, Meet, Unkept};
-ghost use Rattle.core_book.specs.Verdicts.{timing_report};
+ghost use Rattle.core_book.specs.Verdicts.{timing_report_line};
 ghost use Rattle.certificate.specs.Text.{certificate_text};
 ghost use Rattle.certificate.specs.Times.{delay_and_meet_lines};
 ghost use Rattle.certificate.specs.Grammars.{modules_in};
 ghost use Rattle.circuit.specs.Bridge.{circuit_of};
-ghost use Rattle.report.specs.ReportText.{report_line_text, fault_kind_word, lines_before_verdict, refusal_line, report_lines, verdict_lines};
+ghost use Rattle.report.specs.ReportText.{report_line_text, fault_kind_word, lines_before_verdict, refusal_line, report_text, verdict_lines};
 
 use border_match::BorderFault;
 use certificate::{Cert, StopGap, TimeLine};
@@ -33,14 +33,14 @@ pub fn refusal_text(alloc: Global, refusal: Refusal) -> Result<Vec<u8>, AllocErr
 /// certificate has, and the verdict. After a no the verdict's lines follow, in their order. After a yes the lines on
 /// delays and meetings follow, from the certificate's stops.
 pub fn report_text(alloc: Global, cert: &Cert<'_>, verdict: &Verdict) -> Result<Vec<u8>, AllocError>
-    ensures { IfOk result (λ text. text.items ≡ report_lines cert.now verdict.now) }
+    ensures { IfOk result (λ text. text.items ≡ report_text cert.now verdict.now) }
 {
     let digest = cert.digest(alloc)?;
     report_with_digest(alloc, cert, digest, verdict)
 }
 
 /// Returns the report for a caller that has the certificate's digest already, by [`Cert::digest`].
-#[tactic(auto, unfolding(crate::specs::ReportText::report_lines))]
+#[tactic(auto, unfolding(crate::specs::ReportText::report_text))]
 pub fn report_with_digest(
     alloc: Global,
     cert: &Cert<'_>,
@@ -48,7 +48,7 @@ pub fn report_with_digest(
     verdict: &Verdict,
 ) -> Result<Vec<u8>, AllocError>
     requires { digest ≡ sha256 (certificate_text cert.now) }
-    ensures { IfOk result (λ text. text.items ≡ report_lines cert.now verdict.now) }
+    ensures { IfOk result (λ text. text.items ≡ report_text cert.now verdict.now) }
 {
     let mut text = text_before_verdict(alloc, digest, cert.modules())?;
     print_verdict(alloc, &mut text, cert, verdict)?;
@@ -82,7 +82,7 @@ fn print_verdict(
         Verdict::Yes => {
             text.extend_from_slice(b"verdict yes\n")?;
             let times = cert.times(alloc)?;
-            print_times(alloc, text, &times)
+            print_timing_lines(alloc, text, &times)
         }
         Verdict::No(lines) => {
             text.extend_from_slice(b"verdict no\n")?;
@@ -100,19 +100,23 @@ fn print_lines(alloc: Global, text: &mut Vec<u8>, lines: &[ReportLine]) -> Resul
     Ok(())
 }
 
-fn print_times(alloc: Global, text: &mut Vec<u8>, times: &[TimeLine]) -> Result<(), AllocError>
+fn print_timing_lines(
+    alloc: Global,
+    text: &mut Vec<u8>,
+    times: &[TimeLine],
+) -> Result<(), AllocError>
     ensures { OnOk result (text.new.items
-        ≡ text.old.items ++ flat_map (λ t. report_line_text (timing_report t)) times.now) }
+        ≡ text.old.items ++ flat_map (λ t. report_line_text (timing_report_line t)) times.now) }
 {
     for line in times {
-        print_time(alloc, text, *line)?;
+        print_timing_line(alloc, text, *line)?;
     }
     Ok(())
 }
 
-fn print_time(alloc: Global, text: &mut Vec<u8>, line: TimeLine) -> Result<(), AllocError>
+fn print_timing_line(alloc: Global, text: &mut Vec<u8>, line: TimeLine) -> Result<(), AllocError>
     ensures { OnOk result (text.new.items
-        ≡ text.old.items ++ report_line_text (timing_report line)) }
+        ≡ text.old.items ++ report_line_text (timing_report_line line)) }
 {
     match line {
         TimeLine::Delay { gate, wanted, gap } => {

@@ -1,15 +1,8 @@
 -- A section that was read is good: neither its header, nor an item after those before it, nor its end had a fault.
-use Rattle.lemmas.proofs.Common.{[], ◌++◌, ◌+◌, ◌∷◌, ◌≡◌, List, None, Ok, Option, Result, Some, append-nil, arith, refl}
-use Rattle.lemmas.proofs.Common.{subst, sym, ℕ, common_steps}
-use Rattle.section_text.specs.Words.{words_of}
-use Rattle.section_text.specs.declared.section.Form.{Form}
-use Rattle.section_text.specs.declared.section.Form.TheVariants.{Header, Item, End}
-use Rattle.section_text.specs.declared.fault.Refusal.{Refusal}
-use Rattle.section_text.specs.declared.fault.ReadFault.{ReadFault}
-use Rattle.section_text.specs.Feeds.{FeedView, ahead}
-use Rattle.section_text.specs.Section.{Grammar, unless, result_after_line, header_line, section_of, section_body_of}
-use Rattle.section_text.specs.Section.{Reads}
-use Rattle.section_text.specs.declared.code.RefusalCode.{RefusalCode}
+use Rattle.section_text.proofs.Imports.{End, FeedView, Form, Grammar, Header, Item, List, None, Ok, Option, ReadFault}
+use Rattle.section_text.proofs.Imports.{Reads, Refusal, RefusalCode, Result, Some, [], ahead, append-nil, arith}
+use Rattle.section_text.proofs.Imports.{common_steps, refl, refused_if_code, result_after_header, result_after_line}
+use Rattle.section_text.proofs.Imports.{section_body_of, section_of, subst, sym, words_of, ℕ, ◌++◌, ◌+◌, ◌∷◌, ◌≡◌}
 
 module _ {H I : Type 0} (g : Grammar H I) where
   -- each item has no fault after the items before it
@@ -30,7 +23,7 @@ module _ {H I : Type 0} (g : Grammar H I) where
     pub end : g.end_fault h rows ≡ None
 
   unless_ok : (n : ℕ) (o : Option RefusalCode) (r : Result (H × List I) Refusal) (y : H × List I) →
-      unless n o r ≡ Ok y →
+      refused_if_code n o r ≡ Ok y →
       (o ≡ None) × (r ≡ Ok y)
   unless_ok n None r y e = (refl, e)
   unless_ok n (Some code) r y e = absurd cc
@@ -57,7 +50,7 @@ module _ {H I : Type 0} (g : Grammar H I) where
       (λ i. body_faultless ls h (before ++ i ∷ []) (n + 1) h' rows)
 
   header_faultless : (ls : List (List ℕ)) (n : ℕ) (h : H) (rows : List I) (o : Option (Form H I)) →
-      header_line g n (λ k. section_body_of g k [] (n + 1) ls) o ≡ Ok (h, rows) → IsFaultless h rows
+      result_after_header g n (λ k. section_body_of g k [] (n + 1) ls) o ≡ Ok (h, rows) → IsFaultless h rows
   header_faultless ls n h rows None e = absurd cc
   header_faultless ls n h rows (Some (Item i)) e = absurd cc
   header_faultless ls n h rows (Some End) e = absurd cc

@@ -1,14 +1,10 @@
 -- Readers one after the other read sections one after the other.
-use Rattle.lemmas.proofs.Common.{[], ◌+◌, ◌∙◌, ◌∷◌, ◌≡◌, ◌≢◌, Err, List, None, Ok, Result, ap, arith, refl, subst, sym}
-use Rattle.lemmas.proofs.Common.{ℕ, common_steps, drop-drop}
-use Rattle.section_text.specs.Faults.{refusal}
-use Rattle.section_text.specs.Feeds.{FeedView, ahead}
-use Rattle.section_text.specs.declared.fault.Refusal.{Refusal}
-use Rattle.section_text.specs.declared.fault.ReadFault.{ReadFault}
-use Rattle.section_text.specs.declared.fault.ReadFault.TheVariants.{Refused, Memory}
-use Rattle.section_text.specs.Section.{Grammar, section_of, refused_at, Reads, FailsAsReading}
+use Rattle.section_text.proofs.Imports.{Err, FailsAsReading, FeedView, Grammar, List, Memory, None, Ok, ReadFault}
+use Rattle.section_text.proofs.Imports.{Reads, Refusal, Result, TextCut, [], ahead, ap, arith, common_steps, drop-drop}
+use Rattle.section_text.proofs.Imports.{refl, refusal, refused_at, section_of, subst, sym, ℕ, ◌+◌, ◌∙◌, ◌∷◌, ◌≡◌}
+use Rattle.lemmas.proofs.Common.{◌≢◌}
+use Rattle.section_text.specs.declared.fault.ReadFault.TheVariants.{Refused}
 use Rattle.section_text.specs.Sections.{section_then, value_if_at_end}
-use Rattle.section_text.specs.declared.code.RefusalCode.TheVariants.{TextCut}
 
 module _ {H I A B : Type 0} (g : Grammar H I) (view : A → H × List I) (old new : FeedView) (going : old.stop ≡ None)
     (next : H → List I → ℕ → List (List ℕ) → Result B Refusal) where

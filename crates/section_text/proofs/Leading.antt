@@ -1,12 +1,13 @@
 -- The number that is the first of several words, byte by byte.
-use Rattle.lemmas.proofs.Common.{[], ◌&&◌, ◌*◌, ◌++◌, ◌+◌, ◌-◌, ◌<◌, ◌==◌, ◌||◌, ◌∙◌, ◌∷◌, ◌≡◌, ◌≤◌, Bool, List, None}
-use Rattle.lemmas.proofs.Common.{Option, Some, ap, append-nil, append_assoc, arith, drop, false, get_or, if◌then◌else◌}
-use Rattle.lemmas.proofs.Common.{inl, inr, length, length-append, nat_lt, refl, subst, sym, take, true, ℕ, at_drop_more}
-use Rattle.lemmas.proofs.Common.{cases_Bool, common_steps, cond-false, cond-true, list_all, list_all-append, nat_tests}
-use Rattle.lemmas.proofs.Common.{onto_first, slice_split-cons_no, slice_split-cons_yes, take_rest, and_parts}
+use Rattle.section_text.proofs.Imports.{Bool, List, None, Option, Some, [], and_parts, ap, append-nil, append_assoc}
+use Rattle.section_text.proofs.Imports.{append_digits, arith, cases_Bool, common_steps, cond-false, cond-true, drop}
+use Rattle.section_text.proofs.Imports.{false, get_or, if◌then◌else◌, inl, inr, is_digit, is_number, is_space, length}
+use Rattle.section_text.proofs.Imports.{length-append, list_all, list_all-append, nat_tests, number_of, onto_first}
+use Rattle.section_text.proofs.Imports.{refl, slice_split-cons_no, subst, sym, take, take_rest, true, words_of, ℕ, ◌&&◌}
+use Rattle.section_text.proofs.Imports.{◌*◌, ◌++◌, ◌+◌, ◌-◌, ◌<◌, ◌==◌, ◌>>=◌, ◌∙◌, ◌∷◌, ◌≡◌, ◌≤◌}
+use Rattle.lemmas.proofs.Common.{◌||◌, nat_lt, at_drop_more, slice_split-cons_yes}
 use Rattle.std.proofs.Math.ListN.{drop_of_length-le}
 use Rattle.section_text.specs.Leading.{leading_number}
-use Rattle.section_text.specs.Words.{is_digit, is_number, is_space, number_of, append_digits, words_of, ◌>>=◌}
 use Rattle.section_text.proofs.Numbers.{is_one}
 use Rattle.section_text.proofs.Splitting.{some_words}
 

@@ -17,3 +17,4 @@ pub mod WordsLeft
 pub mod SaidSections
 pub mod MadeSections
 pub mod Leading
+pub mod Imports

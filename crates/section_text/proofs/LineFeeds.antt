@@ -1,6 +1,7 @@
 -- The first byte of a kind, as a search for it finds it, and where a list is searched in two parts.
-use Rattle.lemmas.proofs.Common.{◌==◌, ◌≡◌, Bool, List, None, Option, Some, arith, false, length, position, refl, true}
-use Rattle.lemmas.proofs.Common.{ℕ, nat_tests, position_or_len, position_or_len_is}
+use Rattle.section_text.proofs.Imports.{Bool, List, None, Option, Some, arith, false, length, nat_tests, position, refl}
+use Rattle.section_text.proofs.Imports.{true, ℕ, ◌==◌, ◌≡◌}
+use Rattle.lemmas.proofs.Common.{position_or_len, position_or_len_is}
 use Rattle.memchr.specs.Find.{IsFirstByte, is_byte}
 
 fails : (b : Bool) → (b ≡ true → ⊥) → b ≡ false

@@ -1,11 +1,9 @@
 -- Lines with the forms of a section and without a fault are read as that section, and their text is that of the forms
-use Rattle.lemmas.proofs.Common.{[], ◌++◌, ◌+◌, ◌∙◌, ◌∷◌, ◌≡◌, List, None, Ok, Option, Some, ap, append-nil}
-use Rattle.lemmas.proofs.Common.{append_assoc, ap₂, flat_map, map, refl, subst, sym, ℕ, append_cancel_left}
-use Rattle.section_text.specs.Words.{words_of, bytes_after_last_line_feed}
-use Rattle.section_text.specs.SaidSection.{IsSection}
-use Rattle.section_text.specs.Section.{Grammar, section_of, section_body_of, with_line_feed}
-use Rattle.section_text.specs.declared.section.Form.{Form}
-use Rattle.section_text.specs.declared.section.Form.TheVariants.{Header, Item, End}
+use Rattle.section_text.proofs.Imports.{End, Form, Grammar, Header, IsSection, Item, List, None, Ok, Option, Some, []}
+use Rattle.section_text.proofs.Imports.{ap, append-nil, append_assoc, ap₂, bytes_after_last_line_feed, flat_map, map}
+use Rattle.section_text.proofs.Imports.{refl, section_body_of, section_of, subst, sym, with_line_feed, words_of, ℕ}
+use Rattle.section_text.proofs.Imports.{◌++◌, ◌+◌, ◌∙◌, ◌∷◌, ◌≡◌}
+use Rattle.lemmas.proofs.Common.{append_cancel_left}
 use Rattle.section_text.proofs.Again.{AreLines, lines_again}
 use Rattle.section_text.proofs.Good.{AreFaultless, IsFaultless}
 use Rattle.section_text.proofs.Lines.{whole_text}

@@ -1,12 +1,12 @@
 -- A number has one spelling.
-use Rattle.lemmas.proofs.Common.{[], ◌<◌, ◌^◌, ◌∙◌, ◌∷◌, ◌≡◌, ◌≤◌, ◌⊎◌, Bool, IfNone, IfSome, List, None, Option, Some}
-use Rattle.lemmas.proofs.Common.{ap, arith, false, get_or, inl, inr, length, rules, suc, sym, true, zero, ℕ, cases_Bool}
-use Rattle.lemmas.proofs.Common.{common_steps, cond-false, cond-true, cond_some, decimal, false≢true, list_all}
-use Rattle.lemmas.proofs.Common.{nat_tests}
+use Rattle.section_text.proofs.Imports.{Bool, List, None, Option, Some, [], ap, append_digits, arith, cases_Bool}
+use Rattle.section_text.proofs.Imports.{common_steps, cond-false, cond-true, cond_some, decimal, false, false≢true}
+use Rattle.section_text.proofs.Imports.{get_or, inl, inr, is_digit, is_number, length, list_all, nat_tests, number_of}
+use Rattle.section_text.proofs.Imports.{rules, suc, sym, true, zero, ℕ, ◌<◌, ◌^◌, ◌∙◌, ◌∷◌, ◌≡◌, ◌≤◌, ◌⊎◌}
+use Rattle.lemmas.proofs.Common.{IfNone, IfSome}
 use Rattle.std.proofs.lemmas.Str.Parse.{IsNumeralModel, numerals_by_fold, digits_value_short}
 use Rattle.std.proofs.lemmas.Fmt.{decimal-digits_value, digits_decimal, digits_value-decimal, decimal_digit}
 use Rattle.std.proofs.lemmas.Fmt.{decimal_nonempty, first_decimal, length-decimal-le}
-use Rattle.section_text.specs.Words.{is_digit, is_number, append_digits, number_of}
 
 own : IsNumeralModel (λ ds. list_all is_digit ds ≡ true) (append_digits 0)
 own = numerals_by_fold _ (search rules) append_digits (search rules)
@@ -32,7 +32,7 @@ number_spelled w n e =
     decimal-digits_value own w word.digits word.some word.plain (omega arith) in
     (sym back ∙ ap decimal found.1, omega (arith, found.1))
 
--- such a number has at most nine digits
+-- a word that is a number means one below 10 ^ 9
 pub number_small : (w : List ℕ) → is_number w ≡ true → append_digits 0 w < 10 ^ 9
 number_small w e = let word = number_word w e in digits_value_short own w 9 word.digits word.few
 

@@ -1,14 +1,10 @@
 -- The content of a section, by the forms of its lines.
-use Rattle.lemmas.proofs.Common.{[], ◌++◌, ◌+◌, ◌∙◌, ◌∷◌, ◌≡◌, List, None, Ok, Option, Result, Some, ap, append-nil}
-use Rattle.lemmas.proofs.Common.{append_assoc, ap₂, arith, drop, length, map, refl, suc, sym, take, ℕ, common_steps}
+use Rattle.section_text.proofs.Imports.{End, Form, Grammar, Header, IsSection, Item, List, None, Ok, Option, Refusal}
+use Rattle.section_text.proofs.Imports.{RefusalCode, Result, Some, [], ap, append-nil, append_assoc, ap₂, arith}
+use Rattle.section_text.proofs.Imports.{common_steps, drop, length, map, refl, refused_if_code, result_after_header}
+use Rattle.section_text.proofs.Imports.{result_after_line, section_body_of, section_of, suc, sym, take, words_of, ℕ}
+use Rattle.section_text.proofs.Imports.{◌++◌, ◌+◌, ◌∙◌, ◌∷◌, ◌≡◌}
 use Rattle.lemmas.proofs.Common.{drop-append_seam, length-map, map-append}
-use Rattle.section_text.specs.Words.{words_of}
-use Rattle.section_text.specs.SaidSection.{IsSection}
-use Rattle.section_text.specs.Section.{Grammar, unless, result_after_line, header_line, section_of, section_body_of}
-use Rattle.section_text.specs.declared.section.Form.{Form}
-use Rattle.section_text.specs.declared.section.Form.TheVariants.{Header, Item, End}
-use Rattle.section_text.specs.declared.fault.Refusal.{Refusal}
-use Rattle.section_text.specs.declared.code.RefusalCode.{RefusalCode}
 
 -- ---- what was read is a section
 
@@ -24,7 +20,7 @@ module _ {H I : Type 0} (g : Grammar H I) where
     pub said : map (λ l. g.form (words_of l)) (take (length more + 1) ls) ≡ items_said more
 
   unless_ok : (n : ℕ) (o : Option RefusalCode) (r : Result (H × List I) Refusal) (y : H × List I) →
-      unless n o r ≡ Ok y → r ≡ Ok y
+      refused_if_code n o r ≡ Ok y → r ≡ Ok y
   unless_ok n None r y e = e
   unless_ok n (Some code) r y e = absurd cc
 
@@ -72,7 +68,7 @@ module _ {H I : Type 0} (g : Grammar H I) where
 
   header_said : (l : List ℕ) (ls : List (List ℕ)) (n : ℕ) (h : H) (rows : List I) (o : Option (Form H I)) →
       g.form (words_of l) ≡ o
-      → header_line g n (λ k. section_body_of g k [] (n + 1) ls) o ≡ Ok (h, rows) →
+      → result_after_header g n (λ k. section_body_of g k [] (n + 1) ls) o ≡ Ok (h, rows) →
       IsSection g.form (take (length rows + 2) (l ∷ ls)) h rows
   header_said l ls n h rows None f e = absurd cc
   header_said l ls n h rows (Some (Item i)) f e = absurd cc

@@ -1,7 +1,7 @@
 -- The words of a line, from the tests that the line passes.
-use Rattle.lemmas.proofs.Common.{[], ◌∷◌, ◌≡◌, ◌⊎◌, Bool, List, None, Option, Some, arith, cond, false, inl, inr}
-use Rattle.lemmas.proofs.Common.{length, refl, slice_get, true, ℕ, common_steps, decimal, option_and_then_some}
-use Rattle.section_text.specs.Words.{number_at}
+use Rattle.section_text.proofs.Imports.{Bool, List, None, Option, Some, [], arith, common_steps, cond, decimal, false}
+use Rattle.section_text.proofs.Imports.{inl, inr, length, number_at, option_and_then_some, refl, slice_get, true, ℕ}
+use Rattle.section_text.proofs.Imports.{◌∷◌, ◌≡◌, ◌⊎◌}
 use Rattle.section_text.proofs.Numbers.{number_spelled}
 
 -- which way a test went

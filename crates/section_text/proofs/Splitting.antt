@@ -1,13 +1,15 @@
 -- The words of a line, one after the other.
-use Rattle.lemmas.proofs.Common.{[], ◌&&◌, ◌+◌, ◌-◌, ◌<◌, ◌==◌, ◌∙◌, ◌∷◌, ◌≡◌, ◌⊎◌, Bool, List, None, Option, Some}
-use Rattle.lemmas.proofs.Common.{ap, arith, cond, drop, false, if◌then◌else◌, inl, inr, length, option_and_then}
-use Rattle.lemmas.proofs.Common.{position, refl, slice_get, suc, sym, take, true, ℕ, cases_Bool, common_steps}
-use Rattle.lemmas.proofs.Common.{cond-false, fails_before_first, join_with_byte, join_with_byte-slice_split}
-use Rattle.lemmas.proofs.Common.{length-drop, length-slice_split, list_all, nat_tests, onto_first, same_Some}
-use Rattle.lemmas.proofs.Common.{slice_split-cons_no, slice_split_first, slice_split_none, take_all, below_by_test}
-use Rattle.lemmas.proofs.Common.{not_below_by_test, test_failed}
-use Rattle.section_text.specs.Words.{is_space, words_of, three, four, five, number_of, name_of, is_name, is_number}
-use Rattle.section_text.specs.Words.{number_at, name_at, lone_number, lone_name, is_digit, is_name_byte}
+use Rattle.section_text.proofs.Imports.{Bool, List, None, Option, Some, [], ap, arith, cases_Bool, common_steps, cond}
+use Rattle.section_text.proofs.Imports.{cond-false, drop, fails_before_first, false, if◌then◌else◌, inl, inr, is_digit}
+use Rattle.section_text.proofs.Imports.{is_name, is_name_byte, is_number, is_space, join_with_byte}
+use Rattle.section_text.proofs.Imports.{join_with_byte-slice_split, length, length-drop, length-slice_split, list_all}
+use Rattle.section_text.proofs.Imports.{name_at, name_of, nat_tests, number_at, number_of, onto_first, option_and_then}
+use Rattle.section_text.proofs.Imports.{position, refl, same_Some, slice_get, slice_split-cons_no, slice_split_first}
+use Rattle.section_text.proofs.Imports.{slice_split_none, suc, sym, take, take_all, true, words_of, ℕ, ◌&&◌, ◌+◌, ◌-◌}
+use Rattle.section_text.proofs.Imports.{◌<◌, ◌==◌, ◌∙◌, ◌∷◌, ◌≡◌, ◌⊎◌}
+use Rattle.lemmas.proofs.Common.{below_by_test, not_below_by_test, test_failed}
+use Rattle.section_text.specs.Words.{words_of_three, words_of_four, words_of_five, number_after_keyword}
+use Rattle.section_text.specs.Words.{name_after_keyword}
 
 -- where the first space is
 found_by : (b : Bool) (p i : ℕ) → cond b (Some p) None ≡ Some i → (b ≡ true) × (p ≡ i)
@@ -31,17 +33,17 @@ some_words l = let n = length-slice_split is_space l in omega (arith, n)
 
 -- ---- lines of fewer or more words than four
 
-pub one_word : (l : List ℕ) → words_of l ≡ l ∷ [] → None ≡ four (words_of l)
-unfolding four
+pub one_word : (l : List ℕ) → words_of l ≡ l ∷ [] → None ≡ words_of_four (words_of l)
+unfolding words_of_four
 one_word l a = rw a refl
 
-pub two_words : (l w r : List ℕ) → words_of l ≡ w ∷ words_of r → words_of r ≡ r ∷ [] → None ≡ four (words_of l)
-unfolding four
+pub two_words : (l w r : List ℕ) → words_of l ≡ w ∷ words_of r → words_of r ≡ r ∷ [] → None ≡ words_of_four (words_of l)
+unfolding words_of_four
 two_words l w r a b = rw (a, b) refl
 
 pub three_words : (l w r v s : List ℕ) → words_of l ≡ w ∷ words_of r → words_of r ≡ v ∷ words_of s →
-    words_of s ≡ s ∷ [] → None ≡ four (words_of l)
-unfolding four
+    words_of s ≡ s ∷ [] → None ≡ words_of_four (words_of l)
+unfolding words_of_four
 three_words l w r v s a b c = rw (a, b, c) refl
 
 not_four : (n : ℕ) → (suc (suc (suc (suc (suc n)))) == 4) ≡ false
@@ -53,13 +55,13 @@ five_or_more [] h ws = absurd (omega arith)
 five_or_more (z ∷ zs) h ws = rw (not_four (length zs)) refl
 
 pub many_words : (l w r v s u t x y : List ℕ) → words_of l ≡ w ∷ words_of r → words_of r ≡ v ∷ words_of s →
-    words_of s ≡ u ∷ words_of t → words_of t ≡ x ∷ words_of y → None ≡ four (words_of l)
-unfolding four
+    words_of s ≡ u ∷ words_of t → words_of t ≡ x ∷ words_of y → None ≡ words_of_four (words_of l)
+unfolding words_of_four
 many_words l w r v s u t x y a b c d = grind (arith, common_steps, five_or_more, some_words)
 
 pub four_are : (l w r v s u t : List ℕ) → words_of l ≡ w ∷ words_of r → words_of r ≡ v ∷ words_of s →
-    words_of s ≡ u ∷ words_of t → words_of t ≡ t ∷ [] → Some (w ∷ v ∷ u ∷ t ∷ []) ≡ four (words_of l)
-unfolding four
+    words_of s ≡ u ∷ words_of t → words_of t ≡ t ∷ [] → Some (w ∷ v ∷ u ∷ t ∷ []) ≡ words_of_four (words_of l)
+unfolding words_of_four
 four_are l w r v s u t a b c d = rw (a, b, c, d) refl
 
 -- ---- lines of five words, by those of four
@@ -74,17 +76,19 @@ one_more n e = grind (arith, nat_tests)
 not_one_more : (n : ℕ) → (n == 4) ≡ false → (suc n == 5) ≡ false
 not_one_more n e = grind (arith, nat_tests)
 
-pub lone_word : (l : List ℕ) → words_of l ≡ l ∷ [] → None ≡ five (words_of l)
-unfolding five
+pub lone_word : (l : List ℕ) → words_of l ≡ l ∷ [] → None ≡ words_of_five (words_of l)
+unfolding words_of_five
 lone_word l a = rw a refl
 
-pub no_five : (l w r : List ℕ) → words_of l ≡ w ∷ words_of r → None ≡ four (words_of r) → None ≡ five (words_of l)
-unfolding four five
+pub no_five : (l w r : List ℕ) → words_of l ≡ w ∷ words_of r → None ≡ words_of_four (words_of r) →
+    None ≡ words_of_five (words_of l)
+unfolding words_of_four words_of_five
 no_five l w r a none = grind (arith, common_steps, not_one_more, test_failed)
 
-pub five_are : (l w r : List ℕ) (ws : List (List ℕ)) → words_of l ≡ w ∷ words_of r → Some ws ≡ four (words_of r) →
-    Some (w ∷ ws) ≡ five (words_of l)
-unfolding four five
+pub five_are : (l w r : List ℕ) (ws : List (List ℕ)) → words_of l ≡ w ∷ words_of r →
+    Some ws ≡ words_of_four (words_of r) →
+    Some (w ∷ ws) ≡ words_of_five (words_of l)
+unfolding words_of_four words_of_five
 five_are l w r ws a some = grind (arith, common_steps, test_of, one_more)
 
 -- ---- lines of one, two and three words
@@ -104,23 +108,23 @@ is_alone l a = rw a refl
 pub is_not_alone : (l w r : List ℕ) → words_of l ≡ w ∷ words_of r → false ≡ (length (words_of l) == 1)
 is_not_alone l w r a = rw (a, not_one (length (words_of r)) (some_words r)) refl
 
-pub one_of_three : (l : List ℕ) → words_of l ≡ l ∷ [] → None ≡ three (words_of l)
-unfolding three
+pub one_of_three : (l : List ℕ) → words_of l ≡ l ∷ [] → None ≡ words_of_three (words_of l)
+unfolding words_of_three
 one_of_three l a = rw a refl
 
 pub two_words_are_not_three : (l w r : List ℕ) → words_of l ≡ w ∷ words_of r → words_of r ≡ r ∷ [] →
-    None ≡ three (words_of l)
-unfolding three
+    None ≡ words_of_three (words_of l)
+unfolding words_of_three
 two_words_are_not_three l w r a b = rw (a, b) refl
 
 pub three_are : (l w r v s : List ℕ) → words_of l ≡ w ∷ words_of r → words_of r ≡ v ∷ words_of s →
-    words_of s ≡ s ∷ [] → Some (w ∷ v ∷ s ∷ []) ≡ three (words_of l)
-unfolding three
+    words_of s ≡ s ∷ [] → Some (w ∷ v ∷ s ∷ []) ≡ words_of_three (words_of l)
+unfolding words_of_three
 three_are l w r v s a b c = rw (a, b, c) refl
 
 pub past_third : (l w r v s u t : List ℕ) → words_of l ≡ w ∷ words_of r → words_of r ≡ v ∷ words_of s →
-    words_of s ≡ u ∷ words_of t → None ≡ three (words_of l)
-unfolding three
+    words_of s ≡ u ∷ words_of t → None ≡ words_of_three (words_of l)
+unfolding words_of_three
 past_third l w r v s u t a b c = rw (a, b, c, not_three (length (words_of t)) (some_words t)) refl
 
 -- ---- the second word of a line of two, which has no space
@@ -163,24 +167,24 @@ read_alone f k l (w ∷ v ∷ vs) e (inr none) = rw (more (length vs)) (sym none
     more : (n : ℕ) → (suc (suc (suc n)) == 2) ≡ false
     more n = grind arith
 
-pub lone_name_is : (k l : List ℕ) → lone_name (k ∷ words_of l) ≡ name_of l
-unfolding lone_name name_at name_of
+pub lone_name_is : (k l : List ℕ) → name_after_keyword (k ∷ words_of l) ≡ name_of l
+unfolding name_after_keyword name_at name_of
 lone_name_is k l = read_alone name_of k l (words_of l) refl (elim (cases_Bool (is_name l)) [
   | inl name ↦ inl (letters_alone is_name_byte letter_is_no_space l (name_letters l name))
   | inr none ↦ inr (cond-false _ _ _ none)
 ])
 
-pub lone_number_is : (k l : List ℕ) → lone_number (k ∷ words_of l) ≡ number_of l
-unfolding lone_number number_at number_of
+pub lone_number_is : (k l : List ℕ) → number_after_keyword (k ∷ words_of l) ≡ number_of l
+unfolding number_after_keyword number_at number_of
 lone_number_is k l = read_alone number_of k l (words_of l) refl (elim (cases_Bool (is_number l)) [
   | inl number ↦ inl (letters_alone is_digit digit_is_no_space l (number_digits l number))
   | inr none ↦ inr (cond-false _ _ _ none)
 ])
 
-pub one_word_is_no_name : (l : List ℕ) → words_of l ≡ l ∷ [] → None ≡ lone_name (words_of l)
-unfolding lone_name
+pub one_word_is_no_name : (l : List ℕ) → words_of l ≡ l ∷ [] → None ≡ name_after_keyword (words_of l)
+unfolding name_after_keyword
 one_word_is_no_name l a = rw a refl
 
-pub one_word_is_no_number : (l : List ℕ) → words_of l ≡ l ∷ [] → None ≡ lone_number (words_of l)
-unfolding lone_number
+pub one_word_is_no_number : (l : List ℕ) → words_of l ≡ l ∷ [] → None ≡ number_after_keyword (words_of l)
+unfolding number_after_keyword
 one_word_is_no_number l a = rw a refl

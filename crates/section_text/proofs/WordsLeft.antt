@@ -1,9 +1,10 @@
 -- The words of the rest of a line, which are those from a place on.
-use Rattle.lemmas.proofs.Common.{[], ◌+◌, ◌-◌, ◌<◌, ◌==◌, ◌∙◌, ◌∷◌, ◌≡◌, ◌≤◌, Bool, List, None, Option, Some, ap, arith}
-use Rattle.lemmas.proofs.Common.{codes, drop, false, if◌then◌else◌, length, option_and_then, refl, slice_get, suc, sym}
-use Rattle.lemmas.proofs.Common.{true, zero, ℕ, bytes_eq, common_steps, drop-drop, drop_all, length-drop, nat_tests}
-use Rattle.lemmas.proofs.Common.{option_and_then_some, slice_get_within}
-use Rattle.section_text.specs.Words.{◌>>=◌, is_word_at, words_of, name_of, name_at, names_at, names_beside_arrow}
+use Rattle.section_text.proofs.Imports.{Bool, List, None, Option, Some, [], ap, arith, bytes_eq, codes, common_steps}
+use Rattle.section_text.proofs.Imports.{drop, drop-drop, drop_all, false, if◌then◌else◌, is_word_at, length}
+use Rattle.section_text.proofs.Imports.{length-drop, name_at, name_of, names_at, nat_tests, option_and_then}
+use Rattle.section_text.proofs.Imports.{option_and_then_some, refl, slice_get, slice_get_within, suc, sym, true}
+use Rattle.section_text.proofs.Imports.{words_of, zero, ℕ, ◌+◌, ◌-◌, ◌<◌, ◌==◌, ◌>>=◌, ◌∙◌, ◌∷◌, ◌≡◌, ◌≤◌}
+use Rattle.section_text.specs.Words.{names_beside_arrow}
 use Rattle.section_text.proofs.Splitting.{some_words}
 use Rattle.section_text.proofs.WordPlaces.{name_at_is}
 

@@ -6,8 +6,8 @@ use Rattle.section_text.specs.Words.{number_of, lines_of, bytes_after_last_line_
 use Rattle.section_text.specs.Section.{Grammar, section_of, with_line_feed}
 
 -- a word that is a number is how that number is written
-abbrev pub OneSpelling : Type 0
-OneSpelling = (word : List ℕ) (n : ℕ) → number_of word ≡ Some n → word ≡ decimal n
+abbrev pub NumbersHaveOneSpelling : Type 0
+NumbersHaveOneSpelling = (word : List ℕ) (n : ℕ) → number_of word ≡ Some n → word ≡ decimal n
 
 -- no number of a text has more than nine digits
 abbrev pub NumbersAreShort : Type 0

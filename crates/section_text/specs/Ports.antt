@@ -4,11 +4,11 @@ use Rattle.section_text.specs.declared.ports.PortNames.{PortNames}
 use Rattle.section_text.specs.declared.ports.PortNames.TheVariants.{Any, Only}
 
 -- the names that ports may have: those of inputs, and those of outputs
-pub record Named : Type 0 where
+pub record PortNameLists : Type 0 where
   pub ins : List (List ℕ)
   pub outs : List (List ℕ)
 
 -- what port names say: `None` if any name is good
-abbrev pub named_ports : PortNames → Option Named
+abbrev pub named_ports : PortNames → Option PortNameLists
 named_ports Any = None
 named_ports (Only ins outs) = Some (record { ins = ins.items; outs = outs.items })

@@ -2,7 +2,7 @@
 ghost use Rattle.std.specs.Prelude.{drop, take, ◌≡◌, ◌==◌, ◌+◌, ◌-◌, ◌^◌, ◌<◌, ◌≤◌, ◌↔◌, true, false, [], ◌++◌, length, Option, Some, None, Ok, Err, IfOk, IfErr, ◌≢◌, OnOk, OnErr, IfSome, unwrap_or, slice_get};
 ghost use Rattle.std.specs.Option.{option_copied, option_map, ForSome};
 ghost use Rattle.std.specs.List.{flat_map, position};
-ghost use Rattle.section_text.specs.Words.{lines_of, is_word_at, is_line_feed, bytes_after_last_line_feed, words_of, number_at, names_beside_arrow, lone, lone_number, lone_name, three, four, five};
+ghost use Rattle.section_text.specs.Words.{lines_of, is_word_at, is_line_feed, bytes_after_last_line_feed, words_of, number_at, names_beside_arrow, if_one_word, number_after_keyword, name_after_keyword, words_of_three, words_of_four, words_of_five};
 ghost use Rattle.section_text.specs.declared.code.RefusalCode.TheVariants.{TextCut};
 ghost use Rattle.section_text.specs.declared.fault.ReadFault.TheVariants.{Memory};
 ghost use Rattle.section_text.specs.Listed.{list_of_three_words, list_of_four_words, list_of_five_words};
@@ -17,9 +17,9 @@ use crate::names::Names;
 use crate::number::read_number;
 use crate::seed::Seed;
 use crate::words::{
-    FiveWords, FourWords, ThreeWords, count_words_in, is_one_word, lone_name_in, lone_number_in,
-    names_beside_arrow_in, next_word, split_five_words, split_four_words, split_three_words,
-    word_in,
+    FiveWords, FourWords, ThreeWords, count_words_in, is_one_word, name_after_keyword_in,
+    names_beside_arrow_in, next_word, number_after_keyword_in, split_five_words, split_four_words,
+    split_three_words, word_in,
 };
 use memchr::memchr;
 use std::alloc::Global;
@@ -167,7 +167,7 @@ impl Feed {
         ensures stopped { ForSome self.old.stop
             (λ fault. (result ≡ Err fault) × (self.new ≡ self.old)) }
         ensures next { self.old.stop ≡ None → IfOk result (TakesLine self.old self.new) }
-        ensures none { self.old.stop ≡ None → IfErr result (RunsOut self.old self.new) }
+        ensures runs_out { self.old.stop ≡ None → IfErr result (RunsOut self.old self.new) }
     {
         if let Some(fault) = self.stop {
             return Err(fault);
@@ -248,10 +248,10 @@ impl Feed {
     }
 
     /// Returns `said` if a line has one word, and `None` for any other line.
-    #[tactic(auto, unfolding(crate::specs::Words::lone))]
-    pub fn lone<A: Drop>(&self, line: &Line, said: A) -> Option<A>
+    #[tactic(auto, unfolding(crate::specs::Words::if_one_word))]
+    pub fn if_one_word<A: Drop>(&self, line: &Line, said: A) -> Option<A>
         requires { IsLine self.now line.now }
-        ensures { result ≡ lone (words_of (line_bytes self.now line.now)) said }
+        ensures { result ≡ if_one_word (words_of (line_bytes self.now line.now)) said }
     {
         if is_one_word(self.line(line)) {
             Some(said)
@@ -264,7 +264,7 @@ impl Feed {
     pub fn three_words(&self, line: &Line) -> Option<ThreeWords<'_>>
         requires { IsLine self.now line.now }
         ensures { option_map list_of_three_words result
-            ≡ three (words_of (line_bytes self.now line.now)) }
+            ≡ words_of_three (words_of (line_bytes self.now line.now)) }
     {
         split_three_words(self.line(line))
     }
@@ -273,7 +273,7 @@ impl Feed {
     pub fn four_words(&self, line: &Line) -> Option<FourWords<'_>>
         requires { IsLine self.now line.now }
         ensures { option_map list_of_four_words result
-            ≡ four (words_of (line_bytes self.now line.now)) }
+            ≡ words_of_four (words_of (line_bytes self.now line.now)) }
     {
         split_four_words(self.line(line))
     }
@@ -282,26 +282,26 @@ impl Feed {
     pub fn five_words(&self, line: &Line) -> Option<FiveWords<'_>>
         requires { IsLine self.now line.now }
         ensures { option_map list_of_five_words result
-            ≡ five (words_of (line_bytes self.now line.now)) }
+            ≡ words_of_five (words_of (line_bytes self.now line.now)) }
     {
         split_five_words(self.line(line))
     }
 
     /// Returns the number of a line of two words, a keyword and a number, or `None` for any other line.
-    pub fn lone_number(&self, line: &Line) -> Option<u32>
+    pub fn number_after_keyword(&self, line: &Line) -> Option<u32>
         requires { IsLine self.now line.now }
-        ensures number { result ≡ lone_number (words_of (line_bytes self.now line.now)) }
+        ensures number { result ≡ number_after_keyword (words_of (line_bytes self.now line.now)) }
         ensures small { IfSome result (λ n. n < 10 ^ 9) }
     {
-        lone_number_in(self.line(line))
+        number_after_keyword_in(self.line(line))
     }
 
     /// Returns the name of a line of two words, a keyword and a name, or `None` for any other line.
-    pub fn lone_name(&self, line: &Line) -> Option<Name>
+    pub fn name_after_keyword(&self, line: &Line) -> Option<Name>
         requires { IsLine self.now line.now }
-        ensures { result ≡ lone_name (words_of (line_bytes self.now line.now)) }
+        ensures { result ≡ name_after_keyword (words_of (line_bytes self.now line.now)) }
     {
-        lone_name_in(self.line(line))
+        name_after_keyword_in(self.line(line))
     }
 
     /// Returns the names on both sides of an arrow: `before` from index `from` on, and `after` to the line's end.
@@ -373,7 +373,7 @@ impl Feed {
         ensures ok { self.old.stop ≡ None →
             OnOk result ((ahead self.old ≡ []) × (bytes_after_last_line_feed self.old.text ≡ [])
             × (self.new ≡ self.old)) }
-        ensures more { self.old.stop ≡ None →
+        ensures more_is_left { self.old.stop ≡ None →
             OnErr result (ahead self.old ≡ [] → bytes_after_last_line_feed self.old.text ≢ []) }
         ensures fault { self.old.stop ≡ None →
             IfErr result (λ fault. (fault ≡ refusal (self.old.taken + 1) TextCut)

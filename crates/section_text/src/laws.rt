@@ -1,11 +1,11 @@
 //! Laws of the definitions.
-ghost use Rattle.section_text.specs.Laws.{OneSpelling, NumbersAreShort, EachNumberHasASpelling, NoByteIsLost, IsReadFromItsOwnLines};
+ghost use Rattle.section_text.specs.Laws.{NumbersHaveOneSpelling, NumbersAreShort, EachNumberHasASpelling, NoByteIsLost, IsReadFromItsOwnLines};
 
 use crate::reader::Section;
 
 /// States that each number has one spelling: without a leading zero, and with at most nine digits.
 pub fn one_spelling_of_a_number()
-    ensures one { OneSpelling }
+    ensures one_spelling { NumbersHaveOneSpelling }
     ensures short { NumbersAreShort }
     ensures each { EachNumberHasASpelling }
 {}
@@ -16,7 +16,7 @@ pub fn lines_lose_no_byte()
 {}
 
 /// States that reading a section depends on its own lines alone, and not on their place in the stream.
-pub fn reading_is_local<S: Section>(section: &S)
+pub fn reading_depends_on_own_lines<S: Section>(section: &S)
     ensures { IsReadFromItsOwnLines (S.grammar section.now) }
 {
     let _section = section;

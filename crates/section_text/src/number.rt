@@ -13,7 +13,7 @@ fn read_digits(word: &[u8]) -> Option<u32>
     requires at_most_9 { length word.now ≤ 9 }
     ensures number { IfSome result (λ n. (list_all is_digit word.now ≡ true)
         × (n ≡ append_digits 0 word.now)) }
-    ensures other { IfNone result (list_all is_digit word.now ≡ false) }
+    ensures none_means_no_digits { IfNone result (list_all is_digit word.now ≡ false) }
 {
     let mut number = 0u32;
     for b in word {
@@ -29,7 +29,7 @@ fn read_digits(word: &[u8]) -> Option<u32>
 fn has_number_length_and_start(word: &[u8]) -> bool
     ensures number { is_number word.now ≡ true → result ≡ true }
     ensures at_most_9 { result ≡ true → length word.now ≤ 9 }
-    ensures other { result ≡ true → list_all is_digit word.now ≡ is_number word.now }
+    ensures is_number_if_digits { result ≡ true → list_all is_digit word.now ≡ is_number word.now }
 {
     match word {
         [] => false,
@@ -80,7 +80,7 @@ fn take_digits(first: u8, line: &[u8]) -> Option<(u32, &[u8])>
 }
 
 // The number `0` of a line that goes on so behind this digit, and what stands behind its space.
-fn take_zero(line: &[u8]) -> Option<(u32, &[u8])>
+fn zero_if_space_follows(line: &[u8]) -> Option<(u32, &[u8])>
     ensures number { option_map (λ r. (r.0, words_of r.1.now)) result
         ≡ leading_number (words_of (48 ∷ line.now)) }
     ensures small { IfSome result (λ r. r.0 < 10 ^ 9) }
@@ -99,7 +99,7 @@ fn take_number_from_digit(first: u8, line: &[u8]) -> Option<(u32, &[u8])>
     ensures small { IfSome result (λ r. r.0 < 10 ^ 9) }
 {
     if first == b'0' {
-        return take_zero(line);
+        return zero_if_space_follows(line);
     }
     if first.is_ascii_digit() {
         take_digits(first, line)

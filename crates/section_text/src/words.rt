@@ -2,7 +2,7 @@
 ghost use Rattle.std.specs.Prelude.{drop, ◌≡◌, ◌==◌, ◌+◌, ◌-◌, ◌^◌, ◌<◌, ◌≤◌, true, false, [], ◌∷◌, length, Option, Some, None, IfSome, slice_get};
 ghost use Rattle.std.specs.Option.{option_copied, option_map};
 ghost use Rattle.std.specs.List.{position};
-ghost use Rattle.section_text.specs.Words.{is_space, words_of, names_at, names_beside_arrow, lone_name, lone_number, three, four, five, words_of_rest};
+ghost use Rattle.section_text.specs.Words.{is_space, words_of, names_at, names_beside_arrow, name_after_keyword, number_after_keyword, words_of_three, words_of_four, words_of_five, words_of_rest};
 ghost use Rattle.section_text.specs.Listed.{list_of_three_words, list_of_four_words, list_of_five_words};
 
 use crate::name::Name;
@@ -38,7 +38,7 @@ pub struct FiveWords<'a> {
 }
 
 // A word has rarely more bytes, and a vector costs more than a look at so few.
-const MOST_SHORT_BYTES: usize = 8;
+const MAX_SHORT_BYTES: usize = 8;
 
 fn first_space_byte_by_byte(line: &[u8]) -> Option<usize>
     ensures { result ≡ position is_space line.now }
@@ -59,21 +59,21 @@ fn first_space_by_vectors(line: &[u8]) -> Option<usize>
 fn first_space(line: &[u8]) -> Option<usize>
     ensures { result ≡ position is_space line.now }
 {
-    if line.len() <= MOST_SHORT_BYTES {
+    if line.len() <= MAX_SHORT_BYTES {
         return first_space_byte_by_byte(line);
     }
-    let near = first_space_byte_by_byte(&line[..MOST_SHORT_BYTES]);
+    let near = first_space_byte_by_byte(&line[..MAX_SHORT_BYTES]);
     if near.is_some() {
         return near;
     }
-    let at = first_space_by_vectors(&line[MOST_SHORT_BYTES..])?;
-    Some(MOST_SHORT_BYTES + at)
+    let at = first_space_by_vectors(&line[MAX_SHORT_BYTES..])?;
+    Some(MAX_SHORT_BYTES + at)
 }
 
 // The first word of a line that has more, and what stands behind its space.
 fn split_word(line: &[u8]) -> Option<(&[u8], &[u8])>
-    ensures some { IfSome result (λ r. words_of line.now ≡ r.0.now ∷ words_of r.1.now) }
-    ensures none { result ≡ None → words_of line.now ≡ line.now ∷ [] }
+    ensures splits_at_space { IfSome result (λ r. words_of line.now ≡ r.0.now ∷ words_of r.1.now) }
+    ensures one_word { result ≡ None → words_of line.now ≡ line.now ∷ [] }
 {
     let space = first_space(line)?;
     Some((&line[..space], &line[space + 1..]))
@@ -114,8 +114,8 @@ pub(crate) fn is_one_word(line: &[u8]) -> bool
 
 // The name of a line of two words. A name has no space, so what stands behind the first word is not split.
 #[tactic(auto, using(crate::proofs::Splitting::lone_name_is, crate::proofs::Splitting::one_word_is_no_name))]
-pub(crate) fn lone_name_in(line: &[u8]) -> Option<Name>
-    ensures { result ≡ lone_name (words_of line.now) }
+pub(crate) fn name_after_keyword_in(line: &[u8]) -> Option<Name>
+    ensures { result ≡ name_after_keyword (words_of line.now) }
 {
     let (_, rest) = split_word(line)?;
     Name::of(rest)
@@ -123,8 +123,8 @@ pub(crate) fn lone_name_in(line: &[u8]) -> Option<Name>
 
 // The number of a line of two words. A number has no space, so what stands behind the first word is not split.
 #[tactic(auto, using(crate::proofs::Splitting::lone_number_is, crate::proofs::Splitting::one_word_is_no_number))]
-pub(crate) fn lone_number_in(line: &[u8]) -> Option<u32>
-    ensures number { result ≡ lone_number (words_of line.now) }
+pub(crate) fn number_after_keyword_in(line: &[u8]) -> Option<u32>
+    ensures number { result ≡ number_after_keyword (words_of line.now) }
     ensures small { IfSome result (λ n. n < 10 ^ 9) }
 {
     let (_, rest) = split_word(line)?;
@@ -133,7 +133,7 @@ pub(crate) fn lone_number_in(line: &[u8]) -> Option<u32>
 
 // The words of a line of three.
 pub(crate) fn split_three_words(line: &[u8]) -> Option<ThreeWords<'_>>
-    ensures { option_map list_of_three_words result ≡ three (words_of line.now) }
+    ensures { option_map list_of_three_words result ≡ words_of_three (words_of line.now) }
 {
     let Some((first, rest)) = split_word(line) else {
         return None;
@@ -153,7 +153,7 @@ pub(crate) fn split_three_words(line: &[u8]) -> Option<ThreeWords<'_>>
 
 // The words of a line of four.
 pub(crate) fn split_four_words(line: &[u8]) -> Option<FourWords<'_>>
-    ensures { option_map list_of_four_words result ≡ four (words_of line.now) }
+    ensures { option_map list_of_four_words result ≡ words_of_four (words_of line.now) }
 {
     let Some((first, rest)) = split_word(line) else {
         return None;
@@ -177,7 +177,7 @@ pub(crate) fn split_four_words(line: &[u8]) -> Option<FourWords<'_>>
 
 // The words of a line of five: the first one, and those of a line of four.
 pub(crate) fn split_five_words(line: &[u8]) -> Option<FiveWords<'_>>
-    ensures { option_map list_of_five_words result ≡ five (words_of line.now) }
+    ensures { option_map list_of_five_words result ≡ words_of_five (words_of line.now) }
 {
     let Some((first, rest)) = split_word(line) else {
         return None;

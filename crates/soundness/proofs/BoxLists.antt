@@ -1,12 +1,9 @@
 -- Lists with one element for each cell of a box are the same where they say the same of each cell
-use Rattle.lemmas.proofs.Common.{◌*◌, ◌+◌, ◌-◌, ◌/◌, ◌<◌, ◌∙◌, ◌≡◌, ◌≤◌, List, ap₂, arith, length, pos, refl, slice_get}
-use Rattle.lemmas.proofs.Common.{subst, suc, sym, true, unwrap_or, zero, ℕ, ℤ, div-mul-le_self, get_or_default}
-use Rattle.lemmas.proofs.Common.{lt-div-mul-add, lt_of_mul-lt-mul_right, same_lists, unwrap_or-slice_get}
+use Rattle.soundness.proofs.Imports.{Box2, List, ap₂, arith, in_box, in_span, length, place_in, pos, refl, slice_get}
+use Rattle.soundness.proofs.Imports.{subst, suc, sym, true, unwrap_or, zero, ℕ, ℤ, ◌*◌, ◌+◌, ◌/◌, ◌<◌, ◌∙◌, ◌≡◌, ◌≤◌}
+use Rattle.lemmas.proofs.Common.{◌-◌, div-mul-le_self, get_or_default, lt-div-mul-add, lt_of_mul-lt-mul_right}
+use Rattle.lemmas.proofs.Common.{same_lists, unwrap_or-slice_get}
 use Rattle.bbm_rule.proofs.Spans.{span_from}
-use Rattle.bbm_rule.specs.Spans.{in_span}
-use Rattle.module_box.specs.Boxes.{in_box}
-use Rattle.module_box.specs.Places.{place_in}
-use Rattle.module_box.specs.declared.boxes.Box2.{Box2}
 
 -- the cell of a box at a place
 record HasCell (b : Box2) (k : ℕ) : Type 0 where

@@ -1,30 +1,20 @@
 -- The earliest line of a report is the first fault
-use Rattle.lemmas.proofs.Common.{[], ◌++◌, ◌+◌, ◌<◌, ◌∙◌, ◌∷◌, ◌≡◌, ◌≢◌, ◌≤◌, Contains, List, None, Option, Some, ap}
-use Rattle.lemmas.proofs.Common.{arith, inl, inr, length, map, option_map, option_to_list, refl, slice_get, subst, suc}
-use Rattle.lemmas.proofs.Common.{sym, zero, ℕ, Contains-append_cases, Contains-append_left, Contains-append_right}
-use Rattle.lemmas.proofs.Common.{ordering_then, same_Some, slice_get_within, nothing_in, one_in, some_at, common_steps}
-use Rattle.std.specs.declared.cmp.Ordering.TheVariants.{Greater}
+use Rattle.soundness.proofs.Imports.{AreLeastFaultsOfJob, AreReportLines, BorderFault, Contains, Contains-append_left}
+use Rattle.soundness.proofs.Imports.{Fault, Greater, IsAssignmentOf, IsBorderFault, IsFault, IsLeastBorderFault}
+use Rattle.soundness.proofs.Imports.{IsLeastFault, IsVerdict, JobView, LeastFaults, List, ModuleLines, None, Option}
+use Rattle.soundness.proofs.Imports.{ReportLine, Setting, Some, TimeLine, Unkept, [], ap, arith, border_cmp}
+use Rattle.soundness.proofs.Imports.{border_line, common_steps, delay_and_meet_lines, fault_cmp, inl, inr, keep_line}
+use Rattle.soundness.proofs.Imports.{length, local_line, map, option_map, option_to_list, ordering_then, refl}
+use Rattle.soundness.proofs.Imports.{report_lines_from, same_Some, setting_of, slice_get, slice_get_within, some_at}
+use Rattle.soundness.proofs.Imports.{subst, suc, sym, timing_report_line, unkept, unkept_lines, zero, ℕ, ◌++◌, ◌+◌, ◌<◌}
+use Rattle.soundness.proofs.Imports.{◌∙◌, ◌∷◌, ◌≡◌, ◌≢◌, ◌≤◌}
+use Rattle.lemmas.proofs.Common.{Contains-append_cases, Contains-append_right, nothing_in, one_in}
 use Rattle.module_box.specs.Moments.{cell_cmp}
-use Rattle.certificate_lines.specs.Entries.{ModuleLines, Setting}
-use Rattle.certificate_lines.specs.Settings.{setting_of}
-use Rattle.certificate.specs.declared.times.TimeLine.{TimeLine}
-use Rattle.certificate.specs.declared.times.TimeLine.TheVariants as times
-use Rattle.certificate.specs.Times.{delay_and_meet_lines}
-use Rattle.certificate.specs.Keeps.{unkept}
-use Rattle.module_job.specs.Jobs.{JobView}
-use Rattle.local_run.specs.Faults.{IsFault, IsLeastFault}
-use Rattle.local_run.specs.Order.{fault_cmp}
-use Rattle.local_run.specs.declared.fault.Fault.{Fault}
-use Rattle.border_match.specs.BorderFaults.{IsBorderFault, IsLeastBorderFault, border_cmp}
-use Rattle.border_match.specs.declared.fault.BorderFault.{BorderFault}
-use Rattle.soundness.specs.FirstFaults.{EarliestLineIsFirstFault, EarliestLineIsReal, IsAssignmentOf}
+use Rattle.soundness.specs.FirstFaults.{EarliestLineIsFirstFault, EarliestLineIsReal}
+use Rattle.core_book.specs.declared.verdict.ReportLine.TheVariants.{Local, Keep, Border, Delay, Meet}
 use Rattle.soundness.proofs.FirstFaults.{assigned, first_means}
-use Rattle.core_book.specs.Verdicts.{AreReportLines, IsToldOf, IsVerdict, border_line, keep_line, report_lines_from}
-use Rattle.core_book.specs.Verdicts.{local_line, timing_report, unkept_lines}
-use Rattle.core_book.specs.declared.verdict.LeastFaults.{LeastFaults}
-use Rattle.core_book.specs.declared.verdict.ReportLine.{ReportLine}
-use Rattle.core_book.specs.declared.verdict.ReportLine.TheVariants.{Local, Keep, Border, Unkept, Delay, Meet}
 use Rattle.soundness.proofs.PlainCertificates.{greater, nat_greater}
+use Rattle.certificate.specs.declared.times.TimeLine.TheVariants as times
 
 -- ---- which line a list has
 
@@ -142,7 +132,7 @@ lists_border number (suc k) (g ∷ fs) (b ∷ bs) f at lt =
     (subst (λ n. Contains (report_lines_from (number + 1) fs bs) (Border n f)) (omega arith)
     (lists_border (number + 1) k fs bs f at (omega (arith, lt))))
 
-not_timing : (i : ℕ) (f : Fault) (l : TimeLine) → ¬ (timing_report l ≡ Local i f)
+not_timing : (i : ℕ) (f : Fault) (l : TimeLine) → ¬ (timing_report_line l ≡ Local i f)
 not_timing i f (times.Delay k n gap) e = cc
 not_timing i f (times.Meet k at) e = cc
 
@@ -180,14 +170,14 @@ module _ (g : Setting) (ms : List ModuleLines) (jobs : List JobView) (report : L
   local_is : (i : ℕ) (f : Fault) → Contains report (Local i f) → IsFrom 0 i f are.faults
   local_is i f h =
       elim (Contains-append_cases (report_lines_from 0 are.faults are.borders ++ unkept_lines g ms)
-      (map timing_report (delay_and_meet_lines g.circuit ms)) (Local i f)
+      (map timing_report_line (delay_and_meet_lines g.circuit ms)) (Local i f)
       (subst (λ ls. Contains ls (Local i f)) are.lines_are h)) [
         | inl front ↦ elim (Contains-append_cases (report_lines_from 0 are.faults are.borders) (unkept_lines g ms)
             (Local i f) front) [
               | inl own ↦ from_line 0 i f are.faults are.borders own
               | inr other ↦ absurd (not_mapped (λ n. Unkept n) (unkept g ms) (Local i f) (λ x e. cc) other)
             ]
-        | inr other ↦ absurd (not_mapped timing_report (delay_and_meet_lines g.circuit ms) (Local i f)
+        | inr other ↦ absurd (not_mapped timing_report_line (delay_and_meet_lines g.circuit ms) (Local i f)
             (not_timing i f) other)
       ]
 
@@ -195,7 +185,7 @@ module _ (g : Setting) (ms : List ModuleLines) (jobs : List JobView) (report : L
   its_fault i f j h at =
       let r = local_is i f h in
       let n = r.numbered in
-      let told : IsToldOf j r.reasons = are.are_least.each i j r.reasons at
+      let told : AreLeastFaultsOfJob j r.reasons = are.are_least.each i j r.reasons at
       (ap (slice_get are.faults) (omega (arith, n)) ∙ r.listed) in
       (subst (IsLeastFault j) r.fault told.fault).0
 
@@ -243,7 +233,7 @@ earliest_is_first lines p ms jobs report inputs v i m j f b judged first atm atj
         of_jobs = λ n k e at kind time own fault.
             let r = some_at are.faults n (let inside = slice_get_within jobs n k at in let same = are.are_least.count in
             omega (arith, inside, same)) in
-            let told : IsToldOf k r.0 = are.are_least.each n k r.0 at r.1 in
+            let told : AreLeastFaultsOfJob k r.0 = are.are_least.each n k r.0 at r.1 in
             let le = by_least g ms jobs report.items are count n k r.0 r.0.fault e r.1 refl told.fault fault f.time
             first.of_jobs in
             omega (arith, le, lt, time);

@@ -1,40 +1,28 @@
 -- A ball that goes two steps along a diagonal, in a rectangle that is one module, is accepted by computation.
-use Rattle.lemmas.proofs.Common.{[], ◌∷◌, List, arith, map, refl, ℕ}
-use Rattle.bbm_rule.specs.Bits.{bit}
-use Rattle.bbm_rule.specs.Plane.{step, partner, turned}
-use Rattle.bbm_rule.specs.Spans.{in_span}
+use Rattle.soundness.proofs.Imports.{AreJobsOf, AreModules, AreOrdered, BelongTogether, CircuitLine, Input, JobView}
+use Rattle.soundness.proofs.Imports.{List, ModuleLines, Output, Pattern, Port, [], all_times_at, arith, bit, cell_fault}
+use Rattle.soundness.proofs.Imports.{cells_of, cells_taken_at_end, circuit_of, end_demand, evaluate, event_at, in_box}
+use Rattle.soundness.proofs.Imports.{in_halo, in_ring, in_span, is_inside, is_taken, job_demand, job_start, local_run}
+use Rattle.soundness.proofs.Imports.{map, netlist_of, number, place_of, port_at, rectangle_cells, refl, setting_of}
+use Rattle.soundness.proofs.Imports.{signal_at, size_fault, some_neighbour, start_signal, step, takes_at_end}
+use Rattle.soundness.proofs.Imports.{takes_at_start, whole, with_halo, ℕ, ◌∷◌}
+use Rattle.bbm_rule.specs.Plane.{partner, turned}
 use Rattle.section_text.proofs.Good.{IsFaultless}
-use Rattle.circuit.specs.Bridge.{circuit_of, netlist_of}
-use Rattle.circuit.specs.Evaluate.{evaluate}
-use Rattle.circuit.specs.Meaning.{AreOrdered, place_of, number}
-use Rattle.circuit.specs.declared.circuit_line.CircuitLine.{CircuitLine}
-use Rattle.circuit.specs.declared.circuit_line.Kind.TheVariants.{Input, Output}
-use Rattle.pattern.specs.Layout.{Pattern, cell, rectangle_cells}
-use Rattle.pattern.specs.Lines.{size_fault, limit_fault, cell_fault, is_inside, is_taken, begins, ends, cells_of}
-use Rattle.pattern.specs.Lines.{cells_taken_at_start, ended}
-use Rattle.pattern.specs.declared.layout_line.Port.{Port}
-use Rattle.module_box.specs.Boxes.{in_box, some_neighbour, in_ring, in_halo}
-use Rattle.module_box.specs.Schedules.{all_times_at, event_at, signal_at}
-use Rattle.certificate_lines.specs.Entries as entries
-use Rattle.certificate_lines.specs.Entries.{ModuleLines}
-use Rattle.certificate_lines.specs.Modules.{AreModules}
-use Rattle.certificate_lines.specs.Orders as orders
-use Rattle.certificate_lines.specs.PortTables.{port_at}
-use Rattle.certificate_lines.specs.Rules as rules
-use Rattle.certificate_lines.specs.Rules.{whole}
-use Rattle.certificate_lines.specs.Settings.{setting_of}
+use Rattle.pattern.specs.Layout.{cell}
+use Rattle.pattern.specs.Lines.{limit_fault, cells_taken_at_start}
 use Rattle.certificate_lines.specs.declared.certificate_line.CertificateLine.{CertificateLine}
 use Rattle.certificate_lines.specs.declared.certificate_line.CertificateLine.TheVariants.{Module, Cut}
-use Rattle.module_job.specs.Jobs.{JobView, job_start, job_demand}
 use Rattle.certificate.specs.Grammars.{certificate_grammar}
-use Rattle.certificate.specs.Jobs.{AreJobsOf, start_signal, end_demand}
-use Rattle.certificate.specs.Times as times
 use Rattle.certificate.proofs.Soundness.{faultless_modules}
-use Rattle.local_run.specs.Runs.{with_halo, local_step, local_run}
-use Rattle.soundness.specs.HeadlineLaws.{Example, BelongTogether}
+use Rattle.local_run.specs.Runs.{local_step}
+use Rattle.soundness.specs.HeadlineLaws.{SomeAcceptedBundle}
 use Rattle.soundness.proofs.NumberedSignals.{numbered, numbered_signals, place_among}
 use Rattle.soundness.proofs.SomeJobs.{are_jobs_of, demanded, job_of, placed_gates, placed_stop, places}
 use Rattle.soundness.proofs.Trials.{PassTests, accepts}
+use Rattle.certificate_lines.specs.Entries as entries
+use Rattle.certificate_lines.specs.Orders as orders
+use Rattle.certificate_lines.specs.Rules as rules
+use Rattle.certificate.specs.Times as times
 
 abbrev name_p : List ℕ
 name_p = 112 ∷ []
@@ -83,7 +71,8 @@ are_jobs : AreJobsOf (circuit_of lines) layout modules jobs
 are_jobs = are_jobs_of lines layout modules is_ordered (λ k m at. (are_modules.each k m at, are_modules.ports k m at))
 
 is_bundle : BelongTogether lines layout modules jobs
-unfolding size_fault limit_fault cell_fault is_inside is_taken begins ends cells_of cells_taken_at_start ended in_span
+unfolding size_fault limit_fault cell_fault is_inside is_taken takes_at_start takes_at_end cells_of cells_taken_at_start
+    cells_taken_at_end in_span
 is_bundle = record {
   ordered = is_ordered;
   limits = refl;
@@ -96,10 +85,10 @@ pass : PassTests (setting_of lines layout) modules jobs
 unfolding place_of number rectangle_cells in_box in_ring in_halo some_neighbour in_span entries.change_last
     entries.add_line entries.modules_of start_signal end_demand port_at places placed_gates place_among numbered
     numbered_signals demanded placed_stop bit evaluate job_start job_demand local_run local_step with_halo step partner
-    turned signal_at all_times_at event_at times.numbered
+    turned signal_at all_times_at event_at times.lines_by_number
 pass = record { jobs = refl; kept = refl; borders = refl; on_time = refl }
 
-pub example : Example
+pub example : SomeAcceptedBundle
 example = record {
   lines = lines;
   layout = layout;

@@ -1,52 +1,30 @@
 -- The first fault is one of the whole plane
-use Rattle.lemmas.proofs.Common.{[], ◌++◌, ◌<◌, ◌∙◌, ◌∷◌, ◌≡◌, ◌≤◌, All, Bool, Contains, List, None, Option, Some, ap}
-use Rattle.lemmas.proofs.Common.{ap₂, arith, false, flat_map, inl, inr, length, option_to_list}
-use Rattle.lemmas.proofs.Common.{refl, slice_get, slice_index, subst, suc, sym, true, zero, ℕ, ℤ, All-cons}
-use Rattle.lemmas.proofs.Common.{All-contains, All-nil, and_parts, cases_Bool, common_steps}
-use Rattle.lemmas.proofs.Common.{get_or_from_slice_get, option_map_or, same_Some, slice_get_within, ∥∥₁_elim}
-use Rattle.lemmas.proofs.Common.{all_unmapped, nothing_prop, some_at}
-use Rattle.bbm_rule.specs.Bits.{bit}
-use Rattle.bbm_rule.specs.Plane.{State, is_at}
-use Rattle.bbm_rule.specs.declared.block.Cell.{Cell}
-use Rattle.bbm_rule.proofs.SameCells.{cell_same}
-use Rattle.circuit.specs.Bridge.{circuit_of, netlist_of}
-use Rattle.circuit.specs.Meaning.{Circuit, Satisfies, Valuation, values_by_name, wire_of}
-use Rattle.circuit.specs.declared.circuit_line.CircuitLine.{CircuitLine}
-use Rattle.pattern.specs.Layout.{Pattern, in_cells, in_rectangles}
-use Rattle.pattern.specs.declared.layout_line.Port.{Port}
-use Rattle.module_box.specs.Boxes.{in_box, in_ring}
-use Rattle.module_box.specs.Locals.{LocalNet, circuit_wire}
-use Rattle.module_box.specs.LocalValues.{values_by_local_number}
-use Rattle.module_box.specs.declared.boxes.Box2.{Box2}
-use Rattle.module_box.proofs.SeenValues.{local_values_agree}
-use Rattle.certificate_lines.specs.Entries.{ModuleLines, cut_wires, cuts, known, stops}
-use Rattle.certificate_lines.specs.Modules.{IsModule, IsStop}
-use Rattle.certificate_lines.specs.PortTables.{port_at}
-use Rattle.certificate_lines.specs.Settings.{setting_of}
-use Rattle.certificate_lines.specs.declared.certificate_line.StopLine.{StopLine}
-use Rattle.certificate_lines.proofs.LayoutPorts.{port_stands, none_stands}
-use Rattle.certificate_lines.proofs.Lists.{kept, passed}
-use Rattle.module_job.specs.Jobs.{JobView, job_demand}
-use Rattle.module_job.specs.Signals.{MeetsDemand, renumber_demand, renumber_stop}
-use Rattle.module_job.specs.declared.job.Demand.{Demand}
-use Rattle.module_job.specs.declared.job.Demand.TheVariants as Demanded
-use Rattle.module_job.specs.declared.job.Stop as listed
-use Rattle.certificate.specs.Jobs.{IsJobOf, demand_outside_mirrors, wire_or_dead, end_demand, stops_of_lines}
-use Rattle.certificate.specs.Jobs.{stop_with_wire_number}
-use Rattle.local_run.specs.Faults.{HasFault, IsFaultUnder}
-use Rattle.local_run.specs.Runs.{local_run}
-use Rattle.local_run.specs.declared.fault.Fault.{Fault}
-use Rattle.local_run.specs.declared.fault.Kind.{Kind}
-use Rattle.local_run.specs.declared.fault.Kind.TheVariants.{Edge, End, Stop as AtStop}
+use Rattle.soundness.proofs.Imports.{All, All-cons, All-contains, All-nil, BelongTogether, Bool, Box2, Cell, Circuit}
+use Rattle.soundness.proofs.Imports.{CircuitLine, Contains, Demand, Fault, GivesModuleAssignment, HasGoodBorders}
+use Rattle.soundness.proofs.Imports.{HasInputNames, IsAsCertified, IsAssignmentOf, IsCorrect, IsFaultUnder}
+use Rattle.soundness.proofs.Imports.{IsFirstFault, IsJobOf, IsModule, IsRunOfJobs, IsStop, JobView, Kind, List}
+use Rattle.soundness.proofs.Imports.{LocalNet, LooksAsAsked, MeetsDemand, ModuleLines, None, Option, Pattern, Port}
+use Rattle.soundness.proofs.Imports.{Satisfies, Some, State, StopLine, Valuation, [], and_parts, ap, ap₂, arith, bit}
+use Rattle.soundness.proofs.Imports.{cases_Bool, cell_same, circuit_of, circuit_wire, common_steps, cut_wires, cuts}
+use Rattle.soundness.proofs.Imports.{demand_outside_mirrors, end_demand, false, flat_map, get_or_from_slice_get, in_box}
+use Rattle.soundness.proofs.Imports.{in_cells, in_ports, in_rectangles, in_ring, inl, inr, is_at, job_demand, kept}
+use Rattle.soundness.proofs.Imports.{known, length, local_run, local_values_agree, netlist_of, none_stands}
+use Rattle.soundness.proofs.Imports.{nothing_prop, option_map_or, option_to_list, passed, port_at, port_stands, refl}
+use Rattle.soundness.proofs.Imports.{renumber_demand, renumber_stop, run_under, same_Some, setting_of, slice_get}
+use Rattle.soundness.proofs.Imports.{slice_get_within, slice_index, some_at, stop_with_wire_number, stops}
+use Rattle.soundness.proofs.Imports.{stops_of_lines, subst, suc, sym, true, values_by_local_number, values_by_name}
+use Rattle.soundness.proofs.Imports.{wire_of, wire_or_dead, zero, ℕ, ℤ, ∥∥₁_elim, ◌++◌, ◌<◌, ◌∙◌, ◌∷◌, ◌≡◌, ◌≤◌}
+use Rattle.lemmas.proofs.Common.{all_unmapped}
+use Rattle.local_run.specs.Faults.{HasFault}
 use Rattle.local_run.proofs.Decided.{fault_same}
-use Rattle.soundness.specs.HeadlineLaws.{BelongTogether, HasInputNames, IsRunOfJobs}
-use Rattle.meaning.specs.Implements.{IsCorrect, LooksAsAsked, in_ports, run_under}
-use Rattle.soundness.specs.FirstFaults.{EndFaultMeansIncorrect, FirstFaultIsReal, GivesModuleAssignment, HasGoodBorders}
-use Rattle.soundness.specs.FirstFaults.{IsAsCertified, IsAssignmentOf, IsFirstFault, IsReal}
+use Rattle.soundness.specs.FirstFaults.{EndFaultMeansIncorrect, FirstFaultIsReal, IsReal}
 use Rattle.soundness.proofs.InputRuns.{at_place, inputs_decide}
 use Rattle.soundness.proofs.JobSignals.{Known, edge_by_circuit}
 use Rattle.soundness.proofs.StopParts.{all_flat}
 use Rattle.soundness.proofs.WholeRuns.{starts, steps_with_good_borders}
+use Rattle.module_job.specs.declared.job.Demand.TheVariants as Demanded
+use Rattle.module_job.specs.declared.job.Stop as listed
+use Rattle.local_run.specs.declared.fault.Kind.TheVariants.{Edge, End, Stop as AtStop}
 
 -- up to a time before which the borders are good, the plane is the jobs' runs
 pub runs_up_to : (lines : List CircuitLine) (p : Pattern) (ms : List ModuleLines) (jobs : List JobView)

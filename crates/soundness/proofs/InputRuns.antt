@@ -1,25 +1,15 @@
 -- The run by the values of the inputs
-use Rattle.lemmas.proofs.Common.{[], ◌&&◌, ◌++◌, ◌+◌, ◌<◌, ◌||◌, ◌∙◌, ◌∷◌, ◌≡◌, All, Bool, List, None, Option, Some, ap}
-use Rattle.lemmas.proofs.Common.{ap₂, arith, cond, false, inl, inr, length, map, not, option_map, refl, slice_get}
-use Rattle.lemmas.proofs.Common.{subst, suc, sym, take, true, zero, ℕ, ℤ, bytes_eq, cases_Bool, false≢true}
-use Rattle.lemmas.proofs.Common.{get_or_from_slice_get, option_map_or, slice_get-map, slice_get_within, common_steps}
-use Rattle.circuit.specs.Entries.{defined}
-use Rattle.bbm_rule.specs.Plane.{run, is_at}
+use Rattle.soundness.proofs.Imports.{All, Ball, Bool, In, IsInputName, LayoutLine, List, Mirror, None, Option, Out}
+use Rattle.soundness.proofs.Imports.{Pattern, Port, PortNameLists, Some, UnknownName, Valuation, Waste, [], ap, ap₂}
+use Rattle.soundness.proofs.Imports.{arith, bytes_eq, cases_Bool, circuit_of, code_if, common_steps, cond, defined}
+use Rattle.soundness.proofs.Imports.{false, false≢true, get_or_from_slice_get, has, in_cells, in_ports_on}
+use Rattle.soundness.proofs.Imports.{in_rectangles, inl, input_names, inr, is_at, kept, length, map, name_fault}
+use Rattle.soundness.proofs.Imports.{netlist_of, not, number, option_map, option_map_or, output_names, parts_of}
+use Rattle.soundness.proofs.Imports.{place_of, refl, run, skipped, slice_get, slice_get-map, slice_get_within, start}
+use Rattle.soundness.proofs.Imports.{subst, suc, sym, take, true, wire_of, zero, ℕ, ℤ, ◌&&◌, ◌++◌, ◌+◌, ◌<◌, ◌||◌, ◌∙◌}
+use Rattle.soundness.proofs.Imports.{◌∷◌, ◌≡◌}
 use Rattle.bbm_rule.proofs.Steps.{step_same}
-use Rattle.section_text.specs.Codes.{code_if}
-use Rattle.section_text.specs.Ports.{Named}
-use Rattle.section_text.specs.Words.{has}
-use Rattle.circuit.specs.Bridge.{circuit_of, input_names, netlist_of, output_names}
-use Rattle.circuit.specs.Meaning.{Valuation, number, place_of, wire_of}
-use Rattle.pattern.specs.Layout.{Pattern, in_cells, in_ports_on, in_rectangles, start, parts_of}
-use Rattle.pattern.specs.Lines.{name_fault}
-use Rattle.pattern.specs.declared.layout_line.LayoutLine.{LayoutLine}
-use Rattle.pattern.specs.declared.layout_line.LayoutLine.TheVariants.{Mirror, Ball, In, Out, Waste}
-use Rattle.pattern.specs.declared.layout_line.Port.{Port}
-use Rattle.certificate_lines.proofs.BoxPlaces.{skipped}
-use Rattle.certificate_lines.proofs.Lists.{kept}
-use Rattle.soundness.specs.HeadlineLaws.{InputsDecideTheRun, IsInputName, ReadLayoutHasInputNames}
-use Rattle.section_text.specs.declared.code.RefusalCode.TheVariants.{UnknownName}
+use Rattle.soundness.specs.HeadlineLaws.{InputsDecideTheRun, ReadLayoutHasInputNames}
 
 -- ---- input cells have the names of inputs
 
@@ -82,7 +72,7 @@ at_place P xs k a all e = subst P (get_or_from_slice_get xs k a a e) (all k a (s
 
 pub read_layout-names : ReadLayoutHasInputNames
 read_layout-names lines p first named i q e =
-    let names : Named = record { ins = input_names lines; outs = output_names lines } in
+    let names : PortNameLists = record { ins = input_names lines; outs = output_names lines } in
     let known = in_known (input_names lines) (output_names lines) q
     (at_place (λ (part : LayoutLine). name_fault (Some names) part ≡ None) (parts_of p) _ (In q) named.good
     (in_stands p i q e)) in

@@ -1,37 +1,17 @@
 -- The jobs of modules: which one has a cell, and what their signals say by the wires of the circuit
-use Rattle.lemmas.proofs.Common.{[], ◌&&◌, ◌++◌, ◌==◌, ◌∙◌, ◌∷◌, ◌≡◌, All, Bool, List, None, Option, Some, ap, arith}
-use Rattle.lemmas.proofs.Common.{false, flat_map, refl, slice_get, subst, sym, true, true≢false, ℕ}
-use Rattle.lemmas.proofs.Common.{ℤ, All-head, All-tail, cases_Bool, cond-false, slice_get_within, and-false}
-use Rattle.lemmas.proofs.Common.{mapped_from, some_at, common_steps}
-use Rattle.bbm_rule.specs.Plane.{is_at}
-use Rattle.bbm_rule.specs.declared.block.Cell.{Cell}
-use Rattle.circuit.specs.Bridge.{circuit_of}
-use Rattle.circuit.specs.Meaning.{Circuit, Valuation}
-use Rattle.circuit.specs.declared.circuit_line.CircuitLine.{CircuitLine}
-use Rattle.pattern.specs.Layout.{Pattern}
-use Rattle.module_box.specs.Boxes.{in_box, in_ring, IsEven}
-use Rattle.module_box.specs.Locals.{LocalNet, circuit_wire}
-use Rattle.module_box.specs.LocalValues.{values_by_local_number}
-use Rattle.module_box.specs.Schedules.{all_times_at, event_at, signal_at}
-use Rattle.module_box.specs.declared.boxes.Box2.{Box2}
-use Rattle.module_box.specs.declared.schedules.TimedSignal.{TimedSignal}
-use Rattle.module_box.specs.declared.schedules.AllTimes.{AllTimes}
-use Rattle.module_box.specs.declared.schedules.Signal.{Signal}
-use Rattle.module_box.specs.declared.schedules.Signal.TheVariants.{Zero, One, Wire}
-use Rattle.certificate_lines.specs.Entries.{ModuleLines, edges, halos}
-use Rattle.certificate_lines.specs.Settings.{setting_of}
-use Rattle.module_job.specs.Jobs.{JobView}
-use Rattle.certificate.specs.Jobs.{IsJobOf, events_of_line, all_times_of_line, one_or_named_wire, line_signals}
-use Rattle.certificate_lines.specs.Modules.{IsModule}
-use Rattle.certificate_lines.specs.Rules.{whole}
-use Rattle.module_job.specs.Signals.{is_live, MeetsDemand, renumber_signal, renumber_demand}
-use Rattle.certificate_lines.specs.declared.certificate_line.BorderLine.{BorderLine}
-use Rattle.module_job.specs.declared.job.Demand.{Demand}
+use Rattle.soundness.proofs.Imports.{All, All-head, All-tail, AllTimesSignal, BelongTogether, Bool, BorderLine, Box2}
+use Rattle.soundness.proofs.Imports.{Cell, Circuit, CircuitLine, Demand, IsEven, IsJobOf, IsModule, JobView, List}
+use Rattle.soundness.proofs.Imports.{LocalNet, MeetsDemand, ModuleLines, None, One, Option, Pattern, Signal, Some}
+use Rattle.soundness.proofs.Imports.{TimedSignal, Valuation, Wire, Zero, [], all_times_at, all_times_of_line, ap, arith}
+use Rattle.soundness.proofs.Imports.{cases_Bool, cell_same, circuit_of, circuit_wire, common_steps, edge_signal, edges}
+use Rattle.soundness.proofs.Imports.{event_at, events_of_line, false, flat_map, halo_same, halo_signal, halos, in_box}
+use Rattle.soundness.proofs.Imports.{in_ring, is_at, is_live, line_signals, mapped_from, one_or_named_wire, refl}
+use Rattle.soundness.proofs.Imports.{renumber_demand, renumber_signal, setting_of, signal_at, slice_get}
+use Rattle.soundness.proofs.Imports.{slice_get_within, some_at, subst, sym, true, true≢false, values_by_local_number}
+use Rattle.soundness.proofs.Imports.{whole, ℕ, ℤ, ◌&&◌, ◌++◌, ◌==◌, ◌∙◌, ◌∷◌, ◌≡◌}
+use Rattle.lemmas.proofs.Common.{cond-false, and-false}
+use Rattle.border_match.proofs.Bridge.{edge_same}
 use Rattle.module_job.specs.declared.job.Demand.TheVariants as Demanded
-use Rattle.bbm_rule.proofs.SameCells.{cell_same}
-use Rattle.border_match.specs.BorderFaults.{halo_signal, edge_signal}
-use Rattle.border_match.proofs.Bridge.{halo_same, edge_same}
-use Rattle.soundness.specs.HeadlineLaws.{BelongTogether}
 
 -- ---- signals by the wires of the circuit
 
@@ -101,7 +81,7 @@ owner_of lines p ms jobs x y b h =
 
 -- ---- cells that no line names
 
-one_all_times : (e : BorderLine) (time : Option ℕ) (s : Signal) (rest : List AllTimes) (x y : ℤ) →
+one_all_times : (e : BorderLine) (time : Option ℕ) (s : Signal) (rest : List AllTimesSignal) (x y : ℤ) →
     is_at e.cell x y ≡ false →
     all_times_at rest x y ≡ None →
     all_times_at (all_times_of_line e time s ++ rest) x y ≡ None

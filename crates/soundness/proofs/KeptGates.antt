@@ -1,17 +1,11 @@
 -- No gate of what is accepted is undefined
-use Rattle.lemmas.proofs.Common.{[], ◌<◌, ◌∙◌, ◌∷◌, ◌≡◌, All, List, Some, ap, arith, eq-eqb, eqb, inl, inr, length, map}
-use Rattle.lemmas.proofs.Common.{refl, slice_get, suc, sym, true, true≢false, ℕ, All-head, All-tail, cases_Bool}
-use Rattle.lemmas.proofs.Common.{eqb-true, slice_get_within, some_at, common_steps}
-use Rattle.circuit.specs.Bridge.{circuit_of, netlist_of}
-use Rattle.circuit.proofs.Undefined.{has_valuation, only_inverse}
-use Rattle.module_box.specs.Locals.{circuit_gate, is_among}
-use Rattle.module_box.specs.LocalValues.{values_by_local_number}
-use Rattle.module_box.proofs.SeenValues.{choices_are_assignments, undefined_is_seen}
-use Rattle.certificate_lines.specs.Entries.{ModuleLines, keeps}
-use Rattle.module_job.specs.Jobs.{JobView}
-use Rattle.certificate.specs.Jobs.{IsJobOf}
-use Rattle.certificate.specs.Keeps.{is_kept}
-use Rattle.soundness.specs.HeadlineLaws.{BelongTogether, AcceptedHasNoUndefinedGate, AcceptedHasValuation}
+use Rattle.soundness.proofs.Imports.{All, All-head, All-tail, BelongTogether, IsJobOf, JobView, List, ModuleLines, Some}
+use Rattle.soundness.proofs.Imports.{[], ap, arith, cases_Bool, choices_are_assignments, circuit_gate, circuit_of}
+use Rattle.soundness.proofs.Imports.{common_steps, eq-eqb, eqb, eqb-true, has_valuation, inl, inr, is_among, is_kept}
+use Rattle.soundness.proofs.Imports.{keeps, length, map, netlist_of, only_inverse, refl, slice_get, slice_get_within}
+use Rattle.soundness.proofs.Imports.{some_at, suc, sym, true, true≢false, undefined_is_seen, values_by_local_number, ℕ}
+use Rattle.soundness.proofs.Imports.{◌<◌, ◌∙◌, ◌∷◌, ◌≡◌}
+use Rattle.soundness.specs.HeadlineLaws.{AcceptedHasNoUndefinedGate, AcceptedHasValuation}
 
 -- a module that keeps the gate
 record Keeper (ms : List ModuleLines) (n : ℕ) : Type 0 where

@@ -1,38 +1,25 @@
 -- The cells of a layout: their ports, the start, and the demand at the end
-use Rattle.lemmas.proofs.Common.{[], ◌&&◌, ◌++◌, ◌||◌, ◌∙◌, ◌∷◌, ◌≡◌, Bool, List, None, Option, Some, ap, append-nil}
-use Rattle.lemmas.proofs.Common.{append_assoc, false, if◌then◌else◌, map, not, option_map, refl, slice_get, suc}
-use Rattle.lemmas.proofs.Common.{sym, true, true≢false, zero, ℕ, ℤ, and_from, and_parts, false≢true, option_map_or}
-use Rattle.lemmas.proofs.Common.{same_Some, slice_get-map, left_is_false, same_truth, arith, common_steps}
-use Rattle.bbm_rule.specs.Plane.{is_at}
-use Rattle.bbm_rule.specs.declared.block.Cell.{Cell}
-use Rattle.section_text.specs.Codes.{code_if}
-use Rattle.circuit.specs.Meaning.{Circuit, Valuation, wire_of, values_by_name}
-use Rattle.pattern.specs.Layout.{Pattern, HaveDistinctCells, in_cells, in_layout, in_rectangle, in_rectangles}
-use Rattle.pattern.specs.Layout.{in_ports_on, start, parts_of}
-use Rattle.pattern.specs.Lines.{AreGoodAfter, begins, cell_fault, cells_of, ended, ends, holds, is_inside, is_taken}
-use Rattle.pattern.specs.Lines.{size_fault}
-use Rattle.pattern.specs.declared.layout_line.LayoutLine.{LayoutLine}
-use Rattle.pattern.specs.declared.layout_line.LayoutLine.TheVariants.{Mirror, Ball, In, Out, Waste}
-use Rattle.pattern.specs.declared.layout_line.Port.{Port}
-use Rattle.pattern.specs.declared.layout_line.Rectangle.{Rectangle}
-use Rattle.pattern.specs.declared.layout_line.LayoutHeader.{LayoutHeader}
+use Rattle.soundness.proofs.Imports.{AreGoodAfter, Ball, Bool, Box2, Cell, Circuit, In, IsEven, LayoutHeader}
+use Rattle.soundness.proofs.Imports.{LayoutLine, List, MeetsDemand, Mirror, None, One, Option, Out, Pattern, Port, Some}
+use Rattle.soundness.proofs.Imports.{Valuation, Waste, [], and_from, and_parts, any_at, ap, append-nil, append_assoc}
+use Rattle.soundness.proofs.Imports.{arith, cell_fault, cell_same, cells_of, cells_taken_at_end, code_if, common_steps}
+use Rattle.soundness.proofs.Imports.{end_demand, false, false≢true, if◌then◌else◌, in_box, in_cells, in_ports}
+use Rattle.soundness.proofs.Imports.{in_ports_on, in_rectangles, is_at, is_inside, is_live, is_taken, kept, map}
+use Rattle.soundness.proofs.Imports.{none_stands, not, option_map, option_map_or, parts_of, passed, port_at}
+use Rattle.soundness.proofs.Imports.{port_stands, refl, same_Some, same_truth, size_fault, slice_get, slice_get-map}
+use Rattle.soundness.proofs.Imports.{start, start_signal, suc, sym, takes_at_end, takes_at_start, true, true≢false}
+use Rattle.soundness.proofs.Imports.{values_by_name, whole, wire_of, wire_of_optional_name, wire_or_dead, wire_or_zero}
+use Rattle.soundness.proofs.Imports.{zero, ℕ, ℤ, ◌&&◌, ◌++◌, ◌||◌, ◌∙◌, ◌∷◌, ◌≡◌}
+use Rattle.lemmas.proofs.Common.{left_is_false}
+use Rattle.pattern.specs.Layout.{HaveDistinctCells, in_layout, in_rectangle}
+use Rattle.pattern.specs.Lines.{holds}
 use Rattle.pattern.proofs.Added.{ended_push}
 use Rattle.pattern.proofs.InsideLemmas.{begins_inside, start_inside}
 use Rattle.pattern.proofs.OwnCells.{ins_apart, outs_apart}
 use Rattle.pattern.proofs.RectangleLemmas.{in_rectangle_cells}
 use Rattle.pattern.proofs.TakenLemmas.{is_sized}
-use Rattle.module_box.specs.Boxes.{in_box, IsEven}
 use Rattle.module_box.proofs.BoxCells.{same_some}
-use Rattle.certificate_lines.specs.PortTables.{port_at}
-use Rattle.certificate.specs.Jobs.{wire_of_optional_name, wire_or_zero, start_signal, wire_or_dead}
-use Rattle.certificate.specs.Jobs.{end_demand}
-use Rattle.certificate_lines.specs.Rules.{whole}
-use Rattle.module_job.specs.Signals.{is_live, MeetsDemand}
-use Rattle.module_box.specs.declared.schedules.Signal.TheVariants.{One}
-use Rattle.certificate_lines.proofs.Lists.{any_at, kept, passed}
-use Rattle.certificate_lines.proofs.LayoutPorts.{port_stands, none_stands}
-use Rattle.bbm_rule.proofs.SameCells.{cell_same, cell_itself}
-use Rattle.meaning.specs.Implements.{in_ports}
+use Rattle.bbm_rule.proofs.SameCells.{cell_itself}
 use Rattle.section_text.specs.declared.code.RefusalCode.TheVariants.{TakenCell}
 
 -- ---- the ports at a cell
@@ -146,7 +133,7 @@ good_behind s before (part ∷ front) back good =
 
 record IsFree (s : LayoutHeader) (before : List LayoutLine) (q : Port) : Type 0 where
   inside : in_layout s q.cell.x q.cell.y ≡ true
-  free : ended before q.cell.x q.cell.y ≡ false
+  free : cells_taken_at_end before q.cell.x q.cell.y ≡ false
 
 two_tests : (a b : Bool) → code_if (not a || (b || false)) TakenCell ≡ None → (a ≡ true) × (b ≡ false)
 two_tests true true e = absurd cc
@@ -155,7 +142,7 @@ two_tests false b e = absurd cc
 
 free_here : (s : LayoutHeader) (before : List LayoutLine) (q : Port) → cell_fault s before (Out q) ≡ None →
     IsFree s before q
-unfolding cell_fault is_taken cells_of begins is_inside
+unfolding cell_fault is_taken cells_of takes_at_start is_inside
 free_here s before q e = grind (arith, common_steps, two_tests)
 
 all_free : (s : LayoutHeader) (before : List LayoutLine) (ports : List Port) (rest : List LayoutLine) →
@@ -179,17 +166,19 @@ output_free p good i q e =
     all_free p.size _ p.outs (map Waste p.wastes)
     (good_behind p.size (map Mirror p.mirrors ++ map Ball p.balls) (map In p.ins) outs ins) i q e
 
-mirror_ends : (r : Rectangle) (x y : ℤ) → in_rectangle r x y ≡ true → (ends (Mirror r) && holds (Mirror r) x y) ≡ true
-unfolding ends cells_of
+mirror_ends : (r : Box2) (x y : ℤ) → in_rectangle r x y ≡ true →
+    (takes_at_end (Mirror r) && holds (Mirror r) x y) ≡ true
+unfolding takes_at_end cells_of
 mirror_ends r x y h = in_rectangle_cells r x y ∙ h
 
-mirror_ended : (p : Pattern) (x y : ℤ) → in_rectangles p.mirrors x y ≡ true → ended (before_outs p) x y ≡ true
-unfolding before_outs ended
+mirror_ended : (p : Pattern) (x y : ℤ) → in_rectangles p.mirrors x y ≡ true →
+    cells_taken_at_end (before_outs p) x y ≡ true
+unfolding before_outs cells_taken_at_end
 mirror_ended p x y h =
-    let s = passed (λ (r : Rectangle). in_rectangle r x y) p.mirrors h in
+    let s = passed (λ (r : Box2). in_rectangle r x y) p.mirrors h in
     let at : slice_get (map Mirror p.mirrors) s.place ≡ Some (Mirror s.element) =
     slice_get-map Mirror p.mirrors s.place ∙ ap (option_map Mirror) s.stands in
-    any_at (λ (b : LayoutLine). ends b && holds b x y) _ s.place (Mirror s.element)
+    any_at (λ (b : LayoutLine). takes_at_end b && holds b x y) _ s.place (Mirror s.element)
     (kept (map Mirror p.mirrors ++ map Ball p.balls) (map In p.ins) s.place (Mirror s.element)
     (kept (map Mirror p.mirrors) (map Ball p.balls) s.place (Mirror s.element) at))
     (mirror_ends s.element x y s.passes)

@@ -21,3 +21,4 @@ pub mod SomeFaults
 pub mod SomeVerdict
 pub mod ModuleJobs
 pub mod Migrated
+pub mod Imports

@@ -1,57 +1,37 @@
 -- From modules with halo lines to modules without
-use Rattle.lemmas.proofs.Common.{[], ◌%◌, ◌<◌, ◌∙◌, ◌∷◌, ◌≡◌, ◌≤◌, Bool, IfSome, IsTrue, List, None, Option, Some}
-use Rattle.lemmas.proofs.Common.{ap, arith, false, inl, inr, length, map, nat_lt, not, refl, slice_get, slice_index}
-use Rattle.lemmas.proofs.Common.{slice_index_or, subst, sym, true, true≢false, ℕ, ℤ, cases_Bool, length-map, list_any}
-use Rattle.lemmas.proofs.Common.{nat_tests, slice_get-get_or, slice_get_within, eq_test, mapped_at, mapped_from}
-use Rattle.lemmas.proofs.Common.{some_at, common_steps}
+use Rattle.soundness.proofs.Imports.{Accepts, AreDistinct, AreJobsOf, AreModules, Bool, BorderLine, Box2, Cell, Circuit}
+use Rattle.soundness.proofs.Imports.{CircuitLine, Fault, IfSome, IsFault, IsJobOf, IsKeepFault, IsModule}
+use Rattle.soundness.proofs.Imports.{IsSignalWireBelow, IsTrue, JobView, KeepFault, List, ModuleLines, None, One}
+use Rattle.soundness.proofs.Imports.{Option, Pattern, Setting, Signal, Some, Wire, Zero, [], any_at, ap, are_all_obeyed}
+use Rattle.soundness.proofs.Imports.{arith, cases_Bool, circuit_of, circuit_wire, common_steps, edge_signal, edges}
+use Rattle.soundness.proofs.Imports.{false, first_seen, halo_same, halo_signal, halos, in_box, in_halo, inl, inr}
+use Rattle.soundness.proofs.Imports.{is_among, is_local, is_local_wire, job_demand, job_start, known, last_seen, length}
+use Rattle.soundness.proofs.Imports.{length-map, line_signals, list_any, map, mapped_from, modules, nat_lt, nat_tests}
+use Rattle.soundness.proofs.Imports.{not, one_or_named_wire, refl, renumber_signal, renumber_signals, setting}
+use Rattle.soundness.proofs.Imports.{setting_of, signal_at, slice_get, slice_get-get_or, slice_get_within, slice_index}
+use Rattle.soundness.proofs.Imports.{some_at, stops, stops_of_lines, stops_stand, subst, sym, time_lines_of_gates, true}
+use Rattle.soundness.proofs.Imports.{true≢false, whole, wire_of, wire_or_zero, wires, ℕ, ℤ, ◌%◌, ◌<◌, ◌∙◌, ◌∷◌, ◌≡◌}
+use Rattle.soundness.proofs.Imports.{◌≤◌}
+use Rattle.lemmas.proofs.Common.{slice_index_or, eq_test, mapped_at}
 use Rattle.std.specs.List.{All}
-use Rattle.bbm_rule.specs.declared.block.Cell.{Cell}
-use Rattle.circuit.specs.Bridge.{circuit_of}
-use Rattle.circuit.specs.Meaning.{Circuit, wire_of, wires}
-use Rattle.circuit.specs.declared.circuit_line.CircuitLine.{CircuitLine}
-use Rattle.pattern.specs.Layout.{Pattern}
-use Rattle.module_box.specs.Boxes.{in_box, in_halo}
-use Rattle.module_box.specs.Locals.{AreDifferent, circuit_wire, is_among}
-use Rattle.module_box.specs.Schedules.{signal_at}
-use Rattle.module_box.specs.declared.boxes.Box2.{Box2}
-use Rattle.module_box.specs.declared.schedules.Signal.{Signal}
-use Rattle.module_box.specs.declared.schedules.Signal.TheVariants.{Zero, One, Wire}
-use Rattle.certificate_lines.specs.Entries.{Setting, ModuleLines, edges, halos, stops, known, modules_of}
-use Rattle.certificate_lines.specs.Settings.{setting_of}
-use Rattle.module_job.specs.Jobs.{JobView, job_demand, job_start}
-use Rattle.certificate.specs.Jobs.{IsJobOf, AreJobsOf, one_or_named_wire, line_signals, stops_of_lines, wire_or_zero}
-use Rattle.certificate_lines.specs.Modules.{AreModules, IsModule}
-use Rattle.certificate_lines.specs.Rules.{is_local, is_local_wire, whole}
-use Rattle.module_job.specs.Signals.{IsSignalWireBelow, renumber_signal, renumber_signals}
-use Rattle.certificate.specs.Times.{are_all_obeyed, first_seen, last_seen, time_lines_of_gates}
+use Rattle.certificate_lines.specs.Entries.{modules_of}
 use Rattle.certificate_lines.specs.Versions.{edge_lines_beside, is_haloless_version, is_nonlocal_signal}
 use Rattle.certificate_lines.specs.Versions.{lacks_edge_wire_beside, with_halos}
-use Rattle.certificate_lines.specs.declared.certificate_line.BorderLine.{BorderLine}
 use Rattle.certificate.proofs.FullModules.{edge_cell, edge_of, edges_rising, full_cuts, full_gates, full_keeps}
-use Rattle.certificate.proofs.FullModules.{full_edges, full_stops, full_known, full_modules, in_beside}
-use Rattle.certificate.proofs.FullModules.{meant_old}
+use Rattle.certificate.proofs.FullModules.{full_edges, full_stops, full_known, full_modules, in_beside, meant_old}
 use Rattle.certificate_lines.proofs.InList.{placed}
 use Rattle.certificate.proofs.HaloSignals.{halo_is_edge_beside}
 use Rattle.certificate_lines.proofs.LineOrder.{In, in_flat}
 use Rattle.certificate.proofs.LineSignals.{SaysAt, line_said}
 use Rattle.certificate.proofs.MeantLines.{kept_of_all, stops_of_all}
-use Rattle.certificate.proofs.StopLemmas.{stops_stand}
-use Rattle.certificate_lines.proofs.Lists.{any_at}
 use Rattle.certificate.proofs.Migrated.{migrated_modules, section_modules, section_without_halos}
-use Rattle.local_run.specs.Faults.{IsFault, IsKeepFault}
 use Rattle.local_run.specs.Laws.{HasSameHaloSignals}
-use Rattle.local_run.specs.declared.fault.Fault.{Fault}
-use Rattle.local_run.specs.declared.fault.KeepFault.{KeepFault}
-use Rattle.soundness.proofs.ModuleJobs.{one_job, signal_back}
 use Rattle.local_run.proofs.OwnWires.{halo_below}
 use Rattle.local_run.proofs.SameHalos.{same_halos_agree}
-use Rattle.border_match.specs.BorderFaults.{edge_signal, halo_signal}
 use Rattle.border_match.proofs.Haloless.{haloless_match}
-use Rattle.border_match.proofs.Bridge.{halo_same}
 use Rattle.border_match.proofs.SameSignals.{not_different}
-use Rattle.soundness.specs.MigrationLaws.{AcceptedWithoutHalos, IsAcceptedWithoutHalos, MigrationIsAccepted}
-use Rattle.core_book.specs.Concluding.{modules, setting}
-use Rattle.core_book.specs.Verdicts.{Accepts}
+use Rattle.soundness.specs.MigrationLaws.{AcceptedWithoutHalos, IsAcceptedWithoutHalos, MigrationKeepsAcceptance}
+use Rattle.soundness.proofs.ModuleJobs.{one_job, signal_back}
 use Rattle.soundness.proofs.JobSignals.{no_signal, other_cell}
 
 one_less : (n : ℕ) → nat_lt 1 n ≡ true → 1 < n
@@ -251,8 +231,8 @@ module _ (lines : List CircuitLine) (p : Pattern) (ms : List ModuleLines) (jobs 
     unfolding with_halos
     say_the_same t x y odd early halo =
         let ws = k.locals.circuit_wires in
-        let different : AreDifferent ws =
-        subst AreDifferent (sym (of_k.wires ∙ full_known g ms good m)) (good.each i m at).local.different in
+        let different : AreDistinct ws =
+        subst AreDistinct (sym (of_k.wires ∙ full_known g ms good m)) (good.each i m at).local.different in
         let below_k : IsSignalWireBelow (length ws) (signal_at k.halos t x y) =
         subst (λ n. IsSignalWireBelow n (signal_at k.halos t x y)) (sym of_k.locals.sized)
         (halo_below k t x y of_k.own) in
@@ -308,7 +288,7 @@ without_halos_accepted lines p ms jobs good own ok = accepted_without lines p ms
 
 -- ---- certificates
 
-pub migration_accepted : MigrationIsAccepted
+pub migration_accepted : MigrationKeepsAcceptance
 migration_accepted s jobs one section own ok =
     let ms = modules_of s.entries in
     let same : modules s ≡ ms = meant_old s.version (setting s) ms (ap is_haloless_version one) in

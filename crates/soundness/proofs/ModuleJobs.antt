@@ -1,34 +1,22 @@
 -- A module has one job
-use Rattle.lemmas.proofs.Common.{[], ◌*◌, ◌+◌, ◌<◌, ◌∙◌, ◌∷◌, ◌≡◌, ◌≤◌, All, IsTrue, List, Some, ap, ap₂, arith}
-use Rattle.lemmas.proofs.Common.{inl, inr, length, map, refl, slice_get, slice_index, subst, suc, sym}
-use Rattle.lemmas.proofs.Common.{true, unwrap_or, ℕ, ℤ, All-head, All-tail, cases_Bool, cases_lt, cond-true}
-use Rattle.lemmas.proofs.Common.{range_with_len, same_Some, slice_get-get_or, same_head, same_tail}
-use Rattle.circuit.specs.declared.circuit_line.GateKind.{GateKind}
-use Rattle.circuit.specs.declared.circuit_line.GateKind.TheVariants.{Source, Fredkin, Cswap, Interact, Switch, Delay}
-use Rattle.circuit.specs.declared.circuit_line.GateKind.TheVariants.{Unswitch, Uninteract}
-use Rattle.circuit.specs.Gates.{defines}
-use Rattle.circuit.specs.Meaning.{Circuit, Gate, Netlist, AreOrdered, wires, wires_after}
-use Rattle.pattern.specs.Layout.{Pattern}
-use Rattle.module_box.specs.Boxes.{in_box}
-use Rattle.module_box.specs.Locals.{LocalNet, AreDifferent, AreLocalsOf, circuit_gate, circuit_wire, renumber_gate}
-use Rattle.module_box.specs.Places.{place_in}
-use Rattle.module_box.specs.Schedules.{Signals}
-use Rattle.module_box.specs.declared.boxes.Box2.{Box2}
-use Rattle.module_box.specs.declared.schedules.TimedSignal.{TimedSignal}
-use Rattle.module_box.specs.declared.schedules.AllTimes.{AllTimes}
-use Rattle.module_box.specs.declared.schedules.Signal.{Signal}
-use Rattle.module_box.specs.declared.schedules.Signal.TheVariants.{Zero, One, Wire}
-use Rattle.certificate_lines.specs.Entries.{ModuleLines, known}
-use Rattle.module_job.specs.Jobs.{JobView, job_demand, job_start}
-use Rattle.certificate.specs.Jobs.{IsJobOf}
-use Rattle.module_job.specs.Signals.{IsSignalWireBelow, IsDemandWireBelow, renumber_demand, renumber_event}
-use Rattle.module_job.specs.Signals.{renumber_all_times, renumber_signal, renumber_signals, renumber_stop}
-use Rattle.module_job.specs.declared.job.Demand.{Demand}
+use Rattle.soundness.proofs.Imports.{All, All-head, All-tail, AllTimesSignal, AreDistinct, AreLocalsOf, AreOrdered}
+use Rattle.soundness.proofs.Imports.{Box2, Circuit, Cswap, Delay, Demand, Fredkin, Gate, GateKind, Interact}
+use Rattle.soundness.proofs.Imports.{IsDemandWireBelow, IsJobOf, IsSignalWireBelow, IsTrue, JobView, List, LocalNet}
+use Rattle.soundness.proofs.Imports.{ModuleLines, Netlist, One, Pattern, Signal, Signals, Some, Source, Switch}
+use Rattle.soundness.proofs.Imports.{TimedSignal, Uninteract, Unswitch, Wire, Zero, [], ap, ap₂, arith, cases_Bool}
+use Rattle.soundness.proofs.Imports.{cases_lt, circuit_gate, circuit_wire, defines, in_box, inl, inr, job_demand}
+use Rattle.soundness.proofs.Imports.{job_start, known, length, map, place_in, range_with_len, refl, renumber_all_times}
+use Rattle.soundness.proofs.Imports.{renumber_demand, renumber_event, renumber_signal, renumber_signals, renumber_stop}
+use Rattle.soundness.proofs.Imports.{same_Some, slice_get, slice_get-get_or, slice_index, subst, suc, sym, true}
+use Rattle.soundness.proofs.Imports.{unwrap_or, wires, ℕ, ℤ, ◌*◌, ◌+◌, ◌<◌, ◌∙◌, ◌∷◌, ◌≡◌, ◌≤◌}
+use Rattle.lemmas.proofs.Common.{cond-true, same_head, same_tail}
+use Rattle.circuit.specs.Meaning.{wires_after}
+use Rattle.module_box.specs.Locals.{renumber_gate}
+use Rattle.soundness.specs.ModuleLaws.{ModuleHasOneJob}
+use Rattle.local_run.proofs.OwnWires.{demand_below, demand_outside, start_below, start_outside}
+use Rattle.soundness.proofs.BoxLists.{same_over_box}
 use Rattle.module_job.specs.declared.job.Demand.TheVariants as Demanded
 use Rattle.module_job.specs.declared.job.Stop as listed
-use Rattle.soundness.specs.ModuleLaws.{ModuleHasOneJob}
-use Rattle.soundness.proofs.BoxLists.{same_over_box}
-use Rattle.local_run.proofs.OwnWires.{demand_below, demand_outside, start_below, start_outside}
 
 -- ---- what the same wires of the circuit stand for is the same
 
@@ -53,7 +41,7 @@ demanded_in Demanded.Live = 0
 demanded_in (Demanded.Wire w) = w
 demanded_in Demanded.Any = 0
 
-module _ (ws : List ℕ) (different : AreDifferent ws) where
+module _ (ws : List ℕ) (different : AreDistinct ws) where
   abbrev f : ℕ → ℕ
   f = slice_index ws
 
@@ -92,11 +80,12 @@ module _ (ws : List ℕ) (different : AreDifferent ws) where
   demand_back Demanded.Any (Demanded.Wire w) a b e = absurd cc
   demand_back Demanded.Any Demanded.Any a b e = refl
 
-  all_times_back : (s t : AllTimes) → IsSignalWireBelow (length ws) s.signal → IsSignalWireBelow (length ws) t.signal →
+  all_times_back : (s t : AllTimesSignal) → IsSignalWireBelow (length ws) s.signal →
+      IsSignalWireBelow (length ws) t.signal →
       renumber_all_times f s ≡ renumber_all_times f t → s ≡ t
   all_times_back s t a b e =
-      let signal = signal_back s.signal t.signal a b (ap (λ (h : AllTimes). h.signal) e) in
-      λ i. record { cell = ap (λ (h : AllTimes). h.cell) e i; signal = signal i }
+      let signal = signal_back s.signal t.signal a b (ap (λ (h : AllTimesSignal). h.signal) e) in
+      λ i. record { cell = ap (λ (h : AllTimesSignal). h.cell) e i; signal = signal i }
 
   event_back : (s t : TimedSignal) → IsSignalWireBelow (length ws) s.signal → IsSignalWireBelow (length ws) t.signal →
       renumber_event f s ≡ renumber_event f t → s ≡ t
@@ -111,7 +100,7 @@ module _ (ws : List ℕ) (different : AreDifferent ws) where
       renumber_signals f s ≡ renumber_signals f t → s ≡ t
   signals_back s t sh se th te e =
       let all_times = map_back (renumber_all_times f)
-      (λ (h : AllTimes). IsSignalWireBelow (length ws) h.signal) all_times_back s.all_times t.all_times sh th
+      (λ (h : AllTimesSignal). IsSignalWireBelow (length ws) h.signal) all_times_back s.all_times t.all_times sh th
       (ap (λ (r : Signals). r.all_times) e) in
       let events = map_back (renumber_event f)
       (λ (h : TimedSignal). IsSignalWireBelow (length ws) h.signal) event_back s.events t.events se te
@@ -180,7 +169,7 @@ module _ (ws : List ℕ) (different : AreDifferent ws) where
 -- ---- the wires and gates of a module
 
 locals_back : (n : Netlist) (l m : LocalNet) → AreLocalsOf n l → AreLocalsOf n m → l.circuit_wires ≡ m.circuit_wires →
-    l.circuit_gates ≡ m.circuit_gates → l.netlist.given ≡ m.netlist.given → AreDifferent l.circuit_wires → l ≡ m
+    l.circuit_gates ≡ m.circuit_gates → l.netlist.given ≡ m.netlist.given → AreDistinct l.circuit_wires → l ≡ m
 locals_back n l m a b same_wires same_gates same_given different =
     let given : ℕ = l.netlist.given in
     let ordered : AreOrdered given m.netlist.gates =
@@ -203,13 +192,13 @@ locals_back n l m a b same_wires same_gates same_given different =
 
 -- ---- two jobs of a module
 
-module _ (c : Circuit) (p : Pattern) (m : ModuleLines) (j k : JobView) (different : AreDifferent (known c m))
+module _ (c : Circuit) (p : Pattern) (m : ModuleLines) (j k : JobView) (different : AreDistinct (known c m))
     (of_j : IsJobOf c p m j) (of_k : IsJobOf c p m k) where
   abbrev ws : List ℕ
   ws = j.locals.circuit_wires
 
-  apart : AreDifferent ws
-  apart = subst AreDifferent (sym of_j.wires) different
+  apart : AreDistinct ws
+  apart = subst AreDistinct (sym of_j.wires) different
 
   same_area : j.area ≡ k.area
   same_area = of_j.area ∙ sym of_k.area
@@ -264,17 +253,17 @@ module _ (c : Circuit) (p : Pattern) (m : ModuleLines) (j k : JobView) (differen
 
   same_edges : j.edges ≡ k.edges
   same_edges = signals_back ws apart j.edges k.edges
-      (all_j (λ (h : AllTimes). h.signal) j.edges.all_times of_j.own.edge_all_times)
+      (all_j (λ (h : AllTimesSignal). h.signal) j.edges.all_times of_j.own.edge_all_times)
       (all_j (λ (h : TimedSignal). h.signal) j.edges.events of_j.own.edge_events)
-      (all_k (λ (h : AllTimes). h.signal) k.edges.all_times of_k.own.edge_all_times)
+      (all_k (λ (h : AllTimesSignal). h.signal) k.edges.all_times of_k.own.edge_all_times)
       (all_k (λ (h : TimedSignal). h.signal) k.edges.events of_k.own.edge_events)
       (of_j.edges ∙ sym of_k.edges ∙ ap (λ g. renumber_signals g k.edges) wire_k)
 
   same_halos : j.halos ≡ k.halos
   same_halos = signals_back ws apart j.halos k.halos
-      (all_j (λ (h : AllTimes). h.signal) j.halos.all_times of_j.own.halo_all_times)
+      (all_j (λ (h : AllTimesSignal). h.signal) j.halos.all_times of_j.own.halo_all_times)
       (all_j (λ (h : TimedSignal). h.signal) j.halos.events of_j.own.halo_events)
-      (all_k (λ (h : AllTimes). h.signal) k.halos.all_times of_k.own.halo_all_times)
+      (all_k (λ (h : AllTimesSignal). h.signal) k.halos.all_times of_k.own.halo_all_times)
       (all_k (λ (h : TimedSignal). h.signal) k.halos.events of_k.own.halo_events)
       (of_j.halos ∙ sym of_k.halos ∙ ap (λ g. renumber_signals g k.halos) wire_k)
 

@@ -1,19 +1,11 @@
 -- The wires that signals name, by their places in a list of wires
-use Rattle.lemmas.proofs.Common.{[], ◌++◌, ◌<◌, ◌==◌, ◌||◌, ◌∷◌, ◌≡◌, Bool, IfSome, IsTrue, List, None, Option, Some}
-use Rattle.lemmas.proofs.Common.{ap, ap₂, arith, false, if◌then◌else◌, length, map, refl, slice_index, suc, true, ℕ}
-use Rattle.lemmas.proofs.Common.{false≢true, nat_tests, common_steps}
-use Rattle.circuit.specs.Meaning.{Circuit, wire_of}
-use Rattle.module_box.specs.Locals.{is_among}
-use Rattle.module_box.specs.Schedules.{Signals}
-use Rattle.module_box.specs.declared.schedules.TimedSignal.{TimedSignal}
-use Rattle.module_box.specs.declared.schedules.AllTimes.{AllTimes}
-use Rattle.module_box.specs.declared.schedules.Signal.{Signal}
-use Rattle.module_box.specs.declared.schedules.Signal.TheVariants.{Zero, One, Wire}
-use Rattle.certificate.specs.Jobs.{events_of_line, all_times_of_line, one_or_named_wire, line_signals, wire_or_zero}
-use Rattle.certificate_lines.specs.Rules.{is_local, is_local_wire}
-use Rattle.module_job.specs.Signals.{IsSignalWireBelow, renumber_event, renumber_all_times, renumber_signal}
-use Rattle.certificate_lines.specs.declared.certificate_line.BorderLine.{BorderLine}
-use Rattle.certificate_lines.proofs.Pairs.{Each}
+use Rattle.soundness.proofs.Imports.{AllTimesSignal, Bool, BorderLine, Circuit, Each, IfSome, IsSignalWireBelow, IsTrue}
+use Rattle.soundness.proofs.Imports.{List, None, One, Option, Signal, Signals, Some, TimedSignal, Wire, Zero, []}
+use Rattle.soundness.proofs.Imports.{all_times_of_line, ap, ap₂, arith, common_steps, events_of_line, false, false≢true}
+use Rattle.soundness.proofs.Imports.{if◌then◌else◌, is_among, is_local, is_local_wire, length, line_signals, map}
+use Rattle.soundness.proofs.Imports.{nat_tests, one_or_named_wire, refl, renumber_all_times, renumber_event}
+use Rattle.soundness.proofs.Imports.{renumber_signal, slice_index, suc, true, wire_of, wire_or_zero, ℕ, ◌++◌, ◌<◌, ◌==◌}
+use Rattle.soundness.proofs.Imports.{◌||◌, ◌∷◌, ◌≡◌}
 
 -- ---- the number of a wire in a list of wires
 
@@ -66,7 +58,7 @@ module _ (c : Circuit) (ws : List ℕ) where
   signal_numbered None h = record { back = refl; below = tt }
   signal_numbered (Some name) h = wire_numbered (wire_of c name) h
 
-  unfoldable pub numbered_all_times : AllTimes → AllTimes
+  unfoldable pub numbered_all_times : AllTimesSignal → AllTimesSignal
   numbered_all_times h = record h { signal = numbered ws h.signal }
 
   unfoldable pub numbered_event : TimedSignal → TimedSignal
@@ -77,13 +69,13 @@ module _ (c : Circuit) (ws : List ℕ) where
   numbered_signals s = record { all_times = map numbered_all_times s.all_times; events = map numbered_event s.events }
 
   -- what one line says comes back, and names no other wires
-  pub record IsBack (hs : List AllTimes) (es : List TimedSignal) : Type 0 where
+  pub record IsBack (hs : List AllTimesSignal) (es : List TimedSignal) : Type 0 where
     pub all_times : map (renumber_all_times (slice_index ws)) (map numbered_all_times hs) ≡ hs
     pub events : map (renumber_event (slice_index ws)) (map numbered_event es) ≡ es
     pub all_times_below : Each (λ h. IsSignalWireBelow (length ws) h.signal) (map numbered_all_times hs)
     pub events_below : Each (λ e. IsSignalWireBelow (length ws) e.signal) (map numbered_event es)
 
-  back_from : (e : BorderLine) (time : Option ℕ) (s : Signal) (hs : List AllTimes) (es : List TimedSignal) →
+  back_from : (e : BorderLine) (time : Option ℕ) (s : Signal) (hs : List AllTimesSignal) (es : List TimedSignal) →
       IsNumbered ws s →
       IsBack hs es → IsBack (all_times_of_line e time s ++ hs) (events_of_line e time s ++ es)
   unfolding numbered_all_times numbered_event Each

@@ -1,77 +1,48 @@
 -- A plain certificate decides whether its layout is correct
-use Rattle.lemmas.proofs.Common.{[], ◌&&◌, ◌++◌, ◌+◌, ◌<◌, ◌||◌, ◌∙◌, ◌∷◌, ◌≡◌, ◌≢◌, ◌≤◌, All, Bool, Contains, List}
-use Rattle.lemmas.proofs.Common.{None, Option, Some, ap, append-nil, ap₂, arith, eq-eqb, eqb, false, if◌then◌else◌, inl}
-use Rattle.lemmas.proofs.Common.{inr, length, map, nat_cmp, not, option_map, option_to_list, refl, slice_get, subst}
-use Rattle.lemmas.proofs.Common.{suc, sym, true, true≢false, zero, ℕ, ℤ, All-append, All-cons, All-contains, All-head}
-use Rattle.lemmas.proofs.Common.{All-nil, All-tail, Contains-append_left, and_from, cases_Bool, eqb-true, false≢true}
-use Rattle.lemmas.proofs.Common.{list_all, option_map_or, ordering_then, props, range_with_len, same_Some, common_steps}
-use Rattle.lemmas.proofs.Common.{slice_get_within, ∥∥₁_elim, nothing_prop, some_at}
-use Rattle.std.specs.declared.cmp.Ordering.TheVariants.{Greater}
-use Rattle.bbm_rule.specs.Bits.{bit}
-use Rattle.circuit.specs.Bridge.{circuit_of, netlist_of}
-use Rattle.circuit.specs.declared.circuit_line.GateKind.TheVariants.{Delay}
-use Rattle.circuit.specs.Gates.{defines, uses, is_inverse}
-use Rattle.circuit.specs.Meaning.{AreOrdered, Circuit, Gate, Satisfies, Valuation, wire_of}
-use Rattle.circuit.specs.declared.circuit_line.CircuitLine.{CircuitLine}
-use Rattle.circuit.proofs.Undefined.{has_valuation, undefined_has_none, only_inverse}
-use Rattle.pattern.specs.Layout.{Pattern}
-use Rattle.module_box.specs.Boxes.{in_box, in_ring}
-use Rattle.module_box.specs.Locals.{AreDifferent, circuit_gate, is_among}
-use Rattle.module_box.specs.LocalValues.{values_by_local_number}
-use Rattle.module_box.specs.Schedules.{signal_at}
-use Rattle.module_box.specs.declared.schedules.Signal.TheVariants.{Zero}
-use Rattle.module_box.proofs.Neighbours.{halo_parts}
-use Rattle.module_box.proofs.SeenValues.{local_values_agree, undefined_is_seen}
-use Rattle.certificate_lines.specs.Entries.{ModuleLines, cut_wires, cuts, known, stops, keeps}
-use Rattle.certificate_lines.specs.Rules.{whole}
-use Rattle.certificate_lines.specs.Settings.{setting_of}
-use Rattle.certificate_lines.specs.declared.certificate_line.BorderLine.{BorderLine}
-use Rattle.certificate_lines.specs.declared.certificate_line.StopLine.{StopLine}
-use Rattle.certificate_lines.proofs.Lists.{kept}
-use Rattle.certificate.specs.Jobs.{IsJobOf, line_signals}
+use Rattle.soundness.proofs.Imports.{Accepts, All, All-append, All-cons, All-contains, All-head, All-nil, All-tail}
+use Rattle.soundness.proofs.Imports.{AreDistinct, AreLeastFaultsOfJob, AreOrdered, AreReportLines, BelongTogether, Bool}
+use Rattle.soundness.proofs.Imports.{BorderFault, BorderLine, Circuit, CircuitLine, Contains, Contains-append_left}
+use Rattle.soundness.proofs.Imports.{Delay, Fault, Gate, GivesModuleAssignment, Greater, HasGoodBorders, HasInputNames}
+use Rattle.soundness.proofs.Imports.{IsAcceptedBundle, IsAsCertified, IsAssignmentOf, IsBorderFault, IsCorrect, IsFault}
+use Rattle.soundness.proofs.Imports.{IsFaultUnder, IsFirstFault, IsInputName, IsJobOf, IsKeepFault, IsLeastBorderFault}
+use Rattle.soundness.proofs.Imports.{IsLeastFault, IsLeastKeepFault, IsRunOfJobs, IsStop, IsVerdict, JobView, KeepFault}
+use Rattle.soundness.proofs.Imports.{Kind, LeastFaults, List, ModuleLines, None, Option, Pattern, ReportLine, Satisfies}
+use Rattle.soundness.proofs.Imports.{Some, StopGap, StopHolds, StopLine, TimeLine, Valuation, Zero, [], all_stops}
+use Rattle.soundness.proofs.Imports.{and_from, ap, append-nil, ap₂, are_all_obeyed, arith, assignments, bit}
+use Rattle.soundness.proofs.Imports.{border_line, cases_Bool, circuit_gate, circuit_of, common_steps, cut_wires, cuts}
+use Rattle.soundness.proofs.Imports.{defines, delay_and_meet_lines, edge_signal, eq-eqb, eqb, eqb-true, false}
+use Rattle.soundness.proofs.Imports.{false≢true, fault_cmp, halo_parts, has_valuation, if◌then◌else◌, in_box, in_ring}
+use Rattle.soundness.proofs.Imports.{inl, inr, is_among, is_inverse, is_live, keep_line, keeps, kept, known, length}
+use Rattle.soundness.proofs.Imports.{line_signals, list_all, local_line, local_run, local_values_agree, map, netlist_of}
+use Rattle.soundness.proofs.Imports.{not, nothing_prop, only_inverse, option_map, option_map_or, option_to_list}
+use Rattle.soundness.proofs.Imports.{ordering_then, props, range_with_len, refl, renumber_keep, report_lines_from}
+use Rattle.soundness.proofs.Imports.{run_under, same_Some, setting_of, signal_at, slice_get, slice_get_within, some_at}
+use Rattle.soundness.proofs.Imports.{stops, subst, suc, sym, timing_report_line, true, true≢false, undefined_has_none}
+use Rattle.soundness.proofs.Imports.{undefined_is_seen, unkept, unkept_from, unkept_lines, values_by_local_number}
+use Rattle.soundness.proofs.Imports.{whole, wire_of, zero, ℕ, ℤ, ∥∥₁_elim, ◌&&◌, ◌++◌, ◌+◌, ◌<◌, ◌||◌, ◌∙◌, ◌∷◌, ◌≡◌}
+use Rattle.soundness.proofs.Imports.{◌≢◌, ◌≤◌}
+use Rattle.lemmas.proofs.Common.{nat_cmp}
+use Rattle.circuit.specs.Gates.{uses}
 use Rattle.certificate.specs.Arrivals.{AreOnTime, IsFirstTime, IsLastTime, TakesSteps, IsTimeLineTrue, IsDelayGapTrue}
 use Rattle.certificate.specs.Arrivals.{IsMeetingTimeTrue}
-use Rattle.certificate.specs.Times.{all_stops, are_all_obeyed, is_obeyed, delay_and_meet_lines}
-use Rattle.certificate.specs.declared.times.StopGap.{StopGap}
+use Rattle.certificate.specs.Times.{is_obeyed}
 use Rattle.certificate.specs.declared.times.StopGap.TheVariants.{Steps, NoStop, Before}
-use Rattle.certificate.specs.declared.times.TimeLine.{TimeLine}
-use Rattle.certificate.specs.declared.times.TimeLine.TheVariants as times
 use Rattle.certificate.proofs.ArrivalLemmas.{lines_tell}
-use Rattle.certificate_lines.specs.Modules.{IsStop}
-use Rattle.module_job.specs.Jobs.{JobView}
-use Rattle.module_job.specs.Signals.{is_live}
-use Rattle.module_job.specs.declared.job.Stop as listed
-use Rattle.local_run.specs.Faults.{IsEdgeFault, IsFault, IsFaultUnder, IsKeepFault, IsLeastFault, IsLeastKeepFault}
-use Rattle.local_run.specs.Faults.{assignments}
-use Rattle.local_run.specs.Order.{fault_cmp}
-use Rattle.local_run.specs.Runs.{local_run}
-use Rattle.local_run.specs.declared.fault.Fault.{Fault}
-use Rattle.local_run.specs.declared.fault.KeepFault.{KeepFault}
-use Rattle.local_run.specs.declared.fault.Kind.{Kind}
-use Rattle.local_run.specs.declared.fault.Kind.TheVariants.{Edge, End, Stop as AtStop}
-use Rattle.border_match.specs.BorderFaults.{IsBorderFault, edge_signal, IsLeastBorderFault}
-use Rattle.border_match.specs.declared.fault.BorderFault.{BorderFault}
-use Rattle.certificate.specs.Keeps as keeping
-use Rattle.certificate.specs.Keeps.{unkept, unkept_from}
-use Rattle.soundness.specs.HeadlineLaws.{BelongTogether, HasInputNames, IsAcceptedBundle, IsInputName, IsRunOfJobs}
-use Rattle.meaning.specs.Implements.{IsCorrect, run_under}
-use Rattle.soundness.specs.FirstFaults.{HasGoodBorders, IsAsCertified, IsAssignmentOf, IsFirstFault}
-use Rattle.soundness.specs.FirstFaults.{GivesModuleAssignment}
+use Rattle.local_run.specs.Faults.{IsEdgeFault}
 use Rattle.soundness.specs.PlainCertificates.{IsPlain, IsWrongDesign, PlainCertificateDecides, PlainNoMeansWrong}
-use Rattle.soundness.specs.PlainCertificates.{TouchesRim, UntimedIsOnTime, IsLiveOnRim, LacksValues, LineMeans}
-use Rattle.soundness.specs.PlainCertificates.{DelayLineMeans, MeetLineMeans, PlainLinesHaveMeaning, Shows}
-use Rattle.soundness.specs.OnTime.{StopHolds}
-use Rattle.core_book.specs.Verdicts.{Accepts, IsToldOf, IsVerdict, AreReportLines, border_line, keep_line}
-use Rattle.core_book.specs.Verdicts.{report_lines_from, local_line, renumber_keep, timing_report, unkept_lines}
-use Rattle.core_book.specs.declared.verdict.LeastFaults.{LeastFaults}
-use Rattle.core_book.specs.declared.verdict.ReportLine.{ReportLine}
-use Rattle.core_book.specs.declared.verdict.ReportLine.TheVariants as line
+use Rattle.soundness.specs.PlainCertificates.{TouchesRim, UntimedIsOnTime, IsLiveOnRim, KeepLineMeans, LineMeans}
+use Rattle.soundness.specs.PlainCertificates.{DelayLineMeans, MeetLineMeans, PlainLinesHaveMeaning, LocalLineMeans}
 use Rattle.soundness.proofs.KeptGates.{PlaceOf, place_of}
-use Rattle.soundness.proofs.FirstFaults.{correct_meets, real, ring_inside, runs_up_to, seen_fault}
-use Rattle.soundness.proofs.FirstFaults.{stop_by_lines, IsPlacedWire, assigned, first_means, placed_wire}
+use Rattle.soundness.proofs.FirstFaults.{correct_meets, real, ring_inside, runs_up_to, seen_fault, stop_by_lines}
+use Rattle.soundness.proofs.FirstFaults.{IsPlacedWire, assigned, first_means, placed_wire}
 use Rattle.soundness.proofs.InputRuns.{at_place, inputs_decide}
 use Rattle.soundness.proofs.JobSignals.{Known, edge_by_circuit, no_signal}
 use Rattle.soundness.proofs.WholeRuns.{correct, off_rim, on_time, starts, steps_with_good_borders}
+use Rattle.certificate.specs.declared.times.TimeLine.TheVariants as times
+use Rattle.module_job.specs.declared.job.Stop as listed
+use Rattle.local_run.specs.declared.fault.Kind.TheVariants.{Edge, End, Stop as AtStop}
+use Rattle.certificate.specs.Keeps as keeping
+use Rattle.core_book.specs.declared.verdict.ReportLine.TheVariants as line
 
 pub nat_greater : (a b : ℕ) → b < a → nat_cmp a b ≡ Greater
 nat_greater a b lt = grind arith
@@ -103,7 +74,7 @@ place_has (u ∷ us) k w e = elim (cases_Bool (eqb u w)) [
 inputs_of : List ℕ → ℕ → Valuation
 inputs_of ws a w = bit a (place ws w)
 
-value_there : (ws : List ℕ) (a k w : ℕ) → AreDifferent ws → slice_get ws k ≡ Some w → inputs_of ws a w ≡ bit a k
+value_there : (ws : List ℕ) (a k w : ℕ) → AreDistinct ws → slice_get ws k ≡ Some w → inputs_of ws a w ≡ bit a k
 unfolding inputs_of
 value_there ws a k w different e = ap (bit a) (different (place ws w) k w (place_has ws k w e) e)
 
@@ -223,10 +194,10 @@ all_from P n (f ∷ fs) (b ∷ bs) h =
     subst (λ i. EachLine P i r c) (omega arith) (h (suc k) r c at at')))
 
 all_timed : (P : ReportLine → Type 0) (Q : TimeLine → Type 0) (ls : List TimeLine) →
-    ((l : TimeLine) → Q l → P (timing_report l)) → All Q ls → All P (map timing_report ls)
+    ((l : TimeLine) → Q l → P (timing_report_line l)) → All Q ls → All P (map timing_report_line ls)
 all_timed P Q [] h all = All-nil P
 all_timed P Q (l ∷ ls) h all =
-    All-cons P (timing_report l) (map timing_report ls) (h l (All-head Q l ls all))
+    All-cons P (timing_report_line l) (map timing_report_line ls) (h l (All-head Q l ls all))
     (all_timed P Q ls h (All-tail Q l ls all))
 
 -- where each inverse gate is kept, none is listed as unkept
@@ -432,7 +403,7 @@ module _ (lines : List CircuitLine) (p : Pattern) (m : ModuleLines) (jobs : List
       ∥∥₁_elim fault.shown nothing_prop (λ u. undefined_has_none j.locals.netlist (bit f.assignment)
       (values_by_local_number j.locals v) f.gate is.locals.ordered u agree.is_local)
 
-  lacks : (j : JobView) (f : KeepFault) → IsJobOf c p m j → IsKeepFault j f → LacksValues lines p m f.assignment
+  lacks : (j : JobView) (f : KeepFault) → IsJobOf c p m j → IsKeepFault j f → KeepLineMeans lines p m f.assignment
   lacks j f is fault = record {
     inputs = its_inputs f.assignment;
     under = its_assignment f.assignment;
@@ -520,7 +491,7 @@ module _ (lines : List CircuitLine) (p : Pattern) (m : ModuleLines) (jobs : List
       (runs_up_to lines p (m ∷ []) jobs inputs v f.time b s (omega (arith, early)) (before f j it least v)) it edge
 
   shows : (f : Fault) (j : JobView) → IsItsJob 0 j → IsFault j f →
-      ((g : Fault) → IsFault j g → fault_cmp f g ≢ Greater) → Shows lines p m f
+      ((g : Fault) → IsFault j g → fault_cmp f g ≢ Greater) → LocalLineMeans lines p m f
   shows f j it fault least =
       let inputs = its_inputs f.assignment in
       let v = has_values f j it fault in
@@ -539,7 +510,7 @@ module _ (lines : List CircuitLine) (p : Pattern) (m : ModuleLines) (jobs : List
             (subst (All (StopHolds c p)) (sym (append-nil (stops m))) held) v.1));
       }
 
-  by_kind : (f : Fault) (kind : Kind) → f.kind ≡ kind → Shows lines p m f → IsWrongDesign lines p m
+  by_kind : (f : Fault) (kind : Kind) → f.kind ≡ kind → LocalLineMeans lines p m f → IsWrongDesign lines p m
   by_kind f Edge e shown = inr (inr (touches shown.inputs f.time f.cell.x f.cell.y (shown.on_rim e)))
   by_kind f AtStop e shown =
       inr (inl (λ timed. shown.wrong_stop e (subst (All (StopHolds c p)) (append-nil (stops m)) timed.stops)))
@@ -603,7 +574,7 @@ module _ (lines : List CircuitLine) (p : Pattern) (m : ModuleLines) (jobs : List
         subst (λ (o : Option ℕ). IsMeetingTimeTrue c ss o g.ins) none tells met.0 met.1;
   }
 
-  time_means : (l : TimeLine) → IsTimeLineTrue c (all_stops (m ∷ [])) l → Means (timing_report l)
+  time_means : (l : TimeLine) → IsTimeLineTrue c (all_stops (m ∷ [])) l → Means (timing_report_line l)
   time_means (times.Delay k n gap) tells = subst (λ (ss : List StopLine). DelayLineMeans lines ss k n gap)
       (append-nil (stops m)) (delay_means (all_stops (m ∷ [])) k n gap tells)
   time_means (times.Meet k o) tells = subst (λ (ss : List StopLine). MeetLineMeans lines ss k o)
@@ -615,7 +586,7 @@ module _ (lines : List CircuitLine) (p : Pattern) (m : ModuleLines) (jobs : List
   keep_means n j (Some q) f is least e =
       let same : q.assignment ≡ f.assignment = ap (λ (q : KeepFault). q.assignment) (same_Some (renumber_keep j q) f e)
       in
-      subst (LacksValues lines p m) same (lacks j q is least.0)
+      subst (KeepLineMeans lines p m) same (lacks j q is least.0)
 
   all_mean : (report : List ReportLine) → AreReportLines (setting_of lines p) (m ∷ []) jobs report → All Means report
   all_mean report are =
@@ -628,7 +599,7 @@ module _ (lines : List CircuitLine) (p : Pattern) (m : ModuleLines) (jobs : List
       let it : IsItsJob k j.0 = its_job k j.0 j.1 in
       let own : IsItsJob 0 j.0 =
       record { at = sym (ap (slice_get jobs) it.first) ∙ it.at; first = refl; is = it.is } in
-      let told : IsToldOf j.0 r = are.are_least.each k j.0 r j.1 at in
+      let told : AreLeastFaultsOfJob j.0 r = are.are_least.each k j.0 r j.1 at in
       record {
         fault = λ f e.
             let least : IsLeastFault j.0 (Some f) = subst (IsLeastFault j.0) e told.fault in
@@ -646,7 +617,7 @@ module _ (lines : List CircuitLine) (p : Pattern) (m : ModuleLines) (jobs : List
       subst (λ (ns : List ℕ). All Means (map (λ n. line.Unkept n) ns)) (sym kept) (All-nil Means) in
       subst (All Means) (sym are.lines_are)
       (All-append Means (report_lines_from 0 are.faults are.borders ++ unkept_lines g (m ∷ []))
-      (map timing_report (delay_and_meet_lines c (m ∷ [])))
+      (map timing_report_line (delay_and_meet_lines c (m ∷ [])))
       (All-append Means (report_lines_from 0 are.faults are.borders) (unkept_lines g (m ∷ []))
       (all_from Means 0 are.faults are.borders each) U)
       (all_timed Means (IsTimeLineTrue c (all_stops (m ∷ []))) (delay_and_meet_lines c (m ∷ [])) time_means
@@ -675,7 +646,7 @@ plain_no lines p m jobs report named b plain judged =
     let r = judged.1 in
     let counted = r.are_least.count in
     let f = some_at r.faults 0 (omega (arith, count, counted)) in
-    let is : IsToldOf j.0 f.0 = r.are_least.each 0 j.0 f.0 j.1 f.1 in
+    let is : AreLeastFaultsOfJob j.0 f.0 = r.are_least.each 0 j.0 f.0 j.1 f.1 in
     decide lines p m jobs named b plain f.0.fault is.keep _ j.0 (its_job lines p m jobs named b plain 0 j.0 j.1)
     is.fault is.least_keep refl judged.0
 

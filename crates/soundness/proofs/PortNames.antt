@@ -1,23 +1,14 @@
 -- The ports of a layout that was read have the names that were given, and each of these has a port
-use Rattle.lemmas.proofs.Common.{[], ◌++◌, ◌+◌, ◌||◌, ◌∙◌, ◌∷◌, ◌≡◌, Bool, List, None, Some, ap, ap₂, false, inl, inr}
-use Rattle.lemmas.proofs.Common.{length, map, not, option_map, refl, slice_get, subst, suc, sym, true, ℕ, and_parts}
-use Rattle.lemmas.proofs.Common.{bytes_eq, bytes_eq-Decides, cases_Bool, false≢true, list_all, list_any}
-use Rattle.lemmas.proofs.Common.{list_any-append, slice_get-map, or-false, same_truth, arith, common_steps}
-use Rattle.section_text.specs.Codes.{code_if}
-use Rattle.section_text.specs.Ports.{Named}
-use Rattle.section_text.specs.Words.{has}
-use Rattle.circuit.specs.Bridge.{input_names, output_names}
-use Rattle.pattern.specs.Layout.{Pattern, parts_of}
-use Rattle.pattern.specs.Lines.{is_in_line_named, is_out_line_named, missing_fault, name_fault}
-use Rattle.pattern.specs.declared.layout_line.LayoutLine.{LayoutLine}
-use Rattle.pattern.specs.declared.layout_line.LayoutLine.TheVariants.{Mirror, Ball, In, Out, Waste}
-use Rattle.pattern.specs.declared.layout_line.Port.{Port}
-use Rattle.certificate_lines.proofs.BoxPlaces.{skipped}
-use Rattle.certificate_lines.proofs.Lists.{kept}
+use Rattle.soundness.proofs.Imports.{Ball, Bool, In, LayoutLine, List, Mirror, None, Out, Pattern, Port, PortNameLists}
+use Rattle.soundness.proofs.Imports.{RefusalCode, Some, UnknownName, Waste, [], and_parts, ap, ap₂, arith, bytes_eq}
+use Rattle.soundness.proofs.Imports.{cases_Bool, code_if, common_steps, false, false≢true, has, inl, input_names, inr}
+use Rattle.soundness.proofs.Imports.{kept, length, list_all, list_any, map, name_fault, not, option_map, or-false}
+use Rattle.soundness.proofs.Imports.{output_names, parts_of, refl, same_truth, skipped, slice_get, slice_get-map, subst}
+use Rattle.soundness.proofs.Imports.{suc, sym, true, ℕ, ◌++◌, ◌+◌, ◌||◌, ◌∙◌, ◌∷◌, ◌≡◌}
+use Rattle.lemmas.proofs.Common.{bytes_eq-Decides, list_any-append}
+use Rattle.pattern.specs.Lines.{is_in_line_named, is_out_line_named, missing_fault}
 use Rattle.soundness.specs.HeadlineLaws.{ReadLayoutHasPortNames}
 use Rattle.soundness.proofs.InputRuns.{at_place, in_known, in_stands}
-use Rattle.section_text.specs.declared.code.RefusalCode.{RefusalCode}
-use Rattle.section_text.specs.declared.code.RefusalCode.TheVariants.{UnknownName}
 
 pub no_code : (b : Bool) (code : RefusalCode) → code_if (not b) code ≡ None → b ≡ true
 no_code true code e = refl
@@ -75,7 +66,7 @@ out_lines p n = grind (arith, common_steps, five_parts, none_in, all_in, or-fals
 
 -- ---- output cells
 
-out_known : (names : Named) (q : Port) → name_fault (Some names) (Out q) ≡ None → has names.outs q.name ≡ true
+out_known : (names : PortNameLists) (q : Port) → name_fault (Some names) (Out q) ≡ None → has names.outs q.name ≡ true
 unfolding name_fault
 out_known names q e = no_code (has names.outs q.name) UnknownName e
 
@@ -95,7 +86,7 @@ out_stands p i q e =
 
 -- ---- the whole
 
-all_stand : (names : Named) (parts : List LayoutLine) → missing_fault (Some names) parts ≡ None →
+all_stand : (names : PortNameLists) (parts : List LayoutLine) → missing_fault (Some names) parts ≡ None →
     (list_all (λ n. list_any (is_in_line_named n) parts) names.ins ≡ true)
     × (list_all (λ n. list_any (is_out_line_named n) parts) names.outs ≡ true)
 unfolding missing_fault
@@ -103,7 +94,7 @@ all_stand names parts e = grind (arith, common_steps, and_parts, no_code)
 
 pub read_layout-is_named : ReadLayoutHasPortNames
 read_layout-is_named lines p named =
-    let names : Named = record { ins = input_names lines; outs = output_names lines } in
+    let names : PortNameLists = record { ins = input_names lines; outs = output_names lines } in
     let all = all_stand names (parts_of p) named.whole in
     record {
       ins = λ n. same_truth _ _

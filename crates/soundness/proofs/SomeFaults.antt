@@ -1,48 +1,30 @@
 -- A job has a least fault or none, and so for keep faults and border faults
-use Rattle.lemmas.proofs.Common.{[], ◌%◌, ◌+◌, ◌<◌, ◌∙◌, ◌∷◌, ◌≡◌, ◌≢◌, ◌⊎◌, Bool, IsTrue, List, None, Option, Some, ap}
-use Rattle.lemmas.proofs.Common.{arith, false, flat_map, inl, inr, map, refl, slice_get, subst, sym, true, ℕ, ℤ}
-use Rattle.lemmas.proofs.Common.{Decides-int_eq, IsTotalOrder, and_parts, get_or_from_slice_get, nat_cmp_total}
-use Rattle.lemmas.proofs.Common.{on_total, props, range_with_len, slice_get-get_or, slice_get_within, then_total}
-use Rattle.lemmas.proofs.Common.{∥∥₁_elim}
-use Rattle.bbm_rule.specs.Bits.{bit}
-use Rattle.bbm_rule.specs.declared.block.Cell.{Cell}
-use Rattle.circuit.specs.Meaning.{AreOrdered, Valuation}
-use Rattle.circuit.specs.Bridge.{read}
-use Rattle.circuit.proofs.Undefined.{stopped, undefined_has_none, undefined_is_one}
-use Rattle.module_box.specs.Boxes.{in_box, in_halo, in_ring}
+use Rattle.soundness.proofs.Imports.{AreOrdered, Bool, BorderFault, Box2, Cell, Demand, Edge, End, Fault, IsBorderFault}
+use Rattle.soundness.proofs.Imports.{IsFault, IsFaultUnder, IsJob, IsKeepFault, IsLeastBorderFault, IsLeastFault}
+use Rattle.soundness.proofs.Imports.{IsLeastKeepFault, IsTotalOrder, IsTrue, JobView, KeepFault, Kind, List}
+use Rattle.soundness.proofs.Imports.{MeetsDemand, ModuleLines, None, One, Option, Setting, Signal, Some, Stop}
+use Rattle.soundness.proofs.Imports.{Valuation, Wire, Zero, [], and_parts, ap, arith, as_values, assignments, bit}
+use Rattle.soundness.proofs.Imports.{border_cmp, box_place, decided, edge_signal, false, fault_cmp, flat_map}
+use Rattle.soundness.proofs.Imports.{get_or_from_slice_get, halo_signal, in_box, in_halo, in_ring, inl, inr, is_among}
+use Rattle.soundness.proofs.Imports.{is_live, job_demand, local_run, map, props, range_with_len, rectangle_cells, refl}
+use Rattle.soundness.proofs.Imports.{signal_at, slice_get, slice_get-get_or, slice_get_within, subst, sym, true}
+use Rattle.soundness.proofs.Imports.{undefined_has_none, whole, ℕ, ℤ, ∥∥₁_elim, ◌%◌, ◌+◌, ◌<◌, ◌∙◌, ◌∷◌, ◌≡◌, ◌≢◌, ◌⊎◌}
+use Rattle.lemmas.proofs.Common.{Decides-int_eq, nat_cmp_total, on_total, then_total}
+use Rattle.circuit.proofs.Undefined.{stopped, undefined_is_one}
 use Rattle.module_box.specs.LocalValues.{IsFirstLocalGateWithoutRow}
-use Rattle.module_box.specs.Locals.{is_among}
-use Rattle.module_box.specs.Schedules.{signal_at}
-use Rattle.module_box.specs.declared.boxes.Box2.{Box2}
-use Rattle.module_box.specs.declared.schedules.Signal.{Signal}
-use Rattle.module_box.specs.declared.schedules.Signal.TheVariants.{Zero, One, Wire}
 use Rattle.module_box.proofs.Rising.{cell_total}
-use Rattle.certificate_lines.specs.Entries.{ModuleLines, Setting}
-use Rattle.certificate_lines.specs.Rules.{box_cells, whole}
-use Rattle.certificate_lines.proofs.BoxPlaces.{box_place}
 use Rattle.certificate_lines.proofs.LineOrder.{In, flat_in}
 use Rattle.certificate.proofs.FullModules.{stands}
-use Rattle.module_job.specs.Jobs.{IsJob, IsStopOf, JobView, job_demand}
-use Rattle.module_job.specs.Signals.{MeetsDemand, is_live}
-use Rattle.module_job.specs.declared.job.Demand.{Demand}
-use Rattle.module_job.specs.declared.job.Demand.TheVariants as Demanded
-use Rattle.module_job.specs.declared.job.Stop as listed
-use Rattle.local_run.specs.Faults.{IsFault, IsFaultUnder, IsKeepFault, IsLeastFault, IsLeastKeepFault, assignments}
-use Rattle.local_run.specs.Order.{fault_cmp, keep_cmp, kind_number}
-use Rattle.local_run.specs.Runs.{local_run}
-use Rattle.local_run.specs.declared.fault.Fault.{Fault}
-use Rattle.local_run.specs.declared.fault.KeepFault.{KeepFault}
-use Rattle.local_run.specs.declared.fault.Kind.{Kind}
-use Rattle.local_run.specs.declared.fault.Kind.TheVariants.{Edge, Stop, End}
-use Rattle.local_run.proofs.Decided.{decided}
+use Rattle.module_job.specs.Jobs.{IsStopOf}
+use Rattle.local_run.specs.Order.{keep_cmp, kind_number}
 use Rattle.local_run.proofs.Leasts.{undefined_no_fault}
-use Rattle.border_match.specs.BorderFaults.{IsBorderFault, IsLeastBorderFault, border_cmp, edge_signal, halo_signal}
-use Rattle.border_match.specs.declared.fault.BorderFault.{BorderFault}
 use Rattle.border_match.proofs.FaultOrder.{border_total}
 use Rattle.soundness.proofs.SomeLeast.{Decided, HasOne, among_in, below_decided, bools_decided, both_decided}
 use Rattle.soundness.proofs.SomeLeast.{decided_by, IsLeastIn, in_map, in_range, least_in, not_decided, numbers_decided}
 use Rattle.soundness.proofs.SomeLeast.{some_decided, true_decided}
 use Rattle.soundness.proofs.SomeValues.{HasStop, HasValues, values_or_stop}
+use Rattle.module_job.specs.declared.job.Demand.TheVariants as Demanded
+use Rattle.module_job.specs.declared.job.Stop as listed
 
 fault_total : IsTotalOrder fault_cmp
 unfolding fault_cmp
@@ -58,8 +40,8 @@ keep_total = then_total (on_total (λ (f : KeepFault). f.gate) nat_cmp_total)
 integers_decided : (a b : ℤ) → Decided (a ≡ b)
 integers_decided a b = decided_by (Decides-int_eq a b).0 (Decides-int_eq a b).1 (true_decided _)
 
-in_cells_of_box : (b : Box2) (d : Cell) → in_box b d.x d.y ≡ true → In d (box_cells b)
-in_cells_of_box b d h = stands (box_cells b) _ d (box_place b d.x d.y h)
+in_cells_of_box : (b : Box2) (d : Cell) → in_box b d.x d.y ≡ true → In d (rectangle_cells b)
+in_cells_of_box b d h = stands (rectangle_cells b) _ d (box_place b d.x d.y h)
 
 -- ---- whether a job has a fault, where its wires have these values
 
@@ -145,7 +127,7 @@ module _ (j : JobView) (is : IsJob j) (ordered : AreOrdered j.locals.netlist.giv
   fault_at t k d a = record { time = t; kind = k; cell = d; assignment = a }
 
   abbrev places_at : ℕ → Kind → List Fault
-  places_at t k = flat_map (λ d. map (fault_at t k d) (range_with_len 0 (assignments j))) (box_cells j.area)
+  places_at t k = flat_map (λ d. map (fault_at t k d) (range_with_len 0 (assignments j))) (rectangle_cells j.area)
 
   -- all that may be a fault
   abbrev places_of : List Fault
@@ -162,7 +144,8 @@ module _ (j : JobView) (is : IsJob j) (ordered : AreOrdered j.locals.netlist.giv
       flat_in (λ t. flat_map (places_at t) kinds) f (range_with_len 0 (j.steps + 1)) f.time
       (in_range (j.steps + 1) f.time b.0)
       (flat_in (places_at f.time) f kinds f.kind (in_kinds f.kind)
-      (flat_in (λ d. map (fault_at f.time f.kind d) (range_with_len 0 (assignments j))) f (box_cells j.area) f.cell
+      (flat_in (λ d. map (fault_at f.time f.kind d) (range_with_len 0 (assignments j))) f
+      (rectangle_cells j.area) f.cell
       (in_cells_of_box j.area f.cell b.1)
       (in_map (fault_at f.time f.kind f.cell) f.assignment (range_with_len 0 (assignments j))
       (in_range (assignments j) f.assignment small))))
@@ -178,8 +161,8 @@ module _ (j : JobView) (is : IsJob j) (ordered : AreOrdered j.locals.netlist.giv
     | inr not_so ↦ inr (λ h. not_so h.in_range)
     | inl small ↦ elim (values_of f.assignment) [
       | inl v ↦
-          let both = decided j f (read v.0) is ordered small v.1.satisfies in
-          decided_by both.1 both.0 (under_decided j (read v.0) f.time f.cell.x f.cell.y f.kind)
+          let both = decided j f (as_values v.0) is ordered small v.1.satisfies in
+          decided_by both.1 both.0 (under_decided j (as_values v.0) f.time f.cell.x f.cell.y f.kind)
       | inr s ↦ inr (undefined_no_fault j f s.0 ordered (undefined_at f.assignment s))
     ]
   ]
@@ -187,7 +170,8 @@ module _ (j : JobView) (is : IsJob j) (ordered : AreOrdered j.locals.netlist.giv
   fault_placed : (f : Fault) → IsFault j f → In f places_of
   fault_placed f h = elim (values_of f.assignment) [
     | inl v ↦ in_places f
-        (bounded (read v.0) f f.kind ((decided j f (read v.0) is ordered h.in_range v.1.satisfies).0 h)) h.in_range
+        (bounded (as_values v.0) f f.kind ((decided j f (as_values v.0) is ordered h.in_range v.1.satisfies).0 h))
+        h.in_range
     | inr s ↦ absurd (undefined_no_fault j f s.0 ordered (undefined_at f.assignment s) h)
   ]
 
@@ -209,7 +193,7 @@ module _ (j : JobView) (is : IsJob j) (ordered : AreOrdered j.locals.netlist.giv
   keep_at : (f : KeepFault) → f.assignment < assignments j → is_among j.kept f.gate ≡ true → Decided (IsKeepFault j f)
   keep_at f small kept = elim (values_of f.assignment) [
     | inl v ↦ inr (λ h. ∥∥₁_elim h.shown (λ x y. absurd x)
-        (λ s. undefined_has_none j.locals.netlist (bit f.assignment) (read v.0) f.gate ordered s v.1.satisfies))
+        (λ s. undefined_has_none j.locals.netlist (bit f.assignment) (as_values v.0) f.gate ordered s v.1.satisfies))
     | inr s ↦ elim (numbers_decided s.0 f.gate) [
       | inl same ↦ inl (record {
         in_range = small;
@@ -335,13 +319,14 @@ module _ (g : Setting) (ms : List ModuleLines) (i : ℕ) where
   border_at t d = record { time = t; cell = d }
 
   abbrev borders_of : List BorderFault
-  borders_of = flat_map (λ t. map (border_at t) (box_cells (whole g.size))) (range_with_len 0 g.size.steps)
+  borders_of = flat_map (λ t. map (border_at t) (rectangle_cells (whole g.size))) (range_with_len 0 g.size.steps)
 
   border_placed : (f : BorderFault) → IsBorderFault g ms i f → In f borders_of
   border_placed f h =
-      flat_in (λ t. map (border_at t) (box_cells (whole g.size))) f (range_with_len 0 g.size.steps) f.time
+      flat_in (λ t. map (border_at t) (rectangle_cells (whole g.size))) f (range_with_len 0 g.size.steps) f.time
       (in_range g.size.steps f.time h.early)
-      (in_map (border_at f.time) f.cell (box_cells (whole g.size)) (in_cells_of_box (whole g.size) f.cell h.inside))
+      (in_map (border_at f.time) f.cell (rectangle_cells (whole g.size))
+      (in_cells_of_box (whole g.size) f.cell h.inside))
 
   border_everywhere : (o : Option BorderFault) →
       IsLeastIn border_cmp border_total (IsBorderFault g ms i) (border_decided (slice_get ms i) refl) borders_of o →

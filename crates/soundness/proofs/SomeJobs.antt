@@ -1,43 +1,32 @@
 -- A module has a job, which is computed from its lines
-use Rattle.lemmas.proofs.Common.{[], ◌++◌, ◌<◌, ◌||◌, ◌∙◌, ◌∷◌, ◌≡◌, All, Bool, IfSome, IsTrue, List, None, Option}
-use Rattle.lemmas.proofs.Common.{Some, ap, append-nil, append_assoc, ap₂, arith, false, flat_map, get_or, if◌then◌else◌}
-use Rattle.lemmas.proofs.Common.{length, length-append, map, option_map, option_to_list, refl, slice_get, slice_index}
-use Rattle.lemmas.proofs.Common.{subst, suc, sym, true, ℕ, ℤ, All-cons, All-head, All-nil, All-tail, get_or_at}
-use Rattle.lemmas.proofs.Common.{length-map, length_push, range_with_len, same_Some, slice_get-map, take_all}
-use Rattle.bbm_rule.specs.declared.block.Cell.{Cell}
-use Rattle.circuit.specs.Bridge.{circuit_of, netlist_of}
-use Rattle.circuit.specs.Gates.{defines}
-use Rattle.circuit.specs.Meaning.{AreOrdered, Circuit, Gate, Netlist, wire_of, wires}
-use Rattle.circuit.specs.declared.circuit_line.CircuitLine.{CircuitLine}
-use Rattle.pattern.specs.Layout.{Pattern, in_cells, in_rectangles}
-use Rattle.module_box.specs.Boxes.{in_box}
-use Rattle.module_box.specs.Locals.{AreLocalLines, AreLocalsOf, LocalNet, is_among, local_wires}
-use Rattle.module_box.specs.declared.schedules.Signal.{Signal}
-use Rattle.module_box.specs.declared.schedules.Signal.TheVariants.{Zero, One}
+use Rattle.soundness.proofs.Imports.{All, All-cons, All-head, All-nil, All-tail, AreJobsOf, AreLocalsOf, AreOrdered}
+use Rattle.soundness.proofs.Imports.{Bool, Cell, Circuit, CircuitLine, Demand, Each, Gate, IfSome, IsDemandWireBelow}
+use Rattle.soundness.proofs.Imports.{IsJobOf, IsModule, IsSignalWireBelow, IsTrue, JobView, List, LocalNet, ModuleLines}
+use Rattle.soundness.proofs.Imports.{Netlist, None, One, Option, Pattern, Signal, Some, StopLine, Zero, [], ap}
+use Rattle.soundness.proofs.Imports.{append-nil, append_assoc, ap₂, arith, circuit_of, cut_wires, defines}
+use Rattle.soundness.proofs.Imports.{demand_outside_mirrors, edges, end_demand, false, flat_map, get_or, halos}
+use Rattle.soundness.proofs.Imports.{if◌then◌else◌, in_box, in_cells, in_rectangles, is_among, is_local, is_local_wire}
+use Rattle.soundness.proofs.Imports.{keeps, known, length, length-append, length-map, line_signals, map, netlist_of}
+use Rattle.soundness.proofs.Imports.{option_map, option_to_list, port_at, range_with_len, rectangle_cells, refl}
+use Rattle.soundness.proofs.Imports.{renumber_demand, renumber_signal, renumber_stop, same_Some, setting_of, slice_get}
+use Rattle.soundness.proofs.Imports.{slice_get-map, slice_index, start_signal, stop_with_wire_number, stops}
+use Rattle.soundness.proofs.Imports.{stops_of_lines, subst, suc, sym, true, wire_of, wire_of_optional_name}
+use Rattle.soundness.proofs.Imports.{wire_or_dead, wire_or_zero, wires, ℕ, ℤ, ◌++◌, ◌<◌, ◌||◌, ◌∙◌, ◌∷◌, ◌≡◌}
+use Rattle.lemmas.proofs.Common.{get_or_at, length_push, take_all}
+use Rattle.module_box.specs.Locals.{AreLocalLines, local_wires}
 use Rattle.module_box.proofs.LocalNets.{IsOver, IsPart, next_known, part_all, part_more, part_none}
-use Rattle.certificate_lines.specs.Entries.{ModuleLines, cut_wires, edges, gates, halos, keeps, known, stops}
-use Rattle.certificate_lines.specs.Modules.{HasPorts, IsModule}
-use Rattle.certificate_lines.specs.PortTables.{port_at}
-use Rattle.certificate_lines.specs.Rules.{box_cells, is_local, is_local_wire}
-use Rattle.certificate_lines.specs.Settings.{setting_of}
-use Rattle.certificate_lines.specs.declared.certificate_line.StopLine.{StopLine}
+use Rattle.certificate_lines.specs.Entries.{gates}
+use Rattle.certificate_lines.specs.Modules.{HasLocalPorts}
 use Rattle.certificate_lines.proofs.BoxPlaces.{cells_inside, found_at, same_count}
-use Rattle.certificate_lines.proofs.Pairs.{Each, each_of_all}
-use Rattle.module_job.specs.Jobs.{JobView}
-use Rattle.module_job.specs.Signals.{IsSignalWireBelow, IsDemandWireBelow, renumber_demand, renumber_signal}
-use Rattle.module_job.specs.Signals.{renumber_stop}
-use Rattle.module_job.specs.declared.job.Demand.{Demand}
-use Rattle.module_job.specs.declared.job.Demand.TheVariants as Demanded
-use Rattle.module_job.specs.declared.job.Stop as listed
-use Rattle.certificate.specs.Jobs.{AreJobsOf, IsJobOf, demand_outside_mirrors, wire_or_dead, end_demand, line_signals}
-use Rattle.certificate.specs.Jobs.{stops_of_lines, wire_of_optional_name, stop_with_wire_number, wire_or_zero}
-use Rattle.certificate.specs.Jobs.{start_signal}
+use Rattle.certificate_lines.proofs.Pairs.{each_of_all}
 use Rattle.certificate.proofs.FullModules.{all_of_each}
 use Rattle.certificate.proofs.JobPlaces.{demand_found, start_found}
 use Rattle.certificate.proofs.LayoutTableLemmas.{cells_have_ports}
 use Rattle.soundness.specs.ModuleLaws.{ModuleHasSomeJob}
 use Rattle.soundness.proofs.NumberedSignals.{IsBack, IsNamed, IsNumbered, is_place, lines_back, numbered}
 use Rattle.soundness.proofs.NumberedSignals.{numbered_signals, place_among, wire_numbered}
+use Rattle.module_job.specs.declared.job.Demand.TheVariants as Demanded
+use Rattle.module_job.specs.declared.job.Stop as listed
 
 -- ---- the places of wires
 
@@ -232,8 +221,8 @@ module _ (c : Circuit) (p : Pattern) (m : ModuleLines) where
     area = m.area;
     steps = p.size.steps;
     locals = net_of;
-    starts = map (λ (d : Cell). numbered (known c m) (start_signal c p d.x d.y)) (box_cells m.area);
-    demands = map (λ (d : Cell). demanded (known c m) (end_demand c p d.x d.y)) (box_cells m.area);
+    starts = map (λ (d : Cell). numbered (known c m) (start_signal c p d.x d.y)) (rectangle_cells m.area);
+    demands = map (λ (d : Cell). demanded (known c m) (end_demand c p d.x d.y)) (rectangle_cells m.area);
     edges = numbered_signals c (known c m) (line_signals c (edges m));
     halos = numbered_signals c (known c m) (line_signals c (halos m));
     stops = map (placed_stop (known c m)) (stops_of_lines c (stops m));
@@ -242,7 +231,7 @@ module _ (c : Circuit) (p : Pattern) (m : ModuleLines) where
 
 module _ (lines : List CircuitLine) (p : Pattern) (m : ModuleLines)
     (ordered : AreOrdered (netlist_of lines).given (netlist_of lines).gates)
-    (is : IsModule (setting_of lines p) m) (ports : HasPorts (setting_of lines p) m) where
+    (is : IsModule (setting_of lines p) m) (ports : HasLocalPorts (setting_of lines p) m) where
   abbrev c : Circuit
   c = circuit_of lines
 
@@ -300,13 +289,13 @@ module _ (lines : List CircuitLine) (p : Pattern) (m : ModuleLines)
       ((cells_have_ports lines p m ports).1 x y h)
 
   starts_back : CellsBack (renumber_signal (slice_index ws)) (numbered ws) (IsSignalWireBelow (length ws)) starts
-      (box_cells m.area)
-  starts_back = cells_back _ _ _ starts (box_cells m.area) (each_at_place _ (box_cells m.area) (λ k d at.
+      (rectangle_cells m.area)
+  starts_back = cells_back _ _ _ starts (rectangle_cells m.area) (each_at_place _ (rectangle_cells m.area) (λ k d at.
       let is = start_numbered d.x d.y (cells_inside m.area k d at) in (is.back, is.below)))
 
   ends_back : CellsBack (renumber_demand (slice_index ws)) (demanded ws) (IsDemandWireBelow (length ws)) demands
-      (box_cells m.area)
-  ends_back = cells_back _ _ _ demands (box_cells m.area) (each_at_place _ (box_cells m.area) (λ k d at.
+      (rectangle_cells m.area)
+  ends_back = cells_back _ _ _ demands (rectangle_cells m.area) (each_at_place _ (rectangle_cells m.area) (λ k d at.
       let is = demand_is_numbered d.x d.y (cells_inside m.area k d at) in (is.back, is.below)))
 
   -- its lines
@@ -370,7 +359,7 @@ some_job lines p m ordered is ports = (job_of (circuit_of lines) p m, is_job_of 
 pub are_jobs_of : (lines : List CircuitLine) (p : Pattern) (ms : List ModuleLines) →
     AreOrdered (netlist_of lines).given (netlist_of lines).gates →
     ((k : ℕ) (m : ModuleLines) → slice_get ms k ≡ Some m →
-    IsModule (setting_of lines p) m × HasPorts (setting_of lines p) m) →
+    IsModule (setting_of lines p) m × HasLocalPorts (setting_of lines p) m) →
     AreJobsOf (circuit_of lines) p ms (map (job_of (circuit_of lines) p) ms)
 are_jobs_of lines p ms ordered each = record {
   count = length-map ms (job_of (circuit_of lines) p);

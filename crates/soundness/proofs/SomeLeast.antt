@@ -1,9 +1,9 @@
 -- The least of the elements of a list for which a fact holds that can be decided
-use Rattle.lemmas.proofs.Common.{[], ◌+◌, ◌<◌, ◌||◌, ◌∙◌, ◌∷◌, ◌≡◌, ◌≢◌, ◌⊎◌, Bool, Equal, Greater, Less, List, None}
-use Rattle.lemmas.proofs.Common.{Option, Ordering, Some, ap, arith, eqb, false, inl, inr, is_gt, map, refl, slice_get}
-use Rattle.lemmas.proofs.Common.{subst, suc, sym, true, true≢false, zero, ℕ, IsTotalOrder, cases_lt, eqb-true}
-use Rattle.lemmas.proofs.Common.{false≢true, ordering_reverse, range_with_len, tied_itself, upto, common_steps}
-use Rattle.module_box.specs.Locals.{is_among}
+use Rattle.soundness.proofs.Imports.{Bool, IsTotalOrder, List, None, Option, Some, [], ap, arith, cases_lt}
+use Rattle.soundness.proofs.Imports.{common_steps, eqb, eqb-true, false, false≢true, inl, inr, is_among, map}
+use Rattle.soundness.proofs.Imports.{range_with_len, refl, slice_get, subst, suc, sym, true, true≢false, zero, ℕ, ◌+◌}
+use Rattle.soundness.proofs.Imports.{◌<◌, ◌||◌, ◌∙◌, ◌∷◌, ◌≡◌, ◌≢◌, ◌⊎◌}
+use Rattle.lemmas.proofs.Common.{Equal, Greater, Less, Ordering, is_gt, ordering_reverse, tied_itself, upto}
 use Rattle.certificate_lines.proofs.LineOrder.{In}
 
 -- ---- facts that can be decided

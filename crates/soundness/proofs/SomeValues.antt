@@ -1,12 +1,11 @@
 -- Ordered gates have values, or there is a first gate that has no row
-use Rattle.lemmas.proofs.Common.{◌<◌, ◌∙◌, ◌≡◌, ◌⊎◌, Bool, List, None, Option, Some, arith, false, inl, inr, length}
-use Rattle.lemmas.proofs.Common.{map, refl, subst, sym, ℕ, get_or-map-range_with_len, length-map, length-range_with_len}
-use Rattle.lemmas.proofs.Common.{range_with_len}
-use Rattle.circuit.specs.Bridge.{AreValues, StopsAt, read}
+use Rattle.soundness.proofs.Imports.{AreOrdered, Bool, List, Netlist, None, Option, Some, Valuation, arith, as_values}
+use Rattle.soundness.proofs.Imports.{evaluated, false, get_or-map-range_with_len, inl, inr, length, length-map}
+use Rattle.soundness.proofs.Imports.{length-range_with_len, map, range_with_len, refl, subst, sym, ℕ, ◌<◌, ◌∙◌, ◌≡◌}
+use Rattle.soundness.proofs.Imports.{◌⊎◌}
+use Rattle.circuit.specs.Bridge.{AreValues, ValuesStopAt}
 use Rattle.circuit.specs.Evaluate.{first_undefined_gate}
-use Rattle.circuit.specs.Meaning.{AreOrdered, Netlist, Valuation}
 use Rattle.circuit.proofs.Undefined.{all_evaluated, stops, up_to}
-use Rattle.circuit.proofs.Valuations.{evaluated}
 
 module _ (n : Netlist) (a : Valuation) (ordered : AreOrdered n.given n.gates) where
   -- the values of all wires
@@ -15,7 +14,7 @@ module _ (n : Netlist) (a : Valuation) (ordered : AreOrdered n.given n.gates) wh
 
   -- the first gate that has no row, and the values before it
   abbrev pub HasStop : Type 0
-  HasStop = (k : ℕ) × (vs : List Bool) × StopsAt n a k vs
+  HasStop = (k : ℕ) × (vs : List Bool) × ValuesStopAt n a k vs
 
   abbrev given : List Bool
   given = map a (range_with_len 0 n.given)
@@ -23,7 +22,7 @@ module _ (n : Netlist) (a : Valuation) (ordered : AreOrdered n.given n.gates) wh
   long : length given ≡ n.given
   long = length-map (range_with_len 0 n.given) a ∙ length-range_with_len 0 n.given
 
-  same : (i : ℕ) → i < n.given → read given i ≡ a i
+  same : (i : ℕ) → i < n.given → as_values given i ≡ a i
   same i h = get_or-map-range_with_len a 0 n.given i i false h (omega arith)
 
   by_first : (o : Option ℕ) → first_undefined_gate given n.gates ≡ o → HasValues ⊎ HasStop

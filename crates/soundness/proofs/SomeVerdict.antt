@@ -1,57 +1,39 @@
 -- The modules of a certificate have jobs and a verdict
-use Rattle.lemmas.proofs.Common.{common_steps}
-use Rattle.lemmas.proofs.Common.{[], ◌&&◌, ◌*◌, ◌++◌, ◌+◌, ◌<◌, ◌^◌, ◌||◌, ◌∙◌, ◌∷◌, ◌≡◌, ◌≤◌, Bool, Global, List, None}
-use Rattle.lemmas.proofs.Common.{Option, Some, Vec, ap, append-nil, append_assoc, arith, cond, false, get_or, inl, inr}
-use Rattle.lemmas.proofs.Common.{length, length-append, map, nat_le, nat_lt, not, option_map, option_to_list, refl}
-use Rattle.lemmas.proofs.Common.{slice_get, subst, suc, sym, true, zero, ℕ, length-map, nat_tests, slice_get_within}
-use Rattle.section_text.specs.Codes.{code_if, or_else}
-use Rattle.circuit.specs.Bridge.{AreGoodCircuitLines, AreGoodAfter, circuit_of, netlist_of}
-use Rattle.circuit.specs.Entries.{defined}
-use Rattle.circuit.specs.declared.circuit_line.GateKind.{GateKind}
-use Rattle.circuit.specs.declared.circuit_line.GateKind.TheVariants.{Source, Fredkin, Cswap, Interact, Switch, Delay}
-use Rattle.circuit.specs.declared.circuit_line.GateKind.TheVariants.{Unswitch, Uninteract}
-use Rattle.circuit.specs.Gates.{is_inverse}
-use Rattle.circuit.specs.Meaning.{AreOrdered, Gate}
+use Rattle.soundness.proofs.Imports.{AreJobsOf, AreLeastFaultsOfJob, AreModules, AreOrdered, Bool, BorderFault, Box2}
+use Rattle.soundness.proofs.Imports.{CircuitLine, Cswap, Delay, Fredkin, Gate, GateKind, Interact, IsEven, IsJob}
+use Rattle.soundness.proofs.Imports.{IsJobOf, IsLeastBorderFault, IsModule, IsVerdict, JobView, LeastFaults, List}
+use Rattle.soundness.proofs.Imports.{ModuleLines, None, Option, Pattern, RefusalCode, ReportLine, Setting, Some, Source}
+use Rattle.soundness.proofs.Imports.{StopGap, Switch, TimeLine, Uninteract, Unkept, Unswitch, Yes, [], all_stops, ap}
+use Rattle.soundness.proofs.Imports.{append-nil, append_assoc, are_all_obeyed, arith, circuit_of, code_if, common_steps}
+use Rattle.soundness.proofs.Imports.{cond, defined, delay_and_meet_lines, false, first_seen, get_or, in_box, inl, inr}
+use Rattle.soundness.proofs.Imports.{is_inverse, is_kept, last_seen, length, length-append, length-map, map, nat_lt}
+use Rattle.soundness.proofs.Imports.{nat_tests, netlist_of, not, option_map, option_to_list, refl, renumber_keep}
+use Rattle.soundness.proofs.Imports.{report_lines_from, setting_of, size_fault, slice_get, slice_get_within, stops}
+use Rattle.soundness.proofs.Imports.{stops_stand, subst, suc, sym, time_lines_of_gates, timing_report_line, true}
+use Rattle.soundness.proofs.Imports.{unkept_from, unkept_lines, zero, ℕ, ◌&&◌, ◌*◌, ◌++◌, ◌+◌, ◌<◌, ◌||◌, ◌∙◌, ◌∷◌, ◌≡◌}
+use Rattle.soundness.proofs.Imports.{◌≤◌}
+use Rattle.lemmas.proofs.Common.{◌^◌, Global, Vec, nat_le}
+use Rattle.section_text.specs.Codes.{or_else}
+use Rattle.circuit.specs.Bridge.{AreGoodCircuitLines, AreGoodAfter}
 use Rattle.circuit.specs.Rules.{add_fault, gate_count, is_gate, is_wrong_delay, exceeds_limit}
-use Rattle.circuit.specs.declared.circuit_line.CircuitLine.{CircuitLine}
 use Rattle.circuit.proofs.Bridging.{count_append, gates_are_ordered}
 use Rattle.circuit.proofs.Naming.{gates_counted}
-use Rattle.pattern.specs.Layout.{Pattern}
-use Rattle.pattern.specs.Lines.{size_fault}
-use Rattle.certificate_lines.specs.Entries.{ModuleLines, Setting, stops}
-use Rattle.certificate_lines.specs.Modules.{AreModules, IsModule}
-use Rattle.certificate_lines.specs.Settings.{setting_of}
-use Rattle.module_box.specs.Boxes.{in_box, IsEven}
-use Rattle.module_box.specs.declared.boxes.Box2.{Box2}
-use Rattle.module_job.specs.Jobs.{IsJob, JobView}
-use Rattle.certificate.specs.Jobs.{AreJobsOf, IsJobOf}
-use Rattle.certificate.specs.Keeps.{is_kept, unkept_from}
 use Rattle.certificate.specs.StopLists.{AreStops}
-use Rattle.certificate.specs.Times.{common_time, all_stops, are_all_obeyed, delay_line_of_kind, first_seen}
-use Rattle.certificate.specs.Times.{last_seen, time_lines_of_gates, meet_line_of_times}
-use Rattle.certificate.specs.Times.{numbered, delay_and_meet_lines}
-use Rattle.certificate.specs.declared.times.StopGap.{StopGap}
-use Rattle.certificate.specs.declared.times.TimeLine.{TimeLine}
+use Rattle.certificate.specs.Times.{common_time, delay_line_of_kind, meet_line_of_times, lines_by_number}
 use Rattle.certificate.specs.declared.times.TimeLine.TheVariants.{Meet}
 use Rattle.certificate.proofs.JobLemmas.{within_512}
-use Rattle.certificate.proofs.StopLemmas.{stops_rise, stops_stand}
-use Rattle.border_match.specs.BorderFaults.{AreBorderFaultsOf, IsLeastBorderFault}
-use Rattle.border_match.specs.declared.fault.BorderFault.{BorderFault}
+use Rattle.certificate.proofs.StopLemmas.{stops_rise}
+use Rattle.border_match.specs.BorderFaults.{AreBorderFaultsOf}
 use Rattle.soundness.specs.ModuleLaws.{VerdictExists}
-use Rattle.core_book.specs.Verdicts.{AreLeastFaults, IsToldOf, IsVerdict, report_lines_from}
-use Rattle.core_book.specs.Verdicts.{renumber_keep, timing_report, unkept_lines}
-use Rattle.core_book.specs.declared.verdict.LeastFaults.{LeastFaults}
-use Rattle.core_book.specs.declared.verdict.ReportLine.{ReportLine}
-use Rattle.core_book.specs.declared.verdict.ReportLine.TheVariants.{Unkept}
+use Rattle.core_book.specs.Verdicts.{AreLeastFaults}
 use Rattle.core_book.specs.declared.verdict.Verdict.{Verdict}
-use Rattle.core_book.specs.declared.verdict.Verdict.TheVariants.{Yes, No}
+use Rattle.core_book.specs.declared.verdict.Verdict.TheVariants.{No}
 use Rattle.core_book.proofs.OneVerdict.{none-past}
 use Rattle.core_book.proofs.ReportLines.{accepted, accepted-no_lines}
 use Rattle.soundness.proofs.SomeFaults.{least_border_fault, least_fault, least_keep_fault}
 use Rattle.soundness.proofs.SomeJobs.{are_jobs_of, job_of}
 use Rattle.soundness.proofs.SomeLeast.{Decided, both_decided, true_decided}
 use denote.RawPtr.{null_ptr}
-use Rattle.section_text.specs.declared.code.RefusalCode.{RefusalCode}
 
 -- ---- how many lines there are
 
@@ -81,8 +63,8 @@ one_each ms n (g ∷ gs) =
     at_most n false = omega arith
 
 line_each : (f : ℕ → Gate → List TimeLine) → ((k : ℕ) (g : Gate) → length (f k g) ≤ 1) → (k : ℕ) (gs : List Gate) →
-    length (numbered f k gs) ≤ length gs
-unfolding numbered
+    length (lines_by_number f k gs) ≤ length gs
+unfolding lines_by_number
 line_each f few k [] = omega arith
 line_each f few k (g ∷ gs) = grind (arith, common_steps, length-append, (line_each f few (k + 1) gs))
 
@@ -178,17 +160,18 @@ all_reasons (j ∷ js) each =
     let fault = least_fault j own.0 own.1 in
     let keep = least_keep_fault j own.0 own.1 in
     let reasons : LeastFaults = record { fault = fault.0; keep = option_map (renumber_keep j) keep.0 } in
-    let told : IsToldOf j reasons = record { fault = fault.1; keep = keep.0; least_keep = keep.1; same = refl } in
+    let told : AreLeastFaultsOfJob j reasons =
+    record { fault = fault.1; keep = keep.0; least_keep = keep.1; same = refl } in
     let more = all_reasons js (λ k. each (suc k)) in
     (reasons ∷ more.0, record { count = ap suc more.1.count; each = at_each reasons told more.0 more.1 })
   where
-    at_each : (r : LeastFaults) → IsToldOf j r → (fs : List LeastFaults) → AreLeastFaults js fs →
+    at_each : (r : LeastFaults) → AreLeastFaultsOfJob j r → (fs : List LeastFaults) → AreLeastFaults js fs →
         (k : ℕ) (i : JobView) (f : LeastFaults) → slice_get (j ∷ js) k ≡ Some i → slice_get (r ∷ fs) k ≡ Some f →
-        IsToldOf i f
+        AreLeastFaultsOfJob i f
     at_each r is fs are zero i f at there =
         let same : j ≡ i = cc in
         let alike : r ≡ f = cc in
-        subst (λ i. IsToldOf i f) same (subst (IsToldOf j) alike is)
+        subst (λ i. AreLeastFaultsOfJob i f) same (subst (AreLeastFaultsOfJob j) alike is)
     at_each r is fs are (suc k) i f at there = are.each k i f at there
 
 record AreBordersFrom (g : Setting) (ms : List ModuleLines) (n many : ℕ) (fs : List (Option BorderFault)) : Type 0 where
@@ -308,7 +291,8 @@ module _ (lines : List CircuitLine) (p : Pattern) (ms : List ModuleLines) (good 
   same_count = reasons.1.count ∙ own_jobs.count ∙ sym borders.1.count
 
   abbrev all_lines : List ReportLine
-  all_lines = report_lines_from 0 fs bs ++ unkept_lines g ms ++ map timing_report (delay_and_meet_lines g.circuit ms)
+  all_lines = report_lines_from 0 fs bs ++ unkept_lines g ms
+      ++ map timing_report_line (delay_and_meet_lines g.circuit ms)
 
   few_lines : length all_lines < 2 ^ 63
   few_lines =
@@ -320,9 +304,9 @@ module _ (lines : List CircuitLine) (p : Pattern) (ms : List ModuleLines) (good 
       let count = reasons.1.count ∙ own_jobs.count in
       let few = few_gates lines good in
       let outer = length-append (report_lines_from 0 fs bs ++ unkept_lines g ms)
-      (map timing_report (delay_and_meet_lines g.circuit ms)) in
+      (map timing_report_line (delay_and_meet_lines g.circuit ms)) in
       let inner = length-append (report_lines_from 0 fs bs) (unkept_lines g ms) in
-      let said = length-map (delay_and_meet_lines g.circuit ms) timing_report in
+      let said = length-map (delay_and_meet_lines g.circuit ms) timing_report_line in
       let named = length-map (unkept_from ms 0 gates) (λ n. Unkept n) in
       omega (arith, faults, unkept, times, few_modules, count, few, outer, inner, said, named)
 

@@ -1,9 +1,7 @@
 -- If all stops of the jobs have a property, all stop lines have it.
-use Rattle.lemmas.proofs.Common.{[], ◌∷◌, ◌≡◌, All, List, None, Option, Some, flat_map, map, refl, slice_get, subst}
-use Rattle.lemmas.proofs.Common.{suc, true, zero, ℕ, All-append, All-cons, All-head, All-nil, All-tail, same_Some}
-use Rattle.certificate.specs.Jobs.{stop_with_wire_number}
-use Rattle.certificate_lines.specs.Rules.{is_local_wire}
-use Rattle.certificate_lines.specs.declared.certificate_line.StopLine.{StopLine}
+use Rattle.soundness.proofs.Imports.{All, All-append, All-cons, All-head, All-nil, All-tail, List, None, Option, Some}
+use Rattle.soundness.proofs.Imports.{StopLine, [], flat_map, is_local_wire, map, refl, same_Some, slice_get}
+use Rattle.soundness.proofs.Imports.{stop_with_wire_number, subst, suc, true, zero, ℕ, ◌∷◌, ◌≡◌}
 use Rattle.module_job.specs.declared.job.Stop as listed
 
 pub all_map : {X Y : Type 0} (P : Y → Type 0) (f : X → Y) (xs : List X) → All (λ x. P (f x)) xs → All P (map f xs)

@@ -1,52 +1,25 @@
 -- Modules are accepted if they pass tests, which a proof by computation can run.
 --
 -- Each job is run under each assignment, and the borders are compared at each odd time.
-use Rattle.lemmas.proofs.Common.{[], ◌%◌, ◌&&◌, ◌*◌, ◌+◌, ◌/◌, ◌<◌, ◌||◌, ◌∙◌, ◌∷◌, ◌≡◌, Bool, IsTrue, List, None}
-use Rattle.lemmas.proofs.Common.{Option, Some, ap, arith, false, length, map, not, refl, slice_get, subst, suc, sym}
-use Rattle.lemmas.proofs.Common.{true, zero, ℕ, ℤ, and_parts, beq, booleans_Decides, false≢true}
-use Rattle.lemmas.proofs.Common.{get_or-map-range_with_len, get_or-range_with_len, length-map, length-range_with_len}
-use Rattle.lemmas.proofs.Common.{list_all, range_with_len, slice_get-get_or, slice_get_within, ∥∥₁_elim}
-use Rattle.bbm_rule.specs.Bits.{bit}
-use Rattle.bbm_rule.specs.declared.block.Cell.{Cell}
-use Rattle.circuit.specs.Bridge.{circuit_of, read}
-use Rattle.circuit.specs.Evaluate.{evaluate}
-use Rattle.circuit.specs.Gates.{is_inverse}
-use Rattle.circuit.specs.Meaning.{AreOrdered, Gate, Valuation}
-use Rattle.circuit.specs.declared.circuit_line.CircuitLine.{CircuitLine}
-use Rattle.circuit.proofs.Undefined.{undefined_has_none}
-use Rattle.circuit.proofs.Valuations.{evaluated}
-use Rattle.pattern.specs.Layout.{Pattern}
-use Rattle.pattern.specs.Lines.{size_fault}
-use Rattle.module_box.specs.Boxes.{in_box, in_halo, in_ring}
+use Rattle.soundness.proofs.Imports.{Accepts, AreJobsOf, AreModules, AreOrdered, Bool, BorderFault, Box2, Cell}
+use Rattle.soundness.proofs.Imports.{CircuitLine, Demand, Edge, End, Fault, Gate, IsBorderFault, IsFault, IsFaultUnder}
+use Rattle.soundness.proofs.Imports.{IsJob, IsKeepFault, IsTrue, JobView, KeepFault, Kind, List, MeetsDemand}
+use Rattle.soundness.proofs.Imports.{ModuleLines, None, Option, Pattern, Setting, Some, Stop, Valuation, [], and_parts}
+use Rattle.soundness.proofs.Imports.{ap, are_all_obeyed, arith, as_values, assignments, bit, box_place, circuit_of}
+use Rattle.soundness.proofs.Imports.{decided, delay_and_meet_lines, edge_signal, evaluate, evaluated, false, false≢true}
+use Rattle.soundness.proofs.Imports.{get_or-map-range_with_len, halo_signal, in_box, in_halo, in_ring, is_inverse}
+use Rattle.soundness.proofs.Imports.{is_kept, is_live, job_demand, length, length-map, length-range_with_len, list_all}
+use Rattle.soundness.proofs.Imports.{local_run, map, not, place_in, range_with_len, rectangle_cells, refl, setting_of}
+use Rattle.soundness.proofs.Imports.{signal_at, size_fault, slice_get, slice_get-get_or, slice_get_within, subst, suc}
+use Rattle.soundness.proofs.Imports.{sym, true, undefined_has_none, whole, zero, ℕ, ℤ, ∥∥₁_elim, ◌%◌, ◌&&◌, ◌*◌, ◌+◌}
+use Rattle.soundness.proofs.Imports.{◌/◌, ◌<◌, ◌||◌, ◌∙◌, ◌∷◌, ◌≡◌}
+use Rattle.lemmas.proofs.Common.{beq, booleans_Decides, get_or-range_with_len}
 use Rattle.module_box.specs.Equality.{same_signal}
 use Rattle.module_box.specs.LocalValues.{IsLocalValuation}
-use Rattle.module_box.specs.Places.{place_in}
-use Rattle.module_box.specs.Schedules.{signal_at}
-use Rattle.module_box.specs.declared.boxes.Box2.{Box2}
-use Rattle.certificate_lines.specs.Entries.{ModuleLines, Setting}
-use Rattle.certificate_lines.specs.Modules.{AreModules}
-use Rattle.certificate_lines.specs.Settings.{setting_of}
-use Rattle.module_job.specs.Jobs.{IsJob, JobView, job_demand}
-use Rattle.certificate_lines.specs.Rules.{box_cells, is_inverse_gate, whole}
-use Rattle.module_job.specs.Signals.{is_live, MeetsDemand}
-use Rattle.module_job.specs.declared.job.Demand.{Demand}
-use Rattle.module_job.specs.declared.job.Demand.TheVariants as Demanded
-use Rattle.certificate.specs.Jobs.{AreJobsOf}
-use Rattle.certificate.specs.Keeps.{is_kept}
-use Rattle.certificate.specs.Times.{are_all_obeyed, delay_and_meet_lines}
-use Rattle.certificate_lines.proofs.BoxPlaces.{box_place}
-use Rattle.local_run.specs.Faults.{IsFault, IsFaultUnder, IsKeepFault, assignments}
-use Rattle.local_run.specs.Runs.{local_run}
-use Rattle.local_run.specs.declared.fault.Fault.{Fault}
-use Rattle.local_run.specs.declared.fault.KeepFault.{KeepFault}
-use Rattle.local_run.specs.declared.fault.Kind.{Kind}
-use Rattle.local_run.specs.declared.fault.Kind.TheVariants.{Edge, Stop, End}
+use Rattle.certificate_lines.specs.Rules.{is_inverse_gate}
 use Rattle.module_box.proofs.EqualTests.{signal_decides}
-use Rattle.local_run.proofs.Decided.{decided}
-use Rattle.border_match.specs.BorderFaults.{IsBorderFault, edge_signal, halo_signal}
-use Rattle.border_match.specs.declared.fault.BorderFault.{BorderFault}
-use Rattle.core_book.specs.Verdicts.{Accepts}
 use Rattle.soundness.proofs.SomeVerdict.{jobs_good}
+use Rattle.module_job.specs.declared.job.Demand.TheVariants as Demanded
 
 -- ---- what is demanded, as a test
 
@@ -63,7 +36,7 @@ meets_is v Demanded.Live live e = e
 meets_is v (Demanded.Wire w) live e = (booleans_Decides live (v w)).0 e
 meets_is v Demanded.Any live e = tt
 
--- where the first holds, so does the second
+-- the second holds, if the first does and implies it
 pub implied : (a b : Bool) → (not a || b) ≡ true → a ≡ true → b ≡ true
 implied true b e h = e
 implied false b e h = absurd (false≢true h)
@@ -99,11 +72,11 @@ at_odd steps test all t odd early =
 -- ---- the cells of a box
 
 abbrev pub every_cell : Box2 → (ℤ → ℤ → Bool) → Bool
-every_cell b test = list_all (λ c. test c.x c.y) (box_cells b)
+every_cell b test = list_all (λ c. test c.x c.y) (rectangle_cells b)
 
 pub at_every : (b : Box2) (test : ℤ → ℤ → Bool) → every_cell b test ≡ true → (x y : ℤ) → in_box b x y ≡ true →
     test x y ≡ true
-at_every b test all x y h = all_at (λ (c : Cell). test c.x c.y) (box_cells b) (place_in b x y)
+at_every b test all x y h = all_at (λ (c : Cell). test c.x c.y) (rectangle_cells b) (place_in b x y)
     (record { x = x; y = y }) all (box_place b x y h)
 
 -- ---- the faults of a job
@@ -126,10 +99,10 @@ ring_inside b x y h = (and_parts (in_box b x y) _ h).0
 abbrev pub values_test : JobView → Valuation → Bool
 values_test j u = at_odd_times j.steps (edge_test j u) && (stop_test j u && end_test j u)
 
--- the same for the values that `evaluate` finds; there are none if a gate has no row
+-- whether `evaluate` finds values and they pass all tests; it finds none if a gate has no row
 abbrev pub found_test : JobView → Option (List Bool) → Bool
 found_test j None = false
-found_test j (Some vs) = values_test j (read vs)
+found_test j (Some vs) = values_test j (as_values vs)
 
 -- the values of the cuts under an assignment
 abbrev pub given_of : JobView → ℕ → List Bool
@@ -161,16 +134,16 @@ tried j ordered all a small =
         IsTried j a
     by None e h = absurd (false≢true h)
     by (Some vs) e h =
-        let both = and_parts (at_odd_times j.steps (edge_test j (read vs))) _ h in
-        let ends = and_parts (stop_test j (read vs)) (end_test j (read vs)) both.1 in
+        let both = and_parts (at_odd_times j.steps (edge_test j (as_values vs))) _ h in
+        let ends = and_parts (stop_test j (as_values vs)) (end_test j (as_values vs)) both.1 in
         let n = j.locals.netlist.given in
         record {
-          values = read vs;
+          values = as_values vs;
           local = (evaluated j.locals.netlist (bit a) (given_of j a) vs ordered
               (length-map (range_with_len 0 n) (bit a) ∙ length-range_with_len 0 n)
               (λ i lt. get_or-map-range_with_len (bit a) 0 n i i false lt (omega arith)) e).satisfies;
           passes = record {
-            edges = at_odd j.steps (edge_test j (read vs)) both.0;
+            edges = at_odd j.steps (edge_test j (as_values vs)) both.0;
             stops = ends.0;
             end = ends.1;
           };

@@ -1,52 +1,32 @@
 -- The run of the whole plane is that of the jobs
-use Rattle.lemmas.proofs.Common.{◌%◌, ◌&&◌, ◌<◌, ◌||◌, ◌∙◌, ◌≡◌, ◌≢◌, ◌≤◌, All, Bool, Contains, List, Some, ap, ap₂}
-use Rattle.lemmas.proofs.Common.{arith, false, inl, inr, not, refl, slice_get, subst, suc, sym, true, true≢false, zero}
-use Rattle.lemmas.proofs.Common.{ℕ, ℤ, All-contains_itself, and_parts, cases_Bool, false≢true, not-true, not_from_false}
-use Rattle.lemmas.proofs.Common.{option_map_or, slice_get-get_or, slice_get_within, or-false, some_at, common_steps}
-use Rattle.bbm_rule.specs.Plane.{State, step, run}
+use Rattle.soundness.proofs.Imports.{All, BelongTogether, Bool, CircuitLine, Contains, Demand, Fault, HasGoodBorders}
+use Rattle.soundness.proofs.Imports.{HasInputNames, IsAcceptedBundle, IsAssignmentOf, IsFault, IsFaultUnder, IsJobOf}
+use Rattle.soundness.proofs.Imports.{IsRunOfJobs, IsStop, JobView, Kind, List, LooksAsAsked, MeetsDemand, ModuleLines}
+use Rattle.soundness.proofs.Imports.{Pattern, Satisfies, Some, State, StopHolds, StopLine, Valuation, and_parts, ap}
+use Rattle.soundness.proofs.Imports.{ap₂, arith, cases_Bool, choices_are_assignments, circuit_of, circuit_wire}
+use Rattle.soundness.proofs.Imports.{common_steps, end_demand, false, false≢true, halo_parts, in_box, in_halo, in_ring}
+use Rattle.soundness.proofs.Imports.{inl, inr, is_live, job_demand, job_start, known, local_run, local_values_agree}
+use Rattle.soundness.proofs.Imports.{netlist_of, not, option_map_or, or-false, refl, renumber_stop, run, run_under}
+use Rattle.soundness.proofs.Imports.{setting_of, signal_at, slice_get, slice_get-get_or, slice_get_within, some_at}
+use Rattle.soundness.proofs.Imports.{some_neighbour, step, stop_with_wire_number, stops, subst, suc, sym, true}
+use Rattle.soundness.proofs.Imports.{true≢false, values_by_local_number, values_by_name, whole, wire_of, with_halo}
+use Rattle.soundness.proofs.Imports.{zero, ℕ, ℤ, ◌%◌, ◌&&◌, ◌<◌, ◌||◌, ◌∙◌, ◌≡◌, ◌≢◌, ◌≤◌}
+use Rattle.lemmas.proofs.Common.{All-contains_itself, not-true, not_from_false}
 use Rattle.bbm_rule.proofs.Steps.{step_dead}
-use Rattle.circuit.specs.Bridge.{circuit_of, netlist_of}
-use Rattle.circuit.specs.Meaning.{Satisfies, Valuation, values_by_name, wire_of}
-use Rattle.circuit.specs.declared.circuit_line.CircuitLine.{CircuitLine}
-use Rattle.pattern.specs.Layout.{Pattern}
-use Rattle.module_box.specs.Boxes.{in_box, some_neighbour, in_ring, in_halo}
 use Rattle.module_box.specs.Laws.{LiesInBox, SameInBox}
-use Rattle.module_box.specs.LocalValues.{values_by_local_number}
-use Rattle.module_box.specs.Schedules.{signal_at}
 use Rattle.module_box.proofs.BoxSteps.{even_stays, even_local}
-use Rattle.module_box.proofs.Neighbours.{some_neighbour_more, block_x, block_y, block_both, halo_parts, ring_from}
-use Rattle.module_box.proofs.Neighbours.{near_step, halo_in_ring}
-use Rattle.module_box.proofs.SeenValues.{choices_are_assignments, local_values_agree}
+use Rattle.module_box.proofs.Neighbours.{some_neighbour_more, block_x, block_y, block_both, ring_from, near_step}
+use Rattle.module_box.proofs.Neighbours.{halo_in_ring}
 use Rattle.certificate.proofs.ArrivalLemmas.{kept_is_on_time}
-use Rattle.certificate_lines.specs.Entries.{ModuleLines, areas, known, stops}
-use Rattle.certificate_lines.specs.Settings.{setting_of}
-use Rattle.certificate_lines.specs.Modules.{IsStop}
-use Rattle.certificate_lines.specs.declared.certificate_line.StopLine.{StopLine}
-use Rattle.module_job.specs.declared.job.Stop as listed
+use Rattle.certificate_lines.specs.Entries.{areas}
 use Rattle.certificate_lines.proofs.FlatParts.{flat_part}
-use Rattle.module_box.specs.Locals.{circuit_wire}
-use Rattle.module_job.specs.Jobs.{JobView, job_start, job_demand}
-use Rattle.certificate.specs.Jobs.{IsJobOf, end_demand, stop_with_wire_number}
-use Rattle.certificate_lines.specs.Rules.{whole}
-use Rattle.module_job.specs.Signals.{is_live, MeetsDemand, renumber_stop}
-use Rattle.module_job.specs.declared.job.Demand.{Demand}
-use Rattle.module_job.specs.declared.job.Demand.TheVariants as Demanded
-use Rattle.local_run.specs.Runs.{with_halo, local_run}
-use Rattle.local_run.specs.Faults.{IsFault, IsFaultUnder}
-use Rattle.local_run.specs.declared.fault.Fault.{Fault}
-use Rattle.local_run.specs.declared.fault.Kind.{Kind}
-use Rattle.local_run.specs.declared.fault.Kind.TheVariants.{Edge, End, Stop as AtStop}
 use Rattle.local_run.proofs.LocalRuns.{even_or_odd, local_even, local_odd}
-use Rattle.local_run.proofs.OwnWires as own
 use Rattle.border_match.proofs.Modules.{area_at}
 use Rattle.border_match.proofs.SameSignals.{same_at}
-use Rattle.meaning.specs.Implements.{LooksAsAsked, run_under}
-use Rattle.soundness.specs.FirstFaults.{HasGoodBorders, IsAssignmentOf, StepsWithGoodBorders}
+use Rattle.soundness.specs.FirstFaults.{StepsWithGoodBorders}
 use Rattle.soundness.specs.PlainCertificates.{AcceptedKeepsOffRim}
-use Rattle.soundness.specs.OnTime.{StopHolds}
-use Rattle.soundness.specs.HeadlineLaws.{BelongTogether, HasNoEndFault, HasNoFault, HasInputNames, IsAcceptedBundle}
-use Rattle.soundness.specs.HeadlineLaws.{IsRunOfJobs, PlaneStartsAsJobs, PlaneStepsAsJobs, PlaneEndsAsAsked}
-use Rattle.soundness.specs.HeadlineLaws.{AcceptedIsCorrect, AcceptedIsOnTime}
+use Rattle.soundness.specs.HeadlineLaws.{HasNoEndFault, HasNoFault, PlaneStartsAsJobs, PlaneStepsAsJobs}
+use Rattle.soundness.specs.HeadlineLaws.{PlaneEndsAsAsked, AcceptedIsCorrect, AcceptedIsOnTime}
 use Rattle.soundness.proofs.InputRuns.{inputs_decide}
 use Rattle.soundness.proofs.StopParts.{all_flat, all_map, local_wire_is, one_said}
 use Rattle.soundness.proofs.KeptGates.{accepted_has_valuation}
@@ -55,6 +35,10 @@ use Rattle.soundness.proofs.JobSignals.{live_renumbered, rim_edge_dead, outer_ha
 use Rattle.soundness.proofs.JobSignals.{halo_by_circuit}
 use Rattle.soundness.proofs.LayoutCells.{live_start, start_outside, whole_inside, whole_even, mirror_inside, IsOutput}
 use Rattle.soundness.proofs.LayoutCells.{is_output, met_mirror, met_output, met_other}
+use Rattle.module_job.specs.declared.job.Stop as listed
+use Rattle.module_job.specs.declared.job.Demand.TheVariants as Demanded
+use Rattle.local_run.specs.declared.fault.Kind.TheVariants.{Edge, End, Stop as AtStop}
+use Rattle.local_run.proofs.OwnWires as own
 
 stable : (a b : Bool) → ¬ (a ≢ b) → a ≡ b
 stable true true n = refl
@@ -433,7 +417,7 @@ no_stop_fault lines p ms jobs inputs v i j s set e has =
       differs = differ;
     })))
 
--- the same by the wires of the circuit
+-- the cell of a stop carries the value of the stop's wire in the circuit
 abbrev IsAsWire : JobView → Valuation → listed.Stop → Type 0
 IsAsWire j v r = local_run j (values_by_local_number j.locals v) r.at.time r.at.cell.x r.at.cell.y ≡ v r.wire
 

@@ -1,14 +1,8 @@
 -- A wire from an input to an output, and a layout of no step in which the output cell is not the input cell
-use Rattle.lemmas.proofs.Common.{[], ◌∙◌, ◌∷◌, ◌≡◌, List, arith, pos, refl, true, ℕ, false≢true}
-use Rattle.bbm_rule.specs.Plane.{run}
-use Rattle.circuit.specs.Bridge.{circuit_of}
-use Rattle.circuit.specs.Meaning.{Valuation, place_of, values_by_name, number}
-use Rattle.circuit.specs.declared.circuit_line.CircuitLine.{CircuitLine}
-use Rattle.circuit.specs.declared.circuit_line.Kind.TheVariants.{Input, Output}
-use Rattle.pattern.specs.Layout.{Pattern, start}
-use Rattle.pattern.specs.declared.layout_line.Port.{Port}
-use Rattle.soundness.specs.HeadlineLaws.{WrongExample}
-use Rattle.meaning.specs.Implements.{IsCorrect, run_under}
+use Rattle.soundness.proofs.Imports.{CircuitLine, Input, IsCorrect, List, Output, Pattern, Port, Valuation, [], arith}
+use Rattle.soundness.proofs.Imports.{circuit_of, false≢true, number, place_of, pos, refl, run, run_under, start, true}
+use Rattle.soundness.proofs.Imports.{values_by_name, ℕ, ◌∙◌, ◌∷◌, ◌≡◌}
+use Rattle.soundness.specs.HeadlineLaws.{SomeWrongLayout}
 
 abbrev name_a : List ℕ
 name_a = 97 ∷ []
@@ -44,7 +38,7 @@ not_correct is =
     let live : ran.values 0 ≡ true = ran.satisfied.given 0 (omega arith) in
     false≢true (shown ∙ live)
 
-pub wrong_example : WrongExample
+pub wrong_example : SomeWrongLayout
 wrong_example = record {
   lines = lines;
   layout = layout;

@@ -1,20 +1,12 @@
 -- From a yes to the whole pattern
-use Rattle.lemmas.proofs.Common.{[], ◌≡◌, List, None, Some, take, arith, common_steps}
-use Rattle.circuit.specs.Entries.{defined}
-use Rattle.pattern.specs.Layout.{parts_of}
-use Rattle.circuit.specs.Bridge.{circuit_of, input_names, netlist_of}
-use Rattle.circuit.specs.Meaning.{AreOrdered}
-use Rattle.pattern.specs.Lines.{AreGoodAfter, AreNamed, size_fault}
-use Rattle.pattern.specs.declared.layout_line.LayoutHeader.{LayoutHeader}
+use Rattle.soundness.proofs.Imports.{AreGoodAfter, AreModules, AreOrdered, BelongTogether, IsAcceptedBundle, IsCorrect}
+use Rattle.soundness.proofs.Imports.{IsVerdict, JobView, LayoutHeader, List, None, Some, Yes, [], arith, circuit_of}
+use Rattle.soundness.proofs.Imports.{common_steps, defined, input_names, modules, netlist_of, parts_of, setting}
+use Rattle.soundness.proofs.Imports.{size_fault, take, ◌≡◌}
+use Rattle.pattern.specs.Lines.{AreNamed}
 use Rattle.certificate.specs.Grammars.{CertView}
-use Rattle.module_job.specs.Jobs.{JobView}
-use Rattle.certificate_lines.specs.Modules.{AreModules}
-use Rattle.core_book.specs.Concluding.{AreJobsOfCertificate, modules, port_names_of, setting}
-use Rattle.soundness.specs.HeadlineLaws.{BelongTogether, IsAcceptedBundle}
-use Rattle.meaning.specs.Implements.{IsCorrect}
+use Rattle.core_book.specs.Concluding.{AreJobsOfCertificate, port_names_of}
 use Rattle.soundness.specs.OnTime.{IsOnTime}
-use Rattle.core_book.specs.Verdicts.{IsVerdict}
-use Rattle.core_book.specs.declared.verdict.Verdict.TheVariants.{Yes}
 use Rattle.soundness.proofs.InputRuns.{read_layout-names}
 use Rattle.soundness.proofs.PortNames.{read_layout-is_named}
 use Rattle.soundness.proofs.WholeRuns.{correct, on_time}

@@ -7,7 +7,7 @@ use Rattle.circuit.specs.declared.circuit_line.CircuitLine.{CircuitLine}
 use Rattle.pattern.specs.Layout.{Pattern, parts_of}
 use Rattle.pattern.specs.Lines.{AreGoodAfter, AreNamed, size_fault}
 use Rattle.pattern.specs.declared.layout_line.Port.{Port}
-use Rattle.module_box.specs.Boxes.{in_box}
+use Rattle.bbm_rule.specs.Boxes.{in_box}
 use Rattle.module_box.specs.LocalValues.{values_by_local_number}
 use Rattle.certificate_lines.specs.Entries.{ModuleLines}
 use Rattle.certificate_lines.specs.Settings.{setting_of}
@@ -145,7 +145,7 @@ AcceptedIsOnTime = (lines : List CircuitLine) (p : Pattern) (ms : List ModuleLin
 -- ---- some bundle with an odd time is accepted, so the laws are not about nothing
 
 -- some bundle with an odd time is accepted
-pub record Example : Type 0 where
+pub record SomeAcceptedBundle : Type 0 where
   pub lines : List CircuitLine
   pub layout : Pattern
   pub modules : List ModuleLines
@@ -156,7 +156,7 @@ pub record Example : Type 0 where
 -- ---- and some layout is not correct, though its ports are named as the circuit's
 
 -- some layout whose ports are named as the circuit's is not correct
-pub record WrongExample : Type 0 where
+pub record SomeWrongLayout : Type 0 where
   pub lines : List CircuitLine
   pub layout : Pattern
   pub named : IsNamed lines layout

@@ -37,6 +37,6 @@ pub record IsAcceptedMigration (c : CertView) : Type 0 where
       Accepts (setting c) (modules (migrated c)) jobs
 
 -- what version 1 accepts, its migration accepts
-abbrev pub MigrationIsAccepted : Type 0
-MigrationIsAccepted = (c : CertView) (jobs : List JobView) → c.version ≡ 1 → IsSectionOf (setting c) 1 c.entries →
+abbrev pub MigrationKeepsAcceptance : Type 0
+MigrationKeepsAcceptance = (c : CertView) (jobs : List JobView) → c.version ≡ 1 → IsSectionOf (setting c) 1 c.entries →
     AreJobsOfCertificate c jobs → Accepts (setting c) (modules c) jobs → IsAcceptedMigration c

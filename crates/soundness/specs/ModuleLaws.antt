@@ -5,10 +5,10 @@ use Rattle.circuit.specs.Meaning.{AreOrdered, Circuit}
 use Rattle.circuit.specs.declared.circuit_line.CircuitLine.{CircuitLine}
 use Rattle.pattern.specs.Layout.{Pattern}
 use Rattle.pattern.specs.Lines.{size_fault}
-use Rattle.module_box.specs.Locals.{AreDifferent}
+use Rattle.module_box.specs.Locals.{AreDistinct}
 use Rattle.module_job.specs.Jobs.{JobView}
 use Rattle.certificate_lines.specs.Entries.{ModuleLines, known}
-use Rattle.certificate_lines.specs.Modules.{AreModules, HasPorts, IsModule}
+use Rattle.certificate_lines.specs.Modules.{AreModules, HasLocalPorts, IsModule}
 use Rattle.certificate_lines.specs.Settings.{setting_of}
 use Rattle.certificate.specs.Jobs.{AreJobsOf, IsJobOf}
 use Rattle.core_book.specs.Verdicts.{IsVerdict}
@@ -16,14 +16,14 @@ use Rattle.core_book.specs.declared.verdict.Verdict.{Verdict}
 
 -- two jobs of one module are the same if the module cuts or defines no wire twice
 abbrev pub ModuleHasOneJob : Type 0
-ModuleHasOneJob = (c : Circuit) (p : Pattern) (m : ModuleLines) (j k : JobView) → AreDifferent (known c m) →
+ModuleHasOneJob = (c : Circuit) (p : Pattern) (m : ModuleLines) (j k : JobView) → AreDistinct (known c m) →
     IsJobOf c p m j → IsJobOf c p m k → j ≡ k
 
 -- a module that is as the grammar asks has a job, if the gates of the circuit are ordered
 abbrev pub ModuleHasSomeJob : Type 0
 ModuleHasSomeJob = (lines : List CircuitLine) (p : Pattern) (m : ModuleLines) →
     AreOrdered (netlist_of lines).given (netlist_of lines).gates → IsModule (setting_of lines p) m →
-    HasPorts (setting_of lines p) m → (j : JobView) × IsJobOf (circuit_of lines) p m j
+    HasLocalPorts (setting_of lines p) m → (j : JobView) × IsJobOf (circuit_of lines) p m j
 
 -- some jobs of the modules, and a verdict on them
 pub record HasVerdict (lines : List CircuitLine) (p : Pattern) (ms : List ModuleLines) : Type 0 where

@@ -12,7 +12,7 @@ use Rattle.circuit.specs.Bridge.{circuit_of, netlist_of}
 use Rattle.circuit.specs.Meaning.{Gate, Satisfies, Valuation}
 use Rattle.circuit.specs.declared.circuit_line.CircuitLine.{CircuitLine}
 use Rattle.pattern.specs.Layout.{Pattern}
-use Rattle.module_box.specs.Boxes.{in_ring}
+use Rattle.bbm_rule.specs.Boxes.{in_ring}
 use Rattle.module_box.specs.Locals.{is_among}
 use Rattle.certificate_lines.specs.Entries.{ModuleLines, cuts, edges, keeps, stops}
 use Rattle.certificate_lines.specs.Rules.{whole}
@@ -91,7 +91,7 @@ PlainNoMeansWrong = (lines : List CircuitLine) (p : Pattern) (m : ModuleLines) (
 -- The meaning of a `local` line: there are inputs that have its assignment, and values of the wires for these, under
 -- which its fault is real. If it is an edge line, its cell of the rim is live at its time. If it is a stop line, some
 -- stop is wrong. If it is an end line, the layout does not compute the circuit (`IsReal`).
-pub record Shows (lines : List CircuitLine) (p : Pattern) (m : ModuleLines) (f : Fault) : Type 0 where
+pub record LocalLineMeans (lines : List CircuitLine) (p : Pattern) (m : ModuleLines) (f : Fault) : Type 0 where
   pub inputs : Valuation
   pub under : GivesModuleAssignment (circuit_of lines) m inputs f.assignment
   pub values : Valuation
@@ -102,7 +102,7 @@ pub record Shows (lines : List CircuitLine) (p : Pattern) (m : ModuleLines) (f :
 
 -- The meaning of a `keep` line: there are inputs that have its assignment, for which the circuit has no values. So the
 -- layout does not compute it.
-pub record LacksValues (lines : List CircuitLine) (p : Pattern) (m : ModuleLines) (assignment : ℕ) : Type 0 where
+pub record KeepLineMeans (lines : List CircuitLine) (p : Pattern) (m : ModuleLines) (assignment : ℕ) : Type 0 where
   pub inputs : Valuation
   pub under : GivesModuleAssignment (circuit_of lines) m inputs assignment
   pub lacks : (v : Valuation) → ¬ Satisfies (netlist_of lines) inputs v
@@ -131,8 +131,8 @@ pub record MeetLineMeans (lines : List CircuitLine) (ss : List StopLine) (number
 -- The meaning of each line of a report. No `border` and no `unkept` line occurs. A `delay` line and a `meet` line are
 -- about their own gate, by the stops of the module.
 abbrev pub LineMeans : List CircuitLine → Pattern → ModuleLines → ReportLine → Type 0
-LineMeans lines p m (Local i f) = Shows lines p m f
-LineMeans lines p m (Keep i f) = LacksValues lines p m f.assignment
+LineMeans lines p m (Local i f) = LocalLineMeans lines p m f
+LineMeans lines p m (Keep i f) = KeepLineMeans lines p m f.assignment
 LineMeans lines p m (Border i f) = ⊥
 LineMeans lines p m (Unkept gate) = ⊥
 LineMeans lines p m (DelayLine gate wanted gap) = DelayLineMeans lines (stops m) gate wanted gap

@@ -1,9 +1,9 @@
 //! Laws of the whole plane, each the contract of a function without a body.
-ghost use Rattle.soundness.specs.HeadlineLaws.{AcceptedHasValuation, AcceptedIsCorrect, AcceptedIsOnTime, PlaneEndsAsAsked, Example, InputsDecideTheRun, AcceptedHasNoUndefinedGate, ReadLayoutHasInputNames, ReadLayoutHasPortNames, PlaneStartsAsJobs, PlaneStepsAsJobs, WrongExample};
+ghost use Rattle.soundness.specs.HeadlineLaws.{AcceptedHasValuation, AcceptedIsCorrect, AcceptedIsOnTime, PlaneEndsAsAsked, SomeAcceptedBundle, InputsDecideTheRun, AcceptedHasNoUndefinedGate, ReadLayoutHasInputNames, ReadLayoutHasPortNames, PlaneStartsAsJobs, PlaneStepsAsJobs, SomeWrongLayout};
 ghost use Rattle.soundness.specs.FirstFaults.{EarliestLineIsFirstFault, EarliestLineIsReal, EndFaultMeansIncorrect, FirstFaultIsReal, StepsWithGoodBorders};
 ghost use Rattle.soundness.specs.PlainCertificates.{AcceptedKeepsOffRim, PlainCertificateDecides, PlainLinesHaveMeaning, PlainNoMeansWrong, UntimedIsOnTime};
 ghost use Rattle.soundness.specs.ModuleLaws.{ModuleHasOneJob, ModuleHasSomeJob, VerdictExists};
-ghost use Rattle.soundness.specs.MigrationLaws.{AcceptedWithoutHalos, MigrationIsAccepted};
+ghost use Rattle.soundness.specs.MigrationLaws.{AcceptedWithoutHalos, MigrationKeepsAcceptance};
 
 /// States that the plane at the start is every job's own run in its box, and dead outside the rectangle.
 pub fn plane_starts_as_jobs()
@@ -83,12 +83,12 @@ pub fn inputs_decide_the_run()
 
 /// States that some bundle with an odd time is accepted.
 pub fn something_is_accepted()
-    ensures { Example }
+    ensures { SomeAcceptedBundle }
 {}
 
 /// States that some layout whose ports are named as the circuit's does not compute it.
 pub fn some_layout_is_wrong()
-    ensures { WrongExample }
+    ensures { SomeWrongLayout }
 {}
 
 /// States that modules that are accepted with their halo lines are accepted with the edge lines beside them in place of
@@ -97,7 +97,7 @@ pub fn some_layout_is_wrong()
 /// So if version 1 is accepted, its migration to version 2 is accepted.
 pub fn accepted_without_halos()
     ensures modules { AcceptedWithoutHalos }
-    ensures migration { MigrationIsAccepted }
+    ensures migration { MigrationKeepsAcceptance }
 {}
 
 /// States that a module that is as the grammar asks has exactly one job.

@@ -1,12 +1,12 @@
 //! Readers and writers that know whether they have failed.
 #![tactic(auto)]
 
-mod awaited;
+mod prompting;
 mod retrying;
 mod streams;
 mod watched;
 
-pub use awaited::Awaited;
+pub use prompting::Prompting;
 pub use retrying::Retrying;
 pub use streams::{Sink, Source};
 pub use watched::Watched;

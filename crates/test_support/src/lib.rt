@@ -5,5 +5,5 @@
 mod bundles;
 mod readings;
 
-pub use bundles::{ALONE, GOOD};
-pub use readings::{Work, circuit_of, fed, layout_of, sections, work_of};
+pub use bundles::{BAD_BUNDLE, GOOD_BUNDLE};
+pub use readings::{Work, circuit_of, closed_feed, layout_of, read_circuit_and_layout, work_of};

@@ -11,7 +11,7 @@ use std::sync::Arc;
 /// Returns a feed of a text that has ended.
 ///
 /// No test has a text of more than 16 MiB, so a piece that is not taken means out of memory.
-pub fn fed(alloc: Global, text: &[u8]) -> Result<Feed, ReadFault>
+pub fn closed_feed(alloc: Global, text: &[u8]) -> Result<Feed, ReadFault>
     ensures { IfOk result (λ feed. feed.closed ≡ true) }
 {
     let mut feed = Feed::new(alloc);
@@ -26,18 +26,21 @@ pub fn fed(alloc: Global, text: &[u8]) -> Result<Feed, ReadFault>
 
 /// Reads the circuit with which a text begins.
 pub fn circuit_of(alloc: Global, text: &str) -> Result<Circuit, ReadFault> {
-    let mut feed = fed(alloc, text.as_bytes())?;
+    let mut feed = closed_feed(alloc, text.as_bytes())?;
     read_circuit(alloc, &mut feed)
 }
 
 /// Reads the layout with which a text begins, whatever its ports are named.
 pub fn layout_of(alloc: Global, text: &[u8]) -> Result<Layout, ReadFault> {
-    let mut feed = fed(alloc, text)?;
+    let mut feed = closed_feed(alloc, text)?;
     read_layout(alloc, &mut feed, &PortNames::Any)
 }
 
 /// Reads the two sections before a certificate.
-pub fn sections(alloc: Global, feed: &mut Feed) -> Result<(Circuit, Layout), ReadFault>
+pub fn read_circuit_and_layout(
+    alloc: Global,
+    feed: &mut Feed,
+) -> Result<(Circuit, Layout), ReadFault>
     requires { feed.old.closed ≡ true }
     ensures { feed.new.closed ≡ true }
 {
@@ -58,8 +61,8 @@ pub struct Work {
 
 /// Reads a bundle and returns what must be done for it.
 pub fn work_of(alloc: Global, text: &str) -> Result<Work, ReadFault> {
-    let mut feed = fed(alloc, text.as_bytes())?;
-    let (circuit, layout) = sections(alloc, &mut feed)?;
+    let mut feed = closed_feed(alloc, text.as_bytes())?;
+    let (circuit, layout) = read_circuit_and_layout(alloc, &mut feed)?;
     let certificate = read_certificate(alloc, &mut feed, &circuit, &layout)?;
     match (certificate.digest(alloc), certificate.jobs(alloc)) {
         (Ok(digest), Ok(jobs)) => Ok(Work { digest, jobs }),

@@ -13,5 +13,5 @@ abbrev pub no_counts : Counts
 no_counts = record { filed = 0; accepted = 0 }
 
 -- after one reply more
-abbrev pub counted : Counts → Reply → Counts
-counted c r = record { filed = c.filed + 1; accepted = accepted_count_after c.accepted r }
+abbrev pub counts_after_reply : Counts → Reply → Counts
+counts_after_reply c r = record { filed = c.filed + 1; accepted = accepted_count_after c.accepted r }

@@ -2,7 +2,7 @@
 use Rattle.std.specs.Prelude.{◌≡◌, ℕ, Bool, false, List, length}
 use Rattle.module_job.specs.Jobs.{JobView}
 use Rattle.core_book.specs.Book.{is_job_of}
-use Rattle.core_book.specs.Replay.{rule}
+use Rattle.core_book.specs.Replay.{reply_by_rule}
 use Rattle.core_book.specs.declared.reply.Reply.{Reply}
 
 -- The reply of an open book with this digest and these jobs to a finding of another digest, number and job. `taken`
@@ -10,4 +10,4 @@ use Rattle.core_book.specs.declared.reply.Reply.{Reply}
 pub record IsReplyOf (own : List ℕ) (jobs : List JobView) (digest : List ℕ) (number : ℕ) (job : JobView)
     (reply : Reply) : Type 0 where
   pub taken : Bool
-  pub ruled : reply ≡ rule own (length jobs) false taken digest number (is_job_of jobs number job)
+  pub ruled : reply ≡ reply_by_rule own (length jobs) false taken digest number (is_job_of jobs number job)

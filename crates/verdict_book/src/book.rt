@@ -2,7 +2,7 @@
 ghost use Rattle.std.specs.Prelude.{◌≡◌, ◌≢◌, ◌≤◌, ◌<◌, ℕ, [], replicate, IfErr, IfOk, OnErr};
 ghost use Rattle.local_run.specs.Shown.{digest_of, job_of, number_of};
 ghost use Rattle.core_book.specs.declared.reply.Reply.TheVariants.{Closed};
-ghost use Rattle.verdict_book.specs.Counts.{counted, no_counts};
+ghost use Rattle.verdict_book.specs.Counts.{counts_after_reply, no_counts};
 ghost use Rattle.verdict_book.specs.Replies.{IsReplyOf};
 
 use crate::filings::Filings;
@@ -99,7 +99,7 @@ impl<F: Filings, A: Ledger> Book<F, A> {
         ensures reply { IfOk result (IsReplyOf F.digest F.jobs (digest_of finding)
             (number_of finding) (job_of finding)) }
         ensures not_closed { IfOk result (λ r. r ≢ Closed) }
-        ensures counted { IfOk result (λ r. mine.new ≡ counted mine.old r) }
+        ensures counted { IfOk result (λ r. mine.new ≡ counts_after_reply mine.old r) }
         ensures unchanged { OnErr result (mine.new ≡ mine.old) }
         ensures returned { IfErr result (λ e. e.finding ≡ finding) }
     {

@@ -33,7 +33,7 @@ pub struct LockedBook<F: Filings, A: Ledger> {
 
 impl<F: Filings, A: Ledger> LockedBook<F, A> {
     ghost use Rattle.core_book.specs.declared.reply.Reply.TheVariants.{Closed};
-    ghost use Rattle.verdict_book.specs.Counts.{counted};
+    ghost use Rattle.verdict_book.specs.Counts.{counts_after_reply};
     ghost use Rattle.verdict_book.specs.Replies.{IsReplyOf};
 
     pub(crate) fn new(
@@ -65,7 +65,7 @@ impl<F: Filings, A: Ledger> LockedBook<F, A> {
         ensures of_book { IfOk result (IsReplyOf F.digest F.jobs (digest_of finding)
             (number_of finding) (job_of finding)) }
         ensures not_closed { IfOk result (λ r. r ≢ Closed) }
-        ensures counted { IfOk result (λ r. mine.new ≡ counted mine.old r) }
+        ensures counted { IfOk result (λ r. mine.new ≡ counts_after_reply mine.old r) }
         ensures unchanged { OnErr result ((self.new.state ≡ self.old.state)
             × (mine.new ≡ mine.old)) }
         ensures returned { IfErr result (λ e. e.finding ≡ finding) }

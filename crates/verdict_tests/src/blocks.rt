@@ -23,7 +23,7 @@ fn turns_each_block(rt: HostRuntime) {
 }
 
 // the word, then the word turned left by one bit, and so on
-fn lanes(word: u64) -> [u64; 17] {
+fn rotations(word: u64) -> [u64; 17] {
     let mut lanes = [0; 17];
     let mut lane = word;
     for place in &mut lanes {
@@ -33,16 +33,19 @@ fn lanes(word: u64) -> [u64; 17] {
     lanes
 }
 
-// whether the first of these are the word's lanes, so many of them
+// whether the first `count` of these are the first rotations of the word
 fn are_rotations_of_word(found: &[u64; 17], word: u64, count: usize) -> bool {
-    lanes(word).iter().take(count).eq(found.iter().take(count))
+    rotations(word)
+        .iter()
+        .take(count)
+        .eq(found.iter().take(count))
 }
 
-// whether so many lanes of each bit are turned
+// whether the first `count` lanes of the four corners are turned
 fn are_rotated_blocks_turned(count: usize) -> bool
     requires { count ≤ 17 }
 {
-    let [mut a, mut b, mut c, mut d] = BLOCKS.map(lanes);
+    let [mut a, mut b, mut c, mut d] = BLOCKS.map(rotations);
     turn_lanes(
         &mut a[..count],
         &mut b[..count],
@@ -56,7 +59,7 @@ fn are_rotated_blocks_turned(count: usize) -> bool
         & are_rotations_of_word(&d, four, count)
 }
 
-// as many lanes as fill no vector, and up to four vectors and one more
+// from no lane to four vectors of lanes and one more
 #[test]
 fn turn_lanes_at_each_length(rt: HostRuntime) {
     for count in 0..18usize {

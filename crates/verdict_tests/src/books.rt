@@ -10,12 +10,12 @@ use local_run::{Finding, run_job};
 use std::alloc::Global;
 use std::process::Abort;
 use std::sync::Arc;
-use test_support::{ALONE, GOOD, Work, work_of};
+use test_support::{BAD_BUNDLE, GOOD_BUNDLE, Work, work_of};
 
 /// Returns the finding of the job at a place of the list, under a digest and a number.
 ///
 /// It is that of the second run, if no memory was found for the first.
-pub(crate) fn finding(
+pub(crate) fn finding_at_second_try(
     rt: &impl Abort,
     alloc: Global,
     digest: [u8; 32],
@@ -36,7 +36,7 @@ pub(crate) fn finding(
 }
 
 /// Files a finding and returns the reply: a second time, if no memory was found for the first.
-fn reply(rt: &impl Abort, book: &mut BookState, finding: Finding) -> Reply {
+fn reply_at_second_try(rt: &impl Abort, book: &mut BookState, finding: Finding) -> Reply {
     let before = (book.history().len(), book.accepted());
     let finding = match book.file(finding) {
         Ok(reply) => return reply,
@@ -75,8 +75,8 @@ struct TwoWorks {
 impl TwoWorks {
     fn new(rt: &impl Abort, alloc: Global) -> TwoWorks {
         TwoWorks {
-            own: work_of(alloc, GOOD).expect(rt, "work"),
-            other: work_of(alloc, ALONE).expect(rt, "work"),
+            own: work_of(alloc, GOOD_BUNDLE).expect(rt, "work"),
+            other: work_of(alloc, BAD_BUNDLE).expect(rt, "work"),
         }
     }
 
@@ -90,9 +90,9 @@ impl TwoWorks {
 
 /// Digest and number of a finding, the place of its job, whether that is the book's job of the number, the reply, and
 /// how many are held then.
-type Turn = ((OwnerOf, usize), (OwnerOf, usize), bool, Reply, usize);
+type FilingTurn = ((OwnerOf, usize), (OwnerOf, usize), bool, Reply, usize);
 
-const TURNS: [Turn; 15] = [
+const FILING_TURNS: [FilingTurn; 15] = [
     (
         (OwnerOf::Own, 2),
         (OwnerOf::Own, 2),
@@ -215,12 +215,12 @@ fn file_turn_and_compare(
     alloc: Global,
     works: &TwoWorks,
     book: &mut BookState,
-    turn: &Turn,
+    turn: &FilingTurn,
 ) -> bool {
     let ((under, number), (jobs, place), same, wanted, held) = *turn;
     let digest = works.of(under).digest;
-    let finding = finding(rt, alloc, digest, number, &works.of(jobs).jobs, place);
-    let told = reply(rt, book, finding);
+    let finding = finding_at_second_try(rt, alloc, digest, number, &works.of(jobs).jobs, place);
+    let told = reply_at_second_try(rt, book, finding);
     let entry = Filing {
         digest,
         number,
@@ -232,12 +232,12 @@ fn file_turn_and_compare(
 
 /// Returns an open book of the four modules, in which nothing is held.
 fn book_of_four_modules(rt: &impl Abort, alloc: Global) -> BookState {
-    let Work { digest, jobs } = work_of(alloc, GOOD).expect(rt, "work");
+    let Work { digest, jobs } = work_of(alloc, GOOD_BUNDLE).expect(rt, "work");
     BookState::new(alloc, digest, jobs).expect(rt, "a book")
 }
 
 /// Returns whether a book has this many entries, and is closed or not as `closed` says.
-fn is_at(book: &BookState, entries: usize, closed: bool) -> bool {
+fn has_entries(book: &BookState, entries: usize, closed: bool) -> bool {
     book.history().len() == entries && book.is_closed() == closed
 }
 
@@ -246,21 +246,21 @@ fn close(rt: &impl Abort, book: &mut BookState, entries: usize) {
     if book.close().is_ok() {
         return;
     }
-    assert!(rt; is_at(book, entries, false), "changed");
+    assert!(rt; has_entries(book, entries, false), "changed");
     assert!(rt; book.close().is_ok(), "no memory at the second try");
 }
 
 /// Plays all turns in a new book, and closes it.
 fn played(rt: &impl Abort, alloc: Global, works: &TwoWorks) -> BookState {
     let mut book = book_of_four_modules(rt, alloc);
-    for (number, turn) in TURNS.iter().enumerate() {
-        assert!(rt; is_at(&book, number, false));
+    for (number, turn) in FILING_TURNS.iter().enumerate() {
+        assert!(rt; has_entries(&book, number, false));
         assert!(rt;
             file_turn_and_compare(rt, alloc, works, &mut book, turn),
             "turn {number}"
         );
     }
-    close(rt, &mut book, TURNS.len());
+    close(rt, &mut book, FILING_TURNS.len());
     book
 }
 
@@ -268,10 +268,10 @@ fn played(rt: &impl Abort, alloc: Global, works: &TwoWorks) -> BookState {
 fn turns_make_replies_and_history(rt: HostRuntime) {
     let works = TwoWorks::new(&rt, rt.alloc());
     let mut book = played(&rt, rt.alloc(), &works);
-    assert!(rt; is_at(&book, 16, true) && last_entry(&book) == Some(LogEntry::Closing));
+    assert!(rt; has_entries(&book, 16, true) && last_entry(&book) == Some(LogEntry::Closing));
     let late = ((OwnerOf::Own, 0), (OwnerOf::Own, 0), true, Reply::Closed, 4);
     assert!(rt; file_turn_and_compare(&rt, rt.alloc(), &works, &mut book, &late));
-    assert!(rt; is_at(&book, 17, true));
+    assert!(rt; has_entries(&book, 17, true));
 }
 
 /// Returns whether the book holds for a number the finding of that number, which has no fault.
@@ -288,7 +288,7 @@ fn book_holds_filed_finding_only(rt: HostRuntime) {
     let mut book = book_of_four_modules(&rt, rt.alloc());
     assert!(rt; book.digest() == works.own.digest && book.jobs().len() == 4);
     assert!(rt; book.found(2).is_none() && book.found(4).is_none());
-    assert!(rt; file_turn_and_compare(&rt, rt.alloc(), &works, &mut book, &TURNS[0]));
+    assert!(rt; file_turn_and_compare(&rt, rt.alloc(), &works, &mut book, &FILING_TURNS[0]));
     assert!(rt; holds(&book, 2) && book.found(1).is_none());
 }
 

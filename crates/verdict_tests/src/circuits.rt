@@ -70,7 +70,7 @@ fn name(rt: &impl Abort, word: &[u8]) -> Name {
 }
 
 /// Returns an input, a source, and an output of the input.
-fn lines(rt: &impl Abort, alloc: Global) -> Draft {
+fn draft_of_three_lines(rt: &impl Abort, alloc: Global) -> Draft {
     let (p, q) = (name(rt, b"p"), name(rt, b"q"));
     let mut draft = Draft::new(alloc);
     assert!(rt; draft.add_input(p).is_ok());
@@ -86,7 +86,7 @@ fn is_finished_after_spill(mut draft: Draft, wire: Name) -> bool {
 
 #[test]
 fn unused_wire_is_named(rt: HostRuntime) {
-    let unused = lines(&rt, rt.alloc()).finish().err();
+    let unused = draft_of_three_lines(&rt, rt.alloc()).finish().err();
     let Unused { draft, wire } = unused.expect(&rt, "an unused wire");
     assert!(rt; wire.bytes() == b"q".as_slice() && is_finished_after_spill(draft, wire));
 }

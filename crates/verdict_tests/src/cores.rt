@@ -3,12 +3,12 @@
 //! A call that finds no memory is made once more. So each growth can be refused in turn (`rt try --test --fail-alloc
 //! N`), and the sequence must still end as it should.
 
-use crate::books::finding;
+use crate::books::finding_at_second_try;
 use crate::verdicts::is_first_missing;
 use core_book::*;
 use std::alloc::Global;
 use std::process::Abort;
-use test_support::{GOOD, Work, work_of};
+use test_support::{GOOD_BUNDLE, Work, work_of};
 
 /// Returns the core's answer to an event of one of its seats.
 fn apply_event(rt: &impl Abort, core: &mut Core, event: Event) -> Result<Answer, NotApplied> {
@@ -41,36 +41,36 @@ fn answer(rt: &impl Abort, core: &mut Core, event: Event) -> Answer {
 
 /// A step of the core.
 #[derive(Clone, Copy)]
-enum Step {
+enum CoreStep {
     Claim(usize),
     /// The finding of the job of this number is filed.
     File(usize),
     Lose(usize),
 }
 
-fn event_of_step(rt: &impl Abort, alloc: Global, work: &Work, step: Step) -> Event {
+fn event_of_step(rt: &impl Abort, alloc: Global, work: &Work, step: CoreStep) -> Event {
     match step {
-        Step::Claim(seat) => Event::Claim(seat),
-        Step::File(number) => {
-            Event::File(finding(rt, alloc, work.digest, number, &work.jobs, number))
+        CoreStep::Claim(seat) => Event::Claim(seat),
+        CoreStep::File(number) => {
+            Event::File(finding_at_second_try(rt, alloc, work.digest, number, &work.jobs, number))
         }
-        Step::Lose(number) => Event::Lose(number),
+        CoreStep::Lose(number) => Event::Lose(number),
     }
 }
 
 /// The steps of a core of two seats for four jobs, with the answers.
-const STEPS: [(Step, Answer); 11] = [
-    (Step::Claim(0), Answer::Number(0)),
-    (Step::Claim(1), Answer::Number(1)),
-    (Step::File(1), Answer::Reply(Reply::Accepted)),
-    (Step::Lose(0), Answer::Lost),
-    (Step::Claim(0), Answer::Number(2)),
-    (Step::Claim(0), Answer::Number(3)),
-    (Step::Claim(0), Answer::Empty),
-    (Step::Claim(0), Answer::Empty),
-    (Step::Claim(1), Answer::Empty),
-    (Step::File(1), Answer::Reply(Reply::Double(1))),
-    (Step::File(0), Answer::Reply(Reply::Accepted)),
+const CORE_STEPS: [(CoreStep, Answer); 11] = [
+    (CoreStep::Claim(0), Answer::Number(0)),
+    (CoreStep::Claim(1), Answer::Number(1)),
+    (CoreStep::File(1), Answer::Reply(Reply::Accepted)),
+    (CoreStep::Lose(0), Answer::Lost),
+    (CoreStep::Claim(0), Answer::Number(2)),
+    (CoreStep::Claim(0), Answer::Number(3)),
+    (CoreStep::Claim(0), Answer::Empty),
+    (CoreStep::Claim(0), Answer::Empty),
+    (CoreStep::Claim(1), Answer::Empty),
+    (CoreStep::File(1), Answer::Reply(Reply::Double(1))),
+    (CoreStep::File(0), Answer::Reply(Reply::Accepted)),
 ];
 
 /// Returns a core of two seats for this work.
@@ -81,8 +81,8 @@ fn new_core(rt: &impl Abort, alloc: Global, work: Work) -> Core {
 
 /// Returns the core of two seats to which all of this happened.
 fn played(rt: &impl Abort, alloc: Global, work: &Work) -> Core {
-    let mut core = new_core(rt, alloc, work_of(alloc, GOOD).expect(rt, "work"));
-    for (number, (step, wanted)) in STEPS.iter().enumerate() {
+    let mut core = new_core(rt, alloc, work_of(alloc, GOOD_BUNDLE).expect(rt, "work"));
+    for (number, (step, wanted)) in CORE_STEPS.iter().enumerate() {
         let event = event_of_step(rt, alloc, work, *step);
         assert!(rt; answer(rt, &mut core, event) == *wanted, "step {number}");
     }
@@ -111,7 +111,7 @@ fn are_the_three_filings(history: &[LogEntry], digest: [u8; 32]) -> bool {
 
 #[test]
 fn steps_of_core_with_two_seats(rt: HostRuntime) {
-    let work = work_of(rt.alloc(), GOOD).expect(&rt, "work");
+    let work = work_of(rt.alloc(), GOOD_BUNDLE).expect(&rt, "work");
     let core = played(&rt, rt.alloc(), &work);
     assert!(rt; core.next() == 6 && core.seats() == 2);
     assert!(rt; core.draws(0) == [0, 2, 3, 4].as_slice());

@@ -6,7 +6,7 @@ use local_run::{Fault, Kind};
 use std::cmp::Ordering;
 
 /// Faults in order: time, kind, column, row and assignment.
-const RISING: [(u32, Kind, i32, i32, u32); 6] = [
+const RISING_FAULTS: [(u32, Kind, i32, i32, u32); 6] = [
     (1, Kind::Edge, 7, 2, 3),
     (3, Kind::Edge, 0, 9, 9),
     (3, Kind::Stop, 1, 0, 0),
@@ -16,7 +16,7 @@ const RISING: [(u32, Kind, i32, i32, u32); 6] = [
 ];
 
 fn fault(place: usize) -> Option<Fault> {
-    let (time, kind, x, y, assignment) = *RISING.get(place)?;
+    let (time, kind, x, y, assignment) = *RISING_FAULTS.get(place)?;
     Some(Fault {
         time,
         kind,

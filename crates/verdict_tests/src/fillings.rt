@@ -7,7 +7,7 @@ use crate::verdicts::{book_with_filed_numbers, is_yes};
 use core_book::*;
 use std::alloc::Global;
 use std::process::Abort;
-use test_support::{ALONE, GOOD, Work, work_of};
+use test_support::{BAD_BUNDLE, GOOD_BUNDLE, Work, work_of};
 
 /// Fills a book up: by the second call, if no memory was found at the first.
 ///
@@ -58,16 +58,16 @@ fn were_accepted_in_order(book: &BookState, digest: [u8; 32], numbers: &[usize])
 
 /// Returns the work on the four modules.
 fn work_of_four_modules(rt: &impl Abort, alloc: Global) -> Work {
-    work_of(alloc, GOOD).expect(rt, "work")
+    work_of(alloc, GOOD_BUNDLE).expect(rt, "work")
 }
 
 #[test]
 fn fills_up_what_is_left(rt: HostRuntime) {
     let work = work_of_four_modules(&rt, rt.alloc());
-    let mut book = book_with_filed_numbers(&rt, rt.alloc(), work.digest, GOOD, &[1, 3]);
+    let mut book = book_with_filed_numbers(&rt, rt.alloc(), work.digest, GOOD_BUNDLE, &[1, 3]);
     fill_at_second_try(&rt, rt.alloc(), &mut book, &work, 2);
     assert!(rt; were_accepted_in_order(&book, work.digest, &[1, 3, 0, 2]));
-    assert!(rt; is_yes(&rt, rt.alloc(), GOOD, &book));
+    assert!(rt; is_yes(&rt, rt.alloc(), GOOD_BUNDLE, &book));
     fill_at_second_try(&rt, rt.alloc(), &mut book, &work, 4);
     assert!(rt; were_accepted_in_order(&book, work.digest, &[1, 3, 0, 2]));
 }
@@ -75,7 +75,7 @@ fn fills_up_what_is_left(rt: HostRuntime) {
 #[test]
 fn fills_up_in_place_of_a_closed_book(rt: HostRuntime) {
     let work = work_of_four_modules(&rt, rt.alloc());
-    let mut book = book_with_filed_numbers(&rt, rt.alloc(), work.digest, GOOD, &[1, 3]);
+    let mut book = book_with_filed_numbers(&rt, rt.alloc(), work.digest, GOOD_BUNDLE, &[1, 3]);
     assert!(rt; book.close().is_ok(), "no memory");
     fill_at_second_try(&rt, rt.alloc(), &mut book, &work, 0);
     assert!(rt; were_accepted_in_order(&book, work.digest, &[0, 1, 2, 3]));
@@ -85,7 +85,7 @@ fn fills_up_in_place_of_a_closed_book(rt: HostRuntime) {
 #[test]
 fn fills_up_in_place_of_another_book(rt: HostRuntime) {
     let work = work_of_four_modules(&rt, rt.alloc());
-    for (digest, text) in [([7; 32], GOOD), (work.digest, ALONE)] {
+    for (digest, text) in [([7; 32], GOOD_BUNDLE), (work.digest, BAD_BUNDLE)] {
         let mut book = book_with_filed_numbers(&rt, rt.alloc(), digest, text, &[1, 3]);
         fill_at_second_try(&rt, rt.alloc(), &mut book, &work, 0);
         assert!(rt;

@@ -7,7 +7,7 @@ use certificate::*;
 use module_box::{Box2, Signal};
 use std::alloc::{AllocError, Global};
 use std::sync::Arc;
-use test_support::{GOOD, work_of};
+use test_support::{GOOD_BUNDLE, work_of};
 
 /// The corner of a module's box, the cell of its ports, and the contents of the cells.
 ///
@@ -38,7 +38,7 @@ const P: Signal = Signal::Wire(0);
 const Q: Signal = Signal::Wire(1);
 
 /// Returns whether a cell starts and ends like this.
-fn is_at(job: &Job, cell: Cell, start: Signal, demand: Demand) -> bool {
+fn has_start_and_demand(job: &Job, cell: Cell, start: Signal, demand: Demand) -> bool {
     job.start(cell) == start && job.demand(cell) == demand
 }
 
@@ -47,12 +47,12 @@ fn is_only_port(job: &Job, port: Cell, start: Signal, demand: Demand) -> bool {
     for y in 0..8 {
         for x in 0..8 {
             let cell = Cell { x, y };
-            if cell != port && !is_at(job, cell, ZERO, Demand::Dead) {
+            if cell != port && !has_start_and_demand(job, cell, ZERO, Demand::Dead) {
                 return false;
             }
         }
     }
-    is_at(job, port, start, demand)
+    has_start_and_demand(job, port, start, demand)
 }
 
 /// Returns whether a cell carries this at a time, as edge and as halo.
@@ -99,12 +99,12 @@ fn are_equal_at_same_place_only(jobs: &[Arc<Job>], again: &[Arc<Job>]) -> bool {
 
 #[test]
 fn jobs_of_four_modules(rt: HostRuntime) {
-    let jobs = work_of(rt.alloc(), GOOD).expect(&rt, "work").jobs;
+    let jobs = work_of(rt.alloc(), GOOD_BUNDLE).expect(&rt, "work").jobs;
     assert!(rt; jobs.len() == 4);
     for (number, (job, wanted)) in jobs.iter().zip(&MODULES).enumerate() {
         assert!(rt; is_job_of_quarter(job, wanted), "{number}");
     }
-    let again = work_of(rt.alloc(), GOOD).expect(&rt, "work").jobs;
+    let again = work_of(rt.alloc(), GOOD_BUNDLE).expect(&rt, "work").jobs;
     assert!(rt; are_equal_at_same_place_only(&jobs, &again));
 }
 
@@ -131,7 +131,7 @@ fn jobs_with_mirror_ball_waste(rt: HostRuntime) {
         let job = jobs.get(module).expect(&rt, "a job");
         let cell = Cell { x, y };
         assert!(rt; 0 <= x && x < 8 && 0 <= y && y < 8);
-        let is_as_told = is_at(job, cell, start, demand)
+        let is_as_told = has_start_and_demand(job, cell, start, demand)
             && carries_edge_and_halo(job, 1, cell, edge, halo)
             && job.wiring().cuts() == module;
         assert!(rt; is_as_told, "{cell:?} of {module}");
@@ -139,12 +139,15 @@ fn jobs_with_mirror_ball_waste(rt: HostRuntime) {
 }
 
 /// Two modules of one shape, at the left and at the right.
-const EQUAL: &str =
+const SAME_SHAPE_TEXT: &str =
     "circuit\ninput a\ninput b\noutput a\noutput b\nend\nlayout 8 4 2\nin a 0 0\nin b 4 0\nout a 2 2\nout b 6 2\nend\ncertificate 1\nmodule 0 0 4 4\ncut a\nmodule 4 0 4 4\ncut b\nend\n";
 
 #[test]
 fn equal_shapes_are_one_group(rt: HostRuntime) {
-    for (text, wanted) in [(EQUAL, [0, 0].as_slice()), (GOOD, [0, 1, 2, 3].as_slice())] {
+    for (text, wanted) in [
+        (SAME_SHAPE_TEXT, [0, 0].as_slice()),
+        (GOOD_BUNDLE, [0, 1, 2, 3].as_slice()),
+    ] {
         let jobs = work_of(rt.alloc(), text).expect(&rt, "work").jobs;
         let groups = job_groups(rt.alloc(), &jobs).expect(&rt, "groups");
         assert!(rt; groups.as_slice() == wanted);
@@ -175,7 +178,7 @@ fn groups_of_one_key(
 
 #[test]
 fn equal_keys_keep_shapes_apart(rt: HostRuntime) {
-    let jobs = work_of(rt.alloc(), GOOD).expect(&rt, "work").jobs;
+    let jobs = work_of(rt.alloc(), GOOD_BUNDLE).expect(&rt, "work").jobs;
     let shapes = shapes(rt.alloc(), &jobs).expect(&rt, "shapes");
     let groups = groups_of_one_key(rt.alloc(), &shapes, [0; 32]).expect(&rt, "groups");
     assert!(rt; groups.as_slice() == [0, 1, 2, 3].as_slice());

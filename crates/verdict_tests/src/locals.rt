@@ -99,7 +99,7 @@ const OTHER_DELAY: &str =
 
 const NO_CUTS_TABLE: [(u32, &str); 3] = [(0, "110"), (1, "110"), (63, "110")];
 
-fn are(values: &[bool], digits: &str) -> bool {
+fn are_values(values: &[bool], digits: &str) -> bool {
     for (value, digit) in values.iter().zip(digits.as_bytes()) {
         if *value != (*digit == b'1') {
             return false;
@@ -108,8 +108,8 @@ fn are(values: &[bool], digits: &str) -> bool {
     values.len() == digits.len()
 }
 
-// whether the rows, of so many words each, have these values under an assignment
-fn have(rows: &[u64], words: usize, bits: u32, digits: &str) -> bool
+// whether the rows, of `words` words each, have these values under an assignment
+fn have_values(rows: &[u64], words: usize, bits: u32, digits: &str) -> bool
     requires { 0 < words }
 {
     for (row, digit) in rows.chunks(words).zip(digits.as_bytes()) {
@@ -133,11 +133,11 @@ fn has_values_of_table(
     let rows = wiring.value_rows(alloc, words)?;
     for (bits, digits) in table {
         let alone = match wiring.local_values(alloc, *bits) {
-            Ok(values) => are(&values, digits),
+            Ok(values) => are_values(&values, digits),
             Err(LocalValuesError::NoRow(_)) => false,
             Err(LocalValuesError::Memory) => return Err(AllocError),
         };
-        if !alone || !(*bits > 1023 || have(&rows.values, words, *bits, digits)) {
+        if !alone || !(*bits > 1023 || have_values(&rows.values, words, *bits, digits)) {
             return Ok(false);
         }
     }
@@ -172,12 +172,12 @@ fn values_without_cuts(rt: HostRuntime) {
 }
 
 // a gate that turns a switch back and is fed from elsewhere, and behind it one that turns an interaction back
-const BACK: &str =
+const INVERSE_TEXT: &str =
     "circuit\ninput c\ninput y\ninput z\ninput e\nunswitch c y z -> d x\nsource 0 -> s\nuninteract d x e s -> p q\noutput p\noutput q\nend\nlayout 2 2 0\nin c 0 0\nin y 1 0\nin z 0 1\nin e 1 1\nout p 0 0\nout q 1 0\nend\ncertificate 1\nmodule 0 0 2 2\ncut c\ncut y\ncut z\ncut e\nuse 0\nuse 1\nuse 2\nkeep 2\nend\n";
 
 // The wires are c, y, z, e, d, x, s, p and q. The first gate has no row where c and z, or y without c; the other where
 // d, and where x and e.
-const BACK_TABLE: [(u32, &str); 4] = [
+const INVERSE_TABLE: [(u32, &str); 4] = [
     (0, "000000000"),
     (4, "001001001"),
     (8, "000100010"),
@@ -186,10 +186,11 @@ const BACK_TABLE: [(u32, &str); 4] = [
 
 #[test]
 fn assignments_without_row(rt: HostRuntime) {
-    let job = only_job(&rt, rt.alloc(), BACK);
+    let job = only_job(&rt, rt.alloc(), INVERSE_TEXT);
     let wiring = job.wiring();
     assert!(rt;
-        has_values_of_table(rt.alloc(), wiring, 1, &BACK_TABLE) == Ok(true) && wiring.gates() == 3
+        has_values_of_table(rt.alloc(), wiring, 1, &INVERSE_TABLE) == Ok(true)
+            && wiring.gates() == 3
     );
     for (bits, place) in [
         (2, 0),

@@ -7,7 +7,7 @@ use core_book::{ReportLine, Verdict};
 use local_run::{Fault, Kind};
 use report::report_text;
 use std::alloc::{AllocError, Global};
-use test_support::{fed, sections};
+use test_support::{closed_feed, read_circuit_and_layout};
 
 /// A ball that is to stay where it is, in no time.
 const BUNDLE: &str =
@@ -48,8 +48,11 @@ fn verdict(alloc: Global) -> Result<Verdict, AllocError> {
 
 #[test]
 fn report_text_of_a_no(rt: HostRuntime) {
-    let mut feed = fed(rt.alloc(), BUNDLE.as_bytes()).expect(&rt, "a text");
-    let (circuit, layout) = sections(rt.alloc(), &mut feed).expect(&rt, "two sections");
+    let mut feed = closed_feed(rt.alloc(), BUNDLE.as_bytes()).expect(&rt, "a text");
+    let (circuit, layout) = read_circuit_and_layout(rt.alloc(), &mut feed).expect(
+        &rt,
+        "two sections",
+    );
     let certificate = read_certificate(rt.alloc(), &mut feed, &circuit, &layout);
     let certificate = certificate.expect(&rt, "a certificate");
     let verdict = verdict(rt.alloc()).expect(&rt, "a verdict");

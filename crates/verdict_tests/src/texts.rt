@@ -25,7 +25,7 @@ fn add(rt: &impl Abort, feed: &mut Feed, piece: &[u8])
 }
 
 /// Returns a text that has ended, in pieces of three bytes.
-fn fed(rt: &impl Abort, alloc: Global, text: &[u8]) -> Feed
+fn closed_feed_in_pieces(rt: &impl Abort, alloc: Global, text: &[u8]) -> Feed
     ensures { result.closed ≡ true }
 {
     let mut feed = Feed::new(alloc);
@@ -69,7 +69,7 @@ fn feed_splits_lines_into_words(rt: HostRuntime) {
         &["", "end"],
         &["last", ""],
     ];
-    let mut feed = fed(&rt, rt.alloc(), text);
+    let mut feed = closed_feed_in_pieces(&rt, rt.alloc(), text);
     for words in lines {
         assert!(rt; takes_line_of_words(&mut feed, words), "{words:?}");
     }

@@ -1,6 +1,6 @@
 //! Verdicts on worked bundles. The lines were worked out by hand.
 
-use crate::books::finding;
+use crate::books::finding_at_second_try;
 use audit_core::*;
 use bbm_rule::Cell;
 use border_match::{BorderFault, match_borders};
@@ -8,10 +8,10 @@ use certificate::{Cert, read_certificate};
 use local_run::{Fault, Kind};
 use std::alloc::Global;
 use std::process::Abort;
-use test_support::{ALONE, GOOD, fed, sections, work_of};
+use test_support::{BAD_BUNDLE, GOOD_BUNDLE, closed_feed, read_circuit_and_layout, work_of};
 
 /// Returns the conclusion on a certificate: the second one, if no memory was found at the first.
-fn concluded(
+fn conclude_at_second_try(
     rt: &impl Abort,
     alloc: Global,
     certificate: &Cert<'_>,
@@ -26,17 +26,17 @@ fn concluded(
 }
 
 /// Returns the conclusion on a bundle's certificate, by a book.
-fn conclusion(
+fn conclude_on_text(
     rt: &impl Abort,
     alloc: Global,
     text: &str,
     book: &BookState,
 ) -> Result<Verdict, Unfinished> {
-    let mut feed = fed(alloc, text.as_bytes()).expect(rt, "a text");
-    let (circuit, layout) = sections(alloc, &mut feed).expect(rt, "two sections");
+    let mut feed = closed_feed(alloc, text.as_bytes()).expect(rt, "a text");
+    let (circuit, layout) = read_circuit_and_layout(alloc, &mut feed).expect(rt, "two sections");
     let certificate = read_certificate(alloc, &mut feed, &circuit, &layout);
     let certificate = certificate.expect(rt, "a certificate");
-    concluded(rt, alloc, &certificate, book)
+    conclude_at_second_try(rt, alloc, &certificate, book)
 }
 
 /// A digest that is none of a text.
@@ -54,7 +54,7 @@ pub(crate) fn book_with_filed_numbers(
     let own = work_of(alloc, text).expect(rt, "work").jobs;
     let mut book = BookState::new(alloc, digest, own).expect(rt, "a book");
     for number in numbers {
-        let finding = finding(rt, alloc, digest, *number, &jobs, *number);
+        let finding = finding_at_second_try(rt, alloc, digest, *number, &jobs, *number);
         assert!(rt; book.file(finding).is_ok(), "no memory");
     }
     book
@@ -71,11 +71,11 @@ fn is_yes_or_no_with_lines(found: &Result<Verdict, Unfinished>, lines: &[ReportL
 
 /// Returns whether a book concludes with a yes on a bundle's certificate.
 pub(crate) fn is_yes(rt: &impl Abort, alloc: Global, text: &str, book: &BookState) -> bool {
-    is_yes_or_no_with_lines(&conclusion(rt, alloc, text, book), &[])
+    is_yes_or_no_with_lines(&conclude_on_text(rt, alloc, text, book), &[])
 }
 
 /// Under q alone nothing comes back to (2, 2), and module 3 says that q is at (4, 4).
-const ALONE_LINES: [ReportLine; 2] = [
+const BAD_BUNDLE_LINES: [ReportLine; 2] = [
     ReportLine::Local {
         module: 0,
         fault: Fault {
@@ -117,32 +117,32 @@ const OTHER_BALL_LINES: [ReportLine; 2] = [
     },
 ];
 
-const ORDERS: [[usize; 4]; 3] = [[0, 1, 2, 3], [3, 2, 1, 0], [2, 0, 3, 1]];
+const FILING_ORDERS: [[usize; 4]; 3] = [[0, 1, 2, 3], [3, 2, 1, 0], [2, 0, 3, 1]];
 
 /// Bundles, and the lines of the report.
 const VERDICTS: [(&str, &[ReportLine]); 3] = [
-    (GOOD, &[]),
-    (ALONE, &ALONE_LINES),
+    (GOOD_BUNDLE, &[]),
+    (BAD_BUNDLE, &BAD_BUNDLE_LINES),
     (OTHER_BALL, &OTHER_BALL_LINES),
 ];
 
 #[test]
 fn verdict_ignores_filing_order(rt: HostRuntime) {
     for (text, lines) in &VERDICTS {
-        for numbers in &ORDERS {
+        for numbers in &FILING_ORDERS {
             let book = book_with_filed_numbers(&rt, rt.alloc(), DIGEST, text, numbers);
-            let found = conclusion(&rt, rt.alloc(), text, &book);
+            let found = conclude_on_text(&rt, rt.alloc(), text, &book);
             assert!(rt; is_yes_or_no_with_lines(&found, lines), "{text}");
         }
     }
 }
 
 /// The bundle of the book's jobs, the numbers that are filed, and the first module without a finding.
-const MISSING: [(&str, &[usize], usize); 3] = [
-    (GOOD, &[], 0),
-    (GOOD, &[0, 1, 3], 2),
+const MISSING_CASES: [(&str, &[usize], usize); 3] = [
+    (GOOD_BUNDLE, &[], 0),
+    (GOOD_BUNDLE, &[0, 1, 3], 2),
     // another job 0 under the same digest
-    (ALONE, &[0, 1, 2, 3], 0),
+    (BAD_BUNDLE, &[0, 1, 2, 3], 0),
 ];
 
 /// Returns whether the first module without a finding is this one, in the verdict on the four modules by a book.
@@ -152,12 +152,12 @@ pub(crate) fn is_first_missing(
     book: &BookState,
     number: usize,
 ) -> bool {
-    conclusion(rt, alloc, GOOD, book) == Err(Unfinished::Missing(number))
+    conclude_on_text(rt, alloc, GOOD_BUNDLE, book) == Err(Unfinished::Missing(number))
 }
 
 #[test]
 fn first_missing_number_is_named(rt: HostRuntime) {
-    for (text, numbers, missing) in &MISSING {
+    for (text, numbers, missing) in &MISSING_CASES {
         let book = book_with_filed_numbers(&rt, rt.alloc(), DIGEST, text, numbers);
         assert!(rt;
             is_first_missing(&rt, rt.alloc(), &book, *missing),

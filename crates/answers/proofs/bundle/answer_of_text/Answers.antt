@@ -11,20 +11,20 @@ pub returns-in-Err : goal.returns-in-Err
 returns-in-Err c =
     let fails = circuit_failed c.args.text.now c.read_circuit.new.feed c.requires.unread c.requires.going c.in-Err.fault
     c.in-Err.ensures in
-    IfOk-weaker c.refused.result _ _
+    IfOk-weaker c.refusal_answer.result _ _
     (λ answered told. refusal_answers (AnswersQuestion c.args.question)
     (bundle_of c.args.text.now.text) c.in-Err.fault answered.output.items answered.outcome fails told)
-    c.refused.ensures.told
+    c.refusal_answer.ensures.told
 
 pub returns-in-Err-read_layout : goal.returns-in-Err-read_layout
 returns-in-Err-read_layout c =
     let fails = layout_failed c.args.text.now c.read_circuit.new.feed c.requires.unread c.requires.going c.in-Ok.circuit
     c.in-Ok.ensures (named_ports c.in-Ok-port_names.ports) c.read_layout.new.feed c.in-Ok-port_names.ensures.ports
     c.in-Err-read_layout.fault c.in-Err-read_layout.ensures.reads in
-    IfOk-weaker c.refused-in-Err-read_layout.result _ _
+    IfOk-weaker c.refusal_answer-in-Err-read_layout.result _ _
     (λ answered told. refusal_answers (AnswersQuestion c.args.question)
     (bundle_of c.args.text.now.text) c.in-Err-read_layout.fault answered.output.items answered.outcome fails told)
-    c.refused-in-Err-read_layout.ensures.told
+    c.refusal_answer-in-Err-read_layout.ensures.told
 
 pub returns-in-Err-read_certificate : goal.returns-in-Err-read_certificate
 returns-in-Err-read_certificate c =
@@ -33,10 +33,10 @@ returns-in-Err-read_certificate c =
     (named_ports c.in-Ok-port_names.ports) c.read_layout.new.feed c.in-Ok-port_names.ensures.ports
     c.in-Ok-read_layout.layout c.in-Ok-read_layout.ensures.reads c.read_certificate.new.feed
     c.in-Err-read_certificate.fault c.in-Err-read_certificate.ensures.reads in
-    IfOk-weaker c.refused-in-Err-read_certificate.result _ _
+    IfOk-weaker c.refusal_answer-in-Err-read_certificate.result _ _
     (λ answered told. refusal_answers (AnswersQuestion c.args.question)
     (bundle_of c.args.text.now.text) c.in-Err-read_certificate.fault answered.output.items answered.outcome fails told)
-    c.refused-in-Err-read_certificate.ensures.told
+    c.refusal_answer-in-Err-read_certificate.ensures.told
 
 pub returns-in-Err-finish : goal.returns-in-Err-finish
 returns-in-Err-finish c =
@@ -49,11 +49,11 @@ returns-in-Err-finish c =
     (named_ports c.in-Ok-port_names.ports) c.read_layout.new.feed c.in-Ok-port_names.ensures.ports
     c.in-Ok-read_layout.layout c.in-Ok-read_layout.ensures.reads c.read_certificate.new.feed
     c.in-Ok-read_certificate.cert c.in-Ok-read_certificate.ensures.reads
-    c.in-Err-finish.fault (c.in-Err-finish.ensures.more going) (c.in-Err-finish.ensures.fault going).0 in
-    IfOk-weaker c.refused-in-Err-finish.result _ _
+    c.in-Err-finish.fault (c.in-Err-finish.ensures.more_is_left going) (c.in-Err-finish.ensures.fault going).0 in
+    IfOk-weaker c.refusal_answer-in-Err-finish.result _ _
     (λ answered told. refusal_answers (AnswersQuestion c.args.question)
     (bundle_of c.args.text.now.text) c.in-Err-finish.fault answered.output.items answered.outcome fails told)
-    c.refused-in-Err-finish.ensures.told
+    c.refusal_answer-in-Err-finish.ensures.told
 
 pub returns : goal.returns
 returns c =

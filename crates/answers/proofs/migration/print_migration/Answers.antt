@@ -5,12 +5,12 @@ use Rattle.pattern.specs.Text.{layout_text}
 use Rattle.certificate.specs.Grammars.{CertView, migrated}
 use Rattle.certificate.specs.Text.{certificate_text}
 use Rattle.answers.specs.BundleReading.{bundle_of_certificate}
-use Rattle.answers.specs.MigrateText.{bundle_text, certificate_lines, layout_lines, migrate_of}
+use Rattle.answers.specs.MigrateText.{bundle_text, certificate_section_text, layout_section_text, migrate_of}
 use Rattle.answers.proofs.migration.print_migration.Goals as goal
 
 joined : (c : CertView) → (circuit_text c.circuit ++ layout_text c.layout) ++ certificate_text (migrated c)
     ≡ migrate_of (bundle_of_certificate c)
-unfolding bundle_text layout_lines certificate_lines layout_text certificate_text
+unfolding bundle_text layout_section_text certificate_section_text layout_text certificate_text
 joined c = refl
 
 pub returns : goal.returns

@@ -2,7 +2,7 @@ use Rattle.lemmas.proofs.Common.{[], ◌++◌, ◌∙◌, ◌∷◌, ◌≡◌, 
 use Rattle.lemmas.proofs.Common.{rules, subst, ℕ, decimal, length-map}
 use Rattle.section_text.specs.Spelling.{line_text}
 use Rattle.circuit.specs.Entries.{defined}
-use Rattle.circuit.specs.Bridge.{AreValues, IsValuesFault, StopsAt, netlist_of, read}
+use Rattle.circuit.specs.Bridge.{AreValues, IsValuesFault, ValuesStopAt, netlist_of, as_values}
 use Rattle.circuit.specs.declared.netlist.ValuesFault.TheVariants.{OutOfDomain}
 use Rattle.circuit.specs.Text.{value_lines}
 use Rattle.circuit.proofs.Undefined.{stops_short}
@@ -13,18 +13,18 @@ pub values-requires : goal.values-requires
 values-requires c =
     let bits = c.deref-2.ensures.value ∙ c.in_ok-bits.ensures in
     ap length bits ∙ length-map c.deref.result.now _ ∙ ap length (c.deref.ensures.value ∙ c.in_ok-ins.ensures.names)
-    ∙ c.input_list.ensures.count
+    ∙ c.input_name_list.ensures.count
 
-pub undefined_gate_text-requires : goal.undefined_gate_text-requires
-undefined_gate_text-requires c =
+pub values_up_to_gate_text-requires : goal.values_up_to_gate_text-requires
+values_up_to_gate_text-requires c =
     let same : c.in-Err-OutOfDomain.field-0 ≡ OutOfDomain c.in-Err-OutOfDomain.gate c.in-Err-OutOfDomain.before =
     search rules in
-    let stops : StopsAt (netlist_of c.args.circuit.now)
-    (read c.deref-2.result.now) c.in-Err-OutOfDomain.gate c.in-Err-OutOfDomain.before.items =
-    subst (IsValuesFault (netlist_of c.args.circuit.now) (read c.deref-2.result.now)) same
+    let stops : ValuesStopAt (netlist_of c.args.circuit.now)
+    (as_values c.deref-2.result.now) c.in-Err-OutOfDomain.gate c.in-Err-OutOfDomain.before.items =
+    subst (IsValuesFault (netlist_of c.args.circuit.now) (as_values c.deref-2.result.now)) same
     c.in-Err-OutOfDomain.ensures.fault in
     let short = stops_short (netlist_of c.args.circuit.now)
-    (read c.deref-2.result.now) c.in-Err-OutOfDomain.gate c.in-Err-OutOfDomain.before.items stops in
+    (as_values c.deref-2.result.now) c.in-Err-OutOfDomain.gate c.in-Err-OutOfDomain.before.items stops in
     let long = ap length c.deref-in-Err-OutOfDomain.ensures.value in
     omega (arith, short, long)
 
@@ -37,7 +37,8 @@ returns-in-Ok c =
       ordered = c.gates-gates.ensures.ordered;
       says = inl (record {
         values = c.in-Ok.values.items;
-        are = subst (λ (l : List Bool). AreValues (netlist_of c.args.circuit.now) (read l) c.in-Ok.values.items) bits
+        are = subst (λ (l : List Bool). AreValues (netlist_of c.args.circuit.now) (as_values l) c.in-Ok.values.items)
+            bits
             c.in-Ok.ensures.values;
         says = c.in_ok-output-in-Ok.ensures ∙ ap (value_lines (defined c.args.circuit.now)) c.deref-in-Ok.ensures.value;
         ends = refl;
@@ -51,9 +52,9 @@ returns-in-Err-OutOfDomain c =
     ∙ ap (map on) (c.deref.ensures.value ∙ c.in_ok-ins.ensures.names) in
     let same : c.in-Err-OutOfDomain.field-0 ≡ OutOfDomain c.in-Err-OutOfDomain.gate c.in-Err-OutOfDomain.before =
     search rules in
-    let stops : StopsAt (netlist_of c.args.circuit.now)
-    (read c.deref-2.result.now) c.in-Err-OutOfDomain.gate c.in-Err-OutOfDomain.before.items =
-    subst (IsValuesFault (netlist_of c.args.circuit.now) (read c.deref-2.result.now)) same
+    let stops : ValuesStopAt (netlist_of c.args.circuit.now)
+    (as_values c.deref-2.result.now) c.in-Err-OutOfDomain.gate c.in-Err-OutOfDomain.before.items =
+    subst (IsValuesFault (netlist_of c.args.circuit.now) (as_values c.deref-2.result.now)) same
     c.in-Err-OutOfDomain.ensures.fault in
     record {
       ordered = c.gates-gates.ensures.ordered;
@@ -61,8 +62,8 @@ returns-in-Err-OutOfDomain c =
         gate = c.in-Err-OutOfDomain.gate;
         values = c.in-Err-OutOfDomain.before.items;
         stops = subst (λ (l : List Bool).
-            StopsAt (netlist_of c.args.circuit.now)
-            (read l) c.in-Err-OutOfDomain.gate c.in-Err-OutOfDomain.before.items) bits stops;
+            ValuesStopAt (netlist_of c.args.circuit.now)
+            (as_values l) c.in-Err-OutOfDomain.gate c.in-Err-OutOfDomain.before.items) bits stops;
         says = c.in_ok-output-in-Err-OutOfDomain.ensures
             ∙ ap (λ (vs : List Bool). value_lines (defined c.args.circuit.now) vs
             ++ line_text (codes "undefined") (decimal c.in-Err-OutOfDomain.gate ∷ []))

@@ -6,8 +6,8 @@ use Rattle.answers.proofs.value.value_text.Goals as goal
 
 pub returns-in-Err : goal.returns-in-Err
 returns-in-Err c =
-    IfOk-weaker c.refused.result _ _
+    IfOk-weaker c.refusal_answer.result _ _
     (λ answered told. refusal_answers SaysValues
     (value_sections_of c.args.feed.now.text) c.in-Err.fault answered.output.items answered.outcome c.in-Err.ensures
     told)
-    c.refused.ensures.told
+    c.refusal_answer.ensures.told

@@ -4,7 +4,7 @@ use Rattle.std.specs.Vec.{vec_len}
 use Rattle.module_job.specs.Jobs.{JobView}
 use Rattle.certificate.specs.Times.{are_all_obeyed, delay_and_meet_lines}
 use Rattle.core_book.specs.Concluding.{modules, setting}
-use Rattle.core_book.specs.Verdicts.{report_lines_from, timing_report, unkept_lines}
+use Rattle.core_book.specs.Verdicts.{report_lines_from, timing_report_line, unkept_lines}
 use Rattle.core_book.specs.declared.verdict.ReportLine.TheVariants.{Unkept}
 use Rattle.audit_core.proofs.Conclusions.{AreAllFaults, verdict-yes, verdict-no, is_empty_list}
 use Rattle.soundness.proofs.YesMeansCorrect.{IsRead, yes_means-correct, yes_means-on_time}
@@ -75,10 +75,10 @@ returns-then-obeyed-is_empty-clause-on_time c is named =
 pub returns-clause-verdict : goal.returns-clause-verdict
 returns-clause-verdict c =
     let d = (goal.at.returns-clause-verdict c).After-is_empty in
-    let m = map timing_report (delay_and_meet_lines (setting c.args.cert.now).circuit (modules c.args.cert.now)) in
+    let m = map timing_report_line (delay_and_meet_lines (setting c.args.cert.now).circuit (modules c.args.cert.now)) in
     verdict-no c.args.cert.now (map arc_value c.args.jobs.now) c.args.faults.now c.args.borders.now
     c.push_time_lines.new.lines (all d)
-    (c.in_ok-push_time_lines.ensures ∙ ap (λ ts. c.in_ok-lines.lines.items ++ map timing_report ts)
+    (c.in_ok-push_time_lines.ensures ∙ ap (λ ts. c.in_ok-lines.lines.items ++ map timing_report_line ts)
     (c.deref-3.ensures.value ∙ c.in_ok-times.ensures) ∙ ap (λ xs. xs ++ m) (lines_are d))
     (λ e.
     let none : length c.in_ok-lines.lines.items ≡ 0 = ap length (lines_are d ∙ e.0) in

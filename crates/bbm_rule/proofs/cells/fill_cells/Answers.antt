@@ -1,4 +1,4 @@
-use Rattle.lemmas.proofs.Common.{arith, common_steps}
+use Rattle.bbm_rule.proofs.Imports.{arith, common_steps}
 use Rattle.bbm_rule.proofs.BitLemmas.{by_lt_or_le}
 use Rattle.bbm_rule.proofs.cells.fill_cells.Goals as goal
 

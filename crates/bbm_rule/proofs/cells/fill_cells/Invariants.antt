@@ -1,6 +1,5 @@
 -- The cells so far are live, and the others as they were.
-use Rattle.lemmas.proofs.Common.{◌-◌, ◌<◌, ◌≡◌, ◌≤◌, true, ℕ}
-use Rattle.bbm_rule.specs.Rows.{cell_at}
+use Rattle.bbm_rule.proofs.Imports.{cell_at, true, ℕ, ◌-◌, ◌<◌, ◌≡◌, ◌≤◌}
 use Rattle.bbm_rule.proofs.cells.fill_cells.Given as goal
 
 abbrev pub invariant-words : goal.invariant-words

@@ -1,4 +1,4 @@
-use Rattle.lemmas.proofs.Common.{arith, common_steps}
+use Rattle.bbm_rule.proofs.Imports.{arith, common_steps}
 use Rattle.bbm_rule.proofs.FilledRuns.{cells_filled}
 use Rattle.bbm_rule.proofs.cells.fill_in_word.Goals as goal
 

@@ -1,7 +1,4 @@
-use Rattle.lemmas.proofs.Common.{refl}
-use Rattle.bbm_rule.specs.Plane.{turned}
-use Rattle.bbm_rule.specs.Bits.{bit}
-use Rattle.bbm_rule.specs.Words.{turn_of}
+use Rattle.bbm_rule.proofs.Imports.{bit, refl, turn_of, turned}
 use Rattle.bbm_rule.proofs.laws.turn_table.Goals as goal
 
 pub returns : goal.returns

@@ -1,5 +1,5 @@
-use Rattle.lemmas.proofs.Common.{refl}
-use Rattle.bbm_rule.specs.Plane.{partner, turned, step, run}
+use Rattle.bbm_rule.proofs.Imports.{partner, refl, step, turned}
+use Rattle.bbm_rule.specs.Plane.{run}
 use Rattle.bbm_rule.proofs.Meetings.{two_turn}
 use Rattle.bbm_rule.proofs.laws.two_balls_collide.Goals as goal
 

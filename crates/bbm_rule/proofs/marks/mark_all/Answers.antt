@@ -1,4 +1,4 @@
-use Rattle.lemmas.proofs.Common.{◌/◌, ◌∙◌, arith, sym, false≢true}
+use Rattle.bbm_rule.proofs.Imports.{arith, false≢true, sym, ◌/◌, ◌∙◌}
 use Rattle.bbm_rule.proofs.MarkLemmas.{full_word}
 use Rattle.bbm_rule.proofs.marks.mark_all.Goals as goal
 

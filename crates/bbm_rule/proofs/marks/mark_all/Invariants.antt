@@ -1,4 +1,5 @@
-use Rattle.lemmas.proofs.Common.{◌<◌, ◌≡◌, slice_index_or, ℕ}
+use Rattle.bbm_rule.proofs.Imports.{ℕ, ◌<◌, ◌≡◌}
+use Rattle.lemmas.proofs.Common.{slice_index_or}
 use Rattle.bbm_rule.proofs.marks.mark_all.Given as goal
 
 abbrev pub invariant-loop-k : goal.invariant-loop-k

@@ -1,18 +1,18 @@
-use Rattle.lemmas.proofs.Common.{◌%◌, ◌*◌, ◌+◌, ◌/◌, ◌^◌, ◌≡◌, arith, get_or, subst, true, w64, common_steps}
-use Rattle.lemmas.proofs.Common.{trailing_zeros}
-use Rattle.bbm_rule.specs.Rows.{cell_at}
+use Rattle.bbm_rule.proofs.Imports.{arith, cell_at, common_steps, get_or, trailing_zeros, true, w64, ◌%◌, ◌*◌, ◌+◌, ◌/◌}
+use Rattle.bbm_rule.proofs.Imports.{◌^◌, ◌≡◌}
+use Rattle.lemmas.proofs.Common.{subst}
 use Rattle.bbm_rule.proofs.BitLemmas.{by_lt_or_le}
 use Rattle.bbm_rule.proofs.MarkLemmas.{first_marked, none_before, none_in_word, whole_before, whole_marked, whole_zero}
 use Rattle.bbm_rule.proofs.marks.next_marked.Goals as goal
 
-pub returns-then-rest-ne0-clause-passed : goal.returns-then-rest-ne0-clause-passed
-returns-then-rest-ne0-clause-passed c = grind (arith, common_steps, none_before)
+pub returns-then-rest-ne0-clause-passed_unmarked : goal.returns-then-rest-ne0-clause-passed_unmarked
+returns-then-rest-ne0-clause-passed_unmarked c = grind (arith, common_steps, none_before)
 
 pub words-init : goal.words-init
 words-init c = λ u l h. none_in_word c.args.marks.now c.args.from u c.if-rest-ne0.false l (omega arith)
 
-pub returns-then-whole-ne0-clause-passed : goal.returns-then-whole-ne0-clause-passed
-returns-then-whole-ne0-clause-passed c = grind (arith, common_steps, by_lt_or_le, whole_before)
+pub returns-then-whole-ne0-clause-passed_unmarked : goal.returns-then-whole-ne0-clause-passed_unmarked
+returns-then-whole-ne0-clause-passed_unmarked c = grind (arith, common_steps, by_lt_or_le, whole_before)
 
 pub words-preserved : goal.words-preserved
 words-preserved c = grind (arith, common_steps, by_lt_or_le, whole_zero)

@@ -1,5 +1,4 @@
-use Rattle.lemmas.proofs.Common.{◌*◌, ◌<◌, ◌≤◌, ℕ}
-use Rattle.bbm_rule.specs.Marks.{IsUnmarked}
+use Rattle.bbm_rule.proofs.Imports.{IsUnmarked, ℕ, ◌*◌, ◌<◌, ◌≤◌}
 use Rattle.bbm_rule.proofs.marks.next_marked.Given as goal
 
 -- none was passed that has a mark

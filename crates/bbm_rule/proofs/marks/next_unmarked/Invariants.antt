@@ -1,5 +1,4 @@
-use Rattle.lemmas.proofs.Common.{◌-◌, ◌<◌, ◌≡◌, ◌≤◌, true, ℕ}
-use Rattle.bbm_rule.specs.Rows.{cell_at}
+use Rattle.bbm_rule.proofs.Imports.{cell_at, true, ℕ, ◌-◌, ◌<◌, ◌≡◌, ◌≤◌}
 use Rattle.bbm_rule.proofs.marks.next_unmarked.Given as goal
 
 -- all that were passed have a mark

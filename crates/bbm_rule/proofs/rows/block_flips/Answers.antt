@@ -1,4 +1,4 @@
-use Rattle.lemmas.proofs.Common.{arith, common_steps}
+use Rattle.bbm_rule.proofs.Imports.{arith, common_steps}
 use Rattle.bbm_rule.proofs.Turning.{flips_found, no_flips}
 use Rattle.bbm_rule.proofs.rows.block_flips.Goals as goal
 

@@ -1,4 +1,4 @@
-use Rattle.lemmas.proofs.Common.{arith, common_steps}
+use Rattle.bbm_rule.proofs.Imports.{arith, common_steps}
 use Rattle.bbm_rule.proofs.PairLemmas.{pairs_turned, flipped_same}
 use Rattle.bbm_rule.proofs.rows.turn_word_pair.Goals as goal
 

@@ -1,4 +1,4 @@
-use Rattle.lemmas.proofs.Common.{arith, common_steps}
+use Rattle.bbm_rule.proofs.Imports.{arith, common_steps}
 use Rattle.bbm_rule.proofs.Lanes.{chunk_turned}
 use Rattle.bbm_rule.proofs.words.turn_four_words_at.Goals as goal
 

@@ -1,5 +1,4 @@
-use Rattle.lemmas.proofs.Common.{◌-◌, ◌≤◌, length}
-use Rattle.bbm_rule.specs.Words.{TurnsBetween}
+use Rattle.bbm_rule.proofs.Imports.{TurnsBetween, length, ◌-◌, ◌≤◌}
 use Rattle.bbm_rule.proofs.words.turn_lanes.Given as goal
 
 abbrev pub invariant-loop-at : goal.invariant-loop-at

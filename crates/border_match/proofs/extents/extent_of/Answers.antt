@@ -1,8 +1,6 @@
-use Rattle.lemmas.proofs.Common.{◌+◌, ◌<◌, ◌≡◌, List, Some, arith, inl, inr, slice_get, subst, ℕ, common_steps}
-use Rattle.lemmas.proofs.Common.{slice_get-get_or, slice_get_within, below_or_same}
-use Rattle.module_box.specs.declared.schedules.TimedSignal.{TimedSignal}
-use Rattle.module_box.proofs.BoxCells.{same_some}
-use Rattle.border_match.specs.Surroundings.{IsSeen}
+use Rattle.border_match.proofs.Imports.{IsInWindow, List, Some, TimedSignal, arith, below_or_same, common_steps, inl}
+use Rattle.border_match.proofs.Imports.{inr, same_some, slice_get, slice_get-get_or, slice_get_within, subst, ℕ, ◌+◌}
+use Rattle.border_match.proofs.Imports.{◌<◌, ◌≡◌}
 use Rattle.border_match.proofs.extents.extent_of.Goals as goal
 
 -- one more event
@@ -18,7 +16,7 @@ one_more P events i event there holds before k e below got = elim (below_or_same
 ]
 
 pub events-preserved : goal.events-preserved
-events-preserved c = one_more (λ (e : TimedSignal). IsSeen c.include.new.self e.at.cell) c.args.events.now
+events-preserved c = one_more (λ (e : TimedSignal). IsInWindow c.include.new.self e.at.cell) c.args.events.now
     c.events.event-index _ (slice_get-get_or c.args.events.now c.events.event-index _ c.events-test.true)
     c.include.ensures.cell (λ k e l g. c.include.ensures.kept e.at.cell (c.events.invariant k e l g))
 

@@ -1,4 +1,4 @@
-use Rattle.lemmas.proofs.Common.{arith, common_steps}
+use Rattle.border_match.proofs.Imports.{arith, common_steps}
 use Rattle.border_match.proofs.Least.{lesser_kept, at_most_itself}
 use Rattle.border_match.proofs.fault.lesser.Goals as goal
 

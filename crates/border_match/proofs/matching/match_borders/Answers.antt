@@ -1,13 +1,8 @@
-use Rattle.lemmas.proofs.Common.{◌∙◌, ◌≡◌, Err, IfOk, Ok, Result, Some, ap, arith, map, slice_get, subst, sym}
-use Rattle.lemmas.proofs.Common.{arc_value, common_steps}
-use Rattle.pattern.specs.declared.layout_line.LayoutHeader.{LayoutHeader}
-use Rattle.certificate.specs.Grammars.{modules_in}
-use Rattle.certificate_lines.specs.Settings.{setting_of}
-use Rattle.certificate_lines.specs.Rules.{whole}
+use Rattle.border_match.proofs.Imports.{AreJobOwners, IsBorderFaultOfJob, IsLeast, IsLeastBorderFault, LayoutHeader}
+use Rattle.border_match.proofs.Imports.{Some, ap, arc_value, arith, common_steps, map, modules_in, setting_of}
+use Rattle.border_match.proofs.Imports.{slice_get, subst, sym, whole, ◌∙◌, ◌≡◌}
+use Rattle.lemmas.proofs.Common.{Err, IfOk, Ok, Result}
 use Rattle.certificate_lines.specs.Versions.{modules_by_version}
-use Rattle.border_match.specs.BorderFaults.{IsLeastBorderFault}
-use Rattle.border_match.specs.Boards.{IsBoard, IsJobFault}
-use Rattle.border_match.specs.Candidates.{IsLeast}
 use Rattle.border_match.proofs.Bridge.{board, quiet_job, least_by_lines}
 use Rattle.border_match.proofs.Cells.{job_at}
 use Rattle.border_match.proofs.Modules.{pushed_more}
@@ -31,7 +26,7 @@ least_fault-requires-clause-ready c =
     let got : slice_get js c.jobs.job-index ≡ Some c.deref-in-jobs.result.now =
     job_at arc_value c.args.jobs.now c.jobs.job-index _ c.deref-in-jobs.result.now c.jobs-test.true
     (c.deref-in-jobs.ensures ∙ ap arc_value c.job-item.is) in (
-      subst (λ (z : LayoutHeader). IsBoard (whole z) o js) (sym c.size-size.ensures.size)
+      subst (λ (z : LayoutHeader). AreJobOwners (whole z) o js) (sym c.size-size.ensures.size)
           (board s.circuit s.layout (modules_in s) js o good c.requires c.in_ok-owners.ensures.owners
           c.in_ok-owners.ensures.width c.in_ok-owners.ensures.height),
       quiet_job s.circuit s.layout (modules_in s) js o good c.requires c.in_ok-owners.ensures.owners
@@ -47,9 +42,10 @@ jobs-preserved c =
     let got : slice_get js c.jobs.job-index ≡ Some c.deref-in-jobs.result.now =
     job_at arc_value c.args.jobs.now c.jobs.job-index _ c.deref-in-jobs.result.now c.jobs-test.true
     (c.deref-in-jobs.ensures ∙ ap arc_value c.job-item.is) in
-    let found : IsLeast (IsJobFault (whole s.layout.size) o js c.deref-in-jobs.result.now) c.in_ok-least_fault.field-0 =
+    let found : IsLeast (IsBorderFaultOfJob (whole s.layout.size) o js c.deref-in-jobs.result.now)
+    c.in_ok-least_fault.field-0 =
     subst (λ (z : LayoutHeader). IsLeast
-    (IsJobFault (whole z) o js c.deref-in-jobs.result.now) c.in_ok-least_fault.field-0)
+    (IsBorderFaultOfJob (whole z) o js c.deref-in-jobs.result.now) c.in_ok-least_fault.field-0)
     c.size-size.ensures.size c.in_ok-least_fault.ensures in
     let least = least_by_lines s.circuit s.layout
     (modules_in s) js o good c.requires c.in_ok-owners.ensures.owners c.in_ok-owners.ensures.width

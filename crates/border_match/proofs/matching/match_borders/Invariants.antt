@@ -1,8 +1,5 @@
-use Rattle.lemmas.proofs.Common.{◌≡◌, Option, Some, slice_get, vec_len, ℕ}
-use Rattle.certificate.specs.Grammars.{modules_in}
-use Rattle.certificate_lines.specs.Settings.{setting_of}
-use Rattle.border_match.specs.BorderFaults.{IsLeastBorderFault}
-use Rattle.border_match.specs.declared.fault.BorderFault.{BorderFault}
+use Rattle.border_match.proofs.Imports.{BorderFault, IsLeastBorderFault, Option, Some, modules_in, setting_of}
+use Rattle.border_match.proofs.Imports.{slice_get, vec_len, ℕ, ◌≡◌}
 use Rattle.border_match.proofs.matching.match_borders.Given as goal
 
 -- The modules before have their faults.

@@ -1,15 +1,9 @@
-use Rattle.lemmas.proofs.Common.{◌∙◌, ◌≡◌, List, arith, subst, sym, common_steps, false≢true}
-use Rattle.pattern.specs.declared.layout_line.LayoutHeader.{LayoutHeader}
-use Rattle.module_box.specs.Boxes.{Tile}
-use Rattle.module_box.specs.Tiling.{rectangle_of}
-use Rattle.module_box.specs.declared.boxes.Box2.{Box2}
-use Rattle.module_box.specs.declared.tile.TileFault.TheVariants.{Memory}
+use Rattle.border_match.proofs.Imports.{Box2, LayoutHeader, List, Memory, Tile, arith, common_steps, false≢true}
+use Rattle.border_match.proofs.Imports.{modules_in, rectangle_of, setting_of, subst, sym, whole, ◌∙◌, ◌≡◌}
 use Rattle.certificate_lines.specs.Entries.{modules_of}
-use Rattle.certificate.specs.Grammars.{modules_in}
-use Rattle.certificate_lines.specs.Settings.{setting_of}
-use Rattle.certificate_lines.specs.Rules.{whole}
 use Rattle.certificate.proofs.FullModules.{meant_areas}
-use Rattle.border_match.proofs.Modules.{is_task, only_memory}
+use Rattle.certificate_lines.proofs.ModuleBoxes.{is_task}
+use Rattle.border_match.proofs.Modules.{only_memory}
 use Rattle.border_match.proofs.matching.owners_of.Goals.{in-Memory, in_default}
 use Rattle.border_match.proofs.matching.owners_of.Goals as goal
 
@@ -18,7 +12,7 @@ owner_table-requires c =
     let s = c.args.cert.now in
     is_task (setting_of s.circuit s.layout)
     (modules_in s) c.size-size.result c.args.boxes.now c.size-size.ensures.size c.size-size.ensures.limits
-    c.modules-count.ensures.good (c.requires
+    c.modules-count.ensures.good.each (c.requires
     ∙ sym (meant_areas s.version (setting_of s.circuit s.layout) (modules_of s.entries)))
 
 pub prove-unreachable-requires : goal.prove-unreachable-requires
@@ -28,7 +22,7 @@ prove-unreachable-requires c =
     let good = c.modules-count.ensures.good in
     let boxes_are = c.requires ∙ sym (meant_areas s.version (setting_of s.circuit s.layout) (modules_of s.entries)) in
     let task = is_task (setting_of s.circuit s.layout)
-    (modules_in s) size c.args.boxes.now c.size-size.ensures.size c.size-size.ensures.limits good boxes_are in
+    (modules_in s) size c.args.boxes.now c.size-size.ensures.size c.size-size.ensures.limits good.each boxes_are in
     let tile : Tile (rectangle_of size.w size.h) c.args.boxes.now =
     subst (λ (z : LayoutHeader). Tile (whole z) c.args.boxes.now) (sym c.size-size.ensures.size)
     (subst (λ (bs : List Box2). Tile (whole s.layout.size) bs) (sym boxes_are) good.tile) in

@@ -1,4 +1,4 @@
-use Rattle.lemmas.proofs.Common.{arith, common_steps}
+use Rattle.border_match.proofs.Imports.{arith, common_steps}
 use Rattle.border_match.proofs.OwnSignals.{edge_below, halo_below}
 use Rattle.border_match.proofs.signals.signal_at.Goals as goal
 

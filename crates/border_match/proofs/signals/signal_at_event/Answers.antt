@@ -1,7 +1,4 @@
-use Rattle.lemmas.proofs.Common.{◌∙◌, ap, sym}
-use Rattle.module_box.specs.Locals.{circuit_wire}
-use Rattle.module_job.specs.Signals.{renumber_signal}
-use Rattle.border_match.specs.Boards.{job_signals}
+use Rattle.border_match.proofs.Imports.{ap, circuit_wire, job_signals, renumber_signal, sym, ◌∙◌}
 use Rattle.border_match.proofs.EventSignals.{own_signal}
 use Rattle.border_match.proofs.OwnSignals.{listed_below}
 use Rattle.border_match.proofs.signals.signal_at_event.Goals as goal
@@ -16,6 +13,6 @@ returns c =
     c.circuit_signal.ensures ∙ ap (renumber_signal (circuit_wire j.locals)) (sym
     (own_signal j.area.x j.area.y (job_signals c.args.border j) c.schedule.result.now c.events-events.result.now
     c.args.event
-    (c.has_line_at_all_times.ensures c.if-has_line_at_all_times.false) c.events-events.ensures.same_list
+    (c.has_starred_line.ensures c.if-has_starred_line.false) c.events-events.ensures.same_list
     c.schedule.ensures
     c.events-events.ensures.rising c.requires.listed))

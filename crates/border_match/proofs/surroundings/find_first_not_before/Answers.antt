@@ -1,5 +1,5 @@
 -- Each comparison of an event tells of those before it or of those behind it, since they rise.
-use Rattle.lemmas.proofs.Common.{arith, common_steps}
+use Rattle.border_match.proofs.Imports.{arith, common_steps}
 use Rattle.border_match.proofs.FarEvents.{not_less, passed_to, rest_from, rest_none}
 use Rattle.border_match.proofs.surroundings.find_first_not_before.Goals as goal
 

@@ -1,5 +1,5 @@
 -- The events before `low` are before the moment, and those from `high` on are not.
-use Rattle.lemmas.proofs.Common.{◌-◌, ◌≤◌, length}
+use Rattle.border_match.proofs.Imports.{length, ◌-◌, ◌≤◌}
 use Rattle.border_match.proofs.FarEvents.{AreFrom, ArePassed}
 use Rattle.border_match.proofs.surroundings.find_first_not_before.Given as goal
 

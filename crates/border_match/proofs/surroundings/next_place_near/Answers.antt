@@ -1,5 +1,4 @@
-use Rattle.lemmas.proofs.Common.{◌+◌, ◌-◌, ◌≡◌, arith, subst, common_steps}
-use Rattle.border_match.specs.Surroundings.{IsEventFarAt}
+use Rattle.border_match.proofs.Imports.{IsEventFarAt, arith, common_steps, subst, ◌+◌, ◌-◌, ◌≡◌}
 use Rattle.border_match.proofs.FarEvents.{far_at, far_joined, far_more, far_none}
 use Rattle.border_match.proofs.surroundings.next_place_near.Goals as goal
 

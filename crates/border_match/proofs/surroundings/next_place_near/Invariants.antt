@@ -1,6 +1,5 @@
 -- The events so far are far, and so is the last one that was looked at.
-use Rattle.lemmas.proofs.Common.{◌-◌, ◌<◌, ◌≤◌, length}
-use Rattle.border_match.specs.Surroundings.{AreEventsFar, IsEventFarAt}
+use Rattle.border_match.proofs.Imports.{AreEventsFar, IsEventFarAt, length, ◌-◌, ◌<◌, ◌≤◌}
 use Rattle.border_match.proofs.surroundings.next_place_near.Given as goal
 
 abbrev pub invariant-leaps : goal.invariant-leaps

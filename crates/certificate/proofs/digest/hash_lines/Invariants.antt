@@ -1,7 +1,6 @@
 -- The lines so far are hashed.
-use Rattle.lemmas.proofs.Common.{◌++◌, List, flat_map, take, ℕ}
+use Rattle.certificate.proofs.Imports.{List, entry_text, flat_map, take, ℕ, ◌++◌}
 use Rattle.sha2.specs.Hashers.{Holds256}
-use Rattle.certificate.specs.Text.{entry_text}
 use Rattle.certificate.proofs.digest.hash_lines.Given as goal
 
 abbrev pub invariant-loop-entry : goal.invariant-loop-entry

@@ -1,7 +1,5 @@
-use Rattle.lemmas.proofs.Common.{◌+◌, arith, map, subst, sym, arc_value, common_steps, length-map, map-append}
-use Rattle.circuit.specs.Bridge.{circuit_of}
-use Rattle.certificate.specs.Jobs.{IsJobOf}
-use Rattle.certificate.specs.SliceLines.{slice_lines}
+use Rattle.certificate.proofs.Imports.{IsJobOf, arc_value, arith, circuit_of, common_steps, length-map, map, map-append}
+use Rattle.certificate.proofs.Imports.{slice_lines, subst, sym, ◌+◌}
 use Rattle.certificate.proofs.BesideLines.{PartJobs, no_part_jobs, one_part_more, part_at, parts_done}
 use Rattle.certificate.proofs.SliceLemmas.{map_same}
 use Rattle.certificate.proofs.jobs.jobs_as_written.Goals as goal

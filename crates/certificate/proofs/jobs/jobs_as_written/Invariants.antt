@@ -1,7 +1,5 @@
 -- The modules before have their jobs.
-use Rattle.lemmas.proofs.Common.{map, arc_value}
-use Rattle.circuit.specs.Bridge.{circuit_of}
-use Rattle.certificate.specs.SliceLines.{slice_lines}
+use Rattle.certificate.proofs.Imports.{arc_value, circuit_of, map, slice_lines}
 use Rattle.certificate.proofs.BesideLines.{PartJobs}
 use Rattle.certificate.proofs.jobs.jobs_as_written.Given as goal
 

@@ -1,4 +1,4 @@
-use Rattle.lemmas.proofs.Common.{arith, common_steps}
+use Rattle.certificate.proofs.Imports.{arith, common_steps}
 use Rattle.certificate.proofs.FullModules.{meant_new, meant_old}
 use Rattle.certificate.proofs.jobs.jobs_of_version.Goals as goal
 

@@ -1,9 +1,5 @@
-use Rattle.lemmas.proofs.Common.{◌+◌, ◌∙◌, arith, map, subst, sym, arc_value, common_steps, length-map, map-append}
-use Rattle.circuit.specs.Bridge.{circuit_of}
-use Rattle.certificate_lines.specs.Settings.{setting_of}
-use Rattle.certificate.specs.Jobs.{IsJobOf}
-use Rattle.certificate.specs.SliceLines.{slice_lines}
-use Rattle.certificate_lines.specs.Versions.{with_halos}
+use Rattle.certificate.proofs.Imports.{IsJobOf, arc_value, arith, circuit_of, common_steps, length-map, map, map-append}
+use Rattle.certificate.proofs.Imports.{setting_of, slice_lines, subst, sym, with_halos, ◌+◌, ◌∙◌}
 use Rattle.certificate.proofs.BesideLines.{PartJobs, all_lists, full_part, no_part_jobs, one_list_less, one_part_more}
 use Rattle.certificate.proofs.BesideLines.{parts_done, within_lists}
 use Rattle.certificate.proofs.jobs.jobs_with_implied_halos.Goals as goal
@@ -14,13 +10,13 @@ take_list-list-requires c = grind (arith, common_steps, within_lists)
 pub make_job-requires-clause-module : goal.make_job-requires-clause-module
 make_job-requires-clause-module c =
     (full_part c.args.parts.now c.requires.parts c.requires.modules c.requires.complete c.parts.invariant.1
-    c.parts-test.true c.index-parts-number.is (c.take_list-list.ensures.taken ∙ sym c.as_slice.ensures.value)
+    c.parts-test.true c.index-parts-number.is (c.take_list-list.ensures.list_taken ∙ sym c.as_slice.ensures.value)
     c.in_ok-lines.ensures c.as_slice-in-parts.ensures.value).good
 
 pub make_job-requires-clause-ports : goal.make_job-requires-clause-ports
 make_job-requires-clause-ports c =
     (full_part c.args.parts.now c.requires.parts c.requires.modules c.requires.complete c.parts.invariant.1
-    c.parts-test.true c.index-parts-number.is (c.take_list-list.ensures.taken ∙ sym c.as_slice.ensures.value)
+    c.parts-test.true c.index-parts-number.is (c.take_list-list.ensures.list_taken ∙ sym c.as_slice.ensures.value)
     c.in_ok-lines.ensures c.as_slice-in-parts.ensures.value).ports
 
 pub parts-preserved : goal.parts-preserved
@@ -31,7 +27,7 @@ parts-preserved c =
     let m = slice_lines c.index-parts-number.result in
     let is_job = IsJobOf (circuit_of p.circuit) p.layout in
     let is = full_part c.args.parts.now c.requires.parts c.requires.modules c.requires.complete c.parts.invariant.1
-    c.parts-test.true c.index-parts-number.is (c.take_list-list.ensures.taken ∙ sym c.as_slice.ensures.value)
+    c.parts-test.true c.index-parts-number.is (c.take_list-list.ensures.list_taken ∙ sym c.as_slice.ensures.value)
     c.in_ok-lines.ensures c.as_slice-in-parts.ensures.value in
     let made : is_job (with_halos g ms m) (arc_value c.in_ok-job.job) =
     grind (arith, common_steps) in (

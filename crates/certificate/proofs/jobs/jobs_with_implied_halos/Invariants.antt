@@ -1,9 +1,5 @@
 -- The modules before have their jobs, and the others have their lists of places.
-use Rattle.lemmas.proofs.Common.{map, arc_value}
-use Rattle.circuit.specs.Bridge.{circuit_of}
-use Rattle.certificate_lines.specs.Settings.{setting_of}
-use Rattle.certificate_lines.specs.Versions.{with_halos}
-use Rattle.certificate.specs.SliceLines.{slice_lines}
+use Rattle.certificate.proofs.Imports.{arc_value, circuit_of, map, setting_of, slice_lines, with_halos}
 use Rattle.certificate.proofs.BesideLines.{HaveListsFrom, PartJobs}
 use Rattle.certificate.proofs.jobs.jobs_with_implied_halos.Given as goal
 

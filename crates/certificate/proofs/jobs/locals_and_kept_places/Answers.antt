@@ -1,6 +1,4 @@
-use Rattle.lemmas.proofs.Common.{◌∙◌, arith, refl, subst, sym, common_steps}
-use Rattle.circuit.specs.Bridge.{netlist_of}
-use Rattle.module_box.specs.Locals.{AreLocalLines}
+use Rattle.certificate.proofs.Imports.{AreLocalLines, arith, common_steps, netlist_of, refl, subst, sym, ◌∙◌}
 use Rattle.certificate.proofs.JobLemmas.{small_gates, few_gates}
 use Rattle.certificate.proofs.jobs.locals_and_kept_places.Goals as goal
 

@@ -1,24 +1,15 @@
-use Rattle.lemmas.proofs.Common.{◌<◌, ◌∙◌, ◌≡◌, ◌≤◌, All, List, ap, arith, get_or, map, refl, slice_index, subst, sym}
-use Rattle.lemmas.proofs.Common.{true, ℕ, arc_value, common_steps}
-use Rattle.circuit.specs.Bridge.{circuit_of, netlist_of}
-use Rattle.circuit.specs.Meaning.{Netlist}
-use Rattle.certificate_lines.specs.Entries.{keeps, ModuleLines, edges, halos, stops}
+use Rattle.certificate.proofs.Imports.{All, Box2, Demand, HasLocalWire, IsInShiftRange, IsJobOf, List, ModuleLines}
+use Rattle.certificate.proofs.Imports.{Netlist, Signal, Signals, ap, arc_value, arith, circuit_of, common_steps, edges}
+use Rattle.certificate.proofs.Imports.{get_or, halos, in_box, is_local, keeps, line_signals, map, netlist_of, refl}
+use Rattle.certificate.proofs.Imports.{setting_of, stops, stops_in_plane, stops_of_lines, subst, sym, true, ℕ, ◌<◌, ◌∙◌}
+use Rattle.certificate.proofs.Imports.{◌≡◌, ◌≤◌}
+use Rattle.lemmas.proofs.Common.{slice_index}
+use Rattle.module_box.specs.Locals.{AreLocalsOf}
+use Rattle.module_job.specs.Jobs.{IsJob}
+use Rattle.module_job.specs.Shapes.{ShapeView, job_of_shape}
+use Rattle.module_job.specs.declared.job.Stop.{Stop}
 use Rattle.certificate.proofs.JobLemmas.{keeps_used, within_512, within_layout, edges_named, halos_named, lists_local}
 use Rattle.certificate.proofs.JobLemmas.{wires_known, cut_count}
-use Rattle.module_box.specs.Boxes.{in_box}
-use Rattle.module_box.specs.Locals.{AreLocalsOf}
-use Rattle.module_box.specs.Moves.{IsInShiftRange}
-use Rattle.module_box.specs.Schedules.{Signals}
-use Rattle.module_box.specs.declared.boxes.Box2.{Box2}
-use Rattle.module_box.specs.declared.schedules.Signal.{Signal}
-use Rattle.certificate_lines.specs.Settings.{setting_of}
-use Rattle.module_job.specs.Jobs.{IsJob}
-use Rattle.certificate.specs.Jobs.{IsJobOf, line_signals, stops_of_lines}
-use Rattle.certificate_lines.specs.Rules.{is_local}
-use Rattle.module_job.specs.Shapes.{ShapeView, placed, stops_in_plane}
-use Rattle.certificate.specs.Timetables.{HasLocalWire}
-use Rattle.module_job.specs.declared.job.Demand.{Demand}
-use Rattle.module_job.specs.declared.job.Stop.{Stop}
 use Rattle.certificate.proofs.JobPlaces.{start_found, demand_found}
 use Rattle.certificate.proofs.NearLines.{low_edges, low_halos, low_stops}
 use Rattle.certificate.proofs.LayoutTableLemmas.{locals_have_ports}
@@ -95,8 +86,8 @@ schedules-requires-clause-corner c =
     let bottom = w.1 in
     (omega (arith, right), omega (arith, bottom))
 
-pub stops_at_corner_offset-requires-clause-local : goal.stops_at_corner_offset-requires-clause-local
-stops_at_corner_offset-requires-clause-local c =
+pub stops_from_corner-requires-clause-local : goal.stops_from_corner-requires-clause-local
+stops_from_corner-requires-clause-local c =
     let cs = c.args.tables.now.circuit in
     let m : ModuleLines = record { area = c.args.area; lines = c.args.lines.now } in
     let known_wires = wires_known _ cs m _ _ _ c.circuit-circuit.ensures refl refl c.in_ok-locals.ensures.wires in
@@ -104,14 +95,14 @@ stops_at_corner_offset-requires-clause-local c =
     (sym c.circuit-circuit.ensures)
     (stops_named (setting_of cs c.args.tables.now.layout) m c.in_ok-locals.locals known_wires c.requires.module)
 
-pub stops_at_corner_offset-requires-clause-low : goal.stops_at_corner_offset-requires-clause-low
-stops_at_corner_offset-requires-clause-low c =
+pub stops_from_corner-requires-clause-low : goal.stops_from_corner-requires-clause-low
+stops_from_corner-requires-clause-low c =
     low_stops (setting_of c.args.tables.now.circuit c.args.tables.now.layout)
     (record { area = c.args.area; lines = c.args.lines.now }) c.size-size.result
     (c.size-size.ensures.size ∙ ap (λ p. p.size) c.layout.ensures) c.size-size.ensures.limits c.requires.module
 
-pub stops_at_corner_offset-requires-clause-corner : goal.stops_at_corner_offset-requires-clause-corner
-stops_at_corner_offset-requires-clause-corner c =
+pub stops_from_corner-requires-clause-corner : goal.stops_from_corner-requires-clause-corner
+stops_from_corner-requires-clause-corner c =
     let w = within_512 (setting_of c.args.tables.now.circuit c.args.tables.now.layout)
     (record { area = c.args.area; lines = c.args.lines.now }) c.size-size.result
     (c.size-size.ensures.size ∙ ap (λ p. p.size) c.layout.ensures) c.size-size.ensures.limits c.requires.module in
@@ -149,7 +140,7 @@ invariant_of-result c =
     let gates_are = c.into_parts-wiring.ensures.gates in
     let m : ModuleLines = record { area = area; lines = c.args.lines.now } in
     let placed_stops = stops_in_plane area c.in_ok-stops.stops.items in
-    let job : IsJob (placed area.x area.y l.circuit_wires l.circuit_gates s) = record {
+    let job : IsJob (job_of_shape area.x area.y l.circuit_wires l.circuit_gates s) = record {
       even = c.requires.module.even;
       width = (c.requires.module.wide.0, c.requires.module.wide.1, limits.0);
       height = (c.requires.module.high.0, c.requires.module.high.1, limits.1);
@@ -157,25 +148,25 @@ invariant_of-result c =
       own = grind (arith, common_steps);
       stops = λ k d lt. record {
         time = (stops_stand (λ q. q.time ≤ c.size-size.result.steps) _ l
-            (stops m) placed_stops c.in_ok-stops.ensures.said
+            (stops m) placed_stops c.in_ok-stops.ensures.are_stops
             (λ i r below. subst (λ (n : ℕ). (get_or (stops m) i r).time ≤ n)
             (sym (ap (λ z. z.steps) (c.size-size.ensures.size ∙ ap (λ p. p.size) c.layout.ensures)))
             (c.requires.module.stop_lines i r below).time)) k d lt;
         inside = (stops_stand (λ q. in_box area q.cell.x q.cell.y ≡ true) _ l
-            (stops m) placed_stops c.in_ok-stops.ensures.said
+            (stops m) placed_stops c.in_ok-stops.ensures.are_stops
             (λ i r below. (c.requires.module.stop_lines i r below).inside)) k d lt;
       };
-      stops_rise = stops_rise _ l c.args.lines.now placed_stops c.requires.module.order c.in_ok-stops.ensures.said;
+      stops_rise = stops_rise _ l c.args.lines.now placed_stops c.requires.module.order c.in_ok-stops.ensures.are_stops;
     } in
     record {
-      job = subst IsJob (sym (λ i. placed area.x area.y (wires_are i) (gates_are i) (shape_is i))) job;
+      job = subst IsJob (sym (λ i. job_of_shape area.x area.y (wires_are i) (gates_are i) (shape_is i))) job;
       sized = grind (arith, common_steps);
       near_edges = subst (λ (t : ShapeView). All (λ e. IsInShiftRange e.at.cell) t.edges.events)
           (sym shape_is) c.in_ok-edges.ensures.near_edges;
       near_halos = subst (λ (t : ShapeView). All (λ e. IsInShiftRange e.at.cell) t.halos.events)
           (sym shape_is) c.in_ok-edges.ensures.near_halos;
       near_stops = subst (λ (t : ShapeView). All (λ e. IsInShiftRange e.at.cell) t.stops)
-          (sym shape_is) c.in_ok-stops.ensures.near;
+          (sym shape_is) c.in_ok-stops.ensures.in_shift_range;
     }
 
 pub returns : goal.returns
@@ -192,7 +183,7 @@ returns c =
     c.in_ok-new.ensures.ok ∙ (λ i. record s { netlist = c.into_parts-wiring.ensures.wiring i }) in
     let wires_are = c.into_parts-wiring.ensures.wires in
     let gates_are = c.into_parts-wiring.ensures.gates in
-    let j = placed area.x area.y l.circuit_wires l.circuit_gates s in
+    let j = job_of_shape area.x area.y l.circuit_wires l.circuit_gates s in
     let is_job : IsJobOf (circuit_of cs) p m j = record {
       area = refl;
       steps = ap (λ s. s.steps) (c.size-size.ensures.size ∙ ap (λ q. q.size) c.layout.ensures);
@@ -207,7 +198,7 @@ returns c =
       edges = c.in_ok-edges.ensures.edges ∙ ap (λ ls. line_signals (circuit_of ls) (edges m)) circuit_is;
       halos = c.in_ok-edges.ensures.halos ∙ ap (λ ls. line_signals (circuit_of ls) (halos m)) circuit_is;
       own = grind (arith, common_steps);
-      stops = c.in_ok-stops.ensures.said.same ∙ ap (λ ls. stops_of_lines (circuit_of ls) (stops m)) circuit_is;
+      stops = c.in_ok-stops.ensures.are_stops.same ∙ ap (λ ls. stops_of_lines (circuit_of ls) (stops m)) circuit_is;
       kept = subst (λ (us : List ℕ). map (slice_index us) c.in_ok-locals.kept.items ≡ keeps m)
           (sym c.in_ok-locals.ensures.gates) c.in_ok-locals.ensures.kept;
       kept_are_used = subst (λ (u : ℕ). All (λ k. k < u) c.in_ok-locals.kept.items)

@@ -1,18 +1,11 @@
-use Rattle.lemmas.proofs.Common.{◌∙◌, ◌≡◌, All, ap, ap₂, arith, flat_map, of_z, subst, sym, to_z, w32, ℕ, ℤ}
-use Rattle.lemmas.proofs.Common.{common_steps, ints}
-use Rattle.circuit.specs.Bridge.{circuit_of}
-use Rattle.circuit.specs.Meaning.{wires}
-use Rattle.certificate.specs.Jobs.{line_signals}
-use Rattle.module_box.specs.Locals.{circuit_wire}
-use Rattle.module_box.specs.Moves.{IsInShiftRange, IsSmallShift, moved_signals}
-use Rattle.module_box.specs.Schedules.{Signals}
-use Rattle.module_box.specs.declared.boxes.Box2.{Box2}
-use Rattle.module_box.specs.declared.schedules.TimedSignal.{TimedSignal}
-use Rattle.module_job.specs.Shapes.{shift_to_origin, signals_in_plane}
-use Rattle.module_job.specs.Signals.{IsSignalWireBelow, renumber_signals}
-use Rattle.certificate.specs.Timetables.{borders_in}
-use Rattle.certificate.proofs.NearLines.{low_all_times, low_events, near_all_times, near_events, near_moved}
+use Rattle.certificate.proofs.Imports.{All, Box2, IsInShiftRange, IsSignalWireBelow, IsSmallShift, Signals, TimedSignal}
+use Rattle.certificate.proofs.Imports.{ap, ap₂, arith, borders_in, circuit_of, circuit_wire, common_steps, flat_map}
+use Rattle.certificate.proofs.Imports.{ints, line_signals, of_z, renumber_signals, shift_to_origin, subst, sym, to_z}
+use Rattle.certificate.proofs.Imports.{w32, wires, ℕ, ℤ, ◌∙◌, ◌≡◌}
+use Rattle.module_box.specs.Moves.{moved_signals}
+use Rattle.module_job.specs.Shapes.{signals_in_plane}
 use Rattle.module_job.proofs.ShapeParts.{placed_again}
+use Rattle.certificate.proofs.NearLines.{low_all_times, low_events, near_all_times, near_events, near_moved}
 use Rattle.certificate.proofs.jobs.schedule_from_corner.Goals as goal
 
 -- a small number is passed as it is
@@ -69,8 +62,8 @@ returns-clause-events c =
     (sym (there c.args.area s c.moved.result (grind (arith, common_steps, moved_back))))
     c.in_ok-signals.ensures.events
 
-pub returns-clause-near : goal.returns-clause-near
-returns-clause-near c =
+pub returns-clause-in_shift_range : goal.returns-clause-in_shift_range
+returns-clause-in_shift_range c =
     let s = c.in_ok-signals.signals in
     let x = c.args.area.x in
     let y = c.args.area.y in

@@ -1,4 +1,4 @@
-use Rattle.lemmas.proofs.Common.{arith, common_steps, take_all}
+use Rattle.certificate.proofs.Imports.{arith, common_steps, take_all}
 use Rattle.certificate.proofs.SliceLemmas.{any_mapped}
 use Rattle.certificate.proofs.keep_lines.kept_gates.Goals as goal
 

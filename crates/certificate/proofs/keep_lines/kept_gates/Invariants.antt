@@ -1,8 +1,6 @@
 -- What the modules so far keep is noted.
-use Rattle.lemmas.proofs.Common.{◌≡◌, take, ℕ, list_any}
+use Rattle.certificate.proofs.Imports.{is_among, keep_in, list_any, take, ℕ, ◌≡◌}
 use Rattle.std.specs.List.{flat_map}
-use Rattle.module_box.specs.Locals.{is_among}
-use Rattle.certificate_lines.specs.Entries.{keep_in}
 use Rattle.certificate.proofs.keep_lines.kept_gates.Given as goal
 
 abbrev pub invariant-parts : goal.invariant-parts

@@ -1,7 +1,5 @@
 -- What the lines so far keep is noted.
-use Rattle.lemmas.proofs.Common.{◌||◌, ◌≡◌, flat_map, take, ℕ}
-use Rattle.module_box.specs.Locals.{is_among}
-use Rattle.certificate_lines.specs.Entries.{keep_in}
+use Rattle.certificate.proofs.Imports.{flat_map, is_among, keep_in, take, ℕ, ◌||◌, ◌≡◌}
 use Rattle.certificate.proofs.keep_lines.note_keeps.Given as goal
 
 abbrev pub invariant-loop-line : goal.invariant-loop-line

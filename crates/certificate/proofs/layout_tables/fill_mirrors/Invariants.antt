@@ -1,7 +1,6 @@
 -- The cells of the mirrors so far are live.
-use Rattle.lemmas.proofs.Common.{◌||◌, ◌≡◌, take, ℤ}
+use Rattle.certificate.proofs.Imports.{in_rectangles, take, ℤ, ◌||◌, ◌≡◌}
 use Rattle.bbm_rule.specs.Board.{live, HasSameSize}
-use Rattle.pattern.specs.Layout.{in_rectangles}
 use Rattle.certificate.proofs.layout_tables.fill_mirrors.Given as goal
 
 abbrev pub invariant-loop-mirror : goal.invariant-loop-mirror

@@ -1,5 +1,4 @@
-use Rattle.lemmas.proofs.Common.{arith, common_steps}
-use Rattle.pattern.proofs.InsideLemmas.{size_sides}
+use Rattle.certificate.proofs.Imports.{arith, common_steps, size_sides}
 use Rattle.pattern.proofs.PlaneRuns.{inside_is_layout}
 use Rattle.certificate.proofs.layout_tables.grid_of.Goals as goal
 

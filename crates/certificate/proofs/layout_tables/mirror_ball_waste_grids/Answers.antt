@@ -1,5 +1,4 @@
-use Rattle.lemmas.proofs.Common.{arith, common_steps}
-use Rattle.certificate_lines.proofs.LayoutPorts.{balls_on_layout, wastes_on_layout}
+use Rattle.certificate.proofs.Imports.{arith, balls_on_layout, common_steps, wastes_on_layout}
 use Rattle.certificate.proofs.layout_tables.mirror_ball_waste_grids.Goals as goal
 
 pub grid_of-requires-clause-inside : goal.grid_of-requires-clause-inside

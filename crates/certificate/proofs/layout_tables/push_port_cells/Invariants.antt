@@ -1,5 +1,5 @@
 -- The cells of the ports so far.
-use Rattle.lemmas.proofs.Common.{◌++◌, ◌≡◌, map, take}
+use Rattle.certificate.proofs.Imports.{map, take, ◌++◌, ◌≡◌}
 use Rattle.certificate.proofs.layout_tables.push_port_cells.Given as goal
 
 abbrev pub invariant-loop-port : goal.invariant-loop-port

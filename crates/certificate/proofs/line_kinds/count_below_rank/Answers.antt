@@ -1,5 +1,5 @@
-use Rattle.lemmas.proofs.Common.{arith, ltb, rules, IsPartitionPoint-from_clause, IsPartitionedBy-ltb, common_steps}
-use Rattle.certificate_lines.specs.Orders.{rank_of}
+use Rattle.certificate.proofs.Imports.{arith, common_steps, ltb, rank_of, rules}
+use Rattle.lemmas.proofs.Common.{IsPartitionPoint-from_clause, IsPartitionedBy-ltb}
 use Rattle.certificate.proofs.KindLemmas.{all_below, ranks_rise}
 use Rattle.certificate.proofs.line_kinds.count_below_rank.Goals as goal
 

@@ -1,4 +1,4 @@
-use Rattle.lemmas.proofs.Common.{◌+◌, ◌∙◌, arith}
+use Rattle.certificate.proofs.Imports.{arith, ◌+◌, ◌∙◌}
 use Rattle.certificate.proofs.KindLemmas.{only_after, only_before}
 use Rattle.certificate.proofs.line_kinds.lines_of_rank.Goals as goal
 

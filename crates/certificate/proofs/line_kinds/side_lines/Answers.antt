@@ -1,4 +1,4 @@
-use Rattle.lemmas.proofs.Common.{arith, common_steps}
+use Rattle.certificate.proofs.Imports.{arith, common_steps}
 use Rattle.certificate.proofs.KindLemmas.{only_edges, only_halos}
 use Rattle.certificate.proofs.line_kinds.side_lines.Goals as goal
 

@@ -1,4 +1,4 @@
-use Rattle.certificate_lines.specs.Entries.{stop_in}
+use Rattle.certificate.proofs.Imports.{stop_in}
 use Rattle.certificate.proofs.KindLemmas.{only_after, stops_after}
 use Rattle.certificate.proofs.line_kinds.stop_lines.Goals as goal
 

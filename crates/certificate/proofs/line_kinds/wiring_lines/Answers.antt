@@ -1,4 +1,4 @@
-use Rattle.certificate_lines.specs.Entries.{cut_in, keep_in, use_in}
+use Rattle.certificate.proofs.Imports.{cut_in, keep_in, use_in}
 use Rattle.certificate.proofs.KindLemmas.{cuts_before, keeps_before, only_before, uses_before}
 use Rattle.certificate.proofs.line_kinds.wiring_lines.Goals as goal
 

@@ -1,6 +1,5 @@
 -- The lines so far are printed.
-use Rattle.lemmas.proofs.Common.{◌++◌, ◌≡◌, flat_map, take}
-use Rattle.certificate.specs.Text.{entry_text}
+use Rattle.certificate.proofs.Imports.{entry_text, flat_map, take, ◌++◌, ◌≡◌}
 use Rattle.certificate.proofs.printing.print_entries.Given as goal
 
 abbrev pub invariant-loop-entry : goal.invariant-loop-entry

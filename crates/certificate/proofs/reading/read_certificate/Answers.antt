@@ -1,5 +1,5 @@
 -- What was read makes good modules.
-use Rattle.lemmas.proofs.Common.{arith, common_steps}
+use Rattle.certificate.proofs.Imports.{arith, common_steps}
 use Rattle.section_text.proofs.Good.{reads_faultless}
 use Rattle.certificate.proofs.Soundness.{faultless_lines, faultless_modules, read_complete, read_version}
 use Rattle.certificate.proofs.reading.read_certificate.Goals as goal
@@ -10,6 +10,7 @@ invariant_of-result c =
     let read = faultless_modules c.in-Ok.reading.builder.setting _ _ faultless in
     record {
       counted = grind (arith, common_steps);
+      begun = grind (arith, common_steps);
       good = grind (arith, common_steps);
       few_lines = grind (arith, common_steps, faultless_lines);
       known = read_version c.in-Ok.reading.builder.setting _ _ faultless;

@@ -1,6 +1,4 @@
-use Rattle.lemmas.proofs.Common.{◌≡◌, take}
-use Rattle.certificate.specs.Times.{last_times}
-use Rattle.certificate.specs.SeenTimes.{time_in_table}
+use Rattle.certificate.proofs.Imports.{last_times, take, time_in_table, ◌≡◌}
 use Rattle.certificate.proofs.times.last_times.Given as goal
 
 abbrev pub invariant-wires : goal.invariant-wires

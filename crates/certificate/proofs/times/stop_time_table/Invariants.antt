@@ -1,8 +1,5 @@
-use Rattle.lemmas.proofs.Common.{◌≡◌, flat_map, length, take}
-use Rattle.circuit.specs.Bridge.{circuit_of, netlist_of}
-use Rattle.circuit.specs.Meaning.{wires}
-use Rattle.certificate_lines.specs.Entries.{stop_in}
-use Rattle.certificate.specs.SeenTimes.{IsStopTimeTable}
+use Rattle.certificate.proofs.Imports.{IsStopTimeTable, circuit_of, flat_map, length, netlist_of, stop_in, take, wires}
+use Rattle.certificate.proofs.Imports.{◌≡◌}
 use Rattle.certificate.proofs.times.stop_time_table.Given as goal
 
 abbrev pub invariant-parts : goal.invariant-parts

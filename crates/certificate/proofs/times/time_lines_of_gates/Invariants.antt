@@ -1,7 +1,5 @@
-use Rattle.lemmas.proofs.Common.{◌++◌, ◌≡◌, drop}
-use Rattle.circuit.specs.Bridge.{netlist_of}
-use Rattle.certificate.specs.Times.{delay_line, time_lines_of_gates, meet_line, numbered}
-use Rattle.certificate.specs.SeenTimes.{time_in_table}
+use Rattle.certificate.proofs.Imports.{delay_line, drop, lines_by_number, meet_line, netlist_of, time_in_table}
+use Rattle.certificate.proofs.Imports.{time_lines_of_gates, ◌++◌, ◌≡◌}
 use Rattle.certificate.proofs.times.time_lines_of_gates.Given as goal
 
 -- the lines so far and those of the other delays are those of all delays
@@ -9,11 +7,11 @@ abbrev pub invariant-delays : goal.invariant-delays
 invariant-delays l =
     let f = delay_line (time_in_table l.firsts) (time_in_table l.lasts) in
     let gates = (netlist_of l.circuit).gates in
-    l.lines.items ++ numbered f l.number (drop l.number gates) ≡ numbered f 0 gates
+    l.lines.items ++ lines_by_number f l.number (drop l.number gates) ≡ lines_by_number f 0 gates
 
 abbrev pub invariant-meetings : goal.invariant-meetings
 invariant-meetings l =
     let f = meet_line (time_in_table l.lasts) in
     let gates = (netlist_of l.circuit).gates in
-    l.lines.items ++ numbered f l.number (drop l.number gates)
+    l.lines.items ++ lines_by_number f l.number (drop l.number gates)
     ≡ time_lines_of_gates (time_in_table l.firsts) (time_in_table l.lasts) gates

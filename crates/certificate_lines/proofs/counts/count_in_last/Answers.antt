@@ -1,4 +1,4 @@
-use Rattle.lemmas.proofs.Common.{arith, common_steps}
+use Rattle.certificate_lines.proofs.Imports.{arith, common_steps}
 use Rattle.certificate_lines.proofs.CountLemmas.{none_changed, last_is_at, set_at}
 use Rattle.certificate_lines.proofs.counts.count_in_last.Goals as goal
 

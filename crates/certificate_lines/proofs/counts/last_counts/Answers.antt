@@ -1,4 +1,4 @@
-use Rattle.lemmas.proofs.Common.{arith, common_steps}
+use Rattle.certificate_lines.proofs.Imports.{arith, common_steps}
 use Rattle.certificate_lines.proofs.Growing.{last_by_place}
 use Rattle.certificate_lines.proofs.counts.last_counts.Goals as goal
 

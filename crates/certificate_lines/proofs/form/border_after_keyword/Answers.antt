@@ -1,6 +1,5 @@
-use Rattle.lemmas.proofs.Common.{◌∙◌, ◌≡◌, Some, ap, arith, pos, rules, sym, to_z, w32, common_steps}
-use Rattle.section_text.specs.Words.{words_of, ◌>>=◌}
-use Rattle.pattern.specs.Layout.{cell}
+use Rattle.certificate_lines.proofs.Imports.{Some, ap, arith, cell, common_steps, pos, rules, sym, to_z, w32, words_of}
+use Rattle.certificate_lines.proofs.Imports.{◌>>=◌, ◌∙◌, ◌≡◌}
 use Rattle.certificate_lines.proofs.BorderText.{border_is, no_column, no_row, no_time, signal_is}
 use Rattle.certificate_lines.proofs.form.border_after_keyword.Goals as goal
 

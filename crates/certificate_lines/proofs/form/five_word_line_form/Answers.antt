@@ -1,4 +1,4 @@
-use Rattle.lemmas.proofs.Common.{arith, common_steps}
+use Rattle.certificate_lines.proofs.Imports.{arith, common_steps}
 use Rattle.certificate_lines.proofs.BorderLines.{no_long_form}
 use Rattle.certificate_lines.proofs.form.five_word_line_form.Goals as goal
 

@@ -1,11 +1,9 @@
-use Rattle.lemmas.proofs.Common.{◌∙◌, ◌≡◌, Bool, None, Some, ap, arith, codes, false, sym, take, true, bytes_eq}
-use Rattle.lemmas.proofs.Common.{common_steps}
-use Rattle.section_text.specs.Words.{words_of}
+use Rattle.certificate_lines.proofs.Imports.{Bool, None, Some, ap, arith, bytes_eq, codes, common_steps, false, form_of}
+use Rattle.certificate_lines.proofs.Imports.{sym, take, true, words_of, ◌∙◌, ◌≡◌}
 use Rattle.certificate_lines.proofs.BorderText.{edge_line, halo_line}
-use Rattle.certificate_lines.proofs.form.line_form.Goals as goal
 use Rattle.certificate_lines.proofs.form.line_form.Goals.{else-not-is_edge-via-else-not-is_edge}
 use Rattle.certificate_lines.proofs.form.line_form.Goals.{else-not-is_edge-via-then-not-is_edge+else-not-is_halo_line}
-use Rattle.certificate_lines.specs.Forms.{form_of}
+use Rattle.certificate_lines.proofs.form.line_form.Goals as goal
 
 both : (b : Bool) → b ≡ true → b ≡ false → ⊥
 both b h k = cc

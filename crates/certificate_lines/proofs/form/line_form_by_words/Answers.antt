@@ -1,5 +1,4 @@
-use Rattle.lemmas.proofs.Common.{[], ◌∷◌, arith, codes, refl, common_steps}
-use Rattle.section_text.specs.Feeds.{line_bytes}
+use Rattle.certificate_lines.proofs.Imports.{[], arith, codes, common_steps, line_bytes, refl, ◌∷◌}
 use Rattle.certificate_lines.proofs.BorderLines.{five_words_are, long_form_is, short_form_is}
 use Rattle.certificate_lines.proofs.BorderText.{other_first}
 use Rattle.certificate_lines.proofs.form.line_form_by_words.Goals as goal

@@ -1,6 +1,4 @@
-use Rattle.lemmas.proofs.Common.{◌∙◌, None, Some, ap, sym}
-use Rattle.section_text.specs.Words.{words_of}
-use Rattle.certificate_lines.specs.Forms.{form_of}
+use Rattle.certificate_lines.proofs.Imports.{None, Some, ap, form_of, sym, words_of, ◌∙◌}
 use Rattle.certificate_lines.proofs.BorderText.{cut_line, use_line}
 use Rattle.certificate_lines.proofs.form.other_line_form.Goals as goal
 

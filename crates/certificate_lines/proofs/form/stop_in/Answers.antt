@@ -1,4 +1,4 @@
-use Rattle.lemmas.proofs.Common.{arith, common_steps}
+use Rattle.certificate_lines.proofs.Imports.{arith, common_steps}
 use Rattle.certificate_lines.proofs.BorderLines.{five_words_are, no_stop}
 use Rattle.certificate_lines.proofs.form.stop_in.Goals as goal
 

@@ -1,5 +1,4 @@
-use Rattle.lemmas.proofs.Common.{◌∙◌, None, Some, arith, sym, common_steps}
-use Rattle.section_text.specs.Feeds.{line_bytes}
+use Rattle.certificate_lines.proofs.Imports.{None, Some, arith, common_steps, line_bytes, sym, ◌∙◌}
 use Rattle.certificate_lines.proofs.BorderText.{stop_line}
 use Rattle.certificate_lines.proofs.form.stop_or_other_line_form.Goals as goal
 

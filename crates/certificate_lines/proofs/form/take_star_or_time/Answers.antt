@@ -1,5 +1,4 @@
-use Rattle.lemmas.proofs.Common.{◌∙◌, None, Some, arith, sym, common_steps, take_rest}
-use Rattle.section_text.specs.Words.{words_of}
+use Rattle.certificate_lines.proofs.Imports.{None, Some, arith, common_steps, sym, take_rest, words_of, ◌∙◌}
 use Rattle.certificate_lines.proofs.BorderText.{number_time, star_time}
 use Rattle.certificate_lines.proofs.form.take_star_or_time.Goals as goal
 

@@ -1,10 +1,8 @@
-use Rattle.lemmas.proofs.Common.{IsTrue}
-use Rattle.module_box.specs.Locals.{is_among}
-use Rattle.certificate_lines.specs.Entries.{keep_in}
+use Rattle.certificate_lines.proofs.Imports.{IsTrue, is_among, keep_in}
 use Rattle.certificate_lines.proofs.FlatParts.{flat_at}
 use Rattle.certificate_lines.proofs.lines.kept_places.Goals as goal
 
-pub push_keep-requires-clause-used : goal.push_keep-requires-clause-used
-push_keep-requires-clause-used c =
+pub push_if_keep-requires-clause-used : goal.push_if_keep-requires-clause-used
+push_if_keep-requires-clause-used c =
     flat_at (λ k. IsTrue (is_among c.args.gates.now k)) keep_in c.args.lines.now c.requires.used c.loop-line.line-index
     c.line-item.result c.loop-line-test.true c.line-item.is

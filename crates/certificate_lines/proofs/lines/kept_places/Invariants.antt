@@ -1,6 +1,6 @@
 -- The gates that the lines so far keep.
-use Rattle.lemmas.proofs.Common.{◌<◌, ◌≡◌, All, flat_map, length, map, slice_index, take}
-use Rattle.certificate_lines.specs.Entries.{keep_in}
+use Rattle.certificate_lines.proofs.Imports.{All, flat_map, keep_in, length, map, take, ◌<◌, ◌≡◌}
+use Rattle.lemmas.proofs.Common.{slice_index}
 use Rattle.certificate_lines.proofs.lines.kept_places.Given as goal
 
 abbrev pub invariant-loop-line : goal.invariant-loop-line

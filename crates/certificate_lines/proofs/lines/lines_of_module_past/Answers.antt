@@ -1,4 +1,4 @@
-use Rattle.lemmas.proofs.Common.{arith, common_steps}
+use Rattle.certificate_lines.proofs.Imports.{arith, common_steps}
 use Rattle.certificate_lines.proofs.InnerLines.{inner_found, inner_more, inner_all, inner_prefix}
 use Rattle.certificate_lines.proofs.lines.lines_of_module_past.Goals as goal
 

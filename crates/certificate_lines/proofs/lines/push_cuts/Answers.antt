@@ -1,4 +1,4 @@
-use Rattle.lemmas.proofs.Common.{arith, common_steps, flat_map-append}
+use Rattle.certificate_lines.proofs.Imports.{arith, common_steps, flat_map-append}
 use Rattle.certificate_lines.proofs.FlatParts.{flat_more}
 use Rattle.certificate_lines.proofs.lines.push_cuts.Goals as goal
 

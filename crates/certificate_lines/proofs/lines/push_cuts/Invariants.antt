@@ -1,8 +1,5 @@
 -- The cuts of the lines so far.
-use Rattle.lemmas.proofs.Common.{◌++◌, ◌≡◌, flat_map, option_to_list, take}
-use Rattle.circuit.specs.Bridge.{circuit_of}
-use Rattle.circuit.specs.Meaning.{wire_of}
-use Rattle.certificate_lines.specs.Entries.{cut_in}
+use Rattle.certificate_lines.proofs.Imports.{circuit_of, cut_in, flat_map, option_to_list, take, wire_of, ◌++◌, ◌≡◌}
 use Rattle.certificate_lines.proofs.lines.push_cuts.Given as goal
 
 abbrev pub invariant-loop-line : goal.invariant-loop-line

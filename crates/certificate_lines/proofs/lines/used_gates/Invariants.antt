@@ -1,6 +1,5 @@
 -- The gates of the lines so far.
-use Rattle.lemmas.proofs.Common.{◌≡◌, flat_map, take}
-use Rattle.certificate_lines.specs.Entries.{use_in}
+use Rattle.certificate_lines.proofs.Imports.{flat_map, take, use_in, ◌≡◌}
 use Rattle.certificate_lines.proofs.lines.used_gates.Given as goal
 
 abbrev pub invariant-loop-line : goal.invariant-loop-line

@@ -1,10 +1,8 @@
-use Rattle.lemmas.proofs.Common.{arith, common_steps}
-use Rattle.certificate_lines.proofs.Growing.{last_by_place}
-use Rattle.certificate_lines.proofs.OrderLemmas.{follows_inner, follows_none}
+use Rattle.certificate_lines.proofs.Imports.{key_of}
+use Rattle.certificate_lines.proofs.OrderLemmas.{follows_key}
 use Rattle.certificate_lines.proofs.order.may_follow.Goals as goal
 
-pub returns-in-None : goal.returns-in-None
-returns-in-None c lines order last = grind (arith, common_steps, last_by_place, follows_none)
-
-pub returns-in-Some : goal.returns-in-Some
-returns-in-Some c lines order last = grind (arith, common_steps, last_by_place, follows_inner)
+pub returns : goal.returns
+returns c line lines is order last =
+    follows_key line c.args.last c.args.entry.now c.may_precede.result c.requires is
+    (λ l at. c.may_precede.ensures l c.args.entry.now at c.key_of.ensures) lines order last

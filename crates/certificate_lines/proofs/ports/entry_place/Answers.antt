@@ -1,5 +1,4 @@
-use Rattle.lemmas.proofs.Common.{arith, common_steps}
-use Rattle.module_box.proofs.FromCorner.{abs_from}
+use Rattle.certificate_lines.proofs.Imports.{abs_from, arith, common_steps}
 use Rattle.certificate_lines.proofs.RowLemmas.{none_after, sides, some_after}
 use Rattle.certificate_lines.proofs.ports.entry_place.Goals as goal
 

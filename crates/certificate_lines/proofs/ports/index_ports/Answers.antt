@@ -1,18 +1,13 @@
-use Rattle.lemmas.proofs.Common.{◌+◌, ◌<◌, ◌∙◌, ◌≡◌, ◌≤◌, List, None, Some, arith, get_or, length, refl, slice_get}
-use Rattle.lemmas.proofs.Common.{subst, sym, ℕ, common_steps, slice_get-get_or, take-length}
-use Rattle.pattern.specs.Layout.{HaveDistinctCells}
-use Rattle.pattern.specs.Lines.{size_fault}
-use Rattle.pattern.specs.declared.layout_line.LayoutHeader.{LayoutHeader}
-use Rattle.pattern.specs.declared.layout_line.Port.{Port}
-use Rattle.pattern.proofs.InsideLemmas.{size_sides}
-use Rattle.module_box.specs.declared.boxes.Box2.{Box2}
-use Rattle.certificate_lines.specs.PortTables.{AreNumberedRows, AreOnBoard, entry_place}
-use Rattle.certificate_lines.specs.Rules.{whole}
+use Rattle.certificate_lines.proofs.Imports.{AreNumberedRows, AreOnBoard, Box2, HaveDistinctCells, LayoutHeader, List}
+use Rattle.certificate_lines.proofs.Imports.{None, Port, Some, arith, common_steps, entry_place, get_or, length, refl}
+use Rattle.certificate_lines.proofs.Imports.{size_fault, size_sides, slice_get, slice_get-get_or, subst, sym, whole, ℕ}
+use Rattle.certificate_lines.proofs.Imports.{◌+◌, ◌<◌, ◌∙◌, ◌≡◌, ◌≤◌}
+use Rattle.lemmas.proofs.Common.{take-length}
 use Rattle.certificate_lines.proofs.RowLemmas.{entry_few, entry_some}
-use Rattle.certificate_lines.proofs.TableLemmas.{IsFilling, in_whole, few_entries, no_ports, number_small}
-use Rattle.certificate_lines.proofs.TableLemmas.{one_more, none_outside}
-use Rattle.certificate_lines.proofs.ports.index_ports.Goals as goal
+use Rattle.certificate_lines.proofs.TableLemmas.{IsFilling, in_whole, few_entries, no_ports, number_small, one_more}
+use Rattle.certificate_lines.proofs.TableLemmas.{none_outside}
 use Rattle.certificate_lines.proofs.ports.index_ports.Goals.{in-Some, in_default}
+use Rattle.certificate_lines.proofs.ports.index_ports.Goals as goal
 
 abbrev AreSmall : Box2 → Type 0
 AreSmall b = (b.w ≤ 512) × (b.h ≤ 512)
@@ -104,6 +99,7 @@ invariant_of-result c =
           c.in_ok-rows.ensures x y place h e in
           omega (arith, lt, full.sized);
       numbered = λ x y h. grind (arith, common_steps, take-length);
+      wires = c.in_ok-wires.ensures;
       elsewhere = none_outside c.whole_of-area.result c.args.ports.now
           (in_whole c.args.size c.whole_of-area.result c.whole_of-area.ensures c.args.ports.now c.requires.inside);
     }

@@ -1,11 +1,10 @@
-use Rattle.lemmas.proofs.Common.{◌+◌, ◌-◌, ◌∙◌, ◌≡◌, List, SFits, ap, arith, get_or, refl, rules, subst, sym}
-use Rattle.lemmas.proofs.Common.{to_z-of_z, w32, ℕ, slice_get-get_or, unsigned_abs, positive}
-use Rattle.pattern.specs.declared.layout_line.Port.{Port}
-use Rattle.module_box.proofs.FromCorner.{abs_from}
+use Rattle.certificate_lines.proofs.Imports.{List, Port, SFits, abs_from, ap, arith, get_or, positive, refl, rules}
+use Rattle.certificate_lines.proofs.Imports.{slice_get-get_or, subst, sym, to_z-of_z, unsigned_abs, w32, ℕ, ◌+◌, ◌-◌}
+use Rattle.certificate_lines.proofs.Imports.{◌∙◌, ◌≡◌}
 use Rattle.certificate_lines.proofs.RowLemmas.{AreRowsSoFar, count_below, no_rows, read_row, row_kept, row_set}
 use Rattle.certificate_lines.proofs.RowLemmas.{row_there, rows_done}
-use Rattle.certificate_lines.proofs.ports.number_rows.Goals as goal
 use Rattle.certificate_lines.proofs.ports.number_rows.Goals.{then-index-eq0, else-index-eq0}
+use Rattle.certificate_lines.proofs.ports.number_rows.Goals as goal
 
 pub ports-init : goal.ports-init
 ports-init c =

@@ -1,6 +1,4 @@
-use Rattle.lemmas.proofs.Common.{arith, common_steps}
-use Rattle.bbm_rule.specs.Board.{live}
-use Rattle.pattern.specs.Layout.{rectangle_cells}
+use Rattle.certificate_lines.proofs.Imports.{arith, common_steps, live, rectangle_cells}
 use Rattle.certificate_lines.proofs.AllLiveCells.{rows_longer}
 use Rattle.certificate_lines.proofs.tiles.are_all_cells_live.Goals as goal
 

@@ -1,8 +1,6 @@
 -- The rows so far are live.
-use Rattle.lemmas.proofs.Common.{◌≡◌, list_all, range_with_len}
+use Rattle.certificate_lines.proofs.Imports.{list_all, live, range_with_len, row_cells, ◌≡◌}
 use Rattle.std.specs.List.{flat_map}
-use Rattle.bbm_rule.specs.Board.{live}
-use Rattle.pattern.specs.Layout.{row_cells}
 use Rattle.certificate_lines.proofs.tiles.are_all_cells_live.Given as goal
 
 abbrev pub invariant-loop-y : goal.invariant-loop-y

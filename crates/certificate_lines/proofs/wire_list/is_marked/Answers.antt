@@ -1,4 +1,4 @@
-use Rattle.lemmas.proofs.Common.{arith, common_steps}
+use Rattle.certificate_lines.proofs.Imports.{arith, common_steps}
 use Rattle.bbm_rule.proofs.CellLemmas.{cell_is}
 use Rattle.certificate_lines.proofs.WireListLemmas.{past_marks}
 use Rattle.certificate_lines.proofs.wire_list.is_marked.Goals as goal

@@ -1,4 +1,4 @@
-use Rattle.lemmas.proofs.Common.{arith}
+use Rattle.certificate_lines.proofs.Imports.{arith}
 use Rattle.bbm_rule.proofs.CellLemmas.{cell_set}
 use Rattle.certificate_lines.proofs.wire_list.set_mark.Goals as goal
 

@@ -1,5 +1,5 @@
 -- The report on the text, and what the laws say of each outcome.
-use Rattle.lemmas.proofs.Common.{subst, IfOk-weaker}
+use Rattle.check_main.proofs.Imports.{IfOk-weaker, subst}
 use Rattle.answers.specs.CheckText.{IsReportOf}
 use Rattle.headline.proofs.PlainTexts.{no_is_wrong, no_lines_tell}
 use Rattle.headline.proofs.SmallDesigns.{refused_is_none}

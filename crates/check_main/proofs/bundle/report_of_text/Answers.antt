@@ -1,8 +1,7 @@
 -- The circuit, the layout, the certificate, and the end of the text.
-use Rattle.lemmas.proofs.Common.{◌++◌, ◌∙◌, List, ap, length, subst, sym, ℕ, IfOk-weaker}
-use Rattle.section_text.specs.Feeds.{FeedView}
+use Rattle.check_main.proofs.Imports.{FeedView, IfOk-weaker, List, ap, certificate_text, length, subst, sym, ℕ, ◌++◌}
+use Rattle.check_main.proofs.Imports.{◌∙◌}
 use Rattle.section_text.specs.Ports.{named_ports}
-use Rattle.certificate.specs.Text.{certificate_text}
 use Rattle.certificate_lines.specs.Settings.{setting_of}
 use Rattle.answers.specs.CheckText.{SaysReport}
 use Rattle.answers.specs.BundleText.{bundle_of}
@@ -17,10 +16,10 @@ returns-in-Err g c =
     let fails = circuit_failed c.args.feed c.read_circuit.new.feed c.requires.unread c.requires.going c.in-Err.fault
     c.in-Err.ensures in
     record {
-      answered = IfOk-weaker c.refused.result _ _
+      answered = IfOk-weaker c.refusal_answer.result _ _
           (λ answered told. refusal_answers SaysReport
           (bundle_of c.args.feed.text) c.in-Err.fault answered.output.items answered.outcome fails told)
-          c.refused.ensures.told;
+          c.refusal_answer.ensures.told;
     }
 
 pub returns-in-Err-read_layout : goal.returns-in-Err-read_layout
@@ -29,10 +28,10 @@ returns-in-Err-read_layout g c =
     c.in-Ok.ensures (named_ports c.in_ok-ports.ports) c.read_layout.new.feed c.in_ok-ports.ensures.ports
     c.in-Err-read_layout.fault c.in-Err-read_layout.ensures.reads in
     record {
-      answered = IfOk-weaker c.refused-in-Err-read_layout.result _ _
+      answered = IfOk-weaker c.refusal_answer-in-Err-read_layout.result _ _
           (λ answered told. refusal_answers SaysReport
           (bundle_of c.args.feed.text) c.in-Err-read_layout.fault answered.output.items answered.outcome fails told)
-          c.refused-in-Err-read_layout.ensures.told;
+          c.refusal_answer-in-Err-read_layout.ensures.told;
     }
 
 pub returns-in-Err-read_certificate : goal.returns-in-Err-read_certificate
@@ -42,11 +41,11 @@ returns-in-Err-read_certificate g c =
     c.in-Ok-read_layout.layout c.in-Ok-read_layout.ensures.reads c.read_certificate.new.feed
     c.in-Err-read_certificate.fault c.in-Err-read_certificate.ensures.reads in
     record {
-      answered = IfOk-weaker c.refused-in-Err-read_certificate.result _ _
+      answered = IfOk-weaker c.refusal_answer-in-Err-read_certificate.result _ _
           (λ answered told. refusal_answers SaysReport
           (bundle_of c.args.feed.text) c.in-Err-read_certificate.fault answered.output.items
           answered.outcome fails
-          told) c.refused-in-Err-read_certificate.ensures.told;
+          told) c.refusal_answer-in-Err-read_certificate.ensures.told;
     }
 
 pub returns-in-Err-finish : goal.returns-in-Err-finish
@@ -59,12 +58,12 @@ returns-in-Err-finish g c =
     c.in-Ok.ensures (named_ports c.in_ok-ports.ports) c.read_layout.new.feed c.in_ok-ports.ensures.ports
     c.in-Ok-read_layout.layout c.in-Ok-read_layout.ensures.reads c.read_certificate.new.feed
     c.in-Ok-read_certificate.cert c.in-Ok-read_certificate.ensures.reads
-    c.in-Err-finish.fault (c.in-Err-finish.ensures.more going) (c.in-Err-finish.ensures.fault going).0 in
+    c.in-Err-finish.fault (c.in-Err-finish.ensures.more_is_left going) (c.in-Err-finish.ensures.fault going).0 in
     record {
-      answered = IfOk-weaker c.refused-in-Err-finish.result _ _
+      answered = IfOk-weaker c.refusal_answer-in-Err-finish.result _ _
           (λ answered told. refusal_answers SaysReport
           (bundle_of c.args.feed.text) c.in-Err-finish.fault answered.output.items answered.outcome fails told)
-          c.refused-in-Err-finish.ensures.told;
+          c.refusal_answer-in-Err-finish.ensures.told;
     }
 
 -- the certificate's section was read last, and the end of the text was looked for after it

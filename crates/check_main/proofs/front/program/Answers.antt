@@ -1,22 +1,16 @@
 -- The command ran, or memory ran out before it did, or the words are explained.
-use Rattle.lemmas.proofs.Common.{[], ◌∙◌, ◌≡◌, ◌⊎◌, Err, List, Ok, Option, Result, ap, arith, inl, inr, refl, subst}
-use Rattle.lemmas.proofs.Common.{sym, ℕ}
-use Rattle.clap.specs.Words.{HasKind, IsAmong, Kinds, kind_of}
+use Rattle.check_main.proofs.Imports.{CheckFault, Err, IsRightInFull, Kinds, List, Memory, No, Ok, Option, Outcome, Ran}
+use Rattle.check_main.proofs.Imports.{Refused, Result, Streams, Yes, YesPromises, [], ap, arith, inl, inr, refl}
+use Rattle.check_main.proofs.Imports.{status_for, subst, sym, ℕ, ◌∙◌, ◌≡◌, ◌⊎◌}
+use Rattle.clap.specs.Words.{HasKind, IsAmong, kind_of}
 use Rattle.clap.specs.declared.error.Error.{Error}
 use Rattle.clap.specs.declared.error.kind.ErrorKind.TheVariants.{DisplayHelp, DisplayVersion, OutOfMemory}
-use Rattle.streams.specs.declared.streams.Source.{Ghosts as Source}
-use Rattle.streams.specs.declared.streams.Sink.{Ghosts as Sink}
 use Rattle.command_line.specs.declared.Request.{Request}
-use Rattle.headline.specs.RightInFull.{IsRightInFull}
-use Rattle.answers.specs.declared.outcome.Outcome.{Outcome}
-use Rattle.answers.specs.declared.outcome.Outcome.TheVariants.{Yes, No, Refused}
-use Rattle.check_main.specs.declared.fault.CheckFault.{CheckFault}
-use Rattle.check_main.specs.declared.fault.CheckFault.TheVariants.{Memory}
-use Rattle.check_main.specs.declared.front.Streams.{Streams}
-use Rattle.check_main.specs.Program.{IsHelp, Ran, YesPromises}
-use Rattle.check_main.specs.Status.{status_for}
+use Rattle.check_main.specs.Program.{IsHelp}
 use Rattle.check_main.proofs.Ends.{outcome_of}
 use Rattle.check_main.proofs.RightStreams.{nothing_promised}
+use Rattle.streams.specs.declared.streams.Source.{Ghosts as Source}
+use Rattle.streams.specs.declared.streams.Sink.{Ghosts as Sink}
 use Rattle.check_main.proofs.front.program.Goals as goal
 
 of_memory : (kinds : Kinds) (error : Error) → kinds ≡ [] → HasKind kinds error → kind_of error ≡ OutOfMemory

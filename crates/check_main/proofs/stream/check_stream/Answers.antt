@@ -1,10 +1,6 @@
 -- What was written is the report on what was read, or its first bytes, or nothing. `check_text` says what it means.
-use Rattle.lemmas.proofs.Common.{refl}
-use Rattle.headline.specs.RightInFull.{IsRightInFull}
-use Rattle.headline.specs.Plain.{IsWrongIfPlain}
-use Rattle.headline.specs.SmallDesigns.{IsNoSmallDesignText}
-use Rattle.headline.specs.ReportLines.{LinesHaveMeaning}
-use Rattle.answers.specs.declared.outcome.Outcome.TheVariants.{No, Refused}
+use Rattle.check_main.proofs.Imports.{IsNoSmallDesignText, IsRightInFull, IsWrongIfPlain, LinesHaveMeaning, No, Refused}
+use Rattle.check_main.proofs.Imports.{refl}
 use Rattle.check_main.proofs.RightStreams.{nothing_promised, outcome_means, outcome_tells, yes_promised}
 use Rattle.check_main.proofs.stream.check_stream.Goals as goal
 

@@ -1,7 +1,6 @@
 -- The piece that does not fit has the byte past the limit.
-use Rattle.lemmas.proofs.Common.{◌++◌, ◌+◌, ◌<◌, Err, ap, length, length-append, take}
+use Rattle.check_main.proofs.Imports.{Err, ap, length, length-append, take, text_limit, ◌++◌, ◌+◌, ◌<◌}
 use Rattle.std.proofs.KnownBytes.{Consumes-trans}
-use Rattle.section_text.specs.Feeds.{text_limit}
 use Rattle.check_main.proofs.stream.read_by_blocks.Goals as goal
 
 pub returns-in-Err-TooLong-clause-too_long : goal.returns-in-Err-TooLong-clause-too_long

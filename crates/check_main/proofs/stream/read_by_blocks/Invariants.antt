@@ -1,6 +1,5 @@
 -- The text so far is what the reader gave, at least one byte a turn.
-use Rattle.lemmas.proofs.Common.{◌≡◌, ◌≤◌, None, false, length, Consumes}
-use Rattle.section_text.specs.Feeds.{text_limit}
+use Rattle.check_main.proofs.Imports.{Consumes, None, false, length, text_limit, ◌≡◌, ◌≤◌}
 use Rattle.check_main.proofs.stream.read_by_blocks.Given as goal
 
 abbrev pub invariant-loop : goal.invariant-loop

@@ -1,6 +1,5 @@
-use Rattle.lemmas.proofs.Common.{◌∙◌, ap, sym}
+use Rattle.circuit.proofs.Imports.{ap, sym, words_of, ◌∙◌}
 use Rattle.section_text.specs.Feeds.{line_bytes}
-use Rattle.section_text.specs.Words.{words_of}
 use Rattle.circuit.proofs.GateLines.{gate_entry_is, gate_of}
 use Rattle.circuit.proofs.form.gate_entry_of.Goals as goal
 

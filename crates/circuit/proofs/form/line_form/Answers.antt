@@ -1,6 +1,4 @@
-use Rattle.lemmas.proofs.Common.{◌∙◌, ap, sym}
-use Rattle.section_text.specs.Words.{words_of}
-use Rattle.circuit.specs.Forms.{form_of}
+use Rattle.circuit.proofs.Imports.{ap, form_of, sym, words_of, ◌∙◌}
 use Rattle.circuit.proofs.LoneNames.{input_line, output_line, spill_line}
 use Rattle.circuit.proofs.form.line_form.Goals as goal
 

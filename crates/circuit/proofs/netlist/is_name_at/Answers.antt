@@ -1,4 +1,4 @@
-use Rattle.lemmas.proofs.Common.{◌∙◌, ◌≡◌, arith, sym, bytes_eq-Decides, common_steps, slice_get_read}
+use Rattle.circuit.proofs.Imports.{arith, bytes_eq-Decides, common_steps, slice_get_read, sym, ◌∙◌, ◌≡◌}
 use Rattle.circuit.proofs.netlist.is_name_at.Goals as goal
 
 pub returns-in-Some-clause-name : goal.returns-in-Some-clause-name

@@ -1,5 +1,5 @@
-use Rattle.lemmas.proofs.Common.{◌++◌, ◌≡◌, take}
-use Rattle.circuit.specs.Bridge.{input_names, output_names}
+use Rattle.circuit.proofs.Imports.{input_names, take, ◌++◌, ◌≡◌}
+use Rattle.circuit.specs.Bridge.{output_names}
 use Rattle.circuit.proofs.ports.push_port_names_of_lines.Given as goal
 
 abbrev pub invariant-loop-entry : goal.invariant-loop-entry

@@ -1,5 +1,4 @@
-use Rattle.lemmas.proofs.Common.{◌++◌, ◌≡◌, flat_map, take}
-use Rattle.circuit.specs.Text.{entry_text}
+use Rattle.circuit.proofs.Imports.{entry_text, flat_map, take, ◌++◌, ◌≡◌}
 use Rattle.circuit.proofs.printing.print_entries.Given as goal
 
 abbrev pub invariant-loop-entry : goal.invariant-loop-entry

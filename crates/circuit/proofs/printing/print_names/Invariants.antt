@@ -1,4 +1,4 @@
-use Rattle.lemmas.proofs.Common.{◌++◌, ◌≡◌, flat_map, take}
+use Rattle.circuit.proofs.Imports.{flat_map, take, ◌++◌, ◌≡◌}
 use Rattle.section_text.specs.Spelling.{space_and_word}
 use Rattle.circuit.proofs.printing.print_names.Given as goal
 

@@ -1,5 +1,4 @@
-use Rattle.lemmas.proofs.Common.{append-nil, arith, sym}
-use Rattle.circuit.specs.Text.{value_lines}
+use Rattle.circuit.proofs.Imports.{append-nil, arith, sym, value_lines}
 use Rattle.circuit.proofs.Values.{printed_more, printed_all}
 use Rattle.circuit.proofs.printing.print_value_lines.Goals as goal
 

@@ -1,5 +1,4 @@
-use Rattle.lemmas.proofs.Common.{◌++◌, ◌≡◌, take}
-use Rattle.circuit.specs.Text.{value_lines}
+use Rattle.circuit.proofs.Imports.{take, value_lines, ◌++◌, ◌≡◌}
 use Rattle.circuit.proofs.printing.print_value_lines.Given as goal
 
 abbrev pub invariant-loop-i : goal.invariant-loop-i

@@ -1,4 +1,4 @@
-use Rattle.lemmas.proofs.Common.{rules}
+use Rattle.circuit.proofs.Imports.{rules}
 use Rattle.circuit.proofs.sets.define_one.Goals as goal
 
 pub returns-in-Ok-false-clause-ok : goal.returns-in-Ok-false-clause-ok

@@ -1,4 +1,4 @@
-use Rattle.lemmas.proofs.Common.{arith, common_steps}
+use Rattle.circuit.proofs.Imports.{arith, common_steps}
 use Rattle.circuit.proofs.WireMarks.{four_unset}
 use Rattle.circuit.proofs.sets.define_wires.Goals as goal
 

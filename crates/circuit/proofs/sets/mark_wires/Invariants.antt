@@ -1,5 +1,4 @@
-use Rattle.lemmas.proofs.Common.{◌≡◌, drop, length}
-use Rattle.circuit.specs.Wiring.{with_marks_set}
+use Rattle.circuit.proofs.Imports.{drop, length, with_marks_set, ◌≡◌}
 use Rattle.circuit.proofs.sets.mark_wires.Given as goal
 
 abbrev pub invariant-loop-wire : goal.invariant-loop-wire

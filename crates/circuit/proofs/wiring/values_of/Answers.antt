@@ -1,6 +1,7 @@
-use Rattle.lemmas.proofs.Common.{◌≡◌, Ok, ap, arith, rules, true, common_steps}
-use Rattle.circuit.proofs.wiring.values_of.Goals as goal
+use Rattle.circuit.proofs.Imports.{ap, arith, common_steps, rules, true, ◌≡◌}
+use Rattle.lemmas.proofs.Common.{Ok}
 use Rattle.circuit.proofs.Loops.{none_done, values_more, values_all, values_stop}
+use Rattle.circuit.proofs.wiring.values_of.Goals as goal
 
 pub loop-number-init : goal.loop-number-init
 loop-number-init c = none_done c.in_ok-values.values.items c.args.given.now (search rules)

@@ -1,4 +1,4 @@
-use Rattle.lemmas.proofs.Common.{◌≡◌, None, replicate}
+use Rattle.core_book.proofs.Imports.{None, replicate, ◌≡◌}
 use Rattle.core_book.proofs.book.no_findings.Given as goal
 
 abbrev pub invariant-loop-place : goal.invariant-loop-place

@@ -1,4 +1,4 @@
-use Rattle.lemmas.proofs.Common.{arc_value, arith, common_steps}
+use Rattle.core_book.proofs.Imports.{arc_value, arith, common_steps}
 use Rattle.core_book.proofs.Fillings.{lists-told}
 use Rattle.core_book.proofs.filling.are_same_jobs.Goals as goal
 

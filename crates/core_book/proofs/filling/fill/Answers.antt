@@ -1,9 +1,8 @@
-use Rattle.lemmas.proofs.Common.{◌∙◌, ◌≡◌, ap, inr, map, subst, sym, arc_value}
-use Rattle.core_book.specs.Book.{BookView, new_book}
-use Rattle.core_book.specs.Filling.{IsOpenFor, IsPartlyFilled}
+use Rattle.core_book.proofs.Imports.{BookView, IsOpenFor, IsPartlyFilled, ap, arc_value, inr, map, new_book, subst, sym}
+use Rattle.core_book.proofs.Imports.{◌∙◌, ◌≡◌}
 use Rattle.core_book.proofs.Fillings.{clones-same, new-open}
-use Rattle.core_book.proofs.filling.fill.Goals as goal
 use Rattle.core_book.proofs.filling.fill.Goals.{then-not-own+in_ok-to_vec+in_ok-state, else-not-own}
+use Rattle.core_book.proofs.filling.fill.Goals as goal
 
 pub fill_open_book-requires : goal.fill_open_book-requires
 fill_open_book-requires c =

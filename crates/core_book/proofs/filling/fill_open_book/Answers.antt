@@ -1,12 +1,9 @@
-use Rattle.lemmas.proofs.Common.{◌+◌, ◌<◌, ◌∙◌, ◌≤◌, List, ap, arith, length, map, slice_get, subst, sym, ℕ}
-use Rattle.lemmas.proofs.Common.{arc_value, length-map, common_steps}
+use Rattle.core_book.proofs.Imports.{AreGroups, HoldsOfSameShape, JobView, List, ap, arc_value, arith, common_steps}
+use Rattle.core_book.proofs.Imports.{length, length-map, map, shape_of, shapes_of, slice_get, subst, sym, ℕ, ◌+◌, ◌<◌}
+use Rattle.core_book.proofs.Imports.{◌∙◌, ◌≤◌}
 use Rattle.core_book.proofs.Fillings.{filled-all, filling-step, is-full, open-stays}
 use Rattle.core_book.proofs.FillingRuns.{first-read, holds_alike, runs_end, runs_step}
 use Rattle.core_book.proofs.HeldJobs.{job-at}
-use Rattle.module_job.specs.Groups.{AreGroups}
-use Rattle.module_job.specs.Jobs.{JobView}
-use Rattle.module_job.specs.Shapes.{shape_of}
-use Rattle.core_book.specs.Filling.{HoldsAlike, shapes_of}
 use Rattle.core_book.proofs.filling.fill_open_book.Goals as goal
 
 pub returns-then-is_full-clause-full : goal.returns-then-is_full-clause-full
@@ -64,7 +61,7 @@ fill_number-requires-clause-alike c = λ other.
     let same = length-map c.args.jobs.now arc_value in
     let below : n < length (shapes_of c.numbers.state.jobs) = omega (arith, many, all, same, c.numbers-test.true) in
     let here = ap (λ js. slice_get js n) own.jobs_are ∙ at in
-    subst (λ k. HoldsAlike c.numbers.state k (arc_value c.index-jobs-number.result)) first
+    subst (λ k. HoldsOfSameShape c.numbers.state k (arc_value c.index-jobs-number.result)) first
     (holds_alike c.args.state.now c.numbers.state g n
     (arc_value c.index-jobs-number.result) c.numbers.invariant.0 are below here (λ e. other (sym first ∙ e)))
 

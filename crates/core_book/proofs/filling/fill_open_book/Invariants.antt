@@ -1,6 +1,5 @@
 -- the numbers so far have a finding, and one job of each shape was run at most
-use Rattle.lemmas.proofs.Common.{◌+◌, ◌≤◌}
-use Rattle.core_book.specs.Filling.{group_count_below}
+use Rattle.core_book.proofs.Imports.{group_count_below, ◌+◌, ◌≤◌}
 use Rattle.core_book.proofs.Fillings.{IsFilling}
 use Rattle.core_book.proofs.filling.fill_open_book.Given as goal
 

@@ -1,5 +1,4 @@
-use Rattle.lemmas.proofs.Common.{[], ◌≡◌, replicate}
-use Rattle.core_book.specs.CoreView.{lists_of}
+use Rattle.core_book.proofs.Imports.{[], lists_of, replicate, ◌≡◌}
 use Rattle.core_book.proofs.machine.empty_draw_lists.Given as goal
 
 abbrev pub invariant-loop-seat : goal.invariant-loop-seat

@@ -1,8 +1,5 @@
-use Rattle.lemmas.proofs.Common.{[], ◌++◌, ◌∷◌, All, List, arith, refl, subst, into_iter_items}
-use Rattle.job_pool.specs.declared.desk.DeskSeat.{DeskSeat}
-use Rattle.job_pool.specs.declared.worker.Worker.{Worker}
-use Rattle.job_pool.specs.Seats.{IsNewSeatOf}
-use Rattle.job_pool.specs.Work.{IsReadyWorker}
+use Rattle.job_pool.proofs.Imports.{All, DeskSeat, IsNewSeatOf, IsReadyWorker, List, Worker, [], arith, into_iter_items}
+use Rattle.job_pool.proofs.Imports.{refl, subst, ◌++◌, ◌∷◌}
 use Rattle.job_pool.proofs.Ends.{all_front, all_last, all_push, passed}
 use Rattle.job_pool.proofs.pool.make_workers.Goals as goal
 

@@ -1,6 +1,5 @@
-use Rattle.lemmas.proofs.Common.{◌++◌, ◌+◌, ◌≡◌, ◌≤◌, All, vec_capacity, vec_len, into_iter_items, into_iter_len}
-use Rattle.job_pool.specs.Seats.{IsNewSeatOf}
-use Rattle.job_pool.specs.Work.{IsReadyWorker, shares_of}
+use Rattle.job_pool.proofs.Imports.{All, IsNewSeatOf, IsReadyWorker, into_iter_items, into_iter_len, shares_of}
+use Rattle.job_pool.proofs.Imports.{vec_capacity, vec_len, ◌++◌, ◌+◌, ◌≡◌, ◌≤◌}
 use Rattle.job_pool.proofs.pool.make_workers.Given as goal
 
 abbrev pub invariant-loop-share : goal.invariant-loop-share

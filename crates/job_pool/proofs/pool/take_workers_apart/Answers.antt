@@ -1,5 +1,4 @@
-use Rattle.lemmas.proofs.Common.{arith, into_iter_items}
-use Rattle.job_pool.specs.declared.worker.Worker.{Worker}
+use Rattle.job_pool.proofs.Imports.{Worker, arith, into_iter_items}
 use Rattle.job_pool.proofs.Ends.{taken}
 use Rattle.job_pool.proofs.pool.take_workers_apart.Goals as goal
 

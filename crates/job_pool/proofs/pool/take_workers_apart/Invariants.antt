@@ -1,5 +1,5 @@
-use Rattle.lemmas.proofs.Common.{◌++◌, ◌+◌, ◌≡◌, ◌≤◌, vec_capacity, vec_len, into_iter_items, into_iter_len}
-use Rattle.job_pool.specs.Work.{seats_of, shares_of}
+use Rattle.job_pool.proofs.Imports.{into_iter_items, into_iter_len, seats_of, shares_of, vec_capacity, vec_len, ◌++◌}
+use Rattle.job_pool.proofs.Imports.{◌+◌, ◌≡◌, ◌≤◌}
 use Rattle.job_pool.proofs.pool.take_workers_apart.Given as goal
 
 abbrev pub invariant-loop-worker : goal.invariant-loop-worker

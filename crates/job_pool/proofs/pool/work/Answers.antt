@@ -1,11 +1,7 @@
-use Rattle.lemmas.proofs.Common.{◌++◌, ◌<◌, ◌∙◌, ◌≡◌, ◌≤◌, All, List, ap, arith, drop, false, length, map, rules, subst}
-use Rattle.lemmas.proofs.Common.{sym, take, ℕ, All-same, arc_value, length-map}
-use Rattle.module_job.specs.Shapes.{shape_of}
-use Rattle.job_pool.specs.declared.desk.DeskSeat.{DeskSeat}
-use Rattle.job_pool.specs.declared.worker.Worker.{Worker}
-use Rattle.job_pool.specs.Seats.{IsSeatOf, drawn_by}
-use Rattle.core_book.specs.Filling.{shapes_of}
-use Rattle.job_pool.specs.Work.{sum_of_filed, seats_of, shares_of}
+use Rattle.job_pool.proofs.Imports.{All, DeskSeat, IsSeatOf, List, Worker, ap, arc_value, arith, drawn_by, drop, false}
+use Rattle.job_pool.proofs.Imports.{length, length-map, map, rules, seats_of, shape_of, shapes_of, shares_of, subst}
+use Rattle.job_pool.proofs.Imports.{sum_of_filed, sym, take, ℕ, ◌++◌, ◌<◌, ◌∙◌, ◌≡◌, ◌≤◌}
+use Rattle.lemmas.proofs.Common.{All-same}
 use Rattle.job_pool.proofs.Members.{groups_below}
 use Rattle.job_pool.proofs.Filed.{all_seats, every_number_was_filed, whole}
 use Rattle.job_pool.proofs.Risen.{all_have}

@@ -1,14 +1,9 @@
-use Rattle.lemmas.proofs.Common.{◌<◌, ◌==◌, ◌∙◌, ◌≡◌, ap, arith, get_or, if◌then◌else◌, length, map, refl, ℕ, arc_value}
-use Rattle.lemmas.proofs.Common.{length-map, nat_tests}
-use Rattle.module_job.specs.Shapes.{shape_of}
-use Rattle.module_job.proofs.FirstShapes.{value_at}
-use Rattle.local_run.specs.Shown.{job_of}
-use Rattle.verdict_book.specs.Counts.{Counts}
-use Rattle.core_book.specs.Filling.{shapes_of}
+use Rattle.job_pool.proofs.Imports.{Counts, ap, arc_value, arith, get_or, if◌then◌else◌, job_of, length, length-map}
+use Rattle.job_pool.proofs.Imports.{map, nat_tests, refl, shape_of, shapes_of, value_at, ℕ, ◌<◌, ◌==◌, ◌∙◌, ◌≡◌}
 use Rattle.job_pool.proofs.Members.{member_shape, times_step}
 use Rattle.job_pool.proofs.Risen.{risen_more, risen_still}
-use Rattle.job_pool.proofs.worker.file_members.Goals as goal
 use Rattle.job_pool.proofs.worker.file_members.Goals.{then-groups-member+in_ok-file_member, else-groups-member}
+use Rattle.job_pool.proofs.worker.file_members.Goals as goal
 
 pub file_member-requires : goal.file_member-requires
 file_member-requires g c =

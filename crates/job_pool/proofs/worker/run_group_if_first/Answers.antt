@@ -1,7 +1,4 @@
-use Rattle.lemmas.proofs.Common.{arith, map, rules, arc_value}
-use Rattle.local_run.specs.Shown.{job_of}
-use Rattle.module_job.proofs.FirstShapes.{value_at}
-use Rattle.core_book.specs.Filling.{shapes_of}
+use Rattle.job_pool.proofs.Imports.{arc_value, arith, job_of, map, rules, shapes_of, value_at}
 use Rattle.job_pool.proofs.Members.{not_first}
 use Rattle.job_pool.proofs.worker.run_group_if_first.Goals as goal
 

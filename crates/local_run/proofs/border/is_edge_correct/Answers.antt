@@ -1,20 +1,16 @@
-use Rattle.lemmas.proofs.Common.{◌∙◌, ◌≡◌, ◌≢◌, None, Option, Some, ap, arith, is_some, not, true, ℕ, common_steps}
-use Rattle.module_job.specs.Signals.{is_live}
-use Rattle.local_run.specs.Faults.{assignments}
-use Rattle.local_run.specs.Lanes.{lane}
-use Rattle.local_run.specs.Scans.{IsLeastBelow, is_defined_under, valuation}
-use Rattle.local_run.proofs.Silence.{between_edges, right_edge}
+use Rattle.local_run.proofs.Imports.{IsLeastBelow, None, Option, Some, ap, assignments, is_defined_under, is_live, lane}
+use Rattle.local_run.proofs.Imports.{not, true, valuation, ℕ, ◌∙◌, ◌≡◌, ◌≢◌}
+use Rattle.lemmas.proofs.Common.{is_some}
+use Rattle.local_run.proofs.Silence.{right_edge}
 use Rattle.local_run.proofs.border.is_edge_correct.Goals as goal
 
 none_from : (n : ℕ) (P : ℕ → Type 0) (o : Option ℕ) → is_some o ≡ not true → IsLeastBelow n P o → IsLeastBelow n P None
 none_from n P None e h = h
 none_from n P (Some a) e h = cc
 
-pub returns-then-y-area : goal.returns-then-y-area
-returns-then-y-area c = grind (arith, common_steps, between_edges)
-
 pub returns : goal.returns
-returns c = λ h. right_edge c.args.job.now c.args.values.now c.args.marked_planes.now.planes c.args.time c.args.x
+returns c = λ h. right_edge c.args.job.now c.args.values.now c.args.marked_planes.now.planes c.args.lines.now.time
+    c.args.x
     c.args.y c.edge_signal-signal.result c.requires.shows c.edge_signal-signal.ensures.signal_is_exact
     (none_from (assignments c.args.job.now) (λ a. (is_defined_under c.args.values.now a ≡ true)
     × (lane c.args.marked_planes.now.planes a c.args.x c.args.y

@@ -1,13 +1,7 @@
-use Rattle.lemmas.proofs.Common.{◌%◌, ◌*◌, ◌+◌, ◌/◌, ◌<◌, ◌∙◌, ◌≡◌, ◌≤◌, ap, ap₂, arith, subst, sym, vec_items, ℕ, ℤ}
-use Rattle.lemmas.proofs.Common.{and_parts}
-use Rattle.bbm_rule.proofs.BitLemmas.{by_lt_or_le}
-use Rattle.local_run.specs.Borders.{AreSkippableBetween}
-use Rattle.local_run.proofs.MarkSearch.{whole_zero}
-use Rattle.local_run.specs.Places.{box_coord, halo_coord}
-use Rattle.local_run.specs.Quiet.{AreLines, number_at}
-use Rattle.local_run.specs.Scans.{IsFaultWhereDefined}
-use Rattle.local_run.specs.declared.fault.Kind.TheVariants.{Edge}
-use Rattle.local_run.specs.declared.planes.Planes.{Planes}
+use Rattle.local_run.proofs.Imports.{AreSkippableBetween, Edge, IsFaultWhereDefined, Planes, and_parts, ap, ap₂, arith}
+use Rattle.local_run.proofs.Imports.{box_coord, by_lt_or_le, halo_coord, number_at, subst, ℕ, ℤ, ◌%◌, ◌*◌, ◌+◌, ◌/◌}
+use Rattle.local_run.proofs.Imports.{◌<◌, ◌∙◌, ◌≡◌, ◌≤◌}
+use Rattle.lanes.proofs.MarkSearch.{whole_zero}
 use Rattle.local_run.proofs.Firsts.{free_from}
 use Rattle.local_run.proofs.QuietLemmas.{number_below}
 use Rattle.local_run.proofs.Silence.{passed_edges, passed_halo}
@@ -17,7 +11,7 @@ use Rattle.local_run.proofs.border.set_halo_check_ring.Goals as goal
 pub set_halo_test_ring_in_word-is_right-requires-clause-passed :
     goal.set_halo_test_ring_in_word-is_right-requires-clause-passed
 set_halo_test_ring_in_word-is_right-requires-clause-passed c = λ u e none.
-    c.border_word-word.ensures.passed u (omega (arith, e)) none
+    (rw c.marks.ensures at c.border_word-word.ensures.passed) u (omega (arith, e)) none
 
 pub words-preserved : goal.words-preserved
 words-preserved c =
@@ -26,7 +20,6 @@ words-preserved c =
     let e = c.set_halo_test_ring_in_word-is_right.ensures in
     record {
       shows = e.shows;
-      lines = e.lines ∙ m.lines;
       halo = λ x y lx ly before. by_lt_or_le (number_at j.area x y) (64 * c.words.k)
           (λ h b lb out. e.rest b x y lb lx h ∙ m.halo x y lx ly h b lb out)
           (λ g. e.halo x y lx ly g (omega (arith, before)));
@@ -40,29 +33,30 @@ words-preserved-then-word-eq0 c =
     let j = c.args.job.now in
     let m = c.words.invariant in
     let p = c.words.marked_planes in
-    let lines = subst (λ m. AreLines j c.args.time (vec_items m)) (sym m.lines) c.requires.lines in
     let passed : (n : ℕ) → 64 * c.words.k ≤ n → n < 64 * (c.words.k + 1) →
-    AreSkippableBetween n (n + 1) p.line_marks.items p.planes =
-    λ n g h. c.border_word-word.ensures.passed n (omega arith) (whole_zero _ (n % 64) c.if-word-eq0.true) in
+    AreSkippableBetween n (n + 1) c.args.lines.now.marks.items p.planes =
+    λ n g h. (rw c.marks.ensures at c.border_word-word.ensures.passed) n (omega arith)
+    (whole_zero _ (n % 64) c.if-word-eq0.true) in
     record {
       shows = m.shows;
-      lines = m.lines;
       halo = λ x y lx ly before. let n = number_at j.area x y in by_lt_or_le n (64 * c.words.k)
           (m.halo x y lx ly)
-          (λ g. passed_halo j c.args.values.now p.planes c.args.time n (n + 1) x y p.line_marks.items c.requires.ready
-          m.shows lines (passed n g (omega (arith, before))) lx ly (omega arith) (omega arith));
+          (λ g. passed_halo j c.args.values.now p.planes c.args.lines.now.time n
+          (n + 1) x y c.args.lines.now.marks.items c.requires.ready
+          m.shows c.requires.lines (passed n g (omega (arith, before))) lx ly (omega arith) (omega arith));
       right = λ all x y lx ly before. let n = number_at j.area x y in by_lt_or_le n (64 * c.words.k)
           (m.right all x y lx ly)
-          (λ g. passed_edges j c.args.values.now p.planes c.args.time n (n + 1) x y p.line_marks.items c.requires.ready
-          m.shows lines (passed n g (omega (arith, before))) lx ly (omega arith) (omega arith));
+          (λ g. passed_edges j c.args.values.now p.planes c.args.lines.now.time n
+          (n + 1) x y c.args.lines.now.marks.items c.requires.ready
+          m.shows c.requires.lines (passed n g (omega (arith, before))) lx ly (omega arith) (omega arith));
     }
 
 pub returns-clause-halo : goal.returns-clause-halo
 returns-clause-halo c = λ x y lx ly.
     let s1 = c.requires.shows.size.1 in
     let s2 = c.requires.shows.size.2 in
-    let long : c.cells-cells.result ≡ (c.args.job.now.area.w / 2 + 1) * (c.args.job.now.area.h / 2 + 1) =
-    c.cells-cells.ensures.count_is_exact ∙ ap (λ (p : Planes). p.stride * p.rows) c.planes.ensures
+    let long : c.cells_per_plane-cells.result ≡ (c.args.job.now.area.w / 2 + 1) * (c.args.job.now.area.h / 2 + 1) =
+    c.cells_per_plane-cells.ensures.count_is_exact ∙ ap (λ (p : Planes). p.stride * p.rows) c.planes.ensures
     ∙ ap₂ (λ s r. s * r) s1 s2 in
     c.words.invariant.halo x y lx ly
     (omega
@@ -72,9 +66,10 @@ pub returns-clause-edges : goal.returns-clause-edges
 returns-clause-edges c = λ h.
     let j = c.args.job.now in
     let vs = c.args.values.now in
-    free_from j vs c.args.time Edge c.requires.sought (λ x y a lx ly la.
-    subst (λ (z : ℤ). ¬ IsFaultWhereDefined j vs a c.args.time Edge z (box_coord j.area.y y)) (outer_inner j.area.x x)
-    (subst (λ (z : ℤ). ¬ IsFaultWhereDefined j vs a c.args.time Edge (halo_coord j.area.x (1 + x)) z)
+    free_from j vs c.args.lines.now.time Edge c.requires.sought (λ x y a lx ly la.
+    subst (λ (z : ℤ). ¬ IsFaultWhereDefined j vs a c.args.lines.now.time Edge z (box_coord j.area.y y))
+    (outer_inner j.area.x x)
+    (subst (λ (z : ℤ). ¬ IsFaultWhereDefined j vs a c.args.lines.now.time Edge (halo_coord j.area.x (1 + x)) z)
     (outer_inner j.area.y y)
     (c.words.invariant.right h (1 + x) (1 + y) (omega arith) (omega arith)
     (below (1 + x) (1 + y) (omega arith) (omega arith)) a la)))
@@ -82,8 +77,8 @@ returns-clause-edges c = λ h.
     below : (x y : ℕ) → x < c.args.job.now.area.w + 2 → y < c.args.job.now.area.h + 2 →
         number_at c.args.job.now.area x y < 64 * c.words.k
     below x y lx ly =
-        let long : c.cells-cells.result ≡ (c.args.job.now.area.w / 2 + 1) * (c.args.job.now.area.h / 2 + 1) =
-        c.cells-cells.ensures.count_is_exact ∙ ap (λ (p : Planes). p.stride * p.rows) c.planes.ensures
+        let long : c.cells_per_plane-cells.result ≡ (c.args.job.now.area.w / 2 + 1) * (c.args.job.now.area.h / 2 + 1) =
+        c.cells_per_plane-cells.ensures.count_is_exact ∙ ap (λ (p : Planes). p.stride * p.rows) c.planes.ensures
         ∙ ap₂ (λ s r. s * r) c.requires.shows.size.1 c.requires.shows.size.2 in
         omega (
           arith,

@@ -1,15 +1,12 @@
-use Rattle.lemmas.proofs.Common.{◌*◌, ◌+◌, ◌<◌, ◌≡◌, true, ℕ}
-use Rattle.local_run.specs.Quiet.{number_at}
-use Rattle.local_run.specs.Scans.{Shows, IsEdgeCorrectAt, IsHaloCellSet}
+use Rattle.local_run.proofs.Imports.{IsEdgeCorrectAt, IsHaloCellSet, Shows, number_at, true, ℕ, ◌*◌, ◌+◌, ◌<◌, ◌≡◌}
 use Rattle.local_run.proofs.border.set_halo_check_ring.Given as goal
 
 -- the cells of the numbers so far
 abbrev pub invariant-words : goal.invariant-words
 invariant-words l = record {
-  shows : Shows l.job l.values l.time l.marked_planes.planes;
-  lines : l.marked_planes.line_marks ≡ l.fn.marked_planes.line_marks;
+  shows : Shows l.job l.values l.lines.time l.marked_planes.planes;
   halo : (x y : ℕ) → x < l.job.area.w + 2 → y < l.job.area.h + 2 → number_at l.job.area x y < 64 * l.k →
-      IsHaloCellSet l.job l.values l.time l.marked_planes.planes x y;
+      IsHaloCellSet l.job l.values l.lines.time l.marked_planes.planes x y;
   right : l.is_right ≡ true → (x y : ℕ) → x < l.job.area.w + 2 → y < l.job.area.h + 2 →
-      number_at l.job.area x y < 64 * l.k → IsEdgeCorrectAt l.job l.values l.time x y;
+      number_at l.job.area x y < 64 * l.k → IsEdgeCorrectAt l.job l.values l.lines.time x y;
 }

@@ -1,9 +1,6 @@
-use Rattle.lemmas.proofs.Common.{◌*◌, ◌+◌, ◌/◌, ◌<◌, ◌∙◌, ◌≡◌, ap, ap₂, arith, refl, sym, ℕ, and_parts}
-use Rattle.bbm_rule.proofs.BitLemmas.{by_eq_or_not}
-use Rattle.local_run.specs.Quiet.{number_at}
-use Rattle.local_run.specs.declared.planes.Planes.{Planes}
-use Rattle.local_run.proofs.FieldLemmas.{one_past, past_all}
-use Rattle.local_run.proofs.QuietLemmas.{number_below}
+use Rattle.local_run.proofs.Imports.{Planes, and_parts, ap, ap₂, arith, by_eq_or_not, number_at, refl, sym, ℕ, ◌*◌, ◌+◌}
+use Rattle.local_run.proofs.Imports.{◌/◌, ◌<◌, ◌∙◌, ◌≡◌}
+use Rattle.lanes.proofs.FieldLemmas.{one_past, past_all}
 use Rattle.local_run.proofs.Silence.{passed_edges, passed_halo, same_place}
 use Rattle.local_run.proofs.border.set_halo_test_ring_in_word.Goals as goal
 
@@ -13,16 +10,17 @@ border-init c =
     let m = a.marked_planes.now in
     record {
       shows = c.requires.shows;
-      lines = refl;
       halo = λ x y lx ly past.
           let n = number_at a.job.now.area x y in
-          passed_halo a.job.now a.values.now m.planes a.time n (n + 1) x y m.line_marks.items c.requires.ready
+          passed_halo a.job.now a.values.now m.planes a.lines.now.time n
+          (n + 1) x y a.lines.now.marks.items c.requires.ready
           c.requires.shows c.requires.lines
           (c.requires.passed n (omega (arith, past.0, past.1)) past.2) lx ly
           (omega arith) (omega arith);
       right = λ e x y lx ly past.
           let n = number_at a.job.now.area x y in
-          passed_edges a.job.now a.values.now m.planes a.time n (n + 1) x y m.line_marks.items c.requires.ready
+          passed_edges a.job.now a.values.now m.planes a.lines.now.time n
+          (n + 1) x y a.lines.now.marks.items c.requires.ready
           c.requires.shows c.requires.lines
           (c.requires.passed n (omega (arith, past.0, past.1)) past.2) lx ly
           (omega arith) (omega arith);
@@ -35,7 +33,7 @@ border-preserved c =
     let m = c.border.invariant in
     let e = c.set_or_test_four_cells-is_right.ensures in
     let p = c.planes-in-border.ensures in
-    let at = c.place-column.ensures in
+    let at = c.column_and_row-column.ensures in
     let u = c.args.first + c.take_first-place.result.0 in
     let taken = c.take_first-place.ensures in
     let one = one_past c.args.first
@@ -43,17 +41,17 @@ border-preserved c =
     (omega arith) (omega arith) taken.first.0 (omega arith) taken.first.1 taken.rest.0 taken.rest.1 in
     let stride : c.planes-in-border.result.now.stride ≡ j.area.w / 2 + 1 =
     ap (λ (p : Planes). p.stride) p ∙ m.shows.size.1 in
-    let number : (j.area.w / 2 + 1) * c.place-column.result.1 + c.place-column.result.0 ≡ u =
-    ap (λ s. s * c.place-column.result.1 + c.place-column.result.0) (sym stride) ∙ at.place_is_exact in
+    let number : (j.area.w / 2 + 1) * c.column_and_row-column.result.1 + c.column_and_row-column.result.0 ≡ u =
+    ap (λ s. s * c.column_and_row-column.result.1 + c.column_and_row-column.result.0) (sym stride)
+    ∙ at.place_is_exact in
     let here : (x y : ℕ) → x < j.area.w + 2 → number_at j.area x y ≡ u →
-    (x / 2 ≡ c.place-column.result.0) × (y / 2 ≡ c.place-column.result.1) =
-    λ x y lx is. same_place (j.area.w / 2 + 1) c.place-column.result.0 c.place-column.result.1 x y
+    (x / 2 ≡ c.column_and_row-column.result.0) × (y / 2 ≡ c.column_and_row-column.result.1) =
+    λ x y lx is. same_place (j.area.w / 2 + 1) c.column_and_row-column.result.0 c.column_and_row-column.result.1 x y
     (omega (arith, at.column, stride)) (omega arith) (number ∙ sym is) in
-    let there : (x y : ℕ) → (x / 2 ≡ c.place-column.result.0) × (y / 2 ≡ c.place-column.result.1) →
+    let there : (x y : ℕ) → (x / 2 ≡ c.column_and_row-column.result.0) × (y / 2 ≡ c.column_and_row-column.result.1) →
     number_at j.area x y ≡ u = λ x y s. ap₂ (λ r k. (j.area.w / 2 + 1) * r + k) s.1 s.0 ∙ number in
     record {
       shows = e.shows;
-      lines = e.lines ∙ m.lines;
       halo = λ x y lx ly past. by_eq_or_not (number_at j.area x y) u
           (λ is. let h = here x y lx is in e.halo x y lx ly h.0 h.1)
           (λ ne. λ b lb out. e.rest b x y lb lx (λ s. ne (there x y s))
@@ -65,30 +63,8 @@ border-preserved c =
           ∙ m.same b x y lb lx before;
     }
 
-pub returns-then-u-cells-clause-halo : goal.returns-then-u-cells-clause-halo
-returns-then-u-cells-clause-halo c = λ x y lx ly after before.
-    let long = c.cells-cells.ensures.count_is_exact ∙ ap (λ (p : Planes). p.stride * p.rows) c.planes.ensures
-    ∙ ap₂ (λ s r. s * r) c.requires.shows.size.1 c.requires.shows.size.2 in
-    let below = number_below c.args.job.now.area x y c.requires.ready.job.even.w c.requires.ready.job.even.h lx ly in
-    c.border.invariant.halo x y lx ly
-    (after, before, c.take_first-place.ensures.first.2 _ (omega (arith, below, long, after)))
-
-pub returns-then-u-cells-clause-edges : goal.returns-then-u-cells-clause-edges
-returns-then-u-cells-clause-edges c = λ all x y lx ly after before.
-    let long = c.cells-cells.ensures.count_is_exact ∙ ap (λ (p : Planes). p.stride * p.rows) c.planes.ensures
-    ∙ ap₂ (λ s r. s * r) c.requires.shows.size.1 c.requires.shows.size.2 in
-    let below = number_below c.args.job.now.area x y c.requires.ready.job.even.w c.requires.ready.job.even.h lx ly in
-    c.border.invariant.right all x y lx ly
-    (after, before, c.take_first-place.ensures.first.2 _ (omega (arith, below, long, after)))
-
 pub returns-clause-halo : goal.returns-clause-halo
 returns-clause-halo c = λ x y lx ly after before.
     c.border.invariant.halo x y lx ly
-    (past_all c.args.first (c.args.first + 64) c.border.rest (number_at c.args.job.now.area x y)
-    (omega arith) after before)
-
-pub returns-clause-edges : goal.returns-clause-edges
-returns-clause-edges c = λ all x y lx ly after before.
-    c.border.invariant.right all x y lx ly
     (past_all c.args.first (c.args.first + 64) c.border.rest (number_at c.args.job.now.area x y)
     (omega arith) after before)

@@ -1,5 +1,4 @@
-use Rattle.lemmas.proofs.Common.{◌∙◌, arith, ℕ, and_parts}
-use Rattle.local_run.specs.Scans.{IsEdgeCorrectAt, IsHaloCellSet}
+use Rattle.local_run.proofs.Imports.{IsEdgeCorrectAt, IsHaloCellSet, and_parts, arith, ℕ, ◌∙◌}
 use Rattle.local_run.proofs.Silence.{four_cells}
 use Rattle.local_run.proofs.border.set_or_test_four_cells.Goals as goal
 
@@ -9,7 +8,7 @@ returns-clause-edges c = λ h.
     let three = and_parts _ _ all.0 in
     let two = and_parts _ _ three.0 in
     λ x y lx ly ex ey. four_cells c.args.column c.args.row
-    (λ (x y : ℕ). IsEdgeCorrectAt c.args.job.now c.args.values.now c.args.time x y)
+    (λ (x y : ℕ). IsEdgeCorrectAt c.args.job.now c.args.values.now c.args.lines.now.time x y)
     (c.set_halo_or_test_ring_cell-first.ensures.edge two.0) (c.set_halo_or_test_ring_cell-second.ensures.edge two.1)
     (c.set_halo_or_test_ring_cell-third.ensures.edge three.1)
     (c.set_halo_or_test_ring_cell-fourth.ensures.edge all.1) x y ex ey
@@ -21,7 +20,7 @@ returns-clause-halo c =
     let e3 = c.set_halo_or_test_ring_cell-third.ensures in
     let e4 = c.set_halo_or_test_ring_cell-fourth.ensures in
     λ x y lx ly ex ey. four_cells c.args.column c.args.row
-    (λ (x y : ℕ). IsHaloCellSet c.args.job.now c.args.values.now c.args.time
+    (λ (x y : ℕ). IsHaloCellSet c.args.job.now c.args.values.now c.args.lines.now.time
     c.set_halo_or_test_ring_cell-fourth.new.marked_planes.planes x y)
     (λ a l out. e4.rest a _ _ l (omega arith) (λ s. let s0 = s.0 in omega arith)
     ∙ e3.rest a _ _ l (omega arith) (λ s. let s1 = s.1 in omega arith)
@@ -30,3 +29,14 @@ returns-clause-halo c =
     ∙ e3.rest a _ _ l (omega arith) (λ s. let s1 = s.1 in omega arith) ∙ e2.halo a l out)
     (λ a l out. e4.rest a _ _ l (omega arith) (λ s. let s0 = s.0 in omega arith) ∙ e3.halo a l out)
     e4.halo x y ex ey
+
+pub returns-clause-rest : goal.returns-clause-rest
+returns-clause-rest c =
+    let e1 = c.set_halo_or_test_ring_cell-first.ensures in
+    let e2 = c.set_halo_or_test_ring_cell-second.ensures in
+    let e3 = c.set_halo_or_test_ring_cell-third.ensures in
+    let e4 = c.set_halo_or_test_ring_cell-fourth.ensures in
+    λ a x y la lx out. e4.rest a x y la lx (λ s. let h = s in out (omega (arith, h.0), omega (arith, h.1)))
+    ∙ e3.rest a x y la lx (λ s. let h = s in out (omega (arith, h.0), omega (arith, h.1)))
+    ∙ e2.rest a x y la lx (λ s. let h = s in out (omega (arith, h.0), omega (arith, h.1)))
+    ∙ e1.rest a x y la lx (λ s. let h = s in out (omega (arith, h.0), omega (arith, h.1)))

@@ -1,6 +1,4 @@
-use Rattle.lemmas.proofs.Common.{None, Option, Some, subst, sym}
-use Rattle.local_run.specs.Faults.{IsLeastFault}
-use Rattle.local_run.specs.declared.fault.Fault.{Fault}
+use Rattle.local_run.proofs.Imports.{Fault, IsLeastFault, None, Option, Some, subst, sym}
 use Rattle.local_run.proofs.MovedJobs.{least_moved}
 use Rattle.local_run.proofs.finding.least_fault_moved.Goals as goal
 

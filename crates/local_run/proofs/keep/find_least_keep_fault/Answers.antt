@@ -1,7 +1,5 @@
-use Rattle.lemmas.proofs.Common.{◌∙◌, ◌≡◌, IsTrue, ap, arith, length, rules, common_steps}
-use Rattle.circuit.specs.Meaning.{Netlist}
-use Rattle.module_box.specs.Locals.{is_among}
-use Rattle.local_run.proofs.Leasts.{keep_found, keep_free_more, keep_none}
+use Rattle.local_run.proofs.Imports.{IsTrue, Netlist, ap, arith, is_among, length, rules, ◌∙◌, ◌≡◌}
+use Rattle.local_run.proofs.Leasts.{keep_found, keep_none}
 use Rattle.local_run.proofs.keep.find_least_keep_fault.Goals as goal
 
 pub returns-in-Some : goal.returns-in-Some
@@ -12,10 +10,6 @@ returns-in-Some c =
     let kept : IsTrue (is_among j.kept c.gates.gate) = search rules in
     keep_found j c.args.values.now c.gates.gate c.in-Some.assignment c.requires
     (let test = c.gates-test.true in omega (arith, test, count)) kept c.gates.invariant c.in-Some.ensures
-
--- a gate that is not kept has no keep fault
-pub gates-preserved : goal.gates-preserved
-gates-preserved c = grind (arith, common_steps, keep_free_more)
 
 pub returns : goal.returns
 returns c =

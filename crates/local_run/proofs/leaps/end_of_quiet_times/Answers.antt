@@ -1,7 +1,5 @@
-use Rattle.lemmas.proofs.Common.{◌∙◌, ◌≡◌, ap, subst}
-use Rattle.module_box.specs.Schedules.{Signals}
-use Rattle.module_job.specs.Shapes.{ShapeView, shift_to_origin, shape_of}
-use Rattle.local_run.specs.Leaps.{HasSameSignalsAtOddTimes}
+use Rattle.local_run.proofs.Imports.{HasSameSignalsAtOddTimes, ShapeView, Signals, ap, shape_of, shift_to_origin, subst}
+use Rattle.local_run.proofs.Imports.{◌∙◌, ◌≡◌}
 use Rattle.local_run.proofs.LeapLemmas.{less_steady, steady_moved}
 use Rattle.local_run.proofs.leaps.end_of_quiet_times.Goals as goal
 

@@ -1,5 +1,5 @@
-use Rattle.lemmas.proofs.Common.{arith, common_steps, slice_get-get_or}
-use Rattle.local_run.proofs.LeapLemmas.{raise_time, drop_time, met}
+use Rattle.local_run.proofs.Imports.{arith, common_steps, slice_get-get_or}
+use Rattle.local_run.proofs.LeapLemmas.{raise_time, drop_time}
 use Rattle.local_run.proofs.leaps.first_event_place.Goals as goal
 
 pub search-preserved-then-events-middle : goal.search-preserved-then-events-middle
@@ -7,6 +7,3 @@ search-preserved-then-events-middle c = grind (arith, common_steps, raise_time, 
 
 pub search-preserved : goal.search-preserved
 search-preserved c = grind (arith, common_steps, drop_time, slice_get-get_or)
-
-pub returns-clause-first : goal.returns-clause-first
-returns-clause-first c = met c.args.events.now _ _ _ (omega (arith, c.search-test.false)) c.search.invariant.2

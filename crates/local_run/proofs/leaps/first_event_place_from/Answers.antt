@@ -1,12 +1,6 @@
-use Rattle.lemmas.proofs.Common.{arith, common_steps, slice_get-get_or}
-use Rattle.local_run.proofs.LeapLemmas.{raise_time, drop_time, met}
+use Rattle.local_run.proofs.Imports.{arith, common_steps, slice_get-get_or}
+use Rattle.local_run.proofs.LeapLemmas.{drop_time}
 use Rattle.local_run.proofs.leaps.first_event_place_from.Goals as goal
-
-pub search-preserved-then-events-low : goal.search-preserved-then-events-low
-search-preserved-then-events-low c = grind (arith, common_steps, raise_time, slice_get-get_or)
 
 pub search-preserved : goal.search-preserved
 search-preserved c = grind (arith, common_steps, drop_time, slice_get-get_or)
-
-pub returns-clause-first : goal.returns-clause-first
-returns-clause-first c = met c.args.events.now _ _ _ (omega (arith, c.search-test.false)) c.search.invariant.2

@@ -1,9 +1,6 @@
-use Rattle.lemmas.proofs.Common.{arith, common_steps, slice_get-get_or}
-use Rattle.local_run.proofs.LeapLemmas.{above_at, none_until, none_before, none_at_all}
+use Rattle.local_run.proofs.Imports.{arith, common_steps, slice_get-get_or}
+use Rattle.local_run.proofs.LeapLemmas.{none_until, none_before, none_at_all}
 use Rattle.local_run.proofs.leaps.next_event_time.Goals as goal
-
-pub returns-then-next-end-clause-range : goal.returns-then-next-end-clause-range
-returns-then-next-end-clause-range c = grind (arith, common_steps, above_at, slice_get-get_or)
 
 pub returns-then-next-end-clause-none : goal.returns-then-next-end-clause-none
 returns-then-next-end-clause-none c = grind (arith, common_steps, none_before, slice_get-get_or)

@@ -1,4 +1,4 @@
-use Rattle.lemmas.proofs.Common.{arith}
+use Rattle.local_run.proofs.Imports.{arith}
 use Rattle.local_run.proofs.StopScans.{next_at_end, next_later}
 use Rattle.local_run.proofs.leaps.next_stop_time.Goals as goal
 

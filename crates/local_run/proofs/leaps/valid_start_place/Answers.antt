@@ -1,5 +1,5 @@
-use Rattle.lemmas.proofs.Common.{◌-◌, ◌<◌, arith, length, slice_get-get_or}
-use Rattle.local_run.proofs.LeapLemmas.{any_place, sure}
+use Rattle.local_run.proofs.Imports.{arith, length, slice_get-get_or, ◌-◌, ◌<◌}
+use Rattle.local_run.proofs.LeapLemmas.{sure}
 use Rattle.local_run.proofs.leaps.valid_start_place.Goals as goal
 
 pub returns-then-events-place-2-clause-below : goal.returns-then-events-place-2-clause-below
@@ -7,6 +7,3 @@ returns-then-events-place-2-clause-below c =
     let within : c.args.place - 1 < length c.args.events.now = omega arith in
     sure c.args.events.now c.args.time c.args.place _ c.requires.rising (omega arith)
     (slice_get-get_or c.args.events.now (c.args.place - 1) _ within) c.if-events-place-2.true
-
-pub returns-clause-below : goal.returns-clause-below
-returns-clause-below c = any_place c.args.events.now c.args.time

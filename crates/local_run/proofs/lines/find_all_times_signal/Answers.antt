@@ -1,5 +1,5 @@
-use Rattle.lemmas.proofs.Common.{arith, sym, common_steps, slice_get-get_or}
-use Rattle.local_run.proofs.LeapLemmas.{all_times_nowhere, all_times_there, one_more_other}
+use Rattle.local_run.proofs.Imports.{arith, common_steps, slice_get-get_or}
+use Rattle.local_run.proofs.LeapLemmas.{all_times_there, one_more_other}
 use Rattle.local_run.proofs.lines.find_all_times_signal.Goals as goal
 
 pub returns-then-eq : goal.returns-then-eq
@@ -7,6 +7,3 @@ returns-then-eq c = grind (arith, common_steps, all_times_there, slice_get-get_o
 
 pub loop-k-preserved : goal.loop-k-preserved
 loop-k-preserved c = grind (arith, common_steps, one_more_other, slice_get-get_or)
-
-pub returns : goal.returns
-returns c = sym (all_times_nowhere c.args.all_times.now c.args.cell (λ i h l. c.loop-k.invariant i h (omega arith)))

@@ -1,6 +1,6 @@
-use Rattle.lemmas.proofs.Common.{◌∙◌, ◌≡◌, rules, sym, w32}
-use mir.Val.{to_z, of_z}
+use Rattle.local_run.proofs.Imports.{rules, sym, w32, ◌∙◌, ◌≡◌}
 use Rattle.local_run.proofs.QuietLemmas.{cell_marked}
+use mir.Val.{to_z, of_z}
 use Rattle.local_run.proofs.lines.mark_cell.Goals as goal
 
 pub returns-clause-marked : goal.returns-clause-marked

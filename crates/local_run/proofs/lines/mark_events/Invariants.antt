@@ -1,6 +1,5 @@
-use Rattle.lemmas.proofs.Common.{◌<◌, ◌≡◌, ◌≤◌, Some, slice_get, ℕ}
-use Rattle.module_box.specs.declared.schedules.TimedSignal.{TimedSignal}
-use Rattle.local_run.specs.Quiet.{HasRoomForCellNumbers, IsCellMarked, KeepsMarks}
+use Rattle.local_run.proofs.Imports.{HasRoomForCellNumbers, IsCellMarked, KeepsMarks, Some, TimedSignal, slice_get, ℕ}
+use Rattle.local_run.proofs.Imports.{◌<◌, ◌≡◌, ◌≤◌}
 use Rattle.local_run.proofs.lines.mark_events.Given as goal
 
 -- those so far are marked

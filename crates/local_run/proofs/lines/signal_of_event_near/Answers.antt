@@ -1,4 +1,4 @@
-use Rattle.lemmas.proofs.Common.{◌<◌, arith, length, sym, slice_get-get_or}
+use Rattle.local_run.proofs.Imports.{arith, length, slice_get-get_or, sym, ◌<◌}
 use Rattle.module_box.proofs.Rising.{then_moment}
 use Rattle.local_run.proofs.LeapLemmas.{event_there}
 use Rattle.local_run.proofs.lines.signal_of_event_near.Goals as goal

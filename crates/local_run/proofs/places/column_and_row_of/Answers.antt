@@ -1,9 +1,6 @@
-use Rattle.lemmas.proofs.Common.{◌+◌, ◌-◌, ◌<◌, ◌∙◌, ◌≡◌, ◌≤◌, SFits, ap, arith, pos, rules, to_z-of_z, true, w32, ℕ, ℤ}
-use Rattle.lemmas.proofs.Common.{and_parts, common_steps, unsigned_abs}
-use Rattle.bbm_rule.specs.Spans.{in_span}
-use Rattle.module_box.specs.Boxes.{in_box}
-use Rattle.module_box.specs.declared.boxes.Box2.{Box2}
-use Rattle.local_run.specs.Places.{box_coord}
+use Rattle.local_run.proofs.Imports.{Box2, and_parts, ap, arith, box_coord, common_steps, in_box, in_span, pos, rules}
+use Rattle.local_run.proofs.Imports.{true, w32, ℕ, ℤ, ◌+◌, ◌-◌, ◌<◌, ◌∙◌, ◌≡◌, ◌≤◌}
+use Rattle.lemmas.proofs.Common.{SFits, to_z-of_z, unsigned_abs}
 use Rattle.local_run.proofs.Firsts.{span_at}
 use Rattle.local_run.proofs.places.column_and_row_of.Goals as goal
 

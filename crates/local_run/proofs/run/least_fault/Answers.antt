@@ -1,63 +1,63 @@
-use Rattle.lemmas.proofs.Common.{◌≡◌, arith, subst, sym, ℕ}
-use Rattle.local_run.specs.Calm.{AreAllCellsDead}
-use Rattle.local_run.specs.Scans.{IsFirst, HasNoFaultOfKind}
-use Rattle.local_run.specs.declared.fault.Kind.TheVariants.{Stop}
+use Rattle.local_run.proofs.Imports.{HasNoFaultOfKind, IsFirstOfKind, Stop, arith, common_steps, subst, ℕ, ◌≡◌}
 use Rattle.local_run.proofs.Leasts.{AreFreeBefore, early_least, end_least_fault, last_stop_least}
 use Rattle.local_run.proofs.LeapRuns.{next_run}
 use Rattle.local_run.proofs.run.least_fault.Goals as goal
-
-pub put_start-requires-clause-dead : goal.put_start-requires-clause-dead
-put_start-requires-clause-dead c = subst AreAllCellsDead (sym c.in_ok-marked_planes.ensures) c.in_ok-planes.ensures.dead
 
 pub times-preserved : goal.times-preserved
 times-preserved c =
     let one = c.one_step-changed.ensures in
     let next = c.next_time-time.ensures in
     let range = rw c.steps-steps.ensures at next.range in
-    next_run c.args.job.now c.args.values.now c.times.time c.next_time-time.result c.times.next c.fault_at_time.new.next
-    c.times.marked_planes.planes c.one_step-changed.new.marked_planes.planes c.times.changed c.one_step-changed.result
-    c.requires c.times.invariant (omega (arith, range)) c.in_default.ensures.fault one.next one.stays range next.leap
-    next.next
+    record {
+      run = next_run c.args.job.now c.args.values.now c.times.time c.next_time-time.result c.times.next
+          c.fault_at_time.new.next
+          c.times.marked_planes.planes c.one_step-changed.new.marked_planes.planes c.times.changed
+          c.one_step-changed.result
+          c.requires c.times.invariant.run
+          (omega (arith, range)) c.in_default.ensures.fault one.next one.stays range next.leap
+          next.next;
+      lines = grind (arith, common_steps);
+    }
 
 pub returns-in-Some : goal.returns-in-Some
 returns-in-Some c = early_least c.args.job.now c.args.values.now c.times.time c.in-Some.fault c.requires
-    (omega (arith, c.times-test.true, c.steps-steps.ensures)) c.times.invariant.free c.in-Some.ensures.fault
+    (omega (arith, c.times-test.true, c.steps-steps.ensures)) c.times.invariant.run.free c.in-Some.ensures.fault
 
 pub first_stop_fault-requires-clause-shows : goal.first_stop_fault-requires-clause-shows
 first_stop_fault-requires-clause-shows c =
-    let m = c.times.invariant.shows in
-    let early = c.times.invariant.early in
+    let m = c.times.invariant.run.shows in
+    let early = c.times.invariant.run.early in
     let e : c.times.time ≡ c.steps-steps.result = omega (arith, c.steps-steps.ensures) in rw e at m
 
 pub first_stop_fault-requires-clause-next : goal.first_stop_fault-requires-clause-next
 first_stop_fault-requires-clause-next c =
-    let m = c.times.invariant.next in
-    let early = c.times.invariant.early in
+    let m = c.times.invariant.run.next in
+    let early = c.times.invariant.run.early in
     let e : c.times.time ≡ c.steps-steps.result = omega (arith, c.steps-steps.ensures) in rw e at m
 
 pub first_fault-requires-clause-shows : goal.first_fault-requires-clause-shows
 first_fault-requires-clause-shows c =
-    let m = c.times.invariant.shows in
-    let early = c.times.invariant.early in
+    let m = c.times.invariant.run.shows in
+    let early = c.times.invariant.run.early in
     let e : c.times.time ≡ c.steps-steps.result = omega (arith, c.steps-steps.ensures) in rw e at m
 
 pub returns-in-Some-first_stop_fault : goal.returns-in-Some-first_stop_fault
 returns-in-Some-first_stop_fault c =
     let j = c.args.job.now in
     let vs = c.args.values.now in
-    let early = c.times.invariant.early in
+    let early = c.times.invariant.run.early in
     let time : c.times.time ≡ j.steps = omega (arith, c.times-test.false, c.steps-steps.ensures, early) in
     last_stop_least j vs c.in-Some-first_stop_fault.fault c.requires
-    (subst (AreFreeBefore j vs) time c.times.invariant.free)
-    (subst (λ (n : ℕ). IsFirst j vs n Stop c.in-Some-first_stop_fault.fault) c.steps-steps.ensures
+    (subst (AreFreeBefore j vs) time c.times.invariant.run.free)
+    (subst (λ (n : ℕ). IsFirstOfKind j vs n Stop c.in-Some-first_stop_fault.fault) c.steps-steps.ensures
     c.in-Some-first_stop_fault.ensures)
 
 pub returns : goal.returns
 returns c =
     let j = c.args.job.now in
     let vs = c.args.values.now in
-    let early = c.times.invariant.early in
+    let early = c.times.invariant.run.early in
     let time : c.times.time ≡ j.steps = omega (arith, c.times-test.false, c.steps-steps.ensures, early) in
-    end_least_fault j vs c.first_fault.result c.requires (subst (AreFreeBefore j vs) time c.times.invariant.free)
+    end_least_fault j vs c.first_fault.result c.requires (subst (AreFreeBefore j vs) time c.times.invariant.run.free)
     (subst (λ (n : ℕ). HasNoFaultOfKind j vs n Stop) c.steps-steps.ensures c.in_default-first_stop_fault.ensures.0)
     (rw c.steps-steps.ensures at c.first_fault.ensures)

@@ -1,9 +1,12 @@
-use Rattle.lemmas.proofs.Common.{◌-◌}
+use Rattle.local_run.proofs.Imports.{AreStarredCellMarks, shape_of, ◌-◌}
 use Rattle.local_run.proofs.LeapRuns.{InRun}
 use Rattle.local_run.proofs.run.least_fault.Given as goal
 
 abbrev pub invariant-times : goal.invariant-times
-invariant-times l = InRun l.job l.values l.time l.next l.marked_planes.planes l.changed
+invariant-times l = record {
+  run : InRun l.job l.values l.time l.next l.marked_planes.planes l.changed;
+  lines : AreStarredCellMarks (shape_of l.job) l.lines.all_times.items;
+}
 
 abbrev pub decreases-times : goal.decreases-times
 decreases-times l = l.steps - l.time

@@ -1,5 +1,5 @@
-use Rattle.lemmas.proofs.Common.{arith, common_steps}
-use Rattle.local_run.proofs.StopScans.{one_more, past_all, past_these, stop_first}
+use Rattle.local_run.proofs.Imports.{arith}
+use Rattle.local_run.proofs.StopScans.{past_all, past_these, stop_first}
 use Rattle.local_run.proofs.scan.first_stop_fault.Goals as goal
 
 pub returns-in-Some : goal.returns-in-Some
@@ -7,9 +7,6 @@ returns-in-Some c =
     stop_first c.args.job.now c.args.values.now c.args.time c.stops.place c.in-Some.assignment _
     c.requires.ready.job.stops_rise c.stops.invariant
     c.stop-stop.ensures c.if-stop-time.false c.in-Some.ensures
-
-pub stops-preserved : goal.stops-preserved
-stops-preserved c = grind (arith, common_steps, one_more)
 
 pub returns-after-stops : goal.returns-after-stops
 returns-after-stops c =

@@ -1,4 +1,4 @@
-use Rattle.lemmas.proofs.Common.{◌-◌, length}
+use Rattle.local_run.proofs.Imports.{length, ◌-◌}
 use Rattle.local_run.proofs.StopScans.{AreTried}
 use Rattle.local_run.proofs.scan.first_stop_fault.Given as goal
 

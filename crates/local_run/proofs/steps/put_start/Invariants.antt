@@ -1,9 +1,5 @@
-use Rattle.lemmas.proofs.Common.{◌*◌, ◌+◌, ◌-◌, ◌/◌, ◌<◌, ◌≡◌, ◌≤◌, false, ℕ}
-use Rattle.local_run.specs.Runs.{local_run}
-use Rattle.local_run.specs.Places.{box_coord}
-use Rattle.local_run.specs.Lanes.{lane, HasWordsStrideRows}
-use Rattle.local_run.specs.Faults.{assignments}
-use Rattle.local_run.specs.Scans.{valuation}
+use Rattle.local_run.proofs.Imports.{HasWordsStrideRows, assignments, box_coord, false, lane, local_run, valuation, ℕ}
+use Rattle.local_run.proofs.Imports.{◌*◌, ◌+◌, ◌-◌, ◌/◌, ◌<◌, ◌≡◌, ◌≤◌}
 use Rattle.local_run.proofs.steps.put_start.Given as goal
 
 -- the cells of the rows so far are as the run begins, and all others are dead

@@ -1,4 +1,4 @@
-use Rattle.lemmas.proofs.Common.{◌++◌, ◌+◌, ◌≡◌, length, take}
+use Rattle.module_box.proofs.Imports.{length, take, ◌++◌, ◌+◌, ◌≡◌}
 use Rattle.module_box.proofs.locals.add_wires.Given as goal
 
 abbrev pub invariant-loop-wire : goal.invariant-loop-wire

@@ -1,4 +1,4 @@
-use Rattle.lemmas.proofs.Common.{◌<◌, ◌≡◌, get_or, length, ℕ}
+use Rattle.module_box.proofs.Imports.{get_or, length, ℕ, ◌<◌, ◌≡◌}
 use Rattle.module_box.proofs.locals.local_gate.Given as goal
 
 abbrev pub invariant-loop-place : goal.invariant-loop-place

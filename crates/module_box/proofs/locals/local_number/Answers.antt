@@ -1,5 +1,4 @@
-use Rattle.lemmas.proofs.Common.{◌∙◌, ap, is_some, sym, false≢true}
-use Rattle.module_box.specs.Locals.{is_among}
+use Rattle.module_box.proofs.Imports.{ap, false≢true, is_among, is_some, sym, ◌∙◌}
 use Rattle.module_box.proofs.WireLists.{place_among, place_same}
 use Rattle.module_box.proofs.locals.local_number.Goals as goal
 

@@ -1,19 +1,14 @@
-use Rattle.lemmas.proofs.Common.{[], ◌++◌, ◌+◌, ◌∙◌, ◌∷◌, ◌≡◌, List, ap, arith, map, refl, subst, sym, ℕ, map_push}
-use Rattle.lemmas.proofs.Common.{range_with_len, slice_get_within}
-use Rattle.circuit.specs.Gates.{defines}
-use Rattle.circuit.specs.Meaning.{Gate, Netlist}
-use Rattle.module_box.specs.declared.locals.LocalGate.{LocalGate}
-use Rattle.circuit.specs.Bridge.{netlist_of}
+use Rattle.module_box.proofs.Imports.{AreDistinct, Gate, List, LocalGate, Netlist, [], ap, arith, defines}
+use Rattle.module_box.proofs.Imports.{gate_of_local_gate, map, map_push, netlist_of, range_with_len, refl}
+use Rattle.module_box.proofs.Imports.{slice_get_within, subst, sym, ℕ, ◌++◌, ◌+◌, ◌∙◌, ◌∷◌, ◌≡◌}
 use Rattle.circuit.specs.Wiring.{gate_of}
-use Rattle.module_box.specs.LocalGates.{gate_of_local_gate}
-use Rattle.module_box.specs.Locals.{AreDifferent}
 use Rattle.module_box.proofs.WireLists.{different_front}
 use Rattle.module_box.proofs.LocalNets.{IsOver, IsPart, part_none, part_more, part_all, next_known, known_ins, next_new}
 use Rattle.module_box.proofs.locals.number_cuts_and_gates.Goals as goal
 
 pub add_wires-requires-clause-different : goal.add_wires-requires-clause-different
 add_wires-requires-clause-different c =
-    subst (λ (l : List ℕ). AreDifferent (l ++ c.args.cuts.now)) (sym c.requires.none)
+    subst (λ (l : List ℕ). AreDistinct (l ++ c.args.cuts.now)) (sym c.requires.known_is_empty)
     (different_front c.args.cuts.now _ c.requires.lines.different)
 
 pub gates-init : goal.gates-init
@@ -23,7 +18,7 @@ gates-init c =
     subst (λ (done : List Gate). IsPart
     (netlist_of c.args.circuit.now) c.args.cuts.now c.args.gates.now 0 c.add_wires.new.known done) (sym none)
     (part_none (netlist_of c.args.circuit.now) c.args.cuts.now c.args.gates.now c.add_wires.new.known
-    c.requires.lines (c.in_ok-add_wires.ensures ∙ ap (λ (l : List ℕ). l ++ c.args.cuts.now) c.requires.none))
+    c.requires.lines (c.in_ok-add_wires.ensures ∙ ap (λ (l : List ℕ). l ++ c.args.cuts.now) c.requires.known_is_empty))
 
 pub prove-unreachable-requires : goal.prove-unreachable-requires
 prove-unreachable-requires c =
@@ -42,7 +37,7 @@ local_gate-local-requires-clause-known c =
 
 pub add_wires-requires-in-gates-clause-different : goal.add_wires-requires-in-gates-clause-different
 add_wires-requires-in-gates-clause-different c =
-    subst (λ (l : List ℕ). AreDifferent (c.gates.known ++ l)) (sym c.outs.ensures)
+    subst (λ (l : List ℕ). AreDistinct (c.gates.known ++ l)) (sym c.outs.ensures)
     (next_new (netlist_of c.args.circuit.now) c.args.cuts.now c.args.gates.now c.gates.used-index c.used-item.result
     c.gates.known _ (gate_of c.gate-gate.result) c.requires.lines c.gates.invariant c.gates-test.true
     c.used-item.is c.gate-gate.ensures)

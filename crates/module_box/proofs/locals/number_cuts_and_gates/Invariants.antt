@@ -1,6 +1,4 @@
-use Rattle.lemmas.proofs.Common.{map}
-use Rattle.circuit.specs.Bridge.{netlist_of}
-use Rattle.module_box.specs.LocalGates.{gate_of_local_gate}
+use Rattle.module_box.proofs.Imports.{gate_of_local_gate, map, netlist_of}
 use Rattle.module_box.proofs.LocalNets.{IsPart}
 use Rattle.module_box.proofs.locals.number_cuts_and_gates.Given as goal
 

@@ -1,5 +1,4 @@
-use Rattle.lemmas.proofs.Common.{◌<◌, arith, length, get_or_default}
-use Rattle.std.proofs.lemmas.List.Edits.{map_over_more}
+use Rattle.module_box.proofs.Imports.{arith, get_or_default, length, map_over_more, ◌<◌}
 use Rattle.module_box.proofs.moving.move_all_times.Goals as goal
 
 pub loop-signal-preserved : goal.loop-signal-preserved

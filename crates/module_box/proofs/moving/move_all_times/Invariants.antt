@@ -1,5 +1,4 @@
-use Rattle.lemmas.proofs.Common.{◌++◌, ◌≡◌, drop, map, take}
-use Rattle.module_box.specs.Moves.{moved_all_times}
+use Rattle.module_box.proofs.Imports.{drop, map, moved_all_times, take, ◌++◌, ◌≡◌}
 use Rattle.module_box.proofs.moving.move_all_times.Given as goal
 
 abbrev pub invariant-loop-signal : goal.invariant-loop-signal

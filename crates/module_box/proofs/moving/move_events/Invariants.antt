@@ -1,5 +1,4 @@
-use Rattle.lemmas.proofs.Common.{◌++◌, ◌≡◌, drop, map, take}
-use Rattle.module_box.specs.Moves.{moved_event}
+use Rattle.module_box.proofs.Imports.{drop, map, moved_event, take, ◌++◌, ◌≡◌}
 use Rattle.module_box.proofs.moving.move_events.Given as goal
 
 abbrev pub invariant-loop-event : goal.invariant-loop-event

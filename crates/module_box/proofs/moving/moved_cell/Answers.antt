@@ -1,4 +1,5 @@
-use Rattle.lemmas.proofs.Common.{◌+ℤ◌, ◌≡◌, SFits, arith, of_z, rules, to_z, w32, ints}
+use Rattle.module_box.proofs.Imports.{SFits, arith, ints, rules, w32, ◌+ℤ◌, ◌≡◌}
+use Rattle.lemmas.proofs.Common.{of_z, to_z}
 use Rattle.module_box.proofs.moving.moved_cell.Goals as goal
 
 pub returns : goal.returns

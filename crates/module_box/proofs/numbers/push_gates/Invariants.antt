@@ -1,6 +1,4 @@
-use Rattle.lemmas.proofs.Common.{◌++◌, ◌≡◌, flat_map, map, take}
-use Rattle.module_box.specs.LocalGates.{gate_of_local_gate}
-use Rattle.module_box.specs.Numbers.{gate_code_numbers}
+use Rattle.module_box.proofs.Imports.{flat_map, gate_code_numbers, gate_of_local_gate, map, take, ◌++◌, ◌≡◌}
 use Rattle.module_box.proofs.numbers.push_gates.Given as goal
 
 abbrev pub invariant-loop-gate : goal.invariant-loop-gate

@@ -1,4 +1,4 @@
-use Rattle.lemmas.proofs.Common.{◌++◌, ◌≡◌, take}
+use Rattle.module_box.proofs.Imports.{take, ◌++◌, ◌≡◌}
 use Rattle.module_box.proofs.numbers.push_wires.Given as goal
 
 abbrev pub invariant-loop-wire : goal.invariant-loop-wire

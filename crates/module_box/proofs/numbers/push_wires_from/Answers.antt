@@ -1,4 +1,4 @@
-use Rattle.lemmas.proofs.Common.{arith, common_steps}
+use Rattle.module_box.proofs.Imports.{arith, common_steps}
 use Rattle.module_box.proofs.InjectiveNumbers.{range_more}
 use Rattle.module_box.proofs.numbers.push_wires_from.Goals as goal
 

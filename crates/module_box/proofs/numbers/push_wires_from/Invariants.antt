@@ -1,4 +1,4 @@
-use Rattle.lemmas.proofs.Common.{◌++◌, ◌≡◌, range_with_len}
+use Rattle.module_box.proofs.Imports.{range_with_len, ◌++◌, ◌≡◌}
 use Rattle.module_box.proofs.numbers.push_wires_from.Given as goal
 
 abbrev pub invariant-loop-place : goal.invariant-loop-place

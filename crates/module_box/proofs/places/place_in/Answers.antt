@@ -1,4 +1,4 @@
-use Rattle.lemmas.proofs.Common.{arith, common_steps}
+use Rattle.module_box.proofs.Imports.{arith, common_steps}
 use Rattle.module_box.proofs.FromCorner.{abs_from}
 use Rattle.module_box.proofs.places.place_in.Goals as goal
 

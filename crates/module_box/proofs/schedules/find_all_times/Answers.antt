@@ -1,4 +1,4 @@
-use Rattle.lemmas.proofs.Common.{◌+◌, ◌-◌, ◌/◌, ◌<◌, arith, length, sym, common_steps, slice_get-get_or}
+use Rattle.module_box.proofs.Imports.{arith, common_steps, length, slice_get-get_or, sym, ◌+◌, ◌-◌, ◌/◌, ◌<◌}
 use Rattle.module_box.proofs.Rising.{raise_low, drop_high, is_absent, is_first, cell_total, cell_exact, all_times_none}
 use Rattle.module_box.proofs.Rising.{all_times_found}
 use Rattle.module_box.proofs.schedules.find_all_times.Goals as goal

@@ -1,6 +1,4 @@
-use Rattle.lemmas.proofs.Common.{◌-◌, ◌≤◌, length}
-use Rattle.module_box.specs.Moments.{cell_cmp}
-use Rattle.module_box.specs.Schedules.{cell_of}
+use Rattle.module_box.proofs.Imports.{cell_cmp, cell_of, length, ◌-◌, ◌≤◌}
 use Rattle.module_box.proofs.Rising.{IsBetween}
 use Rattle.module_box.proofs.schedules.find_all_times.Given as goal
 

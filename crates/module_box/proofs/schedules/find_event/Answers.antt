@@ -1,4 +1,4 @@
-use Rattle.lemmas.proofs.Common.{◌+◌, ◌-◌, ◌/◌, ◌<◌, arith, length, sym, common_steps, slice_get-get_or}
+use Rattle.module_box.proofs.Imports.{arith, common_steps, length, slice_get-get_or, sym, ◌+◌, ◌-◌, ◌/◌, ◌<◌}
 use Rattle.module_box.proofs.Rising.{raise_low, drop_high, is_absent, is_first, moment_total, moment_exact, event_none}
 use Rattle.module_box.proofs.Rising.{event_found}
 use Rattle.module_box.proofs.schedules.find_event.Goals as goal

@@ -1,6 +1,4 @@
-use Rattle.lemmas.proofs.Common.{◌-◌, ◌≤◌, length}
-use Rattle.module_box.specs.Moments.{moment_cmp}
-use Rattle.module_box.specs.Schedules.{moment_of}
+use Rattle.module_box.proofs.Imports.{length, moment_cmp, moment_of, ◌-◌, ◌≤◌}
 use Rattle.module_box.proofs.Rising.{IsBetween}
 use Rattle.module_box.proofs.schedules.find_event.Given as goal
 

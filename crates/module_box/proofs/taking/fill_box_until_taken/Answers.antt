@@ -1,5 +1,4 @@
-use Rattle.lemmas.proofs.Common.{arith, subst, sym}
-use Rattle.module_box.specs.Taking.{TakesBox}
+use Rattle.module_box.proofs.Imports.{TakesBox, arith, subst, sym}
 use Rattle.module_box.proofs.Takings.{rows_begun, rows_cut, all_rows_are_taken, row_stops, row_goes_on}
 use Rattle.module_box.proofs.taking.fill_box_until_taken.Goals as goal
 

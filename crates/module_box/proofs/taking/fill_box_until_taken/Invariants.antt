@@ -1,4 +1,4 @@
-use Rattle.lemmas.proofs.Common.{◌*◌}
+use Rattle.module_box.proofs.Imports.{◌*◌}
 use Rattle.module_box.proofs.Takings.{TakesRows}
 use Rattle.module_box.proofs.taking.fill_box_until_taken.Given as goal
 

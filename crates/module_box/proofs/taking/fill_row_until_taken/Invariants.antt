@@ -1,4 +1,4 @@
-use Rattle.module_box.specs.Taking.{TakesRow}
+use Rattle.module_box.proofs.Imports.{TakesRow}
 use Rattle.module_box.proofs.taking.fill_row_until_taken.Given as goal
 
 abbrev pub invariant-places : goal.invariant-places

@@ -1,4 +1,4 @@
-use Rattle.module_box.specs.Tiling.{AreFirstBoxesInside}
+use Rattle.module_box.proofs.Imports.{AreFirstBoxesInside}
 use Rattle.module_box.proofs.tile.first_box_outside.Given as goal
 
 abbrev pub invariant-boxes : goal.invariant-boxes

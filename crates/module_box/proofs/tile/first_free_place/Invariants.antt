@@ -1,4 +1,4 @@
-use Rattle.lemmas.proofs.Common.{◌<◌, ◌≡◌, slice_index, ℕ}
+use Rattle.module_box.proofs.Imports.{slice_index, ℕ, ◌<◌, ◌≡◌}
 use Rattle.module_box.proofs.tile.first_free_place.Given as goal
 
 abbrev pub invariant-places : goal.invariant-places

@@ -1,6 +1,6 @@
-use Rattle.lemmas.proofs.Common.{◌*◌, ◌/◌, ◌<◌, ◌∙◌, ◌≡◌, ap, arith, length, refl, slice_index, take, ℕ, common_steps}
-use Rattle.lemmas.proofs.Common.{slice_get-get_or, with_items_is}
-use Rattle.module_box.specs.Tiling.{Owning, IsTable}
+use Rattle.module_box.proofs.Imports.{IsOwnersTable, OwnersView, ap, arith, common_steps, length, refl}
+use Rattle.module_box.proofs.Imports.{slice_get-get_or, slice_index, take, ℕ, ◌*◌, ◌/◌, ◌<◌, ◌∙◌, ◌≡◌}
+use Rattle.lemmas.proofs.Common.{with_items_is}
 use Rattle.module_box.proofs.Tilings.{all_inside, bad_block, filled_from, owners_from, taken_by_all, taken_by_next}
 use Rattle.module_box.proofs.Tilings.{taken_gap, taken_all_times, taken_twice}
 use Rattle.module_box.proofs.tile.owner_table.Goals as goal
@@ -35,11 +35,12 @@ returns-then-gap-len c =
     let t = taken_by_all columns blocks c.boxes.number c.args.boxes.now table c.boxes.invariant (omega arith) in
     let lt : place < length table = omega (arith, c.boxes.numbers.ok.0) in
     let within : place < blocks = (let b = t.bound in omega (arith, b, lt)) in (
-      bad_block c.args.width c.args.height _ place c.args.boxes.now c.corner.result
+      bad_block c.args.width c.args.height _ place c.args.boxes.now c.block_corner.result
           c.first_box_outside-outside.ensures.before c.if-outside-boxes.false within
           (taken_all_times columns blocks place c.args.boxes.now table t (omega (arith, lt)) free.before)
-          c.corner.ensures,
-      taken_gap columns blocks place c.args.boxes.now table c.corner.result t lt (free.found lt) c.corner.ensures,
+          c.block_corner.ensures,
+      taken_gap columns blocks place c.args.boxes.now table c.block_corner.result t lt
+          (free.found lt) c.block_corner.ensures,
     )
 
 pub returns-then-len-blocks : goal.returns-then-len-blocks
@@ -54,12 +55,12 @@ returns-then-len-blocks c =
     let within : place < blocks = omega arith in
     let full : (k : ℕ) → k < place → ¬ (slice_index table k ≡ length c.args.boxes.now) =
     λ k p. free.before k (omega arith) in (
-      bad_block c.args.width c.args.height _ place c.args.boxes.now c.corner-then-len-blocks.result
+      bad_block c.args.width c.args.height _ place c.args.boxes.now c.block_corner-then-len-blocks.result
           c.first_box_outside-outside.ensures.before c.if-outside-boxes.false within
           (taken_all_times columns blocks place c.args.boxes.now table t (omega (arith, long)) full)
-          c.corner-then-len-blocks.ensures,
-      taken_twice columns blocks place c.args.boxes.now table c.corner-then-len-blocks.result t long within
-          c.corner-then-len-blocks.ensures,
+          c.block_corner-then-len-blocks.ensures,
+      taken_twice columns blocks place c.args.boxes.now table c.block_corner-then-len-blocks.result t long within
+          c.block_corner-then-len-blocks.ensures,
     )
 
 pub invariant_of-result : goal.invariant_of-result
@@ -67,14 +68,14 @@ invariant_of-result c = grind (arith, common_steps, filled_from)
 
 pub returns : goal.returns
 returns c =
-    let owners_view : Owning =
+    let owners_view : OwnersView =
     record { width = c.args.width; height = c.args.height; numbers = c.boxes.numbers.items } in
     let free = rw c.deref.ensures.value at c.first_free_place-gap.ensures in
     let filled = filled_from (c.args.width / 2)
     (c.args.height / 2 * (c.args.width / 2)) c.boxes.number c.first_free_place-gap.result c.args.boxes.now
     c.boxes.numbers.items c.boxes.invariant (omega arith)
     (omega (arith, c.boxes.numbers.ok.0)) (omega (arith, c.boxes.numbers.ok.0)) free.before in
-    let table : IsTable owners_view =
+    let table : IsOwnersTable owners_view =
     record { width = c.requires.width; height = c.requires.height; sized = filled.sized } in (
       refl,
       refl,

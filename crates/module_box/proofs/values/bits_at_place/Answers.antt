@@ -1,5 +1,4 @@
-use Rattle.lemmas.proofs.Common.{arith, common_steps, map_push, take_more}
-use Rattle.bbm_rule.specs.Bits.{bit}
+use Rattle.module_box.proofs.Imports.{arith, bit, common_steps, map_push, take_more}
 use Rattle.module_box.proofs.values.bits_at_place.Goals as goal
 
 pub loop-word-preserved : goal.loop-word-preserved

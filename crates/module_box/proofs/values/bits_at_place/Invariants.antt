@@ -1,5 +1,4 @@
-use Rattle.lemmas.proofs.Common.{◌≡◌, take}
-use Rattle.module_box.specs.LocalValues.{lane}
+use Rattle.module_box.proofs.Imports.{lane, take, ◌≡◌}
 use Rattle.module_box.proofs.values.bits_at_place.Given as goal
 
 abbrev pub invariant-loop-word : goal.invariant-loop-word

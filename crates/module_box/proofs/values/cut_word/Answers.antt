@@ -1,5 +1,4 @@
-use Rattle.lemmas.proofs.Common.{arith, common_steps}
-use Rattle.bbm_rule.specs.Bits.{bit}
+use Rattle.module_box.proofs.Imports.{arith, bit, common_steps}
 use Rattle.module_box.proofs.CutWords.{low_word, high_ones, high_none, mask_0, mask_1, mask_2, mask_3, mask_4, mask_5}
 use Rattle.module_box.proofs.values.cut_word.Goals as goal
 

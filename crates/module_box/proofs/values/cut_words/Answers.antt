@@ -1,4 +1,4 @@
-use Rattle.lemmas.proofs.Common.{arith, common_steps}
+use Rattle.module_box.proofs.Imports.{arith, common_steps}
 use Rattle.module_box.proofs.CutWords.{words_more}
 use Rattle.module_box.proofs.values.cut_words.Goals as goal
 

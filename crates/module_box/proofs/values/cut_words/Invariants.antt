@@ -1,5 +1,4 @@
-use Rattle.lemmas.proofs.Common.{◌*◌, ◌+◌, ◌<◌, ◌≡◌, length, slice_index_or, ℕ}
-use Rattle.bbm_rule.specs.Bits.{bit}
+use Rattle.module_box.proofs.Imports.{bit, length, slice_index_or, ℕ, ◌*◌, ◌+◌, ◌<◌, ◌≡◌}
 use Rattle.module_box.proofs.values.cut_words.Given as goal
 
 abbrev pub invariant-loop-cut : goal.invariant-loop-cut

@@ -1,5 +1,4 @@
-use Rattle.lemmas.proofs.Common.{◌<◌, ◌≡◌, false, slice_index, ℕ}
-use Rattle.bbm_rule.specs.Bits.{bit}
+use Rattle.module_box.proofs.Imports.{bit, false, slice_index, ℕ, ◌<◌, ◌≡◌}
 use Rattle.module_box.proofs.values.first_word_with_bit.Given as goal
 
 abbrev pub invariant-loop-number : goal.invariant-loop-number

@@ -1,4 +1,4 @@
-use Rattle.lemmas.proofs.Common.{rules}
+use Rattle.module_box.proofs.Imports.{rules}
 use Rattle.module_box.proofs.values.push_gate_out_words.Goals as goal
 
 pub returns-in_err-extend_from_slice-in-Fredkin : goal.returns-in_err-extend_from_slice-in-Fredkin

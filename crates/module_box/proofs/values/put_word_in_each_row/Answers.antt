@@ -1,4 +1,4 @@
-use Rattle.lemmas.proofs.Common.{arith, common_steps}
+use Rattle.module_box.proofs.Imports.{arith, common_steps}
 use Rattle.module_box.proofs.LocalRows.{put_more}
 use Rattle.module_box.proofs.values.put_word_in_each_row.Goals as goal
 

@@ -1,4 +1,4 @@
-use Rattle.lemmas.proofs.Common.{arith, rules}
+use Rattle.module_box.proofs.Imports.{arith, rules}
 use Rattle.module_box.proofs.WordRows.{column_none, column_more, column_says, column_long}
 use Rattle.module_box.proofs.values.value_words.Goals as goal
 

@@ -1,10 +1,10 @@
-use Rattle.lemmas.proofs.Common.{[], ◌∙◌, ◌≡◌, Some, ap, arith, below_more, get_or, map, nat_eq, slice_get, sym}
-use Rattle.lemmas.proofs.Common.{Decides-eqb, arc_value, false≢true}
-use Rattle.module_box.proofs.EqualTests.{lists}
+use Rattle.module_job.proofs.Imports.{Decides-eqb, Some, [], ap, arc_value, arith, false≢true, get_or, lists, map}
+use Rattle.module_job.proofs.Imports.{nat_eq, slice_get, sym, ◌∙◌, ◌≡◌}
+use Rattle.lemmas.proofs.Common.{below_more}
 use Rattle.module_job.proofs.EqualJobs.{shapes_decide}
 use Rattle.module_job.proofs.FirstShapes.{one_value, same_read, value_at}
-use Rattle.module_job.proofs.groups.first_equal_shape.Goals as goal
 use Rattle.module_job.proofs.groups.first_equal_shape.Goals.{then-eq+else-same, else-eq}
+use Rattle.module_job.proofs.groups.first_equal_shape.Goals as goal
 
 pub returns-then-same : goal.returns-then-same
 returns-then-same c =

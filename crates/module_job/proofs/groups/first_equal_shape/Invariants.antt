@@ -1,5 +1,5 @@
 -- No shape before is the same.
-use Rattle.lemmas.proofs.Common.{◌<◌, ◌≢◌, map, slice_get, ℕ, arc_value}
+use Rattle.module_job.proofs.Imports.{arc_value, map, slice_get, ℕ, ◌<◌, ◌≢◌}
 use Rattle.module_job.proofs.groups.first_equal_shape.Given as goal
 
 abbrev pub invariant-earlier : goal.invariant-earlier

@@ -1,7 +1,5 @@
-use Rattle.lemmas.proofs.Common.{[], ◌+◌, ◌∷◌, List, ap, arith, length, length-append, slice_index, subst, sym, ℕ}
-use Rattle.lemmas.proofs.Common.{slice_get-get_or}
-use Rattle.indexmap.specs.IndexMap.{get}
-use Rattle.module_job.specs.Groups.{IsFirstLike, same_key}
+use Rattle.module_job.proofs.Imports.{IsFirstLike, List, [], ap, arith, get, length, length-append, same_key}
+use Rattle.module_job.proofs.Imports.{slice_get-get_or, slice_index, subst, sym, ℕ, ◌+◌, ◌∷◌}
 use Rattle.module_job.proofs.FirstKeys.{IsFirstOf, first_found, known_more}
 use Rattle.module_job.proofs.FirstShapes.{group_more}
 use Rattle.module_job.proofs.groups.first_numbers_of_keys.Goals as goal

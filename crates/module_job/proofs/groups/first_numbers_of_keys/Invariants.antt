@@ -1,7 +1,5 @@
 -- Those before have their groups, and the map has the first number of each key so far.
-use Rattle.lemmas.proofs.Common.{◌<◌, ◌≡◌, List, length, slice_index, ℕ}
-use Rattle.indexmap.specs.IndexMap.{get}
-use Rattle.module_job.specs.Groups.{IsFirstLike, same_key}
+use Rattle.module_job.proofs.Imports.{IsFirstLike, List, get, length, same_key, slice_index, ℕ, ◌<◌, ◌≡◌}
 use Rattle.module_job.proofs.FirstKeys.{IsFirstOf}
 use Rattle.module_job.proofs.groups.first_numbers_of_keys.Given as goal
 

@@ -1,6 +1,5 @@
 -- No job before has the same shape.
-use Rattle.lemmas.proofs.Common.{◌<◌, ◌≢◌, map, slice_get, ℕ, arc_value}
-use Rattle.module_job.specs.Shapes.{shape_of}
+use Rattle.module_job.proofs.Imports.{arc_value, map, shape_of, slice_get, ℕ, ◌<◌, ◌≢◌}
 use Rattle.module_job.proofs.groups.first_of_shape.Given as goal
 
 abbrev pub invariant-earlier : goal.invariant-earlier

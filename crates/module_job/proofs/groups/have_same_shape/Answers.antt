@@ -1,5 +1,4 @@
-use Rattle.lemmas.proofs.Common.{◌∙◌, ◌≡◌, Some, ap, map, slice_get, sym, arc_value}
-use Rattle.module_job.specs.Shapes.{shape_of}
+use Rattle.module_job.proofs.Imports.{Some, ap, arc_value, map, shape_of, slice_get, sym, ◌∙◌, ◌≡◌}
 use Rattle.module_job.proofs.EqualJobs.{shapes_decide}
 use Rattle.module_job.proofs.FirstShapes.{one_value, value_twice}
 use Rattle.module_job.proofs.groups.have_same_shape.Goals as goal

@@ -1,18 +1,14 @@
-use Rattle.lemmas.proofs.Common.{[], ◌+◌, ◌<◌, ◌∙◌, ◌∷◌, ◌≡◌, List, Some, ap, arith, length, length-append, map}
-use Rattle.lemmas.proofs.Common.{slice_get, slice_index, subst, sym, unwrap_or, ℕ, arc_value, false≢true, length-map}
-use Rattle.lemmas.proofs.Common.{mapped_at}
-use Rattle.indexmap.specs.IndexMap.{get}
-use Rattle.module_job.specs.Groups.{IsFirstLike, same_key}
-use Rattle.module_job.specs.Keys.{shape_key}
-use Rattle.module_job.specs.Shapes.{shape_of}
-use Rattle.module_job.specs.Summaries.{shape_summary}
+use Rattle.module_job.proofs.Imports.{IsFirstLike, List, Some, [], ap, arc_value, arith, false≢true, get, length}
+use Rattle.module_job.proofs.Imports.{length-append, length-map, map, mapped_at, same_key, shape_digest, shape_of}
+use Rattle.module_job.proofs.Imports.{shape_summary, slice_get, slice_index, subst, sym, unwrap_or, ℕ, ◌+◌, ◌<◌, ◌∙◌}
+use Rattle.module_job.proofs.Imports.{◌∷◌, ◌≡◌}
 use Rattle.module_job.proofs.FirstKeys.{IsFirstOf, found_within, known_more}
 use Rattle.module_job.proofs.FirstShapes.{all_groups, group_more, value_twice}
 use Rattle.module_job.proofs.FirstSummaries.{first_equal_shape, head_like, head_same, heads_more, is_head, others_more}
 use Rattle.module_job.proofs.FirstSummaries.{AreHeadsBefore}
-use Rattle.module_job.proofs.groups.job_groups.Goals as goal
 use Rattle.module_job.proofs.groups.job_groups.Goals.{then-not-have_same_shape+in_ok-key+in_ok-first}
 use Rattle.module_job.proofs.groups.job_groups.Goals.{else-not-have_same_shape}
+use Rattle.module_job.proofs.groups.job_groups.Goals as goal
 
 pub have_same_shape-requires : goal.have_same_shape-requires
 have_same_shape-requires c =
@@ -80,16 +76,16 @@ jobs-preserved c =
           head (mapped_at shape_summary shapes n t there ∙ ap Some (sym c.summary.ensures))
           (c.jobs.invariant.summaries summary) is (c.jobs.invariant.summaries other));
       keys = elim c.if-not-have_same_shape.branch [
-        | then-not-have_same_shape+in_ok-key+in_ok-first w ↦ others_more shape_summary shape_key shapes n
+        | then-not-have_same_shape+in_ok-key+in_ok-first w ↦ others_more shape_summary shape_digest shapes n
             (get same_key c.jobs.keys) (get same_key c.if-not-have_same_shape.keys) t w.in_ok-key.field-0
             w.in_ok-first.first there w.in_ok-key.ensures.key w.in_ok-first.ensures.first
             (λ other. ap (λ m. get same_key m other) w.keys-is ∙ w.in_ok-first.ensures.first_is_added other)
             c.jobs.invariant.keys
-        | else-not-have_same_shape w ↦ heads_more shape_summary shape_key shapes n
+        | else-not-have_same_shape w ↦ heads_more shape_summary shape_digest shapes n
             (get same_key c.if-not-have_same_shape.keys) t there
             (is_head shape_summary shapes n head t there like
             (c.have_same_shape.ensures.0 w.if-not-have_same_shape.false))
-            (subst (λ m. AreHeadsBefore shape_summary shape_key shapes n (get same_key m)) (sym w.keys-is)
+            (subst (λ m. AreHeadsBefore shape_summary shape_digest shapes n (get same_key m)) (sym w.keys-is)
             c.jobs.invariant.keys)
       ];
     }

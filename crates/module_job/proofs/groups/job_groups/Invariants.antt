@@ -1,11 +1,7 @@
 -- The jobs before have their groups. The maps have the first number of each summary, and of each key of a shape that
 -- differs from the first with its summary.
-use Rattle.lemmas.proofs.Common.{◌<◌, ◌≡◌, List, length, map, slice_index, ℕ, arc_value}
-use Rattle.indexmap.specs.IndexMap.{get}
-use Rattle.module_job.specs.Groups.{IsFirstLike, same_key}
-use Rattle.module_job.specs.Keys.{shape_key}
-use Rattle.module_job.specs.Shapes.{shape_of}
-use Rattle.module_job.specs.Summaries.{shape_summary}
+use Rattle.module_job.proofs.Imports.{IsFirstLike, List, arc_value, get, length, map, same_key, shape_digest, shape_of}
+use Rattle.module_job.proofs.Imports.{shape_summary, slice_index, ℕ, ◌<◌, ◌≡◌}
 use Rattle.module_job.proofs.FirstKeys.{IsFirstOf}
 use Rattle.module_job.proofs.FirstSummaries.{AreHeadsBefore}
 use Rattle.module_job.proofs.groups.job_groups.Given as goal
@@ -18,6 +14,6 @@ invariant-jobs l = record {
   summaries : (summary : List ℕ) →
       IsFirstOf (map shape_summary (map shape_of (map arc_value l.jobs))) l.number summary
       (get same_key l.summaries summary);
-  keys : AreHeadsBefore shape_summary shape_key (map shape_of (map arc_value l.jobs)) l.number
+  keys : AreHeadsBefore shape_summary shape_digest (map shape_of (map arc_value l.jobs)) l.number
       (get same_key l.keys);
 }

@@ -1,4 +1,4 @@
-use Rattle.lemmas.proofs.Common.{ap, arith, length, length-append, common_steps, length-map}
+use Rattle.module_job.proofs.Imports.{ap, arith, common_steps, length, length-append, length-map}
 use Rattle.module_job.proofs.FirstShapes.{all_groups, group_more}
 use Rattle.module_job.proofs.groups.shape_groups.Goals as goal
 

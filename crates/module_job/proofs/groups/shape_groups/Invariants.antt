@@ -1,6 +1,5 @@
 -- Those before have their groups.
-use Rattle.lemmas.proofs.Common.{◌<◌, ◌≡◌, length, map, slice_index, ℕ, arc_value}
-use Rattle.module_job.specs.Groups.{IsFirstLike}
+use Rattle.module_job.proofs.Imports.{IsFirstLike, arc_value, length, map, slice_index, ℕ, ◌<◌, ◌≡◌}
 use Rattle.module_job.proofs.groups.shape_groups.Given as goal
 
 abbrev pub invariant-shapes : goal.invariant-shapes

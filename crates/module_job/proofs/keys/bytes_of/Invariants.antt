@@ -1,5 +1,4 @@
-use Rattle.lemmas.proofs.Common.{◌≡◌, flat_map, take}
-use Rattle.module_job.specs.Keys.{number_bytes}
+use Rattle.module_job.proofs.Imports.{flat_map, number_bytes, take, ◌≡◌}
 use Rattle.module_job.proofs.keys.bytes_of.Given as goal
 
 abbrev pub invariant-loop-number : goal.invariant-loop-number

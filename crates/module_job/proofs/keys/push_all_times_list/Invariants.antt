@@ -1,5 +1,4 @@
-use Rattle.lemmas.proofs.Common.{◌++◌, ◌≡◌, flat_map, take}
-use Rattle.module_job.specs.Keys.{all_times_numbers}
+use Rattle.module_job.proofs.Imports.{all_times_numbers, flat_map, take, ◌++◌, ◌≡◌}
 use Rattle.module_job.proofs.keys.push_all_times_list.Given as goal
 
 abbrev pub invariant-loop-all_times : goal.invariant-loop-all_times

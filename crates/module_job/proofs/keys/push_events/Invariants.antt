@@ -1,5 +1,4 @@
-use Rattle.lemmas.proofs.Common.{◌++◌, ◌≡◌, flat_map, take}
-use Rattle.module_job.specs.Keys.{event_numbers}
+use Rattle.module_job.proofs.Imports.{event_numbers, flat_map, take, ◌++◌, ◌≡◌}
 use Rattle.module_job.proofs.keys.push_events.Given as goal
 
 abbrev pub invariant-loop-event : goal.invariant-loop-event

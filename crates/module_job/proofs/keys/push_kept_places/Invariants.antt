@@ -1,4 +1,4 @@
-use Rattle.lemmas.proofs.Common.{◌++◌, ◌≡◌, take}
+use Rattle.module_job.proofs.Imports.{take, ◌++◌, ◌≡◌}
 use Rattle.module_job.proofs.keys.push_kept_places.Given as goal
 
 abbrev pub invariant-loop-place : goal.invariant-loop-place

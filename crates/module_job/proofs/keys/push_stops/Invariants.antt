@@ -1,5 +1,4 @@
-use Rattle.lemmas.proofs.Common.{◌++◌, ◌≡◌, flat_map, take}
-use Rattle.module_job.specs.Keys.{stop_numbers}
+use Rattle.module_job.proofs.Imports.{flat_map, stop_numbers, take, ◌++◌, ◌≡◌}
 use Rattle.module_job.proofs.keys.push_stops.Given as goal
 
 abbrev pub invariant-loop-stop : goal.invariant-loop-stop

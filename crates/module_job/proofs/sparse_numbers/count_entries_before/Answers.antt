@@ -1,5 +1,5 @@
 -- Each turn halves the entries that are left.
-use Rattle.lemmas.proofs.Common.{arith, common_steps}
+use Rattle.module_job.proofs.Imports.{arith, common_steps}
 use Rattle.module_job.proofs.SparseLists.{high_moves, low_moves, rank, rank_below}
 use Rattle.module_job.proofs.sparse_numbers.count_entries_before.Goals as goal
 

@@ -1,6 +1,5 @@
 -- The entries below `low` are of places before this one, and those from `high` on are not.
-use Rattle.lemmas.proofs.Common.{◌*◌, ◌-◌, ◌≡◌, ◌≤◌, List, length, ℕ}
-use Rattle.module_job.specs.Keys.{sparse_entries_from}
+use Rattle.module_job.proofs.Imports.{List, length, sparse_entries_from, ℕ, ◌*◌, ◌-◌, ◌≡◌, ◌≤◌}
 use Rattle.module_job.proofs.SparseLists.{rank}
 use Rattle.module_job.proofs.sparse_numbers.count_entries_before.Given as goal
 

@@ -1,5 +1,4 @@
-use Rattle.lemmas.proofs.Common.{◌≡◌, map, take}
-use Rattle.module_job.specs.Shapes.{moved_stop}
+use Rattle.module_job.proofs.Imports.{map, moved_stop, take, ◌≡◌}
 use Rattle.module_job.proofs.stops.moved_stops.Given as goal
 
 abbrev pub invariant-loop-stop : goal.invariant-loop-stop

@@ -1,4 +1,4 @@
-use Rattle.lemmas.proofs.Common.{arith, common_steps}
+use Rattle.pattern.proofs.Imports.{arith, common_steps}
 use Rattle.pattern.proofs.PortLines.{port_found, port_missed}
 use Rattle.pattern.proofs.form.port_from_line.Goals as goal
 

@@ -1,4 +1,4 @@
-use Rattle.lemmas.proofs.Common.{arith, common_steps}
+use Rattle.pattern.proofs.Imports.{arith, common_steps}
 use Rattle.pattern.proofs.PortLines.{size_found, size_missed}
 use Rattle.pattern.proofs.form.size_from_line.Goals as goal
 

@@ -1,6 +1,5 @@
 -- The names so far are in the set, and no others.
-use Rattle.lemmas.proofs.Common.{◌≡◌, List, take, ℕ}
-use Rattle.section_text.specs.Words.{has}
+use Rattle.pattern.proofs.Imports.{List, has, take, ℕ, ◌≡◌}
 use Rattle.pattern.proofs.names.name_set.Given as goal
 
 abbrev pub invariant-loop-name : goal.invariant-loop-name

@@ -1,7 +1,5 @@
 -- The lines so far are printed.
-use Rattle.lemmas.proofs.Common.{◌++◌, ◌≡◌, flat_map, take}
-use Rattle.section_text.specs.Spelling.{line_text}
-use Rattle.pattern.specs.Text.{cell_words}
+use Rattle.pattern.proofs.Imports.{cell_words, flat_map, line_text, take, ◌++◌, ◌≡◌}
 use Rattle.pattern.proofs.printing.print_cells.Given as goal
 
 abbrev pub invariant-loop-cell : goal.invariant-loop-cell

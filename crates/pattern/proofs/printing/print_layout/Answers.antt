@@ -1,10 +1,5 @@
-use Rattle.lemmas.proofs.Common.{◌++◌, ◌∙◌, List, ap, codes, flat_map, ℕ}
-use Rattle.section_text.specs.Spelling.{line_text}
-use Rattle.bbm_rule.specs.declared.block.Cell.{Cell}
-use Rattle.pattern.specs.declared.layout_line.Rectangle.{Rectangle}
-use Rattle.pattern.specs.declared.layout_line.Port.{Port}
-use Rattle.pattern.specs.declared.layout_line.LayoutHeader.{LayoutHeader}
-use Rattle.pattern.specs.Text.{cell_words, rectangle_words, port_words, size_words}
+use Rattle.pattern.proofs.Imports.{Box2, Cell, LayoutHeader, List, Port, ap, cell_words, codes, flat_map, line_text}
+use Rattle.pattern.proofs.Imports.{port_words, rectangle_words, size_words, ℕ, ◌++◌, ◌∙◌}
 use Rattle.pattern.proofs.Printed.{printed}
 use Rattle.pattern.proofs.printing.print_layout.Goals as goal
 
@@ -16,8 +11,8 @@ returns c = printed c.args.layout.now c.print_size.new.out.items c.print_mirrors
     (λ (l : List ℕ). l ++ line_text (codes "layout") (size_words c.size.result)) c.new-out.ensures.items
     ∙ ap (λ (s : LayoutHeader). line_text (codes "layout") (size_words s)) c.size.ensures.size)
     (c.in_ok-print_mirrors.ensures
-    ∙ ap (λ (l : List Rectangle).
-    c.print_size.new.out.items ++ flat_map (λ (r : Rectangle). line_text (codes "mirror") (rectangle_words r)) l)
+    ∙ ap (λ (l : List Box2).
+    c.print_size.new.out.items ++ flat_map (λ (r : Box2). line_text (codes "mirror") (rectangle_words r)) l)
     c.mirrors.ensures)
     (c.in_ok-print_cells.ensures ∙ ap
     (λ (l : List Cell). c.print_mirrors.new.out.items

@@ -1,7 +1,5 @@
 -- The lines so far are printed.
-use Rattle.lemmas.proofs.Common.{◌++◌, ◌≡◌, codes, flat_map, take}
-use Rattle.section_text.specs.Spelling.{line_text}
-use Rattle.pattern.specs.Text.{rectangle_words}
+use Rattle.pattern.proofs.Imports.{codes, flat_map, line_text, rectangle_words, take, ◌++◌, ◌≡◌}
 use Rattle.pattern.proofs.printing.print_mirrors.Given as goal
 
 abbrev pub invariant-loop-mirror : goal.invariant-loop-mirror

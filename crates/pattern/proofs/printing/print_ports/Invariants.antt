@@ -1,7 +1,5 @@
 -- The lines so far are printed.
-use Rattle.lemmas.proofs.Common.{◌++◌, ◌≡◌, flat_map, take}
-use Rattle.section_text.specs.Spelling.{line_text}
-use Rattle.pattern.specs.Text.{port_words}
+use Rattle.pattern.proofs.Imports.{flat_map, line_text, port_words, take, ◌++◌, ◌≡◌}
 use Rattle.pattern.proofs.printing.print_ports.Given as goal
 
 abbrev pub invariant-loop-port : goal.invariant-loop-port

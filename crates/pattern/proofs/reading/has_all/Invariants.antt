@@ -1,6 +1,5 @@
 -- The set has the names so far.
-use Rattle.lemmas.proofs.Common.{◌≡◌, take, true, list_all}
-use Rattle.section_text.specs.Words.{has}
+use Rattle.pattern.proofs.Imports.{has, list_all, take, true, ◌≡◌}
 use Rattle.pattern.proofs.reading.has_all.Given as goal
 
 abbrev pub invariant-names : goal.invariant-names

@@ -1,4 +1,4 @@
-use Rattle.lemmas.proofs.Common.{[], ◌<◌, ◌∙◌, ◌≡◌, List, get_or, length, subst, sym, ℕ}
+use Rattle.pattern.proofs.Imports.{List, [], get_or, length, subst, sym, ℕ, ◌<◌, ◌∙◌, ◌≡◌}
 use Rattle.pattern.proofs.NameSets.{has_at}
 use Rattle.pattern.proofs.reading.has_name_near.Goals as goal
 

@@ -1,5 +1,4 @@
-use Rattle.lemmas.proofs.Common.{arith, common_steps}
-use Rattle.pattern.specs.Layout.{rectangle_cells}
+use Rattle.pattern.proofs.Imports.{arith, common_steps, rectangle_cells}
 use Rattle.pattern.proofs.CellLists.{rows_pushed}
 use Rattle.pattern.proofs.rectangle.push_rectangle.Goals as goal
 

@@ -1,6 +1,5 @@
-use Rattle.lemmas.proofs.Common.{◌++◌, ◌-◌, ◌≡◌, range_with_len}
+use Rattle.pattern.proofs.Imports.{range_with_len, row_cells, ◌++◌, ◌-◌, ◌≡◌}
 use Rattle.std.specs.List.{flat_map}
-use Rattle.pattern.specs.Layout.{row_cells}
 use Rattle.pattern.proofs.rectangle.push_rectangle.Given as goal
 
 abbrev pub invariant-loop-row : goal.invariant-loop-row

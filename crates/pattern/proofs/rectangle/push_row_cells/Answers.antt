@@ -1,4 +1,4 @@
-use Rattle.lemmas.proofs.Common.{arith, common_steps}
+use Rattle.pattern.proofs.Imports.{arith, common_steps}
 use Rattle.pattern.proofs.CellLists.{row_pushed}
 use Rattle.pattern.proofs.rectangle.push_row_cells.Goals as goal
 

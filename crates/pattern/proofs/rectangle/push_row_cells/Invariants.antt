@@ -1,5 +1,4 @@
-use Rattle.lemmas.proofs.Common.{◌++◌, ◌-◌, ◌≡◌}
-use Rattle.pattern.specs.Layout.{row_cells}
+use Rattle.pattern.proofs.Imports.{row_cells, ◌++◌, ◌-◌, ◌≡◌}
 use Rattle.pattern.proofs.rectangle.push_row_cells.Given as goal
 
 abbrev pub invariant-loop-column : goal.invariant-loop-column

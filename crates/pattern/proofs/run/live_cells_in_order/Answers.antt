@@ -1,8 +1,4 @@
-use Rattle.lemmas.proofs.Common.{arith, common_steps}
-use Rattle.bbm_rule.specs.Board.{live}
-use Rattle.bbm_rule.specs.declared.block.Cell.{Cell}
-use Rattle.pattern.specs.Layout.{rectangle_cells}
-use Rattle.pattern.specs.Run.{live_cells}
+use Rattle.pattern.proofs.Imports.{Cell, arith, common_steps, live, live_cells, rectangle_cells}
 use Rattle.pattern.proofs.CellLists.{rows_filtered}
 use Rattle.pattern.proofs.run.live_cells_in_order.Goals as goal
 

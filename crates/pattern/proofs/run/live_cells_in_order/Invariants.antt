@@ -1,7 +1,5 @@
-use Rattle.lemmas.proofs.Common.{◌≡◌, range_with_len}
-use Rattle.std.specs.List.{flat_map, filter}
-use Rattle.bbm_rule.specs.Board.{live}
-use Rattle.pattern.specs.Layout.{row_cells}
+use Rattle.pattern.proofs.Imports.{filter, live, range_with_len, row_cells, ◌≡◌}
+use Rattle.std.specs.List.{flat_map}
 use Rattle.pattern.proofs.run.live_cells_in_order.Given as goal
 
 abbrev pub invariant-loop-y : goal.invariant-loop-y

@@ -1,5 +1,5 @@
-use Rattle.lemmas.proofs.Common.{◌++◌, ◌≡◌, filter, map, take}
-use Rattle.section_text.specs.Words.{has}
+use Rattle.pattern.proofs.Imports.{has, map, take, ◌++◌, ◌≡◌}
+use Rattle.lemmas.proofs.Common.{filter}
 use Rattle.pattern.proofs.run.push_cells_of_ports_on.Given as goal
 
 abbrev pub invariant-loop-port : goal.invariant-loop-port

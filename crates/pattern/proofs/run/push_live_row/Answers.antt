@@ -1,4 +1,4 @@
-use Rattle.lemmas.proofs.Common.{arith, common_steps}
+use Rattle.pattern.proofs.Imports.{arith, common_steps}
 use Rattle.pattern.proofs.CellLists.{cast_cell, row_filtered}
 use Rattle.pattern.proofs.run.push_live_row.Goals as goal
 

@@ -1,6 +1,5 @@
-use Rattle.lemmas.proofs.Common.{◌++◌, ◌≡◌, filter}
-use Rattle.bbm_rule.specs.Board.{live}
-use Rattle.pattern.specs.Layout.{row_cells}
+use Rattle.pattern.proofs.Imports.{live, row_cells, ◌++◌, ◌≡◌}
+use Rattle.lemmas.proofs.Common.{filter}
 use Rattle.pattern.proofs.run.push_live_row.Given as goal
 
 abbrev pub invariant-loop-x : goal.invariant-loop-x

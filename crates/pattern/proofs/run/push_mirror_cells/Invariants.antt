@@ -1,5 +1,4 @@
-use Rattle.lemmas.proofs.Common.{◌++◌, ◌≡◌, flat_map, take}
-use Rattle.pattern.specs.Layout.{rectangle_cells}
+use Rattle.pattern.proofs.Imports.{flat_map, rectangle_cells, take, ◌++◌, ◌≡◌}
 use Rattle.pattern.proofs.run.push_mirror_cells.Given as goal
 
 abbrev pub invariant-loop-mirror : goal.invariant-loop-mirror

@@ -1,9 +1,5 @@
-use Rattle.lemmas.proofs.Common.{◌≡◌, arith, subst, sym, ℤ, common_steps}
-use Rattle.bbm_rule.specs.Board.{live}
-use Rattle.pattern.specs.Layout.{Pattern, start}
-use Rattle.pattern.specs.LayoutView.{pattern_of}
-use Rattle.section_text.specs.Words.{has}
-use Rattle.pattern.specs.Run.{LeavesAt, EndsWith}
+use Rattle.pattern.proofs.Imports.{EndsWith, LeavesAt, Pattern, arith, common_steps, has, live, pattern_of, start}
+use Rattle.pattern.proofs.Imports.{subst, sym, ℤ, ◌≡◌}
 use Rattle.pattern.proofs.InsideLemmas.{size_sides}
 use Rattle.pattern.proofs.PlaneRuns.{leaves_at, ends_with}
 use Rattle.pattern.proofs.run.run_plain.Goals as goal

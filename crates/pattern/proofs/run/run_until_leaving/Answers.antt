@@ -1,6 +1,4 @@
-use Rattle.lemmas.proofs.Common.{◌∙◌, ap, arith, refl, sym}
-use Rattle.bbm_rule.specs.Plane.{State}
-use Rattle.bbm_rule.specs.Board.{live}
+use Rattle.pattern.proofs.Imports.{State, ap, arith, live, refl, sym, ◌∙◌}
 use Rattle.pattern.proofs.PlaneRuns.{run_none, stays_none, stepped, stays_more, run_leaves, runs_inside, at_err, at_ok}
 use Rattle.pattern.proofs.run.run_until_leaving.Goals as goal
 

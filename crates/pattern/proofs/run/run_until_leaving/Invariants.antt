@@ -1,7 +1,4 @@
-use Rattle.lemmas.proofs.Common.{◌≡◌, ◌≤◌, ℕ, ℤ}
-use Rattle.pattern.specs.Layout.{IsDeadOutside}
-use Rattle.bbm_rule.specs.Board.{live, HasSameSize}
-use Rattle.bbm_rule.specs.Plane.{run}
+use Rattle.pattern.proofs.Imports.{HasSameSize, IsDeadOutside, live, run, ℕ, ℤ, ◌≡◌, ◌≤◌}
 use Rattle.pattern.proofs.run.run_until_leaving.Given as goal
 
 abbrev pub invariant-loop-t : goal.invariant-loop-t

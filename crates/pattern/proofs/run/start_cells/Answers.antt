@@ -1,12 +1,7 @@
-use Rattle.lemmas.proofs.Common.{◌++◌, ◌+◌, ◌<◌, ◌∙◌, ◌≡◌, ◌≤◌, List, ap, get_or, length, map, subst, sym, ℕ}
-use Rattle.std.specs.List.{flat_map, filter}
-use Rattle.bbm_rule.specs.declared.block.Cell.{Cell}
-use Rattle.pattern.specs.declared.layout_line.Rectangle.{Rectangle}
-use Rattle.pattern.specs.declared.layout_line.Port.{Port}
-use Rattle.pattern.specs.Layout.{Pattern, in_cells, rectangle_cells}
-use Rattle.pattern.specs.LayoutView.{pattern_of}
-use Rattle.section_text.specs.Words.{has}
-use Rattle.pattern.specs.Run.{start_cells_by_kind}
+use Rattle.pattern.proofs.Imports.{Box2, Cell, List, Pattern, Port, ap, filter, get_or, has, in_cells, length, map}
+use Rattle.pattern.proofs.Imports.{pattern_of, rectangle_cells, start_cells_by_kind, subst, sym, ℕ, ◌++◌, ◌+◌, ◌<◌, ◌∙◌}
+use Rattle.pattern.proofs.Imports.{◌≡◌, ◌≤◌}
+use Rattle.std.specs.List.{flat_map}
 use Rattle.pattern.proofs.InsideLemmas.{size_sides, begins_inside, mirrors_fit}
 use Rattle.pattern.proofs.StartLemmas.{in_start_list, start_list_made}
 use Rattle.pattern.proofs.run.start_cells.Goals as goal
@@ -16,7 +11,7 @@ push_mirror_cells-requires c =
     let p : Pattern = pattern_of c.layout.inside in
     let sides = size_sides p.size c.layout.invariant.size in
     let all = begins_inside p c.layout.invariant.parts in
-    subst (λ (rs : List Rectangle). (k : ℕ) (d : Rectangle) → k < length rs →
+    subst (λ (rs : List Box2). (k : ℕ) (d : Box2) → k < length rs →
     ((get_or rs k d).x + (get_or rs k d).w ≤ 512) × ((get_or rs k d).y + (get_or rs k d).h ≤ 512))
     (sym c.as_slice.ensures.value)
     (mirrors_fit p.size p.mirrors all.mirrors sides.0.most sides.1.most)

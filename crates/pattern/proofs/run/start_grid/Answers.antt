@@ -1,9 +1,7 @@
-use Rattle.lemmas.proofs.Common.{◌∙◌, ◌≡◌, All, ap, arith, sym, true, ℤ, All-same}
+use Rattle.pattern.proofs.Imports.{All, Cell, Pattern, ap, arith, has, in_cells, pattern_of, start, sym, true, ℤ, ◌∙◌}
+use Rattle.pattern.proofs.Imports.{◌≡◌}
+use Rattle.lemmas.proofs.Common.{All-same}
 use Rattle.bbm_rule.specs.Board.{is_inside}
-use Rattle.bbm_rule.specs.declared.block.Cell.{Cell}
-use Rattle.pattern.specs.Layout.{Pattern, in_cells, start}
-use Rattle.pattern.specs.LayoutView.{pattern_of}
-use Rattle.section_text.specs.Words.{has}
 use Rattle.pattern.proofs.InsideLemmas.{size_sides, begins_inside, start_inside}
 use Rattle.pattern.proofs.PlaneRuns.{among, inside_is_layout}
 use Rattle.pattern.proofs.run.start_grid.Goals as goal

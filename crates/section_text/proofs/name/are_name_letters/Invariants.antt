@@ -1,5 +1,4 @@
-use Rattle.lemmas.proofs.Common.{◌≡◌, take, list_all}
-use Rattle.section_text.specs.Words.{is_name_byte}
+use Rattle.section_text.proofs.Imports.{is_name_byte, list_all, take, ◌≡◌}
 use Rattle.section_text.proofs.name.are_name_letters.Given as goal
 
 abbrev pub invariant-loop-b : goal.invariant-loop-b

@@ -1,4 +1,4 @@
-use Rattle.lemmas.proofs.Common.{arith, common_steps}
+use Rattle.section_text.proofs.Imports.{arith, common_steps}
 use Rattle.section_text.proofs.NameLemmas.{same_one_more}
 use Rattle.section_text.proofs.name.are_same_bytes.Goals as goal
 

@@ -1,4 +1,4 @@
-use Rattle.lemmas.proofs.Common.{◌≡◌, take, bytes_eq}
+use Rattle.section_text.proofs.Imports.{bytes_eq, take, ◌≡◌}
 use Rattle.section_text.proofs.name.are_same_bytes.Given as goal
 
 abbrev pub invariant-loop-i : goal.invariant-loop-i

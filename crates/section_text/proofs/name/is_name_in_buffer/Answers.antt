@@ -1,5 +1,4 @@
-use Rattle.lemmas.proofs.Common.{◌∙◌, ap, arith, rules, list_all}
-use Rattle.section_text.specs.Words.{is_name_byte}
+use Rattle.section_text.proofs.Imports.{ap, arith, is_name_byte, list_all, rules, ◌∙◌}
 use Rattle.section_text.proofs.NameLemmas.{name_by_letters}
 use Rattle.section_text.proofs.name.is_name_in_buffer.Goals as goal
 

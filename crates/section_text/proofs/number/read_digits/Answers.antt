@@ -1,4 +1,4 @@
-use Rattle.lemmas.proofs.Common.{arith}
+use Rattle.section_text.proofs.Imports.{arith}
 use Rattle.section_text.proofs.Digits.{room}
 use Rattle.section_text.proofs.number.read_digits.Goals as goal
 

@@ -1,6 +1,5 @@
 -- The bytes so far are digits, and they spell the number.
-use Rattle.lemmas.proofs.Common.{◌<◌, ◌^◌, ◌≡◌, drop, take, true, list_all}
-use Rattle.section_text.specs.Words.{is_digit, append_digits}
+use Rattle.section_text.proofs.Imports.{append_digits, drop, is_digit, list_all, take, true, ◌<◌, ◌^◌, ◌≡◌}
 use Rattle.section_text.proofs.number.read_digits.Given as goal
 
 abbrev pub invariant-loop-b : goal.invariant-loop-b

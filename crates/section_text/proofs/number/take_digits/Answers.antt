@@ -1,6 +1,5 @@
 -- What is read of the digits, and what is left, make the number of the whole word.
-use Rattle.lemmas.proofs.Common.{◌+◌, ◌≡◌, arith, get_or, rules, true, common_steps, take_rest}
-use Rattle.section_text.specs.Words.{is_digit}
+use Rattle.section_text.proofs.Imports.{arith, common_steps, get_or, is_digit, rules, take_rest, true, ◌+◌, ◌≡◌}
 use Rattle.section_text.proofs.Digits.{is_digit_is, one_more, room}
 use Rattle.section_text.proofs.Leading.{reads, reads_end, reads_full, reads_more, reads_none, reads_some, reads_whole}
 use Rattle.section_text.proofs.number.take_digits.Goals as goal

@@ -1,5 +1,5 @@
 -- What is left of the line gives the same number as the whole of it.
-use Rattle.lemmas.proofs.Common.{◌+◌, ◌-◌, ◌<◌, ◌^◌, ◌≡◌, drop}
+use Rattle.section_text.proofs.Imports.{drop, ◌+◌, ◌-◌, ◌<◌, ◌^◌, ◌≡◌}
 use Rattle.section_text.proofs.Leading.{reads}
 use Rattle.section_text.proofs.number.take_digits.Given as goal
 

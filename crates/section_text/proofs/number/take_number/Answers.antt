@@ -1,4 +1,4 @@
-use Rattle.lemmas.proofs.Common.{arith}
+use Rattle.section_text.proofs.Imports.{arith}
 use Rattle.section_text.proofs.Leading.{empty_line}
 use Rattle.section_text.proofs.number.take_number.Goals as goal
 

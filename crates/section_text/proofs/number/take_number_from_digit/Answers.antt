@@ -1,4 +1,4 @@
-use Rattle.lemmas.proofs.Common.{arith, common_steps}
+use Rattle.section_text.proofs.Imports.{arith, common_steps}
 use Rattle.section_text.proofs.Leading.{no_digit}
 use Rattle.section_text.proofs.number.take_number_from_digit.Goals as goal
 

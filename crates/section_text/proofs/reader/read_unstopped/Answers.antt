@@ -1,4 +1,4 @@
-use Rattle.lemmas.proofs.Common.{◌∙◌, refl, sym}
+use Rattle.section_text.proofs.Imports.{refl, sym, ◌∙◌}
 use Rattle.section_text.proofs.Whole.{whole_good, whole_bad}
 use Rattle.section_text.proofs.reader.read_unstopped.Goals as goal
 

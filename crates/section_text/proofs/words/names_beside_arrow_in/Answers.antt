@@ -1,6 +1,5 @@
-use Rattle.lemmas.proofs.Common.{◌+◌, ◌∙◌, ◌≡◌, ap, arith, codes, drop, option_copied, rules, sym, true, bytes_eq}
-use Rattle.lemmas.proofs.Common.{common_steps, drop-drop}
-use Rattle.section_text.specs.Words.{words_of, words_of_rest}
+use Rattle.section_text.proofs.Imports.{ap, arith, bytes_eq, codes, common_steps, drop, drop-drop, option_copied, rules}
+use Rattle.section_text.proofs.Imports.{sym, true, words_of, words_of_rest, ◌+◌, ◌∙◌, ◌≡◌}
 use Rattle.section_text.proofs.WordsLeft.{names_are, names_from, no_arrow, no_names_after, no_names_before, no_word_at}
 use Rattle.section_text.proofs.WordsLeft.{no_word_between, one_further, word_at, words_after}
 use Rattle.section_text.proofs.words.names_beside_arrow_in.Goals as goal

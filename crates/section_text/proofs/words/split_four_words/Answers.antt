@@ -1,9 +1,9 @@
-use Rattle.lemmas.proofs.Common.{arith, common_steps}
+use Rattle.section_text.proofs.Imports.{arith, common_steps}
 use Rattle.section_text.proofs.Splitting.{four_are, many_words, one_word, three_words, two_words}
 use Rattle.section_text.proofs.words.split_four_words.Goals as goal
 
 pub returns-in_default : goal.returns-in_default
-returns-in_default c = one_word c.args.line.now (c.split_word.ensures.none c.in_default.is)
+returns-in_default c = one_word c.args.line.now (c.split_word.ensures.one_word c.in_default.is)
 
 pub returns-in_default-split_word : goal.returns-in_default-split_word
 returns-in_default-split_word c = grind (arith, common_steps, two_words)

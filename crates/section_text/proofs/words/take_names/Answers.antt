@@ -1,5 +1,5 @@
-use Rattle.lemmas.proofs.Common.{◌+◌, ◌∙◌, ap, arith, option_copied, sym, common_steps, length_push}
-use Rattle.section_text.specs.Words.{words_of_rest, names_at}
+use Rattle.section_text.proofs.Imports.{ap, arith, common_steps, length_push, names_at, option_copied, sym}
+use Rattle.section_text.proofs.Imports.{words_of_rest, ◌+◌, ◌∙◌}
 use Rattle.section_text.proofs.NamesAt.{goes_on, stops, is_done}
 use Rattle.section_text.proofs.WordsLeft.{name_by_word, no_name_at, one_further}
 use Rattle.section_text.proofs.words.take_names.Goals as goal
@@ -20,9 +20,6 @@ returns-in_err-of-clause-names c = let ws = words_of_rest (option_copied c.args.
     ∙ c.loop-i.invariant.rest) ∙ sym c.of.ensures ∙ c.in_err-of.was) c.loop-i.invariant.so_far in
     rw c.from_residual-in_err-of.ensures (sym none)
 
-pub push-requires : goal.push-requires
-push-requires c = omega (arith, c.loop-i.invariant.as_many)
-
 pub loop-i-preserved : goal.loop-i-preserved
 loop-i-preserved c = grind (arith, common_steps, goes_on, name_by_word, one_further, length_push)
 
@@ -30,6 +27,3 @@ pub returns-clause-names : goal.returns-clause-names
 returns-clause-names c = let ws = words_of_rest (option_copied c.args.left) in
     sym (is_done ws c.loop-i.names 0 c.args.count c.loop-i.i (names_at ws 0 c.args.count)
     (omega arith) c.loop-i.invariant.so_far)
-
-pub returns-clause-left : goal.returns-clause-left
-returns-clause-left c = grind (arith, common_steps)

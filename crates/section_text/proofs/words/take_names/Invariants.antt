@@ -1,5 +1,4 @@
-use Rattle.lemmas.proofs.Common.{◌+◌, ◌-◌, ◌≡◌, drop, length, option_copied}
-use Rattle.section_text.specs.Words.{words_of_rest, names_at}
+use Rattle.section_text.proofs.Imports.{drop, length, names_at, option_copied, words_of_rest, ◌+◌, ◌-◌, ◌≡◌}
 use Rattle.section_text.proofs.NamesAt.{with_front}
 use Rattle.section_text.proofs.words.take_names.Given as goal
 

@@ -1,4 +1,4 @@
-use Rattle.lemmas.proofs.Common.{arith, common_steps}
+use Rattle.section_text.proofs.Imports.{arith, common_steps}
 use Rattle.section_text.proofs.WordsLeft.{no_word_at, word_at}
 use Rattle.section_text.proofs.words.word_in.Goals as goal
 

@@ -1,4 +1,4 @@
-use Rattle.lemmas.proofs.Common.{arith, common_steps}
+use Rattle.section_text.proofs.Imports.{arith, common_steps}
 use Rattle.section_text.proofs.WordsLeft.{none_further, one_further}
 use Rattle.section_text.proofs.words.words_from.Goals as goal
 
@@ -7,6 +7,3 @@ returns-in_default c = grind (arith, common_steps, none_further)
 
 pub loop-i-preserved : goal.loop-i-preserved
 loop-i-preserved c = grind (arith, common_steps, one_further)
-
-pub returns : goal.returns
-returns c = grind (arith, common_steps)

@@ -1,5 +1,4 @@
-use Rattle.lemmas.proofs.Common.{◌≡◌, drop}
-use Rattle.section_text.specs.Words.{words_of}
+use Rattle.section_text.proofs.Imports.{drop, words_of, ◌≡◌}
 use Rattle.section_text.proofs.words.words_from.Given as goal
 
 abbrev pub invariant-loop-i : goal.invariant-loop-i

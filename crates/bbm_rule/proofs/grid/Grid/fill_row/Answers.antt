@@ -1,4 +1,4 @@
-use Rattle.lemmas.proofs.Common.{◌*◌, ◌≡◌, ap, arith, length, with_items, with_items_is}
+use Rattle.bbm_rule.proofs.Imports.{ap, arith, length, with_items, with_items_is, ◌*◌, ◌≡◌}
 use Rattle.bbm_rule.proofs.BandLemmas.{even_fill, odd_fill}
 use Rattle.bbm_rule.proofs.GridLemmas.{plane_of, fill_plane, filled_cells, grid_of, board_of_words}
 use Rattle.bbm_rule.proofs.grid.Grid.fill_row.Goals as goal

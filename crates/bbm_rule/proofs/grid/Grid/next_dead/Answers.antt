@@ -1,11 +1,11 @@
-use Rattle.lemmas.proofs.Common.{◌*◌, false, true}
+use Rattle.bbm_rule.proofs.Imports.{false, true, ◌*◌}
 use Rattle.bbm_rule.proofs.GridLemmas.{same_before, same_there}
 use Rattle.bbm_rule.proofs.grid.Grid.next_dead.Goals as goal
 
 pub returns-clause-live : goal.returns-clause-live
 returns-clause-live c =
     let g = c.self.inside in
-    let passed = rw c.deref.ensures.value at c.next_unmarked-place.ensures.passed in
+    let passed = rw c.deref.ensures.value at c.next_unmarked-place.ensures.passed_marked in
     same_before g.width g.height (64 * g.stride) g.words.items c.args.self.now c.args.y c.args.from c.args.end
     c.next_unmarked-place.result true c.self.view_is (rw (← c.self.view_is) at c.requires.row)
     (rw (← c.self.view_is) at c.requires.columns.1) c.next_unmarked-place.ensures.range.1 passed

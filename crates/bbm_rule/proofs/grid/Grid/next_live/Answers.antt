@@ -1,11 +1,11 @@
-use Rattle.lemmas.proofs.Common.{◌*◌, false, true}
+use Rattle.bbm_rule.proofs.Imports.{false, true, ◌*◌}
 use Rattle.bbm_rule.proofs.GridLemmas.{same_before, same_there}
 use Rattle.bbm_rule.proofs.grid.Grid.next_live.Goals as goal
 
 pub returns-clause-dead : goal.returns-clause-dead
 returns-clause-dead c =
     let g = c.self.inside in
-    let passed = rw c.deref.ensures.value at c.next_marked-place.ensures.passed in
+    let passed = rw c.deref.ensures.value at c.next_marked-place.ensures.passed_unmarked in
     same_before g.width g.height (64 * g.stride) g.words.items c.args.self.now c.args.y c.args.from c.args.end
     c.next_marked-place.result false c.self.view_is (rw (← c.self.view_is) at c.requires.row)
     (rw (← c.self.view_is) at c.requires.columns.1) c.next_marked-place.ensures.range.1 passed

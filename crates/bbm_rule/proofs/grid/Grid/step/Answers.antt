@@ -1,5 +1,5 @@
-use Rattle.lemmas.proofs.Common.{◌%◌, ◌*◌, ◌+◌, ◌-◌, ◌/◌, ◌≡◌, ap, arith, length, common_steps, with_items}
-use Rattle.lemmas.proofs.Common.{with_items_is}
+use Rattle.bbm_rule.proofs.Imports.{ap, arith, common_steps, length, with_items, with_items_is, ◌%◌, ◌*◌, ◌+◌, ◌-◌, ◌/◌}
+use Rattle.bbm_rule.proofs.Imports.{◌≡◌}
 use Rattle.bbm_rule.proofs.GridLemmas.{plane_of, grid_of, board_of_words, margin_kept, aligned_room, shifted_room}
 use Rattle.bbm_rule.proofs.BoardLemmas.{even_plane, even_step, odd_plane, odd_step, odd_leaves, undone, board_same}
 use Rattle.bbm_rule.proofs.BoardLemmas.{plane_same}

@@ -1,6 +1,6 @@
-use Rattle.lemmas.proofs.Common.{◌∙◌, ◌≡◌, IfSome, None, Option, SFits, Some, ap, of_z, rules, to_z, to_z-of_z, w32, ℕ}
-use Rattle.module_box.specs.declared.boxes.Box2.{Box2}
-use Rattle.module_job.specs.Shapes.{ShapeView, shift_to_origin}
+use Rattle.border_match.proofs.Imports.{Box2, IfSome, None, Option, ShapeView, Some, ap, rules, shift_to_origin, ℕ, ◌∙◌}
+use Rattle.border_match.proofs.Imports.{◌≡◌}
+use Rattle.lemmas.proofs.Common.{SFits, of_z, to_z, to_z-of_z, w32}
 use Rattle.border_match.proofs.Marks.{local_place}
 use Rattle.border_match.proofs.borders.Borders.halo_event_place.Goals as goal
 

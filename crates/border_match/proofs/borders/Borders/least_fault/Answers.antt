@@ -1,5 +1,4 @@
-use Rattle.lemmas.proofs.Common.{◌∙◌, arith, subst, sym, common_steps}
-use Rattle.border_match.specs.Boards.{AreMarked}
+use Rattle.border_match.proofs.Imports.{AreHaloMarks, arith, common_steps, subst, sym, ◌∙◌}
 use Rattle.border_match.proofs.Least.{least_by_three}
 use Rattle.border_match.proofs.Marks.{fault_unmarked, unmarked_first, written_back}
 use Rattle.border_match.proofs.borders.Borders.least_fault.Goals as goal
@@ -18,4 +17,4 @@ returns c =
     (c.in_ok-seen.ensures.len ∙ c.halo_events.ensures ∙ sym marked.sized) c.deref-2.ensures.value in
     least_by_three _ _ _ _ _ _ _ c.with_edges-by_edges.ensures.better c.with_halo_events-by_halo.ensures
     c.with_star_faults.ensures
-    (λ h f. fault_unmarked b c.deref-2.result.now h c.requires.ready (subst (AreMarked b) back marked) f)
+    (λ h f. fault_unmarked b c.deref-2.result.now h c.requires.ready (subst (AreHaloMarks b) back marked) f)

@@ -1,6 +1,5 @@
 -- Each turn notes the rows down to the end of a module's box.
-use Rattle.lemmas.proofs.Common.{ap, arith, common_steps}
-use Rattle.module_box.specs.declared.boxes.Box2.{Box2}
+use Rattle.border_match.proofs.Imports.{Box2, ap, arith, common_steps}
 use Rattle.border_match.proofs.NearModules.{all_rows, no_row, rows_more}
 use Rattle.border_match.proofs.borders.Borders.near_modules.Goals as goal
 

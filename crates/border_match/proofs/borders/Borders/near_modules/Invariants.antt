@@ -1,6 +1,5 @@
 -- The cells of the rows so far are noted.
-use Rattle.lemmas.proofs.Common.{◌-◌}
-use Rattle.border_match.specs.Boards.{AreModuleNumbers, AreOwnersListedInRows}
+use Rattle.border_match.proofs.Imports.{AreModuleNumbers, AreOwnersListedInRows, ◌-◌}
 use Rattle.border_match.proofs.borders.Borders.near_modules.Given as goal
 
 abbrev pub invariant-rows : goal.invariant-rows

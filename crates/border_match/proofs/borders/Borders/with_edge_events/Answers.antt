@@ -1,17 +1,8 @@
-use Rattle.lemmas.proofs.Common.{◌+◌, ◌∙◌, ◌≡◌, List, Some, ap, arith, pos, slice_get, subst, sym, ℕ, ints}
-use Rattle.module_box.specs.Moments.{moment_cmp}
-use Rattle.module_box.specs.Schedules.{IsRising, Signals, moment_of}
-use Rattle.module_box.specs.Tiling.{owner_of}
-use Rattle.module_box.specs.declared.boxes.Box2.{Box2}
-use Rattle.module_box.specs.declared.schedules.TimedSignal.{TimedSignal}
-use Rattle.module_job.specs.Jobs.{JobView}
-use Rattle.module_job.specs.Shapes.{ShapeView, shape_of, shift_to_origin}
-use Rattle.border_match.specs.Boards.{AreReadyBorders, IsFaultOfSearchedJob, IsNamedBelow, jobs_of}
-use Rattle.border_match.specs.Candidates.{HasCandidateAtMost}
-use Rattle.border_match.specs.Surroundings.{AreEventsFar, IsExtent, IsWindow}
-use Rattle.border_match.specs.declared.borders.Borders.{Borders}
-use Rattle.border_match.specs.declared.fault.BorderFault.{BorderFault}
-use Rattle.border_match.specs.declared.window.Window.{Window}
+use Rattle.border_match.proofs.Imports.{AreEventsFar, AreReadyBorders, BorderFault, Borders, Box2, HasCandidateAtMost}
+use Rattle.border_match.proofs.Imports.{IsAtSomeEventBelow, IsExtent, IsFaultOfSearchedJob, IsRising, IsWindowAround}
+use Rattle.border_match.proofs.Imports.{JobView, List, ShapeView, Signals, Some, TimedSignal, Window, ap, arith, ints}
+use Rattle.border_match.proofs.Imports.{jobs_of, moment_cmp, moment_of, owner_of, pos, shape_of, shift_to_origin}
+use Rattle.border_match.proofs.Imports.{slice_get, subst, sym, ℕ, ◌+◌, ◌∙◌, ◌≡◌}
 use Rattle.border_match.proofs.EventSignals.{events_unmoved}
 use Rattle.border_match.proofs.Least.{better_for, better_rest, better_same, better_then}
 use Rattle.border_match.proofs.Steps.{cornered, cornered_all, far_step, named_step, named_all, rest_covered, same_fault}
@@ -19,9 +10,10 @@ use Rattle.border_match.proofs.borders.Borders.with_edge_events.Goals as goal
 
 -- the events that the search passes over are no faults
 passed : (b : Borders) (other : JobView) (a corner : Box2) (w : Window) (es : List TimedSignal) (s : Signals)
-    (sv : ShapeView) (i next : ℕ) (f : BorderFault) → a ≡ b.job.now.area → corner ≡ other.area → IsWindow a corner w →
+    (sv : ShapeView) (i next : ℕ) (f : BorderFault) → a ≡ b.job.now.area → corner ≡ other.area →
+    IsWindowAround a corner w →
     es ≡ s.events → s ≡ sv.edges → sv ≡ shape_of other → AreEventsFar w es i next → IsFaultOfSearchedJob b f →
-    IsNamedBelow next other.edges.events f → IsNamedBelow i other.edges.events f
+    IsAtSomeEventBelow next other.edges.events f → IsAtSomeEventBelow i other.edges.events f
 passed b other a corner w es s sv i next f ea ec is same are shape far g h =
     far_step b other a corner w es i next f ea ec is
     (cornered other es s same (are ∙ ap (λ (s : ShapeView). s.edges) shape)) far g h
@@ -81,7 +73,7 @@ returns-then-not-is_less c =
     events_unmoved (shift_to_origin other.area.x) (shift_to_origin other.area.y) (pos other.area.x) (pos other.area.y)
     other.edges (omega (arith, ints)) (omega (arith, ints)) (subst R are c.events-events.ensures.rising) in
     let covered = subst (HasCandidateAtMost c.events.least)
-    (same_fault _ _ c.fault_at.result c.fault_at.ensures.time c.fault_at.ensures.cell)
+    (same_fault _ _ c.possible_fault_at.result c.possible_fault_at.ensures.time c.possible_fault_at.ensures.cell)
     (c.is_less.ensures c.if-not-is_less.true) in
     let better = better_rest _ _ _ _ _ c.events.invariant.better (λ h r. rest_covered other.edges.events c.events.place
     c.edge_event-event.result c.events.least h rising c.edge_event-event.ensures covered r) in

@@ -1,5 +1,4 @@
-use Rattle.lemmas.proofs.Common.{◌≡◌, Some, arith, slice_get, arc_value, length-map, slice_get-get_or}
-use Rattle.border_match.specs.Boards.{jobs_of}
+use Rattle.border_match.proofs.Imports.{Some, arc_value, arith, jobs_of, length-map, slice_get, slice_get-get_or, ◌≡◌}
 use Rattle.border_match.proofs.Cells.{job_at}
 use Rattle.border_match.proofs.Least.{better_for}
 use Rattle.border_match.proofs.Steps.{edges_named}

@@ -1,4 +1,4 @@
-use Rattle.lemmas.proofs.Common.{arith, common_steps}
+use Rattle.border_match.proofs.Imports.{arith, common_steps}
 use Rattle.border_match.proofs.Least.{better_same, better_with}
 use Rattle.border_match.proofs.Steps.{first_is_least, no_fault_step, not_before, not_true}
 use Rattle.border_match.proofs.borders.Borders.with_first_fault_of.Goals as goal

@@ -1,6 +1,4 @@
-use Rattle.lemmas.proofs.Common.{◌<◌, ◌≡◌}
-use Rattle.border_match.specs.Boards.{IsFaultOfSearchedJob}
-use Rattle.border_match.specs.declared.fault.BorderFault.{BorderFault}
+use Rattle.border_match.proofs.Imports.{BorderFault, IsFaultOfSearchedJob, ◌<◌, ◌≡◌}
 use Rattle.border_match.proofs.borders.Borders.with_first_fault_of.Given as goal
 
 -- The cell has no fault before.

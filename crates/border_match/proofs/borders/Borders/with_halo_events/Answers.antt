@@ -1,4 +1,4 @@
-use Rattle.lemmas.proofs.Common.{arith, common_steps, slice_get-get_or}
+use Rattle.border_match.proofs.Imports.{arith, common_steps, slice_get-get_or}
 use Rattle.border_match.proofs.Least.{better_then, better_for}
 use Rattle.border_match.proofs.Marks.{event_step, unmarked_all, unmarked_step}
 use Rattle.border_match.proofs.borders.Borders.with_halo_events.Goals as goal

@@ -1,4 +1,4 @@
-use Rattle.lemmas.proofs.Common.{arith, get_or, refl, arc_value, common_steps}
+use Rattle.border_match.proofs.Imports.{arc_value, arith, common_steps, get_or, refl}
 use Rattle.border_match.proofs.Cells.{job_at}
 use Rattle.border_match.proofs.Least.{better_then, better_for}
 use Rattle.border_match.proofs.Stars.{modules_step, no_module, star_covered}

@@ -1,4 +1,4 @@
-use Rattle.border_match.specs.Boards.{job_signals}
+use Rattle.border_match.proofs.Imports.{job_signals}
 use Rattle.border_match.proofs.Least.{better_for}
 use Rattle.border_match.proofs.Stars.{stars_of, starred_back}
 use Rattle.border_match.proofs.borders.Borders.with_stars_of.Goals as goal

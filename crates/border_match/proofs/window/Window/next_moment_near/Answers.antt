@@ -1,5 +1,5 @@
 -- In each case no moment in between is at a cell of the window.
-use Rattle.lemmas.proofs.Common.{arith, rules, ints}
+use Rattle.border_match.proofs.Imports.{arith, ints, rules}
 use Rattle.border_match.proofs.FarEvents.{above_rows, before_columns, behind_columns, behind_rows, below_rows}
 use Rattle.border_match.proofs.window.Window.next_moment_near.Goals as goal
 

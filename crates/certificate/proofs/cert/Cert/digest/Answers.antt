@@ -1,5 +1,5 @@
 -- What was hashed is the certificate's text.
-use Rattle.lemmas.proofs.Common.{arith, common_steps}
+use Rattle.certificate.proofs.Imports.{arith, common_steps}
 use Rattle.certificate.proofs.HashedLines.{text_told}
 use Rattle.certificate.proofs.cert.Cert.digest.Goals as goal
 

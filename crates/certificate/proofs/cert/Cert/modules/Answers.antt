@@ -1,8 +1,5 @@
-use Rattle.lemmas.proofs.Common.{subst}
-use Rattle.certificate_lines.specs.Entries.{modules_of}
-use Rattle.certificate.specs.Grammars.{CertView, modules_in}
-use Rattle.certificate_lines.specs.Settings.{setting_of}
-use Rattle.certificate_lines.specs.Modules.{AreModules}
+use Rattle.certificate.proofs.Imports.{AreModules, CertView, modules_of, setting_of, subst}
+use Rattle.certificate.specs.Grammars.{modules_in}
 use Rattle.certificate.proofs.FullModules.{meant_modules}
 use Rattle.certificate.proofs.cert.Cert.modules.Goals as goal
 

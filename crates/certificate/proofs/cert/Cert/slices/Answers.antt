@@ -1,5 +1,4 @@
-use Rattle.lemmas.proofs.Common.{◌∙◌, ap, IfOk-weaker}
-use Rattle.certificate_lines.specs.Entries.{modules_of}
+use Rattle.certificate.proofs.Imports.{IfOk-weaker, ap, modules_of, ◌∙◌}
 use Rattle.certificate.proofs.SliceLemmas.{are_in_order}
 use Rattle.certificate.proofs.cert.Cert.slices.Goals as goal
 

@@ -1,12 +1,6 @@
-use Rattle.lemmas.proofs.Common.{◌∙◌, ◌≡◌, List, Some, ap, arith, length, slice_get, sym, common_steps}
-use Rattle.circuit.specs.Bridge.{netlist_of}
-use Rattle.circuit.specs.Gates.{is_inverse}
-use Rattle.circuit.specs.Meaning.{Gate}
-use Rattle.circuit.specs.Wiring.{gate_of}
-use Rattle.circuit.specs.declared.circuit_line.CircuitLine.{CircuitLine}
-use Rattle.certificate_lines.specs.Entries.{modules_of}
-use Rattle.certificate_lines.specs.Settings.{setting_of}
-use Rattle.certificate.specs.Keeps.{is_kept, unkept}
+use Rattle.certificate.proofs.Imports.{CircuitLine, Gate, List, Some, ap, arith, common_steps, gate_of, is_inverse}
+use Rattle.certificate.proofs.Imports.{is_kept, length, modules_of, netlist_of, setting_of, slice_get, sym, unkept, ◌∙◌}
+use Rattle.certificate.proofs.Imports.{◌≡◌}
 use Rattle.certificate.proofs.KeepLemmas.{unkept_more, unkept_all}
 use Rattle.certificate.proofs.MeantLines.{unkept_meant}
 use Rattle.certificate.proofs.cert.Cert.unkept.Goals as goal

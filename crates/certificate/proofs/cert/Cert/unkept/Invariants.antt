@@ -1,7 +1,4 @@
-use Rattle.lemmas.proofs.Common.{◌++◌, ◌≡◌, drop}
-use Rattle.certificate_lines.specs.Entries.{modules_of}
-use Rattle.certificate_lines.specs.Settings.{setting_of}
-use Rattle.certificate.specs.Keeps.{unkept, unkept_from}
+use Rattle.certificate.proofs.Imports.{drop, modules_of, setting_of, unkept, unkept_from, ◌++◌, ◌≡◌}
 use Rattle.certificate.proofs.cert.Cert.unkept.Given as goal
 
 abbrev pub invariant-gates : goal.invariant-gates

@@ -1,7 +1,5 @@
 -- The cells of the mirrors so far are in the lists.
-use Rattle.lemmas.proofs.Common.{◌++◌, ◌≡◌, replicate}
-use Rattle.module_box.specs.declared.schedules.Signal.TheVariants.{One}
-use Rattle.module_job.specs.declared.job.Demand.TheVariants.{Live}
+use Rattle.certificate.proofs.Imports.{Live, One, replicate, ◌++◌, ◌≡◌}
 use Rattle.certificate.proofs.layout_tables.CellLists.push_mirrors.Given as goal
 
 abbrev pub invariant-mirrors : goal.invariant-mirrors

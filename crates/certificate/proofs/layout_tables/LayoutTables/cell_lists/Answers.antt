@@ -1,16 +1,9 @@
-use Rattle.lemmas.proofs.Common.{◌-◌, ◌∙◌, ◌≡◌, ap, arith, map, ℕ, common_steps, range_with_len}
+use Rattle.certificate.proofs.Imports.{Box2, Cell, Dead, ap, arith, circuit_of, circuit_wire, common_steps, end_demand}
+use Rattle.certificate.proofs.Imports.{map, range_with_len, rectangle_cells, renumber_demand, row_cells, ℕ, ◌-◌, ◌∙◌}
+use Rattle.certificate.proofs.Imports.{◌≡◌}
 use Rattle.std.specs.List.{flat_map}
-use Rattle.bbm_rule.specs.declared.block.Cell.{Cell}
-use Rattle.circuit.specs.Bridge.{circuit_of}
-use Rattle.pattern.specs.Layout.{row_cells, rectangle_cells}
-use Rattle.module_box.specs.Locals.{circuit_wire}
-use Rattle.module_box.specs.declared.boxes.Box2.{Box2}
-use Rattle.certificate.specs.Jobs.{end_demand}
-use Rattle.certificate_lines.specs.Rules.{box_cells}
-use Rattle.module_job.specs.Signals.{renumber_demand}
-use Rattle.module_job.specs.declared.job.Demand.TheVariants.{Dead}
-use Rattle.certificate.proofs.CellRows.{grow_row}
 use Rattle.certificate_lines.proofs.BoxPlaces.{found_at, same_count}
+use Rattle.certificate.proofs.CellRows.{grow_row}
 use Rattle.certificate.proofs.layout_tables.LayoutTables.cell_lists.Goals as goal
 
 pub rows-preserved : goal.rows-preserved
@@ -18,7 +11,7 @@ rows-preserved c = grind (arith, common_steps, grow_row)
 
 -- all rows are those of the box
 all_rows : {B : Type 0} (f : Cell → B) (b : Box2) (n : ℕ) → n ≡ b.h →
-    map f (flat_map (row_cells b.x b.w) (range_with_len b.y n)) ≡ map f (box_cells b)
+    map f (flat_map (row_cells b.x b.w) (range_with_len b.y n)) ≡ map f (rectangle_cells b)
 unfolding rectangle_cells
 all_rows f b n all = ap (λ (k : ℕ). map f (flat_map (row_cells b.x b.w) (range_with_len b.y k))) all
 

@@ -1,12 +1,8 @@
 -- What the cells of the rows so far carry and must be.
-use Rattle.lemmas.proofs.Common.{◌-◌, ◌≡◌, map, range_with_len}
+use Rattle.certificate.proofs.Imports.{IsDemandWireBelow, IsSignalWireBelow, circuit_of, circuit_wire, end_demand, map}
+use Rattle.certificate.proofs.Imports.{range_with_len, renumber_demand, renumber_signal, row_cells, start_signal, wires}
+use Rattle.certificate.proofs.Imports.{◌-◌, ◌≡◌}
 use Rattle.std.specs.List.{All, flat_map}
-use Rattle.circuit.specs.Bridge.{circuit_of}
-use Rattle.circuit.specs.Meaning.{wires}
-use Rattle.module_box.specs.Locals.{circuit_wire}
-use Rattle.pattern.specs.Layout.{row_cells}
-use Rattle.certificate.specs.Jobs.{end_demand, start_signal}
-use Rattle.module_job.specs.Signals.{IsSignalWireBelow, IsDemandWireBelow, renumber_demand, renumber_signal}
 use Rattle.certificate.proofs.layout_tables.LayoutTables.cell_lists.Given as goal
 
 abbrev pub invariant-rows : goal.invariant-rows

@@ -1,9 +1,5 @@
-use Rattle.lemmas.proofs.Common.{◌-◌, ◌≡◌, ◌≤◌, arith, subst, ℕ, common_steps}
-use Rattle.circuit.specs.Bridge.{circuit_of}
-use Rattle.pattern.specs.Layout.{row_cells}
-use Rattle.module_box.specs.declared.schedules.Signal.TheVariants.{One, Zero}
-use Rattle.module_job.specs.declared.job.Demand.TheVariants.{Dead, Live}
-use Rattle.certificate.specs.LayoutTablesView.{AddsCells}
+use Rattle.certificate.proofs.Imports.{AddsCells, Dead, Live, One, Zero, arith, circuit_of, common_steps, row_cells}
+use Rattle.certificate.proofs.Imports.{subst, ℕ, ◌-◌, ◌≡◌, ◌≤◌}
 use Rattle.certificate.proofs.CellRows.{add_cell, add_none, add_same, cast_inside}
 use Rattle.certificate.proofs.layout_tables.LayoutTables.push_row.Goals as goal
 
@@ -13,14 +9,14 @@ cells-init c = grind (arith, common_steps, add_none)
 pub returns-then-named-end : goal.returns-then-named-end
 returns-then-named-end c =
     let circuit = circuit_of c.args.self.now.circuit in
-    let all : c.next_named_column-named.result - c.args.area.x ≡ c.args.area.w = omega (arith, c.if-named-end.true) in
+    let all : c.next_occupied-named.result - c.args.area.x ≡ c.args.area.w = omega (arith, c.if-named-end.true) in
     subst (λ (n : ℕ). AddsCells circuit c.args.self.now.layout c.args.locals.now (row_cells c.args.area.x n c.args.y)
     c.args.lists.now c.push_dead.new.self) all
     (add_same circuit c.args.self.now.layout c.args.locals.now c.args.lists.now c.cells.lists c.push_dead.new.self
     c.args.area.x c.cells.x c.args.y c.cells.invariant.from c.cells.invariant.added Zero Dead
-    c.next_named_column-named.result c.next_named_column-named.ensures.range.0 c.in_ok-push_dead.ensures.starts
-    c.in_ok-push_dead.ensures.demands c.next_named_column-named.ensures.starts
-    c.next_named_column-named.ensures.demands tt tt)
+    c.next_occupied-named.result c.next_occupied-named.ensures.range.0 c.in_ok-push_dead.ensures.starts
+    c.in_ok-push_dead.ensures.demands c.next_occupied-named.ensures.starts
+    c.next_occupied-named.ensures.demands tt tt)
 
 pub start_at-requires : goal.start_at-requires
 start_at-requires c = grind (arith, common_steps, cast_inside)
@@ -31,45 +27,46 @@ demand_at-requires c = grind (arith, common_steps, cast_inside)
 pub cells-preserved : goal.cells-preserved
 cells-preserved c =
     let circuit = circuit_of c.args.self.now.circuit in
-    let named = c.next_named_column-named.result in
+    let named = c.next_occupied-named.result in
     let dead = add_same circuit c.args.self.now.layout c.args.locals.now c.args.lists.now c.cells.lists
     c.push_dead.new.self c.args.area.x c.cells.x c.args.y c.cells.invariant.from c.cells.invariant.added Zero Dead named
-    c.next_named_column-named.ensures.range.0 c.in_ok-push_dead.ensures.starts c.in_ok-push_dead.ensures.demands
-    c.next_named_column-named.ensures.starts c.next_named_column-named.ensures.demands tt tt in
+    c.next_occupied-named.ensures.range.0 c.in_ok-push_dead.ensures.starts c.in_ok-push_dead.ensures.demands
+    c.next_occupied-named.ensures.starts c.next_occupied-named.ensures.demands tt tt in
     record {
       from =
-          omega (arith, c.cells.invariant.from, c.next_named_column-named.ensures.range, c.mirrors_end-x.ensures.range);
-      most = c.mirrors_end-x.ensures.range.1;
+          omega (arith, c.cells.invariant.from, c.next_occupied-named.ensures.range, c.next_nonmirror-x.ensures.range);
+      most = c.next_nonmirror-x.ensures.range.1;
       added = add_same circuit c.args.self.now.layout c.args.locals.now c.args.lists.now c.push_dead.new.self
           c.push_mirrors.new.self c.args.area.x named c.args.y
-          (omega (arith, c.cells.invariant.from, c.next_named_column-named.ensures.range)) dead One Live
-          c.mirrors_end-x.result c.mirrors_end-x.ensures.range.0 c.in_ok-push_mirrors.ensures.starts
-          c.in_ok-push_mirrors.ensures.demands c.mirrors_end-x.ensures.starts c.mirrors_end-x.ensures.demands tt tt;
+          (omega (arith, c.cells.invariant.from, c.next_occupied-named.ensures.range)) dead One Live
+          c.next_nonmirror-x.result c.next_nonmirror-x.ensures.range.0 c.in_ok-push_mirrors.ensures.starts
+          c.in_ok-push_mirrors.ensures.demands c.next_nonmirror-x.ensures.starts c.next_nonmirror-x.ensures.demands tt
+          tt;
     }
 
 pub cells-preserved-then-x-named : goal.cells-preserved-then-x-named
 cells-preserved-then-x-named c =
     let circuit = circuit_of c.args.self.now.circuit in
-    let named = c.next_named_column-named.result in
+    let named = c.next_occupied-named.result in
     let from : c.args.area.x ≤ named =
-    omega (arith, c.cells.invariant.from, c.next_named_column-named.ensures.range) in
+    omega (arith, c.cells.invariant.from, c.next_occupied-named.ensures.range) in
     let dead = add_same circuit c.args.self.now.layout c.args.locals.now c.args.lists.now c.cells.lists
     c.push_dead.new.self c.args.area.x c.cells.x c.args.y c.cells.invariant.from c.cells.invariant.added Zero Dead named
-    c.next_named_column-named.ensures.range.0 c.in_ok-push_dead.ensures.starts c.in_ok-push_dead.ensures.demands
-    c.next_named_column-named.ensures.starts c.next_named_column-named.ensures.demands tt tt in
+    c.next_occupied-named.ensures.range.0 c.in_ok-push_dead.ensures.starts c.in_ok-push_dead.ensures.demands
+    c.next_occupied-named.ensures.starts c.next_occupied-named.ensures.demands tt tt in
     let mirrors = add_same circuit c.args.self.now.layout c.args.locals.now c.args.lists.now c.push_dead.new.self
-    c.push_mirrors.new.self c.args.area.x named c.args.y from dead One Live c.mirrors_end-x.result
-    c.mirrors_end-x.ensures.range.0 c.in_ok-push_mirrors.ensures.starts c.in_ok-push_mirrors.ensures.demands
-    c.mirrors_end-x.ensures.starts c.mirrors_end-x.ensures.demands tt tt in
+    c.push_mirrors.new.self c.args.area.x named c.args.y from dead One Live c.next_nonmirror-x.result
+    c.next_nonmirror-x.ensures.range.0 c.in_ok-push_mirrors.ensures.starts c.in_ok-push_mirrors.ensures.demands
+    c.next_nonmirror-x.ensures.starts c.next_nonmirror-x.ensures.demands tt tt in
     let before = subst (λ (n : ℕ). AddsCells circuit c.args.self.now.layout c.args.locals.now
     (row_cells c.args.area.x (n - c.args.area.x) c.args.y) c.args.lists.now c.push_mirrors.new.self)
     c.if-x-named.true mirrors in
     record {
       from = omega (arith, from);
-      most = omega (arith, c.next_named_column-named.ensures.range, c.if-named-end.false);
+      most = omega (arith, c.next_occupied-named.ensures.range, c.if-named-end.false);
       added = add_cell circuit c.args.self.now.layout c.args.locals.now c.args.lists.now c.push_mirrors.new.self
           c.push.new.self c.args.area.x named c.args.y from before c.start_at.result c.demand_at.result
-          (omega (arith, c.next_named_column-named.ensures.range, c.requires.columns, c.if-named-end.false))
+          (omega (arith, c.next_occupied-named.ensures.range, c.requires.columns, c.if-named-end.false))
           c.requires.row.2 c.in_ok-push.ensures.starts c.in_ok-push.ensures.demands c.start_at.ensures.same_signal
           c.start_at.ensures.below c.demand_at.ensures.same_demand c.demand_at.ensures.below;
     }

@@ -1,8 +1,5 @@
 -- The cells of the row so far are in the lists.
-use Rattle.lemmas.proofs.Common.{◌-◌, ◌≤◌}
-use Rattle.circuit.specs.Bridge.{circuit_of}
-use Rattle.pattern.specs.Layout.{row_cells}
-use Rattle.certificate.specs.LayoutTablesView.{AddsCells}
+use Rattle.certificate.proofs.Imports.{AddsCells, circuit_of, row_cells, ◌-◌, ◌≤◌}
 use Rattle.certificate.proofs.layout_tables.LayoutTables.push_row.Given as goal
 
 abbrev pub invariant-cells : goal.invariant-cells

@@ -1,4 +1,4 @@
-use Rattle.lemmas.proofs.Common.{arith, common_steps}
+use Rattle.certificate_lines.proofs.Imports.{arith, common_steps}
 use Rattle.certificate_lines.proofs.BuiltLemmas.{near_by}
 use Rattle.certificate_lines.proofs.builder.Builder.box_code.Goals as goal
 

@@ -1,8 +1,5 @@
-use Rattle.lemmas.proofs.Common.{◌∙◌, IsTrue, arith, flat_map, sym, common_steps, take_all}
-use Rattle.module_box.specs.Boxes.{in_box}
-use Rattle.certificate_lines.specs.Entries.{edge_in, modules_of}
-use Rattle.certificate_lines.specs.Rules.{whole}
-use Rattle.certificate_lines.specs.declared.certificate_line.BorderLine.{BorderLine}
+use Rattle.certificate_lines.proofs.Imports.{BorderLine, IsTrue, arith, common_steps, edge_in, flat_map, in_box}
+use Rattle.certificate_lines.proofs.Imports.{modules_of, sym, take_all, whole, ◌∙◌}
 use Rattle.certificate_lines.proofs.AnyLines.{any_here}
 use Rattle.certificate_lines.proofs.FlatParts.{flat_at}
 use Rattle.certificate_lines.proofs.OddBlocks.{lacked_by_lines}

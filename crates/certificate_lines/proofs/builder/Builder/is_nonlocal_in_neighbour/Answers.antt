@@ -1,20 +1,29 @@
-use Rattle.lemmas.proofs.Common.{◌&&◌, ◌||◌, ◌∙◌, ◌≡◌, Bool, SFits, ap, ap₂, arith, rules, to_z-of_z, w32, ℤ}
-use Rattle.lemmas.proofs.Common.{common_steps, list_any}
-use Rattle.bbm_rule.specs.Plane.{partner}
-use Rattle.module_box.specs.Boxes.{in_box}
-use Rattle.certificate_lines.specs.BuilderView.{is_outside_and_nonlocal}
-use Rattle.certificate_lines.specs.Entries.{ModuleLines, modules_of}
+use Rattle.certificate_lines.proofs.Imports.{Bool, BuilderView, LayoutHeader, ModuleLines, SFits, ap, ap₂, arith}
+use Rattle.certificate_lines.proofs.Imports.{common_steps, in_box, is_outside_and_nonlocal, list_any, modules_of}
+use Rattle.certificate_lines.proofs.Imports.{partner, rules, size_sides, subst, sym, to_z-of_z, true, w32, whole, ℤ}
+use Rattle.certificate_lines.proofs.Imports.{◌&&◌, ◌||◌, ◌∙◌, ◌≡◌}
+use Rattle.certificate_lines.proofs.ModuleBoxes.{EvenBoxes, even_boxes}
 use Rattle.certificate_lines.proofs.OddBlocks.{lacked_beside, low_cell}
 use Rattle.certificate_lines.proofs.builder.Builder.is_nonlocal_in_neighbour.Goals as goal
 
 pub odd_partner-column-requires : goal.odd_partner-column-requires
-odd_partner-column-requires c = grind (arith, common_steps, low_cell)
+odd_partner-column-requires c =
+    let sides = size_sides c.size-size.result c.size-size.ensures.limits in
+    let same = c.size-size.ensures.size ∙ ap (λ (s : BuilderView). s.setting.size) c.self.view_is in
+    let low = low_cell c.size-size.result.w c.size-size.result.h c.args.cell.x c.args.cell.y sides.0.most sides.1.most
+    (subst (λ (s : LayoutHeader). in_box (whole s) c.args.cell.x c.args.cell.y ≡ true) (sym same) c.requires.inside) in
+    grind (arith, common_steps)
 
 pub odd_partner-row-requires : goal.odd_partner-row-requires
-odd_partner-row-requires c = grind (arith, common_steps, low_cell)
+odd_partner-row-requires c =
+    let sides = size_sides c.size-size.result c.size-size.ensures.limits in
+    let same = c.size-size.ensures.size ∙ ap (λ (s : BuilderView). s.setting.size) c.self.view_is in
+    let low = low_cell c.size-size.result.w c.size-size.result.h c.args.cell.x c.args.cell.y sides.0.most sides.1.most
+    (subst (λ (s : LayoutHeader). in_box (whole s) c.args.cell.x c.args.cell.y ≡ true) (sym same) c.requires.inside) in
+    grind (arith, common_steps)
 
-pub returns-clause-lacked : goal.returns-clause-lacked
-returns-clause-lacked c =
+pub returns : goal.returns
+returns c =
     let v = c.args.self.now in let cell = c.args.cell in
     let ms = modules_of v.entries in
     let fx : SFits w32 cell.x = search rules in
@@ -27,13 +36,15 @@ returns-clause-lacked c =
     let fc : SFits w32 c.odd_partner-column.result = search rules in
     let fr : SFits w32 c.odd_partner-row.result = search rules in
     let beside : c.is_nonlocal_at_other_owner-beside.result ≡ asks c.odd_partner-column.result cell.y =
-    simp to_z-of_z at c.is_nonlocal_at_other_owner-beside.ensures.lacked in
+    simp to_z-of_z at c.is_nonlocal_at_other_owner-beside.ensures in
     let above : c.is_nonlocal_at_other_owner-above.result ≡ asks cell.x c.odd_partner-row.result =
-    simp to_z-of_z at c.is_nonlocal_at_other_owner-above.ensures.lacked in
+    simp to_z-of_z at c.is_nonlocal_at_other_owner-above.ensures in
     let corner : c.is_nonlocal_at_other_owner-corner.result
     ≡ asks c.odd_partner-column.result c.odd_partner-row.result =
-    simp to_z-of_z at c.is_nonlocal_at_other_owner-corner.ensures.lacked in
+    simp to_z-of_z at c.is_nonlocal_at_other_owner-corner.ensures in
     ap₂ (λ a b. a || b)
     (ap₂ (λ a b. a || b) (beside ∙ ap (λ x. asks x cell.y) px) (above ∙ ap (asks cell.x) py))
     (corner ∙ ap₂ asks px py)
-    ∙ lacked_beside v.setting.circuit ms cell c.args.wire c.requires.owners.even
+    ∙ lacked_beside v.setting.circuit ms cell c.args.wire
+    (subst (λ (s : BuilderView). EvenBoxes (modules_of s.entries)) c.self.view_is
+    (even_boxes c.self.inside.tables (modules_of c.self.inside.entries.items) c.self.invariant.kept.built.sound))

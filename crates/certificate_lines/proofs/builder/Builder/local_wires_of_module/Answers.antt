@@ -1,7 +1,7 @@
-use Rattle.lemmas.proofs.Common.{◌+◌, ◌∙◌, ◌≡◌, Some, ap, arith, length, map, option_map, refl, slice_get, subst}
-use Rattle.lemmas.proofs.Common.{common_steps, length-map, slice_get-map, slice_get_read}
-use Rattle.certificate_lines.specs.BuilderView.{BuilderView}
-use Rattle.certificate_lines.specs.Entries.{known, modules_of}
+use Rattle.certificate_lines.proofs.Imports.{BuilderView, Some, ap, arith, common_steps, known, length, length-map, map}
+use Rattle.certificate_lines.proofs.Imports.{modules_of, option_map, refl, slice_get, slice_get-map, subst, ◌+◌, ◌∙◌}
+use Rattle.certificate_lines.proofs.Imports.{◌≡◌}
+use Rattle.lemmas.proofs.Common.{slice_get_read}
 use Rattle.certificate_lines.proofs.LackedWires.{earlier_wires, last_wires}
 use Rattle.certificate_lines.proofs.builder.Builder.local_wires_of_module.Goals as goal
 

@@ -1,14 +1,9 @@
-use Rattle.lemmas.proofs.Common.{◌∙◌, ◌≡◌, None, Some, ap, not, subst, sym, list_all}
-use Rattle.bbm_rule.specs.Board.{live}
-use Rattle.pattern.proofs.InsideLemmas.{size_sides}
-use Rattle.pattern.specs.declared.layout_line.LayoutHeader.{LayoutHeader}
-use Rattle.module_box.specs.Tiling.{rectangle_of}
-use Rattle.certificate_lines.specs.Entries.{modules_of, areas, last_module}
-use Rattle.certificate_lines.specs.Rules.{box_cells, end_fault, is_last_module_incomplete}
-use Rattle.certificate_lines.specs.BuilderView.{BuilderView}
+use Rattle.certificate_lines.proofs.Imports.{BuilderView, LayoutHeader, None, Some, SomethingMissing, ap, areas}
+use Rattle.certificate_lines.proofs.Imports.{end_fault, is_last_module_incomplete, last_module, list_all, live}
+use Rattle.certificate_lines.proofs.Imports.{modules_of, not, rectangle_cells, rectangle_of, size_sides, subst, sym}
+use Rattle.certificate_lines.proofs.Imports.{◌∙◌, ◌≡◌}
 use Rattle.certificate_lines.proofs.BuiltLemmas.{live_gap, missing_none, missing_some}
 use Rattle.certificate_lines.proofs.builder.Builder.missing.Goals as goal
-use Rattle.section_text.specs.declared.code.RefusalCode.TheVariants.{SomethingMissing}
 
 pub are_all_cells_live-full-requires-clause-small : goal.are_all_cells_live-full-requires-clause-small
 are_all_cells_live-full-requires-clause-small c = let s = size_sides c.size-size.result c.size-size.ensures.limits in
@@ -18,7 +13,8 @@ pub returns-then-lacks-full : goal.returns-then-lacks-full
 returns-then-lacks-full c =
     let es = c.self.inside.entries.items in
     let full = ap not (c.are_all_cells_live-full.ensures
-    ∙ ap (λ (s : LayoutHeader). list_all (λ d. live c.self.inside.covered d.x d.y) (box_cells (rectangle_of s.w s.h)))
+    ∙ ap (λ (s : LayoutHeader). list_all (λ d. live c.self.inside.covered d.x d.y)
+    (rectangle_cells (rectangle_of s.w s.h)))
     c.size-size.ensures.size) in
     let lacks = subst (λ (s : BuilderView).
     c.has_nonlocal_port-lacks.result ≡ is_last_module_incomplete s.setting (last_module s.entries))
@@ -32,7 +28,8 @@ pub returns-else-lacks-full : goal.returns-else-lacks-full
 returns-else-lacks-full c =
     let es = c.self.inside.entries.items in
     let full = ap not (c.are_all_cells_live-full.ensures
-    ∙ ap (λ (s : LayoutHeader). list_all (λ d. live c.self.inside.covered d.x d.y) (box_cells (rectangle_of s.w s.h)))
+    ∙ ap (λ (s : LayoutHeader). list_all (λ d. live c.self.inside.covered d.x d.y)
+    (rectangle_cells (rectangle_of s.w s.h)))
     c.size-size.ensures.size) in
     let lacks = subst (λ (s : BuilderView).
     c.has_nonlocal_port-lacks.result ≡ is_last_module_incomplete s.setting (last_module s.entries))

@@ -1,7 +1,5 @@
-use Rattle.lemmas.proofs.Common.{◌∙◌, ◌≡◌, None, arith, length, subst, sym, common_steps}
-use Rattle.certificate_lines.specs.Entries.{modules_of, areas, last_module}
-use Rattle.certificate_lines.specs.Rules.{box_fault}
-use Rattle.certificate_lines.specs.BuilderView.{BuilderView}
+use Rattle.certificate_lines.proofs.Imports.{BuilderView, None, areas, arith, box_fault, common_steps, last_module}
+use Rattle.certificate_lines.proofs.Imports.{length, modules_of, subst, sym, ◌∙◌, ◌≡◌}
 use Rattle.certificate_lines.proofs.BuiltLemmas.{early_fault, live_overlaps, no_fault, overlap_fault}
 use Rattle.certificate_lines.proofs.builder.Builder.module_code.Goals as goal
 

@@ -1,6 +1,4 @@
-use Rattle.lemmas.proofs.Common.{◌∙◌, ap, arith}
-use Rattle.pattern.specs.declared.layout_line.LayoutHeader.{LayoutHeader}
-use Rattle.pattern.proofs.InsideLemmas.{size_sides}
+use Rattle.certificate_lines.proofs.Imports.{LayoutHeader, ap, arith, size_sides, ◌∙◌}
 use Rattle.certificate_lines.proofs.Keeping.{with_none}
 use Rattle.certificate_lines.proofs.builder.Builder.new.Goals as goal
 
@@ -14,14 +12,8 @@ new-requires-clause-height c = let s = (size_sides c.size-size.result c.size-siz
 
 pub invariant_of-result : goal.invariant_of-result
 invariant_of-result c =
-    rw (
-      c.new-2.ensures.items,
-      c.new-3.ensures.items,
-      c.new-4.ensures.items,
-      c.new-5.ensures.items,
-      c.new-6.ensures,
-    ) (with_none c.args.tables c.in_ok-covered.covered
+    rw (c.new-2.ensures.items, c.new-3.ensures.items, c.new-4.ensures.items, c.new-5.ensures)
+    (with_none c.args.tables c.in_ok-covered.covered
     (c.in_ok-covered.ensures.size.0 ∙ ap (λ (s : LayoutHeader). s.w) c.size-size.ensures.size)
     (c.in_ok-covered.ensures.size.1 ∙ ap (λ (s : LayoutHeader). s.h) c.size-size.ensures.size)
-    c.in_ok-covered.ensures.dead _
-    _ _ c.new-9.ensures)
+    c.in_ok-covered.ensures.dead _ _ _ c.first_key.ensures)

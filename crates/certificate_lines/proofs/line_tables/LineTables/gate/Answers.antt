@@ -1,6 +1,6 @@
-use Rattle.lemmas.proofs.Common.{◌≤◌, arith}
+use Rattle.certificate_lines.proofs.Imports.{Netlist, arith, ◌≤◌}
 use Rattle.circuit.specs.Bridge.{netlist_of}
-use Rattle.circuit.specs.Meaning.{Netlist, wires}
+use Rattle.circuit.specs.Meaning.{wires}
 use Rattle.circuit.specs.Wiring.{gate_of}
 use Rattle.certificate_lines.proofs.WireBounds.{outs_below}
 use Rattle.certificate_lines.proofs.line_tables.LineTables.gate.Goals as goal

@@ -1,10 +1,9 @@
-use Rattle.lemmas.proofs.Common.{◌∙◌, ◌≡◌, List, Option, Some, ap, arith, get_or, sym, true, ℕ}
-use Rattle.lemmas.proofs.Common.{common_steps, positive}
-use Rattle.certificate_lines.specs.PortTables.{IsPortTable, entry_place, number_at}
-use Rattle.certificate_lines.specs.declared.ports.PortTable.TheInside.{Inside}
-use Rattle.module_box.specs.Boxes.{in_box}
-use Rattle.bbm_rule.specs.declared.block.Cell.{Cell}
-use Rattle.certificate_lines.proofs.TableLemmas.{entry_is, numbered_below, placed, unnumbered, unplaced}
+use Rattle.certificate_lines.proofs.Imports.{Cell, CircuitPorts, Inside, IsPortTable, List, Option, Some, ap, arith}
+use Rattle.certificate_lines.proofs.Imports.{circuit_of, common_steps, entry_place, get_or, in_box, length-map}
+use Rattle.certificate_lines.proofs.Imports.{number_at, option_map, port_at, positive, subst, sym, true, wire_of, ℕ}
+use Rattle.certificate_lines.proofs.Imports.{◌-◌, ◌∙◌, ◌≡◌}
+use Rattle.certificate_lines.proofs.TableLemmas.{IsNumbered, entry_is, numbered_below, numbered_wire, placed}
+use Rattle.certificate_lines.proofs.TableLemmas.{unnumbered, unplaced}
 use Rattle.certificate_lines.proofs.ports.PortTable.get.Goals as goal
 
 -- the place of a cell of the area, whose rows were read
@@ -26,8 +25,15 @@ returns-in_err-place c = grind (arith, common_steps, place_at, unplaced, unnumbe
 pub returns-then-number-eq0 : goal.returns-then-number-eq0
 returns-then-number-eq0 c = grind (arith, common_steps, place_at, entry_at, unnumbered)
 
-pub bounds-self-inside-number : goal.bounds-self-inside-number
-bounds-self-inside-number c = grind (arith, common_steps, place_at, entry_at, numbered_below, positive)
+pub index-requires-2 : goal.index-requires-2
+index-requires-2 c = grind (arith, common_steps, place_at, entry_at, numbered_below, positive, length-map)
 
 pub returns : goal.returns
-returns c = grind (arith, common_steps, place_at, entry_at, numbered_below, positive)
+returns c =
+    let a = c.self.inside in
+    let is : IsNumbered a.ports.now (c.index.result.now - 1) c.args.cell.x c.args.cell.y =
+    grind (arith, common_steps, place_at, entry_at, numbered_below, positive) in
+    subst (λ (t : CircuitPorts). Some c.index-2.result.now
+    ≡ option_map (wire_of t.circuit) (port_at t.ports c.args.cell.x c.args.cell.y)) c.self.view_is
+    (numbered_wire (circuit_of a.circuit.now) a.ports.now a.wires.items (c.index.result.now - 1)
+    c.args.cell.x c.args.cell.y c.index-2.result.now c.self.invariant.wires is (grind (arith, common_steps)))

@@ -1,11 +1,7 @@
-use Rattle.lemmas.proofs.Common.{◌+◌, ◌-◌, ◌<◌, ◌∙◌, ◌≡◌, ◌≤◌, List, None, Option, Some, ap, arith, drop, length}
-use Rattle.lemmas.proofs.Common.{nat_eq, pos, suc, sym, take, to_z, true, w32, zero, ℕ, common_steps, ints, list_all}
-use Rattle.pattern.specs.Layout.{cell}
-use Rattle.bbm_rule.specs.declared.block.Cell.{Cell}
-use Rattle.module_box.specs.Boxes.{in_box}
-use Rattle.module_box.specs.declared.boxes.Box2.{Box2}
-use Rattle.certificate_lines.specs.PortTables.{IsPortTable, entry_place, port_at}
-use Rattle.certificate_lines.specs.declared.ports.PortTable.TheInside.{Inside}
+use Rattle.certificate_lines.proofs.Imports.{Box2, Cell, Inside, IsPortTable, List, None, Option, Some, ap, arith, cell}
+use Rattle.certificate_lines.proofs.Imports.{common_steps, drop, entry_place, in_box, ints, length, list_all, nat_eq}
+use Rattle.certificate_lines.proofs.Imports.{port_at, pos, suc, sym, take, to_z, true, w32, zero, ℕ, ◌+◌, ◌-◌, ◌<◌, ◌∙◌}
+use Rattle.certificate_lines.proofs.Imports.{◌≡◌, ◌≤◌}
 use Rattle.certificate_lines.proofs.RowLemmas.{row_entry, row_inside}
 use Rattle.certificate_lines.proofs.TableLemmas.{part_zero, placed, unnumbered, unplaced}
 use Rattle.certificate_lines.proofs.ports.PortTable.is_row_part_without_port.Goals as goal

@@ -1,8 +1,7 @@
-use Rattle.lemmas.proofs.Common.{◌-◌, ◌<◌, ◌≡◌, None, arith, get_or, inl, inr, length, pos, rules, sym, ℕ, ℤ}
-use Rattle.lemmas.proofs.Common.{cases_Bool, common_steps, get_or_default, ltb-true, nat_tests}
-use Rattle.module_box.specs.Boxes.{in_box}
-use Rattle.certificate_lines.specs.PortTables.{IsPortTable, entry_place_by_row_number, port_at}
-use Rattle.certificate_lines.specs.declared.ports.PortTable.TheInside.{Inside}
+use Rattle.certificate_lines.proofs.Imports.{Inside, IsPortTable, None, arith, cases_Bool, common_steps}
+use Rattle.certificate_lines.proofs.Imports.{entry_place_by_row_number, get_or, get_or_default, in_box, inl, inr}
+use Rattle.certificate_lines.proofs.Imports.{length, nat_tests, port_at, pos, rules, sym, ℕ, ℤ, ◌-◌, ◌<◌, ◌≡◌}
+use Rattle.lemmas.proofs.Common.{ltb-true}
 use Rattle.certificate_lines.proofs.TableLemmas.{unnumbered, unplaced}
 use Rattle.certificate_lines.proofs.ports.PortTable.is_row_without_port.Goals as goal
 

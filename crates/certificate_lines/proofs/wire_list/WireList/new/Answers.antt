@@ -1,5 +1,4 @@
-use Rattle.lemmas.proofs.Common.{◌∙◌, List, ap, sym, ℕ}
-use Rattle.module_box.specs.Locals.{is_among}
+use Rattle.certificate_lines.proofs.Imports.{List, ap, is_among, sym, ℕ, ◌∙◌}
 use Rattle.certificate_lines.proofs.WireListLemmas.{none_marked}
 use Rattle.certificate_lines.proofs.wire_list.WireList.new.Goals as goal
 

@@ -1,4 +1,4 @@
-use Rattle.lemmas.proofs.Common.{rules}
+use Rattle.circuit.proofs.Imports.{rules}
 use Rattle.circuit.proofs.circuit_line.GateKind.ins.Goals as goal
 
 pub returns-in-Interact-clause-count : goal.returns-in-Interact-clause-count

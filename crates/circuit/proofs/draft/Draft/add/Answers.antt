@@ -1,11 +1,7 @@
-use Rattle.lemmas.proofs.Common.{[], ◌++◌, ◌∙◌, ◌∷◌, ◌≡◌, List, None, ap, arith, false, length, map, rules, subst, sym}
-use Rattle.lemmas.proofs.Common.{take, ℕ, common_steps, length-map}
-use Rattle.circuit.specs.declared.circuit_line.CircuitLine.{CircuitLine}
-use Rattle.circuit.specs.Entries.{defined}
-use Rattle.circuit.specs.Rules.{consumed, consume, define, exceeds_limit}
-use Rattle.circuit.specs.Meaning.{number}
-use Rattle.circuit.specs.Bridge.{IsNoInputAfterGate}
-use Rattle.circuit.specs.Wiring.{gate_of, gate_with_outs_from, with_marks_set}
+use Rattle.circuit.proofs.Imports.{CircuitLine, IsNoInputAfterGate, List, None, [], ap, arith, common_steps}
+use Rattle.circuit.proofs.Imports.{consume_fault, consumed, define_fault, defined, exceeds_limit, false, gate_of}
+use Rattle.circuit.proofs.Imports.{gate_with_outs_from, length, length-map, map, number, rules, subst, sym, take}
+use Rattle.circuit.proofs.Imports.{with_marks_set, ℕ, ◌++◌, ◌∙◌, ◌∷◌, ◌≡◌}
 use Rattle.circuit.proofs.Drafts.{added}
 use Rattle.circuit.proofs.WireMarks.{marks_reach}
 use Rattle.circuit.proofs.draft.Draft.add.Goals as goal
@@ -18,7 +14,7 @@ invariant_of-self-then-is_gate c =
     let entries : c.push_line_and_gate.new.entries.items ≡ c.self.inside.entries.items ++ c.args.entry ∷ [] =
     search rules in
     let wires : c.define_wires.new.wires.keys ≡ c.self.inside.wires.keys ++ c.args.entry.outs = search rules in
-    let outs_pass : define c.self.inside.wires.keys c.args.entry.outs ≡ None = search rules in
+    let outs_pass : define_fault c.self.inside.wires.keys c.args.entry.outs ≡ None = search rules in
     let wired : map gate_of c.push_line_and_gate.new.wired.items
     ≡ map gate_of c.self.inside.wired.items
     ++ gate_with_outs_from c.args.entry.kind c.in-Ok.ins (length c.self.inside.wires.keys) = search rules in
@@ -31,7 +27,7 @@ invariant_of-self-then-is_gate c =
       used = used;
       limit = ap (λ (l : List CircuitLine). exceeds_limit l c.args.entry) c.self.view_is
           ∙ sym c.if-exceeds_limit.ensures;
-      ins_pass = subst (λ (l : List CircuitLine). consume (defined l) (consumed l) c.args.entry.ins ≡ None)
+      ins_pass = subst (λ (l : List CircuitLine). consume_fault (defined l) (consumed l) c.args.entry.ins ≡ None)
           entries_are (search rules);
       outs_pass = outs_pass;
       fits = c.requires.fits;
@@ -49,7 +45,7 @@ invariant_of-self-else-is_gate c =
     let entries : c.push_line_and_gate.new.entries.items ≡ c.self.inside.entries.items ++ c.args.entry ∷ [] =
     search rules in
     let wires : c.define_wires.new.wires.keys ≡ c.self.inside.wires.keys ++ c.args.entry.outs = search rules in
-    let outs_pass : define c.self.inside.wires.keys c.args.entry.outs ≡ None = search rules in
+    let outs_pass : define_fault c.self.inside.wires.keys c.args.entry.outs ≡ None = search rules in
     let wired : map gate_of c.push_line_and_gate.new.wired.items
     ≡ map gate_of c.self.inside.wired.items
     ++ gate_with_outs_from c.args.entry.kind c.in-Ok.ins (length c.self.inside.wires.keys) = search rules in
@@ -62,7 +58,7 @@ invariant_of-self-else-is_gate c =
       used = used;
       limit = ap (λ (l : List CircuitLine). exceeds_limit l c.args.entry) c.self.view_is
           ∙ sym c.if-exceeds_limit.ensures;
-      ins_pass = subst (λ (l : List CircuitLine). consume (defined l) (consumed l) c.args.entry.ins ≡ None)
+      ins_pass = subst (λ (l : List CircuitLine). consume_fault (defined l) (consumed l) c.args.entry.ins ≡ None)
           entries_are (search rules);
       outs_pass = outs_pass;
       fits = c.requires.fits;

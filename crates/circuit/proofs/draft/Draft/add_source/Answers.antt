@@ -1,4 +1,4 @@
-use Rattle.lemmas.proofs.Common.{rules}
+use Rattle.circuit.proofs.Imports.{rules}
 use Rattle.circuit.proofs.draft.Draft.add_source.Goals as goal
 
 pub returns-clause-ok : goal.returns-clause-ok

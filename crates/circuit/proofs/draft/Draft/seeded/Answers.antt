@@ -1,5 +1,4 @@
-use Rattle.lemmas.proofs.Common.{arith, common_steps}
-use Rattle.circuit.specs.Bridge.{AreGoodAfter}
+use Rattle.circuit.proofs.Imports.{AreGoodAfter, arith, common_steps}
 use Rattle.circuit.proofs.draft.Draft.seeded.Goals as goal
 
 pub invariant_of-result : goal.invariant_of-result

@@ -1,4 +1,4 @@
-use Rattle.lemmas.proofs.Common.{rules}
+use Rattle.circuit.proofs.Imports.{rules}
 use Rattle.circuit.proofs.draft.Draft.takes_inputs.Goals as goal
 
 pub returns : goal.returns

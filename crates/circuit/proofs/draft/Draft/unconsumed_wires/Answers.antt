@@ -1,6 +1,4 @@
-use Rattle.lemmas.proofs.Common.{◌∙◌, arith, rules, sym, take}
-use Rattle.circuit.specs.Entries.{defined}
-use Rattle.circuit.specs.Rules.{consumed}
+use Rattle.circuit.proofs.Imports.{arith, consumed, defined, rules, sym, take, ◌∙◌}
 use Rattle.circuit.proofs.WireMarks.{Next, named_twice, consumed_next, wires_next}
 use Rattle.circuit.proofs.draft.Draft.unconsumed_wires.Goals as goal
 

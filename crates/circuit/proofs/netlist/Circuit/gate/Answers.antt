@@ -1,11 +1,6 @@
-use Rattle.lemmas.proofs.Common.{◌<◌, ◌∙◌, ◌≡◌, List, Option, ap, ap₂, arith, get_or, length, map, option_map, refl}
-use Rattle.lemmas.proofs.Common.{slice_get, sym, length-map, slice_get-map, slice_get_read}
-use Rattle.circuit.specs.declared.circuit_line.CircuitLine.{CircuitLine}
-use Rattle.circuit.specs.Entries.{defined}
-use Rattle.circuit.specs.declared.wiring.GateWires.{GateWires}
-use Rattle.circuit.specs.Bridge.{gates_of}
-use Rattle.circuit.specs.Meaning.{Gate}
-use Rattle.circuit.specs.Wiring.{gate_of}
+use Rattle.circuit.proofs.Imports.{CircuitLine, Gate, GateWires, List, Option, ap, ap₂, arith, defined, gate_of}
+use Rattle.circuit.proofs.Imports.{gates_of, get_or, length, length-map, map, option_map, refl, slice_get}
+use Rattle.circuit.proofs.Imports.{slice_get-map, slice_get_read, sym, ◌<◌, ◌∙◌, ◌≡◌}
 use Rattle.circuit.proofs.netlist.Circuit.gate.Goals as goal
 
 pub bounds-as_slice-number : goal.bounds-as_slice-number

@@ -1,4 +1,4 @@
-use Rattle.lemmas.proofs.Common.{arith, common_steps, length-map}
+use Rattle.circuit.proofs.Imports.{arith, common_steps, length-map}
 use Rattle.circuit.proofs.Bridging.{gates_are_ordered}
 use Rattle.circuit.proofs.Naming.{gates_counted}
 use Rattle.circuit.proofs.netlist.Circuit.gates.Goals as goal

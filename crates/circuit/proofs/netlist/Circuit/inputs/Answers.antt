@@ -1,4 +1,4 @@
-use Rattle.lemmas.proofs.Common.{arith, common_steps}
+use Rattle.circuit.proofs.Imports.{arith, common_steps}
 use Rattle.circuit.proofs.Counting.{inputs_counted}
 use Rattle.circuit.proofs.Naming.{inputs_are_first}
 use Rattle.circuit.proofs.netlist.Circuit.inputs.Goals as goal

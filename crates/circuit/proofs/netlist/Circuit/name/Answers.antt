@@ -1,4 +1,4 @@
-use Rattle.lemmas.proofs.Common.{arith, common_steps, slice_get_read}
+use Rattle.circuit.proofs.Imports.{arith, common_steps, slice_get_read}
 use Rattle.circuit.proofs.Naming.{names_are_own}
 use Rattle.circuit.proofs.netlist.Circuit.name.Goals as goal
 

@@ -1,4 +1,4 @@
-use Rattle.lemmas.proofs.Common.{arith, common_steps}
+use Rattle.circuit.proofs.Imports.{arith, common_steps}
 use Rattle.circuit.proofs.Naming.{place_position}
 use Rattle.circuit.proofs.Places.{found_same}
 use Rattle.circuit.proofs.netlist.Circuit.named_wire.Goals as goal

@@ -1,10 +1,6 @@
-use Rattle.lemmas.proofs.Common.{◌∙◌, ◌≡◌, List, Some, ap, length, map, refl, subst, sym}
-use Rattle.circuit.specs.Entries.{defined}
-use Rattle.circuit.specs.declared.circuit_line.CircuitLine.{CircuitLine}
-use Rattle.circuit.specs.Meaning.{Gate}
-use Rattle.circuit.specs.Bridge.{AreValues, IsValuesFault, netlist_of, read, input_count, gates_of}
-use Rattle.circuit.specs.Evaluate.{evaluate, IsGateEvaluationError}
-use Rattle.circuit.specs.Wiring.{gate_of}
+use Rattle.circuit.proofs.Imports.{AreValues, CircuitLine, Gate, IsGateEvaluationError, IsValuesFault, List, Some, ap}
+use Rattle.circuit.proofs.Imports.{as_values, defined, evaluate, gate_of, gates_of, input_count, length, map}
+use Rattle.circuit.proofs.Imports.{netlist_of, refl, subst, sym, ◌∙◌, ◌≡◌}
 use Rattle.circuit.proofs.Bridging.{gates_are_ordered}
 use Rattle.circuit.proofs.Undefined.{fault_stops}
 use Rattle.circuit.proofs.Valuations.{evaluated}
@@ -17,9 +13,10 @@ returns-in-Ok-clause-values c =
     let found : evaluate c.args.inputs.now (gates_of (defined entries) entries) ≡ Some c.in-Ok.values.items =
     ap (evaluate c.args.inputs.now) (sym (ap (map gate_of) c.as_slice.ensures.value ∙ c.self.invariant.wired))
     ∙ c.in-Ok.ensures.values in
-    subst (λ (entries : List CircuitLine). AreValues (netlist_of entries) (read c.args.inputs.now) c.in-Ok.values.items)
+    subst (λ (entries : List CircuitLine).
+    AreValues (netlist_of entries) (as_values c.args.inputs.now) c.in-Ok.values.items)
     c.self.view_is
-    (evaluated (netlist_of entries) (read c.args.inputs.now) c.args.inputs.now c.in-Ok.values.items
+    (evaluated (netlist_of entries) (as_values c.args.inputs.now) c.args.inputs.now c.in-Ok.values.items
     (gates_are_ordered entries c.self.invariant.good) same (λ i h. refl) found)
 
 pub returns-in-Err-clause-fault : goal.returns-in-Err-clause-fault
@@ -29,7 +26,8 @@ returns-in-Err-clause-fault c =
     let at : IsGateEvaluationError c.args.inputs.now (gates_of (defined entries) entries) c.in-Err.fault =
     subst (λ (gs : List Gate). IsGateEvaluationError c.args.inputs.now gs c.in-Err.fault)
     (ap (map gate_of) c.as_slice.ensures.value ∙ c.self.invariant.wired) c.in-Err.ensures.fault in
-    subst (λ (entries : List CircuitLine). IsValuesFault (netlist_of entries) (read c.args.inputs.now) c.in-Err.fault)
+    subst (λ (entries : List CircuitLine).
+    IsValuesFault (netlist_of entries) (as_values c.args.inputs.now) c.in-Err.fault)
     c.self.view_is
-    (fault_stops (netlist_of entries) (read c.args.inputs.now) c.args.inputs.now c.in-Err.fault
+    (fault_stops (netlist_of entries) (as_values c.args.inputs.now) c.args.inputs.now c.in-Err.fault
     (gates_are_ordered entries c.self.invariant.good) same (λ i h. refl) at)

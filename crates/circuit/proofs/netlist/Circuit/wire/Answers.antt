@@ -1,4 +1,4 @@
-use Rattle.lemmas.proofs.Common.{arith, common_steps}
+use Rattle.circuit.proofs.Imports.{arith, common_steps}
 use Rattle.circuit.proofs.Naming.{place_position, wires_are_named}
 use Rattle.circuit.proofs.netlist.Circuit.wire.Goals as goal
 

@@ -1,4 +1,4 @@
-use Rattle.lemmas.proofs.Common.{rules}
+use Rattle.circuit.proofs.Imports.{rules}
 use Rattle.circuit.proofs.number.WireNo.of.Goals as goal
 
 pub returns : goal.returns

@@ -1,6 +1,4 @@
-use Rattle.lemmas.proofs.Common.{◌≤◌, arith, common_steps}
-use Rattle.circuit.specs.Entries.{rank_of}
-use Rattle.circuit.specs.Rules.{gate_count}
+use Rattle.circuit.proofs.Imports.{arith, common_steps, gate_count, rank_of, ◌≤◌}
 use Rattle.circuit.proofs.Orders.{last_rank_push}
 use Rattle.circuit.proofs.Bridging.{count_append}
 use Rattle.circuit.proofs.Fitting.{entry_fits, no_gate_yet, no_gate_still}

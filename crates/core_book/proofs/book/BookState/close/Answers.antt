@@ -1,6 +1,4 @@
-use Rattle.lemmas.proofs.Common.{◌≡◌, subst, sym, true}
-use Rattle.core_book.specs.Book.{BookView, IsBook, IsReplayed, after_closing}
-use Rattle.core_book.specs.BookView.{book_view}
+use Rattle.core_book.proofs.Imports.{BookView, IsBook, IsReplayed, after_closing, book_view, subst, sym, true, ◌≡◌}
 use Rattle.core_book.proofs.Filings.{IsBook-closed}
 use Rattle.core_book.proofs.Replays.{IsReplayed-closed}
 use Rattle.core_book.proofs.book.BookState.close.Goals as goal

@@ -1,15 +1,11 @@
-use Rattle.lemmas.proofs.Common.{arith, common_steps}
-use Rattle.lemmas.proofs.Common.{[], ◌++◌, ◌+◌, ◌∙◌, ◌∷◌, ◌≡◌, Some, ap, set, subst, sym}
-use Rattle.core_book.specs.Book.{BookView, IsBook, IsReplayed, accepted_in, after_filing, filing_of, reply_to}
-use Rattle.core_book.specs.BookView.{book_view}
-use Rattle.core_book.specs.declared.log_entry.LogEntry.TheVariants.{Filed}
-use Rattle.core_book.specs.declared.log_entry.Filing.{Filing}
-use Rattle.core_book.specs.declared.reply.Reply.TheVariants.{Accepted}
+use Rattle.core_book.proofs.Imports.{Accepted, BookView, Filed, Filing, IsBook, IsReplayed, Some, [], accepted_in}
+use Rattle.core_book.proofs.Imports.{after_filing, ap, arith, book_view, common_steps, filing_of, reply_to, set, subst}
+use Rattle.core_book.proofs.Imports.{sym, ◌++◌, ◌+◌, ◌∙◌, ◌∷◌, ◌≡◌}
 use Rattle.core_book.proofs.Filings.{IsBook-filed, accepted-inside, accepted_in-accepted, accepted_in-filed}
 use Rattle.core_book.proofs.Filings.{accepted_in-other, left-accepted, left-other}
 use Rattle.core_book.proofs.Replays.{IsReplayed-filed}
-use Rattle.core_book.proofs.book.BookState.file.Goals as goal
 use Rattle.core_book.proofs.book.BookState.file.Goals.{After-push_reserved}
+use Rattle.core_book.proofs.book.BookState.file.Goals as goal
 
 -- the book by its fields, before the filing
 abbrev book : After-push_reserved → BookView

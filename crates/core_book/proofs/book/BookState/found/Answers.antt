@@ -1,4 +1,4 @@
-use Rattle.lemmas.proofs.Common.{option_copied, arith, common_steps}
+use Rattle.core_book.proofs.Imports.{arith, common_steps, option_copied}
 use Rattle.core_book.proofs.Filings.{found-own}
 use Rattle.core_book.proofs.book.BookState.found.Goals as goal
 

@@ -1,4 +1,4 @@
-use Rattle.lemmas.proofs.Common.{◌∙◌, sym}
+use Rattle.core_book.proofs.Imports.{sym, ◌∙◌}
 use Rattle.core_book.proofs.HeldJobs.{whole-job, other-job}
 use Rattle.core_book.proofs.book.BookState.found_for.Goals as goal
 

@@ -1,5 +1,4 @@
-use Rattle.lemmas.proofs.Common.{ap, arc_value}
-use Rattle.core_book.specs.Book.{BookView}
+use Rattle.core_book.proofs.Imports.{BookView, ap, arc_value}
 use Rattle.core_book.proofs.Filings.{job-told, no_job-told}
 use Rattle.core_book.proofs.book.BookState.has_job.Goals as goal
 

@@ -1,6 +1,4 @@
-use Rattle.lemmas.proofs.Common.{arith, common_steps}
-use Rattle.lemmas.proofs.Common.{length-map}
-use Rattle.core_book.specs.Book.{new_book}
+use Rattle.core_book.proofs.Imports.{arith, common_steps, length-map, new_book}
 use Rattle.core_book.proofs.book.BookState.new.Goals as goal
 
 pub returns : goal.returns

@@ -1,12 +1,10 @@
-use Rattle.lemmas.proofs.Common.{◌∙◌, ◌≡◌, ap, false, length, nat_eq, nat_lt, sym, true, arc_value}
-use Rattle.lemmas.proofs.Common.{length-map, pointwise, arith, common_steps}
-use Rattle.local_run.specs.Shown.{digest_of, number_of}
-use Rattle.core_book.specs.Book.{BookView}
+use Rattle.core_book.proofs.Imports.{BookView, ap, arc_value, arith, common_steps, digest_of, false, length, length-map}
+use Rattle.core_book.proofs.Imports.{nat_eq, nat_lt, number_of, pointwise, sym, true, ◌∙◌, ◌≡◌}
 use Rattle.core_book.proofs.Filings.{digest-differs, digest-agrees, number-past, number-within, reply_to-closed}
 use Rattle.core_book.proofs.Filings.{reply_to-other_digest, reply_to-other_number, reply_to-other_job, reply_to-held}
 use Rattle.core_book.proofs.Filings.{reply_to-new}
-use Rattle.core_book.proofs.book.BookState.reply_to.Goals as goal
 use Rattle.core_book.proofs.book.BookState.reply_to.Goals.{After-digest, After-len, After-found}
+use Rattle.core_book.proofs.book.BookState.reply_to.Goals as goal
 
 pub returns-then-self : goal.returns-then-self
 returns-then-self c = sym (reply_to-closed c.args.self.now c.args.finding.now

@@ -1,11 +1,10 @@
-use Rattle.lemmas.proofs.Common.{◌<◌, ◌∙◌, ◌≡◌, Global, List, Vec, ap, arith, length, length-set, set, subst, sym, ℕ}
-use Rattle.lemmas.proofs.Common.{arc_value, length-map, map-set, map-set_same, common_steps}
-use Rattle.core_book.specs.Claims.{draws_after_claim, next_after_claim}
-use Rattle.core_book.specs.Core.{CoreView, IsCore, after_claim, draws_of, job_count_of}
-use Rattle.core_book.specs.CoreView.{core_view, lists_of}
+use Rattle.core_book.proofs.Imports.{CoreView, IsCore, List, after_claim, ap, arc_value, arith, common_steps, core_view}
+use Rattle.core_book.proofs.Imports.{draws_after_claim, draws_of, job_count_of, length, length-map, length-set}
+use Rattle.core_book.proofs.Imports.{lists_of, next_after_claim, set, subst, sym, ℕ, ◌<◌, ◌∙◌, ◌≡◌}
+use Rattle.lemmas.proofs.Common.{Global, Vec, map-set, map-set_same}
 use Rattle.core_book.proofs.CoreSteps.{claim-core, drawn-at, left-claim, next-few}
-use Rattle.core_book.proofs.machine.Core.claim.Goals as goal
 use Rattle.core_book.proofs.machine.Core.claim.Goals.{After-index_mut, After-next_claim, at-After-next_claim}
+use Rattle.core_book.proofs.machine.Core.claim.Goals as goal
 
 pub next_claim-requires : goal.next_claim-requires
 next_claim-requires c =

@@ -1,7 +1,5 @@
-use Rattle.lemmas.proofs.Common.{◌≡◌, ◌≤◌, length, subst, sym}
-use Rattle.core_book.specs.Book.{BookView, after_filing}
-use Rattle.core_book.specs.Core.{CoreView, IsCore}
-use Rattle.core_book.specs.CoreView.{core_view, lists_of}
+use Rattle.core_book.proofs.Imports.{BookView, CoreView, IsCore, after_filing, core_view, length, lists_of, subst, sym}
+use Rattle.core_book.proofs.Imports.{◌≡◌, ◌≤◌}
 use Rattle.core_book.specs.declared.machine.Event.TheVariants.{File}
 use Rattle.core_book.proofs.CoreSteps.{event-core}
 use Rattle.core_book.proofs.machine.Core.file.Goals as goal

@@ -1,11 +1,8 @@
-use Rattle.lemmas.proofs.Common.{[], ◌∙◌, ◌≡◌, ◌≤◌, ap, arith, length, map, rules, subst, sym, arc_value, length-map}
-use Rattle.lemmas.proofs.Common.{length-replicate}
-use Rattle.core_book.specs.Book.{new_book}
-use Rattle.core_book.specs.Core.{IsCore, new_core}
-use Rattle.core_book.specs.CoreView.{lists_of}
+use Rattle.core_book.proofs.Imports.{IsCore, [], ap, arc_value, arith, length, length-map, length-replicate, lists_of}
+use Rattle.core_book.proofs.Imports.{map, new_book, new_core, rules, subst, sym, ◌∙◌, ◌≡◌, ◌≤◌}
 use Rattle.core_book.proofs.CoreSteps.{new-core}
-use Rattle.core_book.proofs.machine.Core.new.Goals as goal
 use Rattle.core_book.proofs.machine.Core.new.Goals.{In_ok-book}
+use Rattle.core_book.proofs.machine.Core.new.Goals as goal
 
 view : (c : In_ok-book) → new_core c.args.digest (map arc_value c.args.jobs.items) c.args.seats
     ≡ record { next = 0; draws = lists_of c.in_ok-draws.draws.items; book = c.in_ok-book.book }

@@ -1,5 +1,4 @@
-use Rattle.lemmas.proofs.Common.{◌≡◌, arith, length, length-map}
-use Rattle.core_book.specs.CoreView.{lists_of}
+use Rattle.core_book.proofs.Imports.{arith, length, length-map, lists_of, ◌≡◌}
 use Rattle.core_book.proofs.CoreSteps.{next-few}
 use Rattle.core_book.proofs.machine.Core.next.Goals as goal
 

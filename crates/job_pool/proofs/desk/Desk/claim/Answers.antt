@@ -1,15 +1,13 @@
-use Rattle.lemmas.proofs.Common.{[], ◌++◌, ◌+◌, ◌∙◌, ◌∷◌, ◌≡◌, ◌≤◌, ap, arith, sym, nat_tests}
-use Rattle.job_pool.specs.declared.rule.View.{View}
-use Rattle.core_book.specs.Draws.{past_last}
-use Rattle.job_pool.specs.Lists.{past_greatest}
+use Rattle.job_pool.proofs.Imports.{View, [], ap, arith, nat_tests, past_greatest, past_last, sym, ◌++◌, ◌+◌, ◌∙◌, ◌∷◌}
+use Rattle.job_pool.proofs.Imports.{◌≡◌, ◌≤◌}
 use Rattle.job_pool.proofs.Sums.{none_late, pushed, past_last-snoc}
 use Rattle.job_pool.proofs.Moves.{claims}
 use Rattle.job_pool.proofs.desk.Desk.claim.Goals as goal
 
 pub fetch_add-found-requires : goal.fetch_add-found-requires
 fetch_add-found-requires c = let desk = c.args.self.now in let seat = c.args.seat.now in
-    let below : past_last seat.drawn.items ≤ seat.numbers = let e = c.has_seat_drawn_past_last.ensures in let f =
-    c.if-has_seat_drawn_past_last.false in
+    let below : past_last seat.drawn.items ≤ seat.numbers = let e = c.is_finished.ensures in let f =
+    c.if-is_finished.false in
     grind (arith, nat_tests) in
     let clear : past_greatest seat.seat.me.0.draws ≤ desk.table.shared.key.numbers = let t =
     ap past_greatest seat.same in omega arith in (
@@ -21,8 +19,8 @@ fetch_add-found-requires c = let desk = c.args.self.now in let seat = c.args.sea
 
 pub invariant_of-seat : goal.invariant_of-seat
 invariant_of-seat c = let seat = c.args.seat.now in
-    let below : past_last seat.drawn.items ≤ seat.numbers = let e = c.has_seat_drawn_past_last.ensures in let f =
-    c.if-has_seat_drawn_past_last.false in
+    let below : past_last seat.drawn.items ≤ seat.numbers = let e = c.is_finished.ensures in let f =
+    c.if-is_finished.false in
     grind (arith, nat_tests) in
     let d = c.fetch_add-found.ensures.2 in
     let seen : c.fetch_add-found.new.seat.me.0.seen ≡ c.fetch_add-found.result + 1 = ap (λ (v : View). v.seen) d.1 in

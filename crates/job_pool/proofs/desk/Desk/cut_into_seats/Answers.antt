@@ -1,4 +1,4 @@
-use Rattle.lemmas.proofs.Common.{◌-◌, arith}
+use Rattle.job_pool.proofs.Imports.{arith, ◌-◌}
 use Rattle.job_pool.proofs.Moves.{splits_as}
 use Rattle.job_pool.proofs.desk.Desk.cut_into_seats.Goals as goal
 

@@ -1,6 +1,4 @@
-use Rattle.lemmas.proofs.Common.{[], ◌-◌, ◌≡◌, ◌≤◌, All, vec_capacity, vec_len}
-use Rattle.job_pool.specs.Rule.{view}
-use Rattle.job_pool.specs.Seats.{IsNewSeatOf}
+use Rattle.job_pool.proofs.Imports.{All, IsNewSeatOf, [], vec_capacity, vec_len, view, ◌-◌, ◌≡◌, ◌≤◌}
 use Rattle.job_pool.proofs.desk.Desk.cut_into_seats.Given as goal
 
 -- the seats opened so far have one place and an empty list, and the rest of the places is the splitting seat's

@@ -1,7 +1,5 @@
-use Rattle.lemmas.proofs.Common.{[], ◌++◌, ◌∙◌, ◌∷◌, ◌≡◌, ap, append-nil, arith, length, map, refl, sym, vec_len}
-use Rattle.lemmas.proofs.Common.{into_iter_items, into_iter_len, map-append}
-use Rattle.job_pool.specs.Lists.{joined}
-use Rattle.job_pool.specs.Seats.{IsSeatOf, drawn_by}
+use Rattle.job_pool.proofs.Imports.{IsSeatOf, [], ap, append-nil, arith, drawn_by, into_iter_items, into_iter_len}
+use Rattle.job_pool.proofs.Imports.{joined, length, map, map-append, refl, sym, vec_len, ◌++◌, ◌∙◌, ◌∷◌, ◌≡◌}
 use Rattle.job_pool.proofs.Sums.{joined-snoc}
 use Rattle.job_pool.proofs.Moves.{joins}
 use Rattle.job_pool.proofs.Ends.{all_head, all_tail, moved}

@@ -1,7 +1,5 @@
-use Rattle.lemmas.proofs.Common.{◌++◌, ◌+◌, ◌<◌, ◌≡◌, ◌≤◌, All, map, vec_capacity, vec_len, into_iter_items}
-use Rattle.lemmas.proofs.Common.{into_iter_len}
-use Rattle.job_pool.specs.Lists.{joined}
-use Rattle.job_pool.specs.Seats.{IsSeatOf, drawn_by}
+use Rattle.job_pool.proofs.Imports.{All, IsSeatOf, drawn_by, into_iter_items, into_iter_len, joined, map, vec_capacity}
+use Rattle.job_pool.proofs.Imports.{vec_len, ◌++◌, ◌+◌, ◌<◌, ◌≡◌, ◌≤◌}
 use Rattle.job_pool.proofs.desk.Desk.join.Given as goal
 
 -- the joined list is the lists so far, end to end, and each seat so far gave its place

@@ -1,4 +1,4 @@
-use Rattle.lemmas.proofs.Common.{arith}
+use Rattle.job_pool.proofs.Imports.{arith}
 use Rattle.job_pool.proofs.Moves.{looks}
 use Rattle.job_pool.proofs.desk.Desk.left.Goals as goal
 

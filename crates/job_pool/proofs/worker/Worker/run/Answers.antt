@@ -1,9 +1,5 @@
-use Rattle.lemmas.proofs.Common.{◌+◌, ◌<◌, ◌∙◌, ◌≡◌, All, ap, arith, length, map, rules, subst, sym, arc_value}
-use Rattle.lemmas.proofs.Common.{length-map}
-use Rattle.core_book.specs.Draws.{past_last, times}
-use Rattle.module_job.specs.Shapes.{shape_of}
-use Rattle.job_pool.specs.Seats.{drawn_by}
-use Rattle.core_book.specs.Filling.{shapes_of}
+use Rattle.job_pool.proofs.Imports.{All, ap, arc_value, arith, drawn_by, length, length-map, map, occurrences}
+use Rattle.job_pool.proofs.Imports.{past_last, rules, shape_of, shapes_of, subst, sym, ◌+◌, ◌<◌, ◌∙◌, ◌≡◌}
 use Rattle.job_pool.proofs.Sums.{past_last-snoc}
 use Rattle.job_pool.proofs.Members.{due_more, groups_below}
 use Rattle.job_pool.proofs.Filed.{empty_adds_none}
@@ -21,7 +17,8 @@ pub loop-number-preserved : goal.loop-number-preserved
 loop-number-preserved g c = let i = c.loop-number.invariant in let a = c.in-Number.ensures.answer in
     let groups = c.args.shared_work.now.groups.now in
     let drawn = due_more groups c.in-Number.number (drawn_by c.loop-number.self.seat) (drawn_by c.claim.new.seat) a.2 in
-    let more : c.run_group_if_first.new.share.filed ≡ c.loop-number.self.share.filed + times c.in-Number.number groups =
+    let more : c.run_group_if_first.new.share.filed
+    ≡ c.loop-number.self.share.filed + occurrences c.in-Number.number groups =
     search rules in
     record {
       seat = c.claim.ensures.seat;

@@ -1,9 +1,6 @@
-use Rattle.lemmas.proofs.Common.{◌∙◌, arith, refl, subst, sym}
-use Rattle.bbm_rule.proofs.BitLemmas.{bit-zero}
+use Rattle.local_run.proofs.Imports.{HasValueRow, IsCellAsSignalUnderWords, One, Signal, Wire, Zero, arith, bit-zero}
+use Rattle.local_run.proofs.Imports.{refl, subst, sym, ◌∙◌}
 use Rattle.bbm_rule.proofs.MarkLemmas.{bit_ones}
-use Rattle.module_box.specs.declared.schedules.Signal.{Signal}
-use Rattle.module_box.specs.declared.schedules.Signal.TheVariants.{One, Wire, Zero}
-use Rattle.local_run.specs.Scans.{HasValueRow, IsCellAsSignalUnderWords}
 use Rattle.local_run.proofs.Scans.{row_in_word, shown_all}
 use Rattle.local_run.proofs.values.Values.is_different.Goals as goal
 
@@ -26,7 +23,7 @@ pub returns-in-Wire : goal.returns-in-Wire
 returns-in-Wire c = λ same.
     let vs = c.args.self.now in
     let w = c.in-Wire.wire in
-    let row = rw c.deref.ensures.value at c.differs_from_row.ensures in
+    let row = rw c.deref.ensures.value at c.differs_from_words.ensures in
     let h : HasValueRow vs (Wire w) = subst (HasValueRow vs) c.in-Wire.is c.requires.row in
     subst (λ (s : Signal). IsCellAsSignalUnderWords vs c.args.planes.now c.args.x c.args.y s vs.words)
     (sym c.in-Wire.is)

@@ -1,23 +1,17 @@
-use Rattle.lemmas.proofs.Common.{◌%◌, ◌*◌, ◌<◌, ◌^◌, ◌∙◌, ◌≡◌, ◌≤◌, ap, arith, subst, ℕ, common_steps, div_ceil}
+use Rattle.local_run.proofs.Imports.{AreOrdered, AreValueRows, Netlist, ap, arith, assignments, common_steps, div_ceil}
+use Rattle.local_run.proofs.Imports.{subst, ℕ, ◌%◌, ◌*◌, ◌<◌, ◌^◌, ◌∙◌, ◌≡◌, ◌≤◌}
 use Rattle.lemmas.proofs.Common.{pow_pos}
 use Rattle.std.proofs.Math.Pow.{pow_mono}
-use Rattle.circuit.specs.Meaning.{AreOrdered, Netlist}
-use Rattle.module_box.specs.LocalValues.{AreValueRows}
-use Rattle.local_run.specs.Faults.{assignments}
 use Rattle.local_run.proofs.Cleared.{rows_kept}
 use Rattle.local_run.proofs.values.Values.of.Goals as goal
 
--- so many cuts have so many assignments, and these so many words
+-- n cuts have 2 ^ n assignments, and the words have room for these
 shifted : (n : ℕ) → n ≤ 12 → 1 * 2 ^ n % 18446744073709551616 ≡ 2 ^ n
 shifted n few = omega (arith, pow_mono few)
 
 enough : (n w : ℕ) → n ≤ 12 → w ≡ div_ceil (1 * 2 ^ n % 18446744073709551616) 64 →
     (0 < w) × (w ≤ 64) × (1 * 2 ^ n % 18446744073709551616 ≤ 64 * w)
-enough n w few e = by_size (1 * 2 ^ n % 18446744073709551616) (omega (arith, shifted n few, pow_pos n))
-    (omega (arith, shifted n few, pow_mono few)) e
-  where
-    by_size : (m : ℕ) → 0 < m → m ≤ 4096 → w ≡ div_ceil m 64 → (0 < w) × (w ≤ 64) × (m ≤ 64 * w)
-    by_size m some small h = (omega (arith, h), omega (arith, h), omega (arith, h))
+enough n w few e = grind (arith, common_steps, shifted, pow_pos, pow_mono, div_ceil)
 
 pub value_rows-requires : goal.value_rows-requires
 value_rows-requires c = grind (arith, common_steps, enough)
@@ -43,5 +37,4 @@ returns c =
       room = w.2;
       long = (let h = rows.long in omega (arith, h));
       rows = rows;
-      all_times_marks = c.in_ok-all_times_marks.ensures;
     }

@@ -1,5 +1,4 @@
-use Rattle.lemmas.proofs.Common.{◌*◌, ◌+◌, ◌<◌, ◌≡◌, Bool, arith, bit_and, bit_xor, ℕ, common_steps}
-use Rattle.bbm_rule.specs.Bits.{bit}
+use Rattle.local_run.proofs.Imports.{Bool, arith, bit, bit_and, bit_xor, ℕ, ◌*◌, ◌+◌, ◌<◌, ◌≡◌}
 use Rattle.local_run.proofs.Scans.{block_clear, block_first, difference_small, differs, differs_bits, differs_is}
 use Rattle.local_run.proofs.Scans.{differs_not}
 use Rattle.local_run.proofs.values.Values.seek_difference.Goals as goal
@@ -42,6 +41,3 @@ returns-then-a-self c =
       differs_is c.args.self.now c.args.planes.now c.args.x c.args.y c.args.signal _ d.0,
       λ b l. differs_not c.args.self.now c.args.planes.now c.args.x c.args.y c.args.signal b (d.1 b l),
     )
-
-pub returns : goal.returns
-returns c = grind (arith, common_steps, differs_not)

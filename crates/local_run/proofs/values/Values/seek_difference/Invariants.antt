@@ -1,4 +1,4 @@
-use Rattle.lemmas.proofs.Common.{◌*◌, ◌<◌, ◌≡◌, false, ℕ}
+use Rattle.local_run.proofs.Imports.{false, ℕ, ◌*◌, ◌<◌, ◌≡◌}
 use Rattle.local_run.proofs.Scans.{differs}
 use Rattle.local_run.proofs.values.Values.seek_difference.Given as goal
 

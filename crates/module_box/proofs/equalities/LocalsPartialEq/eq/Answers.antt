@@ -1,4 +1,4 @@
-use Rattle.lemmas.proofs.Common.{arith, common_steps}
+use Rattle.module_box.proofs.Imports.{arith, common_steps}
 use Rattle.module_box.proofs.EqualTests.{same_gates}
 use Rattle.module_box.proofs.equalities.LocalsPartialEq.eq.Goals as goal
 

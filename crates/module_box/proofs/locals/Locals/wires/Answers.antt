@@ -1,4 +1,4 @@
-use Rattle.lemmas.proofs.Common.{rules}
+use Rattle.module_box.proofs.Imports.{rules}
 use Rattle.module_box.proofs.locals.Locals.wires.Goals as goal
 
 pub returns-clause-count : goal.returns-clause-count

@@ -1,11 +1,10 @@
-use Rattle.lemmas.proofs.Common.{◌==◌, ◌∙◌, List, ap, position, subst, sym, ℕ}
-use Rattle.module_box.specs.Locals.{AreDifferent}
+use Rattle.module_box.proofs.Imports.{AreDistinct, List, ap, position, subst, sym, ℕ, ◌==◌, ◌∙◌}
 use Rattle.module_box.proofs.WireLists.{place_of_different}
 use Rattle.module_box.proofs.numbered_wires.NumberedWires.number.Goals as goal
 
 pub returns-then-is_wire_at : goal.returns-then-is_wire_at
 returns-then-is_wire_at c =
     place_of_different c.deref.result.now c.args.wire _
-    (subst AreDifferent (sym c.deref.ensures.value) c.self.invariant.different)
+    (subst AreDistinct (sym c.deref.ensures.value) c.self.invariant.different)
     (c.is_wire_at.ensures c.if-is_wire_at.true)
     ∙ ap (λ (ws : List ℕ). position (λ v. v == c.args.wire) ws) (c.deref.ensures.value ∙ c.self.view_is)

@@ -1,4 +1,4 @@
-use Rattle.lemmas.proofs.Common.{arith, common_steps, length_push}
+use Rattle.module_box.proofs.Imports.{arith, common_steps, length_push}
 use Rattle.module_box.proofs.WireLists.{different_push}
 use Rattle.module_box.proofs.numbered_wires.NumberedWires.push.Goals as goal
 

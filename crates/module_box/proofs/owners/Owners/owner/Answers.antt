@@ -1,6 +1,6 @@
-use Rattle.lemmas.proofs.Common.{◌≡◌, IsTrue, SFits, arith, rules, to_z-of_z, w32, common_steps, unsigned_abs}
-use Rattle.module_box.specs.Boxes.{in_box}
-use Rattle.module_box.specs.Tiling.{rectangle}
+use Rattle.module_box.proofs.Imports.{IsTrue, SFits, arith, common_steps, in_box, rectangle, rules, unsigned_abs, w32}
+use Rattle.module_box.proofs.Imports.{◌≡◌}
+use Rattle.lemmas.proofs.Common.{to_z-of_z}
 use Rattle.module_box.specs.OwnersView.{owners_view}
 use Rattle.module_box.proofs.BoxCells.{owner_in_table, owner_read}
 use Rattle.module_box.proofs.owners.Owners.owner.Goals as goal

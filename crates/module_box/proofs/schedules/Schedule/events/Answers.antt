@@ -1,4 +1,4 @@
-use Rattle.lemmas.proofs.Common.{rules}
+use Rattle.module_box.proofs.Imports.{rules}
 use Rattle.module_box.proofs.schedules.Schedule.events.Goals as goal
 
 pub returns-clause-same_list : goal.returns-clause-same_list

@@ -1,4 +1,4 @@
-use Rattle.lemmas.proofs.Common.{arith, common_steps}
+use Rattle.module_box.proofs.Imports.{arith, common_steps}
 use Rattle.module_box.proofs.MovedBoxes.{all_times_rising, events_rising}
 use Rattle.module_box.proofs.schedules.Schedule.moved.Goals as goal
 

@@ -1,9 +1,6 @@
-use Rattle.lemmas.proofs.Common.{◌%◌, ◌*◌, ◌+◌, ◌/◌, ◌<◌, ◌∙◌, ◌≡◌, List, ap, arith, length, refl, slice_index, subst}
-use Rattle.lemmas.proofs.Common.{sym, true, ℕ}
-use Rattle.bbm_rule.specs.Bits.{bit}
-use Rattle.circuit.specs.Meaning.{Netlist}
+use Rattle.module_box.proofs.Imports.{IsColumnAt, List, Netlist, ap, arith, bit, lane, length, refl, slice_index, subst}
+use Rattle.module_box.proofs.Imports.{sym, true, ℕ, ◌%◌, ◌*◌, ◌+◌, ◌/◌, ◌<◌, ◌∙◌, ◌≡◌}
 use Rattle.circuit.specs.Bridge.{AreValues}
-use Rattle.module_box.specs.LocalValues.{IsColumnAt, lane}
 use Rattle.module_box.proofs.LocalRows.{column_defined}
 use Rattle.module_box.proofs.wiring.Wiring.local_values.Goals as goal
 
@@ -17,7 +14,7 @@ at l bits defined words undefined each =
 pub returns-in-Some-clause-fault : goal.returns-in-Some-clause-fault
 returns-in-Some-clause-fault c =
     let same = c.as_slice.ensures.value in
-    let some = c.in-Some.ensures.some in
+    let some = c.in-Some.ensures.found_bit_set in
     let below : c.in-Some.gate < length c.args.self.now.gates =
     (let within = some.0 in let long = ap length same ∙ c.in_ok-column.ensures.gates in omega (arith, within, long)) in
     ((at c.args.self.now c.args.cut_bits c.in_ok-column.column.defined c.in_ok-column.column.words.items
@@ -34,7 +31,7 @@ returns-clause-values c =
     (at c.args.self.now c.args.cut_bits c.in_ok-column.column.defined c.in_ok-column.column.words.items
     c.in_ok-column.column.undefined.items c.in_ok-column.ensures.values)
     (λ k below. sym (ap (λ (ws : List ℕ). bit (slice_index ws k) (c.args.cut_bits % 64)) same)
-    ∙ c.in-None.ensures.none refl k
+    ∙ c.in-None.ensures.none_means_unset refl k
     (let long = ap length same ∙ c.in_ok-column.ensures.gates in omega (arith, below, long))) in
     let is : c.in_ok-values-in-None.values.items ≡ lane (c.args.cut_bits % 64) c.in_ok-column.column.words.items =
     c.in_ok-values-in-None.ensures ∙ ap (lane (c.args.cut_bits % 64)) c.as_slice-in-None.ensures.value in

@@ -1,6 +1,5 @@
-use Rattle.lemmas.proofs.Common.{◌++◌, ◌+◌, ◌∙◌, ◌≡◌, List, ap, drop, length, rules, subst, sym, take, ℕ}
+use Rattle.module_box.proofs.Imports.{List, ap, drop, length, rules, subst, sym, take, wires, ℕ, ◌++◌, ◌+◌, ◌∙◌, ◌≡◌}
 use Rattle.lemmas.proofs.Common.{take-append_seam}
-use Rattle.circuit.specs.Meaning.{wires}
 use Rattle.module_box.proofs.LocalRows.{AreRowsBelow, rows_more, written}
 use Rattle.module_box.proofs.wiring.Wiring.value_rows.Goals as goal
 
@@ -24,7 +23,7 @@ chunks-preserved c =
     let more : AreRowsBelow l c.args.words (c.chunks.chunk + 1) values' gaps' c.push.new.self.items =
     rows_more l c.args.words c.chunks.chunk c.in_ok-column.column.defined c.in_ok-column.column.words.items
     c.in_ok-column.column.undefined.items values values' gaps gaps' c.chunks.defined.items c.push.new.self.items
-    c.column.ensures.ordered c.chunks-test.true
+    c.words_of_chunk.ensures.ordered c.chunks-test.true
     (written c.args.words c.chunks.chunk
     (wires l) c.in_ok-column.column.words.items values values' c.deref.result.now c.deref_mut.result.now
     c.deref.ensures.value c.deref_mut.ensures.value c.in_ok-column.ensures.count c.put_word_in_each_row.ensures.put

@@ -1,5 +1,4 @@
-use Rattle.lemmas.proofs.Common.{◌<◌, All, ap, map, subst, sym, All-nil}
-use Rattle.module_job.specs.CellLists.{demand_from_number}
+use Rattle.module_job.proofs.Imports.{All, All-nil, ap, demand_from_number, map, subst, sym, ◌<◌}
 use Rattle.module_job.proofs.cell_lists.EndDemands.new.Goals as goal
 
 pub invariant_of-result : goal.invariant_of-result

@@ -1,4 +1,4 @@
-use Rattle.lemmas.proofs.Common.{◌<◌, All, arith, subst, sym, common_steps}
+use Rattle.module_job.proofs.Imports.{All, arith, common_steps, subst, sym, ◌<◌}
 use Rattle.module_job.proofs.NumberedCells.{dead_demands_pushed, zeros_below}
 use Rattle.module_job.proofs.cell_lists.EndDemands.push_dead.Goals as goal
 

@@ -1,6 +1,5 @@
-use Rattle.lemmas.proofs.Common.{◌∙◌, ap, slice_get, sym, unwrap_or}
+use Rattle.module_job.proofs.Imports.{ap, demand_from_number, slice_get, sym, unwrap_or, ◌∙◌}
 use Rattle.module_job.specs.declared.job.Demand.TheVariants.{Dead}
-use Rattle.module_job.specs.CellLists.{demand_from_number}
 use Rattle.module_job.proofs.NumberedCells.{demand_found}
 use Rattle.module_job.proofs.cell_lists.EndDemands.skip_dead.Goals as goal
 

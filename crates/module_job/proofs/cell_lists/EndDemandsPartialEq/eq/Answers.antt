@@ -1,4 +1,4 @@
-use Rattle.lemmas.proofs.Common.{arith, common_steps}
+use Rattle.module_job.proofs.Imports.{arith, common_steps}
 use Rattle.module_job.proofs.NumberedCells.{demand_tests}
 use Rattle.module_job.proofs.cell_lists.EndDemandsPartialEq.eq.Goals as goal
 

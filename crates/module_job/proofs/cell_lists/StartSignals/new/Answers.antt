@@ -1,5 +1,4 @@
-use Rattle.lemmas.proofs.Common.{◌<◌, All, ap, map, subst, sym, All-nil}
-use Rattle.module_job.specs.CellLists.{signal_from_number}
+use Rattle.module_job.proofs.Imports.{All, All-nil, ap, map, signal_from_number, subst, sym, ◌<◌}
 use Rattle.module_job.proofs.cell_lists.StartSignals.new.Goals as goal
 
 pub invariant_of-result : goal.invariant_of-result

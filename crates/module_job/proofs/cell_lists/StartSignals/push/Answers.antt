@@ -1,4 +1,4 @@
-use Rattle.lemmas.proofs.Common.{◌<◌, All, arith, subst, sym, common_steps}
+use Rattle.module_job.proofs.Imports.{All, arith, common_steps, subst, sym, ◌<◌}
 use Rattle.module_job.proofs.NumberedCells.{start_pushed}
 use Rattle.module_job.proofs.cell_lists.StartSignals.push.Goals as goal
 

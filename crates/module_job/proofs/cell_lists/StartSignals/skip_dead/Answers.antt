@@ -1,6 +1,4 @@
-use Rattle.lemmas.proofs.Common.{◌∙◌, ap, slice_get, sym, unwrap_or}
-use Rattle.module_box.specs.declared.schedules.Signal.TheVariants.{Zero}
-use Rattle.module_job.specs.CellLists.{signal_from_number}
+use Rattle.module_job.proofs.Imports.{Zero, ap, signal_from_number, slice_get, sym, unwrap_or, ◌∙◌}
 use Rattle.module_job.proofs.NumberedCells.{start_found}
 use Rattle.module_job.proofs.cell_lists.StartSignals.skip_dead.Goals as goal
 

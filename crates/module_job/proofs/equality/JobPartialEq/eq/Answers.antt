@@ -1,5 +1,4 @@
-use Rattle.lemmas.proofs.Common.{◌&&◌, ◌∙◌, ◌≡◌, ap₂, nat_eq, rules, arc_value, pointwise}
-use Rattle.module_job.specs.Equality.{same_job, same_shape}
+use Rattle.module_job.proofs.Imports.{ap₂, arc_value, nat_eq, pointwise, rules, same_job, same_shape, ◌&&◌, ◌∙◌, ◌≡◌}
 use Rattle.module_job.proofs.EqualJobs.{parts_tell}
 use Rattle.module_job.proofs.equality.JobPartialEq.eq.Goals as goal
 

@@ -1,4 +1,4 @@
-use Rattle.lemmas.proofs.Common.{arith, common_steps}
+use Rattle.module_job.proofs.Imports.{arith, common_steps}
 use Rattle.module_job.proofs.EqualJobs.{stop_tests}
 use Rattle.module_job.proofs.equality.ShapePartialEq.eq.Goals as goal
 

@@ -1,4 +1,4 @@
-use Rattle.lemmas.proofs.Common.{arith, common_steps, ints}
+use Rattle.module_job.proofs.Imports.{arith, common_steps, ints}
 use Rattle.module_job.proofs.ShapeParts.{carried}
 use Rattle.module_job.proofs.job.Job.edge.Goals as goal
 

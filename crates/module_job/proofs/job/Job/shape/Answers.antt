@@ -1,5 +1,4 @@
-use Rattle.lemmas.proofs.Common.{◌∙◌, ap, sym, arc_value}
-use Rattle.module_job.specs.Shapes.{shape_of}
+use Rattle.module_job.proofs.Imports.{ap, arc_value, shape_of, sym, ◌∙◌}
 use Rattle.module_job.proofs.ShapeParts.{shape_placed}
 use Rattle.module_job.proofs.job.Job.shape.Goals as goal
 

@@ -1,4 +1,4 @@
-use Rattle.lemmas.proofs.Common.{rules}
+use Rattle.module_job.proofs.Imports.{rules}
 use Rattle.module_job.proofs.job.Job.steps.Goals as goal
 
 pub returns : goal.returns

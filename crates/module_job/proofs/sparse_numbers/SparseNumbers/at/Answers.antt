@@ -1,5 +1,6 @@
-use Rattle.lemmas.proofs.Common.{◌*◌, ◌+◌, ◌<◌, ◌∙◌, ◌≡◌, ap, arith, length, slice_get, sym, unwrap_or, common_steps}
-use Rattle.lemmas.proofs.Common.{get_or_read, unwrap_or-slice_get}
+use Rattle.module_job.proofs.Imports.{ap, arith, common_steps, length, slice_get, sym, unwrap_or, unwrap_or-slice_get}
+use Rattle.module_job.proofs.Imports.{◌*◌, ◌+◌, ◌<◌, ◌∙◌, ◌≡◌}
+use Rattle.lemmas.proofs.Common.{get_or_read}
 use Rattle.module_job.specs.SparseNumbers.{sparse_view}
 use Rattle.module_job.proofs.SparseLists.{count_numbers, none_left, none_there, number_found, past, rank}
 use Rattle.module_job.proofs.sparse_numbers.SparseNumbers.at.Goals as goal

@@ -1,4 +1,4 @@
-use Rattle.lemmas.proofs.Common.{arith, common_steps}
+use Rattle.module_job.proofs.Imports.{arith, common_steps}
 use Rattle.module_job.proofs.SparseLists.{no_entries, no_number, no_numbers}
 use Rattle.module_job.proofs.sparse_numbers.SparseNumbers.new.Goals as goal
 

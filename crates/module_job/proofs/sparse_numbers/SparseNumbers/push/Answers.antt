@@ -1,4 +1,5 @@
-use Rattle.lemmas.proofs.Common.{arith, common_steps, with_items_is}
+use Rattle.module_job.proofs.Imports.{arith, common_steps}
+use Rattle.lemmas.proofs.Common.{with_items_is}
 use Rattle.module_job.proofs.SparseLists.{number_grows, number_unmarked}
 use Rattle.module_job.proofs.sparse_numbers.SparseNumbers.push.Goals as goal
 

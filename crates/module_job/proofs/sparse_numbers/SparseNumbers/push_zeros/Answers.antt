@@ -1,4 +1,4 @@
-use Rattle.lemmas.proofs.Common.{arith, common_steps}
+use Rattle.module_job.proofs.Imports.{arith, common_steps}
 use Rattle.module_job.proofs.SparseLists.{zeros_grow, zeros_unmarked}
 use Rattle.module_job.proofs.sparse_numbers.SparseNumbers.push_zeros.Goals as goal
 

@@ -1,4 +1,4 @@
-use Rattle.lemmas.proofs.Common.{arith, common_steps}
+use Rattle.module_job.proofs.Imports.{arith, common_steps}
 use Rattle.module_job.proofs.SparseLists.{same_fields}
 use Rattle.module_job.proofs.sparse_numbers.SparseNumbersPartialEq.eq.Goals as goal
 

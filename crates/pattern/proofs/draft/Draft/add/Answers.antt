@@ -1,9 +1,6 @@
 -- The grids hold the cells that are taken, those of the line among them.
-use Rattle.lemmas.proofs.Common.{◌&&◌, ◌||◌, ◌∙◌, ap, refl, sym}
-use Rattle.pattern.specs.declared.layout_line.LayoutHeader.{LayoutHeader}
-use Rattle.bbm_rule.specs.Board.{live}
-use Rattle.pattern.specs.Layout.{Pattern, in_cells, parts_of}
-use Rattle.pattern.specs.Lines.{cell_fault, cells_of, size_fault}
+use Rattle.pattern.proofs.Imports.{LayoutHeader, Pattern, ap, cell_fault, cells_of, in_cells, live, parts_of, refl}
+use Rattle.pattern.proofs.Imports.{size_fault, sym, ◌&&◌, ◌||◌, ◌∙◌}
 use Rattle.pattern.proofs.TakenLemmas.{begun_more, ended_more, faultless_is_inside, lies_on}
 use Rattle.pattern.proofs.draft.Draft.add.Goals as goal
 
@@ -18,7 +15,7 @@ take_cells_if-requires c =
 
 pub take_cells_if-requires-2 : goal.take_cells_if-requires-2
 take_cells_if-requires-2 c =
-    lies_on c.self.inside.ended c.self.inside.layout.size
+    lies_on c.self.inside.cells_taken_at_end c.self.inside.layout.size
     (ap size_fault (sym c.size-size.ensures.size) ∙ c.size-size.ensures.limits)
     c.self.invariant.ended_width c.self.invariant.ended_height c.args.part
     (faultless_is_inside c.self.inside.layout.size (parts_of c.self.inside.layout) c.args.part
@@ -38,11 +35,14 @@ invariant_of-self-2 c =
           (parts_of c.self.inside.layout)
           (parts_of c.add.new.self) c.args.part (cells_of c.args.part) refl c.in-Ok.ensures.parts
           c.self.invariant.cells_taken_at_start
-          (λ x y. c.take_cells_if.ensures.taken x y
+          (λ x y. c.take_cells_if.ensures.cells_taken x y
           ∙ ap (λ b. live c.self.inside.cells_taken_at_start x y || (b && in_cells (cells_of c.args.part) x y))
-          c.begins.ensures);
-      ended = ended_more c.self.inside.ended c.take_cells_if-2.new.grid (parts_of c.self.inside.layout)
-          (parts_of c.add.new.self) c.args.part (cells_of c.args.part) refl c.in-Ok.ensures.parts c.self.invariant.ended
-          (λ x y. c.take_cells_if-2.ensures.taken x y
-          ∙ ap (λ b. live c.self.inside.ended x y || (b && in_cells (cells_of c.args.part) x y)) c.ends.ensures);
+          c.takes_at_start.ensures);
+      cells_taken_at_end = ended_more c.self.inside.cells_taken_at_end c.take_cells_if-2.new.grid
+          (parts_of c.self.inside.layout)
+          (parts_of c.add.new.self) c.args.part
+          (cells_of c.args.part) refl c.in-Ok.ensures.parts c.self.invariant.cells_taken_at_end
+          (λ x y. c.take_cells_if-2.ensures.cells_taken x y
+          ∙ ap (λ b. live c.self.inside.cells_taken_at_end x y || (b && in_cells (cells_of c.args.part) x y))
+          c.takes_at_end.ensures);
     }

@@ -1,7 +1,5 @@
-use Rattle.lemmas.proofs.Common.{◌∙◌, List, ap, arith, sym}
-use Rattle.pattern.specs.declared.layout_line.LayoutLine.{LayoutLine}
-use Rattle.pattern.specs.declared.layout_line.LayoutHeader.{LayoutHeader}
-use Rattle.pattern.specs.Lines.{cells_taken_at_start, ended}
+use Rattle.pattern.proofs.Imports.{LayoutHeader, LayoutLine, List, ap, arith, cells_taken_at_end, cells_taken_at_start}
+use Rattle.pattern.proofs.Imports.{sym, ◌∙◌}
 use Rattle.pattern.proofs.TakenLemmas.{is_sized}
 use Rattle.pattern.proofs.draft.Draft.new.Goals as goal
 
@@ -14,15 +12,15 @@ new-requires-clause-height c = let sized = is_sized c.args.size c.requires in
     (sized.height.0, omega (arith, sized.height.1), sized.height.2)
 
 pub invariant_of-result : goal.invariant_of-result
-unfolding cells_taken_at_start ended
+unfolding cells_taken_at_start cells_taken_at_end
 invariant_of-result c = record {
   begun_width = c.in_ok-cells_taken_at_start.ensures.size.0 ∙ ap (λ (s : LayoutHeader). s.w) (sym c.new-3.ensures.size);
   begun_height = c.in_ok-cells_taken_at_start.ensures.size.1
       ∙ ap (λ (s : LayoutHeader). s.h) (sym c.new-3.ensures.size);
-  ended_width = c.in_ok-ended.ensures.size.0 ∙ ap (λ (s : LayoutHeader). s.w) (sym c.new-3.ensures.size);
-  ended_height = c.in_ok-ended.ensures.size.1 ∙ ap (λ (s : LayoutHeader). s.h) (sym c.new-3.ensures.size);
+  ended_width = c.in_ok-cells_taken_at_end.ensures.size.0 ∙ ap (λ (s : LayoutHeader). s.w) (sym c.new-3.ensures.size);
+  ended_height = c.in_ok-cells_taken_at_end.ensures.size.1 ∙ ap (λ (s : LayoutHeader). s.h) (sym c.new-3.ensures.size);
   cells_taken_at_start = λ x y. c.in_ok-cells_taken_at_start.ensures.dead x y
       ∙ ap (λ (parts : List LayoutLine). cells_taken_at_start parts x y) (sym c.new-3.ensures.parts);
-  ended = λ x y. c.in_ok-ended.ensures.dead x y
-      ∙ ap (λ (parts : List LayoutLine). ended parts x y) (sym c.new-3.ensures.parts);
+  cells_taken_at_end = λ x y. c.in_ok-cells_taken_at_end.ensures.dead x y
+      ∙ ap (λ (parts : List LayoutLine). cells_taken_at_end parts x y) (sym c.new-3.ensures.parts);
 }

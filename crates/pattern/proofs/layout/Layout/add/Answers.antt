@@ -1,7 +1,5 @@
 -- One more line of each kind.
-use Rattle.lemmas.proofs.Common.{[], ◌++◌, ◌∷◌, ◌≡◌, arith, sym, common_steps}
-use Rattle.pattern.specs.Layout.{parts_of}
-use Rattle.pattern.specs.LayoutView.{pattern_of}
+use Rattle.pattern.proofs.Imports.{[], arith, common_steps, parts_of, pattern_of, sym, ◌++◌, ◌∷◌, ◌≡◌}
 use Rattle.pattern.proofs.Added.{with_mirror, with_ball, with_in, with_out, with_waste, good_more}
 use Rattle.pattern.proofs.layout.Layout.add.Goals as goal
 
@@ -66,6 +64,3 @@ after_waste c = with_waste (pattern_of c.self.inside) c.args.self.now
 
 pub invariant_of-self-in-Continue-branch-5 : goal.invariant_of-self-in-Continue-branch-5
 invariant_of-self-in-Continue-branch-5 c = grind (arith, common_steps, good_more, after_waste)
-
-pub returns-in_ok-push-in-Waste-clause-parts : goal.returns-in_ok-push-in-Waste-clause-parts
-returns-in_ok-push-in-Waste-clause-parts c = after_waste c

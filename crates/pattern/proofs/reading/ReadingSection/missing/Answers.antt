@@ -1,14 +1,10 @@
 -- Each name that is asked for was seen.
-use Rattle.lemmas.proofs.Common.{◌&&◌, ◌∙◌, ◌≡◌, List, None, Some, ap, ap₂, arith, false, subst, sym, true, ℕ}
-use Rattle.lemmas.proofs.Common.{common_steps, list_all}
-use Rattle.pattern.specs.Layout.{parts_of}
+use Rattle.pattern.proofs.Imports.{List, None, Some, SomethingMissing, ap, ap₂, arith, common_steps, false, has}
+use Rattle.pattern.proofs.Imports.{list_all, missing_fault, named_ports, parts_of, subst, sym, true, ℕ, ◌&&◌, ◌∙◌, ◌≡◌}
 use Rattle.pattern.specs.Readings.{ReadingView}
-use Rattle.section_text.specs.Words.{has}
-use Rattle.section_text.specs.Ports.{named_ports}
-use Rattle.pattern.specs.Lines.{allows_any_name, missing_fault}
+use Rattle.pattern.specs.Lines.{allows_any_name}
 use Rattle.pattern.proofs.ReadingLemmas.{none_missing, missing_by}
 use Rattle.pattern.proofs.reading.ReadingSection.missing.Goals as goal
-use Rattle.section_text.specs.declared.code.RefusalCode.TheVariants.{SomethingMissing}
 
 pub returns-in-Any : goal.returns-in-Any
 returns-in-Any c = grind (arith, common_steps, none_missing)

@@ -1,4 +1,4 @@
-use Rattle.lemmas.proofs.Common.{◌&&◌, ◌==◌, ◌∙◌, ap, ap₂, bytes_eq}
+use Rattle.section_text.proofs.Imports.{ap, ap₂, bytes_eq, ◌&&◌, ◌==◌, ◌∙◌}
 use Rattle.section_text.proofs.NameLemmas.{same_by_fields}
 use Rattle.section_text.proofs.name.NamePartialEq.eq.Goals as goal
 

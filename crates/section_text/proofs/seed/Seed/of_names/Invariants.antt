@@ -1,4 +1,4 @@
-use Rattle.lemmas.proofs.Common.{take}
+use Rattle.section_text.proofs.Imports.{take}
 use Rattle.sha2.specs.Hashers.{Holds512}
 use Rattle.section_text.specs.Seeding.{seed_text}
 use Rattle.section_text.proofs.seed.Seed.of_names.Given as goal

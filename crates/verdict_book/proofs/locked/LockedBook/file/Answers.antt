@@ -5,7 +5,7 @@ use Rattle.core_book.specs.declared.log_entry.LogEntry.TheVariants.{Filed}
 use Rattle.core_book.proofs.BookLaws.{closed-answers-closed}
 use Rattle.core_book.proofs.Filings.{accepted_count_after-other}
 use Rattle.core_book.proofs.Replays.{has_closing-push}
-use Rattle.verdict_book.specs.Counts.{Counts, counted}
+use Rattle.verdict_book.specs.Counts.{Counts, counts_after_reply}
 use Rattle.verdict_book.proofs.Ruled.{ruled_by}
 use Rattle.verdict_book.proofs.locked.LockedBook.file.Goals as goal
 
@@ -33,7 +33,7 @@ pub returns-in-Accepted-clause-counted : goal.returns-in-Accepted-clause-counted
 returns-in-Accepted-clause-counted g c =
     let mine = c.mine.inside in
     (λ i. record { filed = mine.filed + 1; accepted = accepted_count_after mine.accepted (sym c.in-Accepted.is i) })
-    ∙ ap (λ (m : Counts). counted m c.in_ok-reply.reply) c.mine.view_is
+    ∙ ap (λ (m : Counts). counts_after_reply m c.in_ok-reply.reply) c.mine.view_is
 
 pub invariant_of-self-in_default : goal.invariant_of-self-in_default
 invariant_of-self-in_default g c =
@@ -69,7 +69,7 @@ returns-clause-counted g c =
     (λ i. record {
       filed = mine.filed + 1;
       accepted = sym (accepted_count_after-other mine.accepted c.in_ok-reply.reply c.in_default.not-Accepted) i;
-    }) ∙ ap (λ (m : Counts). counted m c.in_ok-reply.reply) c.mine.view_is
+    }) ∙ ap (λ (m : Counts). counts_after_reply m c.in_ok-reply.reply) c.mine.view_is
 
 pub returns-in-Accepted-clause-of_book : goal.returns-in-Accepted-clause-of_book
 returns-in-Accepted-clause-of_book g c =

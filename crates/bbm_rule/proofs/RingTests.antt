@@ -1,0 +1,42 @@
+-- Rings and halos by tests on the two coordinates
+use Rattle.bbm_rule.proofs.Imports.{Bool, arith, common_steps, in_span, not, pos, sym, ℤ, ◌&&◌, ◌+ℤ◌, ◌-ℤ◌, ◌||◌, ◌∙◌}
+use Rattle.bbm_rule.proofs.Imports.{◌≡◌}
+use Rattle.lemmas.proofs.Common.{ap₂}
+use Rattle.bbm_rule.specs.Boxes.{in_box, some_neighbour, in_ring, in_halo}
+use Rattle.bbm_rule.specs.declared.block.Box2.{Box2}
+
+ring_bits : (a b c d e f : Bool) →
+    ((b && e) && (not (a && d) || not (b && d) || not (c && d) || not (a && e) || not (c && e) || not (a && f)
+    || not (b && f) || not (c && f)))
+    ≡ ((b && e) && not ((a && c) && (d && f)))
+ring_bits a b c d e f = grind arith
+
+halo_bits : (a b c d e f : Bool) →
+    (not (b && e) && ((a && d) || (b && d) || (c && d) || (a && e) || (c && e) || (a && f) || (b && f) || (c && f)))
+    ≡ (not (b && e) && ((a || b || c) && (d || e || f)))
+halo_bits a b c d e f = grind arith
+
+ring_is : (b : Box2) (x y : ℤ) → in_ring b x y ≡ (in_box b x y && not
+    ((in_span b.x b.w (x -ℤ pos 1) && in_span b.x b.w (x +ℤ pos 1))
+    && (in_span b.y b.h (y -ℤ pos 1) && in_span b.y b.h (y +ℤ pos 1))))
+unfolding in_ring some_neighbour in_box
+ring_is b x y = grind (arith, common_steps, ring_bits)
+
+halo_is : (b : Box2) (x y : ℤ) → in_halo b x y ≡ (not (in_box b x y) &&
+    ((in_span b.x b.w (x -ℤ pos 1) || in_span b.x b.w x || in_span b.x b.w (x +ℤ pos 1))
+    && (in_span b.y b.h (y -ℤ pos 1) || in_span b.y b.h y || in_span b.y b.h (y +ℤ pos 1))))
+unfolding in_halo some_neighbour in_box
+halo_is b x y = grind (arith, common_steps, halo_bits)
+
+-- what the tests answer, from what they test
+pub ring_read : (b : Box2) (x y : ℤ) (inside inner_x inner_y : Bool) → inside ≡ in_box b x y →
+    inner_x ≡ (in_span b.x b.w (x -ℤ pos 1) && in_span b.x b.w (x +ℤ pos 1)) →
+    inner_y ≡ (in_span b.y b.h (y -ℤ pos 1) && in_span b.y b.h (y +ℤ pos 1)) →
+    (inside && not (inner_x && inner_y)) ≡ in_ring b x y
+ring_read b x y inside inner_x inner_y e f g = ap₂ (λ p q. p && not q) e (ap₂ ◌&&◌ f g) ∙ sym (ring_is b x y)
+
+pub halo_read : (b : Box2) (x y : ℤ) (inside near_x near_y : Bool) → inside ≡ in_box b x y →
+    near_x ≡ (in_span b.x b.w (x -ℤ pos 1) || in_span b.x b.w x || in_span b.x b.w (x +ℤ pos 1)) →
+    near_y ≡ (in_span b.y b.h (y -ℤ pos 1) || in_span b.y b.h y || in_span b.y b.h (y +ℤ pos 1)) →
+    (not inside && (near_x && near_y)) ≡ in_halo b x y
+halo_read b x y inside near_x near_y e f g = ap₂ (λ p q. not p && q) e (ap₂ ◌&&◌ f g) ∙ sym (halo_is b x y)

@@ -1,0 +1,39 @@
+-- The cells of the box have one owner, whose number is there.
+use Rattle.border_match.proofs.Imports.{Box2, IsJob, JobView, Some, arc_value, arith, common_steps, jobs_of, length}
+use Rattle.border_match.proofs.Imports.{slice_get, subst, sym, ℕ, ◌+◌, ◌<◌, ◌≡◌, ◌≤◌}
+use Rattle.border_match.proofs.Cells.{job_at, owner_within}
+use Rattle.border_match.proofs.NearModules.{own_noted, owner_holds, owner_noted, with_among, with_below, with_keeps}
+use Rattle.border_match.proofs.borders.Borders.add_other_owner.Goals as goal
+
+-- the box of a job is within the limits
+within_limits : (j : JobView) (a : Box2) → a ≡ j.area → IsJob j → (a.x + a.w ≤ 512) × (a.y + a.h ≤ 512)
+within_limits j a same good =
+    let P : Box2 → Type 0 = λ a. (a.x + a.w ≤ 512) × (a.y + a.h ≤ 512) in
+    subst P (sym same) (good.width.2, good.height.2)
+
+pub returns-then-holds : goal.returns-then-holds
+returns-then-holds c = grind (arith, common_steps, own_noted, within_limits)
+
+pub returns : goal.returns
+returns c =
+    let b = c.args.self.now in
+    let x = c.args.cell.x in let y = c.args.cell.y in
+    let number = c.owner-number.result in
+    let owner = c.deref.result.now in
+    let near = c.args.near.now.items in
+    let new = c.add_number_once.new.near.items in
+    let is = c.in_ok-add_number_once.ensures in
+    let lt : number < length b.jobs.now =
+    subst (λ (n : ℕ). n < length b.jobs.now) (sym c.owner-number.ensures)
+    (owner_within b x y c.requires.ready c.requires.inside) in
+    let got : slice_get (jobs_of b) number ≡ Some owner =
+    job_at arc_value b.jobs.now number _ owner lt c.deref.ensures in
+    let same = c.area.ensures.area in
+    record {
+      noted = owner_noted b new number owner c.area.result c.requires.ready same got (with_among near new number is);
+      holds = owner_holds b x y owner c.area.result c.requires.ready c.requires.inside same
+          (subst (λ (n : ℕ). slice_get (jobs_of b) n ≡ Some owner) c.owner-number.ensures got);
+      within = within_limits owner c.area.result same c.area.ensures.good;
+      kept = with_keeps near new number is;
+      below = with_below b near new number is c.requires.below lt;
+    }

@@ -1,0 +1,46 @@
+-- Each turn notes the cells of one module's box.
+use Rattle.border_match.proofs.Imports.{Box2, ap, arith, common_steps, rules}
+use Rattle.border_match.proofs.Cells.{area_at, in_whole}
+use Rattle.border_match.proofs.NearModules.{all_columns, columns_more, no_column}
+use Rattle.border_match.proofs.borders.Borders.add_other_owners_in_row.Goals as goal
+
+pub columns-init : goal.columns-init
+columns-init c = grind (arith, common_steps, no_column)
+
+pub add_other_owner-requires-clause-inside : goal.add_other_owner-requires-clause-inside
+add_other_owner-requires-clause-inside c = grind (arith, common_steps, in_whole)
+
+pub columns-smaller : goal.columns-smaller
+columns-smaller c = grind (arith, common_steps, area_at)
+
+pub columns-preserved : goal.columns-preserved
+columns-preserved c =
+    let owner = c.in_ok-owner.owner in
+    let now = c.in_ok-owner.ensures in
+    let before = c.columns.invariant in
+    let at = area_at owner c.columns.x c.args.y _ _ (search rules) (search rules) now.holds in
+    let least = c.min-next.ensures in
+    record {
+      noted = columns_more c.args.self.now c.columns.near.items c.add_other_owner.new.near.items c.args.y c.columns.next
+          c.min-next.result c.columns.x owner _ _ (search rules) (search rules) now.holds (omega (arith, least))
+          (omega (arith, least)) before.noted now.kept now.noted;
+      after = omega (arith, least, before.after, at.1.1);
+      kept = λ k h. now.kept k (before.kept k h);
+      below = now.below;
+    }
+
+pub returns : goal.returns
+returns c =
+    let b = c.args.self.now in
+    let left = ap (λ (a : Box2). a.x) c.area-area.ensures.area in
+    let wide = ap (λ (a : Box2). a.w) c.area-area.ensures.area in
+    let least = c.min-end.ensures in
+    let end = c.columns-test.false in
+    let all = c.columns.invariant in
+    record {
+      noted = all_columns b c.columns.near.items c.args.y c.columns.next c.columns.x c.requires.ready
+          (λ d from lt. omega (arith, left, wide, least, end, from, lt)) all.noted;
+      after = all.after;
+      kept = all.kept;
+      below = all.below;
+    }

@@ -1,6 +1,0 @@
-use Rattle.lemmas.proofs.Common.{arith, common_steps, true_from_not}
-use Rattle.border_match.proofs.Unheld.{no_elements, unheld_unmoved}
-use Rattle.border_match.proofs.signals.has_line_at_all_times.Goals as goal
-
-pub returns : goal.returns
-returns c = grind (arith, common_steps, unheld_unmoved, no_elements, true_from_not)

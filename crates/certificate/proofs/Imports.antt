@@ -1,0 +1,100 @@
+-- The names from outside this folder that two or more proofs of this crate use, in one file to import them from.
+pub use Rattle.bbm_rule.specs.Boxes.{Tile}
+pub use Rattle.bbm_rule.specs.declared.block.Box2.{Box2}
+pub use Rattle.bbm_rule.specs.declared.block.Cell.{Cell}
+pub use Rattle.certificate.specs.Grammars.{CertView, certificate_grammar}
+pub use Rattle.certificate.specs.HaloPlaces.{AddsEdgePlaces, AreNeighbourEdgePlaces, AreReady, IsInnerCell}
+pub use Rattle.certificate.specs.HaloPlaces.{edge_lines_at, list_at_or_empty}
+pub use Rattle.certificate.specs.Jobs.{IsJobOf, all_times_of_line, demand_outside_mirrors, events_of_line, line_signals}
+pub use Rattle.certificate.specs.Jobs.{one_or_named_wire, stops_of_lines, wire_or_zero}
+unfoldable pub use Rattle.certificate.specs.Jobs.{end_demand, start_signal}
+pub use Rattle.certificate.specs.Keeps.{is_kept, unkept}
+unfoldable pub use Rattle.certificate.specs.Keeps.{unkept_from}
+pub use Rattle.certificate.specs.LayoutTablesView.{AddsCells, IsPortWireLocalAt, LayoutTablesView}
+pub use Rattle.certificate.specs.SeenTimes.{IsStopTimeTable, time_in_table}
+pub use Rattle.certificate.specs.SliceLines.{slice_lines}
+pub use Rattle.certificate.specs.StopLists.{AreStops}
+pub use Rattle.certificate.specs.Text.{entry_text, form_text}
+unfoldable pub use Rattle.certificate.specs.Text.{certificate_text}
+pub use Rattle.certificate.specs.Times.{all_stops, delay_and_meet_lines, delay_line, earlier, last_times, later}
+pub use Rattle.certificate.specs.Times.{meet_line, stop_times_of_wire, time_lines_of_gates}
+unfoldable pub use Rattle.certificate.specs.Times.{lines_by_number}
+pub use Rattle.certificate.specs.Timetables.{AreSignalLists, HasLocalWire, IsWithinMaxSize, borders_in}
+pub use Rattle.certificate.specs.declared.implied_halos.ModuleSlice.{ModuleSlice}
+pub use Rattle.certificate.specs.declared.times.TimeLine.{TimeLine}
+pub use Rattle.certificate_lines.proofs.FlatParts.{flat_all, flat_at}
+pub use Rattle.certificate_lines.proofs.Imports.{All, All-append, All-nil, All-tail, AreLocalLines, Bool, Circuit}
+pub use Rattle.certificate_lines.proofs.Imports.{CircuitPorts, Equal, Gate, Greater, IfSome, IsEven, IsModule, IsTrue}
+pub use Rattle.certificate_lines.proofs.Imports.{Less, List, ModuleLines, Netlist, None, Option, Ordering, Setting}
+pub use Rattle.certificate_lines.proofs.Imports.{Some, [], and_from, and_parts, ap, append-nil, append_assoc, ap₂}
+pub use Rattle.certificate_lines.proofs.Imports.{areas, arith, cases_Bool, cell_same, circuit_of, codes, common_steps}
+pub use Rattle.certificate_lines.proofs.Imports.{cond-false, cond-true, cut_in, cuts, drop, edge_in, edges, eqb-true}
+pub use Rattle.certificate_lines.proofs.Imports.{false, filter, flat_map, flat_map-append, gates, get_or}
+pub use Rattle.certificate_lines.proofs.Imports.{get_or_from_slice_get, halo_in, if◌then◌else◌, inl, inr, ints}
+pub use Rattle.certificate_lines.proofs.Imports.{is_among, is_at, is_last_module_incomplete, is_local, is_lt, is_module}
+pub use Rattle.certificate_lines.proofs.Imports.{is_nonlocal_signal, keep_in, known, last_module, length, length-map}
+pub use Rattle.certificate_lines.proofs.Imports.{list_all, list_any, local_wires, map, map-append, mapped_from}
+pub use Rattle.certificate_lines.proofs.Imports.{module_with_line, nat_lt, nat_tests, not, option_map, option_to_list}
+pub use Rattle.certificate_lines.proofs.Imports.{pos, range_with_len, rectangle, refl, replicate, row_cells, rules}
+pub use Rattle.certificate_lines.proofs.Imports.{size_sides, slice_get, slice_get-get_or, slice_get_within, stop_in}
+pub use Rattle.certificate_lines.proofs.Imports.{subst, suc, sym, take, take_all, take_more, to_z, true, true_from_not}
+pub use Rattle.certificate_lines.proofs.Imports.{true≢false, use_in, w32, whole, wire_of, zero, ℕ, ℤ, ◌&&◌, ◌++◌, ◌+◌}
+pub use Rattle.certificate_lines.proofs.Imports.{◌-◌, ◌<◌, ◌==◌, ◌||◌, ◌∙◌, ◌∷◌, ◌≡◌, ◌≤◌, ◌⊎◌}
+unfoldable pub use Rattle.certificate_lines.proofs.Imports.{AreInOrder, StarsExcludeLaterTimes, add_line, body_lines}
+unfoldable pub use Rattle.certificate_lines.proofs.Imports.{cell_cmp, cell_of, change_last, end_fault}
+unfoldable pub use Rattle.certificate_lines.proofs.Imports.{has_nonlocal_port, in_box, in_halo, is_cut, last_of}
+unfoldable pub use Rattle.certificate_lines.proofs.Imports.{line_cmp, may_precede, modules_of, port_at, rank_of}
+unfoldable pub use Rattle.certificate_lines.proofs.Imports.{rectangle_cells, size_fault, sort_number_of}
+pub use Rattle.certificate_lines.proofs.InList.{all_in, placed}
+pub use Rattle.certificate_lines.proofs.LayoutPorts.{balls_on_layout, wastes_on_layout}
+pub use Rattle.certificate_lines.proofs.LineOrder.{AreDistinct, Rises, each_in, filter_in, in_each, in_filter, in_flat}
+pub use Rattle.certificate_lines.proofs.LineOrder.{in_ordered, line_total, ordered_in, ordered_rises, pairs_filter}
+pub use Rattle.certificate_lines.proofs.LineOrder.{rising_same}
+unfoldable pub use Rattle.certificate_lines.proofs.LineOrder.{In}
+pub use Rattle.certificate_lines.proofs.Lists.{any_at, some_is}
+pub use Rattle.certificate_lines.proofs.ModulePushes.{both_none, no_code}
+pub use Rattle.certificate_lines.proofs.ModuleSplit.{split_module, split_other}
+pub use Rattle.certificate_lines.proofs.Pairs.{pairs_flat, rising_of}
+unfoldable pub use Rattle.certificate_lines.proofs.Pairs.{Each, Pairs}
+pub use Rattle.certificate_lines.specs.Entries.{cut_wires, halos, keeps, stops}
+pub use Rattle.certificate_lines.specs.Modules.{AreModules, HasLocalPorts}
+pub use Rattle.certificate_lines.specs.Orders.{time_rank}
+pub use Rattle.certificate_lines.specs.Rules.{leaves_gap}
+unfoldable pub use Rattle.certificate_lines.specs.Rules.{entry_fault}
+pub use Rattle.certificate_lines.specs.Settings.{setting_of}
+pub use Rattle.certificate_lines.specs.Versions.{is_haloless_version}
+unfoldable pub use Rattle.certificate_lines.specs.Versions.{border_line_cmp, edge_lines_beside, is_halo}
+unfoldable pub use Rattle.certificate_lines.specs.Versions.{lacks_edge_wire_beside, modules_by_version, precedes_halos}
+unfoldable pub use Rattle.certificate_lines.specs.Versions.{sorted_border_lines, with_halos, without_halos}
+pub use Rattle.certificate_lines.specs.declared.certificate_line.BorderLine.{BorderLine}
+pub use Rattle.certificate_lines.specs.declared.certificate_line.CertificateLine.{CertificateLine}
+pub use Rattle.certificate_lines.specs.declared.certificate_line.CertificateLine.TheVariants.{Cut, Edge, Halo, Keep}
+pub use Rattle.certificate_lines.specs.declared.certificate_line.CertificateLine.TheVariants.{Module, Stop, Use}
+pub use Rattle.certificate_lines.specs.declared.certificate_line.StopLine.{StopLine}
+pub use Rattle.circuit.proofs.Imports.{gate_of, is_inverse}
+pub use Rattle.circuit.specs.declared.circuit_line.CircuitLine.{CircuitLine}
+pub use Rattle.lemmas.proofs.Common.{All-cons, Contains, IfOk-weaker, IsPermutation, fold, ltb, max, min, nat_cmp}
+pub use Rattle.lemmas.proofs.Common.{nat_le, of_z, or_parts, ordering_then, ranks_by}
+pub use Rattle.module_box.proofs.Imports.{IsRising, LocalNet, circuit_wire, eqb, netlist_of, same_Some, wires, ◌+ℤ◌}
+unfoldable pub use Rattle.module_box.proofs.Imports.{all_times_at, event_at, in_ring, in_span, moment_cmp}
+pub use Rattle.module_box.specs.Moves.{IsInShiftRange, IsSmallShift}
+pub use Rattle.module_box.specs.Schedules.{Signals}
+unfoldable pub use Rattle.module_box.specs.Schedules.{signal_at}
+pub use Rattle.module_box.specs.declared.schedules.AllTimesSignal.{AllTimesSignal}
+pub use Rattle.module_box.specs.declared.schedules.Signal.{Signal}
+pub use Rattle.module_box.specs.declared.schedules.Signal.TheVariants.{One, Zero}
+pub use Rattle.module_box.specs.declared.schedules.TimedSignal.{TimedSignal}
+pub use Rattle.module_job.proofs.Imports.{All-head, arc_value, mapped_at, moved_stop, unwrap_or, ◌≢◌}
+pub use Rattle.module_job.specs.Jobs.{JobView}
+pub use Rattle.module_job.specs.Shapes.{shift_to_origin, stops_in_plane}
+pub use Rattle.module_job.specs.Signals.{IsDemandWireBelow, IsSignalWireBelow, renumber_all_times, renumber_demand}
+pub use Rattle.module_job.specs.Signals.{renumber_event, renumber_signal, renumber_signals}
+pub use Rattle.module_job.specs.declared.job.Demand.{Demand}
+pub use Rattle.module_job.specs.declared.job.Demand.TheVariants.{Dead, Live}
+pub use Rattle.pattern.proofs.Imports.{Pattern, in_cells, in_rectangles}
+pub use Rattle.pattern.proofs.TakenLemmas.{is_sized}
+pub use Rattle.pattern.specs.declared.layout_line.LayoutHeader.{LayoutHeader}
+pub use Rattle.section_text.proofs.Good.{AreFaultless, IsFaultless}
+pub use Rattle.section_text.proofs.Imports.{drop_all}
+pub use Rattle.section_text.specs.declared.code.RefusalCode.TheVariants.{PastLimit, SomethingMissing}
+pub use Rattle.section_text.specs.declared.section.Form.TheVariants.{End, Header, Item}

@@ -1,6 +1,0 @@
-use Rattle.lemmas.proofs.Common.{arith, common_steps}
-use Rattle.certificate.proofs.HaloLists.{list_pushed}
-use Rattle.certificate.proofs.halo_places.empty_place_lists.Goals as goal
-
-pub boxes-preserved : goal.boxes-preserved
-boxes-preserved c = grind (arith, common_steps, list_pushed)

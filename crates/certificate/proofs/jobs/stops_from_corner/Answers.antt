@@ -1,0 +1,63 @@
+use Rattle.certificate.proofs.Imports.{All, AreStops, Box2, Circuit, IfOk-weaker, IsInShiftRange, IsSmallShift}
+use Rattle.certificate.proofs.Imports.{IsWithinMaxSize, List, LocalNet, StopLine, ap, arith, circuit_of, common_steps}
+use Rattle.certificate.proofs.Imports.{flat_map, ints, map, moved_stop, of_z, pos, shift_to_origin, stop_in}
+use Rattle.certificate.proofs.Imports.{stops_in_plane, subst, sym, to_z, w32, ℕ, ℤ, ◌∙◌, ◌≡◌}
+use Rattle.module_job.specs.declared.job.Stop.{Stop}
+use Rattle.module_job.proofs.ShapeParts.{back_forth, stops_back}
+use Rattle.certificate.proofs.NearLines.{near_stops, near_moved_stops}
+use Rattle.certificate.proofs.StopLemmas.{stops_stand}
+use Rattle.certificate.proofs.jobs.stops_from_corner.Goals as goal
+
+-- what is said of the stops is said of all lines
+of_all : {c : Circuit} {l : LocalNet} {own all : List StopLine} {ss : List Stop} → AreStops c l own ss → own ≡ all →
+    AreStops c l all ss
+of_all {c} {l} {ss = ss} said are = subst (λ lines. AreStops c l lines ss) are said
+
+pub moved_stops-requires-clause-cells : goal.moved_stops-requires-clause-cells
+moved_stops-requires-clause-cells c =
+    subst (All (λ (s : Stop). IsInShiftRange s.at.cell)) (sym c.as_slice.ensures.value)
+    (near_stops c.in_ok-stops.stops.items
+    (stops_stand (λ q. IsWithinMaxSize q.cell) (circuit_of c.args.circuit.now) c.args.locals.now
+    (flat_map stop_in c.args.lines.now) c.in_ok-stops.stops.items
+    (of_all c.in_ok-stops.ensures c.stop_lines.ensures) c.requires.low))
+
+-- a small number is passed as it is
+passed : (z r : ℤ) → r ≡ z → IsSmallShift r → to_z w32 (of_z w32 r) ≡ z
+passed z r e small = omega (arith, ints, e, small)
+
+-- what is moved back by these numbers
+moved_back : (x y : ℕ) (dx dy : ℤ) (ss given own : List Stop) → dx ≡ shift_to_origin x → IsSmallShift dx →
+    dy ≡ shift_to_origin y → IsSmallShift dy →
+    given ≡ ss →
+    own ≡ map (moved_stop (to_z w32 (of_z w32 dx)) (to_z w32 (of_z w32 dy))) given →
+    own ≡ map (moved_stop (shift_to_origin x) (shift_to_origin y)) ss
+moved_back x y dx dy ss given own e p f q same is =
+    is ∙ (λ i. map (moved_stop (passed (shift_to_origin x) dx e p i) (passed (shift_to_origin y) dy f q i)) (same i))
+
+-- stops that were moved to the corner of the box are the given ones when they are counted in the plane
+there : (b : Box2) (ss own : List Stop) → own ≡ map (moved_stop (shift_to_origin b.x) (shift_to_origin b.y)) ss →
+    stops_in_plane b own ≡ ss
+there b ss own is = ap (stops_in_plane b) is
+    ∙ stops_back (shift_to_origin b.x) (shift_to_origin b.y) (pos b.x) (pos b.y) ss (back_forth b.x) (back_forth b.y)
+
+pub returns-clause-are_stops : goal.returns-clause-are_stops
+returns-clause-are_stops c =
+    let ss = c.in_ok-stops.stops.items in
+    let area : Box2 = c.args.area in
+    IfOk-weaker c.moved_stops.result _ _ (λ own is.
+    subst (AreStops (circuit_of c.args.circuit.now) c.args.locals.now (flat_map stop_in c.args.lines.now))
+    (sym (there area ss own.items
+    (grind (arith, common_steps, moved_back))))
+    (of_all c.in_ok-stops.ensures c.stop_lines.ensures)) c.moved_stops.ensures
+
+pub returns-clause-in_shift_range : goal.returns-clause-in_shift_range
+returns-clause-in_shift_range c =
+    let ss = c.in_ok-stops.stops.items in
+    let area : Box2 = c.args.area in
+    let low = stops_stand (λ q. IsWithinMaxSize q.cell) (circuit_of c.args.circuit.now) c.args.locals.now
+    (flat_map stop_in c.args.lines.now) ss (of_all c.in_ok-stops.ensures c.stop_lines.ensures)
+    c.requires.low in
+    IfOk-weaker c.moved_stops.result _ _ (λ own is.
+    subst (All (λ (s : Stop). IsInShiftRange s.at.cell))
+    (grind (arith, common_steps, moved_back))
+    (near_moved_stops area.x area.y ss c.requires.corner.0 c.requires.corner.1 low)) c.moved_stops.ensures

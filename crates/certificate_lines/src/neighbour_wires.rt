@@ -1,0 +1,211 @@
+//! Whether an edge line names a wire that is not local in a module beside it.
+ghost use Rattle.std.specs.Prelude.{◌≡◌, ◌<◌, List, map, ◌&&◌, Some, length, slice_get, IfSome, IsTrue};
+ghost use Rattle.std.specs.List.{flat_map, list_any};
+ghost use Rattle.certificate_lines.specs.Entries.{ModuleLines, areas, counts_of, edge_in, known, modules_of};
+ghost use Rattle.certificate_lines.specs.ModuleParts.{AreInBox};
+ghost use Rattle.certificate_lines.specs.Rules.{whole};
+ghost use Rattle.bbm_rule.specs.Boxes.{in_box};
+ghost use Rattle.certificate_lines.specs.BuilderView.{AreApart, AreModuleOwners, IsModuleWithCell, does_neighbour_lack_wire, is_outside_and_nonlocal, is_nonlocal_in_neighbour, lacks_edge_wire};
+ghost use Rattle.certificate_lines.specs.Versions.{lacks_edge_wire_beside};
+
+use crate::blocks::odd_partner;
+use crate::builder::Builder;
+use crate::certificate_line::Counts;
+use crate::counts::boxes_of;
+use crate::rules::is_local_wire;
+use crate::stored_line::{StoredBorder, StoredLine};
+use crate::tiles::whole_of;
+use crate::wire_list::WireList;
+use bbm_rule::Cell;
+use module_box::{Owners, owner_table};
+use std::alloc::Global;
+
+// The number of the first module that has the cell.
+fn first_with_cell(modules: &[Counts], cell: Cell) -> Option<usize>
+    ensures { (ms : List ModuleLines) → modules.now ≡ map counts_of ms →
+        IsModuleWithCell ms cell result }
+{
+    'modules: for number in 0..modules.len() {
+        if modules[number].area.holds(cell) {
+            return Some(number);
+        }
+    }
+    None
+}
+
+impl<'a> Builder<'a> {
+    // The wires that are local in the module of this number.
+    fn local_wires_of_module(&self, number: usize) -> &WireList
+        requires { number < length (modules_of self.now.entries) }
+        ensures { slice_get (map (known self.now.setting.circuit) (modules_of self.now.entries))
+            number ≡ Some result.now.wires }
+    {
+        let last = self.earlier.len();
+        if number + 1 < last {
+            &self.earlier[number + 1]
+        } else {
+            &self.known
+        }
+    }
+}
+
+impl<'a> Builder<'a> {
+    // Which module has each cell, or `None` if there is no memory or the boxes leave a gap.
+    fn owners(&self, alloc: Global) -> Option<Owners>
+        ensures { IfSome result (AreModuleOwners self.now) }
+    {
+        let Ok(boxes) = boxes_of(alloc, &self.modules) else {
+            return None;
+        };
+        let size = self.tables.size();
+        match owner_table(alloc, size.w, size.h, boxes.as_slice()) {
+            Ok(owners) => Some(owners),
+            Err(_) => None,
+        }
+    }
+
+    // Whether the cell is outside the module of this number, and the wire is unknown or not local there.
+    fn is_outside_and_nonlocal(&self, number: usize, cell: Cell, wire: Option<u16>) -> bool
+        requires { number < length (modules_of self.now.entries) }
+        ensures { (m : ModuleLines) → slice_get (modules_of self.now.entries) number ≡ Some m →
+            result ≡ is_outside_and_nonlocal self.now.setting.circuit cell wire m }
+    {
+        if self.modules[number].area.holds(cell) {
+            return false;
+        }
+        !is_local_wire(self.local_wires_of_module(number), wire)
+    }
+
+    // The number of the module that has the cell, if one has it. Without a table it asks each module.
+    #[inline(always)]
+    fn owner(&self, owners: &Option<Owners>, cell: Cell) -> Option<usize>
+        requires { IfSome owners.now (AreModuleOwners self.now) }
+        ensures owner { IsModuleWithCell (modules_of self.now.entries) cell result }
+        ensures apart { AreApart (areas (modules_of self.now.entries)) }
+    {
+        let Some(owners) = owners else {
+            return first_with_cell(&self.modules, cell);
+        };
+        if !whole_of(self.tables.size()).holds(cell) {
+            return None;
+        }
+        Some(owners.owner(cell))
+    }
+
+    // Whether some module has the cell `beside` and not the cell, and the wire is unknown or not local in it.
+    // Inlined, since it runs three times for each edge line.
+    #[inline(always)]
+    fn is_nonlocal_at_other_owner(
+        &self,
+        owners: &Option<Owners>,
+        cell: Cell,
+        wire: Option<u16>,
+        beside: Cell,
+    ) -> bool
+        requires { IfSome owners.now (AreModuleOwners self.now) }
+        ensures { result
+            ≡ list_any (λ m. in_box m.area beside.x beside.y
+            && is_outside_and_nonlocal self.now.setting.circuit cell wire m)
+            (modules_of self.now.entries) }
+    {
+        match self.owner(owners, beside) {
+            Some(number) => self.is_outside_and_nonlocal(number, cell, wire),
+            None => false,
+        }
+    }
+
+    // Whether some module has the cell in its halo, and the wire is unknown or not local there.
+    fn is_nonlocal_in_neighbour(
+        &self,
+        owners: &Option<Owners>,
+        cell: Cell,
+        wire: Option<u16>,
+    ) -> bool
+        requires owners { IfSome owners.now (AreModuleOwners self.now) }
+        requires inside { IsTrue (in_box (whole self.now.setting.size) cell.x cell.y) }
+        ensures { result
+            ≡ is_nonlocal_in_neighbour self.now.setting.circuit (modules_of self.now.entries) cell
+            wire }
+    {
+        let _size = self.tables.size();
+        let Cell { x, y } = cell;
+        // Corners and sides are even, so a box with a neighbour of the cell has it or one of these.
+        let column = odd_partner(x);
+        let row = odd_partner(y);
+        let beside = self.is_nonlocal_at_other_owner(owners, cell, wire, Cell { x: column, y });
+        let above = self.is_nonlocal_at_other_owner(owners, cell, wire, Cell { x, y: row });
+        let corner = self.is_nonlocal_at_other_owner(
+            owners,
+            cell,
+            wire,
+            Cell { x: column, y: row },
+        );
+        beside | above | corner
+    }
+
+    // Whether some module has the cell of an edge line in its halo, and lacks its wire.
+    fn does_neighbour_lack_wire(&self, owners: &Option<Owners>, border: &StoredBorder) -> bool
+        requires owners { IfSome owners.now (AreModuleOwners self.now) }
+        requires inside { IsTrue
+            (in_box (whole self.now.setting.size) border.now.cell.x border.now.cell.y) }
+        ensures { result
+            ≡ does_neighbour_lack_wire self.now.setting.circuit (modules_of self.now.entries)
+            border.now }
+    {
+        match border.wire_name() {
+            None => false,
+            Some(_) => {
+                // The wire is found once for all modules beside the cell.
+                let wire = self.tables.signal_wire(border);
+                self.is_nonlocal_in_neighbour(owners, border.cell(), wire)
+            }
+        }
+    }
+
+    // Whether a line is an edge line of which some module has the cell in its halo, and lacks the wire.
+    fn neighbour_lacks_edge_wire(&self, owners: &Option<Owners>, line: &StoredLine) -> bool
+        requires owners { IfSome owners.now (AreModuleOwners self.now) }
+        requires inside { AreInBox (whole self.now.setting.size) (edge_in line.now) }
+        ensures { result
+            ≡ list_any (does_neighbour_lack_wire self.now.setting.circuit
+            (modules_of self.now.entries)) (edge_in line.now) }
+    {
+        match line.edge() {
+            Some(border) => self.does_neighbour_lack_wire(owners, &border),
+            None => false,
+        }
+    }
+
+    // Whether some module lacks the wire of one of the edge lines, by the modules beside each of them.
+    fn do_neighbours_lack_a_wire(&self, owners: &Option<Owners>, lines: &[StoredLine]) -> bool
+        requires owners { IfSome owners.now (AreModuleOwners self.now) }
+        requires inside { AreInBox (whole self.now.setting.size) (flat_map edge_in lines.now) }
+        ensures { result
+            ≡ list_any (lacks_edge_wire self.now.setting.circuit (flat_map edge_in lines.now))
+            (modules_of self.now.entries) }
+    {
+        'lines: for line in lines {
+            if self.neighbour_lacks_edge_wire(owners, line) {
+                return true;
+            }
+        }
+        false
+    }
+}
+
+impl<'a> Builder<'a> {
+    /// Returns whether some module lacks the wire of an edge line beside it.
+    ///
+    /// It takes memory for a table of the modules that have the cells. With the table it asks at most three modules for
+    /// each edge line. If there is no memory for the table, it asks each module.
+    pub fn lacks_edge_wire_beside(&self, alloc: Global) -> bool
+        ensures { result ≡ lacks_edge_wire_beside self.now.setting (modules_of self.now.entries) }
+    {
+        let size = self.tables.size();
+        if size.steps <= 1 {
+            return false;
+        }
+        let owners = self.owners(alloc);
+        self.do_neighbours_lack_a_wire(&owners, self.entries.as_slice())
+    }
+}

@@ -1,0 +1,155 @@
+-- Blocks that some of their cells hold
+use Rattle.lanes.proofs.Imports.{AreWords, BlockPlaces, Bool, HasValueUnderAll, IsStable, List, Planes, ap, arith, bit}
+use Rattle.lanes.proofs.Imports.{bit-zero, bit_ones, by_lt_or_le, cell_word_bit, common_steps, false, false≢true}
+use Rattle.lanes.proofs.Imports.{get_or, inl, inr, mul-le-mul_left, refl, true, turned, ℕ, ◌*◌, ◌+◌, ◌<◌, ◌||◌, ◌∙◌}
+use Rattle.lanes.proofs.Imports.{◌≡◌, ◌≤◌, ◌⊎◌}
+use Rattle.lemmas.proofs.Common.{or_left, or_right}
+use Rattle.bbm_rule.proofs.BitLemmas.{bit_above}
+use Rattle.lanes.specs.Held.{HasLiveDiagonals, IsEmptyBlock, IsBlockHeldByCorners}
+
+-- ---- cells whose words are the same
+pub room_of : (w u n long : ℕ) → u < n → long ≡ w * n → w * u + w ≤ long
+room_of w u n long l e = let m : w * (u + 1) ≤ w * n = mul-le-mul_left w (omega arith) in omega (arith, m, e)
+
+pub run_room : (w at n cells long : ℕ) → at + n ≤ cells → long ≡ w * cells → w * at + w * n ≤ long
+run_room w at n cells long l e = let m : w * (at + n) ≤ w * cells = mul-le-mul_left w l in omega (arith, m, e)
+
+pub all_live : (w at : ℕ) (cells : List ℕ) →
+    ((k : ℕ) → k < w → get_or cells (w * at + k) 0 ≡ 18446744073709551615) →
+    HasValueUnderAll true w (cell_word_bit w cells at)
+all_live w at cells same k j lk lj = ap (λ (n : ℕ). bit n j) (same k lk) ∙ bit_ones j lj
+
+pub all_dead : (w at : ℕ) (cells : List ℕ) → ((k : ℕ) → k < w → get_or cells (w * at + k) 0 ≡ 0) →
+    HasValueUnderAll false w (cell_word_bit w cells at)
+all_dead w at cells same k j lk lj = ap (λ (n : ℕ). bit n j) (same k lk) ∙ bit-zero j
+
+-- ---- the rule on blocks whose diagonals both have a live cell, or none
+both_live : (a d b c : Bool) → (a || d) ≡ true → (b || c) ≡ true → turned a d b c ≡ a
+unfolding turned
+both_live true true true true e f = refl
+both_live true true true false e f = refl
+both_live true true false true e f = refl
+both_live true true false false e f = absurd (false≢true f)
+both_live true false true true e f = refl
+both_live true false true false e f = refl
+both_live true false false true e f = refl
+both_live true false false false e f = absurd (false≢true f)
+both_live false true true true e f = refl
+both_live false true true false e f = refl
+both_live false true false true e f = refl
+both_live false true false false e f = absurd (false≢true f)
+both_live false false b c e f = absurd (false≢true e)
+
+none_live : turned false false false false ≡ false
+unfolding turned
+none_live = refl
+
+swap_live : (a d : Bool) → (a || d) ≡ true → (d || a) ≡ true
+swap_live true d e = or_right d true refl
+swap_live false true e = refl
+swap_live false false e = e
+
+-- what a turn makes of four cells
+pub record TurnsBits (w : ℕ) (a b c d a' b' c' d' : ℕ → ℕ → Bool) : Type 0 where
+  pub upper_left : (k j : ℕ) → k < w → j < 64 → a' k j ≡ turned (a k j) (d k j) (b k j) (c k j)
+  pub upper_right : (k j : ℕ) → k < w → j < 64 → b' k j ≡ turned (b k j) (c k j) (a k j) (d k j)
+  pub lower_left : (k j : ℕ) → k < w → j < 64 → c' k j ≡ turned (c k j) (b k j) (d k j) (a k j)
+  pub lower_right : (k j : ℕ) → k < w → j < 64 → d' k j ≡ turned (d k j) (a k j) (c k j) (b k j)
+
+-- a cell stays
+abbrev pub StaysBits : ℕ → (ℕ → ℕ → Bool) → (ℕ → ℕ → Bool) → Type 0
+StaysBits w a a' = (k j : ℕ) → k < w → j < 64 → a' k j ≡ a k j
+
+-- a block stays
+pub record BlockStays (w : ℕ) (a b c d a' b' c' d' : ℕ → ℕ → Bool) : Type 0 where
+  pub upper_left : StaysBits w a a'
+  pub upper_right : StaysBits w b b'
+  pub lower_left : StaysBits w c c'
+  pub lower_right : StaysBits w d d'
+
+-- a block is turned or stays
+abbrev pub MayTurn : ℕ → (a b c d a' b' c' d' : ℕ → ℕ → Bool) → Type 0
+MayTurn w a b c d a' b' c' d' = TurnsBits w a b c d a' b' c' d' ⊎ BlockStays w a b c d a' b' c' d'
+
+-- at each place a turn leaves the four bits as they are
+record IsCalmAt (a b c d : Bool) : Type 0 where
+  upper_left : turned a d b c ≡ a
+  upper_right : turned b c a d ≡ b
+  lower_left : turned c b d a ≡ c
+  lower_right : turned d a c b ≡ d
+
+calm_live : (a b c d : Bool) → (a || d) ≡ true → (b || c) ≡ true → IsCalmAt a b c d
+calm_live a b c d main anti = grind (arith, common_steps, both_live, swap_live)
+
+calm_dead : (a b c d : Bool) → a ≡ false → b ≡ false → c ≡ false → d ≡ false → IsCalmAt a b c d
+calm_dead a b c d ea eb ec ed = grind (arith, common_steps, none_live)
+
+one_live : (w : ℕ) (A D : Type 0) (a d : ℕ → ℕ → Bool) →
+    (A × HasValueUnderAll true w a) ⊎ (D × HasValueUnderAll true w d) → (k j : ℕ) →
+    k < w → j < 64 → (a k j || d k j) ≡ true
+one_live w A D a d (inl h) k j lk lj = or_left (a k j) (d k j) (h.1 k j lk lj)
+one_live w A D a d (inr h) k j lk lj = or_right (a k j) (d k j) (h.1 k j lk lj)
+
+held_calm : (w : ℕ) (A B C D : Type 0) (a b c d : ℕ → ℕ → Bool) → IsBlockHeldByCorners w A B C D a b c d → (k j : ℕ) →
+    k < w →
+    j < 64 → IsCalmAt (a k j) (b k j) (c k j) (d k j)
+held_calm w A B C D a b c d (inl h) k j lk lj = grind (arith, common_steps, calm_live, one_live)
+held_calm w A B C D a b c d (inr h) k j lk lj = grind (arith, common_steps, calm_dead)
+
+-- a block of words that is held
+pub held_stable : (b : BlockPlaces) (p : Planes) (A B C D : Type 0) → AreWords p →
+    IsBlockHeldByCorners p.words A B C D (cell_word_bit p.words p.odd.items b.odd)
+    (cell_word_bit p.words p.right.items b.right) (cell_word_bit p.words p.down.items b.down)
+    (cell_word_bit p.words p.even.items b.even) → IsStable b p
+held_stable b p A B C D words held = (
+  λ k l j. ((calm k j l).upper_left, (calm k j l).lower_right),
+  λ k l j. ((calm k j l).upper_right, (calm k j l).lower_left),
+)
+  where
+    calm : (k j : ℕ) → k < p.words →
+        IsCalmAt (cell_word_bit p.words p.odd.items b.odd k j) (cell_word_bit p.words p.right.items b.right k j)
+        (cell_word_bit p.words p.down.items b.down k j) (cell_word_bit p.words p.even.items b.even k j)
+    calm k j l = by_lt_or_le j 64
+        (λ h. held_calm p.words A B C D _ _ _ _ held k j l h)
+        (λ g. calm_dead _ _ _ _ (bit_above _ 64 j (words.odd _) g) (bit_above _ 64 j (words.right _) g)
+        (bit_above _ 64 j (words.down _) g) (bit_above _ 64 j (words.even _) g))
+
+-- a block that is held stays
+pub held_stays : (w : ℕ) (A B C D : Type 0) (a b c d a' b' c' d' : ℕ → ℕ → Bool) →
+    IsBlockHeldByCorners w A B C D a b c d →
+    MayTurn w a b c d a' b' c' d' → BlockStays w a b c d a' b' c' d'
+held_stays w A B C D a b c d a' b' c' d' h (inl t) = record {
+  upper_left = λ k j lk lj. t.upper_left k j lk lj ∙ (held_calm w A B C D a b c d h k j lk lj).upper_left;
+  upper_right = λ k j lk lj. t.upper_right k j lk lj ∙ (held_calm w A B C D a b c d h k j lk lj).upper_right;
+  lower_left = λ k j lk lj. t.lower_left k j lk lj ∙ (held_calm w A B C D a b c d h k j lk lj).lower_left;
+  lower_right = λ k j lk lj. t.lower_right k j lk lj ∙ (held_calm w A B C D a b c d h k j lk lj).lower_right;
+}
+held_stays w A B C D a b c d a' b' c' d' h (inr s) = s
+
+still_all : (w : ℕ) (value : Bool) (a a' : ℕ → ℕ → Bool) → StaysBits w a a' → HasValueUnderAll value w a →
+    HasValueUnderAll value w a'
+still_all w value a a' same all k j lk lj = same k j lk lj ∙ all k j lk lj
+
+one_still : (w : ℕ) (A D : Type 0) (a d a' d' : ℕ → ℕ → Bool) → (A → StaysBits w a a') → (D → StaysBits w d d') →
+    (A × HasValueUnderAll true w a) ⊎ (D × HasValueUnderAll true w d) →
+    (A × HasValueUnderAll true w a') ⊎ (D × HasValueUnderAll true w d')
+one_still w A D a d a' d' sa sd (inl h) = inl (h.0, still_all w true a a' (sa h.0) h.1)
+one_still w A D a d a' d' sa sd (inr h) = inr (h.0, still_all w true d d' (sd h.0) h.1)
+
+-- an empty block is one still, if the cells that meet their conditions stay
+pub still_empty : (w : ℕ) (A B C D : Type 0) (a b c d a' b' c' d' : ℕ → ℕ → Bool) → (A → StaysBits w a a') →
+    (B → StaysBits w b b') → (C → StaysBits w c c') → (D → StaysBits w d d') → IsEmptyBlock w A B C D a b c d →
+    IsEmptyBlock w A B C D a' b' c' d'
+still_empty w A B C D a b c d a' b' c' d' sa sb sc sd h = grind (arith, common_steps, still_all)
+
+-- and a block that is held is held still
+pub still_held : (w : ℕ) (A B C D : Type 0) (a b c d a' b' c' d' : ℕ → ℕ → Bool) → (A → StaysBits w a a') →
+    (B → StaysBits w b b') → (C → StaysBits w c c') → (D → StaysBits w d d') → IsBlockHeldByCorners w A B C D a b c d →
+    IsBlockHeldByCorners w A B C D a' b' c' d'
+still_held w A B C D a b c d a' b' c' d' sa sb sc sd (inl h) = grind (arith, common_steps, one_still)
+still_held w A B C D a b c d a' b' c' d' sa sb sc sd (inr h) = grind (arith, common_steps, still_empty)
+
+-- each diagonal has a live cell that meets another condition, where that follows
+pub live_if : (w : ℕ) (A B C D A' B' C' D' : Type 0) (a b c d : ℕ → ℕ → Bool) → (A → A') → (B → B') → (C → C') →
+    (D → D') → HasLiveDiagonals w A B C D a b c d → HasLiveDiagonals w A' B' C' D' a b c d
+live_if w A B C D A' B' C' D' a b c d fa fb fc fd h = grind (arith, common_steps)

@@ -1,0 +1,13 @@
+pub mod PlaneWords
+pub mod LaneLemmas
+pub mod HeldLemmas
+pub mod MarkFlips
+pub mod MarkSearch
+pub mod TurnLemmas
+pub mod CalmLemmas
+pub mod LiveLemmas
+pub mod InsideLemmas
+pub mod FieldLemmas
+pub mod RunLemmas
+pub mod FrozenLemmas
+pub mod Imports

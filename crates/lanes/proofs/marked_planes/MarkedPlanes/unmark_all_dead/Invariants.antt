@@ -1,0 +1,5 @@
+use Rattle.lanes.proofs.Imports.{◌≡◌}
+use Rattle.lanes.proofs.marked_planes.MarkedPlanes.unmark_all_dead.Given as goal
+
+abbrev pub invariant-loop-u : goal.invariant-loop-u
+invariant-loop-u l = l.self.planes ≡ l.fn.self.planes

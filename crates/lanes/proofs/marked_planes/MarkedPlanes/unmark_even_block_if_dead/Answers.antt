@@ -1,0 +1,13 @@
+use Rattle.lanes.proofs.Imports.{Even, block_at}
+use Rattle.lanes.proofs.CalmLemmas.{cells_of}
+use Rattle.lanes.proofs.LiveLemmas.{dead_block}
+use Rattle.lanes.proofs.TurnLemmas.{stable_turned}
+use Rattle.lanes.proofs.marked_planes.MarkedPlanes.unmark_even_block_if_dead.Goals as goal
+
+pub returns-then-is_dead-clause-turned : goal.returns-then-is_dead-clause-turned
+returns-then-is_dead-clause-turned c =
+    let f = c.args.self.now in
+    let free = rw c.block_places.ensures.block at (c.is_dead-is_dead.ensures c.if-is_dead.true) in
+    λ e. stable_turned (block_at Even f.planes.stride c.args.n) f.planes
+    (dead_block (block_at Even f.planes.stride c.args.n) f.live_marks f.planes
+    (cells_of Even f.planes c.args.n c.requires) f.all_dead free)

@@ -1,0 +1,35 @@
+use Rattle.lanes.proofs.Imports.{HasWordsStrideRows, IsNotRowEnd, arith, false≢true, sym, ℕ, ◌*◌, ◌-◌, ◌<◌, ◌∙◌, ◌≤◌}
+use Rattle.lanes.proofs.FieldLemmas.{by_row_end, join}
+use Rattle.lanes.proofs.RunLemmas.{first_join, first_part, run_skipped, run_turned}
+use Rattle.lanes.proofs.planes.Planes.step_between_marks.Goals as goal
+
+pub runs-preserved : goal.runs-preserved
+runs-preserved c =
+    let p = c.args.self.now in
+    let part = c.args.partition in
+    let m = c.runs.invariant in
+    let e = c.turn_range.ensures in
+    let next = c.next_unmarked-at-in-runs.ensures in
+    let blocks = c.block_count-blocks.ensures.count_is_exact in
+    let q = c.runs.self in
+    let r = c.turn_range.new.self in
+    let at = c.runs.at in
+    let end = c.next_marked-end.result in
+    let marked = c.next_marked-end.ensures in
+    let size : HasWordsStrideRows p.words p.stride p.rows r =
+    (e.size.0 ∙ m.size.0, e.size.1 ∙ m.size.1, e.size.2 ∙ m.size.2) in
+    let inside : (n : ℕ) → at ≤ n → n < end → IsNotRowEnd part q.stride n = λ n g h.
+    by_row_end part q.stride n (λ i. i) (λ out.
+    let out = rw m.size.1 at out in
+    absurd (false≢true (sym (marked.passed_unmarked n g h)
+    ∙ c.requires.calm.last n (omega (arith, h, marked.range.1, blocks)) out))) in
+    let run = run_turned part q r at (end - at) end (omega (arith, marked.range.0)) inside e.part in
+    record {
+      size = size;
+      within = next.range.1;
+      unmarked = next.unmarked;
+      turned = run_skipped part p r c.args.marks.now end c.next_unmarked-at-in-runs.result c.requires.calm
+          (omega (arith, next.range.1, blocks)) next.passed_marked
+          (join part p q r at end m.size (omega (arith, marked.range.0)) m.turned run) next.range.0;
+      first = first_join part p q r m.size m.first (first_part part q r at (q.words * (end - at)) e.part);
+    }

@@ -1,0 +1,16 @@
+use Rattle.lanes.proofs.Imports.{HasWordsStrideRows, IsUnmarked, KeepsCellsOutsideBlocks, TurnsBlocksBetween, ◌-◌, ◌<◌}
+use Rattle.lanes.proofs.Imports.{◌≤◌}
+use Rattle.lanes.proofs.planes.Planes.step_between_marks.Given as goal
+
+-- the blocks so far are turned, and the next one has no mark
+abbrev pub invariant-runs : goal.invariant-runs
+invariant-runs l = record {
+  size : HasWordsStrideRows l.fn.self.words l.fn.self.stride l.fn.self.rows l.self;
+  within : l.at ≤ l.blocks;
+  unmarked : l.at < l.blocks → IsUnmarked l.marks l.at;
+  turned : TurnsBlocksBetween l.partition 0 l.at l.fn.self l.self;
+  first : KeepsCellsOutsideBlocks l.partition l.fn.self l.self;
+}
+
+abbrev pub decreases-runs : goal.decreases-runs
+decreases-runs l = l.blocks - l.at

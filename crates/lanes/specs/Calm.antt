@@ -1,0 +1,75 @@
+-- The blocks of four planes that have no mark
+use Rattle.std.specs.Prelude.{◌≡◌, ◌≢◌, ◌⊎◌, Bool, true, ℕ, ◌+◌, ◌*◌, ◌<◌, ◌≤◌, List, slice_index, vec_len}
+use Rattle.std.proofs.Props.{props}
+use Rattle.bbm_rule.specs.Marks.{IsUnmarked}
+use Rattle.bbm_rule.specs.Rows.{cell_at}
+use Rattle.lanes.specs.Blocks.{IsBlock, ShareNone, block_at, marks_of}
+use Rattle.lanes.specs.Turns.{IsStable}
+use Rattle.lanes.specs.declared.block_marks.BlockMarks.{BlockMarks}
+use Rattle.lanes.specs.declared.blocks.BlockPlaces.{BlockPlaces}
+use Rattle.lanes.specs.declared.blocks.Partition.{Partition}
+use Rattle.lanes.specs.declared.planes.Planes.{Planes}
+
+-- the blocks of both partitions stay, but for those with a mark
+abbrev pub AreUnmarkedBlocksStable : BlockMarks → Planes → Type 0
+AreUnmarkedBlocksStable m p = (part : Partition) (u : ℕ) → IsBlock part p u → IsUnmarked (marks_of part m) u →
+    IsStable (block_at part p.stride u) p
+
+-- any two proofs of this are equal
+pub AreUnmarkedBlocksStable-prop : (m : BlockMarks) (p : Planes) → IsProp (AreUnmarkedBlocksStable m p)
+AreUnmarkedBlocksStable-prop m p = Prim.hlevel props
+
+-- there is room for the marks of n blocks of each partition
+abbrev pub HasRoomForBlockMarks : ℕ → BlockMarks → Type 0
+HasRoomForBlockMarks n m = (n ≤ 64 * vec_len m.odd) × (n ≤ 64 * vec_len m.even)
+
+-- the marks of each partition have as much room
+abbrev pub HasSameBlockRoom : BlockMarks → BlockMarks → Type 0
+HasSameBlockRoom m m' = (vec_len m'.odd ≡ vec_len m.odd) × (vec_len m'.even ≡ vec_len m.even)
+
+-- the first n blocks of each partition have marks
+abbrev pub AreAllMarked : ℕ → BlockMarks → Type 0
+AreAllMarked n m = (part : Partition) (u : ℕ) → u < n → IsUnmarked (marks_of part m) u → ⊥
+
+-- they have marks, but for those with a mark among the others
+abbrev pub AreMarkedUnlessIn : ℕ → BlockMarks → BlockMarks → Type 0
+AreMarkedUnlessIn n others m =
+    (part : Partition) (u : ℕ) → u < n → IsUnmarked (marks_of part m) u → cell_at (marks_of part others) u ≡ true
+
+-- marks are made at the blocks of a partition that share a cell with a block: a cell of its main diagonal if that
+-- changes, and one of the other diagonal if that does
+abbrev pub MarksSharing : Partition → Bool → Bool → ℕ → BlockPlaces → List ℕ → List ℕ → Type 0
+MarksSharing part main anti s b old new =
+    (u : ℕ) → IsUnmarked new u → IsUnmarked old u × ShareNone main anti (block_at part s u) b
+
+-- so they are at the blocks of both partitions
+abbrev pub MarksBlocks : Bool → Bool → ℕ → BlockPlaces → BlockMarks → BlockMarks → Type 0
+MarksBlocks main anti s b m m' =
+    (part : Partition) → MarksSharing part main anti s b (marks_of part m) (marks_of part m')
+
+-- no mark is taken off but that of one block
+abbrev pub UnmarksBlock : Partition → ℕ → BlockMarks → BlockMarks → Type 0
+UnmarksBlock part at m m' = (other : Partition) (u : ℕ) → IsUnmarked (marks_of other m') u →
+    IsUnmarked (marks_of other m) u ⊎ ((other ≡ part) × (u ≡ at))
+
+-- the cells with a number are dead under each assignment, one in each plane
+abbrev pub AreFourCellsDead : ℕ → Planes → Type 0
+AreFourCellsDead u p = (k : ℕ) → k < p.words →
+    (slice_index p.odd.items (p.words * u + k) ≡ 0) × (slice_index p.right.items (p.words * u + k) ≡ 0)
+    × (slice_index p.down.items (p.words * u + k) ≡ 0) × (slice_index p.even.items (p.words * u + k) ≡ 0)
+
+-- the cells with each number are
+abbrev pub AreAllCellsDead : Planes → Type 0
+AreAllCellsDead p = (u : ℕ) → AreFourCellsDead u p
+
+-- In each plane the words of one cell may change, and no others. Those of the main diagonal may change only if `main`,
+-- those of the other one only if `anti`
+pub record ChangesCells (main anti : Bool) (b : BlockPlaces) (p q : Planes) : Type 0 where
+  pub odd_same : (u k : ℕ) → k < p.words → (main ≡ true → u ≢ b.odd) →
+      slice_index q.odd.items (p.words * u + k) ≡ slice_index p.odd.items (p.words * u + k)
+  pub right_same : (u k : ℕ) → k < p.words → (anti ≡ true → u ≢ b.right) →
+      slice_index q.right.items (p.words * u + k) ≡ slice_index p.right.items (p.words * u + k)
+  pub down_same : (u k : ℕ) → k < p.words → (anti ≡ true → u ≢ b.down) →
+      slice_index q.down.items (p.words * u + k) ≡ slice_index p.down.items (p.words * u + k)
+  pub even_same : (u k : ℕ) → k < p.words → (main ≡ true → u ≢ b.even) →
+      slice_index q.even.items (p.words * u + k) ≡ slice_index p.even.items (p.words * u + k)

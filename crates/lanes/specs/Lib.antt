@@ -1,0 +1,10 @@
+pub mod Across
+pub mod Blocks
+pub mod Turns
+pub mod Sweeps
+pub mod Borders
+pub mod Calm
+pub mod Live
+pub mod Lanes
+pub mod Held
+pub mod Frozen

@@ -1,0 +1,153 @@
+//! Marks on the cells of planes that may be live.
+//!
+//! A cell without a mark is dead, so its words need not be read.
+
+ghost use Rattle.bbm_rule.specs.Bits.{bit};
+ghost use Rattle.bbm_rule.specs.Marks.{IsUnmarked};
+ghost use Rattle.lanes.specs.Live.{AreFirstCellsMarked, AreCellsMarkedUnlessInBoth, AreBlockCellsUnmarked, AreNumberCellsUnmarked, HasRoomForBlockCells, HasRoomForCellMarks, HasSameRoom, IsLone, MarksCells, SwapsMarks};
+ghost use Rattle.std.specs.Prelude.{ℕ, ◌≡◌, ◌/◌, ◌<◌, ◌≤◌, ◌%◌, ◌+◌, ◌*◌, ◌^◌, ◌⊎◌, length, vec_len, IfOk, true, false};
+
+use crate::blocks::{BlockPlaces, Diagonal};
+use crate::marks::{is_marked, mark_if, next_marked_in_either, set_marks_to_not_both, swap_marks};
+use crate::words::Changes;
+use bbm_rule::marks::mark_all;
+use std::alloc::{AllocError, Global};
+
+/// For each plane a bit for each of its cells: one without a mark is dead under each assignment.
+#[derive(Drop)]
+pub struct LiveMarks {
+    /// Those of the plane `odd`.
+    pub odd: Vec<u64>,
+    /// Those of the plane `right`.
+    pub right: Vec<u64>,
+    /// Those of the plane `down`.
+    pub down: Vec<u64>,
+    /// Those of the plane `even`.
+    pub even: Vec<u64>,
+}
+
+impl LiveMarks {
+    /// Marks on no cell, in `long` words for each plane.
+    pub fn new(alloc: Global, long: usize) -> Result<LiveMarks, AllocError>
+        requires { long ≤ 64 }
+        ensures size { IfOk result (λ l. HasRoomForCellMarks (64 * long) l) }
+        ensures none { IfOk result (λ l. (u : ℕ) → AreNumberCellsUnmarked l u) }
+    {
+        Ok(LiveMarks {
+            odd: vec![in alloc; 0u64; long]?,
+            right: vec![in alloc; 0u64; long]?,
+            down: vec![in alloc; 0u64; long]?,
+            even: vec![in alloc; 0u64; long]?,
+        })
+    }
+
+    /// Marks all cells.
+    pub fn mark_all(&mut self)
+        ensures same_room { HasSameRoom self.old self.new }
+        ensures all { (n : ℕ) → HasRoomForCellMarks n self.old → AreFirstCellsMarked n self.new }
+    {
+        mark_all(&mut self.odd);
+        mark_all(&mut self.right);
+        mark_all(&mut self.down);
+        mark_all(&mut self.even);
+    }
+
+    /// Marks all cells but those whose number has a mark in both lists.
+    pub fn set_marks_to_not_both(&mut self, first: &[u64], second: &[u64])
+        ensures same_room { HasSameRoom self.old self.new }
+        ensures marked { (n : ℕ) → HasRoomForCellMarks n self.old → n ≤ 64 * length first.now →
+            n ≤ 64 * length second.now →
+            AreCellsMarkedUnlessInBoth n first.now second.now self.new }
+    {
+        set_marks_to_not_both(&mut self.odd, first, second);
+        set_marks_to_not_both(&mut self.right, first, second);
+        set_marks_to_not_both(&mut self.down, first, second);
+        set_marks_to_not_both(&mut self.even, first, second);
+    }
+
+    /// Returns a word of marks on the numbers of which a cell has a mark.
+    #[inline(always)]
+    pub fn word(&self, k: usize) -> u64
+        requires { HasRoomForCellMarks (64 * k + 1) self.now }
+        ensures { (u : ℕ) → u / 64 ≡ k → bit result (u % 64) ≡ false →
+            AreNumberCellsUnmarked self.now u }
+    {
+        (self.odd[k] | self.right[k]) | (self.down[k] | self.even[k])
+    }
+
+    /// Returns the first number from `from` on of which a cell has a mark, or `end` if there is none below it.
+    ///
+    /// Only cells in rows with the parity of row y count.
+    pub fn next_marked_in_row(&self, y: usize, from: usize, end: usize) -> usize
+        requires within { (from ≤ end) × (end < 2 ^ 32) }
+        requires room { HasRoomForCellMarks end self.now }
+        ensures range { (from ≤ result) × (result ≤ end) }
+        ensures upper { y % 2 ≡ 0 → (u : ℕ) → from ≤ u → u < result →
+            IsUnmarked self.now.odd.items u × IsUnmarked self.now.right.items u }
+        ensures lower { y % 2 ≡ 1 → (u : ℕ) → from ≤ u → u < result →
+            IsUnmarked self.now.down.items u × IsUnmarked self.now.even.items u }
+    {
+        if y % 2 == 0 {
+            return next_marked_in_either(&self.odd, &self.right, from, end);
+        }
+        next_marked_in_either(&self.down, &self.even, from, end)
+    }
+
+    /// Returns whether no cell of a block has a mark.
+    #[inline(always)]
+    pub fn are_block_cells_unmarked(&self, block: BlockPlaces) -> bool
+        requires { HasRoomForBlockCells self.now block }
+        ensures { result ≡ true → AreBlockCellsUnmarked self.now block }
+    {
+        !is_marked(&self.odd, block.odd)
+            && !is_marked(&self.right, block.right)
+            && !is_marked(&self.down, block.down)
+            && !is_marked(&self.even, block.even)
+    }
+
+    /// Returns whether no cell of a block has a mark but one of a diagonal.
+    #[inline(always)]
+    pub fn is_lone(&self, diagonal: Diagonal, block: BlockPlaces) -> bool
+        requires { HasRoomForBlockCells self.now block }
+        ensures { result ≡ true → IsLone diagonal self.now block }
+    {
+        match diagonal {
+            Diagonal::Main => {
+                !is_marked(&self.right, block.right)
+                    && !is_marked(&self.down, block.down)
+                    && !(is_marked(&self.odd, block.odd) && is_marked(&self.even, block.even))
+            }
+            Diagonal::Anti => {
+                !is_marked(&self.odd, block.odd)
+                    && !is_marked(&self.even, block.even)
+                    && !(is_marked(&self.right, block.right) && is_marked(&self.down, block.down))
+            }
+        }
+    }
+
+    /// Marks the cells of a block that are on a diagonal that changes.
+    #[inline]
+    pub fn mark_cells(&mut self, block: BlockPlaces, changes: Changes)
+        requires { HasRoomForBlockCells self.old block }
+        ensures cells { MarksCells changes.main changes.anti block self.old self.new }
+        ensures same_room { HasSameRoom self.old self.new }
+    {
+        mark_if(&mut self.odd, block.odd, changes.main);
+        mark_if(&mut self.right, block.right, changes.anti);
+        mark_if(&mut self.down, block.down, changes.anti);
+        mark_if(&mut self.even, block.even, changes.main);
+    }
+
+    /// Exchanges the marks of the cells of a block's diagonal.
+    #[inline]
+    pub fn swap(&mut self, diagonal: Diagonal, block: BlockPlaces)
+        requires { HasRoomForBlockCells self.old block }
+        ensures swapped { SwapsMarks diagonal block self.old self.new }
+        ensures same_room { HasSameRoom self.old self.new }
+    {
+        match diagonal {
+            Diagonal::Main => swap_marks(&mut self.odd, &mut self.even, block.odd, block.even),
+            Diagonal::Anti => swap_marks(&mut self.right, &mut self.down, block.right, block.down),
+        }
+    }
+}

@@ -1,0 +1,250 @@
+//! The turns of single blocks, by their marks.
+
+ghost use Rattle.lanes.specs.Blocks.{AreCellNumbers, IsBlock, IsNotRowEnd, block_at, block_count};
+ghost use Rattle.std.specs.Prelude.{◌≡◌, ◌≢◌, ◌+◌, ◌*◌, ◌%◌, ◌<◌, ◌≤◌, true, false};
+
+use crate::blocks::{BlockPlaces, Diagonal, Partition};
+use crate::marked_planes::MarkedPlanes;
+use crate::marks::is_marked;
+use crate::words::Changes;
+
+// For how many odd times the words of all blocks are read, after that many more blocks with two live cells than with
+// one or none.
+const BUSY_TIMES: u32 = 31;
+
+const MAX_CROWD: u32 = 64;
+
+impl MarkedPlanes {
+    ghost use Rattle.lanes.specs.Live.{AreBlockCellsUnmarked, IsLone};
+    ghost use Rattle.lanes.specs.Turns.{TurnsBlock};
+    ghost use Rattle.lanes.specs.Lanes.{HasWordsStrideRows};
+
+    // Counts a block that may have two live cells, and three times if it was turned: all that are turned in a step are
+    // taken off twice at its end.
+    fn count_crowded_block(&mut self, is_turned: bool)
+        ensures { self.new.planes ≡ self.old.planes }
+    {
+        self.crowd = self.crowd.saturating_add(1);
+        if is_turned {
+            self.crowd = self.crowd.saturating_add(2);
+        }
+    }
+
+    /// Counts the blocks that a step turned: each with one live cell, and the dead one that this cell left in the step
+    /// before. If most blocks have two live cells, it costs less to read their words at once.
+    pub(crate) fn settle_crowd_count(&mut self, turned: usize)
+        requires { turned ≤ 4096 }
+        ensures { self.new.planes ≡ self.old.planes }
+    {
+        self.crowd = self.crowd.saturating_sub(2 * turned as u32);
+        if self.crowd > MAX_CROWD {
+            self.crowd = 0;
+            self.busy = BUSY_TIMES;
+            self.is_exact = false;
+        }
+    }
+
+    // Turns a block of which no cell is live but one of a diagonal: they change places.
+    #[tactic(auto, using(crate::proofs::LiveLemmas::lone_turned, crate::proofs::CalmLemmas::cells_of))]
+    #[inline(always)]
+    fn swap_lone(&mut self, partition: Partition, u: usize, diagonal: Diagonal)
+        requires block { IsBlock partition self.old.planes u }
+        requires lone { IsLone diagonal self.old.live_marks
+            (block_at partition self.old.planes.stride u) }
+        ensures turned { TurnsBlock (block_at partition self.old.planes.stride u) self.old.planes
+            self.new.planes }
+        ensures size { HasWordsStrideRows self.old.planes.words self.old.planes.stride
+            self.old.planes.rows self.new.planes }
+    {
+        let stride = self.planes.stride();
+        let block = self.planes.block_places(partition, u);
+        self.block_marks
+            .mark_changes(partition, u, stride, Changes::of(diagonal));
+        self.live_marks.swap(diagonal, block);
+        self.planes.swap(diagonal, block);
+    }
+
+    // Turns a block, unless it stays, and tells whether it turned it.
+    #[tactic(auto, using(crate::proofs::FrozenLemmas::still_frozen, crate::proofs::FrozenLemmas::one_may_turn, crate::proofs::TurnLemmas::stable_turned))]
+    #[inline(always)]
+    fn turn_words(&mut self, partition: Partition, u: usize) -> bool
+        requires { IsBlock partition self.old.planes u }
+        ensures turned { TurnsBlock (block_at partition self.old.planes.stride u) self.old.planes
+            self.new.planes }
+        ensures size { HasWordsStrideRows self.old.planes.words self.old.planes.stride
+            self.old.planes.rows self.new.planes }
+        ensures stays { result ≡ false → self.new.planes ≡ self.old.planes }
+    {
+        let block = self.planes.block_places(partition, u);
+        let changes = self.planes.block_changes(block);
+        if changes.is_none() {
+            self.block_marks.unmark(partition, u);
+            return false;
+        }
+        let stride = self.planes.stride();
+        self.block_marks.mark_changes(partition, u, stride, changes);
+        self.live_marks.mark_cells(block, changes);
+        self.planes.turn_block(block);
+        true
+    }
+
+    // Whether each cell of a block is known to be dead.
+    #[inline(always)]
+    fn is_dead(&self, block: BlockPlaces) -> bool
+        requires { AreCellNumbers block self.now.planes }
+        ensures { result ≡ true → AreBlockCellsUnmarked self.now.live_marks block }
+    {
+        self.live_marks.are_block_cells_unmarked(block)
+    }
+
+    // Takes the mark off block n of the even partition, if its cells are known to be dead, and tells whether they are.
+    #[tactic(auto, using(crate::proofs::CalmLemmas::still_stable_unmarked, crate::proofs::LiveLemmas::dead_block, crate::proofs::CalmLemmas::cells_of))]
+    #[inline]
+    fn unmark_even_block_if_dead(&mut self, n: usize) -> bool
+        requires { n < block_count Partition.Even self.old.planes }
+        ensures planes { self.new.planes ≡ self.old.planes }
+        ensures live { self.new.live_marks ≡ self.old.live_marks }
+        ensures turned { result ≡ true →
+            TurnsBlock (block_at Partition.Even self.old.planes.stride n) self.old.planes
+            self.new.planes }
+    {
+        let is_dead = self.is_dead(self.planes.block_places(Partition::Even, n));
+        if is_dead {
+            self.block_marks.unmark(Partition::Even, n);
+        }
+        is_dead
+    }
+
+    // Takes the mark off the block of the even partition that a cell of a diagonal of block u of the odd partition has
+    // left, if nothing else is in it. So the next step does not come to it.
+    #[inline(always)]
+    fn unmark_vacated_block(&mut self, u: usize, diagonal: Diagonal)
+        requires { u < self.old.planes.stride * self.old.planes.rows }
+        ensures { self.new.planes ≡ self.old.planes }
+    {
+        let stride = self.planes.stride();
+        let cells = self.planes.cells_per_plane();
+        match diagonal {
+            Diagonal::Main if is_marked(&self.live_marks.odd, u) => {
+                if u + stride + 1 < cells {
+                    self.unmark_even_block_if_dead(u);
+                }
+            }
+            Diagonal::Main => {
+                if u > stride {
+                    self.unmark_even_block_if_dead(u - stride - 1);
+                }
+            }
+            Diagonal::Anti if is_marked(&self.live_marks.right, u) => {
+                if u > 0 && u + stride < cells {
+                    self.unmark_even_block_if_dead(u - 1);
+                }
+            }
+            Diagonal::Anti => {
+                if u >= stride && u + 1 < cells {
+                    self.unmark_even_block_if_dead(u - stride);
+                }
+            }
+        }
+    }
+
+    // Turns a block of which no cell is live but one of a diagonal, unless all are dead and it is known to stay. Tells
+    // whether it turned it.
+    #[inline(always)]
+    fn turn_lone(&mut self, partition: Partition, u: usize, diagonal: Diagonal) -> bool
+        requires block { IsBlock partition self.old.planes u }
+        requires lone { IsLone diagonal self.old.live_marks
+            (block_at partition self.old.planes.stride u) }
+        ensures turned { TurnsBlock (block_at partition self.old.planes.stride u) self.old.planes
+            self.new.planes }
+        ensures size { HasWordsStrideRows self.old.planes.words self.old.planes.stride
+            self.old.planes.rows self.new.planes }
+        ensures stays { result ≡ false → self.new.planes ≡ self.old.planes }
+    {
+        if let (Partition::Even, Diagonal::Main) = (partition, diagonal) {
+            if self.unmark_even_block_if_dead(u) {
+                return false;
+            }
+        }
+        self.swap_lone(partition, u, diagonal);
+        if let Partition::Odd = partition {
+            self.unmark_vacated_block(u, diagonal);
+        }
+        true
+    }
+
+    // Takes the marks off the dead cells of block u after its words were read, and counts it.
+    #[inline(always)]
+    fn unmark_and_count(&mut self, partition: Partition, u: usize, is_turned: bool)
+        requires { u < block_count partition self.old.planes }
+        ensures { self.new.planes ≡ self.old.planes }
+    {
+        if self.busy == 0 {
+            self.unmark_dead_cells(partition, u);
+            self.count_crowded_block(is_turned);
+            return;
+        }
+        if let Partition::Odd = partition {
+            if !is_turned && !self.planes.is_live_in_first_word(u) {
+                self.unmark_dead_cells(partition, u);
+            }
+        }
+    }
+
+    // Turns a block, unless it stays, and tells whether it turned it. Its words are read only if two of its cells may
+    // be live.
+    #[inline(always)]
+    fn turn_block_in_box(&mut self, partition: Partition, u: usize) -> bool
+        requires { IsBlock partition self.old.planes u }
+        ensures turned { TurnsBlock (block_at partition self.old.planes.stride u) self.old.planes
+            self.new.planes }
+        ensures size { HasWordsStrideRows self.old.planes.words self.old.planes.stride
+            self.old.planes.rows self.new.planes }
+        ensures stays { result ≡ false → self.new.planes ≡ self.old.planes }
+    {
+        let block = self.planes.block_places(partition, u);
+        if self.is_exact && self.live_marks.is_lone(Diagonal::Main, block) {
+            return self.turn_lone(partition, u, Diagonal::Main);
+        }
+        if self.is_exact && self.live_marks.is_lone(Diagonal::Anti, block) {
+            return self.turn_lone(partition, u, Diagonal::Anti);
+        }
+        let is_turned = self.turn_words(partition, u);
+        self.unmark_and_count(partition, u, is_turned);
+        is_turned
+    }
+
+    // Whether a block of the even partition is the last of its row. A division takes long, so most blocks are known to
+    // be others by their lack of a mark.
+    #[inline(always)]
+    fn is_row_end(&self, partition: Partition, u: usize) -> bool
+        requires { u < self.now.planes.stride * self.now.planes.rows }
+        ensures last { result ≡ true → IsNotRowEnd partition self.now.planes.stride u → ⊥ }
+        ensures other { result ≡ false → IsNotRowEnd partition self.now.planes.stride u }
+    {
+        is_marked(&self.border_marks, u) && self.planes.is_row_end(partition, u)
+    }
+
+    /// Turns block u of a partition, unless it stays, and returns whether it turned it.
+    ///
+    /// The last block of a row of the even partition is not in the box and stays: its cells are in the halo, at the
+    /// right end of two rows and at the left end of the next two.
+    #[inline(always)]
+    pub(crate) fn turn_block(&mut self, partition: Partition, u: usize) -> bool
+        requires { u < block_count partition self.old.planes }
+        ensures turned { IsNotRowEnd partition self.old.planes.stride u →
+            TurnsBlock (block_at partition self.old.planes.stride u) self.old.planes
+            self.new.planes }
+        ensures size { HasWordsStrideRows self.old.planes.words self.old.planes.stride
+            self.old.planes.rows self.new.planes }
+        ensures last { (IsNotRowEnd partition self.old.planes.stride u → ⊥) →
+            self.new.planes ≡ self.old.planes }
+        ensures stays { result ≡ false → self.new.planes ≡ self.old.planes }
+    {
+        if self.is_row_end(partition, u) {
+            self.block_marks.unmark(partition, u);
+            return false;
+        }
+        self.turn_block_in_box(partition, u)
+    }
+}

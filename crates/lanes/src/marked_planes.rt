@@ -1,0 +1,213 @@
+//! Planes whose steps pass over the blocks that are known to stay.
+//!
+//! A block stays if under no assignment exactly one of its diagonals has a live cell: an empty one, one in a mirror,
+//! one with two balls side by side. A block that was seen to stay does so until one of its cells changes, so a step
+//! looks only at the blocks near cells that changed. It turns word by word only blocks in which two cells may be live.
+//! After a step in which many blocks change, some steps turn whole planes.
+
+ghost use Rattle.lanes.specs.Borders.{AreUnmarkedAwayFromBorder, AreUnmarkedAwayFromBorder-prop, AreSkippableBetween};
+ghost use Rattle.lanes.specs.Calm.{AreUnmarkedBlocksStable, AreUnmarkedBlocksStable-prop, HasRoomForBlockMarks};
+ghost use Rattle.lanes.specs.Blocks.{block_count};
+ghost use Rattle.lanes.specs.Frozen.{AreFrozenIfFound};
+ghost use Rattle.lanes.specs.Live.{AllUnmarkedDead, AllUnmarkedDead-prop, HasRoomForCellMarks};
+ghost use Rattle.std.specs.Prelude.{ℕ, ◌≡◌, ◌+◌, ◌*◌, ◌/◌, ◌%◌, ◌<◌, ◌≤◌, length, vec_len, IfOk, true, false};
+
+use crate::block_marks::BlockMarks;
+use crate::blocks::Partition;
+use crate::frozen::FrozenBlocks;
+use crate::live::LiveMarks;
+use crate::marked_steps::STEPS_TO_SEARCH;
+use crate::marks::{is_marked, mark_border, marked_in_first_and_other};
+use crate::phases::WholePlaneSteps;
+use crate::planes::{Planes, WordSource};
+use crate::words::Changes;
+use std::alloc::{AllocError, Global};
+
+/// The planes of a run, with marks on the blocks that a turn may change.
+#[derive(Drop)]
+pub struct MarkedPlanes {
+    pub(crate) planes: Planes,
+    pub(crate) block_marks: BlockMarks,
+    // a bit for each cell: those without a mark are dead
+    pub(crate) live_marks: LiveMarks,
+    // whether each cell with a mark is known to be live, so that one that is alone in its block may move unread
+    pub(crate) is_exact: bool,
+    // up to how many odd times the words of all blocks are read that are looked at, and how many more blocks had two
+    // live cells, up to now, than one or none
+    pub(crate) busy: u32,
+    pub(crate) crowd: u32,
+    // and for the numbers of cells of ring and halo
+    pub(crate) border_marks: Vec<u64>,
+    // how many of the next steps turn whole planes, but for the blocks that no step changes
+    pub(crate) whole_plane_steps: WholePlaneSteps,
+    pub(crate) frozen: FrozenBlocks,
+    // how many steps are left in which many blocks change, until those that no step changes are looked for, and how
+    // often they may be looked for
+    pub(crate) until_search: u32,
+    pub(crate) searches: u32,
+    ghost block_room: { HasRoomForBlockMarks (planes.stride * planes.rows) block_marks },
+    ghost live_room: { HasRoomForCellMarks (planes.stride * planes.rows) live_marks },
+    ghost border_room: { planes.stride * planes.rows ≤ 64 * vec_len border_marks },
+    ghost calm: { AreUnmarkedBlocksStable block_marks planes } by { AreUnmarkedBlocksStable-prop block_marks planes },
+    ghost all_dead: { AllUnmarkedDead live_marks planes } by { AllUnmarkedDead-prop live_marks planes },
+    ghost freezes: { AreFrozenIfFound frozen planes },
+    ghost all_inner: { AreUnmarkedAwayFromBorder planes.stride planes.rows border_marks.items } by { AreUnmarkedAwayFromBorder-prop planes.stride planes.rows border_marks.items },
+}
+
+const MAX_SEARCHES: u32 = 4;
+
+impl MarkedPlanes {
+    ghost use Rattle.bbm_rule.specs.Bits.{bit};
+    ghost use Rattle.lanes.specs.Calm.{AreAllCellsDead};
+    ghost use Rattle.lanes.specs.Lanes.{HasWordsStrideRows, lane};
+
+    /// Creates planes of dead cells for a box of `width` by `height` cells, with `words` words for each cell. No block
+    /// has a mark, since each stays.
+    #[tactic(auto, using(crate::proofs::LiveLemmas::dead_blocks))]
+    pub fn new(
+        alloc: Global,
+        width: usize,
+        height: usize,
+        words: usize,
+    ) -> Result<MarkedPlanes, AllocError>
+        requires width { (2 ≤ width) × (width ≤ 64) }
+        requires height { (2 ≤ height) × (height ≤ 64) }
+        requires words { (0 < words) × (words ≤ 64) }
+        ensures size { IfOk result (λ m. HasWordsStrideRows words (width / 2 + 1)
+            (height / 2 + 1) m.planes) }
+        ensures dead { IfOk result (λ m. AreAllCellsDead m.planes) }
+    {
+        let planes = Planes::new(alloc, width, height, words)?;
+        let long = planes.cells_per_plane().div_ceil(64);
+        let block_marks = BlockMarks::new(alloc, long)?;
+        let live_marks = LiveMarks::new(alloc, long)?;
+        let mut border_marks = vec![in alloc; 0u64; long]?;
+        mark_border(&mut border_marks, planes.stride(), planes.rows());
+        Ok(MarkedPlanes {
+            planes,
+            block_marks,
+            live_marks,
+            is_exact: true,
+            busy: 0,
+            crowd: 0,
+            border_marks,
+            whole_plane_steps: WholePlaneSteps::NONE,
+            frozen: FrozenBlocks::not_found_yet(alloc),
+            until_search: STEPS_TO_SEARCH,
+            searches: MAX_SEARCHES,
+        })
+    }
+
+    /// Returns the planes.
+    pub fn planes(&self) -> &Planes
+        ensures { result.now ≡ self.now.planes }
+    {
+        &self.planes
+    }
+
+    /// Counts an odd time. After some of them the words of all blocks are no longer read.
+    pub fn count_down_busy_times(&mut self)
+        ensures { self.new.planes ≡ self.old.planes }
+    {
+        if self.busy == 0 {
+            return;
+        }
+        self.busy -= 1;
+        if self.busy == 0 {
+            self.unmark_all_dead();
+        }
+    }
+
+    /// Returns a word of marks on the numbers whose cells of ring and halo must be looked at.
+    ///
+    /// A number has no mark only if its cells are neither in the ring nor in the halo, or dead under each assignment
+    /// and without a mark among the others.
+    #[inline(always)]
+    pub fn border_word(&self, others: &[u64], k: usize) -> u64
+        requires within { 64 * k < self.now.planes.stride * self.now.planes.rows }
+        requires room { k < length others.now }
+        ensures passed { (u : ℕ) → u / 64 ≡ k → bit result (u % 64) ≡ false →
+            AreSkippableBetween u (u + 1) others.now self.now.planes }
+    {
+        marked_in_first_and_other(&self.border_marks, &self.live_marks, others, k)
+    }
+
+    /// Returns whether a cell, counted from the halo, may be live under some assignment.
+    #[tactic(auto, using(crate::proofs::PlaneWords::dead_odd, crate::proofs::PlaneWords::dead_down, crate::proofs::PlaneWords::dead_right, crate::proofs::PlaneWords::dead_even))]
+    #[inline(always)]
+    pub fn may_be_live(&self, x: usize, y: usize) -> bool
+        requires { (x / 2 < self.now.planes.stride) × (y / 2 < self.now.planes.rows) }
+        ensures { result ≡ false → (a : ℕ) → a < 64 * self.now.planes.words →
+            lane self.now.planes a x y ≡ false }
+    {
+        let u = self.planes.cell_number(x, y);
+        if x % 2 == 0 {
+            if y % 2 == 0 {
+                is_marked(&self.live_marks.odd, u)
+            } else {
+                is_marked(&self.live_marks.down, u)
+            }
+        } else if y % 2 == 0 {
+            is_marked(&self.live_marks.right, u)
+        } else {
+            is_marked(&self.live_marks.even, u)
+        }
+    }
+
+    /// Returns a column from `x` on: the cells of row `y` from `x` to before it are dead under each assignment.
+    ///
+    /// Columns and rows are counted from the halo. The cell there or the next one may be live, or the row ends there.
+    pub fn skip_dead_in_row(&self, x: usize, y: usize) -> usize
+        requires { (x / 2 < self.now.planes.stride) × (y / 2 < self.now.planes.rows) }
+        ensures range { x ≤ result }
+        ensures dead { (a k : ℕ) → a < 64 * self.now.planes.words → x ≤ k → k < result →
+            lane self.now.planes a k y ≡ false }
+    {
+        let first = self.planes.cell_number(0, y);
+        let end = first + self.planes.stride();
+        let next = self.live_marks.next_marked_in_row(y, first + x / 2, end);
+        x.max(2 * (next - first))
+    }
+
+    /// Takes the marks off the cells of block u of a partition that are dead.
+    #[tactic(auto, using(crate::proofs::LiveLemmas::drops_dead))]
+    pub(crate) fn unmark_dead_cells(&mut self, partition: Partition, u: usize)
+        requires { u < block_count partition self.old.planes }
+        ensures { self.new.planes ≡ self.old.planes }
+    {
+        let block = self.planes.block_places(partition, u);
+        self.planes.unmark_dead_cells(&mut self.live_marks, block);
+    }
+
+    // Takes the marks off all cells that are dead.
+    fn unmark_all_dead(&mut self)
+        ensures { self.new.planes ≡ self.old.planes }
+    {
+        for u in 0..self.planes.cells_per_plane() {
+            self.unmark_dead_cells(Partition::Odd, u);
+        }
+        self.is_exact = true;
+    }
+}
+
+impl MarkedPlanes {
+    ghost use Rattle.lanes.specs.Lanes.{HasWords, SetsCell};
+
+    /// Sets a cell, counted from the halo, to the words of a source.
+    #[tactic(auto, using(crate::proofs::FrozenLemmas::room_found, crate::proofs::FrozenLemmas::freezes_put, crate::proofs::FrozenLemmas::given_up))]
+    pub fn put(&mut self, x: usize, y: usize, list: &[u64], source: WordSource)
+        requires place { (x / 2 < self.old.planes.stride) × (y / 2 < self.old.planes.rows) }
+        requires source { HasWords self.old.planes.words list.now source }
+        ensures { SetsCell x y list.now source self.old.planes self.new.planes }
+    {
+        let u = self.planes.cell_number(x, y);
+        let block = self.planes.block_places(Partition::Odd, u);
+        let changes = Changes::of_cell(x, y);
+        self.block_marks
+            .mark_changes(Partition::Odd, u, self.planes.stride(), changes);
+        self.live_marks.mark_cells(block, changes);
+        self.frozen.give_up_if_frozen(u);
+        self.planes.put(x, y, list, source);
+        self.unmark_dead_cells(Partition::Odd, u);
+    }
+}

@@ -1,5 +1,0 @@
-use Rattle.lemmas.proofs.Common.{◌≡◌}
-use Rattle.local_run.proofs.marked_planes.MarkedPlanes.unmark_all_dead.Given as goal
-
-abbrev pub invariant-loop-u : goal.invariant-loop-u
-invariant-loop-u l = l.self.planes ≡ l.fn.self.planes

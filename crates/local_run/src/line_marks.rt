@@ -1,0 +1,91 @@
+//! Marks on the cells of ring and halo of which a job's lines say something at a time.
+
+ghost use Rattle.module_job.specs.Jobs.{IsJob};
+ghost use Rattle.module_job.specs.Shapes.{shape_of};
+ghost use Rattle.bbm_rule.specs.Marks.{IsUnmarked};
+ghost use Rattle.local_run.specs.Quiet.{AreStarredCellMarks, AreLineMarks};
+ghost use Rattle.std.specs.Prelude.{◌≡◌, ◌+◌, ◌*◌, ◌/◌, ◌%◌, ◌<◌, ◌≤◌, vec_len, IfOk, false};
+
+use crate::lines::{EventPlaces, LinePlaces, mark_lines, marks_of_starred_cells, own_mark_number};
+use lanes::{Planes, is_marked};
+use module_job::Job;
+use std::alloc::{AllocError, Global};
+
+/// Marks on the cells of ring and halo of which a job's lines say something at a time: one for the number of a cell in
+/// its plane, and one of its own.
+#[derive(Drop)]
+pub struct LineMarks {
+    time: u32,
+    marks: Vec<u64>,
+    // the marks for lines at all times
+    all_times: Vec<u64>,
+    // where the search for the next time's lines begins
+    places: LinePlaces,
+    ghost same_long: { vec_len marks ≡ vec_len all_times },
+}
+
+impl LineMarks {
+    /// Creates marks for the lines of a job. No time was looked at.
+    pub fn new(alloc: Global, job: &Job) -> Result<LineMarks, AllocError>
+        requires { IsJob job.now }
+        ensures { IfOk result (λ l. AreStarredCellMarks (shape_of job.now) l.all_times.items) }
+    {
+        let all_times = marks_of_starred_cells(alloc, job)?;
+        let marks = vec![in alloc; 0u64; all_times.len()]?;
+        let none = EventPlaces::NO_PHASE;
+        Ok(LineMarks {
+            time: 0,
+            marks,
+            all_times,
+            places: LinePlaces {
+                edges: none,
+                halos: none,
+            },
+        })
+    }
+
+    /// Marks the cells of which an edge or halo line of the job says something at a time.
+    pub fn look_at(&mut self, job: &Job, time: u32)
+        requires all_times { AreStarredCellMarks (shape_of job.now) self.old.all_times.items }
+        requires range { time < 65536 }
+        ensures time { self.new.time ≡ time }
+        ensures lines { AreLineMarks job.now time self.new.marks.items }
+        ensures all_times { self.new.all_times ≡ self.old.all_times }
+    {
+        self.time = time;
+        self.marks.copy_from_slice(&self.all_times);
+        mark_lines(&mut self.marks, &mut self.places, job, time);
+    }
+
+    /// Returns the time that was looked at.
+    pub fn time(&self) -> u32
+        ensures { result ≡ self.now.time }
+    {
+        self.time
+    }
+
+    /// Returns the marks.
+    #[inline(always)]
+    pub fn marks(&self) -> &[u64]
+        ensures { result.now ≡ self.now.marks.items }
+    {
+        &self.marks
+    }
+
+    /// Returns the places of the lines of the time that was looked at.
+    pub fn places(&self) -> LinePlaces {
+        self.places
+    }
+
+    /// Returns whether a line may say something of a cell, counted from the halo, at the time that was looked at.
+    #[inline(always)]
+    pub fn may_have_line(&self, planes: &Planes, x: usize, y: usize) -> bool
+        requires place { (x / 2 < planes.now.stride) × (y / 2 < planes.now.rows) }
+        requires room { planes.now.stride * planes.now.rows + 4608 ≤ 64 * vec_len self.now.marks }
+        ensures { result ≡ false →
+            IsUnmarked self.now.marks.items
+            (planes.now.stride * (y / 2) + x / 2 + 1152 * (1 + 2 * (y % 2) + x % 2)) }
+    {
+        is_marked(&self.marks, own_mark_number(planes.cell_number(x, y), x, y))
+    }
+}

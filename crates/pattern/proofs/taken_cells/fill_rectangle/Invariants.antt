@@ -1,0 +1,11 @@
+-- The rows so far are live.
+use Rattle.pattern.proofs.Imports.{HasSameSize, live, ℤ, ◌-◌, ◌||◌, ◌≡◌}
+use Rattle.bbm_rule.specs.Spans.{in_area}
+use Rattle.pattern.proofs.taken_cells.fill_rectangle.Given as goal
+
+abbrev pub invariant-loop-y : goal.invariant-loop-y
+invariant-loop-y l = record {
+  size : HasSameSize l.fn.grid l.grid;
+  filled : (x y : ℤ) → live l.grid x y
+      ≡ (live l.fn.grid x y || in_area l.r.x l.r.y l.r.w (l.y - l.r.y) x y);
+}

@@ -1,5 +1,0 @@
-use Rattle.lemmas.proofs.Common.{rules}
-use Rattle.section_text.proofs.feed.Feed.word.Goals as goal
-
-pub returns : goal.returns
-returns c = search rules
