@@ -88,9 +88,8 @@ partner-odd_neg t n at_odd =
 
 pub partner-odd_ext : (t n : ℕ) → t % 2 ≡ 1 → partner t (ext n) ≡ ext (mate n)
 unfolding partner mate
-partner-odd_ext t zero at_odd = rw at_odd refl
-partner-odd_ext t (suc zero) at_odd = rw at_odd refl
 partner-odd_ext t (suc (suc n)) at_odd = grind (arith, common_steps, by_eq_or_not, ints)
+partner-odd_ext t _ at_odd = rw at_odd refl
 
 pub partner_twice : (t : ℕ) (u : ℤ) → partner t (partner t u) ≡ u
 partner_twice t u = by_eq_or_not (t % 2) 0 (λ even. at_even u even) (λ odd. at_odd u (omega arith))

@@ -39,6 +39,7 @@ pub(crate) fn cell_bit(words: &[u64], place: usize) -> bool
 
 // whether a cell of word i is live
 #[inline(always)]
+#[tactic(auto, using(crate::proofs::CellLemmas::live_in))]
 fn is_live_in(words: &[u64], i: usize, bit: usize) -> bool
     requires inside { i < length words.now }
     requires one_word { bit < 64 }
@@ -64,6 +65,7 @@ pub(crate) fn put_cell(words: &mut [u64], place: usize, value: bool)
 
 // makes the cells at `count` places of one word live
 #[inline(always)]
+#[tactic(auto, using(crate::proofs::FilledRuns::cells_filled))]
 fn fill_in_word(words: &mut [u64], first: usize, count: usize)
     requires inside { first / 64 < length words.old }
     requires one_word { (0 < count) × (first % 64 + count ≤ 64) }

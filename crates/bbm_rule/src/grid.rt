@@ -52,6 +52,7 @@ impl Grid {
     /// Creates a grid without a live cell.
     ///
     /// No other function of a grid takes memory.
+    #[tactic(auto, using(crate::proofs::BandLemmas::none_calm, crate::proofs::GridLemmas::zeroes_dead, crate::proofs::GridLemmas::all_dead))]
     pub fn new(alloc: Global, width: u32, height: u32) -> Result<Grid, AllocError>
         requires width { (2 ≤ width) × (width ≤ 1024) × (width % 2 ≡ 0) }
         requires height { (2 ≤ height) × (height ≤ 1024) × (height % 2 ≡ 0) }
@@ -87,6 +88,7 @@ impl Grid {
     }
 
     /// Returns whether `cell` is live. It must be inside the grid.
+    #[tactic(auto, using(crate::proofs::GridLemmas::cell_read))]
     pub fn get(&self, cell: Cell) -> bool
         requires { IsTrue (is_inside self.now cell.x cell.y) }
         ensures { result ≡ live self.now cell.x cell.y }

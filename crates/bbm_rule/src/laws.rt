@@ -4,6 +4,7 @@ ghost use Rattle.bbm_rule.specs.Laws.{TurnTable, TwoBallsCollide, TwoBallsLeaveA
 ghost use Rattle.bbm_rule.specs.Moves.{StepCommutesWithMoves};
 
 /// States what each of the sixteen blocks becomes.
+#[tactic(auto, unfolding(crate::proofs::Imports::bit, crate::proofs::Imports::turn_of, crate::proofs::Imports::turned))]
 pub fn turn_table()
     ensures { TurnTable }
 {}
@@ -18,6 +19,7 @@ pub fn two_balls_collide()
 {}
 
 /// States that the step at a time is its own inverse: a second step by the same partition restores the plane.
+#[tactic(auto, using(crate::proofs::PlaneLemmas::step_twice))]
 pub fn step_undoes_itself()
     ensures { StepUndoesItself }
 {}
@@ -26,6 +28,7 @@ pub fn step_undoes_itself()
 ///
 /// If a state is another one, moved by an even number of columns and of rows, so are the states after a step at any
 /// time.
+#[tactic(auto, using(crate::proofs::Moving::step_moved))]
 pub fn step_commutes_with_moves()
     ensures { StepCommutesWithMoves }
 {}

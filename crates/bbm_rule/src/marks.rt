@@ -29,6 +29,7 @@ pub fn next_marked(marks: &[u64], from: usize, end: usize) -> usize
 }
 
 /// Returns the first number from `from` on that has no mark, or `end` if all below it have one.
+#[tactic(auto, using(crate::proofs::BitLemmas::by_lt_or_le, crate::proofs::GapLemmas::all_before, crate::proofs::GapLemmas::all_in_word, crate::proofs::GapLemmas::first_unmarked))]
 pub fn next_unmarked(marks: &[u64], from: usize, end: usize) -> usize
     requires within { (from ≤ end) × (end ≤ 64 * length marks.now) × (end < 2 ^ 32) }
     ensures range { (from ≤ result) × (result ≤ end) }

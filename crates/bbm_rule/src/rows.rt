@@ -40,6 +40,7 @@ fn block_flips(
 
 // Turns the 32 blocks of two words that lie one above the other. The third word has a bit for each block that changes.
 #[inline(always)]
+#[tactic(auto, using(crate::proofs::PairLemmas::pairs_turned, crate::proofs::PairLemmas::flipped_same))]
 fn turn_word_pair(upper: u64, lower: u64) -> (u64, u64, u64)
     ensures turned { ArePairsTurned upper lower result.0 result.1 }
     ensures stays { HasNoSetBit result.2 → AreSameBits upper result.0 × AreSameBits lower result.1 }
@@ -54,6 +55,7 @@ fn turn_word_pair(upper: u64, lower: u64) -> (u64, u64, u64)
 
 // the 64 cells from the second cell of word i on
 #[inline(always)]
+#[tactic(auto, using(crate::proofs::PairLemmas::window_is))]
 fn shifted_word(words: &[u64], i: usize) -> u64
     requires { i + 1 < length words.now }
     ensures { HasWordAt words.now (64 * i + 1) result }

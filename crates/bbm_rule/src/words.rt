@@ -8,6 +8,7 @@ use std::simd::prelude::*;
 /// Turns 64 blocks: bit j of the four words is the upper left, upper right, lower left and lower right cell of block j,
 /// a set bit being a live cell. The new words are given in the same order.
 #[inline(always)]
+#[tactic(auto, using(crate::proofs::Turning::words_turned))]
 pub fn turn_words(
     upper_left: u64,
     upper_right: u64,
@@ -33,6 +34,7 @@ pub fn turn_words(
 
 // The blocks of four words at each corner, turned.
 #[inline(always)]
+#[tactic(auto, using(crate::proofs::Lanes::vectors_turned, crate::proofs::Lanes::vectors_long))]
 fn turn_vectors(
     upper_lefts: u64x4,
     upper_rights: u64x4,
@@ -60,6 +62,7 @@ fn turn_vectors(
 
 // turns the words at four places from `at` on
 #[inline(always)]
+#[tactic(auto, using(crate::proofs::Lanes::chunk_turned))]
 fn turn_four_words_at(
     upper_left: &mut [u64],
     upper_right: &mut [u64],

@@ -94,10 +94,7 @@ ordered_line names before rest (GateLine k) ins outs good later e f =
       subst (λ m. AreOrdered m (gates_of names rest))
           (length-append (defined before) outs ∙ ap (λ k. length (defined before) + k) good.fits.1) later,
     )
-ordered_line names before rest Output ins outs good later e f =
-    subst (λ m. AreOrdered m (gates_of names rest))
-    (length-append (defined before) outs ∙ omega (arith, good.fits.1)) later
-ordered_line names before rest Spill ins outs good later e f =
+ordered_line names before rest _ ins outs good later e f =
     subst (λ m. AreOrdered m (gates_of names rest))
     (length-append (defined before) outs ∙ omega (arith, good.fits.1)) later
 
@@ -158,10 +155,8 @@ ordered_rest : (names : List (List ℕ)) (before rest : List CircuitLine) (kind 
     AreOrdered (input_count (before ++ record { kind = kind; ins = ins; outs = outs } ∷ rest))
     (gates_of names (record { kind = kind; ins = ins; outs = outs } ∷ rest))
 unfolding AreGoodAfter
-ordered_rest names before rest Input ins outs good far later = grind (arith, common_steps, push_cons, far_next)
 ordered_rest names before rest (GateLine k) ins outs good far later = gate_first names before rest k ins outs good far
-ordered_rest names before rest Output ins outs good far later = grind (arith, common_steps, push_cons, far_next)
-ordered_rest names before rest Spill ins outs good far later = grind (arith, common_steps, push_cons, far_next)
+ordered_rest names before rest _ ins outs good far later = grind (arith, common_steps, push_cons, far_next)
 
 ordered_lines : (names : List (List ℕ)) (before rest : List CircuitLine) → AreGoodAfter before rest →
     Far names before rest →
@@ -192,9 +187,6 @@ line_keeps : (before rest : List CircuitLine) (e : List (List ℕ)) (kind : Kind
     IsGoodAfter before (record { kind = kind; ins = ins; outs = outs }) →
     gate_of_line_kind ((defined before ++ (outs ++ defined rest)) ++ e) ins outs kind
     ≡ gate_of_line_kind (defined before ++ (outs ++ defined rest)) ins outs kind
-line_keeps before rest e Input ins outs good = refl
-line_keeps before rest e Output ins outs good = refl
-line_keeps before rest e Spill ins outs good = refl
 line_keeps before rest e (GateLine k) ins outs good =
     let pass = names_pass before _ good.adds in
     let have : Have (defined before) ins = consume_have (defined before) (consumed before) ins pass.0 in
@@ -210,6 +202,7 @@ line_keeps before rest e (GateLine k) ins outs good =
     ap (λ (l : List (List ℕ)). map (number l) outs) longer ∙ numbers_new d outs (defined rest ++ e) pass.1
     ∙ sym (numbers_new d outs (defined rest) pass.1) in
     ap₂ (λ (i o : List ℕ). record { kind = k; ins = i; outs = o } ∷ []) ins_same outs_same
+line_keeps before rest e _ ins outs good = refl
 
 gates_keep : (names e : List (List ℕ)) (before rest : List CircuitLine) → AreGoodAfter before rest →
     names ≡ defined (before ++ rest) → gates_of (names ++ e) rest ≡ gates_of names rest
@@ -230,9 +223,6 @@ line_added : (entries : List CircuitLine) (numbers : List ℕ) (kind : Kind) (in
     take (length ins) numbers ≡ map (number (defined entries)) ins →
     gate_of_line_kind (defined entries ++ outs) ins outs kind
     ≡ gate_with_outs_from kind numbers (length (defined entries))
-line_added entries numbers Input ins outs good same = refl
-line_added entries numbers Output ins outs good same = refl
-line_added entries numbers Spill ins outs good same = refl
 line_added entries numbers (GateLine k) ins outs good same =
     let pass = names_pass entries _ good.adds in
     let have : Have (defined entries) ins = consume_have (defined entries) (consumed entries) ins pass.0 in
@@ -240,6 +230,7 @@ line_added entries numbers (GateLine k) ins outs good same =
     (numbers_left (defined entries) outs ins have ∙ sym same ∙ ap (λ (n : ℕ). take n numbers) good.fits.0)
     (ap (λ (l : List (List ℕ)). map (number (defined entries ++ l)) outs) (sym (append-nil outs))
     ∙ numbers_new (defined entries) outs [] pass.1 ∙ ap (range_with_len (length (defined entries))) good.fits.1)
+line_added entries numbers _ ins outs good same = refl
 
 pub gates_push : (entries : List CircuitLine) (r : CircuitLine) (numbers : List ℕ) → AreGoodCircuitLines entries →
     IsGoodAfter entries r →

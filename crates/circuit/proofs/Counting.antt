@@ -8,9 +8,7 @@ use Rattle.circuit.specs.declared.circuit_line.Kind.TheVariants.{Input, Output, 
 line_counted : (kind : Kind) (ins outs : List (List ℕ)) → FitsKind (record { kind = kind; ins = ins; outs = outs }) →
     length (cond (is_input kind) outs []) ≡ cond (is_input kind) 1 0
 line_counted Input ins outs fits = fits.1
-line_counted (GateLine k) ins outs fits = refl
-line_counted Output ins outs fits = refl
-line_counted Spill ins outs fits = refl
+line_counted _ ins outs fits = refl
 
 counted : (before rest : List CircuitLine) → AreGoodAfter before rest → length (input_names rest) ≡ input_count rest
 unfolding AreGoodAfter

@@ -40,9 +40,8 @@ gate_fits ws r e =
 
 -- what a form says of its entry
 OfForm : Line → Type 0
-OfForm (Header h) = Unit {0}
 OfForm (Item r) = FitsKind r
-OfForm End = Unit {0}
+OfForm _ = Unit {0}
 
 lone_fits : (ws : List (List ℕ)) (f g : Line) → OfForm f → if_one_word ws f ≡ Some g → OfForm g
 unfolding if_one_word
@@ -80,14 +79,10 @@ entry_fits ws r e = form_fits ws (Item r) e
 pub no_gate_yet : (k : Kind) (rank g : ℕ) → rank ≤ rank_of k → cond (eqb rank 0) g 0 ≡ 0 → is_input k ≡ true → g ≡ 0
 no_gate_yet Input zero g h e i = e
 no_gate_yet Input (suc n) g h e i = absurd (omega arith)
-no_gate_yet (Gate k) rank g h e i = absurd (true≢false (sym i))
-no_gate_yet Output rank g h e i = absurd (true≢false (sym i))
-no_gate_yet Spill rank g h e i = absurd (true≢false (sym i))
+no_gate_yet _ rank g h e i = absurd (true≢false (sym i))
 
 pub no_gate_still : (k : Kind) (rank g : ℕ) → rank ≤ rank_of k → cond (eqb rank 0) g 0 ≡ 0 →
     cond (eqb (rank_of k) 0) (g + cond (is_gate k) 1 0) 0 ≡ 0
 no_gate_still Input zero g h e = omega (arith, e)
 no_gate_still Input (suc n) g h e = absurd (omega arith)
-no_gate_still (Gate k) rank g h e = refl
-no_gate_still Output rank g h e = refl
-no_gate_still Spill rank g h e = refl
+no_gate_still _ rank g h e = refl

@@ -43,9 +43,7 @@ wires_line : (names : List (List ℕ)) (n : ℕ) (kind : Kind) (ins outs : List 
     (record { kind = kind; ins = ins; outs = outs } ∷ rest) ≡ n + length (outs ++ defined rest)
 unfolding wires_after
 wires_line names n Input ins outs rest fits more = grind (arith, common_steps, input_cons)
-wires_line names n (GateLine k) ins outs rest fits more = grind (arith, common_steps, input_cons)
-wires_line names n Output ins outs rest fits more = grind (arith, common_steps, input_cons)
-wires_line names n Spill ins outs rest fits more = grind (arith, common_steps, input_cons)
+wires_line names n _ ins outs rest fits more = grind (arith, common_steps, input_cons)
 
 wires_more : (names : List (List ℕ)) (n : ℕ) (before rest : List CircuitLine) → AreGoodAfter before rest →
     wires_after n (gates_of names rest) + input_count rest ≡ n + length (defined rest)
@@ -62,9 +60,7 @@ wires_are_named entries good = grind (arith, common_steps, wires_more)
 counted_line : (names : List (List ℕ)) (kind : Kind) (ins outs : List (List ℕ)) (gates : List Gate) →
     length (gate_of_line_kind names ins outs kind ++ gates) ≡ cond (is_gate kind) 1 0 + length gates
 counted_line names Input ins outs gates = omega arith
-counted_line names (GateLine k) ins outs gates = omega arith
-counted_line names Output ins outs gates = omega arith
-counted_line names Spill ins outs gates = omega arith
+counted_line names _ ins outs gates = omega arith
 
 pub gates_counted : (names : List (List ℕ)) (entries : List CircuitLine) →
     length (gates_of names entries) ≡ gate_count entries
@@ -101,12 +97,11 @@ inputs_line before rest Output ins [] good same =
     let less : input_count (record { kind = Output; ins = ins; outs = [] } ∷ rest) ≡ input_count rest =
     input_cons (record { kind = Output; ins = ins; outs = [] }) rest ∙ omega arith in
     ap (λ k. take k (defined rest)) less ∙ same
-inputs_line before rest Output ins (n ∷ outs) good same = absurd (omega (arith, good.0.fits.1))
 inputs_line before rest Spill ins [] good same =
     let less : input_count (record { kind = Spill; ins = ins; outs = [] } ∷ rest) ≡ input_count rest =
     input_cons (record { kind = Spill; ins = ins; outs = [] }) rest ∙ omega arith in
     ap (λ k. take k (defined rest)) less ∙ same
-inputs_line before rest Spill ins (n ∷ outs) good same = absurd (omega (arith, good.0.fits.1))
+inputs_line before rest _ ins (n ∷ outs) good same = absurd (omega (arith, good.0.fits.1))
 
 inputs_lead : (before rest : List CircuitLine) → AreGoodAfter before rest →
     take (input_count rest) (defined rest) ≡ input_names rest

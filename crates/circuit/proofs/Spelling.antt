@@ -23,9 +23,8 @@ first_of (Item r) = first_word r.kind
 first_of End = codes "end"
 
 others_of : Line → List (List ℕ)
-others_of (Header h) = []
 others_of (Item r) = words_after_keyword r
-others_of End = []
+others_of _ = []
 
 take_one : (ws : List (List ℕ)) (w : List ℕ) → slice_get ws 0 ≡ Some w → take 1 ws ≡ w ∷ []
 take_one [] w e = absurd cc

@@ -43,19 +43,15 @@ row_of Cswap xs f h = let r = len_3 xs h in (_, ap (row Cswap) r.3, refl)
 row_of Interact xs f h = let r = len_2 xs h in (_, ap (row Interact) r.2, refl)
 row_of Switch xs f h = let r = len_2 xs h in (_, ap (row Switch) r.2, refl)
 row_of (Delay n) xs f h = let r = len_1 xs h in (_, ap (row (Delay n)) r.1, refl)
-row_of Unswitch xs f h = absurd (true≢false f)
-row_of Uninteract xs f h = absurd (true≢false f)
+row_of _ xs f h = absurd (true≢false f)
 
 unswitch_cases : (c y z : Bool) → (row Unswitch (c ∷ y ∷ z ∷ []) ≡ None) ⊎ RowOf Unswitch (c ∷ y ∷ z ∷ [])
 unfolding row
-unswitch_cases true true true = inl refl
-unswitch_cases true true false = inr (_, refl, refl)
 unswitch_cases true false true = inl refl
-unswitch_cases true false false = inr (_, refl, refl)
-unswitch_cases false true true = inl refl
 unswitch_cases false true false = inl refl
-unswitch_cases false false true = inr (_, refl, refl)
-unswitch_cases false false false = inr (_, refl, refl)
+unswitch_cases _ true true = inl refl
+unswitch_cases true _ false = inr (_, refl, refl)
+unswitch_cases false false _ = inr (_, refl, refl)
 
 uninteract_cases : (a b c d : Bool) →
     (row Uninteract (a ∷ b ∷ c ∷ d ∷ []) ≡ None) ⊎ RowOf Uninteract (a ∷ b ∷ c ∷ d ∷ [])

@@ -109,6 +109,7 @@ impl Draft {
     }
 
     /// Creates a draft without lines whose table of names hashes by the seed. The seed changes no result.
+    #[tactic(auto, unfolding(crate::proofs::Imports::AreGoodAfter))]
     pub fn seeded(alloc: Global, seed: Seed) -> Draft
         ensures { result ≡ [] }
     {
@@ -131,6 +132,7 @@ impl Draft {
     }
 
     // The wire of a name, if no line consumes it yet, else the code.
+    #[tactic(auto, using(crate::proofs::Places::found_number, crate::proofs::Drafts::mark_of_line))]
     fn unconsumed_wire(&self, name: &Name) -> Result<WireNo, RefusalCode>
         ensures is_defined { OnOk result (has (defined self.now) name.now ≡ true) }
         ensures is_unconsumed { OnOk result (has (consumed self.now) name.now ≡ false) }

@@ -5,12 +5,14 @@ ghost use Rattle.circuit.specs.Laws.{PrintsWhatIsRead, ReadsWhatIsPrinted, Gates
 ///
 /// The text of a circuit that is read is the text of the lines that it is read from. It is read as the same circuit
 /// again.
+#[tactic(auto, using(crate::proofs::RoundTrip::prints_what_is_read, crate::proofs::RoundTrip::reads_what_is_printed))]
 pub fn text_round_trips()
     ensures printed { PrintsWhatIsRead }
     ensures read_again { ReadsWhatIsPrinted }
 {}
 
 /// States that the gates of good lines are ordered: each uses wires that inputs and earlier gates define.
+#[tactic(auto, using(crate::proofs::Bridging::gates_are_ordered))]
 pub fn gates_are_ordered()
     ensures { GatesAreOrdered }
 {}
@@ -46,6 +48,7 @@ pub fn values_are_the_valuation()
 {}
 
 /// States that wires are numbered in order of definition, inputs first, and that each has a name of its own.
+#[tactic(auto, using(crate::proofs::Naming::wires_are_named, crate::proofs::Naming::names_are_own, crate::proofs::Naming::inputs_are_first))]
 pub fn wires_are_named()
     ensures named { WiresAreNamed }
     ensures own_names { WireNamesAreDistinct }
@@ -53,11 +56,13 @@ pub fn wires_are_named()
 {}
 
 /// States that every gate but a source keeps the number of ones (Fredkin and Toffoli 1982).
+#[tactic(auto, using(crate::proofs::GateLaws::gates_keep_ones))]
 pub fn gates_keep_ones()
     ensures { GatesKeepOnes }
 {}
 
 /// States that `unswitch` undoes `switch`, that `uninteract` undoes `interact`, and that they have no other rows.
+#[tactic(auto, using(crate::proofs::GateLaws::inverse_gates_undo))]
 pub fn inverse_gates_undo()
     ensures { InverseGatesUndo }
 {}

@@ -97,6 +97,7 @@ impl Circuit {
     }
 
     // The names of the wires, by their numbers.
+    #[tactic(auto, using(crate::proofs::Naming::wires_are_named))]
     pub(crate) fn names(&self) -> &[Name]
         ensures names { result.now ≡ defined self.now }
         ensures count { length result.now ≡ wires (netlist_of self.now) }
@@ -105,6 +106,7 @@ impl Circuit {
     }
 
     /// Returns how many inputs the circuit has. They are its first wires, in the order of their lines.
+    #[tactic(auto, using(crate::proofs::Counting::inputs_counted, crate::proofs::Naming::inputs_are_first))]
     pub fn inputs(&self) -> usize
         ensures count { result ≡ (netlist_of self.now).given }
         ensures first { take result (defined self.now) ≡ input_names self.now }
@@ -114,6 +116,7 @@ impl Circuit {
     }
 
     /// Returns how many wires the circuit has, at most 4096. They are numbered from 0 in order of definition.
+    #[tactic(auto, using(crate::proofs::Naming::wires_are_named))]
     pub fn wires(&self) -> usize
         ensures count { result ≡ wires (netlist_of self.now) }
         ensures named { result ≡ length (defined self.now) }
@@ -123,6 +126,7 @@ impl Circuit {
     }
 
     /// Returns the wire of this name, if there is one. Its number is below `wires()`.
+    #[tactic(auto, using(crate::proofs::Naming::place_position, crate::proofs::Naming::wires_are_named))]
     pub fn wire(&self, name: &Name) -> Option<WireNo>
         ensures wire { result ≡ wire_of (circuit_of self.now) name.now }
         ensures below { IfSome result (λ w. w < wires (netlist_of self.now)) }
@@ -135,6 +139,7 @@ impl Circuit {
     ///
     /// If the wire of the number `likely` has the name, the name is compared, and not looked up by its hash.
     #[inline(always)]
+    #[tactic(auto, using(crate::proofs::Naming::names_are_own, crate::proofs::Naming::wires_are_named))]
     pub fn wire_by_hint(&self, likely: u16, name: &Name) -> Option<WireNo>
         ensures wire { result ≡ wire_of (circuit_of self.now) name.now }
         ensures below { IfSome result (λ w. w < wires (netlist_of self.now)) }
@@ -146,6 +151,7 @@ impl Circuit {
     }
 
     /// Returns the wire of this name, and the name as the circuit holds it, if there is one.
+    #[tactic(auto, using(crate::proofs::Naming::place_position, crate::proofs::Places::found_same))]
     pub fn named_wire(&self, name: &Name) -> Option<(WireNo, &Name)>
         ensures wire { option_map (λ p. p.0) result ≡ wire_of (circuit_of self.now) name.now }
         ensures same_name { IfSome result (λ p. p.1.now ≡ name.now) }
@@ -155,6 +161,7 @@ impl Circuit {
     }
 
     /// Returns the name of a wire, for a number below `wires()`.
+    #[tactic(auto, using(crate::proofs::Imports::slice_get_read, crate::proofs::Naming::names_are_own))]
     pub fn name(&self, wire: WireNo) -> Name
         requires { wire < length (defined self.now) }
         ensures name { slice_get (defined self.now) wire ≡ Some result }

@@ -41,6 +41,7 @@ fn define_all(wires: &mut IndexSet<Name, Seed>, names: &[Name]) -> Result<(), Li
 }
 
 /// Defines names from left to right, and gives each an unset mark. An error changes nothing.
+#[tactic(auto, using(crate::proofs::WireMarks::four_unset))]
 pub(crate) fn define_wires(
     wires: &mut IndexSet<Name, Seed>,
     consumed: &mut Vec<bool>,

@@ -138,6 +138,7 @@ fn push_out_values(values: &mut Vec<bool>, gate: GateWires) -> Result<bool, Allo
 /// Returns the values of all wires, those that are given first.
 ///
 /// If a gate has no row, it returns those of the wires that are defined before it.
+#[tactic(auto, using(crate::proofs::Loops::none_done, crate::proofs::Loops::values_more, crate::proofs::Loops::values_stop))]
 pub(crate) fn values_of(
     alloc: Global,
     given: &[bool],

@@ -68,10 +68,7 @@ cells_inside_by : (s : LayoutHeader) (part : LayoutLine) → is_inside s part �
     AllByRecursion (IsInside s) (cells_of part)
 unfolding is_inside cells_of rectangle_cells
 cells_inside_by s (Mirror r) e = let fits = mirror_fits s r e in rows_inside s r.x r.w r.y r.h fits.0 fits.1
-cells_inside_by s (Ball c) e = (e, tt)
-cells_inside_by s (In p) e = (e, tt)
-cells_inside_by s (Out p) e = (e, tt)
-cells_inside_by s (Waste c) e = (e, tt)
+cells_inside_by s _ e = (e, tt)
 
 on_board : (b : Board) (s : LayoutHeader) → b.width ≡ s.w → b.height ≡ s.h → (c : Cell) → IsInside s c →
     is_on_board b c.x c.y ≡ true
@@ -95,10 +92,7 @@ same_sides : (w h : ℕ) (s : LayoutHeader) → w ≡ s.w → h ≡ s.h → (par
     is_inside (record { w = w; h = h; steps = 0 }) part ≡ is_inside s part
 unfolding is_inside
 same_sides w h s e f (Mirror r) = rw (e, f) refl
-same_sides w h s e f (Ball c) = rw (e, f) refl
-same_sides w h s e f (In p) = rw (e, f) refl
-same_sides w h s e f (Out p) = rw (e, f) refl
-same_sides w h s e f (Waste c) = rw (e, f) refl
+same_sides w h s e f _ = rw (e, f) refl
 
 -- the cells of a line that lies inside are on a board of the layout's size
 pub lies_on : (b : Board) (s : LayoutHeader) → size_fault s ≡ None → b.width ≡ s.w → b.height ≡ s.h →

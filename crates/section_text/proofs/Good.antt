@@ -36,10 +36,9 @@ module _ {H I : Type 0} (g : Grammar H I) where
       → result_after_line g h before n (λ i. section_body_of g h (before ++ i ∷ []) (n + 1) ls) o ≡ Ok (h', rows)
       → ((i : I) → section_body_of g h (before ++ i ∷ []) (n + 1) ls ≡ Ok (h', rows) →
       BodyFaultless h (before ++ i ∷ []) h' rows) → BodyFaultless h before h' rows
-  line_faultless ls h before n h' rows None e rec = absurd cc
-  line_faultless ls h before n h' rows (Some (Header k)) e rec = absurd cc
   line_faultless ls h before n h' rows (Some (Item i)) e rec = grind (arith, common_steps, unless_ok)
   line_faultless ls h before n h' rows (Some End) e rec = grind (arith, common_steps, unless_ok, ok_is, append-nil)
+  line_faultless ls h before n h' rows _ e rec = absurd cc
 
   body_faultless : (ls : List (List ℕ)) (h : H) (before : List I) (n : ℕ) (h' : H) (rows : List I) →
       section_body_of g h before n ls ≡ Ok (h', rows) → BodyFaultless h before h' rows
@@ -51,9 +50,6 @@ module _ {H I : Type 0} (g : Grammar H I) where
 
   header_faultless : (ls : List (List ℕ)) (n : ℕ) (h : H) (rows : List I) (o : Option (Form H I)) →
       result_after_header g n (λ k. section_body_of g k [] (n + 1) ls) o ≡ Ok (h, rows) → IsFaultless h rows
-  header_faultless ls n h rows None e = absurd cc
-  header_faultless ls n h rows (Some (Item i)) e = absurd cc
-  header_faultless ls n h rows (Some End) e = absurd cc
   header_faultless ls n h rows (Some (Header k)) e =
       let good = unless_ok n (g.header_fault k) (section_body_of g k [] (n + 1) ls) (h, rows) e in
       let t = body_faultless ls k [] (n + 1) h rows good.1 in
@@ -63,6 +59,7 @@ module _ {H I : Type 0} (g : Grammar H I) where
             (subst (AreFaultless k []) (sym t.rows_are) t.each);
         end = subst (λ (j : H). g.end_fault j rows ≡ None) (sym t.same) t.end;
       }
+  header_faultless ls n h rows _ e = absurd cc
 
   pub read_faultless : (n : ℕ) (ls : List (List ℕ)) (h : H) (rows : List I) → section_of g n ls ≡ Ok (h, rows) →
       IsFaultless h rows

@@ -38,8 +38,6 @@ module _ {H I : Type 0} (g : Grammar H I) where
       → ((i : I) → section_body_of g h (before ++ i ∷ []) (n + 1) ls ≡ Ok (h', rows) →
       BodySaid (before ++ i ∷ []) ls h h' rows)
       → BodySaid before (l ∷ ls) h h' rows
-  line_said l ls h before n h' rows None f e rec = absurd cc
-  line_said l ls h before n h' rows (Some (Header k)) f e rec = absurd cc
   line_said l ls h before n h' rows (Some (Item i)) f e rec =
       let t = rec i (unless_ok n (g.item_fault h before i) (section_body_of g h (before ++ i ∷ []) (n + 1) ls)
       (h', rows) e) in
@@ -57,6 +55,7 @@ module _ {H I : Type 0} (g : Grammar H I) where
         same = sym (ap (λ (p : H × List I). p.0) are);
         said = ap (λ a. a ∷ []) f;
       }
+  line_said l ls h before n h' rows _ f e rec = absurd cc
 
   body_said : (ls : List (List ℕ)) (h : H) (before : List I) (n : ℕ) (h' : H) (rows : List I) →
       section_body_of g h before n ls ≡ Ok (h', rows) → BodySaid before ls h h' rows
@@ -70,15 +69,13 @@ module _ {H I : Type 0} (g : Grammar H I) where
       g.form (words_of l) ≡ o
       → result_after_header g n (λ k. section_body_of g k [] (n + 1) ls) o ≡ Ok (h, rows) →
       IsSection g.form (take (length rows + 2) (l ∷ ls)) h rows
-  header_said l ls n h rows None f e = absurd cc
-  header_said l ls n h rows (Some (Item i)) f e = absurd cc
-  header_said l ls n h rows (Some End) f e = absurd cc
   header_said l ls n h rows (Some (Header k)) f e =
       let t = body_said ls k [] (n + 1) h rows
       (unless_ok n (g.header_fault k) (section_body_of g k [] (n + 1) ls) (h, rows) e) in
       let count : length rows + 2 ≡ suc (length t.more + 1) = omega (arith, ap length t.rows_are) in
       ap (λ (m : ℕ). map (λ l. g.form (words_of l)) (take m (l ∷ ls))) count
       ∙ ap₂ (λ a b. a ∷ b) (f ∙ ap (λ j. Some (Header j)) (sym t.same)) (t.said ∙ ap items_said (sym t.rows_are))
+  header_said l ls n h rows _ f e = absurd cc
 
   pub section_said : (n : ℕ) (ls : List (List ℕ)) (h : H) (rows : List I) → section_of g n ls ≡ Ok (h, rows) →
       IsSection g.form (take (length rows + 2) ls) h rows

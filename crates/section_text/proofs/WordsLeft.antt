@@ -26,10 +26,9 @@ word_at (x ∷ xs) zero w rest e = cc
 word_at (x ∷ xs) (suc i) w rest e = word_at xs i w rest e
 
 pub no_word_at : (ws : List (List ℕ)) (i : ℕ) → [] ≡ drop i ws → None ≡ slice_get ws i
-no_word_at [] zero e = cc
-no_word_at [] (suc i) e = cc
 no_word_at (x ∷ xs) zero e = absurd cc
 no_word_at (x ∷ xs) (suc i) e = no_word_at xs i e
+no_word_at [] _ e = cc
 
 pub name_by_word : (ws : List (List ℕ)) (i : ℕ) (w : List ℕ) (rest : List (List ℕ)) → w ∷ rest ≡ drop i ws →
     name_at ws i ≡ name_of w

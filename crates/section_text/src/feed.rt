@@ -76,6 +76,7 @@ fn line_length(bytes: &[u8], at: usize) -> Option<usize>
     first_line_feed(&bytes[at..])
 }
 
+#[tactic(auto, using(crate::proofs::LineFeeds::first_is_position))]
 fn first_line_feed(bytes: &[u8]) -> Option<usize>
     ensures { result ≡ position is_line_feed bytes.now }
 {
@@ -366,6 +367,7 @@ impl Feed {
     ///
     /// Code 12 at the line after those taken, if a line or bytes without a line feed are left. The feed keeps its
     /// fault, and a feed that has one answers it.
+    #[tactic(auto, using(crate::proofs::Lines::nothing_left, crate::proofs::Lines::something_left))]
     pub fn finish(&mut self) -> Result<(), ReadFault>
         requires { self.old.closed ≡ true }
         ensures stopped { ForSome self.old.stop

@@ -40,6 +40,7 @@ fn has_number_length_and_start(word: &[u8]) -> bool
 /// Returns the number that a word is, or `None` for any other word.
 ///
 /// A number is `0`, or at most nine digits of which the first is not `0`.
+#[tactic(auto, using(crate::proofs::Numbers::not_read, crate::proofs::Numbers::number_read, crate::proofs::Numbers::read_small))]
 pub fn read_number(word: &[u8]) -> Option<u32>
     ensures number { result ≡ number_of word.now }
     ensures small { IfSome result (λ n. n < 10 ^ 9) }
@@ -80,6 +81,7 @@ fn take_digits(first: u8, line: &[u8]) -> Option<(u32, &[u8])>
 }
 
 // The number `0` of a line that goes on so behind this digit, and what stands behind its space.
+#[tactic(auto, using(crate::proofs::Leading::zero_else, crate::proofs::Leading::zero_then))]
 fn zero_if_space_follows(line: &[u8]) -> Option<(u32, &[u8])>
     ensures number { option_map (λ r. (r.0, words_of r.1.now)) result
         ≡ leading_number (words_of (48 ∷ line.now)) }
@@ -93,6 +95,7 @@ fn zero_if_space_follows(line: &[u8]) -> Option<(u32, &[u8])>
 
 // The number of a line of this first byte, and what stands behind its space.
 #[inline(always)]
+#[tactic(auto, using(crate::proofs::Leading::no_digit))]
 fn take_number_from_digit(first: u8, line: &[u8]) -> Option<(u32, &[u8])>
     ensures number { option_map (λ r. (r.0, words_of r.1.now)) result
         ≡ leading_number (words_of (first ∷ line.now)) }
@@ -113,6 +116,7 @@ fn take_number_from_digit(first: u8, line: &[u8]) -> Option<(u32, &[u8])>
 /// It returns the number and the rest of the line, or `None` if the first word is no number or the line has no other
 /// word. It passes over the digits once.
 #[inline(always)]
+#[tactic(auto, using(crate::proofs::Leading::empty_line))]
 pub fn take_number(line: &[u8]) -> Option<(u32, &[u8])>
     ensures number { option_map (λ r. (r.0, words_of r.1.now)) result
         ≡ leading_number (words_of line.now) }

@@ -47,6 +47,7 @@ fn first_space_byte_by_byte(line: &[u8]) -> Option<usize>
 }
 
 // Where the first space of a long line is.
+#[tactic(auto, using(crate::proofs::LineFeeds::first_is_position))]
 fn first_space_by_vectors(line: &[u8]) -> Option<usize>
     ensures { result ≡ position is_space line.now }
 {
@@ -71,6 +72,7 @@ fn first_space(line: &[u8]) -> Option<usize>
 }
 
 // The first word of a line that has more, and what stands behind its space.
+#[tactic(auto, using(crate::proofs::Splitting::split_none, crate::proofs::Splitting::split_some))]
 fn split_word(line: &[u8]) -> Option<(&[u8], &[u8])>
     ensures splits_at_space { IfSome result (λ r. words_of line.now ≡ r.0.now ∷ words_of r.1.now) }
     ensures one_word { result ≡ None → words_of line.now ≡ line.now ∷ [] }
@@ -90,6 +92,7 @@ pub(crate) fn next_word(line: &[u8]) -> (&[u8], Option<&[u8]>)
 }
 
 // The part of a line from one of its words on, or `None` past the last one.
+#[tactic(auto, using(crate::proofs::WordsLeft::none_further, crate::proofs::WordsLeft::one_further))]
 fn words_from(line: &[u8], index: usize) -> Option<&[u8]>
     ensures { words_of_rest (option_copied result) ≡ drop index (words_of line.now) }
 {
@@ -103,6 +106,7 @@ fn words_from(line: &[u8], index: usize) -> Option<&[u8]>
     Some(rest)
 }
 
+#[tactic(auto, using(crate::proofs::Splitting::is_not_alone))]
 pub(crate) fn is_one_word(line: &[u8]) -> bool
     ensures { result ≡ (length (words_of line.now) == 1) }
 {
@@ -132,6 +136,7 @@ pub(crate) fn number_after_keyword_in(line: &[u8]) -> Option<u32>
 }
 
 // The words of a line of three.
+#[tactic(auto, using(crate::proofs::Splitting::one_of_three, crate::proofs::Splitting::past_third, crate::proofs::Splitting::three_are, crate::proofs::Splitting::two_words_are_not_three))]
 pub(crate) fn split_three_words(line: &[u8]) -> Option<ThreeWords<'_>>
     ensures { option_map list_of_three_words result ≡ words_of_three (words_of line.now) }
 {
@@ -176,6 +181,7 @@ pub(crate) fn split_four_words(line: &[u8]) -> Option<FourWords<'_>>
 }
 
 // The words of a line of five: the first one, and those of a line of four.
+#[tactic(auto, using(crate::proofs::Splitting::five_are, crate::proofs::Splitting::lone_word, crate::proofs::Splitting::no_five))]
 pub(crate) fn split_five_words(line: &[u8]) -> Option<FiveWords<'_>>
     ensures { option_map list_of_five_words result ≡ words_of_five (words_of line.now) }
 {
@@ -202,6 +208,7 @@ pub(crate) fn split_five_words(line: &[u8]) -> Option<FiveWords<'_>>
     })
 }
 
+#[tactic(auto, using(crate::proofs::WordsLeft::no_word_at, crate::proofs::WordsLeft::word_at))]
 pub(crate) fn word_in(line: &[u8], index: usize) -> Option<&[u8]>
     ensures { option_copied result ≡ slice_get (words_of line.now) index }
 {

@@ -1,5 +1,4 @@
-use Rattle.section_text.proofs.Imports.{arith, common_steps}
-use Rattle.section_text.proofs.Numbers.{not_read, number_read, read_small}
+use Rattle.section_text.proofs.Numbers.{number_read, read_small}
 use Rattle.section_text.proofs.number.read_number.Goals as goal
 
 pub returns-then-has_number_length_and_start-clause-number : goal.returns-then-has_number_length_and_start-clause-number
@@ -12,6 +11,3 @@ pub returns-then-has_number_length_and_start-clause-small : goal.returns-then-ha
 returns-then-has_number_length_and_start-clause-small c = read_small c.args.word.now c.read_digits.result
     (c.has_number_length_and_start.ensures.is_number_if_digits c.if-has_number_length_and_start.true)
     c.read_digits.ensures.number
-
-pub returns-else-has_number_length_and_start-clause-number : goal.returns-else-has_number_length_and_start-clause-number
-returns-else-has_number_length_and_start-clause-number c = grind (arith, common_steps, not_read)

@@ -1,6 +1,0 @@
-use Rattle.circuit.proofs.Imports.{arith, common_steps}
-use Rattle.circuit.proofs.Naming.{wires_are_named}
-use Rattle.circuit.proofs.netlist.Circuit.wires.Goals as goal
-
-pub returns-clause-count : goal.returns-clause-count
-returns-clause-count c = grind (arith, common_steps, wires_are_named)

@@ -1,4 +1,0 @@
-use Rattle.circuit.proofs.number.GateNo.of.Goals as goal
-
-pub returns : goal.returns
-returns c = search
