@@ -383,22 +383,16 @@ module _ (g : Setting) (es : List CertificateLine) (covered new_covered : Board)
 -- ---- edge, halo and stop lines
 
 pub border_is_inner : (i : CertificateLine) → IsEdgeHaloOrStopLine i → IsBodyLine i
-border_is_inner (Module b) border = border
 border_is_inner (Cut n) border = absurd border
 border_is_inner (Use k) border = absurd border
 border_is_inner (Keep k) border = absurd border
-border_is_inner (Edge e) border = border
-border_is_inner (Halo e) border = border
-border_is_inner (Stop s) border = border
+border_is_inner _ border = border
 
 border_wires : (c : Circuit) (i : CertificateLine) → IsEdgeHaloOrStopLine i → wires_made_local c i ≡ []
-border_wires c (Module b) border = absurd border
-border_wires c (Cut n) border = absurd border
-border_wires c (Use k) border = absurd border
-border_wires c (Keep k) border = absurd border
 border_wires c (Edge e) border = refl
 border_wires c (Halo e) border = refl
 border_wires c (Stop s) border = refl
+border_wires c _ border = absurd border
 
 -- ---- with the wires of all modules
 

@@ -120,8 +120,7 @@ AreDistinct = Pairs (λ d e. border_line_cmp d e ≢ Equal)
 
 less_apart : (o : Ordering) → o ≡ Less → o ≢ Equal
 less_apart Less e h = cc
-less_apart Equal e h = cc
-less_apart Greater e h = cc
+less_apart _ e h = cc
 
 pub pairs_each : {A : Type 0} (R S : A → A → Type 0) → ((a b : A) → R a b → S a b) → (xs : List A) → Pairs R xs →
     Pairs S xs
@@ -141,8 +140,7 @@ after_line Greater n h = refl
 
 is_before : (o : Ordering) → is_lt o ≡ true → o ≡ Less
 is_before Less h = refl
-is_before Equal h = absurd cc
-is_before Greater h = absurd cc
+is_before _ h = absurd cc
 
 turned : (d e : BorderLine) → border_line_cmp d e ≡ Greater → border_line_cmp e d ≡ Less
 turned d e h = line_total.antisymm e d ∙ ap ordering_reverse h

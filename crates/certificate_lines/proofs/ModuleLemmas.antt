@@ -84,101 +84,50 @@ stop_then_use s g e = later_kind (Stop s) (Use g) refl refl e
 -- ---- no line of a kind stands before a line of an earlier kind
 
 pub no_use_before_cut : (n : List ℕ) (j : CertificateLine) → may_precede j (Cut n) ≡ true → use_in j ≡ []
-no_use_before_cut n (Module b) h = refl
-no_use_before_cut n (Cut m) h = refl
 no_use_before_cut n (Use g) h = absurd (use_then_cut g n h)
-no_use_before_cut n (Keep k) h = refl
-no_use_before_cut n (Edge d) h = refl
-no_use_before_cut n (Halo d) h = refl
-no_use_before_cut n (Stop s) h = refl
+no_use_before_cut n _ h = refl
 
 pub no_keep_before_cut : (n : List ℕ) (j : CertificateLine) → may_precede j (Cut n) ≡ true → keep_in j ≡ []
-no_keep_before_cut n (Module b) h = refl
-no_keep_before_cut n (Cut m) h = refl
-no_keep_before_cut n (Use g) h = refl
 no_keep_before_cut n (Keep k) h = absurd (keep_then_cut k n h)
-no_keep_before_cut n (Edge d) h = refl
-no_keep_before_cut n (Halo d) h = refl
-no_keep_before_cut n (Stop s) h = refl
+no_keep_before_cut n _ h = refl
 
 pub no_keep_before_use : (g : ℕ) (j : CertificateLine) → may_precede j (Use g) ≡ true → keep_in j ≡ []
-no_keep_before_use g (Module b) h = refl
-no_keep_before_use g (Cut m) h = refl
-no_keep_before_use g (Use k) h = refl
 no_keep_before_use g (Keep k) h = absurd (keep_then_use k g h)
-no_keep_before_use g (Edge d) h = refl
-no_keep_before_use g (Halo d) h = refl
-no_keep_before_use g (Stop s) h = refl
+no_keep_before_use g _ h = refl
 
 pub no_edge_before_cut : (n : List ℕ) (j : CertificateLine) → may_precede j (Cut n) ≡ true → edge_in j ≡ []
-no_edge_before_cut n (Module b) h = refl
-no_edge_before_cut n (Cut m) h = refl
-no_edge_before_cut n (Use g) h = refl
-no_edge_before_cut n (Keep k) h = refl
 no_edge_before_cut n (Edge d) h = absurd (edge_then_cut d n h)
-no_edge_before_cut n (Halo d) h = refl
-no_edge_before_cut n (Stop s) h = refl
+no_edge_before_cut n _ h = refl
 
 pub no_halo_before_cut : (n : List ℕ) (j : CertificateLine) → may_precede j (Cut n) ≡ true → halo_in j ≡ []
-no_halo_before_cut n (Module b) h = refl
-no_halo_before_cut n (Cut m) h = refl
-no_halo_before_cut n (Use g) h = refl
-no_halo_before_cut n (Keep k) h = refl
-no_halo_before_cut n (Edge d) h = refl
 no_halo_before_cut n (Halo d) h = absurd (halo_then_cut d n h)
-no_halo_before_cut n (Stop s) h = refl
+no_halo_before_cut n _ h = refl
 
 pub no_edge_before_use : (g : ℕ) (j : CertificateLine) → may_precede j (Use g) ≡ true → edge_in j ≡ []
-no_edge_before_use g (Module b) h = refl
-no_edge_before_use g (Cut m) h = refl
-no_edge_before_use g (Use k) h = refl
-no_edge_before_use g (Keep k) h = refl
 no_edge_before_use g (Edge d) h = absurd (edge_then_use d g h)
-no_edge_before_use g (Halo d) h = refl
-no_edge_before_use g (Stop s) h = refl
+no_edge_before_use g _ h = refl
 
 pub no_halo_before_use : (g : ℕ) (j : CertificateLine) → may_precede j (Use g) ≡ true → halo_in j ≡ []
-no_halo_before_use g (Module b) h = refl
-no_halo_before_use g (Cut m) h = refl
-no_halo_before_use g (Use k) h = refl
-no_halo_before_use g (Keep k) h = refl
-no_halo_before_use g (Edge d) h = refl
 no_halo_before_use g (Halo d) h = absurd (halo_then_use d g h)
-no_halo_before_use g (Stop s) h = refl
+no_halo_before_use g _ h = refl
 
 pub no_halo_before_edge : (e : BorderLine) (j : CertificateLine) → may_precede j (Edge e) ≡ true → halo_in j ≡ []
-no_halo_before_edge e (Module b) h = refl
-no_halo_before_edge e (Cut m) h = refl
-no_halo_before_edge e (Use k) h = refl
-no_halo_before_edge e (Keep k) h = refl
-no_halo_before_edge e (Edge d) h = refl
 no_halo_before_edge e (Halo d) h = absurd (halo_then_edge d e h)
-no_halo_before_edge e (Stop s) h = refl
+no_halo_before_edge e _ h = refl
 
 pub no_stop_before_cut : (n : List ℕ) (j : CertificateLine) → may_precede j (Cut n) ≡ true → stop_in j ≡ []
-no_stop_before_cut n (Module b) h = refl
-no_stop_before_cut n (Cut m) h = refl
-no_stop_before_cut n (Use k) h = refl
-no_stop_before_cut n (Keep k) h = refl
-no_stop_before_cut n (Edge d) h = refl
-no_stop_before_cut n (Halo d) h = refl
 no_stop_before_cut n (Stop s) h = absurd (stop_then_cut s n h)
+no_stop_before_cut n _ h = refl
 
 pub no_stop_before_use : (g : ℕ) (j : CertificateLine) → may_precede j (Use g) ≡ true → stop_in j ≡ []
-no_stop_before_use g (Module b) h = refl
-no_stop_before_use g (Cut m) h = refl
-no_stop_before_use g (Use k) h = refl
-no_stop_before_use g (Keep k) h = refl
-no_stop_before_use g (Edge d) h = refl
-no_stop_before_use g (Halo d) h = refl
 no_stop_before_use g (Stop s) h = absurd (stop_then_use s g h)
+no_stop_before_use g _ h = refl
 
 -- ---- used gates rise
 
 less_by : (o : Ordering) → is_lt (ordering_then o Equal) ≡ true → o ≡ Less
 less_by Less h = refl
-less_by Equal h = cc
-less_by Greater h = cc
+less_by _ h = cc
 
 or_false : (a : Bool) → (a || false) ≡ true → a ≡ true
 or_false true h = refl
@@ -189,13 +138,8 @@ unfolding may_precede line_cmp rank_of sort_number_of cell_of is_cut cell_cmp
 use_then_use g k h = nat_less g k (less_by (nat_cmp g k) (or_false _ h))
 
 pub lower_uses : (k : ℕ) (j : CertificateLine) → may_precede j (Use k) ≡ true → All (λ g. g < k) (use_in j)
-lower_uses k (Module b) h = All-nil (λ (g : ℕ). g < k)
-lower_uses k (Cut m) h = All-nil (λ (g : ℕ). g < k)
 lower_uses k (Use g) h = All-push (λ (x : ℕ). x < k) [] g (All-nil (λ (x : ℕ). x < k)) (use_then_use g k h)
-lower_uses k (Keep j) h = All-nil (λ (g : ℕ). g < k)
-lower_uses k (Edge d) h = All-nil (λ (g : ℕ). g < k)
-lower_uses k (Halo d) h = All-nil (λ (g : ℕ). g < k)
-lower_uses k (Stop s) h = All-nil (λ (g : ℕ). g < k)
+lower_uses k _ h = All-nil (λ (g : ℕ). g < k)
 
 -- ---- order
 

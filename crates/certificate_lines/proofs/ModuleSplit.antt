@@ -63,12 +63,7 @@ other_first : (e : CertificateLine) (es : List CertificateLine) → is_module e 
     modules_of (e ∷ es) ≡ modules_of es
 unfolding modules_of add_line change_last
 other_first (Module b) es h = absurd cc
-other_first (Cut n) es h = refl
-other_first (Use k) es h = refl
-other_first (Keep k) es h = refl
-other_first (Edge b) es h = refl
-other_first (Halo b) es h = refl
-other_first (Stop s) es h = refl
+other_first _ es h = refl
 
 module_first : (b : Box2) (es : List CertificateLine) →
     modules_of (Module b ∷ es) ≡ onward (record { area = b; lines = [] } ∷ []) es
@@ -117,12 +112,7 @@ split_other e es h = other_first e es h
 
 pub no_module : (e : CertificateLine) → ((b : Box2) → e ≡ Module b → ⊥) → is_module e ≡ false
 no_module (Module b) h = absurd (h b refl)
-no_module (Cut n) h = refl
-no_module (Use k) h = refl
-no_module (Keep k) h = refl
-no_module (Edge b) h = refl
-no_module (Halo b) h = refl
-no_module (Stop s) h = refl
+no_module _ h = refl
 
 after_first : (b : Bool) (e : CertificateLine) (es : List CertificateLine) → is_module e ≡ b →
     modules_of (drop (length (body_lines es)) es) ≡ modules_of es →

@@ -22,16 +22,14 @@ signal_named c local (Some n) h = local_is_some local (wire_of c n) h
 -- the name in a line whose words are good
 named_words : (g : Setting) (m : ModuleLines) (i : CertificateLine) → content_code g m i ≡ None →
     NamesWire g.circuit i
-named_words g m (Module b) e = tt
 named_words g m (Cut n) e = subst (λ o. IsTrue (is_some o)) (sym (new_wire _ _ _ n e).1.named) refl
-named_words g m (Use k) e = tt
-named_words g m (Keep k) e = tt
 named_words g m (Edge b) e = signal_named g.circuit (known g.circuit m) b.signal
     (signal_good _ _ b.signal (good_border _ _ _ _ _ e).names)
 named_words g m (Halo b) e = signal_named g.circuit (known g.circuit m) b.signal
     (signal_good _ _ b.signal (good_border _ _ _ _ _ e).names)
 named_words g m (Stop s) e = signal_named g.circuit (known g.circuit m) (Some s.wire)
     (signal_good _ _ (Some s.wire) (good_border _ _ _ _ _ e).names)
+named_words g m _ e = tt
 
 found_name : (c : Circuit) (name : Option (List ℕ)) (wire : Option NamedWire) →
     IfSome name (λ n. IsTrue (is_some (wire_of c n))) → IsWireOfName c name wire →

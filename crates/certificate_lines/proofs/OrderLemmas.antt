@@ -19,8 +19,7 @@ line_total = then_total (on_total rank_of nat_cmp_total)
 
 is_less : (o : Ordering) → is_lt o ≡ true → o ≡ Less
 is_less Less h = refl
-is_less Equal h = cc
-is_less Greater h = cc
+is_less _ h = cc
 
 -- what a cut is
 record IsCut (i : CertificateLine) : Type 0 where
@@ -29,13 +28,8 @@ record IsCut (i : CertificateLine) : Type 0 where
 
 cut_is : (i : CertificateLine) → is_cut i ≡ true → IsCut i
 unfolding is_cut
-cut_is (Module b) h = absurd cc
 cut_is (Cut n) h = record { name = n; same = refl }
-cut_is (Use k) h = absurd cc
-cut_is (Keep k) h = absurd cc
-cut_is (Edge e) h = absurd cc
-cut_is (Halo e) h = absurd cc
-cut_is (Stop s) h = absurd cc
+cut_is _ h = absurd cc
 
 -- a cut stands where any other stands
 after_cut : (m n : List ℕ) (i : CertificateLine) → line_cmp (Cut m) i ≡ line_cmp (Cut n) i
@@ -58,12 +52,7 @@ by_cuts i j h k = or_right _ (is_cut i && is_cut j) (rw (h, k) refl)
 pub cut_rank : (i : CertificateLine) → is_cut i ≡ (rank_of i == 1)
 unfolding is_cut rank_of
 cut_rank (Module b) = refl
-cut_rank (Cut n) = refl
-cut_rank (Use k) = refl
-cut_rank (Keep k) = refl
-cut_rank (Edge e) = refl
-cut_rank (Halo e) = refl
-cut_rank (Stop s) = refl
+cut_rank _ = refl
 
 -- lines of one kind but cuts, and of one number or time, are in order by their cells
 pub cells_precede : (i j : CertificateLine) → rank_of i ≡ rank_of j → (rank_of i ≡ 1 → ⊥) →
@@ -156,12 +145,7 @@ follows_none (x ∷ lines) i none = absurd (has_last x lines none)
 module_first : (b : Box2) (i : CertificateLine) → IsBodyLine i → may_precede (Module b) i ≡ true
 unfolding may_precede line_cmp rank_of sort_number_of cell_of is_cut
 module_first b (Module b') inner = absurd inner
-module_first b (Cut n) inner = refl
-module_first b (Use k) inner = refl
-module_first b (Keep k) inner = refl
-module_first b (Edge e) inner = refl
-module_first b (Halo e) inner = refl
-module_first b (Stop s) inner = refl
+module_first b _ inner = refl
 
 pub follows_inner : (lines : List CertificateLine) (l i : CertificateLine) → IsBodyLine i → AreInOrder lines →
     last_of lines ≡ body_line_or_none (Some l) → may_precede l i ≡ may_follow lines i

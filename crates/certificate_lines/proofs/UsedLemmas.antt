@@ -22,12 +22,7 @@ other_line : (es : List CertificateLine) (i : CertificateLine) → is_module i �
     (l : ModuleLines) × (last_module es ≡ Some l) × (m ≡ module_with_line i l)
 unfolding add_line
 other_line es (Module b) other m e = absurd cc
-other_line es (Cut n) other m e = grind (arith, common_steps, mapped_some, modules_push, last_changed)
-other_line es (Use n) other m e = grind (arith, common_steps, mapped_some, modules_push, last_changed)
-other_line es (Keep n) other m e = grind (arith, common_steps, mapped_some, modules_push, last_changed)
-other_line es (Edge n) other m e = grind (arith, common_steps, mapped_some, modules_push, last_changed)
-other_line es (Halo n) other m e = grind (arith, common_steps, mapped_some, modules_push, last_changed)
-other_line es (Stop n) other m e = grind (arith, common_steps, mapped_some, modules_push, last_changed)
+other_line es _ other m e = grind (arith, common_steps, mapped_some, modules_push, last_changed)
 
 or_true : (a : Bool) → true ≡ (a || true)
 or_true true = refl
@@ -56,12 +51,7 @@ told_module : (es : List CertificateLine) (i : CertificateLine) (k : ℕ) → is
     Tells (es ++ i ∷ []) k false
 unfolding add_line
 told_module es (Module b) k is m e = grind (arith, common_steps, some_is, modules_push, last_pushed)
-told_module es (Cut n) k is m e = absurd cc
-told_module es (Use n) k is m e = absurd cc
-told_module es (Keep n) k is m e = absurd cc
-told_module es (Edge n) k is m e = absurd cc
-told_module es (Halo n) k is m e = absurd cc
-told_module es (Stop n) k is m e = absurd cc
+told_module es _ k is m e = absurd cc
 
 -- ---- the lines from the last one on
 

@@ -35,8 +35,7 @@ signal_of false (Some w) = Wire w
 signal_back : (a : Signal) → signal_of (is_one a) (signal_wire a) ≡ a
 unfolding signal_of
 signal_back Zero = refl
-signal_back One = refl
-signal_back (Wire w) = refl
+signal_back _ = refl
 
 pub signal_decides : (a b : Signal) → Decides (same_signal a b) (a ≡ b)
 signal_decides a b = grind (arith, common_steps, both, options, signal_back, signal_of)
@@ -80,13 +79,7 @@ gate_kind_from place source delay =
 gate_kind_back : (r : GateKind) → gate_kind_from (gate_kind_number r) (source_bit r) (delay_steps r) ≡ r
 unfolding gate_kind_from source_of delay_of
 gate_kind_back (Source b) = refl
-gate_kind_back Fredkin = refl
-gate_kind_back Cswap = refl
-gate_kind_back Interact = refl
-gate_kind_back Switch = refl
-gate_kind_back (Delay n) = refl
-gate_kind_back Unswitch = refl
-gate_kind_back Uninteract = refl
+gate_kind_back _ = refl
 
 gate_kind_decides : (a b : GateKind) → Decides (same_gate_kind a b) (a ≡ b)
 gate_kind_decides a b = grind (arith, common_steps, both, options, gate_kind_back, gate_kind_from)

@@ -53,14 +53,7 @@ gate_kind_from place detail = get_or
 gate_kind_back : (r : GateKind) → gate_kind_from (gate_kind_number r) (gate_kind_parameter r) ≡ r
 unfolding gate_kind_from
 gate_kind_back (Source true) = refl
-gate_kind_back (Source false) = refl
-gate_kind_back Fredkin = refl
-gate_kind_back Cswap = refl
-gate_kind_back Interact = refl
-gate_kind_back Switch = refl
-gate_kind_back (Delay n) = refl
-gate_kind_back Unswitch = refl
-gate_kind_back Uninteract = refl
+gate_kind_back _ = refl
 
 gate_kinds_tell : IsPrefixFree (λ (r : GateKind). gate_kind_number r ∷ gate_kind_parameter r ∷ [])
 gate_kinds_tell a b r s e = grind (arith, common_steps, same_head, same_tail, gate_kind_back, gate_kind_from)

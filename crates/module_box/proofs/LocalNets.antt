@@ -23,13 +23,7 @@ ordered_fits n (h ∷ gs) (suc k) g ordered at = ordered_fits (n + defines h.kin
 -- no gate defines more than four wires
 defines_few : (k : GateKind) → defines k ≤ 4
 defines_few (Source b) = omega arith
-defines_few Fredkin = omega arith
-defines_few Cswap = omega arith
-defines_few Interact = omega arith
-defines_few Switch = omega arith
-defines_few (Delay n) = omega arith
-defines_few Unswitch = omega arith
-defines_few Uninteract = omega arith
+defines_few _ = omega arith
 
 -- one more gate
 wires_push : (n : ℕ) (gs : List Gate) (g : Gate) → wires_after n (gs ++ g ∷ []) ≡ wires_after n gs + defines g.kind

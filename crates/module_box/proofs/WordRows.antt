@@ -66,14 +66,11 @@ forward o r b e = e ∙ ap (λ (v : Bool). row_unless_undefined v r) (sym (bit-z
 
 unswitch_bits : (c y z : Bool) → row Unswitch (c ∷ y ∷ z ∷ []) ≡ row_unless_undefined (cond c z y) (c ∷ (y || z) ∷ [])
 unfolding row
-unswitch_bits true true true = refl
-unswitch_bits true true false = refl
 unswitch_bits true false true = refl
-unswitch_bits true false false = refl
-unswitch_bits false true true = refl
 unswitch_bits false true false = refl
-unswitch_bits false false true = refl
-unswitch_bits false false false = refl
+unswitch_bits _ true true = refl
+unswitch_bits true _ false = refl
+unswitch_bits false false _ = refl
 
 uninteract_bits : (a b c d : Bool) →
     row Uninteract (a ∷ b ∷ c ∷ d ∷ [])
@@ -156,14 +153,7 @@ lane_row kind ins ws b h e =
 
 many_outs : (kind : GateKind) (a x y z : ℕ) → length (gate_out_words kind a x y z) ≡ defines kind
 many_outs (Source true) a x y z = refl
-many_outs (Source false) a x y z = refl
-many_outs Fredkin a x y z = refl
-many_outs Cswap a x y z = refl
-many_outs Interact a x y z = refl
-many_outs Switch a x y z = refl
-many_outs (Delay n) a x y z = refl
-many_outs Unswitch a x y z = refl
-many_outs Uninteract a x y z = refl
+many_outs _ a x y z = refl
 
 pub gate_done : (ws new : List ℕ) (g : LocalGate) (none : ℕ) → length g.ins ≡ 4 → new ≡ ws ++ outs_of g.kind ws g.ins →
     none ≡ none_of g.kind ws g.ins → AddsRow (gate_of_local_gate g) ws new none

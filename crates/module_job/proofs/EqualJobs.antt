@@ -39,9 +39,7 @@ demand_from (suc (suc (suc n))) w = Demanded.Any
 demand_back : (a : Demand) → demand_from (demand_kind_number a) (demand_wire a) ≡ a
 unfolding demand_from
 demand_back Demanded.Dead = refl
-demand_back Demanded.Live = refl
-demand_back (Demanded.Wire w) = refl
-demand_back Demanded.Any = refl
+demand_back _ = refl
 
 pub demand_decides : (a b : Demand) → Decides (same_demand a b) (a ≡ b)
 demand_decides a b = grind (arith, common_steps, both, options, demand_back, demand_from)

@@ -12,26 +12,20 @@ use Rattle.module_job.specs.declared.job.Demand.TheVariants as Demanded
 -- ---- one signal, one demand
 
 signal_back : (n : ℕ) → signal_number (signal_from_number n) ≡ n
-signal_back zero = refl
-signal_back (suc zero) = refl
 signal_back (suc (suc w)) = omega arith
+signal_back _ = refl
 
 demand_back : (n : ℕ) → demand_number (demand_from_number n) ≡ n
-demand_back zero = refl
-demand_back (suc zero) = refl
-demand_back (suc (suc zero)) = refl
 demand_back (suc (suc (suc w))) = omega arith
+demand_back _ = refl
 
 signal_again : (s : Signal) → signal_from_number (signal_number s) ≡ s
-signal_again Zero = refl
-signal_again One = refl
 signal_again (Wire w) = let e : w + 2 ≡ suc (suc w) = omega arith in ap signal_from_number e
+signal_again _ = refl
 
 demand_again : (d : Demand) → demand_from_number (demand_number d) ≡ d
-demand_again Demanded.Dead = refl
-demand_again Demanded.Live = refl
-demand_again Demanded.Any = refl
 demand_again (Demanded.Wire w) = let e : w + 3 ≡ suc (suc (suc w)) = omega arith in ap demand_from_number e
+demand_again _ = refl
 
 -- ---- lists
 

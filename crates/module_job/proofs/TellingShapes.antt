@@ -20,32 +20,26 @@ one_tells f tells a b r s e = (tells a b (same_head (f a) (f b) r s e), same_tai
 
 signal_told : (a b : Signal) → signal_number a ≡ signal_number b → a ≡ b
 signal_told Zero Zero e = refl
-signal_told Zero One e = absurd (omega (arith, e))
 signal_told Zero (Wire w) e = absurd (omega (arith, e))
-signal_told One Zero e = absurd (omega (arith, e))
 signal_told One One e = refl
-signal_told One (Wire w) e = absurd (omega (arith, e))
 signal_told (Wire v) Zero e = absurd (omega (arith, e))
-signal_told (Wire v) One e = absurd (omega (arith, e))
 signal_told (Wire v) (Wire w) e = ap Wire (omega (arith, e))
+signal_told _ One e = absurd (omega (arith, e))
+signal_told One _ e = absurd (omega (arith, e))
 
 demand_told : (a b : Demand) → demand_number a ≡ demand_number b → a ≡ b
 demand_told Demanded.Dead Demanded.Dead e = refl
-demand_told Demanded.Dead Demanded.Live e = absurd (omega (arith, e))
 demand_told Demanded.Dead Demanded.Any e = absurd (omega (arith, e))
 demand_told Demanded.Dead (Demanded.Wire w) e = absurd (omega (arith, e))
-demand_told Demanded.Live Demanded.Dead e = absurd (omega (arith, e))
 demand_told Demanded.Live Demanded.Live e = refl
-demand_told Demanded.Live Demanded.Any e = absurd (omega (arith, e))
-demand_told Demanded.Live (Demanded.Wire w) e = absurd (omega (arith, e))
 demand_told Demanded.Any Demanded.Dead e = absurd (omega (arith, e))
-demand_told Demanded.Any Demanded.Live e = absurd (omega (arith, e))
 demand_told Demanded.Any Demanded.Any e = refl
 demand_told Demanded.Any (Demanded.Wire w) e = absurd (omega (arith, e))
 demand_told (Demanded.Wire v) Demanded.Dead e = absurd (omega (arith, e))
-demand_told (Demanded.Wire v) Demanded.Live e = absurd (omega (arith, e))
 demand_told (Demanded.Wire v) Demanded.Any e = absurd (omega (arith, e))
 demand_told (Demanded.Wire v) (Demanded.Wire w) e = ap Demanded.Wire (omega (arith, e))
+demand_told _ Demanded.Live e = absurd (omega (arith, e))
+demand_told Demanded.Live _ e = absurd (omega (arith, e))
 
 integer_told : (a b : ℤ) → zigzag_number a ≡ zigzag_number b → a ≡ b
 integer_told (pos n) (pos m) e = ap pos (omega (arith, e))
@@ -147,14 +141,12 @@ bytes_tell : (n m : ℕ) (r s : List ℕ) → Forms n → Forms m → n < 2 ^ 64
     number_bytes n ++ r ≡ number_bytes m ++ s → (n ≡ m) × (r ≡ s)
 bytes_tell n m r s (inl f) (inl g) few few' e = let h = sym (ap (λ l. l ++ r) f.1) ∙ e ∙ ap (λ l. l ++ s) g.1 in
     (same_head n m r s h, same_tail n m r s h)
-bytes_tell n m r s (inl f) (inr (inl g)) few few' e = grind (arith, common_steps, same_head)
 bytes_tell n m r s (inl f) (inr (inr g)) few few' e = grind (arith, common_steps, same_head)
-bytes_tell n m r s (inr (inl f)) (inl g) few few' e = grind (arith, common_steps, same_head)
 bytes_tell n m r s (inr (inl f)) (inr (inl g)) few few' e = grind (arith, common_steps, two_tell, same_tail)
-bytes_tell n m r s (inr (inl f)) (inr (inr g)) few few' e = grind (arith, common_steps, same_head)
 bytes_tell n m r s (inr (inr f)) (inl g) few few' e = grind (arith, common_steps, same_head)
-bytes_tell n m r s (inr (inr f)) (inr (inl g)) few few' e = grind (arith, common_steps, same_head)
 bytes_tell n m r s (inr (inr f)) (inr (inr g)) few few' e = grind (arith, common_steps, eight_tell, same_tail)
+bytes_tell n m r s _ (inr (inl g)) few few' e = grind (arith, common_steps, same_head)
+bytes_tell n m r s (inr (inl f)) _ few few' e = grind (arith, common_steps, same_head)
 
 empty : (x : ℕ) (xs : List ℕ) → [] ≡ x ∷ xs → ⊥
 empty x xs e = cc
