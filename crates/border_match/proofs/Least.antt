@@ -8,9 +8,8 @@ use Rattle.border_match.proofs.FaultOrder.{border_total}
 -- ---- the order
 
 not_gt : (o : Ordering) → o ≢ Greater → is_gt o ≡ false
-not_gt Less n = refl
-not_gt Equal n = refl
 not_gt Greater n = absurd (n refl)
+not_gt _ n = refl
 
 from_not_gt : (o : Ordering) → is_gt o ≡ false → o ≢ Greater
 from_not_gt o e g = grind (arith, common_steps)

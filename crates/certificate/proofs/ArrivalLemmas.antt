@@ -201,14 +201,8 @@ delay_lines_tell : (c : Circuit) (ss : List StopLine) (k : ℕ) (r : GateKind) (
     slice_get c.netlist.gates k ≡ Some g → g.kind ≡ r →
     All (IsTimeLineTrue c ss) (delay_line_of_kind k r
     (gap_between (first_wire_time (last_seen c ss) g.ins) (first_wire_time (first_seen c ss) g.outs)))
-delay_lines_tell c ss k (Source b) g at is = All-nil (IsTimeLineTrue c ss)
-delay_lines_tell c ss k Fredkin g at is = All-nil (IsTimeLineTrue c ss)
-delay_lines_tell c ss k Cswap g at is = All-nil (IsTimeLineTrue c ss)
-delay_lines_tell c ss k Interact g at is = All-nil (IsTimeLineTrue c ss)
-delay_lines_tell c ss k Switch g at is = All-nil (IsTimeLineTrue c ss)
 delay_lines_tell c ss k (Delay n) g at is = grind (arith, common_steps, gap_tells, own_gap)
-delay_lines_tell c ss k Unswitch g at is = All-nil (IsTimeLineTrue c ss)
-delay_lines_tell c ss k Uninteract g at is = All-nil (IsTimeLineTrue c ss)
+delay_lines_tell c ss k _ g at is = All-nil (IsTimeLineTrue c ss)
 
 meet_lines_tell : (c : Circuit) (ss : List StopLine) (k : ℕ) (g : Gate) → slice_get c.netlist.gates k ≡ Some g →
     All (IsTimeLineTrue c ss) (meet_line (last_seen c ss) k g)
@@ -257,8 +251,7 @@ kept_at f j (h ∷ gates) (suc i) g e at =
 
 kept_gap : (k n : ℕ) (gap : StopGap) → list_all is_obeyed (line.Delay k n gap ∷ []) ≡ true → gap ≡ Steps n
 kept_gap k n (Steps m) e = ap Steps (eqb-true m n (and_parts (m == n) true e).0)
-kept_gap k n NoStop e = absurd cc
-kept_gap k n Before e = absurd cc
+kept_gap k n _ e = absurd cc
 
 meeting_of : (k : ℕ) (ts : List ℕ) → list_all is_obeyed (meet_line_of_times k ts) ≡ true → (t : ℕ) × All (λ u. u ≡ t) ts
 meeting_of k [] e = (0, All-nil (λ u. u ≡ 0))

@@ -29,8 +29,7 @@ pairs_of_order (i ∷ lines) h = (each_of_test (may_precede i) lines h.0, pairs_
 
 pub is_less : (o : Ordering) (b : Bool) → b ≡ false → (is_lt o || b) ≡ true → o ≡ Less
 is_less Less b e h = refl
-is_less Equal b e h = absurd cc
-is_less Greater b e h = absurd cc
+is_less _ b e h = absurd cc
 
 edge_before : (d e : BorderLine) → may_precede (Edge d) (Edge e) ≡ true → Before d e
 unfolding may_precede line_cmp rank_of sort_number_of cell_of is_cut
@@ -42,65 +41,35 @@ halo_before d e h = is_less _ false refl h
 
 edge_first : (d : BorderLine) (j : CertificateLine) → may_precede (Edge d) j ≡ true → Each (Before d) (edge_in j)
 unfolding Each
-edge_first d (Module b) h = tt
-edge_first d (Cut n) h = tt
-edge_first d (Use k) h = tt
-edge_first d (Keep k) h = tt
 edge_first d (Edge e) h = (edge_before d e h, tt)
-edge_first d (Halo e) h = tt
-edge_first d (Stop s) h = tt
+edge_first d _ h = tt
 
 halo_first : (d : BorderLine) (j : CertificateLine) → may_precede (Halo d) j ≡ true → Each (Before d) (halo_in j)
 unfolding Each
-halo_first d (Module b) h = tt
-halo_first d (Cut n) h = tt
-halo_first d (Use k) h = tt
-halo_first d (Keep k) h = tt
-halo_first d (Edge e) h = tt
 halo_first d (Halo e) h = (halo_before d e h, tt)
-halo_first d (Stop s) h = tt
+halo_first d _ h = tt
 
 edges_between : (i : CertificateLine) →
     Each (λ d. (j : CertificateLine) → may_precede i j ≡ true → Each (Before d) (edge_in j)) (edge_in i)
 unfolding Each
-edges_between (Module b) = tt
-edges_between (Cut n) = tt
-edges_between (Use k) = tt
-edges_between (Keep k) = tt
 edges_between (Edge d) = (edge_first d, tt)
-edges_between (Halo e) = tt
-edges_between (Stop s) = tt
+edges_between _ = tt
 
 halos_between : (i : CertificateLine) →
     Each (λ d. (j : CertificateLine) → may_precede i j ≡ true → Each (Before d) (halo_in j)) (halo_in i)
 unfolding Each
-halos_between (Module b) = tt
-halos_between (Cut n) = tt
-halos_between (Use k) = tt
-halos_between (Keep k) = tt
-halos_between (Edge e) = tt
 halos_between (Halo d) = (halo_first d, tt)
-halos_between (Stop s) = tt
+halos_between _ = tt
 
 edge_alone : (i : CertificateLine) → Pairs Before (edge_in i)
 unfolding Each Pairs
-edge_alone (Module b) = tt
-edge_alone (Cut n) = tt
-edge_alone (Use k) = tt
-edge_alone (Keep k) = tt
 edge_alone (Edge e) = (tt, tt)
-edge_alone (Halo e) = tt
-edge_alone (Stop s) = tt
+edge_alone _ = tt
 
 halo_alone : (i : CertificateLine) → Pairs Before (halo_in i)
 unfolding Each Pairs
-halo_alone (Module b) = tt
-halo_alone (Cut n) = tt
-halo_alone (Use k) = tt
-halo_alone (Keep k) = tt
-halo_alone (Edge e) = tt
 halo_alone (Halo e) = (tt, tt)
-halo_alone (Stop s) = tt
+halo_alone _ = tt
 
 pub edges_rise : (lines : List CertificateLine) → AreInOrder lines → Pairs Before (flat_map edge_in lines)
 edges_rise lines o = grind (arith, common_steps, pairs_flat, edges_between, edge_alone, pairs_of_order)
@@ -124,8 +93,7 @@ both_starred (Some t) b c s u h = absurd cc
 
 earlier_later : (a b : ℕ) (o : Ordering) → nat_cmp (a + 1) (b + 1) ≡ o → nat_cmp a b ≡ o
 earlier_later a b Less h = grind arith
-earlier_later a b Equal h = grind arith
-earlier_later a b Greater h = grind arith
+earlier_later a b _ h = grind arith
 
 both_timed : (a b : Option ℕ) (t v : ℕ) (c : Ordering) → a ≡ Some t → b ≡ Some v →
     ordering_then (nat_cmp (time_rank a) (time_rank b)) c ≡ Less → ordering_then (nat_cmp t v) c ≡ Less

@@ -168,8 +168,7 @@ order_of_pairs (i ∷ lines) p = (all_of_tests (may_precede i) lines p.0, order_
 
 less_is : (o : Ordering) (b : Bool) → o ≡ Less → (is_lt o || b) ≡ true
 less_is Less b h = refl
-less_is Equal b h = absurd cc
-less_is Greater b h = absurd cc
+less_is _ b h = absurd cc
 
 halos_follow : (d e : BorderLine) → border_line_cmp d e ≡ Less → may_precede (Halo d) (Halo e) ≡ true
 unfolding may_precede line_cmp rank_of sort_number_of cell_of border_line_cmp
@@ -177,23 +176,15 @@ halos_follow d e h = less_is _ _ h
 
 before_halo : (i : CertificateLine) (e : BorderLine) → precedes_halos i ≡ true → may_precede i (Halo e) ≡ true
 unfolding may_precede line_cmp rank_of precedes_halos
-before_halo (Module b) e h = refl
-before_halo (Cut n) e h = refl
-before_halo (Use k) e h = refl
-before_halo (Keep k) e h = refl
-before_halo (Edge d) e h = refl
 before_halo (Halo d) e h = absurd cc
 before_halo (Stop s) e h = absurd cc
+before_halo _ e h = refl
 
 before_stop : (i : CertificateLine) (s : StopLine) → precedes_halos i ≡ true → may_precede i (Stop s) ≡ true
 unfolding may_precede line_cmp rank_of precedes_halos
-before_stop (Module b) s h = refl
-before_stop (Cut n) s h = refl
-before_stop (Use k) s h = refl
-before_stop (Keep k) s h = refl
-before_stop (Edge d) s h = refl
 before_stop (Halo d) s h = absurd cc
 before_stop (Stop t) s h = absurd cc
+before_stop _ s h = refl
 
 halo_before_stop : (e : BorderLine) (s : StopLine) → may_precede (Halo e) (Stop s) ≡ true
 unfolding may_precede line_cmp rank_of
@@ -213,13 +204,8 @@ halo_pairs (d ∷ hs) p = grind (arith, common_steps, halo_pairs hs p.1, each_ma
 
 -- the stops among lines
 unfoldable is_stop : CertificateLine → Bool
-is_stop (Module b) = false
-is_stop (Cut n) = false
-is_stop (Use k) = false
-is_stop (Keep k) = false
-is_stop (Edge e) = false
-is_stop (Halo e) = false
 is_stop (Stop s) = true
+is_stop _ = false
 
 stops_among : (lines : List CertificateLine) → filter is_stop lines ≡ map Stop (flat_map stop_in lines)
 unfolding is_stop
@@ -256,9 +242,8 @@ lower_not : (i j : ℕ) → i < j → i ≡ j → ⊥
 lower_not i j lt e = absurd (omega (arith, lt, e))
 
 equal_parts : (a b : Ordering) → ordering_then a b ≡ Equal → b ≡ Equal
-equal_parts Less b h = absurd cc
 equal_parts Equal b h = h
-equal_parts Greater b h = absurd cc
+equal_parts _ b h = absurd cc
 
 same_place : (d e : BorderLine) → border_line_cmp d e ≡ Equal → d.cell ≡ e.cell
 unfolding border_line_cmp

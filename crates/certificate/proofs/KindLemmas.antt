@@ -16,7 +16,6 @@ use Rattle.certificate.specs.LineKinds.{IsSplitAt}
 
 not_both_cuts : (i j : CertificateLine) → rank_of j < rank_of i → (is_cut i && is_cut j) ≡ false
 unfolding rank_of is_cut
-not_both_cuts (Module b) j lt = refl
 not_both_cuts (Cut m) (Module b) lt = refl
 not_both_cuts (Cut m) (Cut n) lt = absurd (omega (arith, lt))
 not_both_cuts (Cut m) (Use k) lt = refl
@@ -24,11 +23,7 @@ not_both_cuts (Cut m) (Keep k) lt = refl
 not_both_cuts (Cut m) (Edge e) lt = refl
 not_both_cuts (Cut m) (Halo e) lt = refl
 not_both_cuts (Cut m) (Stop s) lt = refl
-not_both_cuts (Use k) j lt = refl
-not_both_cuts (Keep k) j lt = refl
-not_both_cuts (Edge e) j lt = refl
-not_both_cuts (Halo e) j lt = refl
-not_both_cuts (Stop s) j lt = refl
+not_both_cuts _ j lt = refl
 
 no_higher_first : (i j : CertificateLine) → rank_of j < rank_of i → may_precede i j ≡ false
 unfolding may_precede line_cmp
@@ -125,59 +120,29 @@ only_after f r lines before after s none =
 pub cuts_before : (i : CertificateLine) → 4 ≤ rank_of i → cut_in i ≡ []
 unfolding rank_of
 cuts_before (Cut n) le = absurd (omega (arith, le))
-cuts_before (Module b) le = refl
-cuts_before (Use k) le = refl
-cuts_before (Keep k) le = refl
-cuts_before (Edge e) le = refl
-cuts_before (Halo e) le = refl
-cuts_before (Stop s) le = refl
+cuts_before _ le = refl
 
 pub uses_before : (i : CertificateLine) → 4 ≤ rank_of i → use_in i ≡ []
 unfolding rank_of
 uses_before (Use k) le = absurd (omega (arith, le))
-uses_before (Module b) le = refl
-uses_before (Cut n) le = refl
-uses_before (Keep k) le = refl
-uses_before (Edge e) le = refl
-uses_before (Halo e) le = refl
-uses_before (Stop s) le = refl
+uses_before _ le = refl
 
 pub keeps_before : (i : CertificateLine) → 4 ≤ rank_of i → keep_in i ≡ []
 unfolding rank_of
 keeps_before (Keep k) le = absurd (omega (arith, le))
-keeps_before (Module b) le = refl
-keeps_before (Cut n) le = refl
-keeps_before (Use k) le = refl
-keeps_before (Edge e) le = refl
-keeps_before (Halo e) le = refl
-keeps_before (Stop s) le = refl
+keeps_before _ le = refl
 
 pub only_edges : (i : CertificateLine) → rank_of i ≢ 4 → edge_in i ≡ []
 unfolding rank_of
 only_edges (Edge e) other = absurd (other refl)
-only_edges (Module b) other = refl
-only_edges (Cut n) other = refl
-only_edges (Use k) other = refl
-only_edges (Keep k) other = refl
-only_edges (Halo e) other = refl
-only_edges (Stop s) other = refl
+only_edges _ other = refl
 
 pub only_halos : (i : CertificateLine) → rank_of i ≢ 5 → halo_in i ≡ []
 unfolding rank_of
 only_halos (Halo e) other = absurd (other refl)
-only_halos (Module b) other = refl
-only_halos (Cut n) other = refl
-only_halos (Use k) other = refl
-only_halos (Keep k) other = refl
-only_halos (Edge e) other = refl
-only_halos (Stop s) other = refl
+only_halos _ other = refl
 
 pub stops_after : (i : CertificateLine) → rank_of i < 6 → stop_in i ≡ []
 unfolding rank_of
 stops_after (Stop s) lt = absurd (omega (arith, lt))
-stops_after (Module b) lt = refl
-stops_after (Cut n) lt = refl
-stops_after (Use k) lt = refl
-stops_after (Keep k) lt = refl
-stops_after (Edge e) lt = refl
-stops_after (Halo e) lt = refl
+stops_after _ lt = refl

@@ -39,13 +39,8 @@ without_append (Stop s ∷ xs) ys = ap (λ l. Stop s ∷ l) (without_append xs y
 
 alone : (i : CertificateLine) → is_halo i ≡ false → without_halos (i ∷ []) ≡ i ∷ []
 unfolding without_halos is_halo
-alone (Module b) o = refl
-alone (Cut n) o = refl
-alone (Use k) o = refl
-alone (Keep k) o = refl
-alone (Edge e) o = refl
 alone (Halo e) o = absurd cc
-alone (Stop s) o = refl
+alone _ o = refl
 
 stored_line : (i : CertificateLine) → is_halo i ≡ false → (m : ModuleLines) →
     haloless_module (module_with_line i m) ≡ module_with_line i (haloless_module m)

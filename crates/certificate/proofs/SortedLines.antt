@@ -17,9 +17,8 @@ abbrev count_at : BorderLine → List BorderLine → ℕ
 count_at e ys = sum_by (beat e) ys
 
 not_eq : (o : Ordering) → o ≢ Equal → is_eq o ≡ false
-not_eq Less h = refl
 not_eq Equal h = absurd (h refl)
-not_eq Greater h = refl
+not_eq _ h = refl
 
 cons_at : (e y : BorderLine) (ys : List BorderLine) → count_at e (y ∷ ys) ≡ beat e y + count_at e ys
 cons_at e y ys = sum_by-cons (beat e) y ys

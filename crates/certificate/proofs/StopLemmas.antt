@@ -26,34 +26,19 @@ stop_before s t h = is_less _ false refl h
 
 stop_first : (s : StopLine) (j : CertificateLine) → may_precede (Stop s) j ≡ true → Each (StopBefore s) (stop_in j)
 unfolding Each
-stop_first s (Module b) h = tt
-stop_first s (Cut n) h = tt
-stop_first s (Use k) h = tt
-stop_first s (Keep k) h = tt
-stop_first s (Edge e) h = tt
-stop_first s (Halo e) h = tt
 stop_first s (Stop t) h = (stop_before s t h, tt)
+stop_first s _ h = tt
 
 stops_between : (i : CertificateLine) →
     Each (λ s. (j : CertificateLine) → may_precede i j ≡ true → Each (StopBefore s) (stop_in j)) (stop_in i)
 unfolding Each
-stops_between (Module b) = tt
-stops_between (Cut n) = tt
-stops_between (Use k) = tt
-stops_between (Keep k) = tt
-stops_between (Edge e) = tt
-stops_between (Halo e) = tt
 stops_between (Stop s) = (stop_first s, tt)
+stops_between _ = tt
 
 stop_alone : (i : CertificateLine) → Pairs StopBefore (stop_in i)
 unfolding Each Pairs
-stop_alone (Module b) = tt
-stop_alone (Cut n) = tt
-stop_alone (Use k) = tt
-stop_alone (Keep k) = tt
-stop_alone (Edge e) = tt
-stop_alone (Halo e) = tt
 stop_alone (Stop s) = (tt, tt)
+stop_alone _ = tt
 
 stop_lines_rise : (lines : List CertificateLine) → AreInOrder lines → Pairs StopBefore (flat_map stop_in lines)
 stop_lines_rise lines o = grind (arith, common_steps, pairs_flat, stops_between, stop_alone, pairs_of_order)

@@ -199,6 +199,7 @@ impl<'a> Builder<'a> {
     //
     // It is inlined where the kind of line is known, so that no test asks for the kind.
     #[inline(always)]
+    #[tactic(auto, using(crate::proofs::Keeping::good_line, crate::proofs::Keeping::small, crate::proofs::Keeping::with_border, crate::proofs::NamedLines::named_line))]
     fn add_border_or_stop(&mut self, entry: CertificateLine) -> Result<(), LineFault>
         requires { IsEdgeHaloOrStopLine entry }
         ensures ok { OnOk result ((body_line_code self.old.setting (last_module self.old.entries)
@@ -223,6 +224,7 @@ impl<'a> Builder<'a> {
 
     // Adds a line of a module, or answers the code of the first test that it fails.
     #[inline(never)]
+    #[tactic(auto, using(crate::proofs::Keeping::small, crate::proofs::Keeping::good_line, crate::proofs::Keeping::with_inner, crate::proofs::NamedLines::named_line))]
     fn add_body_line(&mut self, entry: CertificateLine) -> Result<(), LineFault>
         requires { IsBodyLine entry }
         ensures ok { OnOk result ((body_line_code self.old.setting (last_module self.old.entries)
@@ -259,7 +261,7 @@ impl<'a> Builder<'a> {
     }
 
     // The code of the tests of a box by itself.
-    #[tactic(auto, unfolding(crate::specs::Rules::box_fault))]
+    #[tactic(auto, using(crate::proofs::BuiltLemmas::near_by), unfolding(crate::specs::Rules::box_fault))]
     fn box_code(&self, area: Box2) -> Option<RefusalCode>
         ensures code { result
             ≡ box_fault self.now.setting (length (modules_of self.now.entries))

@@ -31,6 +31,7 @@ fn count_line(counts: &mut Counts, entry: &CertificateLine)
 }
 
 /// Returns the counts of the last module.
+#[tactic(auto, using(crate::proofs::Growing::last_by_place))]
 pub(crate) fn last_counts(modules: &[Counts]) -> Option<Counts>
     ensures { result ≡ last_of modules.now }
 {
@@ -39,6 +40,7 @@ pub(crate) fn last_counts(modules: &[Counts]) -> Option<Counts>
 
 /// Counts one more line of the last module.
 #[inline(always)]
+#[tactic(auto, using(crate::proofs::CountLemmas::none_changed, crate::proofs::CountLemmas::last_is_at, crate::proofs::CountLemmas::set_at))]
 pub(crate) fn count_in_last(modules: &mut Vec<Counts>, entry: &CertificateLine)
     requires { (k : Counts) → last_of modules.old.items ≡ Some k → AreSmallCounts k }
     ensures { modules.new.items ≡ change_last (counts_with_line entry.now) modules.old.items }
@@ -103,6 +105,7 @@ pub(crate) fn pop_module(entries: &mut Vec<StoredLine>, modules: &mut Vec<Counts
 }
 
 /// Returns the boxes of modules.
+#[tactic(auto, using(crate::proofs::Imports::take_all, crate::proofs::ModuleBoxes::counted_areas))]
 pub fn boxes_of(alloc: Global, modules: &[Counts]) -> Result<Vec<Box2>, AllocError>
     ensures { IfOk result (λ boxes. (ms : List ModuleLines) → modules.now ≡ map counts_of ms →
         boxes.items ≡ areas ms) }

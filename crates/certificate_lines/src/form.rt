@@ -116,7 +116,7 @@ fn is_stop_line(line: &[u8]) -> bool
 }
 
 // The form of a line of five words that is no edge, halo or stop line.
-#[tactic(auto, unfolding(crate::specs::Forms::form_of, section_text::specs::Words::is_word_at))]
+#[tactic(auto, using(crate::proofs::BorderLines::no_long_form), unfolding(crate::specs::Forms::form_of, section_text::specs::Words::is_word_at))]
 fn five_word_line_form(words: FiveWords) -> Option<Form<u32, CertificateLine>>
     requires no_edge { bytes_eq words.first.now (codes "edge") ≡ false }
     requires no_halo { bytes_eq words.first.now (codes "halo") ≡ false }
@@ -211,6 +211,7 @@ fn other_line_form(feed: &Feed, line: &Line) -> Option<Form<u32, CertificateLine
 
 // The content of a stop line.
 #[inline(always)]
+#[tactic(auto, using(crate::proofs::BorderLines::five_words_are, crate::proofs::BorderLines::no_stop))]
 fn stop_in(feed: &Feed, line: &Line) -> Option<StopLine>
     requires { IsLine feed.now line.now }
     ensures { result ≡ stop_of (words_of (line_bytes feed.now line.now)) }

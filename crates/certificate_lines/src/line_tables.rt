@@ -64,6 +64,7 @@ fn is_nonlocal_port(ports: &PortTable, known: &WireList, cell: Cell) -> bool
 }
 
 // Whether a port at one of `width` cells of row `y`, from column `x` on, has a wire that is not local.
+#[tactic(auto, using(pattern::proofs::CellLists::none_in_row, crate::proofs::TableLemmas::row_named))]
 fn has_row_nonlocal_port(ports: &PortTable, known: &WireList, x: u32, y: u32, width: u32) -> bool
     requires { (x + width ≤ 512) × (y < 512) }
     ensures { result
@@ -103,6 +104,7 @@ fn has_box_nonlocal_port(ports: &PortTable, known: &WireList, area: Box2) -> boo
 
 impl<'a> LineTables<'a> {
     /// Creates the tables of the layout's ports.
+    #[tactic(auto, using(crate::proofs::NamedLines::no_wires))]
     pub fn new(
         alloc: Global,
         circuit: &'a Circuit,

@@ -24,6 +24,7 @@ fn is_module(entry: &StoredLine) -> bool
 }
 
 /// Returns the lines before the next `module` line. It does not read the first `skipped` lines, which come before it.
+#[tactic(auto, using(crate::proofs::InnerLines::inner_found, crate::proofs::InnerLines::inner_more, crate::proofs::InnerLines::inner_all, crate::proofs::InnerLines::inner_prefix))]
 pub fn lines_of_module_past<'b, 'a>(
     entries: &'b [StoredLine<'a>],
     skipped: usize,

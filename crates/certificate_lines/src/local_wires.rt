@@ -34,6 +34,7 @@ fn is_among_earlier(wires: &[WireNo], wire: WireNo) -> bool
 }
 
 /// Returns whether none of these wires is local, and none is in the list twice.
+#[tactic(auto, using(crate::proofs::KnownLemmas::none_new, crate::proofs::KnownLemmas::old_wire, crate::proofs::KnownLemmas::new_wire))]
 pub(crate) fn are_all_new_and_distinct(known: &WireList, wires: &[WireNo]) -> bool
     ensures { result ≡ are_new_and_distinct known.now.wires wires.now }
 {

@@ -48,6 +48,7 @@ impl<'a> Model for PortTable<'a> {
 
 // The place of a cell's number in a table with these rows, if the cell's row has numbers.
 #[inline(always)]
+#[tactic(auto, using(crate::proofs::Imports::abs_from, crate::proofs::RowLemmas::none_after, crate::proofs::RowLemmas::sides, crate::proofs::RowLemmas::some_after))]
 fn entry_place(area: Box2, rows: &[u32], cell: Cell) -> Option<usize>
     requires inside { in_box area cell.x cell.y ≡ true }
     requires small { area.w ≤ 512 }
@@ -129,6 +130,7 @@ fn index_ports<'a>(
 }
 
 /// Creates the tables of the inputs and of the outputs of a layout, by their cells.
+#[tactic(auto, using(crate::proofs::LayoutPorts::ports_on_layout))]
 pub fn port_tables<'a>(
     alloc: Global,
     circuit: &'a Circuit,

@@ -31,6 +31,7 @@ pub fn is_live(grid: &Grid, cell: Cell) -> bool
 }
 
 // Whether the first w cells of row y are live.
+#[tactic(auto, using(crate::proofs::AllLiveCells::row_full))]
 fn is_row_all_live(grid: &Grid, w: u32, y: u32) -> bool
     requires columns { (w ≤ grid.now.width) × (w ≤ 512) }
     requires row { (y < grid.now.height) × (y < 512) }
@@ -40,6 +41,7 @@ fn is_row_all_live(grid: &Grid, w: u32, y: u32) -> bool
 }
 
 /// Returns whether all cells of a rectangle from the cell (0, 0) on, as wide and as high as the grid, are live.
+#[tactic(auto, using(crate::proofs::Imports::live, crate::proofs::AllLiveCells::rows_longer), unfolding(crate::proofs::Imports::rectangle_cells))]
 pub(crate) fn are_all_cells_live(grid: &Grid, w: u32, h: u32) -> bool
     requires same_size { (grid.now.width ≡ w) × (grid.now.height ≡ h) }
     requires small { (w ≤ 512) × (h ≤ 512) }

@@ -36,6 +36,7 @@ impl Model for WireList {
 
 // Whether the bit of a number is set. No number from 4096 on has a bit.
 #[inline(always)]
+#[tactic(auto, using(bbm_rule::proofs::CellLemmas::cell_is, crate::proofs::WireListLemmas::past_marks))]
 fn is_marked(marks: &[u64; WORD_COUNT], number: usize) -> bool
     ensures { result ≡ cell_at marks.now number }
 {

@@ -112,9 +112,7 @@ other_number b f g k e held same =
 keeps : (b : BookView) (f g : Finding) (k : ℕ) (r : Reply) → reply_to b f ≡ r → found_in b k ≡ Some g →
     found_in (after_filing b f) k ≡ Some g
 keeps b f g k Accepted e held = grind (arith, common_steps, findings_after-accepted, get_or-set_other, other_number)
-keeps b f g k Closed e held = grind (arith, common_steps, findings_after-other)
-keeps b f g k (Stranger mismatch) e held = grind (arith, common_steps, findings_after-other)
-keeps b f g k (Double n) e held = grind (arith, common_steps, findings_after-other)
+keeps b f g k _ e held = grind (arith, common_steps, findings_after-other)
 
 pub keeps-what_is_held : FilingKeepsHeldFindings
 keeps-what_is_held b f g k held = keeps b f g k (reply_to b f) refl held

@@ -51,8 +51,7 @@ event-core c (Events.Lose number) seated is = is
 
 pub length-event : (c : CoreView) (e : Event) → length (after_event c e).draws ≡ length c.draws
 length-event c (Events.Claim seat) = length-set c.draws seat _
-length-event c (Events.File f) = refl
-length-event c (Events.Lose number) = refl
+length-event c _ = refl
 
 pub events-core : (seats : ℕ) (es : List Event) (c : CoreView) → length c.draws ≡ seats → All (HasSeatBelow seats) es →
     IsCore c → IsCore (after_events c es)

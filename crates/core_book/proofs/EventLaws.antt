@@ -66,24 +66,20 @@ empty-where_all_are_drawn digest jobs seats es seat seated inside h =
 -- ---- what is held
 
 pub events-keep : EventsKeepHeldFindings
-events-keep c (Events.Claim seat) k f h = h
 events-keep c (Events.File g) k f h = keeps-what_is_held c.book g f k h
-events-keep c (Events.Lose number) k f h = h
+events-keep c _ k f h = h
 
 pub only-accepted_changes : OnlyAcceptedChangesWhatIsHeld
-only-accepted_changes c (Events.Claim seat) other = refl
 only-accepted_changes c (Events.File g) other = holds-nothing_else c.book g (λ e. other (ap Answered.Reply e))
-only-accepted_changes c (Events.Lose number) other = refl
+only-accepted_changes c _ other = refl
 
 event-book : (c : CoreView) (e : Event) → IsBook c.book → IsBook (after_event c e).book
-event-book c (Events.Claim seat) is = is
 event-book c (Events.File g) is = IsBook-filed c.book g is
-event-book c (Events.Lose number) is = is
+event-book c _ is = is
 
 event-replayed : (c : CoreView) (e : Event) → IsBook c.book → IsReplayed c.book → IsReplayed (after_event c e).book
-event-replayed c (Events.Claim seat) book is = is
 event-replayed c (Events.File g) book is = IsReplayed-filed c.book g book is
-event-replayed c (Events.Lose number) book is = is
+event-replayed c _ book is = is
 
 events-book : (es : List Event) (c : CoreView) → IsBook c.book → IsBook (after_events c es).book
 events-book [] c is = is
@@ -138,9 +134,7 @@ held-event c (Events.File g) k f is h = by_reply (reply_to c.book g) refl
               inr (subst (λ (x : Finding). Contains (g ∷ []) x) same (Contains-push [] g))
           | inr q ↦ inl (sym (held-elsewhere c.book g k e (λ s. q.1 (sym s))) ∙ h)
         ]
-    by_reply Closed e = inl (kept (λ s. cc))
-    by_reply (Stranger mismatch) e = inl (kept (λ s. cc))
-    by_reply (Double number) e = inl (kept (λ s. cc))
+    by_reply _ e = inl (kept (λ s. cc))
 
 -- what is accepted by an event is held after it
 accepted-event : (c : CoreView) (e : Event) (f : Finding) → IsBook c.book → Contains (findings_accepted_by c e) f →
@@ -244,9 +238,7 @@ one-event c (Events.File g) k is = by_reply (reply_to c.book g) refl
               let none : at_number k g ≡ 0 = ap (λ (b : Bool). cond b 1 0) q.0 in
               omega (arith, same, none)
         ]
-    by_reply Closed e = omega (arith, kept (λ s. cc))
-    by_reply (Stranger mismatch) e = omega (arith, kept (λ s. cc))
-    by_reply (Double number) e = omega (arith, kept (λ s. cc))
+    by_reply _ e = omega (arith, kept (λ s. cc))
 
 one-among : (es : List Event) (c : CoreView) (k : ℕ) → IsBook c.book →
     sum_by (at_number k) (findings_accepted_in c es) + held_at c k ≤ held_at (after_events c es) k

@@ -164,9 +164,7 @@ pub findings_after-other : (held : List (Option Finding)) (f : Finding) (r : Rep
     findings_after held f r ≡ held
 unfolding findings_after
 findings_after-other held f Accepted other = absurd (other refl)
-findings_after-other held f Closed other = refl
-findings_after-other held f (Stranger mismatch) other = refl
-findings_after-other held f (Double number) other = refl
+findings_after-other held f _ other = refl
 
 -- whose a finding is depends on the digest and the jobs alone
 own-moved : (b c : BookView) (n : ℕ) (f : Finding) → b.digest ≡ c.digest → b.jobs ≡ c.jobs → IsOwn b n f → IsOwn c n f
@@ -188,9 +186,7 @@ filed-by b f Accepted e is =
     book-of b (after_filing b f) (set b.findings (number_of f) (Some f)) refl refl (findings_after-accepted b f e)
     (length-set b.findings (number_of f) (Some f) ∙ is.places)
     (own-set b (number_of f) f inside (accepted-own b f e) is)
-filed-by b f Closed e is = grind (arith, common_steps, book-of, findings_after-other)
-filed-by b f (Stranger mismatch) e is = grind (arith, common_steps, book-of, findings_after-other)
-filed-by b f (Double number) e is = grind (arith, common_steps, book-of, findings_after-other)
+filed-by b f _ e is = grind (arith, common_steps, book-of, findings_after-other)
 
 pub IsBook-filed : (b : BookView) (f : Finding) → IsBook b → IsBook (after_filing b f)
 IsBook-filed b f is = filed-by b f (reply_to b f) refl is
@@ -219,9 +215,7 @@ accepted_in-other b f other = ap (sum_by counted) (findings_after-other b.findin
 by_reply : (b : BookView) (f : Finding) (r : Reply) → reply_to b f ≡ r → IsBook b →
     accepted_in (after_filing b f) ≡ accepted_count_after (accepted_in b) r
 by_reply b f Accepted e is = accepted_in-accepted b f is e
-by_reply b f Closed e is = accepted_in-other b f (λ s. cc)
-by_reply b f (Stranger mismatch) e is = accepted_in-other b f (λ s. cc)
-by_reply b f (Double number) e is = accepted_in-other b f (λ s. cc)
+by_reply b f _ e is = accepted_in-other b f (λ s. cc)
 
 pub accepted_in-filed : (b c after : BookView) (f : Finding) (r : Reply) → IsBook b → b ≡ c → r ≡ reply_to c f →
     after ≡ after_filing c f → accepted_in after ≡ accepted_count_after (accepted_in c) r
@@ -229,9 +223,7 @@ accepted_in-filed b c after f r is same e left = grind (arith, common_steps, by_
 
 pub accepted_count_after-other : (n : ℕ) (r : Reply) → (r ≡ Accepted → ⊥) → accepted_count_after n r ≡ n
 accepted_count_after-other n Accepted other = absurd (other refl)
-accepted_count_after-other n Closed other = refl
-accepted_count_after-other n (Stranger mismatch) other = refl
-accepted_count_after-other n (Double number) other = refl
+accepted_count_after-other n _ other = refl
 
 -- ---- what a book says of a number
 

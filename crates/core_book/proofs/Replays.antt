@@ -67,13 +67,7 @@ filed-by b f Accepted e book is =
     (ap (accepted_after ks (number_of f)) e) (findings_after-accepted b f e)
     (length-append ks (number_of f ∷ []) ∙ ap (λ (n : ℕ). n + 1) is.count ∙ sym (accepted_in-accepted b f book e))
     (number-more ks b.findings (number_of f) f (accepted-inside b f book e) is.accepted)
-filed-by b f Closed e book is =
-    by-reply b f _ b.findings is (ap (accepted_after (replay b.history).accepted (number_of f)) e)
-    (findings_after-other b.findings f _ (λ s. cc)) (is.count ∙ sym (accepted_in-other b f (λ s. cc))) is.accepted
-filed-by b f (Stranger mismatch) e book is =
-    by-reply b f _ b.findings is (ap (accepted_after (replay b.history).accepted (number_of f)) e)
-    (findings_after-other b.findings f _ (λ s. cc)) (is.count ∙ sym (accepted_in-other b f (λ s. cc))) is.accepted
-filed-by b f (Double number) e book is =
+filed-by b f _ e book is =
     by-reply b f _ b.findings is (ap (accepted_after (replay b.history).accepted (number_of f)) e)
     (findings_after-other b.findings f _ (λ s. cc)) (is.count ∙ sym (accepted_in-other b f (λ s. cc))) is.accepted
 

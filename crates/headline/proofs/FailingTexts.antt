@@ -63,8 +63,7 @@ end_fault_at j d a = record { time = j.steps; kind = End; cell = d; assignment =
 
 abbrev pub is_no_later : Ordering → Bool
 is_no_later Greater = false
-is_no_later Equal = true
-is_no_later Less = true
+is_no_later _ = true
 
 -- no fault under the assignment a comes before f, if the wires have these values
 abbrev pub none_before : JobView → Fault → ℕ → Valuation → Bool
@@ -112,8 +111,7 @@ found j a test ordered = by (evaluate (given_of j a) j.locals.netlist.gates) ref
 
 no_later : (o : Ordering) → is_no_later o ≡ true → o ≢ Greater
 no_later Greater e h = false≢true e
-no_later Equal e h = cc
-no_later Less e h = cc
+no_later _ e h = cc
 
 module _ (j : JobView) (is : IsJob j) (ordered : AreOrdered j.locals.netlist.given j.locals.netlist.gates) where
   after : (f : Fault) (a : ℕ) (u : Valuation) (t : ℕ) (kind : Kind) (x y : ℤ) → none_before j f a u ≡ true →

@@ -51,10 +51,7 @@ rows_moved (suc n) x w y = grind (arith, common_steps, row_moved, map-append, (r
 line_cells_moved : (part : LayoutLine) → cells_of (moved_line part) ≡ map moved_by_two (cells_of part)
 unfolding cells_of rectangle_cells
 line_cells_moved (Mirror r) = rows_moved r.h r.x r.w r.y
-line_cells_moved (Ball c) = refl
-line_cells_moved (In q) = refl
-line_cells_moved (Out q) = refl
-line_cells_moved (Waste c) = refl
+line_cells_moved _ = refl
 
 holds_moved : (part : LayoutLine) (x y : ℤ) → holds (moved_line part) (x +ℤ pos 2) (y +ℤ pos 2) ≡ holds part x y
 holds_moved part x y = grind (arith, common_steps, line_cells_moved, cells_moved)
@@ -64,18 +61,12 @@ holds_moved part x y = grind (arith, common_steps, line_cells_moved, cells_moved
 begins_moved : (part : LayoutLine) → takes_at_start (moved_line part) ≡ takes_at_start part
 unfolding takes_at_start
 begins_moved (Mirror r) = refl
-begins_moved (Ball c) = refl
-begins_moved (In q) = refl
-begins_moved (Out q) = refl
-begins_moved (Waste c) = refl
+begins_moved _ = refl
 
 ends_moved : (part : LayoutLine) → takes_at_end (moved_line part) ≡ takes_at_end part
 unfolding takes_at_end
 ends_moved (Mirror r) = refl
-ends_moved (Ball c) = refl
-ends_moved (In q) = refl
-ends_moved (Out q) = refl
-ends_moved (Waste c) = refl
+ends_moved _ = refl
 
 begun_moved : (parts : List LayoutLine) (x y : ℤ) →
     cells_taken_at_start (moved_lines parts) (x +ℤ pos 2) (y +ℤ pos 2) ≡ cells_taken_at_start parts x y
@@ -133,10 +124,7 @@ inside_moved s (Waste c) h = layout_enlarged s c.x c.y h
 limit_moved : (part : LayoutLine) → limit_fault (moved_line part) ≡ limit_fault part
 unfolding limit_fault
 limit_moved (Mirror r) = refl
-limit_moved (Ball c) = refl
-limit_moved (In q) = refl
-limit_moved (Out q) = refl
-limit_moved (Waste c) = refl
+limit_moved _ = refl
 
 fault_none : (a a' b b' : Bool) → (a ≡ true → a' ≡ true) → b' ≡ b → code_if (not a || b) TakenCell ≡ None →
     code_if (not a' || b') TakenCell ≡ None

@@ -21,12 +21,7 @@ one_more : (b : Box2) (ms : List CertificateLine) (i : CertificateLine) → is_m
     add_line (record { area = b; lines = ms } ∷ []) i ≡ record { area = b; lines = ms ++ i ∷ [] } ∷ []
 unfolding add_line change_last
 one_more b ms (Module x) h = absurd cc
-one_more b ms (Cut n) h = refl
-one_more b ms (Use k) h = refl
-one_more b ms (Keep k) h = refl
-one_more b ms (Edge e) h = refl
-one_more b ms (Halo e) h = refl
-one_more b ms (Stop s) h = refl
+one_more b ms _ h = refl
 
 pub all_inner : (b : Box2) (ms ls : List CertificateLine) → list_all (λ i. not (is_module i)) ls ≡ true →
     fold add_line (record { area = b; lines = ms } ∷ []) ls ≡ record { area = b; lines = ms ++ ls } ∷ []

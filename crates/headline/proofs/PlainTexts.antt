@@ -116,10 +116,9 @@ line_same lines p full m (Local i f) same shown = record {
   wrong_stop = λ e held. shown.wrong_stop e (subst (All (StopHolds (circuit_of lines) p)) (sym same.stops_same) held);
 }
 line_same lines p full m (Keep i f) same lacks = grind (arith, common_steps, assignment_back)
-line_same lines p full m (Border i f) same h = h
-line_same lines p full m (Unkept gate) same h = h
 line_same lines p full m (Delay gate wanted gap) same h = grind (arith, common_steps)
 line_same lines p full m (Meet gate at) same h = grind (arith, common_steps)
+line_same lines p full m _ same h = h
 
 all_same : (lines : List CircuitLine) (p : Pattern) (full m : ModuleLines) (ls : List ReportLine) →
     HaveSameLines full m → All (LineMeans lines p full) ls → All (LineMeans lines p m) ls

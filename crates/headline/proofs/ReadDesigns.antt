@@ -54,9 +54,8 @@ gate_named ws r e = grind (arith, common_steps, option_and_then_some, passed, sa
 
 -- the names of a form
 IfItem : Form (Unit {0}) CircuitLine → Type 0
-IfItem (Header h) = Unit {0}
 IfItem (Item r) = Names r
-IfItem End = Unit {0}
+IfItem _ = Unit {0}
 
 form_named : (ws : List (List ℕ)) (f : Form (Unit {0}) CircuitLine) → form_of ws ≡ Some f → IfItem f
 unfolding form_of if_one_word IfItem Names

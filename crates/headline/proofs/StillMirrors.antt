@@ -46,26 +46,20 @@ mirror x y = in_area 1 0 2 2 x y
 -- the rows of a block are alike
 rows_stay : (a b c : Bool) → turned (a && b) (c && b) (c && b) (a && b) ≡ (a && b)
 unfolding turned
-rows_stay true true true = refl
-rows_stay true true false = refl
 rows_stay true false true = refl
-rows_stay true false false = refl
-rows_stay false true true = refl
 rows_stay false true false = refl
-rows_stay false false true = refl
-rows_stay false false false = refl
+rows_stay _ true true = refl
+rows_stay true _ false = refl
+rows_stay false false _ = refl
 
 -- its columns are alike
 columns_stay : (a b d : Bool) → turned (a && b) (a && d) (a && b) (a && d) ≡ (a && b)
 unfolding turned
-columns_stay true true true = refl
-columns_stay true true false = refl
 columns_stay true false true = refl
-columns_stay true false false = refl
-columns_stay false true true = refl
 columns_stay false true false = refl
-columns_stay false false true = refl
-columns_stay false false false = refl
+columns_stay _ true true = refl
+columns_stay true _ false = refl
+columns_stay false false _ = refl
 
 beyond : (k : ℕ) → in_span 1 2 (pos (3 + k)) ≡ false
 beyond k = in_span-pos 1 2 (3 + k) ∙ tests k
@@ -97,13 +91,9 @@ negative k = elim (partner_near 1 (negsuc (suc k))) [
 
 odd_span : (z : ℤ) → in_span 1 2 (partner 1 z) ≡ in_span 1 2 z
 unfolding partner in_span
-odd_span (pos zero) = refl
-odd_span (pos (suc zero)) = refl
-odd_span (pos (suc (suc zero))) = refl
-odd_span (pos (suc (suc (suc zero)))) = refl
 odd_span (pos (suc (suc (suc (suc k))))) = grind (arith, common_steps, far, beyond)
-odd_span (negsuc zero) = refl
 odd_span (negsuc (suc k)) = negative k ∙ sym (in_span-negsuc 1 2 (suc k))
+odd_span _ = refl
 
 even_stays : (x y : ℤ) → step 0 mirror x y ≡ mirror x y
 unfolding step

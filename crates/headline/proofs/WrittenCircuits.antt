@@ -103,49 +103,25 @@ is_short kind h n e = delay_small n (subst (λ k. is_wrong_delay k ≡ false) e 
 kind_read : (k : GateKind) (rest : List (List ℕ)) → IsShort (Gate k) →
     gate_kind (gate_word k ∷ (gate_parameter_words k ++ rest)) ≡ Some k
 unfolding gate_kind bit_at is_word_at number_at
-kind_read (Source true) rest h = refl
-kind_read (Source false) rest h = refl
-kind_read Fredkin rest h = refl
-kind_read Cswap rest h = refl
-kind_read Interact rest h = refl
-kind_read Switch rest h = refl
 kind_read (Delay n) rest h = ap (λ o. o >>= λ m. Some (Delay m)) (number_written n (h n refl))
-kind_read Unswitch rest h = refl
-kind_read Uninteract rest h = refl
+kind_read _ rest h = refl
 
 head_length : (k : GateKind) → length (gate_word k ∷ gate_parameter_words k) ≡ words_before_names k
 head_length (Source b) = refl
-head_length Fredkin = refl
-head_length Cswap = refl
-head_length Interact = refl
-head_length Switch = refl
-head_length (Delay n) = refl
-head_length Unswitch = refl
-head_length Uninteract = refl
+head_length _ = refl
 
 gate_form : (k : GateKind) (rest : List (List ℕ)) →
     form_of (gate_word k ∷ rest) ≡ (gate_entry (gate_word k ∷ rest) >>= λ r. Some (Item r))
 unfolding form_of is_word_at
 gate_form (Source b) rest = refl
-gate_form Fredkin rest = refl
-gate_form Cswap rest = refl
-gate_form Interact rest = refl
-gate_form Switch rest = refl
-gate_form (Delay n) rest = refl
-gate_form Unswitch rest = refl
-gate_form Uninteract rest = refl
+gate_form _ rest = refl
 
 head_words : (k : GateKind) → IsShort (Gate k) →
     IsWord (gate_word k) × AllByRecursion IsWord (gate_parameter_words k)
 head_words (Source true) h = (refl, (refl, tt))
 head_words (Source false) h = (refl, (refl, tt))
-head_words Fredkin h = (refl, tt)
-head_words Cswap h = (refl, tt)
-head_words Interact h = (refl, tt)
-head_words Switch h = (refl, tt)
 head_words (Delay n) h = (refl, (decimal_word n (h n refl), tt))
-head_words Unswitch h = (refl, tt)
-head_words Uninteract h = (refl, tt)
+head_words _ h = (refl, tt)
 
 words_both : (xs ys : List (List ℕ)) → AllByRecursion IsWord xs → AllByRecursion IsWord ys →
     AllByRecursion IsWord (xs ++ ys)
@@ -240,14 +216,13 @@ line_of Input [] [] fits i o right = absurd (let e = fits.1 in omega (arith, e))
 line_of Input [] (n ∷ m ∷ outs) fits i o right = absurd (let e = fits.1 in omega (arith, e))
 line_of Output (n ∷ []) [] fits i o right = lone_line (codes "output") n _ refl (first_of n [] i)
     (ap (λ o. o >>= λ m. Some (Item (entry Output (m ∷ []) []))) (named n (first_of n [] i)))
-line_of Output [] outs fits i o right = absurd (let e = fits.0 in omega (arith, e))
 line_of Output (n ∷ m ∷ ins) outs fits i o right = absurd (let e = fits.0 in omega (arith, e))
 line_of Output (n ∷ []) (x ∷ outs) fits i o right = absurd (let e = fits.1 in omega (arith, e))
 line_of Spill (n ∷ []) [] fits i o right = lone_line (codes "spill") n _ refl (first_of n [] i)
     (ap (λ o. o >>= λ m. Some (Item (entry Spill (m ∷ []) []))) (named n (first_of n [] i)))
-line_of Spill [] outs fits i o right = absurd (let e = fits.0 in omega (arith, e))
 line_of Spill (n ∷ m ∷ ins) outs fits i o right = absurd (let e = fits.0 in omega (arith, e))
 line_of Spill (n ∷ []) (x ∷ outs) fits i o right = absurd (let e = fits.1 in omega (arith, e))
+line_of _ [] outs fits i o right = absurd (let e = fits.0 in omega (arith, e))
 
 -- ---- the section
 

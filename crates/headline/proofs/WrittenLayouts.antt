@@ -247,11 +247,9 @@ in_order p =
 name_ok : (s : LayoutHeader) (l : HasLimits s) (names : PortNameLists) (part : LayoutLine) → IsPortName s l names part →
     name_fault (Some names) part ≡ None
 unfolding name_fault
-name_ok s l names (Mirror r) n = refl
-name_ok s l names (Ball c) n = refl
 name_ok s l names (In q) n = ap (λ b. code_if (not b) UnknownName) n.1
 name_ok s l names (Out q) n = ap (λ b. code_if (not b) UnknownName) n.1
-name_ok s l names (Waste c) n = refl
+name_ok s l names _ n = refl
 
 all_none : (a b c d : Option RefusalCode) → a ≡ None → b ≡ None → c ≡ None → d ≡ None →
     or_else (or_else a (or_else b c)) d ≡ None

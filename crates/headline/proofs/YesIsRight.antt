@@ -75,8 +75,6 @@ line_good : (words : List (List ℕ)) (ls : List (List ℕ)) (before : List Circ
     →
     MoreGood before rows
 unfolding AreGoodAfter
-line_good words ls before n rows None f none e rec = absurd cc
-line_good words ls before n rows (Some (Header k)) f none e rec = absurd cc
 line_good words ls before n rows (Some (Item r)) f none e rec =
     let passed = unless_ok n (or_else (order_fault before r) (add_fault before r))
     (section_body_of circuit_grammar tt (before ++ r ∷ []) (n + 1) ls) (tt, rows) e in
@@ -98,6 +96,7 @@ line_good words ls before n rows (Some (Item r)) f none e rec =
       );
     }
 line_good words ls before n rows (Some End) f none e rec = grind (arith, common_steps, unless_ok, ok_of, append-nil)
+line_good words ls before n rows _ f none e rec = absurd cc
 
 body_good : (ls : List (List ℕ)) (before : List CircuitLine) (n : ℕ) (rows : List CircuitLine) → HasNoGateYet before →
     section_body_of circuit_grammar tt before n ls ≡ Ok (tt, rows) → MoreGood before rows
@@ -110,13 +109,11 @@ body_good (l ∷ ls) before n rows none e =
 header_good : (ls : List (List ℕ)) (n : ℕ) (rows : List CircuitLine) (o : Option Line) →
     result_after_header circuit_grammar n (λ k. section_body_of circuit_grammar k [] (n + 1) ls) o ≡ Ok (tt, rows) →
     AreGoodCircuitLines rows
-header_good ls n rows None e = absurd cc
-header_good ls n rows (Some (Item i)) e = absurd cc
-header_good ls n rows (Some End) e = absurd cc
 header_good ls n rows (Some (Header k)) e =
     let t = body_good ls [] (n + 1) rows refl
     (unless_ok n None (section_body_of circuit_grammar tt [] (n + 1) ls) (tt, rows) e).1 in
     subst (AreGoodAfter []) (sym t.rows_are) t.good
+header_good ls n rows _ e = absurd cc
 
 pub circuit_good : (n : ℕ) (ls : List (List ℕ)) (h : Unit {0}) (rows : List CircuitLine) →
     section_of circuit_grammar n ls ≡ Ok (h, rows) → AreGoodCircuitLines rows

@@ -11,9 +11,7 @@ use Rattle.job_pool.proofs.Filed.{whole}
 
 not_lower : (count : ℕ) (r : Reply) → count ≤ accepted_count_after count r
 not_lower count Accepted = omega arith
-not_lower count Closed = omega arith
-not_lower count (Stranger mismatch) = omega arith
-not_lower count (Double number) = omega arith
+not_lower count _ = omega arith
 
 -- a share that has risen is as it was
 pub risen_still : (a b c : Counts) → HasRisen a b → c ≡ b → HasRisen a c

@@ -19,10 +19,9 @@ use Rattle.module_job.specs.declared.job.Stop as listed
 meets_same : (n : ℕ) (u u' : Valuation) (d : Demand) (b : Bool) → AgreeBelow n u u' → IsDemandWireBelow n d →
     MeetsDemand u d b →
     MeetsDemand u' d b
-meets_same n u u' Demanded.Dead b same below h = h
-meets_same n u u' Demanded.Live b same below h = h
 meets_same n u u' (Demanded.Wire w) b same below h = h ∙ same w below
 meets_same n u u' Demanded.Any b same below h = tt
+meets_same n u u' _ b same below h = h
 
 own_stop : (j : JobView) (s : listed.Stop) → NamesOwnWires j → Contains j.stops s → s.wire < wires j.locals.netlist
 own_stop j s own h = subst (λ (r : listed.Stop). r.wire < wires j.locals.netlist) h.2 (own.stops h.0 s h.1)
@@ -96,9 +95,8 @@ stop_told j u t x y is some = elim (found_stop j.stops t x y) [
 
 told : (j : JobView) (u : Valuation) (t : ℕ) (kind : Kind) (x y : ℤ) → IsJob j → ∥ IsFaultUnder j u t kind x y ∥₁ →
     IsFaultUnder j u t kind x y
-told j u t Edge x y is some = ∥∥₁_elim some (Prim.hlevel props) (λ f. f)
 told j u t Stop x y is some = stop_told j u t x y is some
-told j u t End x y is some = ∥∥₁_elim some (Prim.hlevel props) (λ f. f)
+told j u t _ x y is some = ∥∥₁_elim some (Prim.hlevel props) (λ f. f)
 
 moved : (j : JobView) (f : Fault) (u : Valuation) → IsJob j →
     AreOrdered j.locals.netlist.given j.locals.netlist.gates → IsLocalValuation j.locals f.assignment u →

@@ -24,8 +24,7 @@ kind_of (suc (suc n)) = End
 kind_back : (k : Kind) → kind_of (kind_number k) ≡ k
 unfolding kind_of
 kind_back Edge = refl
-kind_back Stop = refl
-kind_back End = refl
+kind_back _ = refl
 
 abbrev Key : Type 0
 Key = ℕ × (ℕ × ((ℤ × ℤ) × ℕ))

@@ -29,9 +29,8 @@ then_greater Equal p h = inr (refl, h)
 then_greater Greater p h = inl refl
 
 then_equal : (o p : Ordering) → ordering_then o p ≡ Equal → (o ≡ Equal) × (p ≡ Equal)
-then_equal Less p h = absurd cc
 then_equal Equal p h = (refl, h)
-then_equal Greater p h = absurd cc
+then_equal _ p h = absurd cc
 
 -- no fault comes before f
 pub not_greater : (f g : Fault) → ¬ (g.time < f.time) →
@@ -46,14 +45,12 @@ not_greater f g t k y x a h =
 
 kind_same : (k k' : Kind) → kind_number k ≡ kind_number k' → k ≡ k'
 kind_same Edge Edge e = refl
-kind_same Edge Stop e = absurd (omega arith)
 kind_same Edge End e = absurd (omega arith)
-kind_same Stop Edge e = absurd (omega arith)
 kind_same Stop Stop e = refl
-kind_same Stop End e = absurd (omega arith)
 kind_same End Edge e = absurd (omega arith)
-kind_same End Stop e = absurd (omega arith)
 kind_same End End e = refl
+kind_same _ Stop e = absurd (omega arith)
+kind_same Stop _ e = absurd (omega arith)
 
 -- where a used gate has no row there is no fault
 pub undefined_no_fault : NoFaultWhereUndefined
@@ -152,8 +149,7 @@ none_below_edge j vs t l x y a small d h = omega (arith, h)
 none_below_stop : (j : JobView) (vs : Values) (t : ℕ) → HasNoEdgeFaultAtOddTime j vs t → (l : Kind) (x y : ℤ) (a : ℕ) →
     a < assignments j → IsFaultWhereDefined j vs a t l x y → ¬ (kind_number l < 1)
 none_below_stop j vs t edges Edge x y a small d h = edges d.1.odd x y a small d
-none_below_stop j vs t edges Stop x y a small d h = omega (arith, h)
-none_below_stop j vs t edges End x y a small d h = omega (arith, h)
+none_below_stop j vs t edges _ x y a small d h = omega (arith, h)
 
 -- at the last time no edge is looked at
 no_last_edge : (j : JobView) (vs : Values) → HasNoEdgeFaultAtOddTime j vs j.steps

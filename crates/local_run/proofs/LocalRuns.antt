@@ -40,9 +40,8 @@ AgreeBelow n u u' = (w : ℕ) → w < n → u w ≡ u' w
 
 pub live_same : (n : ℕ) (u u' : Valuation) (s : Signal) → AgreeBelow n u u' → IsSignalWireBelow n s →
     is_live u s ≡ is_live u' s
-live_same n u u' Zero same b = refl
-live_same n u u' One same b = refl
 live_same n u u' (Wire w) same b = same w b
+live_same n u u' _ same b = refl
 
 pub step_all_same : (t : ℕ) (s s' : State) (x y : ℤ) → ((x' y' : ℤ) → s x' y' ≡ s' x' y') → step t s x y ≡ step t s' x y
 step_all_same t s s' x y same = step_same t s s' x y (same _ _) (same _ _) (same _ _) (same _ _)

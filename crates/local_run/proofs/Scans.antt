@@ -16,10 +16,9 @@ xor_same false true h = cc
 xor_same false false h = refl
 
 xor_differ : (a b : Bool) → xor a b ≡ true → a ≢ b
-xor_differ true true h e = cc
 xor_differ true false h e = cc
-xor_differ false true h e = cc
 xor_differ false false h e = cc
+xor_differ _ true h e = cc
 
 bit-one : (n j : ℕ) → bit_at n j ≡ 1 → bit n j ≡ true
 unfolding bit
@@ -108,7 +107,6 @@ differs_not vs p x y s a e h = grind (arith, common_steps, xor_same, and-true, x
 -- ---- the row of a signal
 pub row_from : (vs : Values) (n : ℕ) (s : Signal) → IsSignalWireBelow n s → vs.words * n ≤ length vs.rows.values.items →
     HasValueRow vs s
-row_from vs n Zero b l = tt
-row_from vs n One b l = tt
 row_from vs n (Wire w) b l = let m : vs.words * (w + 1) ≤ vs.words * n = mul-le-mul_left vs.words (omega arith) in
     omega arith
+row_from vs n _ b l = tt

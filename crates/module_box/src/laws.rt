@@ -7,28 +7,33 @@ ghost use Rattle.module_box.specs.Numbers.{NumbersDetermineGates};
 /// States that an even step maps the cells of an even box into the box.
 ///
 /// The cells after the step depend on the box alone.
+#[tactic(auto, using(crate::proofs::BoxSteps::even_step))]
 pub fn even_step_stays_in_box()
     ensures { EvenStepStaysInBox }
 {}
 
 /// States that the cells of a box after a step depend on the box and its halo alone.
+#[tactic(auto, using(crate::proofs::Neighbours::near_step))]
 pub fn step_depends_on_box_and_halo()
     ensures { StepDependsOnBoxAndHalo }
 {}
 
 /// States that, if boxes tile a rectangle, a cell of a halo that lies in a box is in that box's ring.
+#[tactic(auto, using(crate::proofs::Neighbours::halo_in_ring))]
 pub fn halo_cell_is_ring_cell_of_owner()
     ensures { HaloCellIsRingCellOfOwner }
 {}
 
 /// States that every fault of [`owner_table`](crate::owner_table) but out of memory means that the boxes do not tile
 /// the rectangle.
+#[tactic(auto, using(crate::proofs::NoTilings::no_tiling))]
 pub fn fault_means_no_tiling()
     ensures { FaultMeansNoTiling }
 {}
 
 /// States that two [`Locals`](crate::Locals) are equal exactly if contracts see the same of both, and so two
 /// [`Schedule`](crate::Schedule)s.
+#[tactic(auto, using(crate::proofs::EqualTests::locals_decides, crate::proofs::EqualTests::signals_decides))]
 pub fn equality_is_of_content()
     ensures locals { LocalsEqualityDecides }
     ensures schedules { ScheduleEqualityDecides }
@@ -52,6 +57,7 @@ pub fn boxes_and_signals_move_along()
 {}
 
 /// States that two wirings with the same numbers are the same, also if more numbers follow.
+#[tactic(auto, using(crate::proofs::InjectiveNumbers::netlists_tell))]
 pub fn numbers_determine_gates()
     ensures { NumbersDetermineGates }
 {}

@@ -48,6 +48,7 @@ impl Model for Locals {
 }
 
 // Adds wires that are not known yet.
+#[tactic(auto, using(crate::proofs::WireLists::next_fresh))]
 fn add_wires(known: &mut NumberedWires, wires: &[WireNo]) -> Result<(), AllocError>
     requires different { AreDistinct (known.old ++ wires.now) }
     requires at_most_65536 { length known.old + length wires.now ≤ 2 ^ 16 }

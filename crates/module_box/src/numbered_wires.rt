@@ -91,6 +91,7 @@ impl NumberedWires {
     }
 
     /// Adds a wire that is not one of these yet. It gets the next number.
+    #[tactic(auto, using(crate::proofs::Imports::length_push, crate::proofs::WireLists::different_push))]
     pub(crate) fn push(&mut self, wire: u16) -> Result<(), AllocError>
         requires wire_is_new { is_among self.old wire ≡ false }
         requires few { length self.old < 2 ^ 16 }

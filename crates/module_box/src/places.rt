@@ -6,6 +6,7 @@ ghost use Rattle.bbm_rule.specs.Boxes.{in_box};
 use bbm_rule::{Box2, Cell};
 
 /// Returns the place of a cell of a box, whose cells are counted row by row.
+#[tactic(auto, using(crate::proofs::FromCorner::abs_from))]
 pub fn place_in(area: Box2, cell: Cell) -> usize
     requires inside { IsTrue (in_box area cell.x cell.y) }
     requires small { (area.w ≤ 512) × (area.h ≤ 512) }

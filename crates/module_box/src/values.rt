@@ -145,6 +145,7 @@ fn value_words(alloc: Global, given: &[u64], gates: &[LocalGate]) -> Result<Valu
 }
 
 // The values at bit `place` of the words.
+#[tactic(auto, using(crate::proofs::Imports::map_push, crate::proofs::Imports::take_more), unfolding(crate::proofs::Imports::bit))]
 fn bits_at_place(alloc: Global, words: &[u64], place: u32) -> Result<Vec<bool>, AllocError>
     requires { place < 64 }
     ensures { IfOk result (λ vs. vs.items ≡ lane place words.now) }
@@ -157,6 +158,7 @@ fn bits_at_place(alloc: Global, words: &[u64], place: u32) -> Result<Vec<bool>, 
 }
 
 // The first word that has bit `place`.
+#[tactic(auto, using(crate::proofs::LocalRows::clear_more), unfolding(crate::proofs::Imports::bit))]
 fn first_word_with_bit(words: &[u64], place: u32) -> Option<usize>
     requires { place < 64 }
     ensures found_bit_set { IfSome result (λ k. (k < length words.now)

@@ -38,19 +38,11 @@ optional_there f (Some z) x e = subst (λ z. Contains (f z ∷ []) (f x)) (sym (
 
 local_number : ReportLine → ℕ
 local_number (Local n f) = n
-local_number (Keep n f) = 0
-local_number (Border n f) = 0
-local_number (Unkept n) = 0
-local_number (Delay n w g) = 0
-local_number (Meet n t) = 0
+local_number _ = 0
 
 local_fault : Fault → ReportLine → Fault
 local_fault d (Local n f) = f
-local_fault d (Keep n f) = d
-local_fault d (Border n f) = d
-local_fault d (Unkept n) = d
-local_fault d (Delay n w g) = d
-local_fault d (Meet n t) = d
+local_fault d _ = d
 
 -- what a line on a fault says of the reasons
 record IsFrom (number i : ℕ) (f : Fault) (fs : List LeastFaults) : Type 0 where

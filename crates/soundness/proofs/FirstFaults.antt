@@ -66,9 +66,7 @@ ring_inside b x y h = (and_parts (in_box b x y) _ h).0
 meets_own : (l : LocalNet) (v : Valuation) (d : Demand) (live : Bool) →
     MeetsDemand v (renumber_demand (circuit_wire l) d) live → MeetsDemand (values_by_local_number l v) d live
 meets_own l v Demanded.Dead live h = h
-meets_own l v Demanded.Live live h = h
-meets_own l v (Demanded.Wire w) live h = h
-meets_own l v Demanded.Any live h = h
+meets_own l v _ live h = h
 
 -- what the stop says of the cell and the time
 record IsStopThere (p : Pattern) (m : ModuleLines) (v : Valuation) (state : State) (t : ℕ) (x y : ℤ)
@@ -173,15 +171,13 @@ asked_meets c p v state x y looks = grind (arith, common_steps, cases_Bool, off_
 
 end_last : (j : JobView) (u : Valuation) (t : ℕ) (kind : Kind) (x y : ℤ) → kind ≡ End → IsFaultUnder j u t kind x y →
     t ≡ j.steps
-end_last j u t Edge x y e f = absurd cc
-end_last j u t AtStop x y e f = absurd cc
 end_last j u t End x y e f = f.last
+end_last j u t _ x y e f = absurd cc
 
 end_said : (c : Circuit) (p : Pattern) (m : ModuleLines) (v : Valuation) (t : ℕ) (kind : Kind) (x y : ℤ) → kind ≡ End →
     MeetsDemand v (end_demand c p x y) (run_under c p v t x y) → IsAsCertified c p m v t kind x y
-end_said c p m v t Edge x y e h = absurd cc
-end_said c p m v t AtStop x y e h = absurd cc
 end_said c p m v t End x y e h = h
+end_said c p m v t _ x y e h = absurd cc
 
 -- what looks as asked has no fault at its end
 asked_at : (lines : List CircuitLine) (p : Pattern) (inputs v : Valuation) (x y : ℤ) → HasInputNames lines p →

@@ -18,16 +18,13 @@ use Rattle.module_job.specs.declared.job.Demand.TheVariants as Demanded
 live_seen : (l : LocalNet) (v : Valuation) (s : Signal) →
     is_live (values_by_local_number l v) s ≡ is_live v (renumber_signal (circuit_wire l) s)
 live_seen l v Zero = refl
-live_seen l v One = refl
-live_seen l v (Wire w) = refl
+live_seen l v _ = refl
 
 pub meets_for_circuit_wires : (l : LocalNet) (v : Valuation) (d : Demand) (live : Bool) →
     MeetsDemand (values_by_local_number l v) d live →
     MeetsDemand v (renumber_demand (circuit_wire l) d) live
 meets_for_circuit_wires l v Demanded.Dead live h = h
-meets_for_circuit_wires l v Demanded.Live live h = h
-meets_for_circuit_wires l v (Demanded.Wire w) live h = h
-meets_for_circuit_wires l v Demanded.Any live h = h
+meets_for_circuit_wires l v _ live h = h
 
 pub live_renumbered : (l : LocalNet) (v : Valuation) (s r : Signal) → renumber_signal (circuit_wire l) s ≡ r →
     is_live (values_by_local_number l v) s ≡ is_live v r

@@ -31,15 +31,12 @@ map_back g P one (x ∷ xs) (y ∷ ys) a b e =
     (map_back g P one xs ys (All-tail P x xs a) (All-tail P y ys b) (same_tail (g x) (g y) (map g xs) (map g ys) e))
 
 abbrev wire_in : Signal → ℕ
-wire_in Zero = 0
-wire_in One = 0
 wire_in (Wire w) = w
+wire_in _ = 0
 
 abbrev demanded_in : Demand → ℕ
-demanded_in Demanded.Dead = 0
-demanded_in Demanded.Live = 0
 demanded_in (Demanded.Wire w) = w
-demanded_in Demanded.Any = 0
+demanded_in _ = 0
 
 module _ (ws : List ℕ) (different : AreDistinct ws) where
   abbrev f : ℕ → ℕ
@@ -53,32 +50,26 @@ module _ (ws : List ℕ) (different : AreDistinct ws) where
       renumber_signal f s ≡ renumber_signal f t → s ≡ t
   signal_back Zero Zero a b e = refl
   signal_back Zero One a b e = e
-  signal_back Zero (Wire w) a b e = absurd cc
   signal_back One Zero a b e = e
   signal_back One One a b e = refl
-  signal_back One (Wire w) a b e = absurd cc
-  signal_back (Wire v) Zero a b e = absurd cc
-  signal_back (Wire v) One a b e = absurd cc
   signal_back (Wire v) (Wire w) a b e = ap Wire (number_back v w a b (ap wire_in e))
+  signal_back _ (Wire w) a b e = absurd cc
+  signal_back (Wire v) _ a b e = absurd cc
 
   demand_back : (s t : Demand) → IsDemandWireBelow (length ws) s → IsDemandWireBelow (length ws) t →
       renumber_demand f s ≡ renumber_demand f t → s ≡ t
   demand_back Demanded.Dead Demanded.Dead a b e = refl
   demand_back Demanded.Dead Demanded.Live a b e = e
-  demand_back Demanded.Dead (Demanded.Wire w) a b e = absurd cc
   demand_back Demanded.Dead Demanded.Any a b e = e
   demand_back Demanded.Live Demanded.Dead a b e = e
   demand_back Demanded.Live Demanded.Live a b e = refl
-  demand_back Demanded.Live (Demanded.Wire w) a b e = absurd cc
   demand_back Demanded.Live Demanded.Any a b e = e
-  demand_back (Demanded.Wire v) Demanded.Dead a b e = absurd cc
-  demand_back (Demanded.Wire v) Demanded.Live a b e = absurd cc
   demand_back (Demanded.Wire v) (Demanded.Wire w) a b e = ap Demanded.Wire (number_back v w a b (ap demanded_in e))
-  demand_back (Demanded.Wire v) Demanded.Any a b e = absurd cc
   demand_back Demanded.Any Demanded.Dead a b e = e
   demand_back Demanded.Any Demanded.Live a b e = e
-  demand_back Demanded.Any (Demanded.Wire w) a b e = absurd cc
   demand_back Demanded.Any Demanded.Any a b e = refl
+  demand_back _ (Demanded.Wire w) a b e = absurd cc
+  demand_back (Demanded.Wire v) _ a b e = absurd cc
 
   all_times_back : (s t : AllTimesSignal) → IsSignalWireBelow (length ws) s.signal →
       IsSignalWireBelow (length ws) t.signal →
@@ -117,13 +108,7 @@ module _ (ws : List ℕ) (different : AreDistinct ws) where
 
   defines_some : (k : GateKind) → 1 ≤ defines k
   defines_some (Source b) = omega arith
-  defines_some Fredkin = omega arith
-  defines_some Cswap = omega arith
-  defines_some Interact = omega arith
-  defines_some Switch = omega arith
-  defines_some (Delay n) = omega arith
-  defines_some Unswitch = omega arith
-  defines_some Uninteract = omega arith
+  defines_some _ = omega arith
 
   grows : (n : ℕ) (gs : List Gate) → n ≤ wires_after n gs
   unfolding wires_after

@@ -321,8 +321,7 @@ module _ (lines : List CircuitLine) (p : Pattern) (m : ModuleLines) (jobs : List
   edge_of : (j : JobView) (u : Valuation) (t : ℕ) (kind : Kind) (x y : ℤ) → kind ≡ Edge → IsFaultUnder j u t kind x y →
       IsEdgeFault j u t x y
   edge_of j u t Edge x y e f = f
-  edge_of j u t AtStop x y e f = absurd cc
-  edge_of j u t End x y e f = absurd cc
+  edge_of j u t _ x y e f = absurd cc
 
   good : (inputs v : Valuation) (t : ℕ) → ¬ TouchesRim lines p → Satisfies (netlist_of lines) inputs v →
       IsRunOfJobs lines p jobs v t → HasGoodBorders lines p (m ∷ []) jobs v t
@@ -539,8 +538,7 @@ module _ (lines : List CircuitLine) (p : Pattern) (m : ModuleLines) (jobs : List
 
   gap_is : (k n : ℕ) (gap : StopGap) → is_obeyed (times.Delay k n gap) ≡ true → gap ≡ Steps n
   gap_is k n (Steps s) e = ap Steps (eqb-true s n e)
-  gap_is k n NoStop e = absurd (false≢true e)
-  gap_is k n Before e = absurd (false≢true e)
+  gap_is k n _ e = absurd (false≢true e)
 
   delay_means : (ss : List StopLine) (k n : ℕ) (gap : StopGap) → IsTimeLineTrue c ss (times.Delay k n gap) →
       DelayLineMeans lines ss k n gap

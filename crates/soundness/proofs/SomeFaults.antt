@@ -242,14 +242,12 @@ module _ (j : JobView) (is : IsJob j) (ordered : AreOrdered j.locals.netlist.giv
 
 signals_decided : (a b : Signal) → Decided (a ≡ b)
 signals_decided Zero Zero = inl refl
-signals_decided Zero One = inr (λ e. cc)
 signals_decided Zero (Wire w) = inr (λ e. cc)
-signals_decided One Zero = inr (λ e. cc)
 signals_decided One One = inl refl
-signals_decided One (Wire w) = inr (λ e. cc)
 signals_decided (Wire v) Zero = inr (λ e. cc)
-signals_decided (Wire v) One = inr (λ e. cc)
 signals_decided (Wire v) (Wire w) = decided_by (λ e. ap (λ n. Wire n) e) (λ e. cc) (numbers_decided v w)
+signals_decided _ One = inr (λ e. cc)
+signals_decided One _ = inr (λ e. cc)
 
 module _ (g : Setting) (ms : List ModuleLines) (i : ℕ) where
   abbrev IsOtherwise : ModuleLines → BorderFault → ModuleLines → Type 0

@@ -113,9 +113,8 @@ module _ {A : Type 0} (cmp : A → A → Ordering) (total : IsTotalOrder cmp) (P
   NotAfter a b = cmp a b ≢ Greater
 
   below : (o : Ordering) → o ≢ Greater → is_gt o ≡ false
-  below Less h = refl
-  below Equal h = refl
   below Greater h = absurd (h refl)
+  below _ h = refl
 
   not_above : (o : Ordering) → is_gt o ≡ false → o ≢ Greater
   not_above o e h = true≢false (sym (ap is_gt h) ∙ e)
@@ -188,8 +187,7 @@ module _ {A : Type 0} (cmp : A → A → Ordering) (total : IsTotalOrder cmp) (P
 
       by : (o : Ordering) → cmp x f ≡ o → HasLeast (x ∷ xs)
       by Greater e = keep e
-      by Less e = take (not_above (cmp x f) (ap is_gt e))
-      by Equal e = take (not_above (cmp x f) (ap is_gt e))
+      by _ e = take (not_above (cmp x f) (ap is_gt e))
 
   pub least_in : (xs : List A) → HasLeast xs
   unfolding In

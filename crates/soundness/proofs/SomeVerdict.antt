@@ -70,13 +70,7 @@ line_each f few k (g ∷ gs) = grind (arith, common_steps, length-append, (line_
 
 few_delays : (k : ℕ) (kind : GateKind) (gap : StopGap) → length (delay_line_of_kind k kind gap) ≤ 1
 few_delays k (Source b) gap = omega arith
-few_delays k Fredkin gap = omega arith
-few_delays k Cswap gap = omega arith
-few_delays k Interact gap = omega arith
-few_delays k Switch gap = omega arith
-few_delays k (Delay n) gap = omega arith
-few_delays k Unswitch gap = omega arith
-few_delays k Uninteract gap = omega arith
+few_delays k _ gap = omega arith
 
 few_meetings : (k : ℕ) (ts : List ℕ) → length (meet_line_of_times k ts) ≤ 1
 few_meetings k ts = by (nat_le 2 (length ts)) (common_time ts)

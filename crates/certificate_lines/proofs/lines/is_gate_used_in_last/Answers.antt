@@ -1,9 +1,6 @@
 use Rattle.certificate_lines.proofs.Imports.{arith, common_steps, sym, ◌∙◌}
-use Rattle.certificate_lines.proofs.UsedLemmas.{told_by_all, told_before, told_true, told_false, told_all}
+use Rattle.certificate_lines.proofs.UsedLemmas.{told_before, told_true, told_false, told_all}
 use Rattle.certificate_lines.proofs.lines.is_gate_used_in_last.Goals as goal
-
-pub loop-back-init : goal.loop-back-init
-loop-back-init c = told_by_all c.args.entries.now c.args.number
 
 pub returns-then-is_module : goal.returns-then-is_module
 returns-then-is_module c = grind (arith, common_steps, told_false)

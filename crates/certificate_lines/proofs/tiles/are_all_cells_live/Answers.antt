@@ -1,4 +1,4 @@
-use Rattle.certificate_lines.proofs.Imports.{arith, common_steps, live, rectangle_cells}
+use Rattle.certificate_lines.proofs.Imports.{live}
 use Rattle.certificate_lines.proofs.AllLiveCells.{rows_longer}
 use Rattle.certificate_lines.proofs.tiles.are_all_cells_live.Goals as goal
 
@@ -7,7 +7,3 @@ loop-y-preserved c = rows_longer
     (λ d. live c.args.grid.now d.x d.y) c.args.w c.loop-y.y c.loop-y.full c.is_row_all_live-full.result
     c.loop-y.invariant
     c.is_row_all_live-full.ensures
-
-pub returns : goal.returns
-unfolding rectangle_cells
-returns c = grind (arith, common_steps)

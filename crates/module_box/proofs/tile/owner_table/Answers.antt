@@ -63,9 +63,6 @@ returns-then-len-blocks c =
           c.block_corner-then-len-blocks.ensures,
     )
 
-pub invariant_of-result : goal.invariant_of-result
-invariant_of-result c = grind (arith, common_steps, filled_from)
-
 pub returns : goal.returns
 returns c =
     let owners_view : OwnersView =

@@ -1,17 +1,6 @@
 use Rattle.certificate_lines.proofs.Imports.{arith, common_steps}
-use Rattle.certificate_lines.proofs.Keeping.{border_is_inner, good_line, small, with_border}
-use Rattle.certificate_lines.proofs.NamedLines.{named_line}
+use Rattle.certificate_lines.proofs.Keeping.{good_line, small, with_border}
 use Rattle.certificate_lines.proofs.builder.Builder.add_border_or_stop.Goals as goal
-
-pub body_line_code-requires-clause-inner : goal.body_line_code-requires-clause-inner
-body_line_code-requires-clause-inner c = border_is_inner c.args.entry c.requires
-
-pub of-requires : goal.of-requires
-of-requires c =
-    let good = good_line c.self.inside.tables c.self.inside.entries.items c.args.entry
-    (grind (arith, common_steps)) in
-    named_line c.self.inside.tables good.module_lines c.args.entry c.wire_in-wire.result good.words
-    (grind (arith, common_steps))
 
 pub count_in_last-requires : goal.count_in_last-requires
 count_in_last-requires c = small _ _ _ _ _ _ _ _ c.self.invariant.kept

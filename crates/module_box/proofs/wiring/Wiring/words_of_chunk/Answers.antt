@@ -1,12 +1,6 @@
-use Rattle.module_box.proofs.Imports.{arith, common_steps, length-map}
+use Rattle.module_box.proofs.Imports.{arith, common_steps}
 use Rattle.module_box.proofs.LocalRows.{column_at}
 use Rattle.module_box.proofs.wiring.Wiring.words_of_chunk.Goals as goal
 
 pub returns-clause-values : goal.returns-clause-values
 returns-clause-values c = grind (arith, common_steps, column_at)
-
-pub returns-clause-count : goal.returns-clause-count
-returns-clause-count c = grind (arith, common_steps)
-
-pub returns-clause-gates : goal.returns-clause-gates
-returns-clause-gates c = grind (arith, common_steps, length-map)
