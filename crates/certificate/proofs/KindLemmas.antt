@@ -14,24 +14,6 @@ use Rattle.certificate.specs.LineKinds.{IsSplitAt}
 
 -- ---- ranks
 
-not_both_cuts : (i j : CertificateLine) → rank_of j < rank_of i → (is_cut i && is_cut j) ≡ false
-unfolding rank_of is_cut
-not_both_cuts (Cut m) (Module b) lt = refl
-not_both_cuts (Cut m) (Cut n) lt = absurd (omega (arith, lt))
-not_both_cuts (Cut m) (Use k) lt = refl
-not_both_cuts (Cut m) (Keep k) lt = refl
-not_both_cuts (Cut m) (Edge e) lt = refl
-not_both_cuts (Cut m) (Halo e) lt = refl
-not_both_cuts (Cut m) (Stop s) lt = refl
-not_both_cuts _ j lt = refl
-
-no_higher_first : (i j : CertificateLine) → rank_of j < rank_of i → may_precede i j ≡ false
-unfolding may_precede line_cmp
-no_higher_first i j lt = rw (sym (nat_cmp_is (rank_of i) (rank_of j) Greater lt)) (not_both_cuts i j lt)
-
-rank_rises : (i j : CertificateLine) → may_precede i j ≡ true → rank_of i ≤ rank_of j
-rank_rises i j h = grind (arith, common_steps, by_lt_or_le, no_higher_first)
-
 pub ranks_rise : (lines : List CertificateLine) → AreInOrder lines → IsNonDecreasingBy rank_of lines
 unfolding AreInOrder
 ranks_rise [] h i j d le lt = absurd (omega (arith, lt))
@@ -114,35 +96,3 @@ pub only_after : {X : Type 0} (f : CertificateLine → List X) (r : ℕ) (lines 
 only_after f r lines before after s none =
     ap (λ l. l ++ flat_map f after) (sym (nothing_in f before (λ k d lt. none _ (s.lower k d lt))))
     ∙ sym (flat_map-append f before after) ∙ ap (flat_map f) s.whole
-
--- ---- the rank of each kind
-
-pub cuts_before : (i : CertificateLine) → 4 ≤ rank_of i → cut_in i ≡ []
-unfolding rank_of
-cuts_before (Cut n) le = absurd (omega (arith, le))
-cuts_before _ le = refl
-
-pub uses_before : (i : CertificateLine) → 4 ≤ rank_of i → use_in i ≡ []
-unfolding rank_of
-uses_before (Use k) le = absurd (omega (arith, le))
-uses_before _ le = refl
-
-pub keeps_before : (i : CertificateLine) → 4 ≤ rank_of i → keep_in i ≡ []
-unfolding rank_of
-keeps_before (Keep k) le = absurd (omega (arith, le))
-keeps_before _ le = refl
-
-pub only_edges : (i : CertificateLine) → rank_of i ≢ 4 → edge_in i ≡ []
-unfolding rank_of
-only_edges (Edge e) other = absurd (other refl)
-only_edges _ other = refl
-
-pub only_halos : (i : CertificateLine) → rank_of i ≢ 5 → halo_in i ≡ []
-unfolding rank_of
-only_halos (Halo e) other = absurd (other refl)
-only_halos _ other = refl
-
-pub stops_after : (i : CertificateLine) → rank_of i < 6 → stop_in i ≡ []
-unfolding rank_of
-stops_after (Stop s) lt = absurd (omega (arith, lt))
-stops_after _ lt = refl

@@ -14,6 +14,7 @@ mod WireListLemmas
 pub mod LackedWires
 pub mod LayoutPorts
 pub mod LineOrder
+pub mod LineRanks
 pub mod LinesLeft
 pub mod Lists
 pub mod LocalLemmas

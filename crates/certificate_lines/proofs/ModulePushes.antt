@@ -7,7 +7,7 @@ use Rattle.certificate_lines.proofs.Imports.{are_new_and_distinct, arith, code_i
 use Rattle.certificate_lines.proofs.Imports.{edges, eqb-true, false, false_from_not, flat_map, gates, halo_in, in_box}
 use Rattle.certificate_lines.proofs.Imports.{is_among, is_local, is_odd, is_star, is_starred_line_at, keep_in, known}
 use Rattle.certificate_lines.proofs.Imports.{length, length_push, list_all, list_any, local_wires, may_follow}
-use Rattle.certificate_lines.proofs.Imports.{module_with_line, nat_lt, nat_tests, not, option_to_list, or_else, refl}
+use Rattle.certificate_lines.proofs.Imports.{module_with_line, rank_of, nat_lt, nat_tests, not, option_to_list, or_else, refl}
 use Rattle.certificate_lines.proofs.Imports.{slice_get, stop_in, subst, sym, true, true_from_not, use_in, wire_of, ℕ}
 use Rattle.certificate_lines.proofs.Imports.{◌%◌, ◌&&◌, ◌++◌, ◌<◌, ◌||◌, ◌∙◌, ◌∷◌, ◌≡◌}
 use Rattle.lemmas.proofs.Common.{nat_le, at_most_by_test, below_by_test}
@@ -20,10 +20,8 @@ use Rattle.certificate_lines.specs.Rules.{stop_line_code}
 use Rattle.certificate_lines.specs.Modules.{IsEdge, IsHalo, IsKeep, IsStop}
 use Rattle.section_text.specs.declared.code.RefusalCode.TheVariants.{DefinedTwice, NotLocal}
 use Rattle.certificate_lines.proofs.Growing.{flat_push, flat_same}
-use Rattle.certificate_lines.proofs.ModuleLemmas.{none_before, all_before, no_use_before_cut, no_keep_before_cut}
-use Rattle.certificate_lines.proofs.ModuleLemmas.{no_keep_before_use, no_edge_before_cut, no_halo_before_cut}
-use Rattle.certificate_lines.proofs.ModuleLemmas.{no_stop_before_cut, no_edge_before_use, no_halo_before_use}
-use Rattle.certificate_lines.proofs.ModuleLemmas.{no_stop_before_use, no_halo_before_edge, lower_uses, order_push}
+use Rattle.certificate_lines.proofs.LineRanks.{only_uses, only_keeps, only_edges, only_halos, only_stops}
+use Rattle.certificate_lines.proofs.ModuleLemmas.{none_before, all_before, lower_uses, order_push}
 use Rattle.certificate_lines.proofs.LocalLemmas.{local_cut, local_use, local_more}
 
 -- ---- tests that a line passed
@@ -117,19 +115,24 @@ free_of_star g area starred e place = grind (arith, common_steps, free_time, and
 module _ (g : Setting) (m : ModuleLines) (is : IsModule g m) (n : List ℕ)
     (follows : may_follow m.lines (Cut n) ≡ true) where
   no_gates : gates m ≡ []
-  no_gates = none_before use_in (Cut n) (no_use_before_cut n) m.lines follows
+  unfolding rank_of
+  no_gates = none_before use_in 2 only_uses (Cut n) (omega arith) m.lines follows
 
   no_edges : edges m ≡ []
-  no_edges = none_before edge_in (Cut n) (no_edge_before_cut n) m.lines follows
+  unfolding rank_of
+  no_edges = none_before edge_in 4 only_edges (Cut n) (omega arith) m.lines follows
 
   no_halos : halos m ≡ []
-  no_halos = none_before halo_in (Cut n) (no_halo_before_cut n) m.lines follows
+  unfolding rank_of
+  no_halos = none_before halo_in 5 only_halos (Cut n) (omega arith) m.lines follows
 
   no_stops : stops m ≡ []
-  no_stops = none_before stop_in (Cut n) (no_stop_before_cut n) m.lines follows
+  unfolding rank_of
+  no_stops = none_before stop_in 6 only_stops (Cut n) (omega arith) m.lines follows
 
   no_keeps : keeps m ≡ []
-  no_keeps = none_before keep_in (Cut n) (no_keep_before_cut n) m.lines follows
+  unfolding rank_of
+  no_keeps = none_before keep_in 3 only_keeps (Cut n) (omega arith) m.lines follows
 
   abbrev more : ModuleLines
   more = module_with_line (Cut n) m
@@ -219,15 +222,16 @@ module _ (g : Setting) (m : ModuleLines) (k : ℕ) where
 
   pub use_pushed : IsModule g m → may_follow m.lines (Use k) ≡ true → length (gates m) < 64 →
       IsGoodUse g.circuit (known g.circuit m) k → IsModuleInLimits g used
+  unfolding rank_of
   use_pushed is follows few good =
       let edges_are : edges used ≡ [] =
-      flat_same edge_in m.lines (Use k) refl ∙ none_before edge_in (Use k) (no_edge_before_use k) m.lines follows in
+      flat_same edge_in m.lines (Use k) refl ∙ none_before edge_in 4 only_edges (Use k) (omega arith) m.lines follows in
       let halos_are : halos used ≡ [] =
-      flat_same halo_in m.lines (Use k) refl ∙ none_before halo_in (Use k) (no_halo_before_use k) m.lines follows in
+      flat_same halo_in m.lines (Use k) refl ∙ none_before halo_in 5 only_halos (Use k) (omega arith) m.lines follows in
       let stops_are : stops used ≡ [] =
-      flat_same stop_in m.lines (Use k) refl ∙ none_before stop_in (Use k) (no_stop_before_use k) m.lines follows in
+      flat_same stop_in m.lines (Use k) refl ∙ none_before stop_in 6 only_stops (Use k) (omega arith) m.lines follows in
       let keeps_are : keeps used ≡ [] =
-      flat_same keep_in m.lines (Use k) refl ∙ none_before keep_in (Use k) (no_keep_before_use k) m.lines follows in
+      flat_same keep_in m.lines (Use k) refl ∙ none_before keep_in 3 only_keeps (Use k) (omega arith) m.lines follows in
       let lower = all_before use_in (Use k) (λ j. j < k) (lower_uses k) m.lines follows in
       let after = local_use g.circuit.netlist (cut_wires g.circuit m)
       (gates m) k good.gate is.local good.numbered lower good.ins good.outs few in
@@ -379,6 +383,7 @@ keep_pushed g m written k follows good =
 module _ (g : Setting) (m : ModuleLines) (is : IsModule g m) (e : BorderLine) where
   pub edge_pushed : may_follow m.lines (Edge e) ≡ true → edge_line_code g m e ≡ None →
       IsModuleInLimits g (module_with_line (Edge e) m)
+  unfolding rank_of
   edge_pushed follows good =
       let more = module_with_line (Edge e) m in
       let b = good_border g.circuit (timed_line_count m) (known g.circuit m)
@@ -387,7 +392,7 @@ module _ (g : Setting) (m : ModuleLines) (is : IsModule g m) (e : BorderLine) wh
       edge_good g m.area (known g.circuit m) (timed_line_count m)
       (list_any (is_starred_line_at e.cell) (edges m)) e b in
       let halos_are : halos more ≡ [] =
-      flat_same halo_in m.lines (Edge e) refl ∙ none_before halo_in (Edge e) (no_halo_before_edge e) m.lines follows in
+      flat_same halo_in m.lines (Edge e) refl ∙ none_before halo_in 5 only_halos (Edge e) (omega arith) m.lines follows in
       let same = known_same g m (Edge e) refl refl in
       let n = ap length (edges_edge m e) ∙ length_push (edges m) e in
       let k = ap length halos_are in

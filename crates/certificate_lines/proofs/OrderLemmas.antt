@@ -11,6 +11,7 @@ use Rattle.lemmas.proofs.Common.{nat_cmp, and-true}
 use Rattle.std.specs.Cmp.{nat_cmp_is}
 use Rattle.certificate_lines.specs.BuilderView.{body_line_or_none}
 use Rattle.certificate_lines.proofs.Growing.{last_pushed}
+use Rattle.certificate_lines.proofs.LineRanks.{cut_rank}
 
 line_total : IsTotalOrder line_cmp
 unfolding line_cmp
@@ -47,12 +48,6 @@ by_less i j h = rw h refl
 by_cuts : (i j : CertificateLine) → is_cut i ≡ true → is_cut j ≡ true → may_precede i j ≡ true
 unfolding may_precede
 by_cuts i j h k = or_right _ (is_cut i && is_cut j) (rw (h, k) refl)
-
--- cuts have a rank of their own
-pub cut_rank : (i : CertificateLine) → is_cut i ≡ (rank_of i == 1)
-unfolding is_cut rank_of
-cut_rank (Module b) = refl
-cut_rank _ = refl
 
 -- lines of one kind but cuts, and of one number or time, are in order by their cells
 pub cells_precede : (i j : CertificateLine) → rank_of i ≡ rank_of j → (rank_of i ≡ 1 → ⊥) →

@@ -108,7 +108,7 @@ pub(crate) fn key_of(entry: &CertificateLine) -> LineKey
 
 // Whether a line of the first key may stand before one of the second. Cuts stand in any order.
 #[inline(always)]
-#[tactic(auto, using(crate::proofs::OrderLemmas::cut_rank, crate::proofs::OrderLemmas::cells_precede), unfolding(crate::specs::Orders::may_precede, crate::specs::Orders::line_cmp))]
+#[tactic(auto, using(crate::proofs::LineRanks::cut_rank, crate::proofs::OrderLemmas::cells_precede), unfolding(crate::specs::Orders::may_precede, crate::specs::Orders::line_cmp))]
 fn may_precede(first: LineKey, second: LineKey) -> bool
     ensures { (i j : CertificateLine) → first ≡ key_of i → second ≡ key_of j →
         result ≡ may_precede i j }

@@ -1,5 +1,5 @@
 use Rattle.certificate.proofs.Imports.{arith, common_steps}
-use Rattle.certificate.proofs.KindLemmas.{only_edges, only_halos}
+use Rattle.certificate_lines.proofs.LineRanks.{only_edges, only_halos}
 use Rattle.certificate.proofs.line_kinds.side_lines.Goals as goal
 
 pub returns-in-Ring-clause-borders : goal.returns-in-Ring-clause-borders

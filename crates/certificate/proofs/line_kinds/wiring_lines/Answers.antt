@@ -1,12 +1,13 @@
 use Rattle.certificate.proofs.Imports.{cut_in, keep_in, use_in}
-use Rattle.certificate.proofs.KindLemmas.{cuts_before, keeps_before, only_before, uses_before}
+use Rattle.certificate.proofs.KindLemmas.{only_before}
+use Rattle.certificate_lines.proofs.LineRanks.{only_cuts, only_uses, only_keeps}
 use Rattle.certificate.proofs.line_kinds.wiring_lines.Goals as goal
 
 pub returns-clause-cuts : goal.returns-clause-cuts
-returns-clause-cuts c = only_before cut_in 4 _ _ _ c.split_at_rank.ensures cuts_before
+returns-clause-cuts c = only_before cut_in 4 _ _ _ c.split_at_rank.ensures (λ i le. only_cuts i (λ e. omega (arith, le, e)))
 
 pub returns-clause-uses : goal.returns-clause-uses
-returns-clause-uses c = only_before use_in 4 _ _ _ c.split_at_rank.ensures uses_before
+returns-clause-uses c = only_before use_in 4 _ _ _ c.split_at_rank.ensures (λ i le. only_uses i (λ e. omega (arith, le, e)))
 
 pub returns-clause-keeps : goal.returns-clause-keeps
-returns-clause-keeps c = only_before keep_in 4 _ _ _ c.split_at_rank.ensures keeps_before
+returns-clause-keeps c = only_before keep_in 4 _ _ _ c.split_at_rank.ensures (λ i le. only_keeps i (λ e. omega (arith, le, e)))

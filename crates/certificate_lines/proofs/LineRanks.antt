@@ -1,0 +1,54 @@
+-- The ranks of lines: lines in order rise by rank, and the lines of one kind have one rank.
+use Rattle.certificate_lines.proofs.Imports.{CertificateLine, Cut, Edge, Halo, Keep, Stop, Use, [], arith}
+use Rattle.certificate_lines.proofs.Imports.{common_steps, edge_in, false, halo_in, is_cut, keep_in, line_cmp}
+use Rattle.certificate_lines.proofs.Imports.{may_precede, rank_of, refl, stop_in, sym, true, use_in, ℕ, ◌&&◌, ◌==◌}
+use Rattle.certificate_lines.proofs.Imports.{◌<◌, ◌≡◌, ◌≤◌, Greater, cut_in, nat_tests}
+use Rattle.lemmas.proofs.Common.{◌≢◌}
+use Rattle.std.specs.Cmp.{nat_cmp_is}
+use Rattle.bbm_rule.proofs.BitLemmas.{by_lt_or_le}
+
+-- cuts have a rank of their own
+pub cut_rank : (i : CertificateLine) → is_cut i ≡ (rank_of i == 1)
+unfolding is_cut rank_of
+cut_rank (Cut n) = refl
+cut_rank _ = refl
+
+not_both_cuts : (i j : CertificateLine) → rank_of j < rank_of i → (is_cut i && is_cut j) ≡ false
+not_both_cuts i j lt = grind (arith, common_steps, cut_rank, nat_tests)
+
+no_higher_first : (i j : CertificateLine) → rank_of j < rank_of i → may_precede i j ≡ false
+unfolding may_precede line_cmp
+no_higher_first i j lt = rw (sym (nat_cmp_is (rank_of i) (rank_of j) Greater lt)) (not_both_cuts i j lt)
+
+pub rank_rises : (i j : CertificateLine) → may_precede i j ≡ true → rank_of i ≤ rank_of j
+rank_rises i j h = grind (arith, common_steps, by_lt_or_le, no_higher_first)
+
+pub only_cuts : (i : CertificateLine) → rank_of i ≢ 1 → cut_in i ≡ []
+unfolding rank_of
+only_cuts (Cut n) other = absurd (other refl)
+only_cuts _ other = refl
+
+pub only_uses : (i : CertificateLine) → rank_of i ≢ 2 → use_in i ≡ []
+unfolding rank_of
+only_uses (Use k) other = absurd (other refl)
+only_uses _ other = refl
+
+pub only_keeps : (i : CertificateLine) → rank_of i ≢ 3 → keep_in i ≡ []
+unfolding rank_of
+only_keeps (Keep k) other = absurd (other refl)
+only_keeps _ other = refl
+
+pub only_edges : (i : CertificateLine) → rank_of i ≢ 4 → edge_in i ≡ []
+unfolding rank_of
+only_edges (Edge e) other = absurd (other refl)
+only_edges _ other = refl
+
+pub only_halos : (i : CertificateLine) → rank_of i ≢ 5 → halo_in i ≡ []
+unfolding rank_of
+only_halos (Halo e) other = absurd (other refl)
+only_halos _ other = refl
+
+pub only_stops : (i : CertificateLine) → rank_of i ≢ 6 → stop_in i ≡ []
+unfolding rank_of
+only_stops (Stop s) other = absurd (other refl)
+only_stops _ other = refl
