@@ -1,7 +1,7 @@
 //! Threads that flood a book with findings for another certificate. The counts were worked out by hand.
 ghost use Rattle.std.specs.Prelude.{◌≡◌, []};
 
-use crate::books::{filed, new_book_of_text};
+use crate::books::{new_book_of_text, reply_at_second_try};
 use core_book::{BookState, Mismatch, Reply};
 use local_run::run_job;
 use std::alloc::Global;
@@ -67,7 +67,7 @@ fn file_first_job_under_digest<F: Filings, A: Ledger, R: Wait>(
     let Ok(finding) = run_job(alloc, digest, 0, job) else {
         return;
     };
-    if let Some(reply) = filed(rt, book, share, finding) {
+    if let Some(reply) = reply_at_second_try(rt, book, share, finding) {
         flood.count(reply);
     }
 }
