@@ -88,6 +88,7 @@ impl StartSignals {
     }
 
     /// Adds cells that are dead.
+    #[tactic(auto, using(crate::proofs::NumberedCells::dead_pushed))]
     pub fn push_dead(&mut self, count: usize) -> Result<(), AllocError>
         ensures { OnOk result (self.new ≡ self.old ++ replicate count Signal.Zero) }
     {
@@ -113,6 +114,7 @@ impl StartSignals {
     }
 
     /// Adds how many cells there are, the entries of what they carry, and a 0.
+    #[tactic(auto, using(crate::proofs::NumberedCells::start_numbers))]
     pub(crate) fn push_numbers(&self, numbers: &mut Vec<u64>) -> Result<(), AllocError>
         ensures { OnOk result (numbers.new.items
             ≡ numbers.old.items ++ sparse_list_numbers signal_number self.now) }
@@ -166,6 +168,7 @@ impl EndDemands {
     }
 
     /// Adds cells that must be dead.
+    #[tactic(auto, using(crate::proofs::NumberedCells::dead_demands_pushed))]
     pub fn push_dead(&mut self, count: usize) -> Result<(), AllocError>
         ensures { OnOk result (self.new ≡ self.old ++ replicate count Demand.Dead) }
     {
@@ -191,6 +194,7 @@ impl EndDemands {
     }
 
     /// Adds how many cells there are, the entries of what they must be, and a 0.
+    #[tactic(auto, using(crate::proofs::NumberedCells::demand_numbers))]
     pub(crate) fn push_numbers(&self, numbers: &mut Vec<u64>) -> Result<(), AllocError>
         ensures { OnOk result (numbers.new.items
             ≡ numbers.old.items ++ sparse_list_numbers demand_number self.now) }

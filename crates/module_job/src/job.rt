@@ -173,6 +173,7 @@ impl Job {
     }
 
     /// Returns what a cell of the ring carries at an odd time. Coordinates are from -1024 to 1023.
+    #[tactic(auto, using(crate::proofs::ShapeParts::carried))]
     pub fn edge(&self, time: u32, cell: Cell) -> Signal
         requires { IsInShiftRange cell }
         ensures { result ≡ signal_at self.now.edges time cell.x cell.y }
@@ -182,6 +183,7 @@ impl Job {
     }
 
     /// Returns what a cell of the halo carries at an odd time. Coordinates are from -1024 to 1023.
+    #[tactic(auto, using(crate::proofs::ShapeParts::carried))]
     pub fn halo(&self, time: u32, cell: Cell) -> Signal
         requires { IsInShiftRange cell }
         ensures { result ≡ signal_at self.now.halos time cell.x cell.y }

@@ -49,6 +49,7 @@ fn push_entry(entries: &mut Vec<u64>, place: u64, number: u64) -> Result<(), All
 }
 
 // Whether a place has a mark.
+#[tactic(auto, using(bbm_rule::proofs::CellLemmas::cell_is))]
 fn is_marked(marks: &[u64], at: usize) -> bool
     requires { at / 64 < length marks.now }
     ensures { result ≡ cell_at marks.now at }
@@ -67,6 +68,7 @@ fn mark_if_room(marks: &mut [u64], at: usize)
 }
 
 // How many entries are of places before this one.
+#[tactic(auto, using(crate::proofs::SparseLists::high_moves, crate::proofs::SparseLists::low_moves, crate::proofs::SparseLists::rank, crate::proofs::SparseLists::rank_below))]
 fn count_entries_before(entries: &[u64], place: usize) -> usize
     ensures bound { 2 * result ≤ length entries.now }
     ensures length_prefixed { (numbers : List ℕ) → entries.now ≡ sparse_entries_from 0 numbers →
@@ -87,6 +89,7 @@ fn count_entries_before(entries: &[u64], place: usize) -> usize
 
 impl SparseNumbers {
     /// Creates an empty list, with room for marks on the first places.
+    #[tactic(auto, using(crate::proofs::SparseLists::no_entries, crate::proofs::SparseLists::no_number, crate::proofs::SparseLists::no_numbers))]
     pub(crate) fn new(alloc: Global, room: usize) -> Result<SparseNumbers, AllocError>
         ensures { IfOk result (λ numbers. numbers ≡ []) }
     {
@@ -98,6 +101,7 @@ impl SparseNumbers {
     }
 
     /// Adds zeros.
+    #[tactic(auto, using(crate::proofs::SparseLists::zeros_grow, crate::proofs::SparseLists::zeros_unmarked))]
     pub(crate) fn push_zeros(&mut self, count: usize) -> Result<(), AllocError>
         ensures added { OnOk result (self.new ≡ self.old ++ replicate count 0) }
         ensures unchanged { OnErr result (self.new ≡ self.old) }
@@ -113,6 +117,7 @@ impl SparseNumbers {
 
     /// Adds a number.
     #[inline(always)]
+    #[tactic(auto, using(lemmas::proofs::Common::with_items_is, crate::proofs::SparseLists::number_grows, crate::proofs::SparseLists::number_unmarked))]
     pub(crate) fn push(&mut self, number: u64) -> Result<(), AllocError>
         ensures added { OnOk result (self.new ≡ self.old ++ number ∷ []) }
         ensures unchanged { OnErr result (self.new ≡ self.old) }
@@ -164,6 +169,7 @@ impl SparseNumbers {
     }
 
     /// Adds to the numbers how many there are, the entries, and a 0.
+    #[tactic(auto, using(crate::proofs::SparseLists::all_entered))]
     pub(crate) fn push_entries(&self, numbers: &mut Vec<u64>) -> Result<(), AllocError>
         ensures { OnOk result (numbers.new.items
             ≡ numbers.old.items ++ (length self.now ∷ sparse_entries_from 0 self.now ++ 0 ∷ [])) }
@@ -183,6 +189,7 @@ impl PartialEq for SparseNumbers {
     ghost laws = { partial_equiv_from_equiv (lists_equiv nat_eq_equiv) };
 
     // The marks follow from the entries.
+    #[tactic(auto, using(crate::proofs::SparseLists::same_fields))]
     fn eq(&self, other: &SparseNumbers) -> bool {
         let count = self.count == other.count;
         let entries = self.entries == other.entries;
