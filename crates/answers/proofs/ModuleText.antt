@@ -4,7 +4,8 @@ use Rattle.lemmas.proofs.Common.{arith, codes, flat_map, length, refl, rules, sl
 use Rattle.lemmas.proofs.Common.{flat_map-append, get_or_from_slice_get, slice_get_within, take-suc}
 use Rattle.section_text.specs.Spelling.{space_and_word}
 use Rattle.certificate_lines.specs.declared.certificate_line.Counts.{Counts}
-use Rattle.answers.specs.ModulesText.{area_words, words_of_counts, module_line, module_lines}
+use Rattle.pattern.specs.Text.{box_words}
+use Rattle.answers.specs.ModulesText.{words_of_counts, module_line, module_lines}
 
 -- ---- lines
 
@@ -50,15 +51,15 @@ four o w a b c z = rw (
 -- a line from its parts
 pub line_made : (n : ℕ) (k : Counts) (o p q r s t : List ℕ) → p ≡ o ++ codes "module" →
     q ≡ p ++ space_and_word (decimal n) →
-    r ≡ q ++ flat_map space_and_word (area_words k.area) → s ≡ r ++ flat_map space_and_word (words_of_counts k) →
+    r ≡ q ++ flat_map space_and_word (box_words k.area) → s ≡ r ++ flat_map space_and_word (words_of_counts k) →
     t ≡ s ++ 10 ∷ [] →
     t ≡ o ++ module_line n k
 unfolding module_line
 line_made n k o p q r s t e f g h i =
     i ∙ ap (λ l. l ++ 10 ∷ []) (h
     ∙ ap (λ l. l ++ flat_map space_and_word (words_of_counts k))
-    (g ∙ ap (λ l. l ++ flat_map space_and_word (area_words k.area)) (f ∙ ap (λ l. l ++ space_and_word (decimal n)) e)))
-    ∙ four o (codes "module") (space_and_word (decimal n)) (flat_map space_and_word (area_words k.area))
+    (g ∙ ap (λ l. l ++ flat_map space_and_word (box_words k.area)) (f ∙ ap (λ l. l ++ space_and_word (decimal n)) e)))
+    ∙ four o (codes "module") (space_and_word (decimal n)) (flat_map space_and_word (box_words k.area))
     (flat_map space_and_word (words_of_counts k)) 10
     ∙ ap (λ l. o ++ ((codes "module" ++ (space_and_word (decimal n) ++ l)) ++ 10 ∷ []))
-    (sym (flat_map-append space_and_word (area_words k.area) (words_of_counts k)))
+    (sym (flat_map-append space_and_word (box_words k.area) (words_of_counts k)))

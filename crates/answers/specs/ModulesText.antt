@@ -10,10 +10,6 @@ use Rattle.answers.specs.declared.outcome.Outcome.TheVariants.{Yes}
 use Rattle.answers.specs.Answers.{AnswersOrRefuses}
 use Rattle.answers.specs.BundleText.{Bundle, bundle_of}
 
--- the corner and the sides of a box
-abbrev pub area_words : Box2 → List (List ℕ)
-area_words b = decimal b.x ∷ decimal b.y ∷ decimal b.w ∷ decimal b.h ∷ []
-
 -- how many lines of each kind there are
 abbrev pub words_of_counts : Counts → List (List ℕ)
 words_of_counts k =
@@ -22,7 +18,7 @@ words_of_counts k =
 
 -- the line of the module of this number
 unfoldable pub module_line : ℕ → Counts → List ℕ
-module_line n k = line_text (codes "module") (decimal n ∷ (area_words k.area ++ words_of_counts k))
+module_line n k = line_text (codes "module") (decimal n ∷ (box_words k.area ++ words_of_counts k))
 
 -- the lines of modules, numbered from n on
 unfoldable pub module_lines : ℕ → List Counts → List ℕ

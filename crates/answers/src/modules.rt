@@ -5,7 +5,7 @@ ghost use Rattle.std.specs.Fmt.{decimal};
 ghost use Rattle.std.specs.List.{flat_map};
 ghost use Rattle.certificate_lines.specs.Entries.{counts_of, modules_of};
 ghost use Rattle.answers.specs.BundleReading.{bundle_of_certificate};
-ghost use Rattle.answers.specs.ModulesText.{SaysModules, area_words, words_of_counts, module_line, module_lines};
+ghost use Rattle.answers.specs.ModulesText.{SaysModules, words_of_counts, module_line, module_lines};
 
 use crate::outcome::{Answered, Outcome};
 use certificate::{Cert, Counts};
@@ -19,18 +19,6 @@ fn print_count(alloc: Global, out: &mut Vec<u8>, count: usize) -> Result<(), All
 {
     let digits = count.to_string(alloc)?;
     print_word(out, digits.as_bytes())?;
-    Ok(())
-}
-
-// The corner and the sides of a box.
-fn print_area(out: &mut Vec<u8>, area: Box2) -> Result<(), AllocError>
-    ensures { OnOk result (out.new.items
-        ≡ out.old.items ++ flat_map space_and_word (area_words area)) }
-{
-    print_number(out, area.x)?;
-    print_number(out, area.y)?;
-    print_number(out, area.w)?;
-    print_number(out, area.h)?;
     Ok(())
 }
 
@@ -74,7 +62,7 @@ fn print_module(
 {
     out.extend_from_slice(b"module")?;
     print_count(alloc, out, number)?;
-    print_area(out, counts.area)?;
+    print_box(out, counts.area)?;
     print_counts(alloc, out, counts)?;
     out.push(b'\n')?;
     Ok(())

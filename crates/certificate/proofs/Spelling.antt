@@ -1,28 +1,22 @@
 -- Each line of the certificate section is the spelling of its form.
 use Rattle.certificate.proofs.Imports.{BorderLine, Box2, Cell, Cut, Edge, End, Halo, Header, Item, Keep, List, Module}
 use Rattle.certificate.proofs.Imports.{Option, Some, Stop, StopLine, Use, [], ap, arith, codes, common_steps, eqb}
-use Rattle.certificate.proofs.Imports.{eqb-true, form_text, inl, inr, length, same_Some, slice_get, subst, true, ℕ, ◌+◌}
+use Rattle.certificate.proofs.Imports.{eqb-true, form_text, inl, inr, length, refl, same_Some, slice_get, subst, true, ℕ, ◌+◌}
 use Rattle.certificate.proofs.Imports.{◌∷◌, ◌≡◌}
 use Rattle.pattern.specs.Forms.{corner_and_sides, box_of, cell_of_words_from}
 use Rattle.lemmas.proofs.Common.{decimal, option_and_then_some}
 use Rattle.section_text.specs.Words.{◌>>=◌, words_of, is_word_at, if_one_word, number_after_keyword, name_after_keyword}
 use Rattle.section_text.specs.Words.{name_at, number_at}
 use Rattle.section_text.specs.Section.{with_line_feed}
+use Rattle.section_text.specs.Spelling.{line_text}
 use Rattle.section_text.proofs.Spellings.{chosen, passed, number_at_spelled, one_word, two_words, five_words}
 use Rattle.section_text.proofs.WordPlaces.{is_at_is, name_at_is, line_from_words}
 use Rattle.pattern.specs.Text.{natural_or_zero}
 use Rattle.certificate_lines.specs.Forms.{Line, star_or_time_at_word, one_or_name_at_word, border_of_five_words}
 use Rattle.certificate_lines.specs.Forms.{border_of, stop_of_five_words, stop_of, form_of}
-use Rattle.certificate.specs.Text.{area_words, star_or_time_word, one_or_name_word, border_words, stop_words}
-
--- two words are a cell
-record CellAt (ws : List (List ℕ)) (i j : ℕ) (c : Cell) : Type 0 where
-  column : slice_get ws i ≡ Some (decimal (natural_or_zero c.x))
-  row : slice_get ws j ≡ Some (decimal (natural_or_zero c.y))
-
-cell_spelled : (ws : List (List ℕ)) (i : ℕ) (c : Cell) → cell_of_words_from ws i ≡ Some c → CellAt ws i (i + 1) c
-unfolding cell_of_words_from
-cell_spelled ws i c e = grind (arith, common_steps, option_and_then_some, same_Some, number_at_spelled)
+use Rattle.pattern.specs.Text.{box_words}
+use Rattle.pattern.proofs.Spelling.{CellAt, cell_spelled, box_spelled}
+use Rattle.certificate.specs.Text.{star_or_time_word, one_or_name_word, border_words, stop_words}
 
 time_spelled : (ws : List (List ℕ)) (i : ℕ) (t : Option ℕ) → star_or_time_at_word ws i ≡ Some t →
     slice_get ws i ≡ Some (star_or_time_word t)
@@ -34,23 +28,6 @@ signal_spelled : (ws : List (List ℕ)) (i : ℕ) (s : Option (List ℕ)) → on
     slice_get ws i ≡ Some (one_or_name_word s)
 unfolding one_or_name_at_word
 signal_spelled ws i s e = grind (arith, common_steps, chosen, same_Some, is_at_is, option_and_then_some, name_at_is)
-
-area_spelled : (ws : List (List ℕ)) (v : List ℕ) (b : Box2) → is_word_at ws 0 v ≡ true → box_of ws ≡ Some b →
-    ws ≡ v ∷ area_words b
-unfolding box_of corner_and_sides
-area_spelled ws v b at e =
-    let found = passed (eqb (length ws) 5) (corner_and_sides ws) b e in
-    option_and_then_some (λ x. number_at ws 2 >>= λ y. number_at ws 3 >>= λ w. number_at ws 4 >>= λ h.
-    Some (record { x = x; y = y; w = w; h = h })) (number_at ws 1) b found.1 (λ x ex rx.
-    option_and_then_some (λ y. number_at ws 3 >>= λ w. number_at ws 4 >>= λ h.
-    Some (record { x = x; y = y; w = w; h = h })) (number_at ws 2) b rx (λ y ey ry.
-    option_and_then_some (λ w. number_at ws 4 >>= λ h. Some (record { x = x; y = y; w = w; h = h }))
-    (number_at ws 3) b ry (λ w ew rw'.
-    option_and_then_some (λ h. Some (record { x = x; y = y; w = w; h = h })) (number_at ws 4) b rw' (λ h eh made.
-    subst (λ (q : Box2). ws ≡ v ∷ area_words q) (same_Some (record { x = x; y = y; w = w; h = h }) b made)
-    (five_words ws v (decimal x) (decimal y) (decimal w) (decimal h) (eqb-true _ _ found.0) (is_at_is ws 0 v at)
-    (number_at_spelled ws 1 x ex) (number_at_spelled ws 2 y ey) (number_at_spelled ws 3 w ew)
-    (number_at_spelled ws 4 h eh))))))
 
 border_spelled : (ws : List (List ℕ)) (v : List ℕ) (b : BorderLine) → is_word_at ws 0 v ≡ true → border_of ws ≡ Some b →
     ws ≡ v ∷ border_words b
@@ -108,22 +85,22 @@ first_of (Item (Halo b)) = codes "halo"
 first_of (Item (Stop s)) = codes "stop"
 first_of End = codes "end"
 
-non_mirror_grid : Line → List (List ℕ)
-non_mirror_grid (Header version) = decimal version ∷ []
-non_mirror_grid (Item (Module b)) = area_words b
-non_mirror_grid (Item (Cut n)) = n ∷ []
-non_mirror_grid (Item (Use k)) = decimal k ∷ []
-non_mirror_grid (Item (Keep k)) = decimal k ∷ []
-non_mirror_grid (Item (Edge b)) = border_words b
-non_mirror_grid (Item (Halo b)) = border_words b
-non_mirror_grid (Item (Stop s)) = stop_words s
-non_mirror_grid End = []
+others_of : Line → List (List ℕ)
+others_of (Header version) = decimal version ∷ []
+others_of (Item (Module b)) = box_words b
+others_of (Item (Cut n)) = n ∷ []
+others_of (Item (Use k)) = decimal k ∷ []
+others_of (Item (Keep k)) = decimal k ∷ []
+others_of (Item (Edge b)) = border_words b
+others_of (Item (Halo b)) = border_words b
+others_of (Item (Stop s)) = stop_words s
+others_of End = []
 
 abbrev SpelledAs : List (List ℕ) → Line → Type 0
-SpelledAs ws f = ws ≡ first_of f ∷ non_mirror_grid f
+SpelledAs ws f = ws ≡ first_of f ∷ others_of f
 
 form_words : (ws : List (List ℕ)) (f : Line) → form_of ws ≡ Some f → SpelledAs ws f
-unfolding form_of if_one_word first_of non_mirror_grid
+unfolding form_of if_one_word first_of others_of
 form_words ws f e =
     elim (chosen (is_word_at ws 0 (codes "edge")) _ _ (Some f) e) [
       | inl p ↦ grind (arith, common_steps, option_and_then_some, same_Some, border_spelled)
@@ -138,7 +115,7 @@ form_words ws f e =
               | inr s ↦ elim (chosen (is_word_at ws 0 (codes "keep")) _ _ (Some f) s.1) [
                 | inl k ↦ grind (arith, common_steps, option_and_then_some, same_Some, number_spelled)
                 | inr k ↦ elim (chosen (is_word_at ws 0 (codes "module")) _ _ (Some f) k.1) [
-                  | inl t ↦ grind (arith, common_steps, option_and_then_some, same_Some, area_spelled)
+                  | inl t ↦ grind (arith, common_steps, option_and_then_some, same_Some, box_spelled)
                   | inr t ↦ grind (
                     arith,
                     common_steps,
@@ -159,22 +136,11 @@ form_words ws f e =
       ]
     ]
 
+text_of : (f : Line) → form_text f ≡ line_text (first_of f) (others_of f)
+unfolding first_of others_of
+text_of (Item (Module b)) = refl
+text_of _ = refl
+
 pub form_line : (l : List ℕ) (f : Line) → form_of (words_of l) ≡ Some f → with_line_feed l ≡ form_text f
-unfolding first_of non_mirror_grid
-form_line l (Header v) e = ap with_line_feed
-    (line_from_words l (codes "certificate") (decimal v ∷ []) (form_words (words_of l) (Header v) e))
-form_line l (Item (Module b)) e =
-    ap with_line_feed (line_from_words l (codes "module") (area_words b) (form_words (words_of l) (Item (Module b)) e))
-form_line l (Item (Cut n)) e =
-    ap with_line_feed (line_from_words l (codes "cut") (n ∷ []) (form_words (words_of l) (Item (Cut n)) e))
-form_line l (Item (Use k)) e =
-    ap with_line_feed (line_from_words l (codes "use") (decimal k ∷ []) (form_words (words_of l) (Item (Use k)) e))
-form_line l (Item (Keep k)) e =
-    ap with_line_feed (line_from_words l (codes "keep") (decimal k ∷ []) (form_words (words_of l) (Item (Keep k)) e))
-form_line l (Item (Edge b)) e =
-    ap with_line_feed (line_from_words l (codes "edge") (border_words b) (form_words (words_of l) (Item (Edge b)) e))
-form_line l (Item (Halo b)) e =
-    ap with_line_feed (line_from_words l (codes "halo") (border_words b) (form_words (words_of l) (Item (Halo b)) e))
-form_line l (Item (Stop s)) e =
-    ap with_line_feed (line_from_words l (codes "stop") (stop_words s) (form_words (words_of l) (Item (Stop s)) e))
-form_line l End e = ap with_line_feed (line_from_words l (codes "end") [] (form_words (words_of l) End e))
+form_line l f e =
+    rw (text_of f) (ap with_line_feed (line_from_words l (first_of f) (others_of f) (form_words (words_of l) f e)))

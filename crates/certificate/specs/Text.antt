@@ -14,10 +14,6 @@ use Rattle.certificate_lines.specs.declared.certificate_line.CertificateLine.The
 use Rattle.certificate_lines.specs.Forms.{Line}
 use Rattle.certificate.specs.Grammars.{CertView}
 
--- the words of a box: its corner and its sides
-abbrev pub area_words : Box2 → List (List ℕ)
-area_words b = decimal b.x ∷ decimal b.y ∷ decimal b.w ∷ decimal b.h ∷ []
-
 -- a time, or `*` for every odd time
 abbrev pub star_or_time_word : Option ℕ → List ℕ
 star_or_time_word None = codes "*"
@@ -38,7 +34,7 @@ stop_words s = decimal s.time ∷ s.wire ∷ cell_words s.cell
 
 -- the line of an entry
 abbrev pub entry_text : CertificateLine → List ℕ
-entry_text (Module b) = line_text (codes "module") (area_words b)
+entry_text (Module b) = line_text (codes "module") (box_words b)
 entry_text (Cut name) = line_text (codes "cut") (name ∷ [])
 entry_text (Use number) = line_text (codes "use") (decimal number ∷ [])
 entry_text (Keep number) = line_text (codes "keep") (decimal number ∷ [])

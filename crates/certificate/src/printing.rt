@@ -3,14 +3,15 @@ ghost use Rattle.std.specs.Prelude.{◌≡◌, ◌++◌, [], ◌∷◌, OnOk, If
 ghost use Rattle.std.specs.List.{flat_map};
 ghost use Rattle.std.specs.Fmt.{decimal};
 ghost use Rattle.section_text.specs.Spelling.{space_and_word, line_text};
+ghost use Rattle.pattern.specs.Text.{box_words};
 ghost use Rattle.certificate.specs.Grammars.{migrated};
-ghost use Rattle.certificate.specs.Text.{area_words, star_or_time_word, one_or_name_word, border_words, entry_text, stop_words, certificate_text};
+ghost use Rattle.certificate.specs.Text.{star_or_time_word, one_or_name_word, border_words, entry_text, stop_words, certificate_text};
 ghost use Rattle.certificate_lines.specs.Versions.{without_halos};
 
 use crate::cert::Cert;
 use certificate_lines::{BorderLine, CertificateLine, StopLine, StoredLine};
 use module_box::Box2;
-use pattern::print_cell;
+use pattern::{print_box, print_cell};
 use section_text::{Name, print_number, print_word};
 use std::alloc::{AllocError, Global};
 
@@ -27,13 +28,10 @@ pub(crate) fn print_header(out: &mut Vec<u8>, version: u32) -> Result<(), AllocE
 
 fn print_module(out: &mut Vec<u8>, area: Box2) -> Result<(), AllocError>
     ensures { OnOk result (out.new.items
-        ≡ out.old.items ++ line_text (codes "module") (area_words area)) }
+        ≡ out.old.items ++ line_text (codes "module") (box_words area)) }
 {
     out.extend_from_slice(b"module")?;
-    print_number(out, area.x)?;
-    print_number(out, area.y)?;
-    print_number(out, area.w)?;
-    print_number(out, area.h)?;
+    print_box(out, area)?;
     out.push(b'\n')?;
     Ok(())
 }

@@ -26,17 +26,19 @@ all_dead w at cells same k j lk lj = ap (λ (n : ℕ). bit n j) (same k lk) ∙ 
 -- ---- the rule on blocks whose diagonals both have a live cell, or none
 both_live : (a d b c : Bool) → (a || d) ≡ true → (b || c) ≡ true → turned a d b c ≡ a
 unfolding turned
+both_live true true true true e f = refl
+both_live true true true false e f = refl
 both_live true true false true e f = refl
 both_live true true false false e f = absurd (false≢true f)
 both_live true false true true e f = refl
+both_live true false true false e f = refl
 both_live true false false true e f = refl
 both_live true false false false e f = absurd (false≢true f)
+both_live false true true true e f = refl
 both_live false true true false e f = refl
 both_live false true false true e f = refl
 both_live false true false false e f = absurd (false≢true f)
 both_live false false b c e f = absurd (false≢true e)
-both_live _ true true true e f = refl
-both_live true _ true false e f = refl
 
 none_live : turned false false false false ≡ false
 unfolding turned

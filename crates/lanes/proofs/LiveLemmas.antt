@@ -51,17 +51,19 @@ dead_stable b p odd right down even = grind (arith, common_steps, none_stays)
 -- ---- blocks of which one cell at most is live
 lone_here : (a b : Bool) → (a ≡ false) ⊎ (b ≡ false) → turned a b false false ≡ b
 unfolding turned
+lone_here false false e = refl
 lone_here false true e = refl
+lone_here true false e = refl
 lone_here true true (inl e) = sym e
 lone_here true true (inr e) = sym e
-lone_here _ false e = refl
 
 lone_beside : (a b : Bool) → (a ≡ false) ⊎ (b ≡ false) → turned false false a b ≡ false
 unfolding turned
+lone_beside false false e = refl
 lone_beside false true e = refl
+lone_beside true false e = refl
 lone_beside true true (inl e) = e
 lone_beside true true (inr e) = e
-lone_beside _ false e = refl
 
 one_dead : (x y j : ℕ) → (x ≡ 0) ⊎ (y ≡ 0) → (bit x j ≡ false) ⊎ (bit y j ≡ false)
 one_dead x y j (inl e) = inl (ap (λ n. bit n j) e ∙ bit-zero j)

@@ -23,7 +23,7 @@ unfoldable pub use Rattle.pattern.specs.Lines.{missing_fault, name_fault, order_
 unfoldable pub use Rattle.pattern.specs.Lines.{takes_at_start}
 pub use Rattle.pattern.specs.Run.{EndsWith, LeavesAt}
 unfoldable pub use Rattle.pattern.specs.Run.{live_cells, start_cells_by_kind}
-pub use Rattle.pattern.specs.Text.{cell_words, form_text, port_words, rectangle_words, size_words}
+pub use Rattle.pattern.specs.Text.{cell_words, form_text, port_words, box_words, size_words}
 unfoldable pub use Rattle.pattern.specs.Text.{layout_text}
 pub use Rattle.pattern.specs.declared.layout_line.LayoutHeader.{LayoutHeader}
 pub use Rattle.pattern.specs.declared.layout_line.LayoutLine.{LayoutLine}

@@ -1,13 +1,13 @@
 -- The lists of a layout, printed one after the other, are its text.
 use Rattle.pattern.proofs.Imports.{List, Pattern, ap, append_assoc, arith, cell_words, codes, common_steps, flat_map}
-use Rattle.pattern.proofs.Imports.{flat_map-append, layout_text, line_text, parts_of, port_words, rectangle_words, refl}
+use Rattle.pattern.proofs.Imports.{flat_map-append, layout_text, line_text, parts_of, port_words, box_words, refl}
 use Rattle.pattern.proofs.Imports.{size_words, ℕ, ◌++◌, ◌≡◌}
 use Rattle.lemmas.proofs.Common.{flat_map-map}
 use Rattle.pattern.specs.Text.{part_text}
 
 module _ (p : Pattern) where
   mirrors : List ℕ
-  mirrors = flat_map (λ r. line_text (codes "mirror") (rectangle_words r)) p.mirrors
+  mirrors = flat_map (λ r. line_text (codes "mirror") (box_words r)) p.mirrors
 
   balls : List ℕ
   balls = flat_map (λ c. line_text (codes "ball") (cell_words c)) p.balls
@@ -30,7 +30,7 @@ module _ (p : Pattern) where
   regroup s m b i o w e = ap (λ l. l ++ e) (simp append_assoc refl)
 
   pub printed : (a b c d k f g : List ℕ) → a ≡ line_text (codes "layout") (size_words p.size)
-      → b ≡ a ++ flat_map (λ r. line_text (codes "mirror") (rectangle_words r)) p.mirrors
+      → b ≡ a ++ flat_map (λ r. line_text (codes "mirror") (box_words r)) p.mirrors
       → c ≡ b ++ flat_map (λ c. line_text (codes "ball") (cell_words c)) p.balls
       → d ≡ c ++ flat_map (λ q. line_text (codes "in") (port_words q)) p.ins
       → k ≡ d ++ flat_map (λ q. line_text (codes "out") (port_words q)) p.outs

@@ -2,11 +2,12 @@
 use Rattle.pattern.proofs.Imports.{Ball, Box2, Cell, End, Header, In, Item, LayoutHeader, List, Mirror, Out, Port, Some}
 use Rattle.pattern.proofs.Imports.{Waste, [], ap, arith, box_of, cell_after_keyword, cell_of_words_from, cell_words}
 use Rattle.pattern.proofs.Imports.{codes, common_steps, form_text, inl, inr, length, name_at, number_at}
-use Rattle.pattern.proofs.Imports.{port_after_keyword, port_of, port_words, rectangle_words, same_Some, size_of}
+use Rattle.pattern.proofs.Imports.{port_after_keyword, port_of, port_words, box_words, refl, same_Some, size_of}
 use Rattle.pattern.proofs.Imports.{size_words, slice_get, subst, true, ℕ, ◌+◌, ◌∷◌, ◌≡◌}
 use Rattle.lemmas.proofs.Common.{eqb, decimal, eqb-true, option_and_then_some}
 use Rattle.section_text.specs.Words.{◌>>=◌, words_of, is_word_at, if_one_word}
 use Rattle.section_text.specs.Section.{with_line_feed}
+use Rattle.section_text.specs.Spelling.{line_text}
 use Rattle.section_text.proofs.Spellings.{chosen, passed, number_at_spelled, one_word, three_words, four_words}
 use Rattle.section_text.proofs.Spellings.{five_words}
 use Rattle.section_text.proofs.WordPlaces.{is_at_is, name_at_is, line_from_words}
@@ -14,11 +15,11 @@ use Rattle.pattern.specs.Forms.{Line, corner_and_sides, sides_and_steps, form_of
 use Rattle.pattern.specs.Text.{natural_or_zero}
 
 -- two words are a cell
-record CellAt (ws : List (List ℕ)) (i j : ℕ) (c : Cell) : Type 0 where
-  column : slice_get ws i ≡ Some (decimal (natural_or_zero c.x))
-  row : slice_get ws j ≡ Some (decimal (natural_or_zero c.y))
+pub record CellAt (ws : List (List ℕ)) (i j : ℕ) (c : Cell) : Type 0 where
+  pub column : slice_get ws i ≡ Some (decimal (natural_or_zero c.x))
+  pub row : slice_get ws j ≡ Some (decimal (natural_or_zero c.y))
 
-cell_spelled : (ws : List (List ℕ)) (i : ℕ) (c : Cell) → cell_of_words_from ws i ≡ Some c → CellAt ws i (i + 1) c
+pub cell_spelled : (ws : List (List ℕ)) (i : ℕ) (c : Cell) → cell_of_words_from ws i ≡ Some c → CellAt ws i (i + 1) c
 unfolding cell_of_words_from
 cell_spelled ws i c e = grind (arith, common_steps, option_and_then_some, same_Some, number_at_spelled)
 
@@ -47,10 +48,10 @@ port_spelled ws w p at e =
     (is_at_is ws 0 w at)
     (name_at_is ws 1 n named) words.column words.row)))
 
-rectangle_spelled : (ws : List (List ℕ)) (v : List ℕ) (r : Box2) → is_word_at ws 0 v ≡ true →
-    box_of ws ≡ Some r → ws ≡ v ∷ rectangle_words r
+pub box_spelled : (ws : List (List ℕ)) (v : List ℕ) (r : Box2) → is_word_at ws 0 v ≡ true →
+    box_of ws ≡ Some r → ws ≡ v ∷ box_words r
 unfolding box_of corner_and_sides
-rectangle_spelled ws v r at e =
+box_spelled ws v r at e =
     let found = passed (eqb (length ws) 5) (corner_and_sides ws) r e in
     option_and_then_some (λ x. number_at ws 2 >>= λ y. number_at ws 3 >>= λ w. number_at ws 4 >>= λ h.
     Some (record { x = x; y = y; w = w; h = h })) (number_at ws 1) r found.1 (λ x ex rx.
@@ -59,7 +60,7 @@ rectangle_spelled ws v r at e =
     option_and_then_some (λ w. number_at ws 4 >>= λ h. Some (record { x = x; y = y; w = w; h = h }))
     (number_at ws 3) r ry (λ w ew rw'.
     option_and_then_some (λ h. Some (record { x = x; y = y; w = w; h = h })) (number_at ws 4) r rw' (λ h eh made.
-    subst (λ (q : Box2). ws ≡ v ∷ rectangle_words q) (same_Some (record { x = x; y = y; w = w; h = h }) r made)
+    subst (λ (q : Box2). ws ≡ v ∷ box_words q) (same_Some (record { x = x; y = y; w = w; h = h }) r made)
     (five_words ws v (decimal x) (decimal y) (decimal w) (decimal h) (eqb-true _ _ found.0) (is_at_is ws 0 v at)
     (number_at_spelled ws 1 x ex) (number_at_spelled ws 2 y ey) (number_at_spelled ws 3 w ew)
     (number_at_spelled ws 4 h eh))))))
@@ -90,7 +91,7 @@ first_of End = codes "end"
 
 others_of : Line → List (List ℕ)
 others_of (Header s) = size_words s
-others_of (Item (Mirror r)) = rectangle_words r
+others_of (Item (Mirror r)) = box_words r
 others_of (Item (Ball c)) = cell_words c
 others_of (Item (In p)) = port_words p
 others_of (Item (Out p)) = port_words p
@@ -110,7 +111,7 @@ form_words ws f e =
       | inr p ↦ elim (chosen (is_word_at ws 0 (codes "mirror")) _ _ (Some f) p.1) [
         | inl q ↦ option_and_then_some (λ r. Some (Item (Mirror r))) (box_of ws) f q.1
             (λ r found made. subst (SpelledAs ws) (same_Some (Item (Mirror r)) f made)
-            (rectangle_spelled ws (codes "mirror") r q.0 found))
+            (box_spelled ws (codes "mirror") r q.0 found))
         | inr q ↦ elim (chosen (is_word_at ws 0 (codes "ball")) _ _ (Some f) q.1) [
           | inl r ↦ option_and_then_some (λ c. Some (Item (Ball c))) (cell_after_keyword ws) f r.1
               (λ c found made. subst (SpelledAs ws) (same_Some (Item (Ball c)) f made)
@@ -139,19 +140,11 @@ form_words ws f e =
       ]
     ]
 
-pub form_line : (l : List ℕ) (f : Line) → form_of (words_of l) ≡ Some f → with_line_feed l ≡ form_text f
+text_of : (f : Line) → form_text f ≡ line_text (first_of f) (others_of f)
 unfolding first_of others_of
-form_line l (Header s) e = ap with_line_feed
-    (line_from_words l (codes "layout") (size_words s) (form_words (words_of l) (Header s) e))
-form_line l (Item (Mirror r)) e =
-    ap with_line_feed (line_from_words l (codes "mirror") (rectangle_words r)
-    (form_words (words_of l) (Item (Mirror r)) e))
-form_line l (Item (Ball c)) e =
-    ap with_line_feed (line_from_words l (codes "ball") (cell_words c) (form_words (words_of l) (Item (Ball c)) e))
-form_line l (Item (In p)) e =
-    ap with_line_feed (line_from_words l (codes "in") (port_words p) (form_words (words_of l) (Item (In p)) e))
-form_line l (Item (Out p)) e =
-    ap with_line_feed (line_from_words l (codes "out") (port_words p) (form_words (words_of l) (Item (Out p)) e))
-form_line l (Item (Waste c)) e =
-    ap with_line_feed (line_from_words l (codes "waste") (cell_words c) (form_words (words_of l) (Item (Waste c)) e))
-form_line l End e = ap with_line_feed (line_from_words l (codes "end") [] (form_words (words_of l) End e))
+text_of (Item (Mirror r)) = refl
+text_of _ = refl
+
+pub form_line : (l : List ℕ) (f : Line) → form_of (words_of l) ≡ Some f → with_line_feed l ≡ form_text f
+form_line l f e =
+    rw (text_of f) (ap with_line_feed (line_from_words l (first_of f) (others_of f) (form_words (words_of l) f e)))

@@ -1,6 +1,6 @@
 -- The cells of a line, and the cells that are taken.
-use Rattle.pattern.proofs.Imports.{All, AllByRecursion, Ball, Bool, Box2, Cell, In, LayoutHeader, LayoutLine, List}
-use Rattle.pattern.proofs.Imports.{Mirror, None, Out, Some, TakenCell, Waste, [], arith, cell_fault, cells_of}
+use Rattle.pattern.proofs.Imports.{All, AllByRecursion, Bool, Box2, Cell, LayoutHeader, LayoutLine, List}
+use Rattle.pattern.proofs.Imports.{Mirror, None, Some, TakenCell, [], arith, cell_fault, cells_of}
 use Rattle.pattern.proofs.Imports.{cells_taken_at_end, cells_taken_at_start, code_if, common_steps, false, flat_map}
 use Rattle.pattern.proofs.Imports.{in_cells, in_layout, in_span, inside_is_span, is_inside, is_layout_side, is_taken}
 use Rattle.pattern.proofs.Imports.{list_any, nat_tests, not, pos, range_with_len, rectangle_cells, refl, row_cells}

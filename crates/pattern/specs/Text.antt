@@ -23,8 +23,8 @@ abbrev pub cell_words : Cell → List (List ℕ)
 cell_words c = decimal (natural_or_zero c.x) ∷ decimal (natural_or_zero c.y) ∷ []
 
 -- the words of a rectangle
-abbrev pub rectangle_words : Box2 → List (List ℕ)
-rectangle_words r = decimal r.x ∷ decimal r.y ∷ decimal r.w ∷ decimal r.h ∷ []
+abbrev pub box_words : Box2 → List (List ℕ)
+box_words r = decimal r.x ∷ decimal r.y ∷ decimal r.w ∷ decimal r.h ∷ []
 
 -- the words of a port
 abbrev pub port_words : Port → List (List ℕ)
@@ -36,7 +36,7 @@ size_words s = decimal s.w ∷ decimal s.h ∷ decimal s.steps ∷ []
 
 -- the line of a part
 abbrev pub part_text : LayoutLine → List ℕ
-part_text (Mirror r) = line_text (codes "mirror") (rectangle_words r)
+part_text (Mirror r) = line_text (codes "mirror") (box_words r)
 part_text (Ball c) = line_text (codes "ball") (cell_words c)
 part_text (In p) = line_text (codes "in") (port_words p)
 part_text (Out p) = line_text (codes "out") (port_words p)

@@ -2,7 +2,7 @@
 ghost use Rattle.std.specs.Prelude.{◌≡◌, ◌++◌, [], ◌∷◌, ℕ, List, OnOk, OnErr, IfOk, codes};
 ghost use Rattle.std.specs.List.{flat_map};
 ghost use Rattle.section_text.specs.Spelling.{space_and_word, line_text};
-ghost use Rattle.pattern.specs.Text.{cell_words, natural_or_zero, layout_text, port_words, rectangle_words, size_words};
+ghost use Rattle.pattern.specs.Text.{cell_words, natural_or_zero, layout_text, port_words, box_words, size_words};
 
 use crate::layout::Layout;
 use crate::layout_line::{LayoutHeader, Port};
@@ -46,22 +46,37 @@ fn print_size(out: &mut Vec<u8>, size: LayoutHeader) -> Result<(), AllocError>
     Ok(())
 }
 
-fn print_mirror(out: &mut Vec<u8>, r: Box2) -> Result<(), AllocError>
+/// Prints the corner and the sides of a box, as four numbers.
+///
+/// # Errors
+///
+/// Out of memory. A part of the bytes may then be written.
+#[inline]
+pub fn print_box(out: &mut Vec<u8>, area: Box2) -> Result<(), AllocError>
+    ensures ok { OnOk result (out.new.items
+        ≡ out.old.items ++ flat_map space_and_word (box_words area)) }
+    ensures err { OnErr result ((part : List ℕ) × (out.new.items ≡ out.old.items ++ part)) }
+{
+    print_number(out, area.x)?;
+    print_number(out, area.y)?;
+    print_number(out, area.w)?;
+    print_number(out, area.h)?;
+    Ok(())
+}
+
+fn print_mirror(out: &mut Vec<u8>, area: Box2) -> Result<(), AllocError>
     ensures { OnOk result (out.new.items
-        ≡ out.old.items ++ line_text (codes "mirror") (rectangle_words r)) }
+        ≡ out.old.items ++ line_text (codes "mirror") (box_words area)) }
 {
     out.extend_from_slice(b"mirror")?;
-    print_number(out, r.x)?;
-    print_number(out, r.y)?;
-    print_number(out, r.w)?;
-    print_number(out, r.h)?;
+    print_box(out, area)?;
     out.push(b'\n')?;
     Ok(())
 }
 
 fn print_mirrors(out: &mut Vec<u8>, mirrors: &[Box2]) -> Result<(), AllocError>
     ensures { OnOk result (out.new.items
-        ≡ out.old.items ++ flat_map (λ r. line_text (codes "mirror") (rectangle_words r))
+        ≡ out.old.items ++ flat_map (λ r. line_text (codes "mirror") (box_words r))
         mirrors.now) }
 {
     for mirror in mirrors {

@@ -1,5 +1,5 @@
 use Rattle.pattern.proofs.Imports.{Box2, Cell, LayoutHeader, List, Port, ap, cell_words, codes, flat_map, line_text}
-use Rattle.pattern.proofs.Imports.{port_words, rectangle_words, size_words, ℕ, ◌++◌, ◌∙◌}
+use Rattle.pattern.proofs.Imports.{port_words, box_words, size_words, ℕ, ◌++◌, ◌∙◌}
 use Rattle.pattern.proofs.Printed.{printed}
 use Rattle.pattern.proofs.printing.print_layout.Goals as goal
 
@@ -12,7 +12,7 @@ returns c = printed c.args.layout.now c.print_size.new.out.items c.print_mirrors
     ∙ ap (λ (s : LayoutHeader). line_text (codes "layout") (size_words s)) c.size.ensures.size)
     (c.in_ok-print_mirrors.ensures
     ∙ ap (λ (l : List Box2).
-    c.print_size.new.out.items ++ flat_map (λ (r : Box2). line_text (codes "mirror") (rectangle_words r)) l)
+    c.print_size.new.out.items ++ flat_map (λ (r : Box2). line_text (codes "mirror") (box_words r)) l)
     c.mirrors.ensures)
     (c.in_ok-print_cells.ensures ∙ ap
     (λ (l : List Cell). c.print_mirrors.new.out.items
