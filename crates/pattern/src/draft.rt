@@ -34,6 +34,7 @@ impl Model for Draft {
 
 impl Draft {
     /// Creates a draft without lines after the first.
+    #[tactic(auto, using(crate::proofs::TakenLemmas::is_sized), unfolding(crate::proofs::Imports::cells_taken_at_end, crate::proofs::Imports::cells_taken_at_start))]
     pub(crate) fn new(alloc: Global, size: LayoutHeader) -> Result<Draft, AllocError>
         requires { size_fault size ≡ None }
         ensures size { IfOk result (λ draft. draft.size ≡ size) }

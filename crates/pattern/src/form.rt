@@ -11,6 +11,7 @@ use crate::layout_line::{LayoutHeader, LayoutLine, Port};
 use bbm_rule::{Box2, Cell};
 use section_text::{Feed, FiveWords, Form, FourWords, Line, Name, is_keyword, read_number};
 
+#[tactic(auto, using(crate::proofs::PortLines::cell_found, crate::proofs::PortLines::cell_missed))]
 fn cell_from_line(feed: &Feed, line: &Line) -> Option<Cell>
     requires { IsLine feed.now line.now }
     ensures { result ≡ cell_after_keyword (words_of (line_bytes feed.now line.now)) }
@@ -44,6 +45,7 @@ fn port_of_words(words: &FourWords) -> Option<Port>
     Some(Port { name, cell })
 }
 
+#[tactic(auto, using(crate::proofs::PortLines::port_found, crate::proofs::PortLines::port_missed))]
 fn port_from_line(feed: &Feed, line: &Line) -> Option<Port>
     requires { IsLine feed.now line.now }
     ensures { result ≡ port_of (words_of (line_bytes feed.now line.now)) }
@@ -66,6 +68,7 @@ pub fn box_from_words(words: &FiveWords) -> Option<Box2>
     Some(Box2 { x, y, w, h })
 }
 
+#[tactic(auto, using(crate::proofs::PortLines::rectangle_found, crate::proofs::PortLines::rectangle_missed))]
 fn box_from_line(feed: &Feed, line: &Line) -> Option<Box2>
     requires { IsLine feed.now line.now }
     ensures { result ≡ box_of (words_of (line_bytes feed.now line.now)) }
@@ -86,6 +89,7 @@ fn size_of_words(words: &FourWords) -> Option<LayoutHeader>
     Some(LayoutHeader { w, h, steps })
 }
 
+#[tactic(auto, using(crate::proofs::PortLines::size_found, crate::proofs::PortLines::size_missed))]
 fn size_from_line(feed: &Feed, line: &Line) -> Option<LayoutHeader>
     requires { IsLine feed.now line.now }
     ensures { result ≡ size_of (words_of (line_bytes feed.now line.now)) }

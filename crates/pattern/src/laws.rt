@@ -5,6 +5,7 @@ ghost use Rattle.pattern.specs.Laws.{PrintsWhatIsRead, ReadsWhatIsPrinted};
 ///
 /// The text of a layout that is read is the text of the lines that it is read from. It is read as the same layout
 /// again.
+#[tactic(auto, using(crate::proofs::RoundTrip::prints_what_is_read, crate::proofs::RoundTrip::reads_what_is_printed))]
 pub fn text_round_trips()
     ensures printed { PrintsWhatIsRead }
     ensures read_again { ReadsWhatIsPrinted }

@@ -5,6 +5,7 @@ ghost use Rattle.pattern.specs.Layout.{row_cells, rectangle_cells};
 use bbm_rule::{Box2, Cell};
 use std::alloc::AllocError;
 
+#[tactic(auto, using(crate::proofs::CellLists::row_pushed))]
 fn push_row_cells(out: &mut Vec<Cell>, x: u32, w: u32, y: u32) -> Result<(), AllocError>
     requires columns { x + w ≤ 512 }
     requires row { y < 512 }
@@ -24,6 +25,7 @@ fn push_row_cells(out: &mut Vec<Cell>, x: u32, w: u32, y: u32) -> Result<(), All
 /// # Errors
 ///
 /// Out of memory. A part of the cells may then be there.
+#[tactic(auto, using(crate::proofs::CellLists::rows_pushed), unfolding(crate::proofs::Imports::rectangle_cells))]
 pub fn push_rectangle(out: &mut Vec<Cell>, r: Box2) -> Result<(), AllocError>
     requires columns { r.x + r.w ≤ 512 }
     requires rows { r.y + r.h ≤ 512 }

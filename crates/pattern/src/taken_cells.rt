@@ -35,6 +35,7 @@ pub fn make_live(grid: &mut Grid, cells: &[Cell])
 }
 
 /// Returns whether a cell of the rectangle is live. The rectangle is on the grid.
+#[tactic(auto, using(crate::proofs::CellLists::row_found, crate::proofs::CellLists::rows_found), unfolding(crate::proofs::Imports::rectangle_cells))]
 pub fn is_any_live_in(grid: &Grid, r: Box2) -> bool
     requires columns { (r.x + r.w ≤ grid.now.width) × (r.x + r.w ≤ 512) }
     requires rows { (r.y + r.h ≤ grid.now.height) × (r.y + r.h ≤ 512) }

@@ -1,12 +1,9 @@
-use Rattle.core_book.proofs.Imports.{IsHeldOrFiled, arc_value, arith, common_steps, false, found_in, is_some, rules}
+use Rattle.core_book.proofs.Imports.{IsHeldOrFiled, arc_value, false, found_in, is_some, rules}
 use Rattle.core_book.proofs.Imports.{subst, sym, ◌≡◌}
 use Rattle.lemmas.proofs.Common.{OnOk}
 use Rattle.core_book.proofs.Fillings.{filed-for}
 use Rattle.core_book.proofs.filling.fill_number.Goals.{in-Ok, in-Err}
 use Rattle.core_book.proofs.filling.fill_number.Goals as goal
-
-pub returns-then-is_some-clause-held : goal.returns-then-is_some-clause-held
-returns-then-is_some-clause-held c = grind (arith, common_steps, c.args.state.now, c.args.number)
 
 pub returns-clause-held : goal.returns-clause-held
 returns-clause-held c =

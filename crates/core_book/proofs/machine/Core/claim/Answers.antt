@@ -1,4 +1,4 @@
-use Rattle.core_book.proofs.Imports.{CoreView, IsCore, List, after_claim, ap, arc_value, arith, common_steps, core_view}
+use Rattle.core_book.proofs.Imports.{CoreView, IsCore, after_claim, ap, arc_value, arith, common_steps, core_view}
 use Rattle.core_book.proofs.Imports.{draws_after_claim, draws_of, job_count_of, length, length-map, length-set}
 use Rattle.core_book.proofs.Imports.{lists_of, next_after_claim, set, subst, sym, ℕ, ◌<◌, ◌∙◌, ◌≡◌}
 use Rattle.lemmas.proofs.Common.{Global, Vec, map-set, map-set_same}
@@ -32,9 +32,6 @@ kept : (c : After-next_claim) → c.next_claim.new.drawn.items ≡ c.index_mut.r
     lists_of (set c.self.inside.draws.items c.args.seat c.next_claim.new.drawn) ≡ lists_of c.self.inside.draws.items
 kept c same = map-set_same (λ (v : Vec ℕ Global). v.items) c.self.inside.draws.items c.args.seat c.next_claim.new.drawn
     c.index_mut.result.now (same ∙ ap (λ (v : Vec ℕ Global). v.items) c.index_mut.ensures.value)
-
-abbrev with_draws : CoreView → List (List ℕ) → CoreView
-with_draws v draws = record v { draws = draws }
 
 pub invariant_of-self : goal.invariant_of-self
 invariant_of-self c =

@@ -1,9 +1,0 @@
-use Rattle.pattern.proofs.Imports.{arith, common_steps}
-use Rattle.pattern.proofs.PortLines.{cell_found, cell_missed}
-use Rattle.pattern.proofs.form.cell_from_line.Goals as goal
-
-pub returns-in_default : goal.returns-in_default
-returns-in_default c = grind (arith, common_steps, cell_missed)
-
-pub returns : goal.returns
-returns c = grind (arith, common_steps, cell_found)
