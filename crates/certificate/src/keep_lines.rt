@@ -41,6 +41,7 @@ fn note_keeps(kept: &mut IndexSet<u32>, lines: &[StoredLine]) -> Result<(), Allo
 }
 
 // The gates that some of these modules keeps.
+#[tactic(auto, using(crate::proofs::Imports::take_all, crate::proofs::SliceLemmas::any_mapped))]
 fn kept_gates(alloc: Global, parts: &[ModuleSlice]) -> Result<IndexSet<u32>, AllocError>
     requires { All (λ p. AreInOrder p.lines.now) parts.now }
     ensures { IfOk result (λ kept. (n : ℕ) →

@@ -104,6 +104,7 @@ impl CellLists {
 }
 
 // A grid of the layout's size on which these cells are live.
+#[tactic(auto, using(crate::proofs::Imports::size_sides, pattern::proofs::PlaneRuns::inside_is_layout))]
 fn grid_of(alloc: Global, size: LayoutHeader, cells: &[Cell]) -> Result<Grid, AllocError>
     requires limits { size_fault size ≡ None }
     requires inside { All (λ c. in_layout size c.x c.y ≡ true) cells.now }
@@ -163,6 +164,7 @@ fn grid_with_mirrors(alloc: Global, layout: &Layout, cells: &[Cell]) -> Result<G
 }
 
 // A grid on which the cells of mirrors, balls, waste cells and ports are live.
+#[tactic(auto, using(crate::proofs::LayoutTableLemmas::nothing_here, crate::proofs::LayoutTableLemmas::others_inside))]
 fn occupied_grid(alloc: Global, layout: &Layout) -> Result<Grid, AllocError>
     ensures cells { IfOk result (λ grid. (x y : ℤ) →
         live grid x y ≡ false → HasNothing layout.now x y) }
@@ -175,6 +177,7 @@ fn occupied_grid(alloc: Global, layout: &Layout) -> Result<Grid, AllocError>
 }
 
 // The grids of a layout's mirrors, of its balls and of its wastes.
+#[tactic(auto, using(crate::proofs::Imports::balls_on_layout, crate::proofs::Imports::wastes_on_layout))]
 fn mirror_ball_waste_grids(alloc: Global, layout: &Layout) -> Result<(Grid, Grid, Grid), AllocError>
     ensures mirrors { IfOk result (λ grids. (x y : ℤ) →
         live grids.0 x y ≡ in_rectangles layout.now.mirrors x y) }
@@ -291,6 +294,7 @@ impl<'a> LayoutTables<'a> {
     }
 
     // The first column from `from` on whose cell in row `y` the layout may name, or `end` if it names none before it.
+    #[tactic(auto, using(crate::proofs::LayoutTableLemmas::end_dead, crate::proofs::LayoutTableLemmas::start_dead))]
     fn next_occupied(&self, y: u32, from: u32, end: u32) -> u32
         requires row { y < self.now.layout.size.h }
         requires columns { (from ≤ end) × (end ≤ self.now.layout.size.w) }
@@ -306,6 +310,7 @@ impl<'a> LayoutTables<'a> {
     }
 
     // The first column from `from` on whose cell in row `y` has no mirror, or `end` if all cells before it have one.
+    #[tactic(auto, using(crate::proofs::LayoutTableLemmas::end_live, crate::proofs::LayoutTableLemmas::start_mirror))]
     fn next_nonmirror(&self, y: u32, from: u32, end: u32) -> u32
         requires row { y < self.now.layout.size.h }
         requires columns { (from ≤ end) × (end ≤ self.now.layout.size.w) }

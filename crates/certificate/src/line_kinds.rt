@@ -76,6 +76,7 @@ fn lines_of_rank<'b, 'a>(lines: &'b [StoredLine<'a>], rank: u8) -> &'b [StoredLi
 }
 
 /// Returns the lines of a module about cells of this side.
+#[tactic(auto, using(certificate_lines::proofs::LineRanks::only_edges, certificate_lines::proofs::LineRanks::only_halos))]
 pub(crate) fn side_lines<'b, 'a>(
     side: RingOrHalo,
     lines: &'b [StoredLine<'a>],

@@ -25,6 +25,7 @@ use std::mem::replace;
 // The most lines, so that their places fit.
 const MAX_LINES: usize = 4294967295;
 
+#[tactic(auto, using(crate::proofs::HaloLists::list_left, crate::proofs::HaloLists::list_read, crate::proofs::HaloLists::list_written))]
 fn push_place(lists: &mut Vec<Vec<u32>>, number: usize, place: u32) -> Result<(), AllocError>
     requires { number < length lists.old.items }
     ensures count { OnOk result (length lists.new.items ≡ length lists.old.items) }
@@ -39,6 +40,7 @@ fn push_place(lists: &mut Vec<Vec<u32>>, number: usize, place: u32) -> Result<()
 }
 
 /// Takes the list of this number out, and leaves an empty one in its place.
+#[tactic(auto, using(crate::proofs::HaloLists::list_left, crate::proofs::HaloLists::list_written))]
 pub(crate) fn take_list(alloc: Global, lists: &mut Vec<Vec<u32>>, number: usize) -> Vec<u32>
     requires { number < length lists.old.items }
     ensures count { length lists.new.items ≡ length lists.old.items }
@@ -171,6 +173,7 @@ fn push_edge_places(
 }
 
 // An empty list for each of `count` boxes.
+#[tactic(auto, using(crate::proofs::HaloLists::list_pushed))]
 fn empty_place_lists(alloc: Global, count: usize) -> Result<Vec<Vec<u32>>, AllocError>
     ensures count { IfOk result (λ lists. length lists.items ≡ count) }
     ensures empty { IfOk result (λ lists. (i : ℕ) →

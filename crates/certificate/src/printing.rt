@@ -148,6 +148,7 @@ fn print_unless_halo(out: &mut Vec<u8>, entry: &StoredLine) -> Result<(), AllocE
 }
 
 // The lines other than halo lines.
+#[tactic(auto, using(crate::proofs::PrintedLines::none_printed, crate::proofs::PrintedLines::one_more_printed))]
 fn print_without_halos(out: &mut Vec<u8>, entries: &[StoredLine]) -> Result<(), AllocError>
     ensures { OnOk result (out.new.items
         ≡ out.old.items ++ flat_map entry_text (without_halos entries.now)) }

@@ -133,6 +133,7 @@ fn note_times_of_stops(
 }
 
 // The first or the last time of each wire, by the stops of the modules.
+#[tactic(auto, using(crate::proofs::Imports::take_all, crate::proofs::SliceLemmas::flat_mapped))]
 fn stop_time_table(
     alloc: Global,
     circuit: &Circuit,

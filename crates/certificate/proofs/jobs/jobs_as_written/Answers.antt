@@ -1,7 +1,6 @@
-use Rattle.certificate.proofs.Imports.{IsJobOf, arc_value, arith, circuit_of, common_steps, length-map, map, map-append}
+use Rattle.certificate.proofs.Imports.{IsJobOf, arc_value, arith, circuit_of, common_steps, map, map-append}
 use Rattle.certificate.proofs.Imports.{slice_lines, subst, sym, ◌+◌}
-use Rattle.certificate.proofs.BesideLines.{PartJobs, no_part_jobs, one_part_more, part_at, parts_done}
-use Rattle.certificate.proofs.SliceLemmas.{map_same}
+use Rattle.certificate.proofs.BesideLines.{PartJobs, one_part_more, part_at}
 use Rattle.certificate.proofs.jobs.jobs_as_written.Goals as goal
 
 pub make_job-requires-clause-module : goal.make_job-requires-clause-module
@@ -11,9 +10,6 @@ make_job-requires-clause-module c =
 
 pub make_job-requires-clause-ports : goal.make_job-requires-clause-ports
 make_job-requires-clause-ports c = grind (arith, common_steps, part_at)
-
-pub parts-init : goal.parts-init
-parts-init c = grind (arith, common_steps, no_part_jobs)
 
 pub parts-preserved : goal.parts-preserved
 parts-preserved c =
@@ -27,6 +23,3 @@ parts-preserved c =
     (slice_lines c.part-item.result) (arc_value c.in_ok-new.field-0)
     (part_at c.args.parts.now c.parts.part-index c.part-item.result c.parts-test.true c.part-item.is) made
     c.parts.invariant)
-
-pub returns : goal.returns
-returns c = grind (arith, common_steps, length-map, map_same, parts_done)

@@ -1,11 +1,8 @@
 use Rattle.certificate.proofs.Imports.{IsJobOf, arc_value, arith, circuit_of, common_steps, length-map, map, map-append}
 use Rattle.certificate.proofs.Imports.{setting_of, slice_lines, subst, sym, with_halos, ◌+◌, ◌∙◌}
-use Rattle.certificate.proofs.BesideLines.{PartJobs, all_lists, full_part, no_part_jobs, one_list_less, one_part_more}
-use Rattle.certificate.proofs.BesideLines.{parts_done, within_lists}
+use Rattle.certificate.proofs.BesideLines.{PartJobs, full_part, one_list_less, one_part_more}
+use Rattle.certificate.proofs.BesideLines.{parts_done}
 use Rattle.certificate.proofs.jobs.jobs_with_implied_halos.Goals as goal
-
-pub take_list-list-requires : goal.take_list-list-requires
-take_list-list-requires c = grind (arith, common_steps, within_lists)
 
 pub make_job-requires-clause-module : goal.make_job-requires-clause-module
 make_job-requires-clause-module c =
@@ -40,9 +37,6 @@ parts-preserved c =
           c.take_list-list.new.lists.items c.take_list-list.ensures.count c.take_list-list.ensures.others
           c.parts.invariant.1,
     )
-
-pub parts-init : goal.parts-init
-parts-init c = grind (arith, common_steps, no_part_jobs, all_lists)
 
 pub returns : goal.returns
 returns c =

@@ -1,4 +1,4 @@
-use Rattle.certificate.proofs.Imports.{AreLocalLines, arith, common_steps, netlist_of, refl, subst, sym, ◌∙◌}
+use Rattle.certificate.proofs.Imports.{AreLocalLines, netlist_of, refl, subst, sym, ◌∙◌}
 use Rattle.certificate.proofs.JobLemmas.{small_gates, few_gates}
 use Rattle.certificate.proofs.jobs.locals_and_kept_places.Goals as goal
 
@@ -8,9 +8,6 @@ used_gates-requires c =
     rw c.wiring_lines-wiring.ensures.uses
     (small_gates (netlist_of c.args.circuit.now) _ _ c.requires.lines
     (few_gates _ c.args.circuit.now g.result refl g.ensures.count g.ensures.at_most_1024))
-
-pub kept_places-requires-clause-at_most_64 : goal.kept_places-requires-clause-at_most_64
-kept_places-requires-clause-at_most_64 c = grind (arith, common_steps, few_gates)
 
 pub with_gates-requires : goal.with_gates-requires
 with_gates-requires c =

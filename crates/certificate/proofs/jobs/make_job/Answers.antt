@@ -8,7 +8,7 @@ use Rattle.module_box.specs.Locals.{AreLocalsOf}
 use Rattle.module_job.specs.Jobs.{IsJob}
 use Rattle.module_job.specs.Shapes.{ShapeView, job_of_shape}
 use Rattle.module_job.specs.declared.job.Stop.{Stop}
-use Rattle.certificate.proofs.JobLemmas.{keeps_used, within_512, within_layout, edges_named, halos_named, lists_local}
+use Rattle.certificate.proofs.JobLemmas.{within_512, within_layout, edges_named, halos_named, lists_local}
 use Rattle.certificate.proofs.JobLemmas.{wires_known, cut_count}
 use Rattle.certificate.proofs.JobPlaces.{start_found, demand_found}
 use Rattle.certificate.proofs.NearLines.{low_edges, low_halos, low_stops}
@@ -21,9 +21,6 @@ locals_and_kept_places-requires-clause-lines c =
     let m : ModuleLines = record { area = c.args.area; lines = c.args.lines.now } in
     lists_local _ c.args.tables.now.circuit c.args.tables.now.layout m _ _ c.circuit-circuit.ensures refl refl
     c.requires.module
-
-pub locals_and_kept_places-requires-clause-kept : goal.locals_and_kept_places-requires-clause-kept
-locals_and_kept_places-requires-clause-kept c = grind (arith, common_steps, keeps_used)
 
 pub cell_lists-requires-clause-columns : goal.cell_lists-requires-clause-columns
 cell_lists-requires-clause-columns c =

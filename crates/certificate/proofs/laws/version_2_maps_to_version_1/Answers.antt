@@ -1,13 +1,9 @@
 use Rattle.certificate.proofs.FullModules.{meant_modules}
-use Rattle.certificate.proofs.HaloSignals.{halo_is_edge_beside}
 use Rattle.certificate.proofs.Migrated.{good_without_halos, section_without_halos}
 use Rattle.certificate.proofs.laws.version_2_maps_to_version_1.Goals as goal
 
 pub returns-clause-modules : goal.returns-clause-modules
 returns-clause-modules c = meant_modules
-
-pub returns-clause-halos : goal.returns-clause-halos
-returns-clause-halos c = halo_is_edge_beside
 
 pub returns-clause-good : goal.returns-clause-good
 returns-clause-good c = good_without_halos

@@ -1,5 +1,4 @@
-use Rattle.certificate.proofs.Imports.{arith, common_steps, size_sides}
-use Rattle.pattern.proofs.PlaneRuns.{inside_is_layout}
+use Rattle.certificate.proofs.Imports.{arith, size_sides}
 use Rattle.certificate.proofs.layout_tables.grid_of.Goals as goal
 
 pub new-requires-clause-width : goal.new-requires-clause-width
@@ -9,6 +8,3 @@ new-requires-clause-width c = let side = (size_sides c.args.size c.requires.limi
 pub new-requires-clause-height : goal.new-requires-clause-height
 new-requires-clause-height c = let side = (size_sides c.args.size c.requires.limits).1 in
     (side.least, omega (arith, side.most), side.even)
-
-pub make_live-requires : goal.make_live-requires
-make_live-requires c = grind (arith, common_steps, inside_is_layout)

@@ -1,5 +1,5 @@
-use Rattle.certificate.proofs.Imports.{ap, arith, common_steps, modules_of, setting_of, ◌∙◌}
-use Rattle.certificate_lines.proofs.ModuleBoxes.{is_task, sides_at_most}
+use Rattle.certificate.proofs.Imports.{ap, modules_of, setting_of, ◌∙◌}
+use Rattle.certificate_lines.proofs.ModuleBoxes.{is_task}
 use Rattle.certificate.proofs.neighbour_edges.owners_of.Goals as goal
 
 pub owner_table-requires : goal.owner_table-requires
@@ -8,6 +8,3 @@ owner_table-requires c =
     is_task (setting_of p.circuit p.layout) (modules_of c.args.entries.now) c.size-size.result c.args.boxes.now
     (c.size-size.ensures.size ∙ ap (λ q. q.size) c.layout.ensures) c.size-size.ensures.limits c.requires.modules.each
     c.requires.boxes
-
-pub returns-in-Ok-clause-small : goal.returns-in-Ok-clause-small
-returns-in-Ok-clause-small c = grind (arith, common_steps, sides_at_most)

@@ -1,9 +1,5 @@
--- One line more is printed where it is no halo line.
-use Rattle.certificate.proofs.PrintedLines.{none_printed, one_more_printed}
+use Rattle.certificate.proofs.PrintedLines.{one_more_printed}
 use Rattle.certificate.proofs.printing.print_without_halos.Goals as goal
-
-pub loop-entry-init : goal.loop-entry-init
-loop-entry-init c = none_printed c.args.out.now.items
 
 pub loop-entry-preserved : goal.loop-entry-preserved
 loop-entry-preserved c =

@@ -1,10 +1,7 @@
 use Rattle.certificate.proofs.Imports.{AddsCells, Dead, Live, One, Zero, arith, circuit_of, common_steps, row_cells}
 use Rattle.certificate.proofs.Imports.{subst, ℕ, ◌-◌, ◌≡◌, ◌≤◌}
-use Rattle.certificate.proofs.CellRows.{add_cell, add_none, add_same, cast_inside}
+use Rattle.certificate.proofs.CellRows.{add_cell, add_same, cast_inside}
 use Rattle.certificate.proofs.layout_tables.LayoutTables.push_row.Goals as goal
-
-pub cells-init : goal.cells-init
-cells-init c = grind (arith, common_steps, add_none)
 
 pub returns-then-named-end : goal.returns-then-named-end
 returns-then-named-end c =
