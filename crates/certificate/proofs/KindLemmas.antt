@@ -10,6 +10,7 @@ use Rattle.lemmas.proofs.Common.{get_or-drop, get_or-take, length-drop, length-t
 use Rattle.lemmas.proofs.Common.{nat_cmp_is}
 use Rattle.std.specs.List.{All, flat_map}
 use Rattle.bbm_rule.proofs.BitLemmas.{by_lt_or_le}
+use Rattle.certificate_lines.proofs.LineRanks.{rank_rises}
 use Rattle.certificate.specs.LineKinds.{IsSplitAt}
 
 -- ---- ranks

@@ -1,4 +1,4 @@
-use Rattle.certificate.proofs.Imports.{stop_in}
+use Rattle.certificate.proofs.Imports.{arith, stop_in}
 use Rattle.certificate.proofs.KindLemmas.{only_after}
 use Rattle.certificate_lines.proofs.LineRanks.{only_stops}
 use Rattle.certificate.proofs.line_kinds.stop_lines.Goals as goal

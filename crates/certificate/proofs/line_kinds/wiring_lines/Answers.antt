@@ -1,4 +1,4 @@
-use Rattle.certificate.proofs.Imports.{cut_in, keep_in, use_in}
+use Rattle.certificate.proofs.Imports.{arith, cut_in, keep_in, use_in}
 use Rattle.certificate.proofs.KindLemmas.{only_before}
 use Rattle.certificate_lines.proofs.LineRanks.{only_cuts, only_uses, only_keeps}
 use Rattle.certificate.proofs.line_kinds.wiring_lines.Goals as goal
