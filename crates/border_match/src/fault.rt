@@ -43,6 +43,7 @@ pub(crate) fn is_less(fault: BorderFault, best: Option<BorderFault>) -> bool
 }
 
 // The lesser of a candidate, if there is one, and a fault.
+#[tactic(auto, using(crate::proofs::Least::lesser_kept, crate::proofs::Least::at_most_itself))]
 pub(crate) fn lesser(best: Option<BorderFault>, fault: BorderFault) -> Option<BorderFault>
     ensures covers_as_before { (h : BorderFault) → HasCandidateAtMost best h →
         HasCandidateAtMost result h }

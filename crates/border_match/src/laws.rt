@@ -2,6 +2,7 @@
 ghost use Rattle.border_match.specs.Laws.{HalolessBordersMatch, LeastBorderFaultIsUnique, NoFaultMeansSameSignals};
 
 /// States that a module has one least border fault, or none.
+#[tactic(auto, using(crate::proofs::Unique::least_unique))]
 pub fn least_border_fault_is_unique()
     ensures { LeastBorderFaultIsUnique }
 {}
@@ -10,6 +11,7 @@ pub fn least_border_fault_is_unique()
 ///
 /// Its halo signal and the edge signal of the module that has the cell are then true under the same valuations, at each
 /// odd time below the steps.
+#[tactic(auto, using(crate::proofs::SameSignals::same_signals))]
 pub fn no_fault_means_same_signals()
     ensures { NoFaultMeansSameSignals }
 {}

@@ -133,6 +133,7 @@ pub(crate) fn plane_cell_if_near(area: Box2, corner: Box2, cell: Cell) -> Option
 /// Returns the place of the first event from `from` on that is not before a moment.
 ///
 /// It looks first at the place `guess`, then at places ever further behind, and then between the last two.
+#[tactic(auto, using(crate::proofs::FarEvents::not_less, crate::proofs::FarEvents::passed_to, crate::proofs::FarEvents::rest_from, crate::proofs::FarEvents::rest_none))]
 pub(crate) fn find_first_not_before(
     events: &[TimedSignal],
     from: usize,

@@ -1,11 +1,6 @@
 use Rattle.border_match.proofs.Imports.{ap, circuit_wire, job_signals, renumber_signal, sym, ◌∙◌}
 use Rattle.border_match.proofs.EventSignals.{own_signal}
-use Rattle.border_match.proofs.OwnSignals.{listed_below}
 use Rattle.border_match.proofs.signals.signal_at_event.Goals as goal
-
-pub circuit_signal-requires : goal.circuit_signal-requires
-circuit_signal-requires c = listed_below c.args.border c.args.job.now c.args.event c.area-area.ensures.good.own
-    c.requires.listed
 
 pub returns : goal.returns
 returns c =

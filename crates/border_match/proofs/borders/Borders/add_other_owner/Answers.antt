@@ -1,18 +1,15 @@
--- The cells of the box have one owner, whose number is there.
-use Rattle.border_match.proofs.Imports.{Box2, IsJob, JobView, Some, arc_value, arith, common_steps, jobs_of, length}
+use Rattle.border_match.proofs.Imports.{Box2, IsJob, JobView, Some, arc_value, jobs_of, length}
 use Rattle.border_match.proofs.Imports.{slice_get, subst, sym, ℕ, ◌+◌, ◌<◌, ◌≡◌, ◌≤◌}
 use Rattle.border_match.proofs.Cells.{job_at, owner_within}
-use Rattle.border_match.proofs.NearModules.{own_noted, owner_holds, owner_noted, with_among, with_below, with_keeps}
+use Rattle.border_match.proofs.NearModules.{owner_holds, owner_noted, with_among, with_below, with_keeps}
 use Rattle.border_match.proofs.borders.Borders.add_other_owner.Goals as goal
 
+-- The cells of the box have one owner, whose number is there.
 -- the box of a job is within the limits
 within_limits : (j : JobView) (a : Box2) → a ≡ j.area → IsJob j → (a.x + a.w ≤ 512) × (a.y + a.h ≤ 512)
 within_limits j a same good =
     let P : Box2 → Type 0 = λ a. (a.x + a.w ≤ 512) × (a.y + a.h ≤ 512) in
     subst P (sym same) (good.width.2, good.height.2)
-
-pub returns-then-holds : goal.returns-then-holds
-returns-then-holds c = grind (arith, common_steps, own_noted, within_limits)
 
 pub returns : goal.returns
 returns c =

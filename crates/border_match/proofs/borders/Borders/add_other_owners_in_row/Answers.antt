@@ -1,11 +1,7 @@
--- Each turn notes the cells of one module's box.
 use Rattle.border_match.proofs.Imports.{Box2, ap, arith, common_steps, rules}
 use Rattle.border_match.proofs.Cells.{area_at, in_whole}
-use Rattle.border_match.proofs.NearModules.{all_columns, columns_more, no_column}
+use Rattle.border_match.proofs.NearModules.{all_columns, columns_more}
 use Rattle.border_match.proofs.borders.Borders.add_other_owners_in_row.Goals as goal
-
-pub columns-init : goal.columns-init
-columns-init c = grind (arith, common_steps, no_column)
 
 pub add_other_owner-requires-clause-inside : goal.add_other_owner-requires-clause-inside
 add_other_owner-requires-clause-inside c = grind (arith, common_steps, in_whole)

@@ -1,13 +1,7 @@
-use Rattle.border_match.proofs.Imports.{AreHaloMarks, arith, common_steps, subst, sym, ◌∙◌}
+use Rattle.border_match.proofs.Imports.{AreHaloMarks, subst, sym, ◌∙◌}
 use Rattle.border_match.proofs.Least.{least_by_three}
-use Rattle.border_match.proofs.Marks.{fault_unmarked, unmarked_first, written_back}
+use Rattle.border_match.proofs.Marks.{fault_unmarked, written_back}
 use Rattle.border_match.proofs.borders.Borders.least_fault.Goals as goal
-
-pub with_edges-by_edges-requires-clause-marked : goal.with_edges-by_edges-requires-clause-marked
-with_edges-by_edges-requires-clause-marked c = grind (arith, common_steps, unmarked_first)
-
-pub with_halo_events-by_halo-requires-clause-sized : goal.with_halo_events-by_halo-requires-clause-sized
-with_halo_events-by_halo-requires-clause-sized c = grind (arith, common_steps, written_back)
 
 pub returns : goal.returns
 returns c =

@@ -1,13 +1,6 @@
--- Each turn notes the rows down to the end of a module's box.
-use Rattle.border_match.proofs.Imports.{Box2, ap, arith, common_steps}
-use Rattle.border_match.proofs.NearModules.{all_rows, no_row, rows_more}
+use Rattle.border_match.proofs.Imports.{Box2, ap, arith}
+use Rattle.border_match.proofs.NearModules.{all_rows}
 use Rattle.border_match.proofs.borders.Borders.near_modules.Goals as goal
-
-pub rows-init : goal.rows-init
-rows-init c = grind (arith, common_steps, no_row)
-
-pub rows-preserved : goal.rows-preserved
-rows-preserved c = grind (arith, common_steps, rows_more)
 
 pub returns : goal.returns
 returns c =

@@ -1,8 +1,8 @@
-use Rattle.border_match.proofs.Imports.{AreEventsFar, AreReadyBorders, BorderFault, Borders, Box2, HasCandidateAtMost}
+use Rattle.border_match.proofs.Imports.{AreEventsFar, BorderFault, Borders, Box2, HasCandidateAtMost}
 use Rattle.border_match.proofs.Imports.{IsAtSomeEventBelow, IsExtent, IsFaultOfSearchedJob, IsRising, IsWindowAround}
-use Rattle.border_match.proofs.Imports.{JobView, List, ShapeView, Signals, Some, TimedSignal, Window, ap, arith, ints}
-use Rattle.border_match.proofs.Imports.{jobs_of, moment_cmp, moment_of, owner_of, pos, shape_of, shift_to_origin}
-use Rattle.border_match.proofs.Imports.{slice_get, subst, sym, ℕ, ◌+◌, ◌∙◌, ◌≡◌}
+use Rattle.border_match.proofs.Imports.{JobView, List, ShapeView, Signals, TimedSignal, Window, ap, arith, ints}
+use Rattle.border_match.proofs.Imports.{moment_cmp, moment_of, pos, shape_of, shift_to_origin}
+use Rattle.border_match.proofs.Imports.{subst, sym, ℕ, ◌+◌, ◌∙◌, ◌≡◌}
 use Rattle.border_match.proofs.EventSignals.{events_unmoved}
 use Rattle.border_match.proofs.Least.{better_for, better_rest, better_same, better_then}
 use Rattle.border_match.proofs.Steps.{cornered, cornered_all, far_step, named_step, named_all, rest_covered, same_fault}
@@ -55,13 +55,6 @@ returns c =
     let better = better_for _ _ _ _ _ c.events.invariant.better (λ h f r. named_all other.edges.events c.events.place h
     (cornered_all _ _ c.events-events.result.now other.edges.events c.events.place are c.events-test.false) r) in
     record { better = better; marked = c.events.invariant.marked }
-
--- the cells of a module's edge events are its own
-owned : (b : Borders) (k : ℕ) (other : JobView) (i : ℕ) (e : TimedSignal) → AreReadyBorders b →
-    slice_get (jobs_of b) k ≡ Some other → slice_get other.edges.events i ≡ Some e →
-    slice_get (jobs_of b) (owner_of b.owners.now e.at.cell.x e.at.cell.y) ≡ Some other
-owned b k other i e ready numbered got =
-    ap (slice_get (jobs_of b)) (ready.0.edges k other e numbered (i, got)).1 ∙ numbered
 
 pub returns-then-not-is_less : goal.returns-then-not-is_less
 returns-then-not-is_less c =

@@ -1,6 +1,6 @@
-use Rattle.border_match.proofs.Imports.{arith, common_steps}
+use Rattle.border_match.proofs.Imports.{arith}
 use Rattle.border_match.proofs.Least.{better_same, better_with}
-use Rattle.border_match.proofs.Steps.{first_is_least, no_fault_step, not_before, not_true}
+use Rattle.border_match.proofs.Steps.{first_is_least, not_before}
 use Rattle.border_match.proofs.borders.Borders.with_first_fault_of.Goals as goal
 
 pub returns-then-is_fault : goal.returns-then-is_fault
@@ -8,9 +8,6 @@ returns-then-is_fault c =
     better_with _ _ _ _ _ (c.is_fault.ensures.0 c.if-is_fault.true)
     (λ h f same. first_is_least c.times.time c.args.cell h (not_before _ _ (c.times.invariant h f same)) same)
     c.lesser.ensures.covers_as_before c.lesser.ensures.one c.lesser.ensures.covered
-
-pub times-preserved : goal.times-preserved
-times-preserved c = grind (arith, common_steps, no_fault_step, not_true)
 
 pub returns : goal.returns
 returns c = better_same _ _ _ (λ h f same. c.times.invariant h f same (let e = f.early in omega (arith, e)))

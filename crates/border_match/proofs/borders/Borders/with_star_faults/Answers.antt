@@ -1,11 +1,8 @@
-use Rattle.border_match.proofs.Imports.{arc_value, arith, common_steps, get_or, refl}
+use Rattle.border_match.proofs.Imports.{arc_value, get_or, refl}
 use Rattle.border_match.proofs.Cells.{job_at}
 use Rattle.border_match.proofs.Least.{better_then, better_for}
-use Rattle.border_match.proofs.Stars.{modules_step, no_module, star_covered}
+use Rattle.border_match.proofs.Stars.{modules_step, star_covered}
 use Rattle.border_match.proofs.borders.Borders.with_star_faults.Goals as goal
-
-pub modules-init : goal.modules-init
-modules-init c = grind (arith, common_steps, better_for, no_module)
 
 pub modules-preserved : goal.modules-preserved
 modules-preserved c =
