@@ -41,7 +41,8 @@ owned_near b c owner ready inside got is = grind (arith, common_steps, same_some
 near_bounds : (f n k j : ℕ) (x y : ℤ) → x ≡ pos k → y ≡ pos j → (y ≡ x -ℤ pos 1) ⊎ ((y ≡ x) ⊎ (y ≡ x +ℤ pos 1)) →
     f ≤ j → j < f + n → (f - 1 ≤ k) × (k < f + n + 1)
 near_bounds f n k j x y p q (inl e) c d = (omega (arith, ints), omega (arith, ints))
-near_bounds f n k j x y p q _ c d = (omega (arith, ints), omega (arith, ints))
+near_bounds f n k j x y p q (inr (inl e)) c d = (omega (arith, ints), omega (arith, ints))
+near_bounds f n k j x y p q (inr (inr e)) c d = (omega (arith, ints), omega (arith, ints))
 
 near_nat : (f n : ℕ) (x : ℤ) (k : ℕ) → x ≡ pos k →
     (in_span f n (x -ℤ pos 1) || in_span f n x || in_span f n (x +ℤ pos 1)) ≡ true → (f - 1 ≤ k) × (k < f + n + 1)
