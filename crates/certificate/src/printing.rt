@@ -9,7 +9,7 @@ ghost use Rattle.certificate_lines.specs.Versions.{without_halos};
 
 use crate::cert::Cert;
 use crate::version::Version;
-use certificate_lines::{BorderLine, CertificateLine, StopLine, StoredLine};
+use certificate_lines::{BorderLine, CertificateLine, OneOrName, StopLine, StoredLine};
 use module_box::Box2;
 use pattern::print_cell;
 use section_text::{Name, print_number, print_word};
@@ -81,7 +81,7 @@ fn print_star_or_time(out: &mut Vec<u8>, time: Option<u32>) -> Result<(), AllocE
 }
 
 // The name of a wire, or the constant `1`.
-fn print_one_or_name(out: &mut Vec<u8>, signal: Option<Name>) -> Result<(), AllocError>
+fn print_one_or_name(out: &mut Vec<u8>, signal: OneOrName) -> Result<(), AllocError>
     ensures { OnOk result (out.new.items
         ≡ out.old.items ++ space_and_word (one_or_name_word signal)) }
 {
