@@ -20,6 +20,6 @@ pub mod marks;
 mod rows;
 mod words;
 
-pub use block::{Box2, Cell, turn};
+pub use block::{Box2, Cell, odd_partner, turn};
 pub use grid::{Grid, Left};
 pub use words::{turn_lanes, turn_words};

@@ -4,7 +4,6 @@
 //! which, and `specs/Modules.antt` what is known of the modules of good lines.
 #![tactic(auto)]
 
-mod blocks;
 mod builder;
 mod certificate_line;
 mod counts;
@@ -22,7 +21,6 @@ mod stored_line;
 mod tiles;
 mod wire_list;
 
-pub use blocks::odd_partner;
 pub use builder::Builder;
 pub use certificate_line::{BorderLine, CertificateLine, Counts, OneOrName, StopLine};
 pub use counts::{boxes_of, push_entry};
