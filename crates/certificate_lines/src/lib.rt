@@ -18,7 +18,6 @@ mod ports;
 mod rules;
 mod stars;
 mod stored_line;
-mod tiles;
 mod wire_list;
 
 pub use builder::Builder;
@@ -30,4 +29,3 @@ pub use lines::{cut_list, kept_places, lines_of_module_past, used_gates};
 pub use order::{compare_borders, rank};
 pub use ports::{PortTable, PortWire, port_tables};
 pub use stored_line::{StoredBorder, StoredLine, StoredStop};
-pub use tiles::is_live;

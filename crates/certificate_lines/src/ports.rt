@@ -9,7 +9,7 @@ ghost use Rattle.pattern.specs.Lines.{size_fault};
 ghost use Rattle.bbm_rule.specs.Boxes.{in_box};
 ghost use Rattle.certificate_lines.specs.PortTables.{port_at, entry_place, AreInBox, AreNumberedRows, AreOnBoard};
 
-use crate::tiles::whole_of;
+use crate::rules::whole_of;
 use bbm_rule::Cell;
 use circuit::{Circuit, WireNo};
 use module_box::Box2;

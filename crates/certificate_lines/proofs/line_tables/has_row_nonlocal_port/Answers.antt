@@ -1,5 +1,5 @@
 use Rattle.certificate_lines.proofs.Imports.{arith, common_steps}
-use Rattle.pattern.proofs.CellLists.{none_in_row}
+use Rattle.bbm_rule.proofs.CellLists.{none_in_row}
 use Rattle.certificate_lines.proofs.TableLemmas.{row_named}
 use Rattle.certificate_lines.proofs.line_tables.has_row_nonlocal_port.Goals as goal
 

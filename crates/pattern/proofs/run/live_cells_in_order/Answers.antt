@@ -1,5 +1,5 @@
 use Rattle.pattern.proofs.Imports.{Cell, arith, common_steps, live, live_cells, rectangle_cells}
-use Rattle.pattern.proofs.CellLists.{rows_filtered}
+use Rattle.bbm_rule.proofs.CellLists.{rows_filtered}
 use Rattle.pattern.proofs.run.live_cells_in_order.Goals as goal
 
 pub loop-y-preserved : goal.loop-y-preserved
