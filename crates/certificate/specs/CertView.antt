@@ -11,13 +11,12 @@ use Rattle.certificate.specs.declared.cert.Cert.TheInside.{Inside}
 
 -- the view of a certificate, from its fields
 abbrev pub cert_view : Inside → CertView
-cert_view a =
-    record {
-      circuit = a.circuit.now;
-      layout = a.layout.now;
-      version = version_number a.version;
-      entries = a.entries.items;
-    }
+cert_view a = record {
+  circuit = a.circuit.now;
+  layout = a.layout.now;
+  version = version_number a.version;
+  entries = a.entries.items;
+}
 
 -- the fields of every certificate: its modules are counted and good, and no line comes before them
 pub record IsCert (a : Inside) : Type 0 where

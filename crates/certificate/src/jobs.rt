@@ -270,6 +270,7 @@ fn jobs_with_implied_halos<'a>(
 }
 
 // The jobs of a certificate of this version that has these lines.
+#[tactic(auto, using(crate::proofs::FullModules::meant_new, crate::proofs::FullModules::meant_old))]
 fn jobs_of_version<'a>(
     alloc: Global,
     tables: &LayoutTables,
