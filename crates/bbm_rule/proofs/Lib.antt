@@ -19,4 +19,6 @@ mod Meetings
 pub mod Moving
 pub mod SameCells
 pub mod RingTests
+pub mod CellLists
+pub mod RectangleLemmas
 pub mod Imports

@@ -10,3 +10,4 @@ pub mod GridView
 pub mod Laws
 pub mod Moves
 pub mod Boxes
+pub mod CellLists

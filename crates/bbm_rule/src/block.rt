@@ -1,6 +1,7 @@
 //! A cell, and a block of four as a number.
 
-ghost use Rattle.std.specs.Prelude.{◌≡◌, ◌<◌};
+ghost use Rattle.std.specs.Prelude.{◌≡◌, ◌<◌, ◌≤ℤ◌, pos};
+ghost use Rattle.bbm_rule.specs.Plane.{partner};
 ghost use Rattle.bbm_rule.specs.Words.{turn_of};
 
 /// A cell of the plane, by its column `x`, which grows rightwards, and its row `y`, which grows downwards.
@@ -31,4 +32,19 @@ pub fn turn(bits: u8) -> u8
     ensures { result ≡ turn_of bits }
 {
     TURNS[bits as usize]
+}
+
+/// Returns the other column or row of a block at odd times, for a column or row from 0 to 1023.
+///
+/// It is the one beside this one that belongs to another block at even times.
+#[tactic(auto, unfolding(crate::specs::Plane::partner))]
+pub fn odd_partner(place: i32) -> i32
+    requires { (pos 0 ≤ℤ place) × (place ≤ℤ pos 1023) }
+    ensures { result ≡ partner 1 place }
+{
+    if place.unsigned_abs() % 2 == 1 {
+        place + 1
+    } else {
+        place - 1
+    }
 }

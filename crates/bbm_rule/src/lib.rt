@@ -17,9 +17,14 @@ mod cells;
 mod grid;
 pub mod laws;
 pub mod marks;
+mod rectangles;
 mod rows;
 mod words;
 
-pub use block::{Box2, Cell, turn};
+pub use block::{Box2, Cell, odd_partner, turn};
 pub use grid::{Grid, Left};
+pub use rectangles::{
+    are_all_cells_live, fill_rectangle, is_any_live, is_any_live_in, is_live, make_live,
+    push_rectangle,
+};
 pub use words::{turn_lanes, turn_words};

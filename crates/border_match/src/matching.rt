@@ -62,7 +62,7 @@ pub fn match_borders(
         (modules_in cert.now) faults.items) }
 {
     let count = cert.modules();
-    if cert.version() == 2 {
+    if cert.is_haloless() {
         return no_fault_for_each(alloc, count);
     }
     let size = cert.size();

@@ -7,9 +7,9 @@ use Rattle.certificate.proofs.Imports.{start_signal, suc, sym, to_z, true, w32, 
 use Rattle.certificate.proofs.Imports.{◌∙◌, ◌∷◌, ◌≡◌, ◌≤◌}
 use Rattle.lemmas.proofs.Common.{get_or-replicate, length-replicate}
 use Rattle.bbm_rule.proofs.Spans.{span_from}
-use Rattle.pattern.specs.Layout.{cell}
+use Rattle.bbm_rule.specs.CellLists.{cell}
 use Rattle.certificate.specs.declared.layout_tables.CellLists.{CellLists}
-use Rattle.pattern.proofs.CellLists.{cast_cell, flat_map_range_more, row_more}
+use Rattle.bbm_rule.proofs.CellLists.{cast_cell, flat_map_range_more, row_more}
 
 -- a row in two parts
 row_parts : (x a b y : ℕ) → row_cells x (a + b) y ≡ row_cells x a y ++ row_cells (x + a) b y

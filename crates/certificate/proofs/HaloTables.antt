@@ -5,7 +5,7 @@ use Rattle.certificate.proofs.Imports.{[], and_parts, ap, areas, arith, common_s
 use Rattle.certificate.proofs.Imports.{edge_lines_at, edge_lines_beside, edges, false, filter, flat_all, flat_map}
 use Rattle.certificate.proofs.Imports.{get_or, in_box, in_halo, in_ring, length, list_at_or_empty, mapped_from}
 use Rattle.certificate.proofs.Imports.{modules_of, nat_lt, nat_tests, slice_get, slice_get-get_or, subst, sym, true}
-use Rattle.certificate.proofs.Imports.{whole, ℕ, ℤ, ◌++◌, ◌+◌, ◌<◌, ◌∙◌, ◌≡◌, ◌≤◌}
+use Rattle.certificate.proofs.Imports.{whole, ℕ, ℤ, ◌++◌, ◌<◌, ◌∙◌, ◌≡◌, ◌≤◌}
 use Rattle.certificate_lines.proofs.LackedWires.{in_rectangle}
 use Rattle.certificate_lines.proofs.OddBlocks.{area_of}
 

@@ -22,7 +22,7 @@ use Rattle.certificate_lines.proofs.Keeping.{good_line, IsGoodLine}
 use Rattle.certificate_lines.proofs.Lists.{passed}
 use Rattle.certificate_lines.proofs.ModulePushes.{new_wire, good_use, cut_pushed, use_pushed, keep_pushed, edge_pushed}
 use Rattle.certificate_lines.proofs.ModulePushes.{halo_pushed, stop_pushed}
-use Rattle.certificate_lines.proofs.PortLemmas.{in_box_cells}
+use Rattle.bbm_rule.proofs.RectangleLemmas.{in_box_cells}
 
 module _ (g : Setting) (es : List CertificateLine) (sound : AreGoodModulesSoFar g (modules_of es)) where
   -- one more line of the last module

@@ -1,8 +1,8 @@
 -- The fields of a certificate, and its view
-use Rattle.std.specs.Prelude.{◌≡◌, ◌≤◌, ◌&&◌, false, map}
+use Rattle.std.specs.Prelude.{◌≡◌, ◌&&◌, false, map}
 use Rattle.std.specs.List.{All}
 use Rattle.certificate_lines.specs.Entries.{modules_of, counts_of}
-use Rattle.certificate.specs.Grammars.{CertView}
+use Rattle.certificate.specs.Grammars.{CertView, version_number}
 use Rattle.certificate_lines.specs.Settings.{setting_of}
 use Rattle.certificate_lines.specs.ModuleParts.{BeginWithModule}
 use Rattle.certificate_lines.specs.Modules.{AreModules, IsWithinLineLimit}
@@ -11,15 +11,18 @@ use Rattle.certificate.specs.declared.cert.Cert.TheInside.{Inside}
 
 -- the view of a certificate, from its fields
 abbrev pub cert_view : Inside → CertView
-cert_view a = record { circuit = a.circuit.now; layout = a.layout.now; version = a.version; entries = a.entries.items }
+cert_view a = record {
+  circuit = a.circuit.now;
+  layout = a.layout.now;
+  version = version_number a.version;
+  entries = a.entries.items;
+}
 
--- the fields of every certificate: its modules are counted and good, no line comes before
--- them, and its version is 1 or 2
+-- the fields of every certificate: its modules are counted and good, and no line comes before them
 pub record IsCert (a : Inside) : Type 0 where
   pub counted : a.modules.items ≡ map counts_of (modules_of a.entries.items)
   pub begun : BeginWithModule a.entries.items
   pub good : AreModules (setting_of a.circuit.now a.layout.now) (modules_of a.entries.items)
   pub few_lines : All IsWithinLineLimit (modules_of a.entries.items)
-  pub known : (1 ≤ a.version) × (a.version ≤ 2)
-  pub complete : (is_haloless_version a.version
+  pub complete : (is_haloless_version (version_number a.version)
       && lacks_edge_wire_beside (setting_of a.circuit.now a.layout.now) (modules_of a.entries.items)) ≡ false

@@ -9,6 +9,8 @@ use Rattle.certificate_lines.specs.Rules.{entry_fault, end_fault}
 use Rattle.certificate_lines.specs.Versions.{is_halo, is_haloless_version, lacks_edge_wire_beside, modules_by_version}
 use Rattle.certificate_lines.specs.Versions.{without_halos}
 use Rattle.certificate_lines.specs.declared.certificate_line.CertificateLine.{CertificateLine}
+use Rattle.certificate.specs.declared.version.Version.{Version}
+use Rattle.certificate.specs.declared.version.Version.TheVariants.{WithHalos, WithoutHalos}
 use Rattle.circuit.specs.declared.circuit_line.CircuitLine.{CircuitLine}
 use Rattle.certificate_lines.specs.Settings.{setting_of}
 use Rattle.section_text.specs.declared.code.RefusalCode.TheVariants.{NoForm, PastLimit, SomethingMissing}
@@ -25,6 +27,11 @@ certificate_grammar g = record {
       or_else (end_fault g entries)
       (code_if (is_haloless_version version && lacks_edge_wire_beside g (modules_of entries)) SomethingMissing);
 }
+
+-- the number of a version
+abbrev pub version_number : Version → ℕ
+version_number WithHalos = 1
+version_number WithoutHalos = 2
 
 -- a certificate as contracts see it: the lines of its circuit, its layout, its version, and its lines between the
 -- header and the end

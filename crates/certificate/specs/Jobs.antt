@@ -3,7 +3,8 @@ use Rattle.std.specs.Prelude.{◌≡◌, ℕ, ℤ, ◌*◌, ◌<◌, ◌||◌, B
 use Rattle.std.specs.Prelude.{Option, Some, None, slice_get, IsTrue}
 use Rattle.std.specs.List.{All, flat_map}
 use Rattle.circuit.specs.Meaning.{Circuit, wire_of}
-use Rattle.pattern.specs.Layout.{Pattern, in_cells, in_rectangles}
+use Rattle.bbm_rule.specs.CellLists.{in_cells}
+use Rattle.pattern.specs.Layout.{Pattern, in_rectangles}
 use Rattle.bbm_rule.specs.Boxes.{in_box}
 use Rattle.module_box.specs.Locals.{AreLocalsOf, circuit_gate, circuit_wire}
 use Rattle.module_box.specs.Schedules.{Signals}

@@ -6,7 +6,8 @@ use Rattle.bbm_rule.specs.declared.block.Cell.{Cell}
 use Rattle.circuit.specs.Bridge.{circuit_of}
 use Rattle.circuit.specs.Meaning.{Circuit, wires}
 use Rattle.circuit.specs.declared.circuit_line.CircuitLine.{CircuitLine}
-use Rattle.pattern.specs.Layout.{Pattern, in_cells, in_rectangles}
+use Rattle.bbm_rule.specs.CellLists.{in_cells}
+use Rattle.pattern.specs.Layout.{Pattern, in_rectangles}
 use Rattle.pattern.specs.declared.layout_line.Port.{Port}
 use Rattle.bbm_rule.specs.declared.block.Box2.{Box2}
 use Rattle.bbm_rule.specs.Boxes.{in_box}

@@ -10,7 +10,9 @@ ghost use Rattle.certificate_lines.specs.Entries.{areas, counts_of, modules_of};
 ghost use Rattle.certificate.specs.Grammars.{modules_in};
 ghost use Rattle.certificate_lines.specs.Settings.{setting_of};
 ghost use Rattle.certificate_lines.specs.Modules.{AreModules, IsWithinLineLimit};
+ghost use Rattle.certificate_lines.specs.Versions.{is_haloless_version};
 
+use crate::version::Version;
 use certificate_lines::{Counts, StoredLine, boxes_of};
 use circuit::Circuit;
 use module_box::Box2;
@@ -25,7 +27,7 @@ use std::marker::Model;
 pub struct Cert<'a> {
     pub(crate) circuit: &'a Circuit,
     pub(crate) layout: &'a Layout,
-    pub(crate) version: u32,
+    pub(crate) version: Version,
     pub(crate) entries: Vec<StoredLine<'a>>,
     pub(crate) modules: Vec<Counts>,
 }
@@ -49,6 +51,13 @@ impl<'a> Cert<'a> {
         ensures one_or_two { (1 ≤ result) × (result ≤ 2) }
     {
         self.version as u8
+    }
+
+    /// Returns whether no module has halo lines of its own, as in version 2.
+    pub fn is_haloless(&self) -> bool
+        ensures { result ≡ is_haloless_version self.now.version }
+    {
+        self.version.is_haloless()
     }
 
     /// Returns the circuit that the certificate is for.

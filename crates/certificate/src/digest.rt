@@ -48,7 +48,7 @@ impl<'a> Cert<'a> {
     {
         let mut hasher = Sha256::new();
         let mut line = Vec::new(alloc);
-        print_header(&mut line, self.version() as u32)?;
+        print_header(&mut line, self.version)?;
         hasher.update(line.as_slice());
         hash_lines(&mut hasher, &mut line, self.entries())?;
         hasher.update(b"end\n");

@@ -8,7 +8,7 @@ ghost use Rattle.circuit.specs.Meaning.{wire_of, wires};
 ghost use Rattle.module_box.specs.Locals.{AreLocalLines, AreLocalsOf, circuit_wire, is_among, local_wires};
 ghost use Rattle.module_box.specs.Moves.{IsInShiftRange};
 ghost use Rattle.certificate_lines.specs.Entries.{cut_in, keep_in, modules_of, stop_in, use_in};
-ghost use Rattle.certificate.specs.Grammars.{modules_in};
+ghost use Rattle.certificate.specs.Grammars.{modules_in, version_number};
 ghost use Rattle.certificate_lines.specs.Settings.{setting_of};
 ghost use Rattle.certificate.specs.Jobs.{AreJobsOf, IsJobOf, line_signals};
 ghost use Rattle.certificate.specs.SliceLines.{slice_lines};
@@ -27,9 +27,9 @@ use crate::implied_halos::{ModuleSlice, lines_with_halos};
 use crate::layout_tables::LayoutTables;
 use crate::line_kinds::{side_lines, stop_lines, wiring_lines};
 use crate::neighbour_edges::{neighbour_edge_places, take_list};
-use crate::reading::is_haloless_version;
 use crate::signal_lists::{RingOrHalo, signals_of};
 use crate::stops::stops_of;
+use crate::version::Version;
 use certificate_lines::{StoredLine, cut_list, kept_places, used_gates};
 use circuit::Circuit;
 use module_box::{Box2, Locals, Schedule};
@@ -274,7 +274,7 @@ fn jobs_with_implied_halos<'a>(
 fn jobs_of_version<'a>(
     alloc: Global,
     tables: &LayoutTables,
-    version: u32,
+    version: Version,
     entries: &[StoredLine<'a>],
     parts: &[ModuleSlice<'_, 'a>],
 ) -> Result<Vec<Arc<Job>>, AllocError>
@@ -282,14 +282,15 @@ fn jobs_of_version<'a>(
     requires begun { BeginWithModule entries.now }
     requires modules { AreModules (setting_of tables.now.circuit tables.now.layout)
         (modules_of entries.now) }
-    requires complete { (is_haloless_version version
+    requires complete { (is_haloless_version (version_number version)
         && lacks_edge_wire_beside (setting_of tables.now.circuit tables.now.layout)
         (modules_of entries.now)) ≡ false }
     ensures { IfOk result (λ js. AreJobsOf (circuit_of tables.now.circuit) tables.now.layout
-        (modules_by_version version (setting_of tables.now.circuit tables.now.layout)
-        (modules_of entries.now)) (map arc_value js.items)) }
+        (modules_by_version (version_number version)
+        (setting_of tables.now.circuit tables.now.layout) (modules_of entries.now))
+        (map arc_value js.items)) }
 {
-    if is_haloless_version(version) {
+    if version.is_haloless() {
         return jobs_with_implied_halos(alloc, tables, entries, parts);
     }
     jobs_as_written(alloc, tables, parts)

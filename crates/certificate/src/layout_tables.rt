@@ -3,7 +3,8 @@ ghost use Rattle.std.specs.Prelude.{◌≡◌, ◌+◌, ◌*◌, ◌<◌, ◌≤
 ghost use Rattle.bbm_rule.specs.Board.{HasSameSize, live};
 ghost use Rattle.circuit.specs.Bridge.{circuit_of};
 ghost use Rattle.circuit.specs.Meaning.{wires};
-ghost use Rattle.pattern.specs.Layout.{row_cells, in_cells, in_layout, in_rectangles};
+ghost use Rattle.bbm_rule.specs.CellLists.{row_cells, in_cells};
+ghost use Rattle.pattern.specs.Layout.{in_layout, in_rectangles};
 ghost use Rattle.pattern.specs.Lines.{size_fault};
 ghost use Rattle.bbm_rule.specs.Boxes.{in_box};
 ghost use Rattle.module_box.specs.Locals.{circuit_wire, is_among};
@@ -12,12 +13,12 @@ ghost use Rattle.module_box.specs.Places.{place_in};
 ghost use Rattle.certificate.specs.LayoutTablesView.{AddsCells, HasLayoutSize, HasNothing, IsOnGrid, IsPortWireLocalAt, ArePortWiresLocalIn, non_mirror_cells};
 ghost use Rattle.module_job.specs.Signals.{IsSignalWireBelow, IsDemandWireBelow, renumber_demand, renumber_signal};
 
-use bbm_rule::{Cell, Grid};
-use certificate_lines::{PortTable, is_live, port_tables};
+use bbm_rule::{Cell, Grid, fill_rectangle, is_live, make_live};
+use certificate_lines::{PortTable, port_tables};
 use circuit::{Circuit, WireNo};
 use module_box::{Box2, Locals, Signal};
 use module_job::{Demand, EndDemands, StartSignals};
-use pattern::{Layout, LayoutHeader, Port, fill_rectangle, make_live};
+use pattern::{Layout, LayoutHeader, Port};
 use std::alloc::{AllocError, Global};
 use std::marker::Model;
 

@@ -20,6 +20,7 @@ mod reading;
 mod signal_lists;
 mod stops;
 mod times;
+mod version;
 
 pub use cert::Cert;
 pub use certificate_lines::{BorderLine, CertificateLine, Counts, StopLine};

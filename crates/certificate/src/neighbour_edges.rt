@@ -16,8 +16,8 @@ ghost use Rattle.certificate.specs.SliceLines.{slice_lines};
 
 use crate::implied_halos::ModuleSlice;
 use crate::layout_tables::LayoutTables;
-use bbm_rule::Cell;
-use certificate_lines::{CertificateLine, StoredLine, odd_partner};
+use bbm_rule::{Cell, odd_partner};
+use certificate_lines::{CertificateLine, StoredLine};
 use module_box::{Box2, Owners, owner_table};
 use std::alloc::{AllocError, Global};
 use std::mem::replace;

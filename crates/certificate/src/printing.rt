@@ -4,24 +4,26 @@ ghost use Rattle.std.specs.List.{flat_map};
 ghost use Rattle.std.specs.Fmt.{decimal};
 ghost use Rattle.section_text.specs.Spelling.{space_and_word, line_text};
 ghost use Rattle.pattern.specs.Text.{box_words};
-ghost use Rattle.certificate.specs.Grammars.{migrated};
+ghost use Rattle.certificate.specs.Grammars.{migrated, version_number};
 ghost use Rattle.certificate.specs.Text.{star_or_time_word, one_or_name_word, border_words, entry_text, stop_words, certificate_text};
 ghost use Rattle.certificate_lines.specs.Versions.{without_halos};
 
 use crate::cert::Cert;
-use certificate_lines::{BorderLine, CertificateLine, StopLine, StoredLine};
+use crate::version::Version;
+use certificate_lines::{BorderLine, CertificateLine, OneOrName, StopLine, StoredLine};
 use module_box::Box2;
 use pattern::{print_box, print_cell};
 use section_text::{Name, print_number, print_word};
 use std::alloc::{AllocError, Global};
 
 /// Prints the header line.
-pub(crate) fn print_header(out: &mut Vec<u8>, version: u32) -> Result<(), AllocError>
+pub(crate) fn print_header(out: &mut Vec<u8>, version: Version) -> Result<(), AllocError>
     ensures { OnOk result (out.new.items
-        ≡ out.old.items ++ line_text (codes "certificate") (decimal version ∷ [])) }
+        ≡ out.old.items ++ line_text (codes "certificate")
+        (decimal (version_number version) ∷ [])) }
 {
     out.extend_from_slice(b"certificate")?;
-    print_number(out, version)?;
+    print_number(out, version as u32)?;
     out.push(b'\n')?;
     Ok(())
 }
@@ -77,7 +79,7 @@ fn print_star_or_time(out: &mut Vec<u8>, time: Option<u32>) -> Result<(), AllocE
 }
 
 // The name of a wire, or the constant `1`.
-fn print_one_or_name(out: &mut Vec<u8>, signal: Option<Name>) -> Result<(), AllocError>
+fn print_one_or_name(out: &mut Vec<u8>, signal: OneOrName) -> Result<(), AllocError>
     ensures { OnOk result (out.new.items
         ≡ out.old.items ++ space_and_word (one_or_name_word signal)) }
 {
@@ -168,7 +170,7 @@ pub fn print_certificate(alloc: Global, cert: &Cert) -> Result<Vec<u8>, AllocErr
     ensures { IfOk result (λ text. text.items ≡ certificate_text cert.now) }
 {
     let mut out = Vec::new(alloc);
-    print_header(&mut out, cert.version() as u32)?;
+    print_header(&mut out, cert.version)?;
     print_entries(&mut out, cert.entries())?;
     out.extend_from_slice(b"end\n")?;
     Ok(out)
@@ -182,7 +184,7 @@ pub fn print_certificate(alloc: Global, cert: &Cert) -> Result<Vec<u8>, AllocErr
 pub fn print_migrated(out: &mut Vec<u8>, cert: &Cert) -> Result<(), AllocError>
     ensures { OnOk result (out.new.items ≡ out.old.items ++ certificate_text (migrated cert.now)) }
 {
-    print_header(out, 2)?;
+    print_header(out, Version::WithoutHalos)?;
     print_without_halos(out, cert.entries())?;
     out.extend_from_slice(b"end\n")?;
     Ok(())

@@ -1,35 +1,23 @@
 //! The reader of the certificate section.
 ghost use Rattle.std.specs.Prelude.{◌≡◌, ◌≤◌, [], true, drop, length, IfOk};
 ghost use Rattle.section_text.specs.Section.{Reads};
-ghost use Rattle.certificate.specs.Grammars.{certificate_grammar, certificate_section};
+ghost use Rattle.certificate.specs.Grammars.{certificate_grammar, certificate_section, version_number};
 ghost use Rattle.certificate_lines.specs.Settings.{setting_of};
-ghost use Rattle.certificate_lines.specs.Versions.{is_haloless_version};
 
 use crate::cert::Cert;
 use crate::implied_halos::is_halo;
+use crate::version::Version;
 use certificate_lines::{Builder, CertificateLine, LineTables, line_form};
 use circuit::Circuit;
 use pattern::Layout;
 use section_text::{Feed, Form, Line, LineFault, ReadFault, RefusalCode, Section, read_section};
 use std::alloc::{AllocError, Global};
 
-// The version with halo lines, and the one without.
-const VERSION_WITH_HALOS: u32 = 1;
-
-const VERSION_WITHOUT_HALOS: u32 = 2;
-
-/// Returns whether certificates of this version have no halo lines of their own.
-pub(crate) fn is_haloless_version(version: u32) -> bool
-    ensures { result ≡ is_haloless_version version }
-{
-    version == VERSION_WITHOUT_HALOS
-}
-
 // A certificate that is read: its version, and its lines so far.
 #[derive(Drop)]
 struct Reading<'a> {
     alloc: Global,
-    version: u32,
+    version: Version,
     builder: Builder<'a>,
 }
 
@@ -40,7 +28,7 @@ impl<'a> Section for Reading<'a> {
 
     ghost grammar = { λ r. certificate_grammar r.builder.setting };
 
-    ghost header = { λ r. r.version };
+    ghost header = { λ r. version_number r.version };
 
     ghost items = { λ r. r.builder.entries };
 
@@ -49,15 +37,16 @@ impl<'a> Section for Reading<'a> {
     }
 
     fn begin(&mut self, version: u32) -> Result<(), LineFault> {
-        if (version != VERSION_WITH_HALOS) & !is_haloless_version(version) {
-            return Err(LineFault::Code(RefusalCode::PastLimit));
-        }
-        self.version = version;
+        self.version = match version {
+            1 => Version::WithHalos,
+            2 => Version::WithoutHalos,
+            _ => return Err(LineFault::Code(RefusalCode::PastLimit)),
+        };
         Ok(())
     }
 
     fn add(&mut self, entry: CertificateLine) -> Result<(), LineFault> {
-        if is_haloless_version(self.version) & is_halo(&entry) {
+        if self.version.is_haloless() & is_halo(&entry) {
             return Err(LineFault::Code(RefusalCode::NoForm));
         }
         self.builder.add(self.alloc, entry)
@@ -67,7 +56,7 @@ impl<'a> Section for Reading<'a> {
         if let Some(code) = self.builder.missing() {
             return Some(code);
         }
-        if is_haloless_version(self.version) && self.builder.lacks_edge_wire_beside(self.alloc) {
+        if self.version.is_haloless() && self.builder.lacks_edge_wire_beside(self.alloc) {
             return Some(RefusalCode::SomethingMissing);
         }
         None
@@ -86,7 +75,7 @@ fn begin_reading<'a>(
     let builder = Builder::new(alloc, tables)?;
     Ok(Reading {
         alloc,
-        version: VERSION_WITH_HALOS,
+        version: Version::WithHalos,
         builder,
     })
 }

@@ -6,7 +6,7 @@ use Rattle.certificate_lines.proofs.Imports.{slice_get, suc, sym, true, zero, �
 use Rattle.certificate_lines.proofs.Imports.{◌≡◌, ◌≤◌}
 use Rattle.lemmas.proofs.Common.{length-append, unwrap_or, mapped_at}
 use Rattle.certificate_lines.proofs.Lists.{kept, any_at, some_is}
-use Rattle.certificate_lines.proofs.PortLemmas.{in_box_cells}
+use Rattle.bbm_rule.proofs.RectangleLemmas.{in_box_cells}
 
 -- ---- the cells of a box, row by row
 

@@ -4,7 +4,7 @@ use Rattle.certificate_lines.proofs.Imports.{Cell, CertificateLine, Counts, HasS
 use Rattle.certificate_lines.proofs.Imports.{IsModuleInLimits, LayoutHeader, List, ModuleLines, None, Option}
 use Rattle.certificate_lines.proofs.Imports.{RefusalCode, Setting, Some, SomethingMissing, StarsExcludeLaterTimes, []}
 use Rattle.certificate_lines.proofs.Imports.{ap, ap₂, areas, arith, box_fault, change_last, code_if, common_steps}
-use Rattle.certificate_lines.proofs.Imports.{counts_of, end_fault, false, has_nonlocal_port, in_area, in_box, inl, inr}
+use Rattle.certificate_lines.proofs.Imports.{counts_of, end_fault, false, has_nonlocal_port, in_box, inl, inr}
 use Rattle.certificate_lines.proofs.Imports.{is_last_module_incomplete, is_odd, last_of, length, length_push, list_all}
 use Rattle.certificate_lines.proofs.Imports.{list_any, list_any-append, live, map-append, module_fault}
 use Rattle.certificate_lines.proofs.Imports.{module_with_line, modules_of, nat_lt, nat_tests, none_at, not, pushed}
@@ -18,7 +18,8 @@ use Rattle.certificate_lines.proofs.Growing.{areas_changed, length_changed, chan
 use Rattle.certificate_lines.proofs.Growing.{map_changed}
 use Rattle.certificate_lines.proofs.Lists.{any_at}
 use Rattle.certificate_lines.proofs.ModulePushes.{no_code, both_none, less}
-use Rattle.certificate_lines.proofs.PortLemmas.{has_cell, in_box_cells}
+use Rattle.certificate_lines.proofs.PortLemmas.{has_cell}
+use Rattle.bbm_rule.proofs.RectangleLemmas.{in_box_cells}
 
 -- ---- a box that is good
 
@@ -68,10 +69,6 @@ good_module g ms before b e = grind (arith, common_steps, both_none, passes_alon
 pub record IsNear (s : LayoutHeader) (b : Box2) : Type 0 where
   pub columns : (b.x + b.w ≤ s.w) × (b.x + b.w ≤ 512)
   pub rows : (b.y + b.h ≤ s.h) × (b.y + b.h ≤ 512)
-
-area_is : (b : Box2) (x y : ℤ) → in_area b.x b.y b.w b.h x y ≡ in_box b x y
-unfolding in_box
-area_is b x y = refl
 
 any_same : (p q : Cell → Bool) → ((c : Cell) → p c ≡ q c) → (cells : List Cell) → list_any p cells ≡ list_any q cells
 any_same p q same [] = refl
@@ -197,10 +194,10 @@ module _ (g : Setting) (ms : List ModuleLines) where
 
   pub module_built : (b : Box2) (old new : Board) (counts : List Counts) →
       AreBuilt g ms old counts → IsGoodModule g ms (last_of ms) b
-      → ((x y : ℤ) → live new x y ≡ (live old x y || in_area b.x b.y b.w b.h x y)) → HasSameSize old new →
+      → ((x y : ℤ) → live new x y ≡ (live old x y || in_box b x y)) → HasSameSize old new →
       AreBuilt g (ms ++ new_module b ∷ []) new (counts ++ counts_of (new_module b) ∷ [])
   module_built b old new counts built good after size =
-      grind (arith, common_steps, module_sound, area_is, cells_pushed, areas_push, new_module, map-append)
+      grind (arith, common_steps, module_sound, cells_pushed, areas_push, new_module, map-append)
 
   -- one more line of the last module
   pub line_sound : (i : CertificateLine) → AreGoodModulesSoFar g ms →

@@ -2,7 +2,6 @@
 pub use Rattle.bbm_rule.proofs.Imports.{Board, and-false, cond-false, cond-true, get_or-set_same, length-set, or-false}
 pub use Rattle.bbm_rule.proofs.Imports.{set, to_z-of_z}
 pub use Rattle.bbm_rule.proofs.SameCells.{cell_itself, cell_same}
-pub use Rattle.bbm_rule.specs.Spans.{in_area}
 pub use Rattle.bbm_rule.specs.declared.block.Box2.{Box2}
 pub use Rattle.bbm_rule.specs.declared.block.Cell.{Cell}
 pub use Rattle.certificate_lines.specs.BuilderView.{AreApart, AreBuilt, AreGoodModulesSoFar, AreLocalWiresOfModules}
@@ -62,7 +61,7 @@ pub use Rattle.pattern.proofs.Imports.{HasSameSize, HaveDistinctCells, append-ni
 pub use Rattle.pattern.proofs.Imports.{list_all, list_any, list_any-append, live, nat_lt, nat_tests, row_cells}
 unfoldable pub use Rattle.pattern.proofs.Imports.{rectangle_cells, size_fault}
 pub use Rattle.pattern.proofs.InsideLemmas.{size_sides}
-pub use Rattle.pattern.specs.Layout.{cell}
+pub use Rattle.bbm_rule.specs.CellLists.{cell}
 pub use Rattle.pattern.specs.declared.layout_line.LayoutHeader.{LayoutHeader}
 pub use Rattle.pattern.specs.declared.layout_line.Port.{Port}
 pub use Rattle.section_text.proofs.Imports.{if◌then◌else◌, line_bytes, list_all-append, take_all, take_rest}

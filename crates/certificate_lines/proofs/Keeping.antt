@@ -6,7 +6,7 @@ use Rattle.certificate_lines.proofs.Imports.{ModuleLines, None, Option, OutOfOrd
 use Rattle.certificate_lines.proofs.Imports.{Stop, StopLine, Use, [], add_line, ap, append-nil, are_new_and_distinct}
 use Rattle.certificate_lines.proofs.Imports.{arith, body_line_code, change_last, code_if, common_steps, content_code}
 use Rattle.certificate_lines.proofs.Imports.{counts_of, cut_in, cuts, edge_in, false, flat_map, gates, halo_in}
-use Rattle.certificate_lines.proofs.Imports.{has_nonlocal_port, in_area, in_box, is_among, is_last_module_incomplete}
+use Rattle.certificate_lines.proofs.Imports.{has_nonlocal_port, in_box, is_among, is_last_module_incomplete}
 use Rattle.certificate_lines.proofs.Imports.{is_local, is_starred_line_at, key_of, key_or_first, known, last_body_line}
 use Rattle.certificate_lines.proofs.Imports.{last_module, last_of, length, length_push, list_any, list_any-append, live}
 use Rattle.certificate_lines.proofs.Imports.{may_follow, module_fault, module_with_line, modules_of, not, option_map}
@@ -366,7 +366,7 @@ module _ (g : Setting) (es : List CertificateLine) (covered new_covered : Board)
   begun_present = grind (arith, common_steps)
 
   pub kept_module : module_fault g (modules_of es) (last_module es) b ≡ None →
-      ((x y : ℤ) → live new_covered x y ≡ (live covered x y || in_area b.x b.y b.w b.h x y)) →
+      ((x y : ℤ) → live new_covered x y ≡ (live covered x y || in_box b x y)) →
       HasSameSize covered new_covered
       → IsTracked g (es ++ Module b ∷ []) new_covered
       (counts ++ record { area = b; cuts = 0; gates = 0; edges = 0; halos = 0; stops = 0 } ∷ []) None [] [] []
@@ -449,7 +449,7 @@ module _ (g : Setting) (es : List CertificateLine) (covered : Board) (counts : L
 
   pub with_module : (new_covered : Board) (b : Box2) →
       module_fault g (modules_of es) (last_module es) b ≡ None →
-      ((x y : ℤ) → live new_covered x y ≡ (live covered x y || in_area b.x b.y b.w b.h x y)) →
+      ((x y : ℤ) → live new_covered x y ≡ (live covered x y || in_box b x y)) →
       HasSameSize covered new_covered
       → IsTrackedWith g (es ++ Module b ∷ []) new_covered
       (counts ++ record { area = b; cuts = 0; gates = 0; edges = 0; halos = 0; stops = 0 } ∷ [])

@@ -30,7 +30,6 @@ pub mod PortLemmas
 pub mod RowLemmas
 pub mod StarLemmas
 pub mod TableLemmas
-pub mod AllLiveCells
 pub mod UsedLemmas
 mod WireBounds
 pub mod Imports

@@ -1,10 +1,9 @@
 -- The cells of a box.
-use Rattle.certificate_lines.proofs.Imports.{Bool, Box2, Cell, List, [], ap, cell_itself, cell_same, in_box, inl, inr}
-use Rattle.certificate_lines.proofs.Imports.{is_at, list_any, or_cases, or_right, rectangle_cells, true, ℤ, ◌∙◌, ◌∷◌}
+use Rattle.certificate_lines.proofs.Imports.{Bool, Cell, List, [], ap, cell_itself, cell_same, inl, inr}
+use Rattle.certificate_lines.proofs.Imports.{is_at, list_any, or_cases, or_right, true, ◌∙◌, ◌∷◌}
 use Rattle.certificate_lines.proofs.Imports.{◌≡◌}
 use Rattle.lemmas.proofs.Common.{or_left}
-use Rattle.pattern.specs.Layout.{in_cells}
-use Rattle.pattern.proofs.RectangleLemmas.{in_rectangle_cells}
+use Rattle.bbm_rule.specs.CellLists.{in_cells}
 
 -- ---- the cells of a box
 
@@ -24,7 +23,3 @@ has_cell test (c ∷ cells) d h t = elim (or_cases (is_at c d.x d.y) (in_cells c
   | inl here ↦ or_left (test c) _ (ap test (cell_same c d here) ∙ t)
   | inr more ↦ or_right (test c) _ (has_cell test cells d more t)
 ]
-
-pub in_box_cells : (b : Box2) (x y : ℤ) → in_cells (rectangle_cells b) x y ≡ in_box b x y
-unfolding in_box
-in_box_cells b x y = in_rectangle_cells b x y

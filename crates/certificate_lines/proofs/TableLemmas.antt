@@ -12,13 +12,14 @@ use Rattle.certificate_lines.proofs.Imports.{slice_get_within, subst, suc, sym, 
 use Rattle.certificate_lines.proofs.Imports.{wire_of, zero, ℕ, ℤ, ◌&&◌, ◌*◌, ◌++◌, ◌+◌, ◌-◌, ◌<◌, ◌||◌, ◌∙◌, ◌∷◌, ◌≡◌}
 use Rattle.certificate_lines.proofs.Imports.{◌≤◌}
 use Rattle.lemmas.proofs.Common.{get_or-set_other, length-take-le, get_or-drop, mul-le-mul_right, same_truth}
-use Rattle.pattern.proofs.CellLists.{cast_cell, row_more, rows_found}
+use Rattle.bbm_rule.proofs.CellLists.{cast_cell, row_more, rows_found}
 use Rattle.certificate_lines.specs.PortTables.{AreInBox, entry_or_zero, number_with_port_in_front}
 use Rattle.certificate_lines.proofs.RowLemmas.{all_zero, entry_few, entry_own, filled, filled_less, filled_more}
 use Rattle.certificate_lines.proofs.RowLemmas.{filled_none}
 use Rattle.certificate_lines.proofs.Lists.{passed, any_at, some_is}
 use Rattle.certificate_lines.proofs.LayoutPorts.{port_stands, none_stands}
-use Rattle.certificate_lines.proofs.PortLemmas.{cell_passed, has_cell, in_box_cells}
+use Rattle.certificate_lines.proofs.PortLemmas.{cell_passed, has_cell}
+use Rattle.bbm_rule.proofs.RectangleLemmas.{in_box_cells}
 
 -- ---- the ports in a box
 

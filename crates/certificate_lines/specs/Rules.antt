@@ -8,7 +8,7 @@ use Rattle.bbm_rule.specs.declared.block.Cell.{Cell}
 use Rattle.section_text.specs.Codes.{code_if, or_else}
 use Rattle.circuit.specs.Gates.{is_inverse}
 use Rattle.circuit.specs.Meaning.{Circuit, Gate, wire_of}
-use Rattle.pattern.specs.Layout.{rectangle_cells}
+use Rattle.bbm_rule.specs.CellLists.{rectangle_cells}
 use Rattle.pattern.specs.declared.layout_line.LayoutHeader.{LayoutHeader}
 use Rattle.bbm_rule.specs.Boxes.{in_box, in_ring, in_halo}
 use Rattle.module_box.specs.Locals.{is_among, cut_limit, use_limit}

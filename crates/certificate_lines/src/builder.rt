@@ -21,12 +21,10 @@ use crate::rules::{
 };
 use crate::stars::{has_star, make_room_for_stars, note_stars};
 use crate::stored_line::StoredLine;
-use crate::tiles::are_all_cells_live;
 use crate::wire_list::WireList;
-use bbm_rule::{Cell, Grid};
+use bbm_rule::{Cell, Grid, are_all_cells_live, fill_rectangle, is_any_live_in};
 use indexmap::IndexSet;
 use module_box::Box2;
-use pattern::{fill_rectangle, is_any_live_in};
 use section_text::{LineFault, RefusalCode};
 use std::alloc::{AllocError, Global};
 use std::marker::Model;

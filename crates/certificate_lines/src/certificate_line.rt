@@ -5,15 +5,17 @@ use bbm_rule::Cell;
 use module_box::Box2;
 use section_text::Name;
 
+/// The signal of a line: a wire's name, or `None` for the constant `1`.
+pub type OneOrName = Option<Name>;
+
 /// An edge or halo line: its time, its cell and its signal.
 ///
-/// The time is `None` if the line has a `*`, for every odd time below the steps. The signal is a wire's name, or `None`
-/// for the constant `1`.
+/// The time is `None` if the line has a `*`, for every odd time below the steps.
 #[derive(Clone, Copy)]
 pub struct BorderLine {
     pub time: Option<u32>,
     pub cell: Cell,
-    pub signal: Option<Name>,
+    pub signal: OneOrName,
 }
 
 /// A stop: a time, and a cell that is live then exactly if the wire of this name is true.

@@ -8,7 +8,7 @@ ghost use Rattle.section_text.specs.Feeds.{IsLine, line_bytes};
 ghost use Rattle.certificate_lines.specs.Forms.{Line as FormLine, border_of, form_of, form_of_not_five_words, stop_of};
 ghost use Rattle.certificate_lines.specs.BorderWords.{leading_star_or_time, one_or_name_from_word};
 
-use crate::certificate_line::{BorderLine, CertificateLine, StopLine};
+use crate::certificate_line::{BorderLine, CertificateLine, OneOrName, StopLine};
 use bbm_rule::Cell;
 use pattern::{box_from_words, cell_from_words};
 use section_text::{Feed, FiveWords, Form, Line, Name, is_keyword, read_number, take_number};
@@ -37,7 +37,7 @@ fn take_star_or_time(line: &[u8]) -> Option<(Option<u32>, &[u8])>
 }
 
 #[tactic(auto, unfolding(crate::specs::BorderWords::one_or_name_from_word))]
-fn read_one_or_name(word: &[u8]) -> Option<Option<Name>>
+fn read_one_or_name(word: &[u8]) -> Option<OneOrName>
     ensures { result ≡ one_or_name_from_word word.now }
 {
     if word == b"1".as_slice() {

@@ -4,7 +4,6 @@
 //! which, and `specs/Modules.antt` what is known of the modules of good lines.
 #![tactic(auto)]
 
-mod blocks;
 mod builder;
 mod certificate_line;
 mod counts;
@@ -19,17 +18,14 @@ mod ports;
 mod rules;
 mod stars;
 mod stored_line;
-mod tiles;
 mod wire_list;
 
-pub use blocks::odd_partner;
 pub use builder::Builder;
-pub use certificate_line::{BorderLine, CertificateLine, Counts, StopLine};
+pub use certificate_line::{BorderLine, CertificateLine, Counts, OneOrName, StopLine};
 pub use counts::{boxes_of, push_entry};
 pub use form::line_form;
 pub use line_tables::LineTables;
 pub use lines::{cut_list, kept_places, lines_of_module_past, used_gates};
 pub use order::{compare_borders, rank};
-pub use ports::{PortTable, port_tables};
+pub use ports::{PortTable, PortWire, port_tables};
 pub use stored_line::{StoredBorder, StoredLine, StoredStop};
-pub use tiles::is_live;

@@ -1,11 +1,11 @@
 //! The circuit and the layout that a certificate is for, with tables of the layout's ports by their cells.
-ghost use Rattle.pattern.specs.Layout.{rectangle_cells};
+ghost use Rattle.bbm_rule.specs.CellLists.{rectangle_cells};
 ghost use Rattle.std.specs.Prelude.{◌≡◌, ◌+◌, ◌<◌, ◌≤◌, ◌&&◌, not, slice_get, IfOk, IfSome};
 ghost use Rattle.std.specs.List.{All, list_any};
 ghost use Rattle.std.specs.Option.{option_and_then, option_map};
 ghost use Rattle.circuit.specs.Meaning.{wire_of};
 ghost use Rattle.circuit.specs.Wiring.{gate_of};
-ghost use Rattle.pattern.specs.Layout.{row_cells};
+ghost use Rattle.bbm_rule.specs.CellLists.{row_cells};
 ghost use Rattle.pattern.specs.Lines.{size_fault};
 ghost use Rattle.bbm_rule.specs.Boxes.{in_box};
 ghost use Rattle.certificate_lines.specs.Entries.{name_in};
@@ -64,7 +64,7 @@ fn is_nonlocal_port(ports: &PortTable, known: &WireList, cell: Cell) -> bool
 }
 
 // Whether a port at one of `width` cells of row `y`, from column `x` on, has a wire that is not local.
-#[tactic(auto, using(pattern::proofs::CellLists::none_in_row, crate::proofs::TableLemmas::row_named))]
+#[tactic(auto, using(bbm_rule::proofs::CellLists::none_in_row, crate::proofs::TableLemmas::row_named))]
 fn has_row_nonlocal_port(ports: &PortTable, known: &WireList, x: u32, y: u32, width: u32) -> bool
     requires { (x + width ≤ 512) × (y < 512) }
     ensures { result

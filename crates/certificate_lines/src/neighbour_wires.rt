@@ -8,15 +8,13 @@ ghost use Rattle.bbm_rule.specs.Boxes.{in_box};
 ghost use Rattle.certificate_lines.specs.BuilderView.{AreApart, AreModuleOwners, IsModuleWithCell, does_neighbour_lack_wire, is_outside_and_nonlocal, is_nonlocal_in_neighbour, lacks_edge_wire};
 ghost use Rattle.certificate_lines.specs.Versions.{lacks_edge_wire_beside};
 
-use crate::blocks::odd_partner;
 use crate::builder::Builder;
 use crate::certificate_line::Counts;
 use crate::counts::boxes_of;
-use crate::rules::is_local_wire;
+use crate::rules::{is_local_wire, whole_of};
 use crate::stored_line::{StoredBorder, StoredLine};
-use crate::tiles::whole_of;
 use crate::wire_list::WireList;
-use bbm_rule::Cell;
+use bbm_rule::{Cell, odd_partner};
 use module_box::{Owners, owner_table};
 use std::alloc::Global;
 

@@ -9,13 +9,16 @@ ghost use Rattle.pattern.specs.Lines.{size_fault};
 ghost use Rattle.bbm_rule.specs.Boxes.{in_box};
 ghost use Rattle.certificate_lines.specs.PortTables.{port_at, entry_place, AreInBox, AreNumberedRows, AreOnBoard};
 
-use crate::tiles::whole_of;
+use crate::rules::whole_of;
 use bbm_rule::Cell;
 use circuit::{Circuit, WireNo};
 use module_box::Box2;
 use pattern::{Layout, LayoutHeader, Port};
 use std::alloc::{AllocError, Global};
 use std::marker::Model;
+
+/// The wire of a port, or `None` if the circuit has none of the port's name.
+pub type PortWire = Option<WireNo>;
 
 /// The inputs or the outputs of a layout, with a table by which the wire of the port at a cell is looked up. Contracts
 /// see the circuit and the ports.
@@ -26,8 +29,7 @@ pub struct PortTable<'a> {
     area: Box2,
     circuit: &'a Circuit,
     ports: &'a [Port],
-    // the wire of each port, if the circuit has one of its name
-    wires: Vec<Option<WireNo>>,
+    wires: Vec<PortWire>,
     // for each row of the area, its number among the rows with a port, counted from 1, or 0 if it has none
     rows: Vec<u32>,
     // for each cell of the rows with a port, row by row, the number of its port plus one, or 0 where there is none
@@ -82,11 +84,7 @@ fn number_rows(alloc: Global, area: Box2, ports: &[Port]) -> Result<(Vec<u32>, u
 }
 
 // The wires of ports.
-fn port_wires(
-    alloc: Global,
-    circuit: &Circuit,
-    ports: &[Port],
-) -> Result<Vec<Option<WireNo>>, AllocError>
+fn port_wires(alloc: Global, circuit: &Circuit, ports: &[Port]) -> Result<Vec<PortWire>, AllocError>
     ensures { IfOk result (λ wires. wires.items
         ≡ map (λ p. wire_of (circuit_of circuit.now) p.name) ports.now) }
 {
@@ -191,9 +189,8 @@ impl<'a> PortTable<'a> {
         are_all_zero(&self.numbers[place..place + width as usize])
     }
 
-    /// Returns the wire of the port at the cell, if there is a port. The wire is `None` if the circuit has none of the
-    /// port's name.
-    pub fn get(&self, cell: Cell) -> Option<Option<WireNo>>
+    /// Returns the wire of the port at the cell, if there is a port.
+    pub fn get(&self, cell: Cell) -> Option<PortWire>
         ensures { result ≡ option_map (wire_of self.now.circuit)
             (port_at self.now.ports cell.x cell.y) }
     {

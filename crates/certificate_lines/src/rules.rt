@@ -3,14 +3,13 @@ ghost use Rattle.std.specs.Prelude.{◌≡◌, ◌+◌, ℕ, List, Option, Some}
 ghost use Rattle.std.specs.Option.{is_some, option_and_then};
 ghost use Rattle.circuit.specs.Meaning.{Circuit, wire_of};
 ghost use Rattle.certificate_lines.specs.Entries.{ModuleLines, gates, last_module};
-ghost use Rattle.certificate_lines.specs.Rules.{is_bad_box_side, is_misplaced, is_odd, is_local_wire, cut_fault, use_fault, keep_line_code, is_line_time_allowed, is_edge_place_and_time, is_halo_place_and_time, is_stop_place_and_time, border_line_code};
+ghost use Rattle.certificate_lines.specs.Rules.{whole, is_bad_box_side, is_misplaced, is_odd, is_local_wire, cut_fault, use_fault, keep_line_code, is_line_time_allowed, is_edge_place_and_time, is_halo_place_and_time, is_stop_place_and_time, border_line_code};
 
 use crate::certificate_line::{BorderLine, StopLine};
 use crate::line_tables::LineTables;
 use crate::lines::is_gate_used_in_last;
 use crate::local_wires::{are_all_new_and_distinct, knows_all};
 use crate::stored_line::StoredLine;
-use crate::tiles::whole_of;
 use crate::wire_list::WireList;
 use module_box::Box2;
 use pattern::LayoutHeader;
@@ -22,6 +21,18 @@ const MAX_CUTS: usize = 12;
 const MAX_USED_GATES: usize = 64;
 
 const MAX_TIMED_LINES: usize = 65_536;
+
+/// Returns the whole rectangle of a layout.
+pub(crate) fn whole_of(size: LayoutHeader) -> Box2
+    ensures { result ≡ whole size }
+{
+    Box2 {
+        x: 0,
+        y: 0,
+        w: size.w,
+        h: size.h,
+    }
+}
 
 fn is_odd_number(n: u32) -> bool
     ensures { result ≡ is_odd n }

@@ -7,7 +7,7 @@ ghost use Rattle.certificate_lines.specs.Entries.{cut_in, edge_in, halo_in, name
 ghost use Rattle.certificate_lines.specs.Versions.{is_halo};
 ghost use Rattle.certificate_lines.specs.declared.certificate_line.CertificateLine.TheVariants.{Module, Halo};
 
-use crate::certificate_line::{BorderLine, CertificateLine, StopLine};
+use crate::certificate_line::{BorderLine, CertificateLine, OneOrName, StopLine};
 use crate::named_wires::NamedWire;
 use bbm_rule::Cell;
 use circuit::{Circuit, WireNo};
@@ -99,7 +99,7 @@ impl<'a> Model for StoredStop<'a> {
 }
 
 // An edge or halo line of a wire, or of the constant `1`.
-fn border(time: Option<u32>, cell: Cell, signal: Option<Name>) -> BorderLine
+fn border(time: Option<u32>, cell: Cell, signal: OneOrName) -> BorderLine
     ensures { result ≡ record { time = time; cell = cell; signal = signal } }
 {
     BorderLine { time, cell, signal }

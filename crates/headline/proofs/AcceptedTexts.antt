@@ -44,7 +44,7 @@ use Rattle.circuit.specs.Meaning as meaning
 use Rattle.circuit.specs.Meaning.{Gate as Meant}
 use Rattle.circuit.specs.Rules as circuit_rules
 use Rattle.pattern.specs.Forms as layout_forms
-use Rattle.pattern.specs.Layout as layouts
+use Rattle.bbm_rule.specs.CellLists as cell_lists
 use Rattle.pattern.specs.Lines as layout_rules
 use Rattle.bbm_rule.specs.Boxes as boxes
 use Rattle.certificate_lines.specs.Entries as entries
@@ -200,7 +200,7 @@ unfolding timed_modules_text there_and_back_text plain_yes_text plain_no_text bu
     layout_rules.is_inside layout_rules.takes_at_start layout_rules.takes_at_end layout_rules.cells_taken_at_start
     layout_rules.cells_taken_at_end
     layout_rules.is_taken layout_rules.cell_fault layout_rules.line_fault layout_rules.layout_line_fault
-    layout_rules.missing_fault layouts.rectangle_cells in_span boxes.in_box boxes.some_neighbour boxes.in_ring
+    layout_rules.missing_fault cell_lists.rectangle_cells in_span boxes.in_box boxes.some_neighbour boxes.in_ring
     boxes.in_halo entries.change_last entries.last_of entries.add_line entries.modules_of layout_forms.corner_and_sides
     layout_forms.box_of forms.star_or_time_at_word forms.one_or_name_at_word forms.border_of_five_words forms.border_of
     forms.stop_of_five_words forms.stop_of

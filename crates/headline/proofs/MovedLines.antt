@@ -7,7 +7,7 @@ use Rattle.headline.proofs.Imports.{limit_fault, list_any, map, map-append, move
 use Rattle.headline.proofs.Imports.{negsuc, not, parts_of, port_moved_by_two, pos, range_with_len, rectangle_cells}
 use Rattle.headline.proofs.Imports.{rectangle_moved_by_two, refl, size_fault, span_from, span_parts, suc, sym}
 use Rattle.headline.proofs.Imports.{takes_at_start, true, zero, ℕ, ℤ, ◌&&◌, ◌++◌, ◌+ℤ◌, ◌+◌, ◌||◌, ◌∙◌, ◌∷◌, ◌≡◌, ◌≤◌}
-use Rattle.pattern.specs.Layout.{row_cells}
+use Rattle.bbm_rule.specs.CellLists.{row_cells}
 use Rattle.pattern.specs.Lines.{AreGoodAfter, cells_taken_at_end, takes_at_end, holds}
 use Rattle.headline.proofs.MovedPlanes.{any_map, cells_moved}
 

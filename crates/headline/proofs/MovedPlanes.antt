@@ -7,7 +7,8 @@ use Rattle.lemmas.proofs.Common.{int_eq}
 use Rattle.bbm_rule.specs.Moves.{IsMoved}
 use Rattle.bbm_rule.specs.Plane.{is_at}
 use Rattle.bbm_rule.proofs.Moving.{step_moved}
-use Rattle.pattern.specs.Layout.{in_ports_on, in_rectangle}
+use Rattle.bbm_rule.specs.Boxes.{in_box}
+use Rattle.pattern.specs.Layout.{in_ports_on}
 use Rattle.module_box.proofs.MovedBoxes.{span_moved}
 
 -- ---- coordinates
@@ -25,7 +26,8 @@ eq_moved : (a b : ℤ) → int_eq (a +ℤ pos 2) (b +ℤ pos 2) ≡ int_eq a b
 eq_moved a b = grind (arith, ints)
 
 area_moved : (r : Box2) (x y : ℤ) →
-    in_rectangle (rectangle_moved_by_two r) (x +ℤ pos 2) (y +ℤ pos 2) ≡ in_rectangle r x y
+    in_box (rectangle_moved_by_two r) (x +ℤ pos 2) (y +ℤ pos 2) ≡ in_box r x y
+unfolding in_box
 area_moved r x y = ap₂ (λ a b. a && b)
     (span_moved r.x (r.x + 2) r.w r.w (pos 2) x (from r.x) refl)
     (span_moved r.y (r.y + 2) r.h r.h (pos 2) y (from r.y) refl)

@@ -5,7 +5,8 @@
 use Rattle.std.specs.Prelude.{◌≤◌, ℕ, List, [], ◌∷◌, Some, codes}
 use Rattle.circuit.specs.Bridge.{circuit_of}
 use Rattle.circuit.specs.declared.circuit_line.CircuitLine.{CircuitLine}
-use Rattle.pattern.specs.Layout.{Pattern, cell}
+use Rattle.bbm_rule.specs.CellLists.{cell}
+use Rattle.pattern.specs.Layout.{Pattern}
 use Rattle.local_run.specs.declared.fault.Fault.{Fault}
 use Rattle.local_run.specs.declared.fault.Kind.TheVariants.{End}
 use Rattle.soundness.specs.OnTime.{StopHolds}

@@ -12,7 +12,8 @@ use Rattle.section_text.specs.Words.{has}
 use Rattle.circuit.specs.Bridge.{circuit_of, input_names, output_names}
 use Rattle.circuit.specs.Meaning.{Circuit, Valuation, Satisfies, values_by_name}
 use Rattle.circuit.specs.declared.circuit_line.CircuitLine.{CircuitLine}
-use Rattle.pattern.specs.Layout.{Pattern, in_cells, in_rectangles, plane_at, IsDeadOutside}
+use Rattle.bbm_rule.specs.CellLists.{in_cells}
+use Rattle.pattern.specs.Layout.{Pattern, in_rectangles, plane_at, IsDeadOutside}
 use Rattle.pattern.specs.declared.layout_line.Port.{Port}
 
 -- ---- names

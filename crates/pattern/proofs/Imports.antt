@@ -5,6 +5,8 @@ unfoldable pub use Rattle.bbm_rule.proofs.Imports.{in_span}
 pub use Rattle.bbm_rule.specs.Board.{HasSameSize}
 pub use Rattle.bbm_rule.specs.Plane.{is_at}
 unfoldable pub use Rattle.bbm_rule.specs.Plane.{run}
+pub use Rattle.bbm_rule.specs.CellLists.{in_cells, row_cells}
+unfoldable pub use Rattle.bbm_rule.specs.CellLists.{rectangle_cells}
 pub use Rattle.bbm_rule.specs.declared.block.Box2.{Box2}
 pub use Rattle.bbm_rule.specs.declared.block.Cell.{Cell}
 pub use Rattle.lemmas.proofs.Common.{All, AllByRecursion, flat_map-append, list_any, list_any-append, or_last}
@@ -12,9 +14,9 @@ pub use Rattle.lemmas.proofs.Common.{range_with_len}
 unfoldable pub use Rattle.pattern.specs.Forms.{box_of, cell_after_keyword, cell_of_words_from, port_after_keyword}
 unfoldable pub use Rattle.pattern.specs.Forms.{port_of, size_of}
 pub use Rattle.pattern.specs.Grammars.{layout_grammar}
-pub use Rattle.pattern.specs.Layout.{HaveDistinctCells, IsDeadOutside, Pattern, in_cells, in_layout, in_ports_on}
-pub use Rattle.pattern.specs.Layout.{in_rectangle, in_rectangles, parts_of, row_cells}
-unfoldable pub use Rattle.pattern.specs.Layout.{rectangle_cells, start}
+pub use Rattle.pattern.specs.Layout.{HaveDistinctCells, IsDeadOutside, Pattern, in_layout, in_ports_on}
+pub use Rattle.pattern.specs.Layout.{in_rectangles, parts_of}
+unfoldable pub use Rattle.pattern.specs.Layout.{start}
 pub use Rattle.pattern.specs.LayoutView.{pattern_of}
 pub use Rattle.pattern.specs.Lines.{AreGoodAfter, AreNamed, is_layout_side}
 unfoldable pub use Rattle.pattern.specs.Lines.{cell_fault, cells_of, cells_taken_at_end, cells_taken_at_start}

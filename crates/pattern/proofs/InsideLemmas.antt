@@ -1,11 +1,12 @@
 -- The cells that are live at the start of a good layout lie inside it.
 use Rattle.pattern.proofs.Imports.{AreGoodAfter, Ball, Bool, Box2, Cell, In, LayoutHeader, LayoutLine, List, Mirror}
 use Rattle.pattern.proofs.Imports.{None, Pattern, Port, RefusalCode, TakenCell, [], arith, cell_fault, code_if}
-use Rattle.pattern.proofs.Imports.{common_steps, false, get_or, in_cells, in_layout, in_ports_on, in_rectangle}
+use Rattle.pattern.proofs.Imports.{common_steps, false, get_or, in_cells, in_layout, in_ports_on}
 use Rattle.pattern.proofs.Imports.{in_rectangles, in_span, is_at, is_inside, is_layout_side, is_taken, length, list_all}
 use Rattle.pattern.proofs.Imports.{list_any, nat_tests, negsuc, not, parts_of, pos, refl, size_fault, start, suc, true}
 use Rattle.pattern.proofs.Imports.{zero, ℕ, ℤ, ◌%◌, ◌&&◌, ◌++◌, ◌+◌, ◌<◌, ◌||◌, ◌∷◌, ◌≡◌, ◌≤◌}
 use Rattle.lemmas.proofs.Common.{list_all-append, list_all-map, left_is_true, right_is_true}
+use Rattle.bbm_rule.specs.Boxes.{in_box}
 use Rattle.pattern.proofs.TakenLemmas.{mirror_fits}
 
 -- ---- the size
@@ -80,8 +81,8 @@ span_within a n m (pos x) fits e = grind (arith, nat_tests)
 span_within a n m (negsuc x) fits e = cc
 
 rectangle_inside : (s : LayoutHeader) (r : Box2) (x y : ℤ) → is_inside s (Mirror r) ≡ true →
-    in_rectangle r x y ≡ true →
-    in_layout s x y ≡ true
+    in_box r x y ≡ true → in_layout s x y ≡ true
+unfolding in_box
 rectangle_inside s r x y e h = grind (arith, common_steps, mirror_fits, span_within, left_is_true, right_is_true)
 
 at_inside : (s : LayoutHeader) (c : Cell) (x y : ℤ) → in_layout s c.x c.y ≡ true → is_at c x y ≡ true →

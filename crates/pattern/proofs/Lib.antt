@@ -1,5 +1,3 @@
-pub mod CellLists
-pub mod RectangleLemmas
 mod NameSets
 pub mod Orders
 pub mod Added

@@ -4,12 +4,12 @@ use Rattle.pattern.proofs.Imports.{flat_map, in_cells, in_ports_on, in_rectangle
 use Rattle.pattern.proofs.Imports.{rectangle_cells, refl, start, start_cells_by_kind, true, ℕ, ℤ, ◌&&◌, ◌++◌, ◌||◌, ◌∙◌}
 use Rattle.pattern.proofs.Imports.{◌∷◌, ◌≡◌}
 use Rattle.lemmas.proofs.Common.{filter}
-use Rattle.pattern.proofs.RectangleLemmas.{in_rectangle_cells}
+use Rattle.bbm_rule.proofs.RectangleLemmas.{in_box_cells}
 
 in_mirrors : (rs : List Box2) (x y : ℤ) → in_cells (flat_map rectangle_cells rs) x y ≡ in_rectangles rs x y
 in_mirrors [] x y = refl
 in_mirrors (r ∷ rs) x y = list_any-append (λ (c : Cell). is_at c x y) (rectangle_cells r) (flat_map rectangle_cells rs)
-    ∙ rw (in_rectangle_cells r x y, in_mirrors rs x y) refl
+    ∙ rw (in_box_cells r x y, in_mirrors rs x y) refl
 
 in_port : (b : Bool) (q : Port) (qs : List Port) (x y : ℤ) (rest : Bool) → in_cells (map (λ q. q.cell) qs) x y ≡ rest →
     in_cells (map (λ q. q.cell) (cond b (q ∷ qs) qs)) x y ≡ (b && is_at q.cell x y || rest)

@@ -1,7 +1,9 @@
 -- A layout: the size of its rectangle, its steps, and the contents of its cells.
-use Rattle.std.specs.Prelude.{◌≡◌, ◌++◌, ℕ, ℤ, pos, ◌&&◌, ◌||◌, Bool, true, List, map, slice_get, Some}
-use Rattle.std.specs.List.{list_any, flat_map, range_with_len}
+use Rattle.std.specs.Prelude.{◌≡◌, ◌++◌, ℕ, ℤ, ◌&&◌, ◌||◌, Bool, true, List, map, slice_get, Some}
+use Rattle.std.specs.List.{list_any}
 use Rattle.bbm_rule.specs.Plane.{State, is_at, run}
+use Rattle.bbm_rule.specs.Boxes.{in_box}
+use Rattle.bbm_rule.specs.CellLists.{in_cells}
 use Rattle.bbm_rule.specs.Spans.{in_area}
 use Rattle.bbm_rule.specs.declared.block.Cell.{Cell}
 use Rattle.bbm_rule.specs.declared.block.Box2.{Box2}
@@ -25,21 +27,13 @@ parts_of p = map Mirror p.mirrors ++ (map Ball p.balls ++ (map In p.ins ++ (map 
 
 -- ---- sets of cells
 
--- whether the cell (x, y) is in the rectangle
-abbrev pub in_rectangle : Box2 → State
-in_rectangle r x y = in_area r.x r.y r.w r.h x y
-
 -- the whole rectangle of the layout, whose upper left cell is the origin of the plane
 abbrev pub in_layout : LayoutHeader → State
 in_layout s x y = in_area 0 0 s.w s.h x y
 
--- whether the cell (x, y) is in the list
-abbrev pub in_cells : List Cell → State
-in_cells cells x y = list_any (λ c. is_at c x y) cells
-
 -- whether the cell (x, y) is in one of the rectangles
 abbrev pub in_rectangles : List Box2 → State
-in_rectangles rectangles x y = list_any (λ r. in_rectangle r x y) rectangles
+in_rectangles rectangles x y = list_any (λ r. in_box r x y) rectangles
 
 -- the cells of the ports whose name is on
 abbrev pub in_ports_on : (List ℕ → Bool) → List Port → State
@@ -63,17 +57,3 @@ plane_at p on t = run (start p on) t
 -- no live cell lies outside the layout
 abbrev pub IsDeadOutside : LayoutHeader → State → Type 0
 IsDeadOutside s state = (x y : ℤ) → state x y ≡ true → in_layout s x y ≡ true
-
--- ---- lists of cells
-
--- the cell at this column and row
-abbrev pub cell : ℕ → ℕ → Cell
-cell x y = record { x = pos x; y = pos y }
-
--- n cells of row y from column x on
-abbrev pub row_cells : ℕ → ℕ → ℕ → List Cell
-row_cells x n y = map (λ c. cell c y) (range_with_len x n)
-
--- the cells of a rectangle, in order of y and then x
-unfoldable pub rectangle_cells : Box2 → List Cell
-rectangle_cells r = flat_map (λ y. row_cells r.x r.w y) (range_with_len r.y r.h)

@@ -12,7 +12,8 @@ use Rattle.section_text.specs.Ports.{PortNameLists}
 use Rattle.pattern.specs.declared.layout_line.LayoutHeader.{LayoutHeader}
 use Rattle.pattern.specs.declared.layout_line.LayoutLine.{LayoutLine}
 use Rattle.pattern.specs.declared.layout_line.LayoutLine.TheVariants.{Mirror, Ball, In, Out, Waste}
-use Rattle.pattern.specs.Layout.{in_layout, rectangle_cells}
+use Rattle.bbm_rule.specs.CellLists.{rectangle_cells}
+use Rattle.pattern.specs.Layout.{in_layout}
 use Rattle.section_text.specs.declared.code.RefusalCode.{RefusalCode}
 use Rattle.section_text.specs.declared.code.RefusalCode.TheVariants.{PastLimit, UnknownName, OutOfOrder, TakenCell}
 use Rattle.section_text.specs.declared.code.RefusalCode.TheVariants.{SomethingMissing}

@@ -3,7 +3,7 @@ use Rattle.std.specs.Prelude.{ℕ, List, Option, Some}
 use Rattle.section_text.specs.Words.{number_of, name_of, ◌>>=◌}
 use Rattle.bbm_rule.specs.declared.block.Cell.{Cell}
 use Rattle.pattern.specs.declared.layout_line.Port.{Port}
-use Rattle.pattern.specs.Layout.{cell}
+use Rattle.bbm_rule.specs.CellLists.{cell}
 
 -- the cell of two words
 unfoldable pub cell_from_words : List ℕ → List ℕ → Option Cell

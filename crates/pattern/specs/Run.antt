@@ -6,7 +6,8 @@ use Rattle.bbm_rule.specs.declared.block.Cell.{Cell}
 use Rattle.pattern.specs.declared.layout_line.LayoutHeader.{LayoutHeader}
 use Rattle.pattern.specs.declared.run.RunEnd.{RunEnd}
 use Rattle.pattern.specs.declared.run.RunEnd.TheVariants.{Cells, LeftAt}
-use Rattle.pattern.specs.Layout.{Pattern, IsDeadOutside, in_layout, start, plane_at, rectangle_cells}
+use Rattle.bbm_rule.specs.CellLists.{rectangle_cells}
+use Rattle.pattern.specs.Layout.{Pattern, IsDeadOutside, in_layout, start, plane_at}
 
 -- some live cell lies outside the layout
 pub record IsLiveOutside (s : LayoutHeader) (state : State) : Type 0 where

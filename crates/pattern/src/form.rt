@@ -23,7 +23,7 @@ fn cell_from_line(feed: &Feed, line: &Line) -> Option<Cell>
 }
 
 /// Returns the cell that two words are, by its column and its row, or `None` if one of them is no number.
-#[tactic(auto, unfolding(crate::specs::PortWords::cell_from_words, crate::specs::Layout::cell))]
+#[tactic(auto, unfolding(crate::specs::PortWords::cell_from_words, bbm_rule::specs::CellLists::cell))]
 pub fn cell_from_words(column: &[u8], row: &[u8]) -> Option<Cell>
     ensures { result ≡ cell_from_words column.now row.now }
 {

@@ -11,7 +11,6 @@ mod names;
 mod names_on;
 mod printing;
 mod reading;
-mod rectangle;
 mod run;
 mod taken_cells;
 
@@ -22,6 +21,4 @@ pub use layout_line::{LayoutHeader, LayoutLine, Port};
 pub use names_on::are_on;
 pub use printing::{print_box, print_cell, print_layout};
 pub use reading::read_layout;
-pub use rectangle::push_rectangle;
 pub use run::{RunEnd, run_plain, start_cells};
-pub use taken_cells::{fill_rectangle, is_any_live_in, make_live};

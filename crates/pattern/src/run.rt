@@ -2,16 +2,15 @@
 ghost use Rattle.std.specs.Prelude.{◌≡◌, ◌+◌, ◌≤◌, ◌<◌, ◌++◌, ◌||◌, true, ℕ, ℤ, List, map, OnOk, IfOk, MatchOption};
 ghost use Rattle.std.specs.List.{All, flat_map, filter};
 ghost use Rattle.bbm_rule.specs.Board.{HasSameSize, is_inside, live};
-ghost use Rattle.pattern.specs.Layout.{in_cells, rectangle_cells, row_cells, start};
+ghost use Rattle.bbm_rule.specs.CellLists.{in_cells, rectangle_cells, row_cells};
+ghost use Rattle.pattern.specs.Layout.{start};
 ghost use Rattle.section_text.specs.Words.{has};
 ghost use Rattle.pattern.specs.Run.{IsRunEnd, RunLeaves, RunsInside, live_cells, start_cells_by_kind};
 
 use crate::layout::Layout;
 use crate::layout_line::{LayoutHeader, Port};
 use crate::names::name_set;
-use crate::rectangle::push_rectangle;
-use crate::taken_cells::make_live;
-use bbm_rule::{Box2, Cell, Grid};
+use bbm_rule::{Box2, Cell, Grid, make_live, push_rectangle};
 use indexmap::IndexSet;
 use section_text::{Name, Seed};
 use std::alloc::{AllocError, Global};

@@ -8,7 +8,7 @@ use Rattle.soundness.proofs.Imports.{signal_at, size_fault, some_neighbour, star
 use Rattle.soundness.proofs.Imports.{takes_at_start, whole, with_halo, ℕ, ◌∷◌}
 use Rattle.bbm_rule.specs.Plane.{partner, turned}
 use Rattle.section_text.proofs.Good.{IsFaultless}
-use Rattle.pattern.specs.Layout.{cell}
+use Rattle.bbm_rule.specs.CellLists.{cell}
 use Rattle.pattern.specs.Lines.{limit_fault, cells_taken_at_start}
 use Rattle.certificate_lines.specs.declared.certificate_line.CertificateLine.{CertificateLine}
 use Rattle.certificate_lines.specs.declared.certificate_line.CertificateLine.TheVariants.{Module, Cut}

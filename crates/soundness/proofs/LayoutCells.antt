@@ -11,12 +11,13 @@ use Rattle.soundness.proofs.Imports.{start, start_signal, suc, sym, takes_at_end
 use Rattle.soundness.proofs.Imports.{values_by_name, whole, wire_of, wire_of_optional_name, wire_or_dead, wire_or_zero}
 use Rattle.soundness.proofs.Imports.{zero, ℕ, ℤ, ◌&&◌, ◌++◌, ◌||◌, ◌∙◌, ◌∷◌, ◌≡◌}
 use Rattle.lemmas.proofs.Common.{left_is_false}
-use Rattle.pattern.specs.Layout.{HaveDistinctCells, in_layout, in_rectangle}
+use Rattle.bbm_rule.specs.Boxes.{in_box}
+use Rattle.pattern.specs.Layout.{HaveDistinctCells, in_layout}
 use Rattle.pattern.specs.Lines.{holds}
 use Rattle.pattern.proofs.Added.{ended_push}
 use Rattle.pattern.proofs.InsideLemmas.{begins_inside, start_inside}
 use Rattle.pattern.proofs.OwnCells.{ins_apart, outs_apart}
-use Rattle.pattern.proofs.RectangleLemmas.{in_rectangle_cells}
+use Rattle.bbm_rule.proofs.RectangleLemmas.{in_box_cells}
 use Rattle.pattern.proofs.TakenLemmas.{is_sized}
 use Rattle.module_box.proofs.BoxCells.{same_some}
 use Rattle.bbm_rule.proofs.SameCells.{cell_itself}
@@ -166,16 +167,16 @@ output_free p good i q e =
     all_free p.size _ p.outs (map Waste p.wastes)
     (good_behind p.size (map Mirror p.mirrors ++ map Ball p.balls) (map In p.ins) outs ins) i q e
 
-mirror_ends : (r : Box2) (x y : ℤ) → in_rectangle r x y ≡ true →
+mirror_ends : (r : Box2) (x y : ℤ) → in_box r x y ≡ true →
     (takes_at_end (Mirror r) && holds (Mirror r) x y) ≡ true
 unfolding takes_at_end cells_of
-mirror_ends r x y h = in_rectangle_cells r x y ∙ h
+mirror_ends r x y h = in_box_cells r x y ∙ h
 
 mirror_ended : (p : Pattern) (x y : ℤ) → in_rectangles p.mirrors x y ≡ true →
     cells_taken_at_end (before_outs p) x y ≡ true
 unfolding before_outs cells_taken_at_end
 mirror_ended p x y h =
-    let s = passed (λ (r : Box2). in_rectangle r x y) p.mirrors h in
+    let s = passed (λ (r : Box2). in_box r x y) p.mirrors h in
     let at : slice_get (map Mirror p.mirrors) s.place ≡ Some (Mirror s.element) =
     slice_get-map Mirror p.mirrors s.place ∙ ap (option_map Mirror) s.stands in
     any_at (λ (b : LayoutLine). takes_at_end b && holds b x y) _ s.place (Mirror s.element)

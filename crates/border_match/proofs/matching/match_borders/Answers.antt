@@ -13,9 +13,9 @@ told : {X E : Type 0} {P Q : X → Type 0} (r : Result X E) → ((x : X) → P x
 told (Ok x) f p = f x p
 told (Err e) f p = p
 
-pub returns-then-version-eq2 : goal.returns-then-version-eq2
+pub returns-then-is_haloless : goal.returns-then-is_haloless
 unfolding modules_by_version
-returns-then-version-eq2 c = grind (arith, common_steps, told, none_for_each)
+returns-then-is_haloless c = grind (arith, common_steps, told, none_for_each)
 
 pub least_fault-requires-clause-ready : goal.least_fault-requires-clause-ready
 least_fault-requires-clause-ready c =

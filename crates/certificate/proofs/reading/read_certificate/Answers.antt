@@ -1,7 +1,7 @@
 -- What was read makes good modules.
 use Rattle.certificate.proofs.Imports.{arith, common_steps}
 use Rattle.section_text.proofs.Good.{reads_faultless}
-use Rattle.certificate.proofs.Soundness.{faultless_lines, faultless_modules, read_complete, read_version}
+use Rattle.certificate.proofs.Soundness.{faultless_lines, faultless_modules, read_complete}
 use Rattle.certificate.proofs.reading.read_certificate.Goals as goal
 
 pub invariant_of-result : goal.invariant_of-result
@@ -13,6 +13,5 @@ invariant_of-result c =
       begun = grind (arith, common_steps);
       good = grind (arith, common_steps);
       few_lines = grind (arith, common_steps, faultless_lines);
-      known = read_version c.in-Ok.reading.builder.setting _ _ faultless;
       complete = grind (arith, common_steps, read_complete);
     }

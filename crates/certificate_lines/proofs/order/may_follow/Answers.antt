@@ -1,4 +1,3 @@
-use Rattle.certificate_lines.proofs.Imports.{key_of}
 use Rattle.certificate_lines.proofs.OrderLemmas.{follows_key}
 use Rattle.certificate_lines.proofs.order.may_follow.Goals as goal
 

@@ -1,5 +1,5 @@
 use Rattle.pattern.proofs.Imports.{arith, common_steps}
-use Rattle.pattern.proofs.CellLists.{cast_cell, row_filtered}
+use Rattle.bbm_rule.proofs.CellLists.{cast_cell, row_filtered}
 use Rattle.pattern.proofs.run.push_live_row.Goals as goal
 
 pub loop-x-preserved : goal.loop-x-preserved

@@ -1,5 +1,5 @@
 use Rattle.pattern.proofs.Imports.{ap, cells_of, in_cells, live, sym, ◌||◌, ◌∙◌}
-use Rattle.pattern.proofs.RectangleLemmas.{in_rectangle_cells}
+use Rattle.bbm_rule.proofs.RectangleLemmas.{in_box_cells}
 use Rattle.pattern.proofs.TakenLemmas.{mirror_lies_on, one_lies_on}
 use Rattle.pattern.proofs.taken_cells.take_cells.Goals as goal
 
@@ -14,7 +14,7 @@ fill_rectangle-requires-clause-rows c =
 pub returns-in-Mirror-clause-cells_taken : goal.returns-in-Mirror-clause-cells_taken
 unfolding cells_of
 returns-in-Mirror-clause-cells_taken c x y = c.fill_rectangle.ensures.filled x y
-    ∙ ap (λ b. live c.args.grid.now x y || b) (sym (in_rectangle_cells c.in-Mirror.r x y))
+    ∙ ap (λ b. live c.args.grid.now x y || b) (sym (in_box_cells c.in-Mirror.r x y))
     ∙ ap (λ cells. live c.args.grid.now x y || in_cells cells x y) (sym (ap cells_of c.in-Mirror.is))
 
 pub make_live-requires : goal.make_live-requires
