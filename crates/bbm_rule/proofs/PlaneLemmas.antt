@@ -149,17 +149,17 @@ mate_ge j n whole le =
     let e : j ≡ 1 + i = omega arith in
     rw (e, mate_odd i (omega arith)) (omega arith))
 
-abbrev pub IsNear : ℕ → ℤ → Type 0
-IsNear n u = (x : ℕ) × (u ≡ pos x) × (x < n)
+abbrev pub IsWithin : ℕ → ℤ → Type 0
+IsWithin n u = (x : ℕ) × (u ≡ pos x) × (x < n)
 
-abbrev pub IsNearExt : ℕ → ℤ → Type 0
-IsNearExt n u = (x : ℕ) × (u ≡ ext x) × (x < n + 2)
+abbrev pub IsWithinMargin : ℕ → ℤ → Type 0
+IsWithinMargin n u = (x : ℕ) × (u ≡ ext x) × (x < n + 2)
 
-pub even_cases : (t n : ℕ) (u : ℤ) → t % 2 ≡ 0 → n % 2 ≡ 0 → IsNear n u ⊎ IsFar t n u
+pub even_cases : (t n : ℕ) (u : ℤ) → t % 2 ≡ 0 → n % 2 ≡ 0 → IsWithin n u ⊎ IsFar t n u
 even_cases t n (pos x) at_even whole = grind (arith, common_steps, by_lt_or_le, out_pos, partner-even_pos, mate_ge)
 even_cases t n (negsuc x) at_even whole = inr (record { own = refl; other = rw (partner-even_neg t x at_even) refl })
 
-pub odd_cases : (t n : ℕ) (u : ℤ) → t % 2 ≡ 1 → n % 2 ≡ 0 → IsNearExt n u ⊎ IsFar t n u
+pub odd_cases : (t n : ℕ) (u : ℤ) → t % 2 ≡ 1 → n % 2 ≡ 0 → IsWithinMargin n u ⊎ IsFar t n u
 odd_cases t n (pos x) at_odd whole =
     by_lt_or_le (suc x) (n + 2) (λ l. inl (suc x, refl, l)) (λ le. inr (record {
       own = out_pos n x (omega arith);

@@ -8,7 +8,7 @@ use Rattle.border_match.proofs.Imports.{moved_event, moved_signals, owner_of, po
 use Rattle.border_match.proofs.Imports.{shift_to_origin, slice_get, slice_get_within, some_at, suc, sym, take, true}
 use Rattle.border_match.proofs.Imports.{zero, ℕ, ℤ, ◌++◌, ◌+◌, ◌∙◌, ◌≡◌, ◌≤◌, ◌⊎◌}
 use Rattle.lemmas.proofs.Common.{take-append_seam}
-use Rattle.border_match.specs.Boards.{AddsMark, IsAtEvent, IsPlaceOf, IsAtUnmarkedEvent}
+use Rattle.border_match.specs.Boards.{AddsOnlyMarksAt, IsAtEvent, IsPlaceOf, IsAtUnmarkedEvent}
 use Rattle.border_match.proofs.Steps.{fault_covered, same_fault}
 
 -- ---- one mark more
@@ -35,7 +35,7 @@ local_place x y dx dy cell s moved es at place ex ey by same are is =
 -- the edge that names what the new mark's event names
 pub still_marked : (b : Borders) (other : JobView) (event : TimedSignal) (old new : List Bool) →
     slice_get (jobs_of b) (owner_of b.owners.now event.at.cell.x event.at.cell.y) ≡ Some other →
-    IsListed other.edges.events event → AddsMark b.job.now.halos.events event.at old new → AreHaloMarks b old →
+    IsListed other.edges.events event → AddsOnlyMarksAt b.job.now.halos.events event.at old new → AreHaloMarks b old →
     AreHaloMarks b new
 still_marked b other event old new owned listed adds marked = grind (arith, common_steps)
 

@@ -175,7 +175,7 @@ pub record IsPlaceOf (events : List TimedSignal) (at : Moment) (place : ℕ) : T
   pub same : event.at ≡ at
 
 -- each mark is an old one, or one of an event at this time and cell
-pub record AddsMark (events : List TimedSignal) (at : Moment) (old new : List Bool) : Type 0 where
+pub record AddsOnlyMarksAt (events : List TimedSignal) (at : Moment) (old new : List Bool) : Type 0 where
   pub sized : length new ≡ length old
   pub marks : (p : ℕ) (e : TimedSignal) → slice_get new p ≡ Some true → slice_get events p ≡ Some e →
       (slice_get old p ≡ Some true) ⊎ (e.at ≡ at)

@@ -4,7 +4,7 @@ ghost use Rattle.std.specs.Prelude.{◌+◌, ◌≡◌, ◌<◌, ◌↔◌, ◌&
 ghost use Rattle.bbm_rule.specs.Boxes.{in_box, in_halo};
 ghost use Rattle.module_box.specs.Moves.{IsInShiftRange};
 ghost use Rattle.module_box.specs.Tiling.{owner_of};
-ghost use Rattle.border_match.specs.Boards.{AddsMark, AreHaloMarks, AreModuleNumbers, AreHaloOwnersListed, SignalsDifferAt, IsFaultOfSearchedJob, IsAtOwnersEdgeEvent, IsAtEdgeEventOf, IsAtEvent, IsListed, IsAtSomeEvent, IsPlaceOf, IsAtUnmarkedEvent, AreReadyBorders, IsAtComparedMoment, job_signal, jobs_of};
+ghost use Rattle.border_match.specs.Boards.{AddsOnlyMarksAt, AreHaloMarks, AreModuleNumbers, AreHaloOwnersListed, SignalsDifferAt, IsFaultOfSearchedJob, IsAtOwnersEdgeEvent, IsAtEdgeEventOf, IsAtEvent, IsListed, IsAtSomeEvent, IsPlaceOf, IsAtUnmarkedEvent, AreReadyBorders, IsAtComparedMoment, job_signal, jobs_of};
 ghost use Rattle.border_match.specs.Candidates.{IsNextBest, IsLeast};
 ghost use Rattle.border_match.specs.Surroundings.{AreEdgeEventExtents, IsEdgeEventExtent};
 ghost use Rattle.border_match.specs.declared.fault.BorderFault.{BorderFault};
@@ -176,7 +176,7 @@ impl<'a> Borders<'a> {
         requires near { IsInShiftRange at.cell }
         requires sized { length seen.old ≡ length self.now.job.now.halos.events }
         ensures signal { result ≡ job_signal Halo self.now.job.now at.time at.cell.x at.cell.y }
-        ensures marks { AddsMark self.now.job.now.halos.events at seen.old seen.new }
+        ensures marks { AddsOnlyMarksAt self.now.job.now.halos.events at seen.old seen.new }
     {
         match self.halo_event_place(at, walk) {
             Some(place) => {

@@ -24,21 +24,25 @@ pub use Rattle.certificate.specs.declared.implied_halos.ModuleSlice.{ModuleSlice
 pub use Rattle.certificate.specs.declared.times.TimeLine.{TimeLine}
 pub use Rattle.certificate_lines.proofs.FlatParts.{flat_all, flat_at}
 pub use Rattle.certificate_lines.proofs.Imports.{All, All-append, All-nil, All-tail, AreLocalLines, Bool, Circuit}
-pub use Rattle.certificate_lines.proofs.Imports.{CircuitPorts, Equal, Gate, Greater, IfSome, IsEven, IsModule, IsTrue}
+pub use Rattle.certificate_lines.proofs.Imports.{CircuitAndPorts, Equal, Gate, Greater, IfSome, IsEven, IsModule}
+pub use Rattle.certificate_lines.proofs.Imports.{IsTrue}
 pub use Rattle.certificate_lines.proofs.Imports.{Less, List, ModuleLines, Netlist, None, Option, Ordering, Setting}
 pub use Rattle.certificate_lines.proofs.Imports.{Some, [], and_from, and_parts, ap, append-nil, append_assoc, ap₂}
 pub use Rattle.certificate_lines.proofs.Imports.{areas, arith, cases_Bool, cell_same, circuit_of, codes, common_steps}
-pub use Rattle.certificate_lines.proofs.Imports.{cond-false, cond-true, cut_in, cuts, drop, edge_in, edges, eqb-true}
+pub use Rattle.certificate_lines.proofs.Imports.{cond-false, cond-true, cut_name_in, cuts, drop, edge_in, edges}
+pub use Rattle.certificate_lines.proofs.Imports.{eqb-true}
 pub use Rattle.certificate_lines.proofs.Imports.{false, filter, flat_map, flat_map-append, gates, get_or}
 pub use Rattle.certificate_lines.proofs.Imports.{get_or_from_slice_get, halo_in, if◌then◌else◌, inl, inr, ints}
 pub use Rattle.certificate_lines.proofs.Imports.{is_among, is_at, is_last_module_incomplete, is_local, is_lt, is_module}
-pub use Rattle.certificate_lines.proofs.Imports.{is_nonlocal_signal, keep_in, known, last_module, length, length-map}
+pub use Rattle.certificate_lines.proofs.Imports.{is_nonlocal_signal, kept_gate_in, known, last_module, length}
+pub use Rattle.certificate_lines.proofs.Imports.{length-map}
 pub use Rattle.certificate_lines.proofs.Imports.{list_all, list_any, local_wires, map, map-append, mapped_from}
 pub use Rattle.certificate_lines.proofs.Imports.{module_with_line, nat_lt, nat_tests, not, option_map, option_to_list}
 pub use Rattle.certificate_lines.proofs.Imports.{pos, range_with_len, rectangle, refl, replicate, row_cells, rules}
 pub use Rattle.certificate_lines.proofs.Imports.{size_sides, slice_get, slice_get-get_or, slice_get_within, stop_in}
 pub use Rattle.certificate_lines.proofs.Imports.{subst, suc, sym, take, take_all, take_more, to_z, true, true_from_not}
-pub use Rattle.certificate_lines.proofs.Imports.{true≢false, use_in, w32, whole, wire_of, zero, ℕ, ℤ, ◌&&◌, ◌++◌, ◌+◌}
+pub use Rattle.certificate_lines.proofs.Imports.{true≢false, used_gate_in, w32, whole, wire_of, zero, ℕ, ℤ, ◌&&◌, ◌++◌}
+pub use Rattle.certificate_lines.proofs.Imports.{◌+◌}
 pub use Rattle.certificate_lines.proofs.Imports.{◌-◌, ◌<◌, ◌==◌, ◌||◌, ◌∙◌, ◌∷◌, ◌≡◌, ◌≤◌, ◌⊎◌}
 unfoldable pub use Rattle.certificate_lines.proofs.Imports.{AreInOrder, StarsExcludeLaterTimes, add_line, body_lines}
 unfoldable pub use Rattle.certificate_lines.proofs.Imports.{cell_cmp, cell_of, change_last, end_fault}

@@ -2,20 +2,23 @@
 use Rattle.certificate.proofs.Imports.{AreFaultless, AreModules, Bool, BorderLine, Box2, CertificateLine, Circuit, Cut}
 use Rattle.certificate.proofs.Imports.{Edge, Halo, Keep, List, Module, ModuleLines, None, Option, PastLimit, Setting}
 use Rattle.certificate.proofs.Imports.{Some, SomethingMissing, Stop, Use, [], add_line, and_parts, ap, append-nil, ap₂}
-use Rattle.certificate.proofs.Imports.{areas, arith, both_none, certificate_grammar, change_last, common_steps, cut_in}
+use Rattle.certificate.proofs.Imports.{areas, arith, both_none, certificate_grammar, change_last, common_steps}
+use Rattle.certificate.proofs.Imports.{cut_name_in}
 use Rattle.certificate.proofs.Imports.{cuts, edge_in, edge_lines_beside, edges, end_fault, entry_fault, false, filter}
 use Rattle.certificate.proofs.Imports.{flat_map, fold, gates, halos, has_nonlocal_port, is_halo, is_haloless_version}
 use Rattle.certificate.proofs.Imports.{is_last_module_incomplete, is_nonlocal_signal, known, lacks_edge_wire_beside}
 use Rattle.certificate.proofs.Imports.{last_module, last_of, leaves_gap, length, length-map, list_all, list_any, map}
 use Rattle.certificate.proofs.Imports.{map-append, may_precede, module_with_line, modules_by_version, modules_of}
 use Rattle.certificate.proofs.Imports.{nat_le, nat_tests, no_code, option_map, precedes_halos, refl, stop_in, stops}
-use Rattle.certificate.proofs.Imports.{sym, true, true_from_not, use_in, with_halos, without_halos, ℕ, ◌&&◌, ◌++◌, ◌||◌}
+use Rattle.certificate.proofs.Imports.{sym, true, true_from_not, used_gate_in, with_halos, without_halos, ℕ, ◌&&◌, ◌++◌}
+use Rattle.certificate.proofs.Imports.{◌||◌}
 use Rattle.certificate.proofs.Imports.{◌∙◌, ◌∷◌, ◌≡◌, ◌≤◌}
 use Rattle.section_text.specs.Codes.{or_else, code_if}
 use Rattle.certificate.specs.Laws.{AreFaultlessLines, GoodWithoutHalos, IsSectionOf, SectionWithoutHalos}
 use Rattle.certificate_lines.specs.Orders.{may_follow}
-use Rattle.certificate_lines.specs.Rules.{cut_fault, use_fault, keep_line_code, timed_line_count, border_line_code}
-use Rattle.certificate_lines.specs.Rules.{body_line_code, line_fault, module_fault, box_fault, is_misplaced}
+use Rattle.certificate_lines.specs.Rules.{cut_line_code, use_line_code, keep_line_code, timed_line_count}
+use Rattle.certificate_lines.specs.Rules.{border_line_code}
+use Rattle.certificate_lines.specs.Rules.{body_line_code, line_fault, module_line_code, module_box_code, is_misplaced}
 use Rattle.certificate_lines.specs.Rules.{is_bad_box_side, overlaps, content_code}
 use Rattle.certificate_lines.specs.Versions.{AreGoodLines, haloless_module}
 use Rattle.certificate_lines.proofs.Growing.{map_changed, unchanged}
@@ -106,11 +109,11 @@ areas_stripped (m ∷ ms) = ap (λ l. m.area ∷ l) (areas_stripped ms)
 module _ (g : Setting) (m : ModuleLines) where
   cuts_kept : cuts (haloless_module m) ≡ cuts m
   unfolding haloless_module
-  cuts_kept = without_same cut_in (λ e. refl) m.lines
+  cuts_kept = without_same cut_name_in (λ e. refl) m.lines
 
   gates_kept : gates (haloless_module m) ≡ gates m
   unfolding haloless_module
-  gates_kept = without_same use_in (λ e. refl) m.lines
+  gates_kept = without_same used_gate_in (λ e. refl) m.lines
 
   pub edges_kept : edges (haloless_module m) ≡ edges m
   unfolding haloless_module
@@ -190,8 +193,10 @@ words_kept : (g : Setting) (m : ModuleLines) (i : CertificateLine) → is_halo i
     content_code g (haloless_module m) i ≡ None
 unfolding is_halo haloless_module
 words_kept g m (Module b) o h = refl
-words_kept g m (Cut n) o h = ap₂ (λ cs ws. cut_fault g.circuit (length cs) ws n) (cuts_kept g m) (known_kept g m) ∙ h
-words_kept g m (Use k) o h = ap₂ (λ gs ws. use_fault g.circuit (length gs) ws k) (gates_kept g m) (known_kept g m) ∙ h
+words_kept g m (Cut n) o h = ap₂ (λ cs ws. cut_line_code g.circuit (length cs) ws n) (cuts_kept g m) (known_kept g m)
+    ∙ h
+words_kept g m (Use k) o h = ap₂ (λ gs ws. use_line_code g.circuit (length gs) ws k) (gates_kept g m) (known_kept g m)
+    ∙ h
 words_kept g m (Keep k) o h = ap (λ gs. keep_line_code g.circuit gs k) (gates_kept g m) ∙ h
 words_kept g m (Edge e) o h = grind (arith, common_steps, border_less, fewer, edges_kept, known_kept)
 words_kept g m (Halo e) o h = absurd cc
@@ -212,9 +217,9 @@ module _ (g : Setting) (before : List CertificateLine) where
   present_without : last_module (without_halos before) ≡ option_map haloless_module (last_module before)
   present_without = ap last_of (modules_without before) ∙ last_stripped (modules_of before)
 
-  module_kept : (b : Box2) → module_fault g (modules_of before) (last_module before) b ≡ None →
-      module_fault g (modules_of (without_halos before)) (last_module (without_halos before)) b ≡ None
-  unfolding module_fault box_fault
+  module_kept : (b : Box2) → module_line_code g (modules_of before) (last_module before) b ≡ None →
+      module_line_code g (modules_of (without_halos before)) (last_module (without_halos before)) b ≡ None
+  unfolding module_line_code module_box_code
   module_kept b h =
       ap (λ a. or_else (or_else (code_if a SomethingMissing)
       (or_else (code_if (is_bad_box_side b.w || is_bad_box_side b.h

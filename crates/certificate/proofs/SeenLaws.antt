@@ -1,7 +1,7 @@
 -- The first time is the least, and the last one the greatest.
 use Rattle.certificate.proofs.Imports.{All, Contains, List, None, Some, [], arith, common_steps, earlier, fold, later}
 use Rattle.certificate.proofs.Imports.{max, min, same_Some, stop_times_of_wire, suc, zero, ℕ, ◌∷◌, ◌≡◌, ◌≤◌, ◌⊎◌}
-use Rattle.certificate.specs.Laws.{FirstSeenIsLeast, LastSeenIsGreatest}
+use Rattle.certificate.specs.Laws.{FirstSeenTimeIsLeast, LastSeenTimeIsGreatest}
 
 there : (u : ℕ) (us : List ℕ) (t : ℕ) → Contains us t → Contains (u ∷ us) t
 there u us t h = (suc h.0, (let lt = h.1 in omega (arith, lt)), h.2)
@@ -26,7 +26,7 @@ least_of [] t e = absurd cc
 least_of (a ∷ ts) t e =
     let h = least_with a ts t e in grind (arith, common_steps, here, there)
 
-pub first_is_least : FirstSeenIsLeast
+pub first_is_least : FirstSeenTimeIsLeast
 first_is_least c ss w t e = least_of (stop_times_of_wire c ss w) t e
 
 record IsGreatestWith (a : ℕ) (ts : List ℕ) (t : ℕ) : Type 0 where
@@ -46,5 +46,5 @@ greatest_of [] t e = absurd cc
 greatest_of (a ∷ ts) t e =
     let h = greatest_with a ts t e in grind (arith, common_steps, here, there)
 
-pub last_is_greatest : LastSeenIsGreatest
+pub last_is_greatest : LastSeenTimeIsGreatest
 last_is_greatest c ss w t e = greatest_of (stop_times_of_wire c ss w) t e

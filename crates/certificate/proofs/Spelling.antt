@@ -1,7 +1,8 @@
 -- Each line of the certificate section is the spelling of its form.
 use Rattle.certificate.proofs.Imports.{BorderLine, Box2, Cell, Cut, Edge, End, Halo, Header, Item, Keep, List, Module}
 use Rattle.certificate.proofs.Imports.{Option, Some, Stop, StopLine, Use, [], ap, arith, codes, common_steps, eqb}
-use Rattle.certificate.proofs.Imports.{eqb-true, form_text, inl, inr, length, refl, same_Some, slice_get, subst, true, ℕ, ◌+◌}
+use Rattle.certificate.proofs.Imports.{eqb-true, form_text, inl, inr, length, refl, same_Some, slice_get, subst, true}
+use Rattle.certificate.proofs.Imports.{ℕ, ◌+◌}
 use Rattle.certificate.proofs.Imports.{◌∷◌, ◌≡◌}
 use Rattle.pattern.specs.Forms.{corner_and_sides, box_of, cell_of_words_from}
 use Rattle.lemmas.proofs.Common.{decimal, option_and_then_some}

@@ -35,13 +35,13 @@ ReadsWhatIsPrinted = (g : Setting) (text : List ℕ) (from n m : ℕ) (c : CertV
     section_of (certificate_grammar g) m (lines_of (certificate_text c)) ≡ Ok (certificate_section c)
 
 -- the first time of a wire is the least of the times of its stops
-abbrev pub FirstSeenIsLeast : Type 0
-FirstSeenIsLeast = (c : Circuit) (ss : List StopLine) (w t : ℕ) → first_seen c ss w ≡ Some t →
+abbrev pub FirstSeenTimeIsLeast : Type 0
+FirstSeenTimeIsLeast = (c : Circuit) (ss : List StopLine) (w t : ℕ) → first_seen c ss w ≡ Some t →
     Contains (stop_times_of_wire c ss w) t × All (λ u. t ≤ u) (stop_times_of_wire c ss w)
 
 -- the last one is the greatest
-abbrev pub LastSeenIsGreatest : Type 0
-LastSeenIsGreatest = (c : Circuit) (ss : List StopLine) (w t : ℕ) → last_seen c ss w ≡ Some t →
+abbrev pub LastSeenTimeIsGreatest : Type 0
+LastSeenTimeIsGreatest = (c : Circuit) (ss : List StopLine) (w t : ℕ) → last_seen c ss w ≡ Some t →
     Contains (stop_times_of_wire c ss w) t × All (λ u. u ≤ t) (stop_times_of_wire c ss w)
 
 -- what each line says of its gate is right

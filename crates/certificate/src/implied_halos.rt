@@ -14,7 +14,7 @@ ghost use Rattle.certificate_lines.specs.declared.certificate_line.CertificateLi
 
 use crate::cert::Cert;
 use certificate_lines::{
-    CertificateLine, Counts, StoredBorder, StoredLine, compare_borders, lines_of_module_past,
+    CertificateLine, Counts, StoredBorder, StoredLine, compare_borders, lines_before_next_module,
     push_entry,
 };
 use module_box::Box2;
@@ -53,7 +53,7 @@ fn module_slices<'b, 'a>(
     'lines: while place < entries.len() {
         if let CertificateLine::Module(area) = entries[place].line() {
             let skipped = border_lines_to_skip(modules, parts.len());
-            let lines = lines_of_module_past(&entries[place + 1..], skipped);
+            let lines = lines_before_next_module(&entries[place + 1..], skipped);
             parts.push(ModuleSlice { area, lines })?;
             place += lines.len();
         }

@@ -7,7 +7,7 @@ ghost use Rattle.circuit.specs.Bridge.{circuit_of, netlist_of};
 ghost use Rattle.circuit.specs.Meaning.{wire_of, wires};
 ghost use Rattle.module_box.specs.Locals.{AreLocalLines, AreLocalsOf, circuit_wire, is_among, local_wires};
 ghost use Rattle.module_box.specs.Moves.{IsInShiftRange};
-ghost use Rattle.certificate_lines.specs.Entries.{cut_in, keep_in, modules_of, stop_in, use_in};
+ghost use Rattle.certificate_lines.specs.Entries.{cut_name_in, kept_gate_in, modules_of, stop_in, used_gate_in};
 ghost use Rattle.certificate.specs.Grammars.{modules_in, version_number};
 ghost use Rattle.certificate_lines.specs.Settings.{setting_of};
 ghost use Rattle.certificate.specs.Jobs.{AreJobsOf, IsJobOf, line_signals};
@@ -46,23 +46,23 @@ fn locals_and_kept_places(
     requires order { AreInOrder lines.now }
     requires lines { AreLocalLines (netlist_of circuit.now)
         (flat_map (λ n. option_to_list (wire_of (circuit_of circuit.now) n))
-        (flat_map cut_in lines.now)) (flat_map use_in lines.now) }
-    requires kept { All (λ k. IsTrue (is_among (flat_map use_in lines.now) k))
-        (flat_map keep_in lines.now) }
+        (flat_map cut_name_in lines.now)) (flat_map used_gate_in lines.now) }
+    requires kept { All (λ k. IsTrue (is_among (flat_map used_gate_in lines.now) k))
+        (flat_map kept_gate_in lines.now) }
     ensures locals { IfOk result (λ l. AreLocalsOf (netlist_of circuit.now) l.0) }
     ensures wires { IfOk result (λ l. l.0.circuit_wires
         ≡ local_wires (netlist_of circuit.now)
         (flat_map (λ n. option_to_list (wire_of (circuit_of circuit.now) n))
-        (flat_map cut_in lines.now)) (flat_map use_in lines.now)) }
-    ensures gates { IfOk result (λ l. l.0.circuit_gates ≡ flat_map use_in lines.now) }
+        (flat_map cut_name_in lines.now)) (flat_map used_gate_in lines.now)) }
+    ensures gates { IfOk result (λ l. l.0.circuit_gates ≡ flat_map used_gate_in lines.now) }
     ensures count { IfOk result (λ l. length l.0.netlist.gates
-        ≡ length (flat_map use_in lines.now)) }
+        ≡ length (flat_map used_gate_in lines.now)) }
     ensures given { IfOk result (λ l. l.0.netlist.given
         ≡ length (flat_map (λ n. option_to_list (wire_of (circuit_of circuit.now) n))
-        (flat_map cut_in lines.now))) }
-    ensures kept { IfOk result (λ l. map (slice_index (flat_map use_in lines.now)) l.1.items
-        ≡ flat_map keep_in lines.now) }
-    ensures within { IfOk result (λ l. All (λ k. k < length (flat_map use_in lines.now))
+        (flat_map cut_name_in lines.now))) }
+    ensures kept { IfOk result (λ l. map (slice_index (flat_map used_gate_in lines.now)) l.1.items
+        ≡ flat_map kept_gate_in lines.now) }
+    ensures within { IfOk result (λ l. All (λ k. k < length (flat_map used_gate_in lines.now))
         l.1.items) }
 {
     // A circuit has at most 1024 gates, so their numbers fit.

@@ -2,7 +2,7 @@
 ghost use Rattle.std.specs.Prelude.{◌≡◌, ◌<◌, ◌^◌, ◌&&◌, ◌||◌, ◌++◌, ◌∷◌, [], ℕ, not, if◌then◌else◌, map, IfOk, OnOk};
 ghost use Rattle.std.specs.List.{All, flat_map};
 ghost use Rattle.module_box.specs.Locals.{is_among};
-ghost use Rattle.certificate_lines.specs.Entries.{keep_in};
+ghost use Rattle.certificate_lines.specs.Entries.{kept_gate_in};
 ghost use Rattle.certificate.specs.Grammars.{modules_in};
 ghost use Rattle.certificate_lines.specs.Settings.{setting_of};
 ghost use Rattle.certificate_lines.specs.Orders.{AreInOrder};
@@ -20,7 +20,8 @@ use std::alloc::{AllocError, Global};
 // Notes the gate that a line keeps, if it is a keep line.
 fn note_keep(kept: &mut IndexSet<u32>, line: &StoredLine) -> Result<(), AllocError>
     ensures { OnOk result ((n : ℕ) →
-        is_among kept.new.keys n ≡ (is_among kept.old.keys n || is_among (keep_in line.now) n)) }
+        is_among kept.new.keys n
+        ≡ (is_among kept.old.keys n || is_among (kept_gate_in line.now) n)) }
 {
     if let CertificateLine::Keep(number) = line.line() {
         kept.insert(number)?;
@@ -32,7 +33,7 @@ fn note_keep(kept: &mut IndexSet<u32>, line: &StoredLine) -> Result<(), AllocErr
 fn note_keeps(kept: &mut IndexSet<u32>, lines: &[StoredLine]) -> Result<(), AllocError>
     ensures { OnOk result ((n : ℕ) →
         is_among kept.new.keys n
-        ≡ (is_among kept.old.keys n || is_among (flat_map keep_in lines.now) n)) }
+        ≡ (is_among kept.old.keys n || is_among (flat_map kept_gate_in lines.now) n)) }
 {
     for line in lines {
         note_keep(kept, line)?;

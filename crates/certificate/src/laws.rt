@@ -1,5 +1,5 @@
 //! Laws of the definitions, each the contract of a function without a body.
-ghost use Rattle.certificate.specs.Laws.{FirstSeenIsLeast, GoodWithoutHalos, HaloIsEdgeBeside, ObeyedLinesAreOnTime, LastSeenIsGreatest, TimeLinesAreTrue, BothVersionsGiveModules, PrintsWhatIsRead, ReadsWhatIsPrinted, SectionWithoutHalos};
+ghost use Rattle.certificate.specs.Laws.{FirstSeenTimeIsLeast, GoodWithoutHalos, HaloIsEdgeBeside, ObeyedLinesAreOnTime, LastSeenTimeIsGreatest, TimeLinesAreTrue, BothVersionsGiveModules, PrintsWhatIsRead, ReadsWhatIsPrinted, SectionWithoutHalos};
 
 pub use module_job::laws::{
     equality_is_of_content, job_is_placed_shape, shape_bytes_are_injective,
@@ -18,8 +18,8 @@ pub fn text_round_trips()
 /// States that the first time at which stops see a wire is the least of their times, and the last one the greatest.
 #[tactic(auto, using(crate::proofs::SeenLaws::first_is_least, crate::proofs::SeenLaws::last_is_greatest))]
 pub fn seen_times_are_extremes()
-    ensures first { FirstSeenIsLeast }
-    ensures last { LastSeenIsGreatest }
+    ensures first { FirstSeenTimeIsLeast }
+    ensures last { LastSeenTimeIsGreatest }
 {}
 
 /// States what stops say of gates.

@@ -79,7 +79,7 @@ impl CellLists {
     }
 
     // Adds cells of mirrors.
-    fn push_mirrors(&mut self, count: u32) -> Result<(), AllocError>
+    fn push_live(&mut self, count: u32) -> Result<(), AllocError>
         ensures starts { OnOk result (self.new.starts
             ≡ self.old.starts ++ replicate count Signal.One) }
         ensures demands { OnOk result (self.new.demands
@@ -353,7 +353,7 @@ impl<'a> LayoutTables<'a> {
                 return Ok(());
             }
             x = self.next_nonmirror(y, named, end);
-            lists.push_mirrors(x - named)?;
+            lists.push_live(x - named)?;
             if x == named {
                 let cell = Cell {
                     x: named as i32,

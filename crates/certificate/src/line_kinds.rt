@@ -7,7 +7,7 @@ ghost use Rattle.std.specs.List.{flat_map};
 ghost use Rattle.std.specs.List.Sorted.{IsPartitionPoint};
 ghost use Rattle.certificate.specs.LineKinds.{IsSplitAt};
 ghost use Rattle.certificate.specs.Timetables.{borders_in};
-ghost use Rattle.certificate_lines.specs.Entries.{cut_in, keep_in, stop_in, use_in};
+ghost use Rattle.certificate_lines.specs.Entries.{cut_name_in, kept_gate_in, stop_in, used_gate_in};
 ghost use Rattle.certificate_lines.specs.Orders.{AreInOrder, rank_of};
 ghost use Rattle.certificate_lines.specs.declared.certificate_line.BorderLine.{BorderLine};
 ghost use Rattle.certificate_lines.specs.declared.certificate_line.CertificateLine.{CertificateLine};
@@ -53,9 +53,9 @@ fn split_at_rank<'b, 'a>(
 /// Returns the cut, use and keep lines of a module.
 pub(crate) fn wiring_lines<'b, 'a>(lines: &'b [StoredLine<'a>]) -> &'b [StoredLine<'a>]
     requires { AreInOrder lines.now }
-    ensures cuts { flat_map cut_in result.now ≡ flat_map cut_in lines.now }
-    ensures uses { flat_map use_in result.now ≡ flat_map use_in lines.now }
-    ensures keeps { flat_map keep_in result.now ≡ flat_map keep_in lines.now }
+    ensures cuts { flat_map cut_name_in result.now ≡ flat_map cut_name_in lines.now }
+    ensures uses { flat_map used_gate_in result.now ≡ flat_map used_gate_in lines.now }
+    ensures keeps { flat_map kept_gate_in result.now ≡ flat_map kept_gate_in lines.now }
 {
     let (wiring, _) = split_at_rank(lines, EDGE_RANK);
     wiring

@@ -179,7 +179,7 @@ fn gap_between(last: Option<u32>, first: Option<u32>) -> StopGap
 }
 
 // Adds the line of a gate, if it is a delay.
-fn push_if_delay(
+fn push_delay_line(
     lines: &mut Vec<TimeLine>,
     number: usize,
     gate: &GateWires,
@@ -238,7 +238,7 @@ fn common_time(times: &[u32]) -> Option<u32>
 }
 
 // Adds the line of a gate whose inputs are to meet, if it is one.
-fn push_if_meet(
+fn push_meet_line(
     alloc: Global,
     lines: &mut Vec<TimeLine>,
     number: usize,
@@ -271,11 +271,11 @@ fn time_lines_of_gates(
     let count = circuit.gates();
     'delays: for number in 0..count {
         let gate = circuit.gate(GateNo::of(number as u16));
-        push_if_delay(&mut lines, number, &gate, firsts, lasts)?;
+        push_delay_line(&mut lines, number, &gate, firsts, lasts)?;
     }
     'meetings: for number in 0..count {
         let gate = circuit.gate(GateNo::of(number as u16));
-        push_if_meet(alloc, &mut lines, number, &gate, lasts)?;
+        push_meet_line(alloc, &mut lines, number, &gate, lasts)?;
     }
     Ok(lines)
 }

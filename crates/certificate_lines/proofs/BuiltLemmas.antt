@@ -3,10 +3,10 @@ use Rattle.certificate_lines.proofs.Imports.{AreApart, AreBuilt, AreGoodModulesS
 use Rattle.certificate_lines.proofs.Imports.{Cell, CertificateLine, Counts, HasSameSize, IsEven, IsInside, IsModule}
 use Rattle.certificate_lines.proofs.Imports.{IsModuleInLimits, LayoutHeader, List, ModuleLines, None, Option}
 use Rattle.certificate_lines.proofs.Imports.{RefusalCode, Setting, Some, SomethingMissing, StarsExcludeLaterTimes, []}
-use Rattle.certificate_lines.proofs.Imports.{ap, ap₂, areas, arith, box_fault, change_last, code_if, common_steps}
+use Rattle.certificate_lines.proofs.Imports.{ap, ap₂, areas, arith, module_box_code, change_last, code_if, common_steps}
 use Rattle.certificate_lines.proofs.Imports.{counts_of, end_fault, false, has_nonlocal_port, in_box, inl, inr}
 use Rattle.certificate_lines.proofs.Imports.{is_last_module_incomplete, is_odd, last_of, length, length_push, list_all}
-use Rattle.certificate_lines.proofs.Imports.{list_any, list_any-append, live, map-append, module_fault}
+use Rattle.certificate_lines.proofs.Imports.{list_any, list_any-append, live, map-append, module_line_code}
 use Rattle.certificate_lines.proofs.Imports.{module_with_line, modules_of, nat_lt, nat_tests, none_at, not, pushed}
 use Rattle.certificate_lines.proofs.Imports.{rectangle_cells, refl, size_fault, size_sides, slice_get, slice_get_within}
 use Rattle.certificate_lines.proofs.Imports.{subst, sym, true, true≢false, whole, ℕ, ℤ, ◌%◌, ◌&&◌, ◌++◌, ◌+◌, ◌-◌, ◌<◌}
@@ -53,14 +53,15 @@ record PassesAlone (g : Setting) (count : ℕ) (before : Option ModuleLines) (b 
   few : count < 1024
   box : IsGoodBox g.size b
 
-passes_alone : (g : Setting) (count : ℕ) (before : Option ModuleLines) (b : Box2) → box_fault g count before b ≡ None →
+passes_alone : (g : Setting) (count : ℕ) (before : Option ModuleLines) (b : Box2) →
+    module_box_code g count before b ≡ None →
     PassesAlone g count before b
-unfolding box_fault
+unfolding module_box_code
 passes_alone g count before b e = grind (arith, common_steps, both_none, or_parts, no_code, less, box_good)
 
 pub good_module : (g : Setting) (ms : List ModuleLines) (before : Option ModuleLines) (b : Box2) →
-    module_fault g ms before b ≡ None → IsGoodModule g ms before b
-unfolding module_fault
+    module_line_code g ms before b ≡ None → IsGoodModule g ms before b
+unfolding module_line_code
 good_module g ms before b e = grind (arith, common_steps, both_none, passes_alone, no_code)
 
 -- ---- the cells of a box
@@ -90,19 +91,20 @@ live_gap s boxes covered same = ap not (all_same _ _ (λ c. same c.x c.y) (recta
 
 -- the fault of a `module` line, from that of its box and the overlap
 pub overlap_fault : (g : Setting) (ms : List ModuleLines) (before : Option ModuleLines) (b : Box2) →
-    box_fault g (length ms) before b ≡ None → overlaps (areas ms) b ≡ true →
-    module_fault g ms before b ≡ Some MisplacedBox
-unfolding module_fault
+    module_box_code g (length ms) before b ≡ None → overlaps (areas ms) b ≡ true →
+    module_line_code g ms before b ≡ Some MisplacedBox
+unfolding module_line_code
 overlap_fault g ms before b e over = rw (e, over) refl
 
 pub no_fault : (g : Setting) (ms : List ModuleLines) (before : Option ModuleLines) (b : Box2) →
-    box_fault g (length ms) before b ≡ None → overlaps (areas ms) b ≡ false → module_fault g ms before b ≡ None
-unfolding module_fault
+    module_box_code g (length ms) before b ≡ None → overlaps (areas ms) b ≡ false →
+    module_line_code g ms before b ≡ None
+unfolding module_line_code
 no_fault g ms before b e over = rw (e, over) refl
 
 pub early_fault : (g : Setting) (ms : List ModuleLines) (before : Option ModuleLines) (b : Box2) (code : RefusalCode) →
-    box_fault g (length ms) before b ≡ Some code → module_fault g ms before b ≡ Some code
-unfolding module_fault
+    module_box_code g (length ms) before b ≡ Some code → module_line_code g ms before b ≡ Some code
+unfolding module_line_code
 early_fault g ms before b code e = rw e refl
 
 pub missing_some : (g : Setting) (entries : List CertificateLine) (lacks full : Bool) →

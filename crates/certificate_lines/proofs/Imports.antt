@@ -7,9 +7,11 @@ pub use Rattle.bbm_rule.specs.declared.block.Cell.{Cell}
 pub use Rattle.certificate_lines.specs.BuilderView.{AreApart, AreBuilt, AreGoodModulesSoFar, AreLocalWiresOfModules}
 pub use Rattle.certificate_lines.specs.BuilderView.{BuilderView, IsBodyLine, IsModuleInLimits, does_neighbour_lack_wire}
 pub use Rattle.certificate_lines.specs.BuilderView.{is_outside_and_nonlocal, lacks_edge_wire, last_body_line}
-pub use Rattle.certificate_lines.specs.Entries.{ModuleLines, Setting, areas, counts_of, cut_in, cuts, edge_in, edges}
-pub use Rattle.certificate_lines.specs.Entries.{gates, halo_in, keep_in, known, last_module, module_with_line, stop_in}
-pub use Rattle.certificate_lines.specs.Entries.{use_in}
+pub use Rattle.certificate_lines.specs.Entries.{ModuleLines, Setting, areas, counts_of, cut_name_in, cuts, edge_in}
+pub use Rattle.certificate_lines.specs.Entries.{edges}
+pub use Rattle.certificate_lines.specs.Entries.{gates, halo_in, kept_gate_in, known, last_module, module_with_line}
+pub use Rattle.certificate_lines.specs.Entries.{stop_in}
+pub use Rattle.certificate_lines.specs.Entries.{used_gate_in}
 unfoldable pub use Rattle.certificate_lines.specs.Entries.{add_line, change_last, last_of, modules_of}
 unfoldable pub use Rattle.certificate_lines.specs.Forms.{border_of, form_of, stop_of}
 pub use Rattle.certificate_lines.specs.LineKeys.{key_of, key_or_first}
@@ -19,12 +21,14 @@ pub use Rattle.certificate_lines.specs.Modules.{IsModule}
 unfoldable pub use Rattle.certificate_lines.specs.Modules.{StarsExcludeLaterTimes}
 unfoldable pub use Rattle.certificate_lines.specs.Orders.{AreInOrder, cell_of, is_cut, line_cmp, may_follow}
 unfoldable pub use Rattle.certificate_lines.specs.Orders.{may_precede, rank_of, sort_number_of}
-pub use Rattle.certificate_lines.specs.PortTables.{AreNumberedRows, AreOnBoard, CircuitPorts, IsPortTable, entry_place}
+pub use Rattle.certificate_lines.specs.PortTables.{AreNumberedRows, AreOnBoard, CircuitAndPorts, IsPortTable}
+pub use Rattle.certificate_lines.specs.PortTables.{entry_place}
 unfoldable pub use Rattle.certificate_lines.specs.PortTables.{entry_place_by_row_number, number_at, port_at}
 pub use Rattle.certificate_lines.specs.Rules.{body_line_code, content_code, is_last_module_incomplete, is_local}
 pub use Rattle.certificate_lines.specs.Rules.{is_local_wire, is_odd, is_star, is_starred_line_at, same_cell, whole}
-unfoldable pub use Rattle.certificate_lines.specs.Rules.{are_new_and_distinct, box_fault, end_fault, has_nonlocal_port}
-unfoldable pub use Rattle.certificate_lines.specs.Rules.{module_fault}
+unfoldable pub use Rattle.certificate_lines.specs.Rules.{are_new_and_distinct, module_box_code, end_fault}
+unfoldable pub use Rattle.certificate_lines.specs.Rules.{has_nonlocal_port}
+unfoldable pub use Rattle.certificate_lines.specs.Rules.{module_line_code}
 pub use Rattle.certificate_lines.specs.Versions.{is_nonlocal_signal}
 pub use Rattle.certificate_lines.specs.declared.certificate_line.BorderLine.{BorderLine}
 pub use Rattle.certificate_lines.specs.declared.certificate_line.CertificateLine.{CertificateLine}

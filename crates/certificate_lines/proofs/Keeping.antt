@@ -5,13 +5,15 @@ use Rattle.certificate_lines.proofs.Imports.{IsBodyLine, IsModule, IsModuleInLim
 use Rattle.certificate_lines.proofs.Imports.{ModuleLines, None, Option, OutOfOrder, Port, RefusalCode, Setting, Some}
 use Rattle.certificate_lines.proofs.Imports.{Stop, StopLine, Use, [], add_line, ap, append-nil, are_new_and_distinct}
 use Rattle.certificate_lines.proofs.Imports.{arith, body_line_code, change_last, code_if, common_steps, content_code}
-use Rattle.certificate_lines.proofs.Imports.{counts_of, cut_in, cuts, edge_in, false, flat_map, gates, halo_in}
+use Rattle.certificate_lines.proofs.Imports.{counts_of, cut_name_in, cuts, edge_in, false, flat_map, gates, halo_in}
 use Rattle.certificate_lines.proofs.Imports.{has_nonlocal_port, in_box, is_among, is_last_module_incomplete}
 use Rattle.certificate_lines.proofs.Imports.{is_local, is_starred_line_at, key_of, key_or_first, known, last_body_line}
 use Rattle.certificate_lines.proofs.Imports.{last_module, last_of, length, length_push, list_any, list_any-append, live}
-use Rattle.certificate_lines.proofs.Imports.{may_follow, module_fault, module_with_line, modules_of, not, option_map}
+use Rattle.certificate_lines.proofs.Imports.{may_follow, module_line_code, module_with_line, modules_of, not}
+use Rattle.certificate_lines.proofs.Imports.{option_map}
 use Rattle.certificate_lines.proofs.Imports.{option_to_list, or_else, refl, same_cell, size_fault, size_sides, subst}
-use Rattle.certificate_lines.proofs.Imports.{sym, true, true_from_not, use_in, ℕ, ℤ, ◌&&◌, ◌++◌, ◌+◌, ◌||◌, ◌∙◌, ◌∷◌}
+use Rattle.certificate_lines.proofs.Imports.{sym, true, true_from_not, used_gate_in, ℕ, ℤ, ◌&&◌, ◌++◌, ◌+◌, ◌||◌, ◌∙◌}
+use Rattle.certificate_lines.proofs.Imports.{◌∷◌}
 use Rattle.certificate_lines.proofs.Imports.{◌≡◌, ◌≤◌}
 use Rattle.certificate_lines.specs.Rules.{line_fault}
 use Rattle.certificate_lines.specs.BuilderView.{IsEdgeHaloOrStopLine, IsLastModule, IsTracked, IsTrackedWith}
@@ -267,7 +269,7 @@ pub record DoesLine (g : Setting) (es : List CertificateLine) (i : CertificateLi
   pub wires : known g.circuit (module_with_line i m) ≡ known g.circuit m ++ wires_made_local g.circuit i
   pub new : are_new_and_distinct (known g.circuit m) (wires_made_local g.circuit i) ≡ true
 
-no_wires : (g : Setting) (m : ModuleLines) (i : CertificateLine) → cut_in i ≡ [] → use_in i ≡ [] →
+no_wires : (g : Setting) (m : ModuleLines) (i : CertificateLine) → cut_name_in i ≡ [] → used_gate_in i ≡ [] →
     known g.circuit (module_with_line i m) ≡ known g.circuit m ++ []
 no_wires g m i no_cut no_use = known_same g m i no_cut no_use ∙ sym (append-nil (known g.circuit m))
 
@@ -365,7 +367,7 @@ module _ (g : Setting) (es : List CertificateLine) (covered new_covered : Board)
   unfolding begun_lines last_of
   begun_present = grind (arith, common_steps)
 
-  pub kept_module : module_fault g (modules_of es) (last_module es) b ≡ None →
+  pub kept_module : module_line_code g (modules_of es) (last_module es) b ≡ None →
       ((x y : ℤ) → live new_covered x y ≡ (live covered x y || in_box b x y)) →
       HasSameSize covered new_covered
       → IsTracked g (es ++ Module b ∷ []) new_covered
@@ -448,7 +450,7 @@ module _ (g : Setting) (es : List CertificateLine) (covered : Board) (counts : L
       (with_inner i (border_is_inner i border) good after now e' h' stars halo_stars)
 
   pub with_module : (new_covered : Board) (b : Box2) →
-      module_fault g (modules_of es) (last_module es) b ≡ None →
+      module_line_code g (modules_of es) (last_module es) b ≡ None →
       ((x y : ℤ) → live new_covered x y ≡ (live covered x y || in_box b x y)) →
       HasSameSize covered new_covered
       → IsTrackedWith g (es ++ Module b ∷ []) new_covered

@@ -2,8 +2,10 @@
 use Rattle.certificate_lines.proofs.Imports.{All-append, All-nil, AreInOrder, Bool, BorderLine, CertificateLine, Cut}
 use Rattle.certificate_lines.proofs.Imports.{Edge, Equal, Greater, Halo, Keep, Less, List, Module, Ordering, Stop}
 use Rattle.certificate_lines.proofs.Imports.{StopLine, Use, [], and_parts, ap₂, cell_cmp, cell_of, edge_in, false}
-use Rattle.certificate_lines.proofs.Imports.{halo_in, is_cut, keep_in, line_cmp, list_all, list_all-append, may_follow}
-use Rattle.certificate_lines.proofs.Imports.{may_precede, rank_of, refl, sort_number_of, stop_in, true, use_in, ℕ, ◌&&◌}
+use Rattle.certificate_lines.proofs.Imports.{halo_in, is_cut, kept_gate_in, line_cmp, list_all, list_all-append}
+use Rattle.certificate_lines.proofs.Imports.{may_follow}
+use Rattle.certificate_lines.proofs.Imports.{may_precede, rank_of, refl, sort_number_of, stop_in, true, used_gate_in, ℕ}
+use Rattle.certificate_lines.proofs.Imports.{◌&&◌}
 use Rattle.certificate_lines.proofs.Imports.{◌++◌, ◌<◌, ◌||◌, ◌∙◌, ◌∷◌, ◌≡◌}
 use Rattle.lemmas.proofs.Common.{All-push, arith, ordering_then, nat_less, ◌≢◌}
 use Rattle.certificate_lines.proofs.LineRanks.{rank_rises}
@@ -47,7 +49,7 @@ use_then_use : (g k : ℕ) → may_precede (Use g) (Use k) ≡ true → g < k
 unfolding may_precede line_cmp rank_of sort_number_of cell_of is_cut cell_cmp
 use_then_use g k h = nat_less g k (less_by (nat_cmp g k) (or_false _ h))
 
-pub lower_uses : (k : ℕ) (j : CertificateLine) → may_precede j (Use k) ≡ true → All (λ g. g < k) (use_in j)
+pub lower_uses : (k : ℕ) (j : CertificateLine) → may_precede j (Use k) ≡ true → All (λ g. g < k) (used_gate_in j)
 lower_uses k (Use g) h = All-push (λ (x : ℕ). x < k) [] g (All-nil (λ (x : ℕ). x < k)) (use_then_use g k h)
 lower_uses k _ h = All-nil (λ (g : ℕ). g < k)
 

@@ -3,16 +3,20 @@ use Rattle.certificate_lines.proofs.Imports.{All, All-nil, AreLocalLines, Bool, 
 use Rattle.certificate_lines.proofs.Imports.{Circuit, Cut, Edge, Gate, Halo, IfSome, IsModule, IsModuleInLimits, IsTrue}
 use Rattle.certificate_lines.proofs.Imports.{Keep, List, ModuleLines, None, Option, RefusalCode, Setting, Some}
 use Rattle.certificate_lines.proofs.Imports.{StarsExcludeLaterTimes, Stop, StopLine, Use, [], and_parts, ap, ap₂}
-use Rattle.certificate_lines.proofs.Imports.{are_new_and_distinct, arith, code_if, common_steps, cut_in, cuts, edge_in}
+use Rattle.certificate_lines.proofs.Imports.{are_new_and_distinct, arith, code_if, common_steps, cut_name_in, cuts}
+use Rattle.certificate_lines.proofs.Imports.{edge_in}
 use Rattle.certificate_lines.proofs.Imports.{edges, eqb-true, false, false_from_not, flat_map, gates, halo_in, in_box}
-use Rattle.certificate_lines.proofs.Imports.{is_among, is_local, is_odd, is_star, is_starred_line_at, keep_in, known}
+use Rattle.certificate_lines.proofs.Imports.{is_among, is_local, is_odd, is_star, is_starred_line_at, kept_gate_in}
+use Rattle.certificate_lines.proofs.Imports.{known}
 use Rattle.certificate_lines.proofs.Imports.{length, length_push, list_all, list_any, local_wires, may_follow}
-use Rattle.certificate_lines.proofs.Imports.{module_with_line, rank_of, nat_lt, nat_tests, not, option_to_list, or_else, refl}
-use Rattle.certificate_lines.proofs.Imports.{slice_get, stop_in, subst, sym, true, true_from_not, use_in, wire_of, ℕ}
+use Rattle.certificate_lines.proofs.Imports.{module_with_line, rank_of, nat_lt, nat_tests, not, option_to_list, or_else}
+use Rattle.certificate_lines.proofs.Imports.{refl}
+use Rattle.certificate_lines.proofs.Imports.{slice_get, stop_in, subst, sym, true, true_from_not, used_gate_in, wire_of}
+use Rattle.certificate_lines.proofs.Imports.{ℕ}
 use Rattle.certificate_lines.proofs.Imports.{◌%◌, ◌&&◌, ◌++◌, ◌<◌, ◌||◌, ◌∙◌, ◌∷◌, ◌≡◌}
 use Rattle.lemmas.proofs.Common.{nat_le, at_most_by_test, below_by_test}
 use Rattle.certificate_lines.specs.Entries.{keeps, halos, stops, cut_wires}
-use Rattle.certificate_lines.specs.Rules.{cut_fault, cut_wire_fault, used_gate_fault, use_fault, keep_line_code}
+use Rattle.certificate_lines.specs.Rules.{cut_line_code, cut_wire_fault, used_gate_fault, use_line_code, keep_line_code}
 use Rattle.certificate_lines.specs.Rules.{is_line_time_allowed, is_edge_place_and_time, is_halo_place_and_time}
 use Rattle.certificate_lines.specs.Rules.{is_stop_place_and_time, signal_fault, wire_fault, border_line_code}
 use Rattle.certificate_lines.specs.Rules.{timed_line_count, timed_line_limit, edge_line_code, halo_line_code}
@@ -53,13 +57,13 @@ new_by : (local : List ℕ) (o : Option ℕ) → cut_wire_fault local o ≡ None
 new_by local None e = absurd cc
 new_by local (Some w) e = (w, refl, no_code (is_among local w) DefinedTwice e)
 
-pub new_wire : (c : Circuit) (count : ℕ) (local : List ℕ) (name : List ℕ) → cut_fault c count local name ≡ None →
+pub new_wire : (c : Circuit) (count : ℕ) (local : List ℕ) (name : List ℕ) → cut_line_code c count local name ≡ None →
     (count < 12) × IsNewWire c local name
-unfolding cut_fault
+unfolding cut_line_code
 new_wire c count local name e = grind (arith, common_steps, both_none, new_by, less, no_code)
 
 pub cuts_cut : (m : ModuleLines) (n : List ℕ) → cuts (module_with_line (Cut n) m) ≡ cuts m ++ n ∷ []
-cuts_cut m n = flat_push cut_in m.lines (Cut n)
+cuts_cut m n = flat_push cut_name_in m.lines (Cut n)
 
 pub cut_wires_cut : (c : Circuit) (m : ModuleLines) (n : List ℕ) (w : ℕ) → wire_of c n ≡ Some w →
     cut_wires c (module_with_line (Cut n) m) ≡ cut_wires c m ++ w ∷ []
@@ -116,7 +120,7 @@ module _ (g : Setting) (m : ModuleLines) (is : IsModule g m) (n : List ℕ)
     (follows : may_follow m.lines (Cut n) ≡ true) where
   no_gates : gates m ≡ []
   unfolding rank_of
-  no_gates = none_before use_in 2 only_uses (Cut n) (omega arith) m.lines follows
+  no_gates = none_before used_gate_in 2 only_uses (Cut n) (omega arith) m.lines follows
 
   no_edges : edges m ≡ []
   unfolding rank_of
@@ -132,16 +136,16 @@ module _ (g : Setting) (m : ModuleLines) (is : IsModule g m) (n : List ℕ)
 
   no_keeps : keeps m ≡ []
   unfolding rank_of
-  no_keeps = none_before keep_in 3 only_keeps (Cut n) (omega arith) m.lines follows
+  no_keeps = none_before kept_gate_in 3 only_keeps (Cut n) (omega arith) m.lines follows
 
   abbrev more : ModuleLines
   more = module_with_line (Cut n) m
 
   gates_are : gates more ≡ []
-  gates_are = flat_same use_in m.lines (Cut n) refl ∙ no_gates
+  gates_are = flat_same used_gate_in m.lines (Cut n) refl ∙ no_gates
 
   keeps_are : keeps more ≡ []
-  keeps_are = flat_same keep_in m.lines (Cut n) refl ∙ no_keeps
+  keeps_are = flat_same kept_gate_in m.lines (Cut n) refl ∙ no_keeps
 
   edges_are : edges more ≡ []
   edges_are = flat_same edge_in m.lines (Cut n) refl ∙ no_edges
@@ -201,20 +205,20 @@ unfolding used_gate_fault
 gate_by local None e = absurd cc
 gate_by local (Some g) e = grind (arith, common_steps, both_none, true_from_not, no_code)
 
-pub good_use : (c : Circuit) (count : ℕ) (local : List ℕ) (k : ℕ) → use_fault c count local k ≡ None →
+pub good_use : (c : Circuit) (count : ℕ) (local : List ℕ) (k : ℕ) → use_line_code c count local k ≡ None →
     (count < 64) × IsGoodUse c local k
-unfolding use_fault
+unfolding use_line_code
 good_use c count local k e = grind (arith, common_steps, both_none, gate_by, less, no_code)
 
 pub gates_use : (m : ModuleLines) (k : ℕ) → gates (module_with_line (Use k) m) ≡ gates m ++ k ∷ []
-gates_use m k = flat_push use_in m.lines (Use k)
+gates_use m k = flat_push used_gate_in m.lines (Use k)
 
 module _ (g : Setting) (m : ModuleLines) (k : ℕ) where
   abbrev used : ModuleLines
   used = module_with_line (Use k) m
 
   cut_wires_use : cut_wires g.circuit used ≡ cut_wires g.circuit m
-  cut_wires_use = ap (flat_map (λ n. option_to_list (wire_of g.circuit n))) (flat_same cut_in m.lines (Use k) refl)
+  cut_wires_use = ap (flat_map (λ n. option_to_list (wire_of g.circuit n))) (flat_same cut_name_in m.lines (Use k) refl)
 
   pub known_use : (gate : Gate) → slice_get g.circuit.netlist.gates k ≡ Some gate →
       known g.circuit used ≡ known g.circuit m ++ gate.outs
@@ -231,8 +235,9 @@ module _ (g : Setting) (m : ModuleLines) (k : ℕ) where
       let stops_are : stops used ≡ [] =
       flat_same stop_in m.lines (Use k) refl ∙ none_before stop_in 6 only_stops (Use k) (omega arith) m.lines follows in
       let keeps_are : keeps used ≡ [] =
-      flat_same keep_in m.lines (Use k) refl ∙ none_before keep_in 3 only_keeps (Use k) (omega arith) m.lines follows in
-      let lower = all_before use_in (Use k) (λ j. j < k) (lower_uses k) m.lines follows in
+      flat_same kept_gate_in m.lines (Use k) refl
+      ∙ none_before kept_gate_in 3 only_keeps (Use k) (omega arith) m.lines follows in
+      let lower = all_before used_gate_in (Use k) (λ j. j < k) (lower_uses k) m.lines follows in
       let after = local_use g.circuit.netlist (cut_wires g.circuit m)
       (gates m) k good.gate is.local good.numbered lower good.ins good.outs few in
       record {
@@ -241,7 +246,7 @@ module _ (g : Setting) (m : ModuleLines) (k : ℕ) where
           wide = is.wide;
           high = is.high;
           inside = is.inside;
-          named = ap length cut_wires_use ∙ is.named ∙ sym (ap length (flat_same cut_in m.lines (Use k) refl));
+          named = ap length cut_wires_use ∙ is.named ∙ sym (ap length (flat_same cut_name_in m.lines (Use k) refl));
           local = grind (arith, common_steps, used, cut_wires_use, gates_use);
           order = order_push m.lines (Use k) is.order follows;
           keep_lines = at_nil (IsKeep g (gates used)) (keeps used) keeps_are;
@@ -320,15 +325,16 @@ pub stops_stop : (m : ModuleLines) (s : StopLine) → stops (module_with_line (S
 stops_stop m s = flat_push stop_in m.lines (Stop s)
 
 -- a line that cuts and uses nothing leaves the local wires
-module _ (g : Setting) (m : ModuleLines) (i : CertificateLine) (no_cut : cut_in i ≡ []) (no_use : use_in i ≡ []) where
+module _ (g : Setting) (m : ModuleLines) (i : CertificateLine) (no_cut : cut_name_in i ≡ [])
+    (no_use : used_gate_in i ≡ []) where
   cuts_same : cuts (module_with_line i m) ≡ cuts m
-  cuts_same = flat_same cut_in m.lines i no_cut
+  cuts_same = flat_same cut_name_in m.lines i no_cut
 
   cut_wires_same : cut_wires g.circuit (module_with_line i m) ≡ cut_wires g.circuit m
   cut_wires_same = ap (flat_map (λ n. option_to_list (wire_of g.circuit n))) cuts_same
 
   gates_same : gates (module_with_line i m) ≡ gates m
-  gates_same = flat_same use_in m.lines i no_use
+  gates_same = flat_same used_gate_in m.lines i no_use
 
   pub known_same : known g.circuit (module_with_line i m) ≡ known g.circuit m
   known_same = ap₂ (λ cs gs. local_wires g.circuit.netlist cs gs) cut_wires_same gates_same
@@ -338,7 +344,7 @@ module _ (g : Setting) (m : ModuleLines) (i : CertificateLine) (no_cut : cut_in 
   local_same l = grind (arith, common_steps, cut_wires_same, gates_same)
 
   -- and the kept gates, where it keeps nothing
-  keeps_same : keep_in i ≡ [] → All (IsKeep g (gates m)) (keeps m) →
+  keeps_same : kept_gate_in i ≡ [] → All (IsKeep g (gates m)) (keeps m) →
       All (IsKeep g (gates (module_with_line i m))) (keeps (module_with_line i m))
   keeps_same no_keep all = grind (arith, common_steps, flat_same, gates_same)
 
@@ -349,7 +355,7 @@ unfolding keep_line_code
 keep_good g mine k e = grind (arith, common_steps, both_none, true_from_not, no_code)
 
 keeps_keep : (m : ModuleLines) (k : ℕ) → keeps (module_with_line (Keep k) m) ≡ keeps m ++ k ∷ []
-keeps_keep m k = flat_push keep_in m.lines (Keep k)
+keeps_keep m k = flat_push kept_gate_in m.lines (Keep k)
 
 pub keep_pushed : (g : Setting) (m : ModuleLines) → IsModuleInLimits g m → (k : ℕ) →
     may_follow m.lines (Keep k) ≡ true →
@@ -392,7 +398,8 @@ module _ (g : Setting) (m : ModuleLines) (is : IsModule g m) (e : BorderLine) wh
       edge_good g m.area (known g.circuit m) (timed_line_count m)
       (list_any (is_starred_line_at e.cell) (edges m)) e b in
       let halos_are : halos more ≡ [] =
-      flat_same halo_in m.lines (Edge e) refl ∙ none_before halo_in 5 only_halos (Edge e) (omega arith) m.lines follows in
+      flat_same halo_in m.lines (Edge e) refl
+      ∙ none_before halo_in 5 only_halos (Edge e) (omega arith) m.lines follows in
       let same = known_same g m (Edge e) refl refl in
       let n = ap length (edges_edge m e) ∙ length_push (edges m) e in
       let k = ap length halos_are in

@@ -3,7 +3,7 @@ use Rattle.certificate_lines.proofs.Imports.{Bool, CertificateLine, Cut, Edge, H
 use Rattle.certificate_lines.proofs.Imports.{Some, Stop, Use, [], add_line, arith, common_steps, false, gates, get_or}
 use Rattle.certificate_lines.proofs.Imports.{is_among, is_module, last_module, last_of, length, list_any-append}
 use Rattle.certificate_lines.proofs.Imports.{module_with_line, modules_of, refl, subst, sym, take, take_all, take_more}
-use Rattle.certificate_lines.proofs.Imports.{true, use_in, ℕ, ◌++◌, ◌+◌, ◌-◌, ◌<◌, ◌||◌, ◌∷◌, ◌≡◌, ◌≤◌}
+use Rattle.certificate_lines.proofs.Imports.{true, used_gate_in, ℕ, ◌++◌, ◌+◌, ◌-◌, ◌<◌, ◌||◌, ◌∷◌, ◌≡◌, ◌≤◌}
 use Rattle.certificate_lines.proofs.Growing.{modules_push, flat_push, last_pushed, last_changed}
 use Rattle.certificate_lines.proofs.Keeping.{mapped_some}
 use Rattle.certificate_lines.proofs.Lists.{some_is}
@@ -34,16 +34,16 @@ or_none false = refl
 
 -- the gates with one more line
 one_line : (m : ModuleLines) (i : CertificateLine) (k : ℕ) →
-    is_among (gates (module_with_line i m)) k ≡ (is_among (gates m) k || is_among (use_in i) k)
+    is_among (gates (module_with_line i m)) k ≡ (is_among (gates m) k || is_among (used_gate_in i) k)
 one_line m i k = grind (arith, common_steps, flat_push, list_any-append)
 
 told_more : (es : List CertificateLine) (i : CertificateLine) (k : ℕ) (b : Bool) → is_module i ≡ false →
-    is_among (use_in i) k ≡ false →
+    is_among (used_gate_in i) k ≡ false →
     Tells es k b → Tells (es ++ i ∷ []) k b
 told_more es i k b other unused h m e = grind (arith, common_steps, other_line, or_none, one_line)
 
 told_used : (es : List CertificateLine) (i : CertificateLine) (k : ℕ) → is_module i ≡ false →
-    is_among (use_in i) k ≡ true →
+    is_among (used_gate_in i) k ≡ true →
     Tells (es ++ i ∷ []) k true
 told_used es i k other used m e = grind (arith, common_steps, other_line, or_true, one_line)
 
@@ -75,12 +75,12 @@ module _ (es : List CertificateLine) (k back : ℕ) (i : CertificateLine) (withi
   unfolding place
   next_back = omega (arith, within)
 
-  pub told_before : is_module i ≡ false → is_among (use_in i) k ≡ false → IsToldBefore es k (back + 1)
+  pub told_before : is_module i ≡ false → is_among (used_gate_in i) k ≡ false → IsToldBefore es k (back + 1)
   told_before other unused b h =
       so_far b (subst (λ l. Tells l k b) (sym one_less)
       (told_more (take place es) i k b other unused (subst (λ n. Tells (take n es) k b) next_back h)))
 
-  pub told_true : is_module i ≡ false → is_among (use_in i) k ≡ true → Tells es k true
+  pub told_true : is_module i ≡ false → is_among (used_gate_in i) k ≡ true → Tells es k true
   told_true other used = so_far true
       (subst (λ l. Tells l k true) (sym one_less) (told_used (take place es) i k other used))
 

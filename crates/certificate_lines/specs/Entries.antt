@@ -68,14 +68,14 @@ areas ms = map (λ m. m.area) ms
 -- ---- the lines of a module by their kinds
 
 -- the name that a line cuts, if it is a cut line
-abbrev pub cut_in : CertificateLine → List (List ℕ)
-cut_in (Cut n) = n ∷ []
-cut_in _ = []
+abbrev pub cut_name_in : CertificateLine → List (List ℕ)
+cut_name_in (Cut n) = n ∷ []
+cut_name_in _ = []
 
 -- the gate that a line uses, if it is a use line
-abbrev pub use_in : CertificateLine → List ℕ
-use_in (Use k) = k ∷ []
-use_in _ = []
+abbrev pub used_gate_in : CertificateLine → List ℕ
+used_gate_in (Use k) = k ∷ []
+used_gate_in _ = []
 
 -- an edge line, and no other line
 abbrev pub edge_in : CertificateLine → List BorderLine
@@ -101,21 +101,21 @@ stop_in (Stop s) = s ∷ []
 stop_in _ = []
 
 -- the gate that a line keeps, if it is a keep line
-abbrev pub keep_in : CertificateLine → List ℕ
-keep_in (Keep k) = k ∷ []
-keep_in _ = []
+abbrev pub kept_gate_in : CertificateLine → List ℕ
+kept_gate_in (Keep k) = k ∷ []
+kept_gate_in _ = []
 
 -- the names of the wires that are cut
 abbrev pub cuts : ModuleLines → List (List ℕ)
-cuts m = flat_map cut_in m.lines
+cuts m = flat_map cut_name_in m.lines
 
 -- the numbers of the gates that are used
 abbrev pub gates : ModuleLines → List ℕ
-gates m = flat_map use_in m.lines
+gates m = flat_map used_gate_in m.lines
 
 -- the numbers of the gates that are kept
 abbrev pub keeps : ModuleLines → List ℕ
-keeps m = flat_map keep_in m.lines
+keeps m = flat_map kept_gate_in m.lines
 
 -- the edge lines of a module
 abbrev pub edges : ModuleLines → List BorderLine

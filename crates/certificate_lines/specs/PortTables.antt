@@ -59,13 +59,13 @@ pub record AreNumberedRows (b : Box2) (ports : List Port) (rows : List ℕ) (cou
   pub each : (i : ℕ) (p : Port) → slice_get ports i ≡ Some p → 0 < get_or rows (unsigned_abs p.cell.y - b.y) 0
 
 -- a circuit, and the inputs or the outputs of a layout
-pub record CircuitPorts : Type 0 where
+pub record CircuitAndPorts : Type 0 where
   pub circuit : Circuit
   pub ports : List Port
 
 -- the circuit and the ports of a table, from its fields
-abbrev pub circuit_ports : Inside → CircuitPorts
-circuit_ports a = record { circuit = circuit_of a.circuit.now; ports = a.ports.now }
+abbrev pub circuit_and_ports : Inside → CircuitAndPorts
+circuit_and_ports a = record { circuit = circuit_of a.circuit.now; ports = a.ports.now }
 
 -- each cell of a numbered row has an entry, which is the number of the port there, or 0. No port is in a row without a
 -- number, or outside the area. Each port has its wire.

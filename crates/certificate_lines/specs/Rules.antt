@@ -76,15 +76,15 @@ abbrev pub overlaps : List Box2 → Box2 → Bool
 overlaps boxes b = list_any (λ c. in_boxes boxes c.x c.y) (rectangle_cells b)
 
 -- the tests of a box by itself, after `count` modules, the last of them `before`
-unfoldable pub box_fault : Setting → ℕ → Option ModuleLines → Box2 → Option RefusalCode
-box_fault g count before b =
+unfoldable pub module_box_code : Setting → ℕ → Option ModuleLines → Box2 → Option RefusalCode
+module_box_code g count before b =
     or_else (code_if (is_last_module_incomplete g before) SomethingMissing)
     (or_else (code_if (is_bad_box_side b.w || is_bad_box_side b.h || nat_le 1024 count) PastLimit)
     (code_if (is_misplaced g.size b) MisplacedBox))
 
 -- the code of a `module` line after these modules
-unfoldable pub module_fault : Setting → List ModuleLines → Option ModuleLines → Box2 → Option RefusalCode
-module_fault g ms before b = or_else (box_fault g (length ms) before b)
+unfoldable pub module_line_code : Setting → List ModuleLines → Option ModuleLines → Box2 → Option RefusalCode
+module_line_code g ms before b = or_else (module_box_code g (length ms) before b)
     (code_if (overlaps (areas ms) b) MisplacedBox)
 
 -- ---- a cut, after `count` cuts, if these wires are local: 2, 3, 4
@@ -95,8 +95,8 @@ cut_wire_fault local None = Some UnknownName
 cut_wire_fault local (Some w) = code_if (is_among local w) DefinedTwice
 
 -- the code of a cut line after this many cuts
-unfoldable pub cut_fault : Circuit → ℕ → List ℕ → List ℕ → Option RefusalCode
-cut_fault c count local name =
+unfoldable pub cut_line_code : Circuit → ℕ → List ℕ → List ℕ → Option RefusalCode
+cut_line_code c count local name =
     or_else (code_if (nat_le cut_limit count) PastLimit) (cut_wire_fault local (wire_of c name))
 
 -- ---- a used gate, after `count` used gates, if these wires are local: 2, 3, 9, 4
@@ -114,8 +114,8 @@ used_gate_fault local (Some gate) =
     (code_if (not (are_new_and_distinct local gate.outs)) DefinedTwice)
 
 -- the code of a use line after `count` used gates
-unfoldable pub use_fault : Circuit → ℕ → List ℕ → ℕ → Option RefusalCode
-use_fault c count local k = or_else (code_if (nat_le use_limit count) PastLimit)
+unfoldable pub use_line_code : Circuit → ℕ → List ℕ → ℕ → Option RefusalCode
+use_line_code c count local k = or_else (code_if (nat_le use_limit count) PastLimit)
     (used_gate_fault local (slice_get c.netlist.gates k))
 
 -- ---- a kept gate, if these gates are used: 3, 9
@@ -211,8 +211,8 @@ stop_line_code g m s = border_line_code g.circuit (timed_line_count m) (known g.
 -- the code of a line of a module, but for its order
 abbrev pub content_code : Setting → ModuleLines → CertificateLine → Option RefusalCode
 content_code g m (Module b) = None
-content_code g m (Cut n) = cut_fault g.circuit (length (cuts m)) (known g.circuit m) n
-content_code g m (Use k) = use_fault g.circuit (length (gates m)) (known g.circuit m) k
+content_code g m (Cut n) = cut_line_code g.circuit (length (cuts m)) (known g.circuit m) n
+content_code g m (Use k) = use_line_code g.circuit (length (gates m)) (known g.circuit m) k
 content_code g m (Keep k) = keep_line_code g.circuit (gates m) k
 content_code g m (Edge e) = edge_line_code g m e
 content_code g m (Halo e) = halo_line_code g m e
@@ -229,7 +229,7 @@ body_line_code g (Some m) i = line_fault g m i
 
 -- the code of the first test that a line fails
 unfoldable pub entry_fault : Setting → List CertificateLine → CertificateLine → Option RefusalCode
-entry_fault g before (Module b) = module_fault g (modules_of before) (last_module before) b
+entry_fault g before (Module b) = module_line_code g (modules_of before) (last_module before) b
 entry_fault g before (Cut n) = body_line_code g (last_module before) (Cut n)
 entry_fault g before (Use k) = body_line_code g (last_module before) (Use k)
 entry_fault g before (Keep k) = body_line_code g (last_module before) (Keep k)

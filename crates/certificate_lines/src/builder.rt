@@ -5,7 +5,7 @@ ghost use Rattle.std.specs.Option.{is_some};
 ghost use Rattle.certificate_lines.specs.Entries.{ModuleLines, counts_of, known, modules_of, last_module, name_in};
 ghost use Rattle.certificate_lines.specs.ModuleParts.{BeginWithModule};
 ghost use Rattle.certificate_lines.specs.NamedWires.{IsWireOfName};
-ghost use Rattle.certificate_lines.specs.Rules.{timed_line_count, border_line_code, entry_fault, end_fault, box_fault, module_fault, body_line_code, content_code, is_last_module_incomplete};
+ghost use Rattle.certificate_lines.specs.Rules.{timed_line_count, border_line_code, entry_fault, end_fault, module_box_code, module_line_code, body_line_code, content_code, is_last_module_incomplete};
 ghost use Rattle.certificate_lines.specs.BuilderView.{BuilderView, IsEdgeHaloOrStopLine, IsBodyLine, AreSmallCounts};
 ghost use Rattle.certificate_lines.specs.declared.certificate_line.CertificateLine.TheVariants.{Module};
 
@@ -259,10 +259,10 @@ impl<'a> Builder<'a> {
     }
 
     // The code of the tests of a box by itself.
-    #[tactic(auto, using(crate::proofs::BuiltLemmas::near_by), unfolding(crate::specs::Rules::box_fault))]
+    #[tactic(auto, using(crate::proofs::BuiltLemmas::near_by), unfolding(crate::specs::Rules::module_box_code))]
     fn box_code(&self, area: Box2) -> Option<RefusalCode>
         ensures code { result
-            ≡ box_fault self.now.setting (length (modules_of self.now.entries))
+            ≡ module_box_code self.now.setting (length (modules_of self.now.entries))
             (last_module self.now.entries) area }
         ensures columns { result ≡ None → (area.x + area.w ≤ self.now.setting.size.w)
             × (area.x + area.w ≤ 512) }
@@ -286,7 +286,7 @@ impl<'a> Builder<'a> {
 
     // The code of the first test that the box of a module fails, by itself and among the earlier ones.
     fn module_code(&self, area: Box2) -> Option<RefusalCode>
-        ensures code { result ≡ module_fault self.now.setting (modules_of self.now.entries)
+        ensures code { result ≡ module_line_code self.now.setting (modules_of self.now.entries)
             (last_module self.now.entries) area }
         ensures columns { result ≡ None → (area.x + area.w ≤ self.now.setting.size.w)
             × (area.x + area.w ≤ 512) }
@@ -303,11 +303,11 @@ impl<'a> Builder<'a> {
     }
 
     fn add_module(&mut self, alloc: Global, area: Box2) -> Result<(), LineFault>
-        ensures ok { OnOk result ((module_fault self.old.setting (modules_of self.old.entries)
+        ensures ok { OnOk result ((module_line_code self.old.setting (modules_of self.old.entries)
             (last_module self.old.entries) area ≡ None)
             × (self.new ≡ record self.old { entries = self.old.entries ++ Module area ∷ [] })) }
         ensures fault { IfErr result (λ e. HasRefusalCode e
-            (module_fault self.old.setting (modules_of self.old.entries)
+            (module_line_code self.old.setting (modules_of self.old.entries)
             (last_module self.old.entries) area)) }
     {
         if let Some(code) = self.module_code(area) {

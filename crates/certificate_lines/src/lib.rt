@@ -25,7 +25,7 @@ pub use certificate_line::{BorderLine, CertificateLine, Counts, OneOrName, StopL
 pub use counts::{boxes_of, push_entry};
 pub use form::line_form;
 pub use line_tables::LineTables;
-pub use lines::{cut_list, kept_places, lines_of_module_past, used_gates};
+pub use lines::{cut_list, kept_places, lines_before_next_module, used_gates};
 pub use order::{compare_borders, rank};
 pub use ports::{PortTable, PortWire, port_tables};
 pub use stored_line::{StoredBorder, StoredLine, StoredStop};

@@ -5,7 +5,7 @@ ghost use Rattle.std.specs.Option.{option_to_list};
 ghost use Rattle.circuit.specs.Bridge.{circuit_of};
 ghost use Rattle.circuit.specs.Meaning.{wire_of};
 ghost use Rattle.module_box.specs.Locals.{is_among};
-ghost use Rattle.certificate_lines.specs.Entries.{ModuleLines, cut_in, use_in, keep_in, gates, last_module};
+ghost use Rattle.certificate_lines.specs.Entries.{ModuleLines, cut_name_in, used_gate_in, kept_gate_in, gates, last_module};
 ghost use Rattle.certificate_lines.specs.ModuleParts.{body_lines, is_module};
 
 use crate::certificate_line::CertificateLine;
@@ -25,7 +25,7 @@ fn is_module(entry: &StoredLine) -> bool
 
 /// Returns the lines before the next `module` line. It does not read the first `skipped` lines, which come before it.
 #[tactic(auto, using(crate::proofs::InnerLines::inner_found, crate::proofs::InnerLines::inner_more, crate::proofs::InnerLines::inner_all, crate::proofs::InnerLines::inner_prefix))]
-pub fn lines_of_module_past<'b, 'a>(
+pub fn lines_before_next_module<'b, 'a>(
     entries: &'b [StoredLine<'a>],
     skipped: usize,
 ) -> &'b [StoredLine<'a>]
@@ -42,7 +42,7 @@ pub fn lines_of_module_past<'b, 'a>(
 
 // Whether the line uses the gate of this number.
 fn uses_gate(entry: &StoredLine, number: u32) -> bool
-    ensures { result ≡ is_among (use_in entry.now) number }
+    ensures { result ≡ is_among (used_gate_in entry.now) number }
 {
     match entry.line() {
         CertificateLine::Use(gate) => gate == number,
@@ -76,7 +76,7 @@ fn push_if_cut(
 ) -> Result<(), AllocError>
     ensures { OnOk result (wires.new.items
         ≡ wires.old.items ++ flat_map (λ n. option_to_list (wire_of (circuit_of circuit.now) n))
-        (cut_in line.now)) }
+        (cut_name_in line.now)) }
 {
     if let Some(cut) = line.cut() {
         if let Some(wire) = circuit.wire_by_hint(cut.wire, cut.name) {
@@ -93,7 +93,7 @@ fn push_cuts(
 ) -> Result<(), AllocError>
     ensures { OnOk result (wires.new.items
         ≡ wires.old.items ++ flat_map (λ n. option_to_list (wire_of (circuit_of circuit.now) n))
-        (flat_map cut_in lines.now)) }
+        (flat_map cut_name_in lines.now)) }
 {
     for line in lines {
         push_if_cut(wires, circuit, line)?;
@@ -109,7 +109,7 @@ pub fn cut_list(
 ) -> Result<Vec<WireNo>, AllocError>
     ensures { IfOk result (λ wires. wires.items
         ≡ flat_map (λ n. option_to_list (wire_of (circuit_of circuit.now) n))
-        (flat_map cut_in lines.now)) }
+        (flat_map cut_name_in lines.now)) }
 {
     let mut wires = Vec::with_capacity(alloc, lines.len())?;
     push_cuts(&mut wires, circuit, lines)?;
@@ -117,8 +117,8 @@ pub fn cut_list(
 }
 
 fn push_if_use(gates: &mut Vec<GateNo>, line: &StoredLine) -> Result<(), AllocError>
-    requires { All (λ k. k < 2 ^ 16) (use_in line.now) }
-    ensures { OnOk result (gates.new.items ≡ gates.old.items ++ use_in line.now) }
+    requires { All (λ k. k < 2 ^ 16) (used_gate_in line.now) }
+    ensures { OnOk result (gates.new.items ≡ gates.old.items ++ used_gate_in line.now) }
 {
     if let CertificateLine::Use(number) = line.line() {
         gates.push(GateNo::of(number as u16))?;
@@ -128,8 +128,8 @@ fn push_if_use(gates: &mut Vec<GateNo>, line: &StoredLine) -> Result<(), AllocEr
 
 /// Returns the gates that the lines use.
 pub fn used_gates(alloc: Global, lines: &[StoredLine]) -> Result<Vec<GateNo>, AllocError>
-    requires { All (λ k. k < 2 ^ 16) (flat_map use_in lines.now) }
-    ensures { IfOk result (λ gates. gates.items ≡ flat_map use_in lines.now) }
+    requires { All (λ k. k < 2 ^ 16) (flat_map used_gate_in lines.now) }
+    ensures { IfOk result (λ gates. gates.items ≡ flat_map used_gate_in lines.now) }
 {
     let mut gates = Vec::with_capacity(alloc, lines.len())?;
     for line in lines {
@@ -159,10 +159,10 @@ fn push_if_keep(
     line: &StoredLine,
 ) -> Result<(), AllocError>
     requires at_most_64 { length gates.now ≤ 64 }
-    requires used { All (λ k. IsTrue (is_among gates.now k)) (keep_in line.now) }
+    requires used { All (λ k. IsTrue (is_among gates.now k)) (kept_gate_in line.now) }
     requires within { All (λ place. place < length gates.now) places.old.items }
     ensures gates { OnOk result (map (slice_index gates.now) places.new.items
-        ≡ map (slice_index gates.now) places.old.items ++ keep_in line.now) }
+        ≡ map (slice_index gates.now) places.old.items ++ kept_gate_in line.now) }
     ensures within { OnOk result (All (λ place. place < length gates.now) places.new.items) }
 {
     if let CertificateLine::Keep(number) = line.line() {
@@ -178,9 +178,9 @@ pub fn kept_places(
     lines: &[StoredLine],
 ) -> Result<Vec<u16>, AllocError>
     requires at_most_64 { length gates.now ≤ 64 }
-    requires used { All (λ k. IsTrue (is_among gates.now k)) (flat_map keep_in lines.now) }
+    requires used { All (λ k. IsTrue (is_among gates.now k)) (flat_map kept_gate_in lines.now) }
     ensures gates { IfOk result (λ places. map (slice_index gates.now) places.items
-        ≡ flat_map keep_in lines.now) }
+        ≡ flat_map kept_gate_in lines.now) }
     ensures within { IfOk result (λ places. All (λ place. place < length gates.now) places.items) }
 {
     let mut places = Vec::new(alloc);

@@ -37,13 +37,13 @@ pub struct PortTable<'a> {
 }
 
 impl<'a> Model for PortTable<'a> {
-    ghost use Rattle.certificate_lines.specs.PortTables.{CircuitPorts};
+    ghost use Rattle.certificate_lines.specs.PortTables.{CircuitAndPorts};
 
-    ghost Value = { CircuitPorts };
+    ghost Value = { CircuitAndPorts };
 
-    ghost use Rattle.certificate_lines.specs.PortTables.{circuit_ports, IsPortTable};
+    ghost use Rattle.certificate_lines.specs.PortTables.{circuit_and_ports, IsPortTable};
 
-    ghost view = { circuit_ports };
+    ghost view = { circuit_and_ports };
 
     ghost invariant = { IsPortTable };
 }

@@ -3,7 +3,7 @@ ghost use Rattle.std.specs.Prelude.{◌≡◌, ◌+◌, ℕ, List, Option, Some}
 ghost use Rattle.std.specs.Option.{is_some, option_and_then};
 ghost use Rattle.circuit.specs.Meaning.{Circuit, wire_of};
 ghost use Rattle.certificate_lines.specs.Entries.{ModuleLines, gates, last_module};
-ghost use Rattle.certificate_lines.specs.Rules.{whole, is_bad_box_side, is_misplaced, is_odd, is_local_wire, cut_fault, use_fault, keep_line_code, is_line_time_allowed, is_edge_place_and_time, is_halo_place_and_time, is_stop_place_and_time, border_line_code};
+ghost use Rattle.certificate_lines.specs.Rules.{whole, is_bad_box_side, is_misplaced, is_odd, is_local_wire, cut_line_code, use_line_code, keep_line_code, is_line_time_allowed, is_edge_place_and_time, is_halo_place_and_time, is_stop_place_and_time, border_line_code};
 
 use crate::certificate_line::{BorderLine, StopLine};
 use crate::line_tables::LineTables;
@@ -71,10 +71,10 @@ pub(crate) fn is_local_wire(known: &WireList, wire: Option<u16>) -> bool
 
 /// Returns the code of a cut of this wire, if `count` wires are cut already. `None` for the wire means that the circuit
 /// has no wire of the name.
-#[tactic(auto, unfolding(crate::specs::Rules::cut_fault))]
+#[tactic(auto, unfolding(crate::specs::Rules::cut_line_code))]
 pub(crate) fn cut_code(count: usize, known: &WireList, wire: Option<u16>) -> Option<RefusalCode>
     ensures { (c : Circuit) (name : List ℕ) → wire ≡ wire_of c name →
-        result ≡ cut_fault c count known.now.wires name }
+        result ≡ cut_line_code c count known.now.wires name }
 {
     if count >= MAX_CUTS {
         return Some(RefusalCode::PastLimit);
@@ -87,14 +87,14 @@ pub(crate) fn cut_code(count: usize, known: &WireList, wire: Option<u16>) -> Opt
 }
 
 /// Returns the code of a used gate, if `count` gates are used already.
-#[tactic(auto, unfolding(crate::specs::Rules::use_fault, crate::specs::Rules::used_gate_fault))]
+#[tactic(auto, unfolding(crate::specs::Rules::use_line_code, crate::specs::Rules::used_gate_fault))]
 pub(crate) fn use_code(
     tables: &LineTables,
     count: usize,
     known: &WireList,
     number: u32,
 ) -> Option<RefusalCode>
-    ensures { result ≡ use_fault tables.now.circuit count known.now.wires number }
+    ensures { result ≡ use_line_code tables.now.circuit count known.now.wires number }
 {
     if count >= MAX_USED_GATES {
         return Some(RefusalCode::PastLimit);

@@ -3,7 +3,7 @@ ghost use Rattle.std.specs.Prelude.{◌≡◌, ◌<◌, IfSome};
 ghost use Rattle.std.specs.Option.{option_and_then, option_map, option_to_list};
 ghost use Rattle.circuit.specs.Bridge.{circuit_of, netlist_of};
 ghost use Rattle.circuit.specs.Meaning.{wire_of, wires};
-ghost use Rattle.certificate_lines.specs.Entries.{cut_in, edge_in, halo_in, name_in, stop_in};
+ghost use Rattle.certificate_lines.specs.Entries.{cut_name_in, edge_in, halo_in, name_in, stop_in};
 ghost use Rattle.certificate_lines.specs.Versions.{is_halo};
 ghost use Rattle.certificate_lines.specs.declared.certificate_line.CertificateLine.TheVariants.{Module, Halo};
 
@@ -183,7 +183,7 @@ impl<'a> StoredLine<'a> {
     /// Returns the wire that the line cuts, if it is a cut.
     #[inline(always)]
     pub(crate) fn cut(&self) -> Option<NamedWire<'a>>
-        ensures { option_to_list (option_map (λ w. w.name.now) result) ≡ cut_in self.now }
+        ensures { option_to_list (option_map (λ w. w.name.now) result) ≡ cut_name_in self.now }
     {
         match self.content {
             Content::Cut(wire, name) => Some(NamedWire { wire, name }),

@@ -33,8 +33,8 @@ draws_of c seat = slice_index_or c.draws seat []
 -- ---- a claim of a seat
 
 -- the answer to a claim of a seat
-abbrev pub claim_of : CoreView → ℕ → Claim
-claim_of c seat = claim_answer (job_count_of c) (draws_of c seat) c.next
+abbrev pub claim_of_seat : CoreView → ℕ → Claim
+claim_of_seat c seat = claim_answer (job_count_of c) (draws_of c seat) c.next
 
 -- the core after a claim of a seat
 abbrev pub after_claim : CoreView → ℕ → CoreView
@@ -58,7 +58,7 @@ after_event c (Events.Lose number) = c
 
 -- the answer to an event
 abbrev pub answer_to : CoreView → Event → Answer
-answer_to c (Events.Claim seat) = answer_of_claim (claim_of c seat)
+answer_to c (Events.Claim seat) = answer_of_claim (claim_of_seat c seat)
 answer_to c (Events.File f) = Answered.Reply (reply_to c.book f)
 answer_to c (Events.Lose number) = Answered.Lost
 

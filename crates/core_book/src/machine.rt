@@ -72,7 +72,7 @@ impl Model for Core {
 
 impl Core {
     ghost use Rattle.core_book.specs.Draws.{IsDrawn};
-    ghost use Rattle.core_book.specs.Core.{HasSeatBelow, after_claim, after_event, answer_to, claim_of, draws_of, new_core};
+    ghost use Rattle.core_book.specs.Core.{HasSeatBelow, after_claim, after_event, answer_to, claim_of_seat, draws_of, new_core};
 
     /// Creates a core of these jobs, numbered from 0 in their order, and of seats that have drawn nothing.
     ///
@@ -129,7 +129,7 @@ impl Core {
     // A claim of this seat.
     fn claim(&mut self, seat: usize) -> Result<Claim, AllocError>
         requires { seat < length self.old.draws }
-        ensures answer { IfOk result (λ a. a ≡ claim_of self.old seat) }
+        ensures answer { IfOk result (λ a. a ≡ claim_of_seat self.old seat) }
         ensures after { OnOk result (self.new ≡ after_claim self.old seat) }
         ensures unchanged { OnErr result (self.new ≡ self.old) }
     {

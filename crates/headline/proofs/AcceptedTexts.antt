@@ -20,13 +20,14 @@ use Rattle.certificate.specs.Jobs.{end_demand, start_signal}
 use Rattle.local_run.specs.Runs.{local_step, with_halo}
 use Rattle.soundness.proofs.NumberedSignals.{numbered, place_among}
 use Rattle.soundness.proofs.SomeJobs.{demanded, placed_gate, placed_gates, placed_stop, places}
-use Rattle.headline.specs.Laws.{ThereAndBackIsAccepted, TimedModulesAreAccepted}
-use Rattle.headline.specs.PlainLaws.{ThereAndBackIsPlain, ThereAndBackIsSmall}
+use Rattle.headline.specs.Laws.{ThereAndBackTextIsAccepted, TimedModulesTextIsAccepted}
+use Rattle.headline.specs.PlainLaws.{ThereAndBackTextIsPlain, ThereAndBackTextIsSmall}
 use Rattle.headline.specs.PlainNo.{plain_no_text}
 use Rattle.headline.specs.PlainYes.{plain_yes_text}
 use Rattle.headline.specs.ThereAndBack.{there_and_back_text}
 use Rattle.headline.specs.TimedModules.{timed_modules_text}
-use Rattle.headline.specs.Witnesses.{PlainNoIsRefuted, PlainYesIsAccepted, SmallDesignIsAccepted, SmallDesignIsRefuted}
+use Rattle.headline.specs.Witnesses.{PlainNoTextIsRefuted, PlainYesTextIsAccepted, SmallDesignIsAccepted}
+use Rattle.headline.specs.Witnesses.{SmallDesignIsRefuted}
 use Rattle.headline.proofs.FailingTexts.{Fails, is_refuted}
 use Rattle.headline.proofs.PassingTexts.{PassesIfRead, accepted_if}
 use Rattle.headline.proofs.PlainLines.{plain_lines_decide}
@@ -205,9 +206,9 @@ unfolding timed_modules_text there_and_back_text plain_yes_text plain_no_text bu
     layout_forms.box_of forms.star_or_time_at_word forms.one_or_name_at_word forms.border_of_five_words forms.border_of
     forms.stop_of_five_words forms.stop_of
     forms.form_of orders.rank_of orders.sort_number_of orders.cell_of orders.line_cmp orders.is_cut orders.may_precede
-    orders.may_follow rules.has_nonlocal_port rules.box_fault rules.module_fault rules.cut_fault
+    orders.may_follow rules.has_nonlocal_port rules.module_box_code rules.module_line_code rules.cut_line_code
     rules.are_new_and_distinct rules.used_gate_fault
-    rules.use_fault rules.keep_line_code rules.is_line_time_allowed rules.is_edge_place_and_time
+    rules.use_line_code rules.keep_line_code rules.is_line_time_allowed rules.is_edge_place_and_time
     rules.is_halo_place_and_time rules.is_stop_place_and_time
     rules.signal_fault rules.border_line_code rules.entry_fault rules.end_fault cell_cmp versions.modules_by_version
     start_signal
@@ -236,19 +237,19 @@ are_read = record {
   };
 }
 
-pub timed_accepted : TimedModulesAreAccepted
+pub timed_accepted : TimedModulesTextIsAccepted
 timed_accepted = accepted_if timed_modules_text are_read.timed
 
-pub inverse_accepted : ThereAndBackIsAccepted
+pub inverse_accepted : ThereAndBackTextIsAccepted
 inverse_accepted = accepted_if there_and_back_text are_read.inverse
 
 -- ---- the second one is the plain text of a small design
 
-pub plain : ThereAndBackIsPlain
+pub plain : ThereAndBackTextIsPlain
 plain = (plain_lines_decide there_and_back_text inverse_accepted.0 Yes circuit layout
     ((bundle_good there_and_back_text bundle are_read.reads).says_all layout refl) inverse_accepted.1 (λ e. cc)).0
 
-pub small : ThereAndBackIsSmall
+pub small : ThereAndBackTextIsSmall
 small = record {
   circuit = circuit;
   layout = layout;
@@ -280,8 +281,8 @@ yes_stops =
     ∷ ball (codes "q") (cell 4 4) ∷ [])) same.1
     (subst (λ es. All (StopHolds (circuit_of r.circuit) r.layout) (flat_map entries.stop_in es)) own r.stops))
 
-pub plain_yes_accepted : PlainYesIsAccepted
-plain_yes_accepted = record {
+pub plain_yes_text_accepted : PlainYesTextIsAccepted
+plain_yes_text_accepted = record {
   first_ball = All-head (StopHolds (circuit_of meeting) right_layout) (ball (codes "p") (cell 3 3))
       (ball (codes "q") (cell 4 4) ∷ []) yes_stops;
   second_ball = All-head (StopHolds (circuit_of meeting) right_layout) (ball (codes "q") (cell 4 4)) []
@@ -301,8 +302,8 @@ plain_yes_accepted = record {
   reported = yes_accepted.1;
 }
 
-pub plain_no_refuted : PlainNoIsRefuted
-plain_no_refuted =
+pub plain_no_text_refuted : PlainNoTextIsRefuted
+plain_no_text_refuted =
     let is = is_refuted plain_no_text (meeting_bundle wrong_layout) are_read.no_reads wrong_layout one (cell 2 2) 1
     (Meet 0 (Some 1) ∷ []) are_read.no_fails in
     record {

@@ -31,7 +31,7 @@ use Rattle.soundness.specs.PlainCertificates.{LocalLineMeans}
 use Rattle.core_book.specs.Verdicts.{AreLeastFaultsOfJob, report_lines_from, unkept_lines}
 use Rattle.core_book.specs.declared.verdict.LeastFaults.{LeastFaults}
 use Rattle.soundness.proofs.FirstFaults.{ring_inside}
-use Rattle.soundness.proofs.PlainCertificates.{only_module, plain_lines}
+use Rattle.soundness.proofs.PlainCertificates.{only_module, plain_report_lines}
 use Rattle.soundness.proofs.SomeVerdict.{IsVecOf, jobs_good}
 use Rattle.soundness.proofs.Trials.{all_at, all_below, at_every, at_odd, at_odd_times, edge_test, every_cell, given_of}
 use Rattle.soundness.proofs.Trials.{implied, meets, meets_is, stop_test}
@@ -319,7 +319,7 @@ module _ (text : List ℕ) (b : Bundle) (e : bundle_of text ≡ Ok b) (p : Patte
 
   means : All (LineMeans b.circuit p m) lines
   means = subst (All (LineMeans b.circuit p m)) vec.items
-      (plain_lines b.circuit p m (j ∷ []) vec.vec
+      (plain_report_lines b.circuit p m (j ∷ []) vec.vec
       (read_layout-names b.circuit p read_so.inputs read_so.named) together fails.plain judged)
 
   pub is_refuted : IsRefuted text b p m d a times

@@ -16,9 +16,9 @@ pub use Rattle.bbm_rule.specs.declared.block.Box2.{Box2}
 pub use Rattle.bbm_rule.specs.declared.block.Cell.{Cell}
 pub use Rattle.border_match.proofs.Imports.{ints, modules_in, ◌+ℤ◌}
 pub use Rattle.certificate.proofs.FullModules.{meant_modules, meant_old}
-pub use Rattle.certificate.proofs.Imports.{AreFaultless, CertView, IsFaultless, certificate_grammar, codes, cut_in}
+pub use Rattle.certificate.proofs.Imports.{AreFaultless, CertView, IsFaultless, certificate_grammar, codes, cut_name_in}
 pub use Rattle.certificate.proofs.Imports.{drop, edge_in, filter, flat_map-append, is_haloless_version, is_module}
-pub use Rattle.certificate.proofs.Imports.{keep_in, map-append, nat_le, stop_in}
+pub use Rattle.certificate.proofs.Imports.{kept_gate_in, map-append, nat_le, stop_in}
 unfoldable pub use Rattle.certificate.proofs.Imports.{add_line, certificate_text, lacks_edge_wire_beside, modules_of}
 unfoldable pub use Rattle.certificate.proofs.Imports.{with_halos, without_halos}
 pub use Rattle.certificate.proofs.MeantLines.{stops_meant}

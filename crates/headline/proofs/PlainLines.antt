@@ -3,9 +3,9 @@ use Rattle.headline.proofs.Imports.{All, All-cons, All-nil, AreGoodCircuitLines,
 use Rattle.headline.proofs.Imports.{CircuitLine, Cut, Edge, Halo, IsGoodDesign, IsInputName, IsPlaced, IsPlain, Keep}
 use Rattle.headline.proofs.Imports.{List, Module, ModuleLines, Pattern, SaysPlain, Some, Stop, Use, [], add_line}
 use Rattle.headline.proofs.Imports.{and_parts, any_at, ap, append-nil, append_assoc, ap₂, arith, bytes_same, cases_Bool}
-use Rattle.headline.proofs.Imports.{cut_in, cuts, defined, edge_in, edges, eq-eqb, eqb, eqb-true, false, filter}
+use Rattle.headline.proofs.Imports.{cut_name_in, cuts, defined, edge_in, edges, eq-eqb, eqb, eqb-true, false, filter}
 use Rattle.headline.proofs.Imports.{flat_map, flat_map-append, gate_numbers, has, inl, input_names, inputs_are_first}
-use Rattle.headline.proofs.Imports.{inr, is_among, is_inverse_gate, is_module, keep_in, length, list_all, map}
+use Rattle.headline.proofs.Imports.{inr, is_among, is_inverse_gate, is_module, kept_gate_in, length, list_all, map}
 use Rattle.headline.proofs.Imports.{modules_of, netlist_of, not, placed, plain_lines, range_with_len, refl, slice_get}
 use Rattle.headline.proofs.Imports.{slice_get_within, subst, suc, sym, true, whole, zero, ℕ, ◌&&◌, ◌++◌, ◌+◌, ◌<◌, ◌∙◌}
 use Rattle.headline.proofs.Imports.{◌∷◌, ◌≡◌, ◌≤◌}
@@ -122,19 +122,19 @@ module _ (circuit : List CircuitLine) (p : Pattern) (good : AreGoodCircuitLines 
       (all_mapped Keep (λ k. refl) kept))
 
   its_cuts : cuts one ≡ input_names circuit
-  its_cuts = three_parts cut_in cut_lines use_lines keep_lines
+  its_cuts = three_parts cut_name_in cut_lines use_lines keep_lines
       ∙ ap₂ (λ a b. a ++ b)
-      (ap₂ (λ a b. a ++ b) (own_of Cut cut_in (λ n. refl) (input_names circuit))
-      (none_of Use cut_in (λ k. refl) (gate_numbers circuit)) ∙ append-nil (input_names circuit))
-      (none_of Keep cut_in (λ k. refl) kept)
+      (ap₂ (λ a b. a ++ b) (own_of Cut cut_name_in (λ n. refl) (input_names circuit))
+      (none_of Use cut_name_in (λ k. refl) (gate_numbers circuit)) ∙ append-nil (input_names circuit))
+      (none_of Keep cut_name_in (λ k. refl) kept)
       ∙ append-nil (input_names circuit)
 
   its_keeps : keeps one ≡ kept
-  its_keeps = three_parts keep_in cut_lines use_lines keep_lines
+  its_keeps = three_parts kept_gate_in cut_lines use_lines keep_lines
       ∙ ap₂ (λ a b. a ++ b)
-      (ap₂ (λ a b. a ++ b) (none_of Cut keep_in (λ n. refl) (input_names circuit))
-      (none_of Use keep_in (λ k. refl) (gate_numbers circuit)))
-      (own_of Keep keep_in (λ k. refl) kept)
+      (ap₂ (λ a b. a ++ b) (none_of Cut kept_gate_in (λ n. refl) (input_names circuit))
+      (none_of Use kept_gate_in (λ k. refl) (gate_numbers circuit)))
+      (own_of Keep kept_gate_in (λ k. refl) kept)
 
   its_edges : edges one ≡ []
   its_edges = three_parts edge_in cut_lines use_lines keep_lines

@@ -6,8 +6,8 @@ use Rattle.headline.proofs.Imports.{Local, Meet, ModuleLines, No, Ok, Outcome, P
 use Rattle.headline.proofs.Imports.{Result, Satisfies, SaysBundle, SaysDesign, SaysNoWith, SaysPlain, SaysReport}
 use Rattle.headline.proofs.Imports.{Setting, Some, StopHolds, TouchesRim, Valuation, Verdict, Yes, [], all_in_modules}
 use Rattle.headline.proofs.Imports.{all_stops, ap, arith, bundle_of, cases_Bool, certificate_text, circuit_of}
-use Rattle.headline.proofs.Imports.{common_steps, cut_in, cuts, edge_in, edges, flat_map, inl, inr, is_among}
-use Rattle.headline.proofs.Imports.{is_haloless_version, keep_in, length, map, meant_old, modules_in, modules_of}
+use Rattle.headline.proofs.Imports.{common_steps, cut_name_in, cuts, edge_in, edges, flat_map, inl, inr, is_among}
+use Rattle.headline.proofs.Imports.{is_haloless_version, kept_gate_in, length, map, meant_old, modules_in, modules_of}
 use Rattle.headline.proofs.Imports.{netlist_of, option_map, read_layout-names, refl, report_text, setting_of, sha256}
 use Rattle.headline.proofs.Imports.{slice_get, slice_get-map, stop_in, stops_meant, subst, sym, verdict_outcome}
 use Rattle.headline.proofs.Imports.{with_halos, ℕ, ℤ, ◌∙◌, ◌∷◌, ◌≡◌}
@@ -20,11 +20,11 @@ use Rattle.headline.specs.Plain.{IsWrongIfPlain, IsWrongText}
 use Rattle.headline.specs.ReportLines.{EarliestIsReal, LinesMeanIfPlain, LinesHaveMeaning}
 use Rattle.headline.specs.PlainLaws.{LinesOfNoHaveMeaning, PlainIsDecided, PlainNoMeansWrong, YesKeepsOffRim}
 use Rattle.core_book.specs.declared.verdict.ReportLine.TheVariants.{Keep, Border, Unkept, Delay}
-use Rattle.soundness.specs.FirstFaults.{GivesModuleAssignment, IsAsCertified, IsEarliestLine, IsReal}
+use Rattle.soundness.specs.FirstFaults.{IsModuleAssignmentOf, IsAsCertified, IsEarliestLine, IsReal}
 use Rattle.soundness.specs.HeadlineLaws.{HasInputNames}
 use Rattle.soundness.specs.PlainCertificates.{IsWrongDesign}
 use Rattle.soundness.specs.OnTime.{IsOnTime}
-use Rattle.soundness.proofs.PlainCertificates.{plain_no, plain_lines}
+use Rattle.soundness.proofs.PlainCertificates.{plain_no, plain_report_lines}
 use Rattle.soundness.proofs.WholeRuns.{off_rim}
 use Rattle.soundness.proofs.YesMeansCorrect.{bundle_read}
 use Rattle.headline.proofs.Designs.{one_certificate, one_design}
@@ -42,11 +42,11 @@ unfolding with_halos
 full_plain g ms lines p m plain = record {
   box = plain.box;
   inputs = subst (All (IsInputName lines))
-      (sym (other_lines cut_in (record { halo = λ e. refl; stop = λ s. refl }) m.lines
+      (sym (other_lines cut_name_in (record { halo = λ e. refl; stop = λ s. refl }) m.lines
       (sorted_border_lines (edge_lines_beside g ms m.area))))
       plain.inputs;
   inverses = λ n gate at inverse.
-      ap (λ ks. is_among ks n) (other_lines keep_in (record { halo = λ e. refl; stop = λ s. refl }) m.lines
+      ap (λ ks. is_among ks n) (other_lines kept_gate_in (record { halo = λ e. refl; stop = λ s. refl }) m.lines
       (sorted_border_lines (edge_lines_beside g ms m.area))) ∙ plain.inverses n gate at inverse;
   no_edge = other_lines edge_in (record { halo = λ e. refl; stop = λ s. refl }) m.lines
       (sorted_border_lines (edge_lines_beside g ms m.area)) ∙ plain.no_edge;
@@ -97,11 +97,11 @@ real_same : (lines : List CircuitLine) (p : Pattern) (full m : ModuleLines) (inp
 real_same lines p full m inputs v f same real = grind (arith, common_steps, certified_same)
 
 assignment_same : (c : Circuit) (full m : ModuleLines) (v : Valuation) (a : ℕ) → HaveSameLines full m →
-    GivesModuleAssignment c m v a → GivesModuleAssignment c full v a
+    IsModuleAssignmentOf c m v a → IsModuleAssignmentOf c full v a
 assignment_same c full m v a same has k name at = has k name (sym (ap (λ ns. slice_get ns k) same.cuts_same) ∙ at)
 
 assignment_back : (c : Circuit) (full m : ModuleLines) (v : Valuation) (a : ℕ) → HaveSameLines full m →
-    GivesModuleAssignment c full v a → GivesModuleAssignment c m v a
+    IsModuleAssignmentOf c full v a → IsModuleAssignmentOf c m v a
 assignment_back c full m v a same has k name at = has k name (ap (λ ns. slice_get ns k) same.cuts_same ∙ at)
 
 line_same : (lines : List CircuitLine) (p : Pattern) (full m : ModuleLines) (l : ReportLine) → HaveSameLines full m →
@@ -281,7 +281,7 @@ module _ (text : List ℕ) (b : Bundle) (output : List ℕ) (outcome : Outcome) 
     abbrev Earliest : List CircuitLine → Pattern → List CertificateLine → Type 0
     Earliest circuit layout certificate = (i : ℕ) (m : ModuleLines) (f : Fault) (inputs v : Valuation) →
         IsEarliestLine its_no.lines.items i f → slice_get (modules_of certificate) i ≡ Some m →
-        Satisfies (netlist_of circuit) inputs v → GivesModuleAssignment (circuit_of circuit) m v f.assignment →
+        Satisfies (netlist_of circuit) inputs v → IsModuleAssignmentOf (circuit_of circuit) m v f.assignment →
         IsReal circuit layout m inputs v f
 
     own_earliest : Earliest c.circuit c.layout c.entries
@@ -310,7 +310,7 @@ module _ (text : List ℕ) (b : Bundle) (output : List ℕ) (outcome : Outcome) 
         let jobs = says.is_verdict.jobs in
         let g = setting_of c.circuit c.layout in
         let all : All (LineMeans c.circuit c.layout it.one) its_no.lines.items =
-        plain_lines c.circuit c.layout it.one jobs its_no.lines named
+        plain_report_lines c.circuit c.layout it.one jobs its_no.lines named
         (subst (λ ms. BelongTogether c.circuit c.layout ms jobs) it.alone together) it.plain
         (subst (λ ms. IsVerdict g ms jobs (verdict.No its_no.lines)) it.alone judged) in
         subst (λ cs. All (LineMeans cs r.layout r.one) its_no.lines.items) (sym same.0)

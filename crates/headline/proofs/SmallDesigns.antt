@@ -8,7 +8,8 @@ use Rattle.headline.proofs.Imports.{Port, Refused, SaysBundle, SaysReport, Setti
 use Rattle.headline.proofs.Imports.{Verdict, Yes, [], add_line, and_parts, any_at, ap, append-nil, append_assoc, ap₂}
 use Rattle.headline.proofs.Imports.{arith, bundle_of, bytes_eq, bytes_eq-Decides, bytes_same, cases_Bool}
 use Rattle.headline.proofs.Imports.{certificate_grammar, circuit_grammar, circuit_of, code_if, common_steps, cond}
-use Rattle.headline.proofs.Imports.{cut_in, cuts, defined, defines, drop, eqb, eqb-true, false, faultless_named, filter}
+use Rattle.headline.proofs.Imports.{cut_name_in, cuts, defined, defines, drop, eqb, eqb-true, false, faultless_named}
+use Rattle.headline.proofs.Imports.{filter}
 use Rattle.headline.proofs.Imports.{flat_map, flat_map-append, gate_numbers, gates_are_ordered, has, in_box, inl}
 use Rattle.headline.proofs.Imports.{input_names, inputs_are_first, inr, is_among, is_inverse_gate, is_layout_side}
 use Rattle.headline.proofs.Imports.{is_module, kept, known, layout_grammar, layout_section, length, length-append}
@@ -27,12 +28,14 @@ use Rattle.circuit.specs.Rules.{define_fault}
 use Rattle.circuit.proofs.Bridging.{define_first, defined_push, numbers_new}
 use Rattle.circuit.proofs.Naming.{wires_are_named}
 use Rattle.module_box.specs.Locals.{local_wires}
-use Rattle.certificate_lines.specs.Entries.{gates, last_of, use_in, areas}
+use Rattle.certificate_lines.specs.Entries.{gates, last_of, used_gate_in, areas}
 use Rattle.certificate_lines.specs.Orders.{is_cut, line_cmp, may_follow, may_precede, sort_number_of, rank_of}
-use Rattle.certificate_lines.specs.Rules.{are_new_and_distinct, cut_fault, entry_fault, used_gate_fault, body_line_code}
-use Rattle.certificate_lines.specs.Rules.{keep_line_code, line_fault, use_fault, content_code, box_fault, end_fault}
+use Rattle.certificate_lines.specs.Rules.{are_new_and_distinct, cut_line_code, entry_fault, used_gate_fault}
+use Rattle.certificate_lines.specs.Rules.{body_line_code}
+use Rattle.certificate_lines.specs.Rules.{keep_line_code, line_fault, use_line_code, content_code, module_box_code}
+use Rattle.certificate_lines.specs.Rules.{end_fault}
 use Rattle.certificate_lines.specs.Rules.{is_last_module_incomplete, is_local, is_local_wire, is_odd, is_bad_box_side}
-use Rattle.certificate_lines.specs.Rules.{has_nonlocal_port, leaves_gap, module_fault}
+use Rattle.certificate_lines.specs.Rules.{has_nonlocal_port, leaves_gap, module_line_code}
 use Rattle.certificate_lines.proofs.LocalLemmas.{local_more}
 use Rattle.pattern.specs.Lines.{AreNamed}
 use Rattle.certificate_lines.proofs.BoxPlaces.{cells_inside}
@@ -239,15 +242,15 @@ all_below (suc n) a b h = grind (arith, common_steps, (all_below n (a + 1) b (om
 -- ---- what a line asks
 
 cut_ok : (c : Circuit) (count : ℕ) (local : List ℕ) (n : List ℕ) (w : ℕ) → count < 12 → wire_of c n ≡ Some w →
-    is_among local w ≡ false → cut_fault c count local n ≡ None
-unfolding cut_fault
+    is_among local w ≡ false → cut_line_code c count local n ≡ None
+unfolding cut_line_code
 cut_ok c count local n w few e fresh = grind (arith, common_steps, not_le_test)
 
 use_ok : (c : Circuit) (count : ℕ) (local : List ℕ) (k : ℕ) (x : Gate) → count < 64 →
     slice_get c.netlist.gates k ≡ Some x → list_all (is_among local) x.ins ≡ true →
     are_new_and_distinct local x.outs ≡ true →
-    use_fault c count local k ≡ None
-unfolding use_fault used_gate_fault
+    use_line_code c count local k ≡ None
+unfolding use_line_code used_gate_fault
 use_ok c count local k x few at ins new = grind (arith, common_steps, not_le_test)
 
 keep_ok : (c : Circuit) (used : List ℕ) (k : ℕ) → is_inverse_gate (slice_get c.netlist.gates k) ≡ true →
@@ -308,7 +311,7 @@ module _ (circuit : List CircuitLine) (good : AreGoodCircuitLines circuit) (p : 
       known c (module_of (map Cut done)) ≡ range_with_len 0 (length done)
   known_after_cuts done todo e =
       ap₂ (λ ns ks. local_wires c.netlist (flat_map (λ n. option_to_list (wire_of c n)) ns) ks)
-      (own_of Cut cut_in (λ n. refl) done) (none_of Cut use_in (λ n. refl) done)
+      (own_of Cut cut_name_in (λ n. refl) done) (none_of Cut used_gate_in (λ n. refl) done)
       ∙ append-nil (flat_map (λ n. option_to_list (wire_of c n)) done) ∙ cuts_known done todo e
 
   cuts_run : (done todo : List (List ℕ)) → done ++ todo ≡ ins → Inner g b (map Cut done) (map Cut todo)
@@ -321,7 +324,7 @@ module _ (circuit : List CircuitLine) (good : AreGoodCircuitLines circuit) (p : 
       let follows : may_follow (map Cut done) (Cut n) ≡ true =
       follow_mapped Cut (Cut n) (λ m. Unit {0}) done (all_anything done) (λ m u. cut_cut m n) in
       let counted : length (cuts (module_of (map Cut done))) ≡ length done = ap length
-      (own_of Cut cut_in (λ n. refl) done) in
+      (own_of Cut cut_name_in (λ n. refl) done) in
       let fresh : is_among (known c (module_of (map Cut done))) (length done) ≡ false =
       ap (λ l. is_among l (length done)) (known_after_cuts done (n ∷ todo) e) ∙ not_among (length done) 0 (length done)
       (omega arith) in (
@@ -338,12 +341,13 @@ module _ (circuit : List CircuitLine) (good : AreGoodCircuitLines circuit) (p : 
   front ks = map Cut ins ++ map Use ks
 
   front_cuts : (ks : List ℕ) → cuts (module_of (front ks)) ≡ ins
-  front_cuts ks = flat_map-append cut_in (map Cut ins) (map Use ks)
-      ∙ ap₂ (λ a b. a ++ b) (own_of Cut cut_in (λ n. refl) ins) (none_of Use cut_in (λ k. refl) ks) ∙ append-nil ins
+  front_cuts ks = flat_map-append cut_name_in (map Cut ins) (map Use ks)
+      ∙ ap₂ (λ a b. a ++ b) (own_of Cut cut_name_in (λ n. refl) ins) (none_of Use cut_name_in (λ k. refl) ks)
+      ∙ append-nil ins
 
   front_gates : (ks : List ℕ) → gates (module_of (front ks)) ≡ ks
-  front_gates ks = flat_map-append use_in (map Cut ins) (map Use ks)
-      ∙ ap₂ (λ a b. a ++ b) (none_of Cut use_in (λ n. refl) ins) (own_of Use use_in (λ k. refl) ks)
+  front_gates ks = flat_map-append used_gate_in (map Cut ins) (map Use ks)
+      ∙ ap₂ (λ a b. a ++ b) (none_of Cut used_gate_in (λ n. refl) ins) (own_of Use used_gate_in (λ k. refl) ks)
 
   front_known : (ks : List ℕ) →
       known c (module_of (front ks)) ≡ local_wires c.netlist (range_with_len 0 (length ins)) ks
@@ -415,8 +419,9 @@ module _ (circuit : List CircuitLine) (good : AreGoodCircuitLines circuit) (p : 
       (All-cons (λ j. j < a + 1) a [] (omega arith) (All-nil (λ j. j < a + 1)))
 
   keep_gates : (done : List ℕ) → gates (module_of (uses ++ map Keep done)) ≡ range_with_len 0 (length all_gates)
-  keep_gates done = flat_map-append use_in uses (map Keep done)
-      ∙ ap₂ (λ a b. a ++ b) (front_gates (range_with_len 0 (length all_gates))) (none_of Keep use_in (λ k. refl) done)
+  keep_gates done = flat_map-append used_gate_in uses (map Keep done)
+      ∙ ap₂ (λ a b. a ++ b) (front_gates (range_with_len 0 (length all_gates)))
+      (none_of Keep used_gate_in (λ k. refl) done)
       ∙ append-nil (range_with_len 0 (length all_gates))
 
   keeps_run : (n a : ℕ) (done : List ℕ) → a + n ≡ length all_gates → All (λ j. j < a) done →
@@ -465,8 +470,9 @@ module _ (circuit : List CircuitLine) (good : AreGoodCircuitLines circuit) (p : 
       (keeps_run (length all_gates) 0 [] (omega arith) (All-nil (λ j. j < 0))))
 
   keep_cuts : (done : List ℕ) → cuts (module_of (uses ++ map Keep done)) ≡ ins
-  keep_cuts done = flat_map-append cut_in uses (map Keep done)
-      ∙ ap₂ (λ a b. a ++ b) (front_cuts (range_with_len 0 (length all_gates))) (none_of Keep cut_in (λ k. refl) done)
+  keep_cuts done = flat_map-append cut_name_in uses (map Keep done)
+      ∙ ap₂ (λ a b. a ++ b) (front_cuts (range_with_len 0 (length all_gates)))
+      (none_of Keep cut_name_in (λ k. refl) done)
       ∙ append-nil ins
 
   final_known : (n : ℕ) (done gs : List Gate) → done ++ gs ≡ all_gates → AreOrdered n gs →
@@ -624,7 +630,7 @@ module _ (circuit : List CircuitLine) (p : Pattern) (good : AreGoodCircuitLines 
   not_past n = grind (arith, nat_tests)
 
   module_good : entry_fault its_setting [] (Module (whole p.size)) ≡ None
-  unfolding entry_fault module_fault box_fault modules_of last_of
+  unfolding entry_fault module_line_code module_box_code modules_of last_of
   module_good =
       ap₂ or_else
       (ap₂ or_else

@@ -106,9 +106,9 @@ UnrefusedDesignIsGood = (text output : List ℕ) (outcome : Outcome) (circuit : 
     SaysDesign text circuit layout → IsGoodDesign text circuit layout
 
 -- Something is reported with the outcome yes, so the laws are not about nothing: this text.
-abbrev pub TimedModulesAreAccepted : Type 0
-TimedModulesAreAccepted = (output : List ℕ) × IsReportOf timed_modules_text output Yes
+abbrev pub TimedModulesTextIsAccepted : Type 0
+TimedModulesTextIsAccepted = (output : List ℕ) × IsReportOf timed_modules_text output Yes
 
 -- and this one, with an inverse gate
-abbrev pub ThereAndBackIsAccepted : Type 0
-ThereAndBackIsAccepted = (output : List ℕ) × IsReportOf there_and_back_text output Yes
+abbrev pub ThereAndBackTextIsAccepted : Type 0
+ThereAndBackTextIsAccepted = (output : List ℕ) × IsReportOf there_and_back_text output Yes

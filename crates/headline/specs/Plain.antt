@@ -1,7 +1,7 @@
 -- The meaning of a no of `check` if the certificate is plain: one module that is the whole rectangle.
 --
 -- Read before: all that meaning/specs/Headline.antt and Stops.antt name; certificate_lines/specs/Entries.antt up to
--- `keep_in` (the lines of a module); soundness/specs/PlainCertificates.antt from `IsPlain` to `TouchesRim`.
+-- `kept_gate_in` (the lines of a module); soundness/specs/PlainCertificates.antt from `IsPlain` to `TouchesRim`.
 use Rattle.std.specs.Prelude.{◌≡◌, ◌⊎◌, ℕ, List, [], ◌∷◌}
 use Rattle.circuit.specs.declared.circuit_line.CircuitLine.{CircuitLine}
 use Rattle.pattern.specs.Layout.{Pattern}

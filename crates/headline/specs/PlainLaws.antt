@@ -64,12 +64,12 @@ abbrev pub UnrefusedKeepsDesignRules : Type 0
 UnrefusedKeepsDesignRules = (text output : List ℕ) (outcome : Outcome) (circuit : List CircuitLine) (layout : Pattern) →
     IsReportOf text output outcome → outcome ≢ Refused → SaysDesign text circuit layout → IsDesign circuit layout
 
--- Some plain text is reported with the outcome yes (`ThereAndBackIsAccepted`), so the laws are not vacuous.
-abbrev pub ThereAndBackIsPlain : Type 0
-ThereAndBackIsPlain = SaysPlain there_and_back_text
+-- Some plain text is reported with the outcome yes (`ThereAndBackTextIsAccepted`), so the laws are not vacuous.
+abbrev pub ThereAndBackTextIsPlain : Type 0
+ThereAndBackTextIsPlain = SaysPlain there_and_back_text
 
 -- It is the plain text of a small design, so `SmallDesignIsDecided` is not vacuous.
-pub record ThereAndBackIsSmall : Type 0 where
+pub record ThereAndBackTextIsSmall : Type 0 where
   pub circuit : List CircuitLine
   pub layout : Pattern
   pub plain : IsPlainText there_and_back_text circuit layout

@@ -24,7 +24,7 @@ use Rattle.headline.specs.SmallDesigns.{IsDesign, IsSmallDesign, design_text}
 -- `plain_yes_text` is plain, has at least two steps, and is reported with the outcome yes. After the first step,
 -- whatever the inputs, the ball of p is at (3, 3) if p has one, and that of q at (4, 4) if q has one. Both cells are of
 -- one block of the next step, so the balls meet there if both are on.
-pub record PlainYesIsAccepted : Type 0 where
+pub record PlainYesTextIsAccepted : Type 0 where
   pub plain : SaysPlain plain_yes_text
   pub steps : 2 ≤ plain.layout.size.steps
   pub first_ball : StopHolds (circuit_of plain.circuit) plain.layout
@@ -42,7 +42,7 @@ swapped_outputs_fault = record { time = 3; kind = End; cell = cell 2 2; assignme
 -- `plain_no_text` is plain, has at least two steps, and is reported with the outcome no. Its report has a `local` line
 -- on this fault, and the line that says that p and q meet at time 1. The `local` line means what `LocalLineMeans` says:
 -- the plane has this fault, and so the layout does not compute the circuit.
-pub record PlainNoIsRefuted : Type 0 where
+pub record PlainNoTextIsRefuted : Type 0 where
   pub plain : SaysPlain plain_no_text
   pub steps : 2 ≤ plain.layout.size.steps
   pub output : List ℕ

@@ -1,8 +1,8 @@
 //! Laws of the definitions, each the contract of a function without a body.
 ghost use Rattle.answers.specs.CheckText.{IsReportOf};
-ghost use Rattle.headline.specs.Laws.{BeginsWithOneDesign, SaysYesMeansFourthLine, FourthLineShowsOutcome, HasAnAnswer, HasAtMostOneAnswer, PrintedDesignIsRead, TextBeginsWithReadDesign, UnrefusedDesignIsGood, RightSaysCorrectDesign, SaysOneCertificate, SaysOneDesign, ThereAndBackIsAccepted, TimedModulesAreAccepted, YesHasOneValuation, YesMeansRight, YesMeansRightInFull, YesMeansRightStops};
-ghost use Rattle.headline.specs.PlainLaws.{UnrefusedKeepsDesignRules, EachSmallDesignHasPlainText, EachSmallDesignIsDecided, PlainIsDecided, PlainLinesTextIsDecided, PlainNoMeansWrong, RefusedIsNoSmallDesign, SmallDesignIsDecided, ThereAndBackIsPlain, ThereAndBackIsSmall, YesKeepsOffRim, LinesOfNoHaveMeaning};
-ghost use Rattle.headline.specs.Witnesses.{PlainNoIsRefuted, PlainYesIsAccepted, SmallDesignIsAccepted, SmallDesignIsRefuted};
+ghost use Rattle.headline.specs.Laws.{BeginsWithOneDesign, SaysYesMeansFourthLine, FourthLineShowsOutcome, HasAnAnswer, HasAtMostOneAnswer, PrintedDesignIsRead, TextBeginsWithReadDesign, UnrefusedDesignIsGood, RightSaysCorrectDesign, SaysOneCertificate, SaysOneDesign, ThereAndBackTextIsAccepted, TimedModulesTextIsAccepted, YesHasOneValuation, YesMeansRight, YesMeansRightInFull, YesMeansRightStops};
+ghost use Rattle.headline.specs.PlainLaws.{UnrefusedKeepsDesignRules, EachSmallDesignHasPlainText, EachSmallDesignIsDecided, PlainIsDecided, PlainLinesTextIsDecided, PlainNoMeansWrong, RefusedIsNoSmallDesign, SmallDesignIsDecided, ThereAndBackTextIsPlain, ThereAndBackTextIsSmall, YesKeepsOffRim, LinesOfNoHaveMeaning};
+ghost use Rattle.headline.specs.Witnesses.{PlainNoTextIsRefuted, PlainYesTextIsAccepted, SmallDesignIsAccepted, SmallDesignIsRefuted};
 ghost use Rattle.headline.specs.MovedDesigns.{EachCorrectDesignGetsYes, SomeDesignNeedsRoom};
 ghost use Rattle.headline.specs.Migration.{MigrationKeepsVersionTwo, MigrationIsIdempotent, MigrationKeepsYes, MigrationSaysTheSame};
 ghost use Rattle.answers.specs.MigrateText.{IsMigrationOf};
@@ -147,11 +147,11 @@ pub fn says_one_design()
 /// - One is plain and has three steps, in which two balls meet. The same design has a plain text without stops, which
 ///   is reported with a yes too.
 pub fn something_is_accepted()
-    ensures timed { TimedModulesAreAccepted }
-    ensures inverse { ThereAndBackIsAccepted }
-    ensures plain { ThereAndBackIsPlain }
-    ensures small { ThereAndBackIsSmall }
-    ensures meeting { PlainYesIsAccepted }
+    ensures timed { TimedModulesTextIsAccepted }
+    ensures inverse { ThereAndBackTextIsAccepted }
+    ensures plain { ThereAndBackTextIsPlain }
+    ensures small { ThereAndBackTextIsSmall }
+    ensures meeting { PlainYesTextIsAccepted }
     ensures design { SmallDesignIsAccepted }
 {}
 
@@ -160,6 +160,6 @@ pub fn something_is_accepted()
 /// Two outputs have changed places in its layout. The report has a `local` line, and its fault is one of the plane. A
 /// small design of three steps gets a no too.
 pub fn something_is_refuted()
-    ensures meeting { PlainNoIsRefuted }
+    ensures meeting { PlainNoTextIsRefuted }
     ensures design { SmallDesignIsRefuted }
 {}

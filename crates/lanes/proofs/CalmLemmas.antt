@@ -5,7 +5,7 @@ use Rattle.lanes.proofs.Imports.{MainStays, Odd, Partition, Planes, TurnsBlock, 
 use Rattle.lanes.proofs.Imports.{by_eq_or_not, by_lt_or_le, common_steps, false, false≢true, get_or, inl, inr}
 use Rattle.lanes.proofs.Imports.{mul-le-mul_left, refl, sym, true, ℕ, ◌*◌, ◌+◌, ◌-◌, ◌<◌, ◌≡◌, ◌≢◌, ◌≤◌}
 use Rattle.lemmas.proofs.Common.{cases_Bool}
-use Rattle.lanes.specs.Calm.{MarksBlocks, UnmarksBlock}
+use Rattle.lanes.specs.Calm.{MarksBlocks, UnmarksOnlyBlock}
 use Rattle.lanes.proofs.TurnLemmas.{anti_words, main_words}
 
 -- ---- the cells of blocks
@@ -24,14 +24,16 @@ cells_of Odd p u l = (l, l, l, l)
 cells_of Even p u l = (omega (arith, l), omega (arith, l), omega (arith, l), omega (arith, l))
 
 -- so they have those of each run of blocks
-abbrev pub AreRunCells : BlockPlaces → ℕ → Planes → Type 0
-AreRunCells b n p = (b.odd + n ≤ p.stride * p.rows) × (b.right + n ≤ p.stride * p.rows)
+abbrev pub AreRangeCellNumbers : BlockPlaces → ℕ → Planes → Type 0
+AreRangeCellNumbers b n p = (b.odd + n ≤ p.stride * p.rows) × (b.right + n ≤ p.stride * p.rows)
     × (b.down + n ≤ p.stride * p.rows) × (b.even + n ≤ p.stride * p.rows)
 
-pub run_cells : (part : Partition) (p : Planes) (first end : ℕ) → first < end → end ≤ block_count part p →
-    AreRunCells (block_at part p.stride first) (end - first) p
-run_cells Odd p first end l h = (omega (arith, l, h), omega (arith, l, h), omega (arith, l, h), omega (arith, l, h))
-run_cells Even p first end l h = (omega (arith, l, h), omega (arith, l, h), omega (arith, l, h), omega (arith, l, h))
+pub range_cell_numbers : (part : Partition) (p : Planes) (first end : ℕ) → first < end → end ≤ block_count part p →
+    AreRangeCellNumbers (block_at part p.stride first) (end - first) p
+range_cell_numbers Odd p first end l h =
+    (omega (arith, l, h), omega (arith, l, h), omega (arith, l, h), omega (arith, l, h))
+range_cell_numbers Even p first end l h =
+    (omega (arith, l, h), omega (arith, l, h), omega (arith, l, h), omega (arith, l, h))
 
 pub count_below : (part : Partition) (p : Planes) (u : ℕ) → u < block_count part p → u < p.stride * p.rows
 count_below Odd p u l = l
@@ -107,7 +109,8 @@ still_stable main anti b m m' p q size ch marks calm part u is free =
     )
 
 -- after a mark was taken off a block that stays, or off the last one of a row, of which nothing is known
-pub still_stable_unmarked : (part : Partition) (at : ℕ) (m m' : BlockMarks) (p : Planes) → UnmarksBlock part at m m' →
+pub still_stable_unmarked : (part : Partition) (at : ℕ) (m m' : BlockMarks) (p : Planes) →
+    UnmarksOnlyBlock part at m m' →
     (IsNotRowEnd part p.stride at → IsStable (block_at part p.stride at) p) → AreUnmarkedBlocksStable m p →
     AreUnmarkedBlocksStable m' p
 still_stable_unmarked part at m m' p unmarks block calm other u is free = elim (unmarks other u free) [

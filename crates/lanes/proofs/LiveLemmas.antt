@@ -8,7 +8,7 @@ use Rattle.lanes.proofs.Imports.{false, get_or, get_or-set_other, get_or-set_sam
 use Rattle.lanes.proofs.Imports.{set, sym, true, turned, ℕ, ◌*◌, ◌+◌, ◌-◌, ◌<◌, ◌∙◌, ◌≡◌, ◌≢◌, ◌≤◌, ◌⊎◌}
 use Rattle.lanes.specs.Calm.{AreAllCellsDead}
 use Rattle.lanes.specs.Live.{AreFirstCellsMarked, AreUnmarkedCellsDead, IsLone, MarksCellIf, MarksCells, SwapsMarks}
-use Rattle.lanes.specs.Live.{UnmarksDeadCells, UnmarksIfDead}
+use Rattle.lanes.specs.Live.{UnmarksOnlyDeadCells, UnmarksOnlyIfDead}
 use Rattle.lanes.specs.Turns.{SwapsDiagonal}
 use Rattle.lanes.specs.declared.blocks.Diagonal.{Diagonal}
 use Rattle.lanes.specs.declared.blocks.Diagonal.TheVariants.{Anti, Main}
@@ -147,11 +147,12 @@ pub cells_dead : (main anti : Bool) (b : BlockPlaces) (l l' : LiveMarks) (p q : 
 cells_dead main anti b l l' p q size ch marks dead = grind (arith, common_steps, kept_dead)
 
 -- those without a mark, after marks were taken off dead ones
-unmark_dead_cells : (w n c : ℕ) (m m' xs : List ℕ) → UnmarksIfDead w c xs m m' → AreUnmarkedCellsDead w n m xs →
+unmark_dead_cells : (w n c : ℕ) (m m' xs : List ℕ) → UnmarksOnlyIfDead w c xs m m' → AreUnmarkedCellsDead w n m xs →
     AreUnmarkedCellsDead w n m' xs
 unmark_dead_cells w n c m m' xs drops dead u l free k h = grind (arith, common_steps)
 
-pub drops_dead : (b : BlockPlaces) (l l' : LiveMarks) (p : Planes) → UnmarksDeadCells p b l l' → AllUnmarkedDead l p →
+pub drops_dead : (b : BlockPlaces) (l l' : LiveMarks) (p : Planes) → UnmarksOnlyDeadCells p b l l' →
+    AllUnmarkedDead l p →
     AllUnmarkedDead l' p
 drops_dead b l l' p drops dead = grind (arith, common_steps, unmark_dead_cells)
 

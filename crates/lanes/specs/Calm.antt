@@ -48,8 +48,8 @@ MarksBlocks main anti s b m m' =
     (part : Partition) → MarksSharing part main anti s b (marks_of part m) (marks_of part m')
 
 -- no mark is taken off but that of one block
-abbrev pub UnmarksBlock : Partition → ℕ → BlockMarks → BlockMarks → Type 0
-UnmarksBlock part at m m' = (other : Partition) (u : ℕ) → IsUnmarked (marks_of other m') u →
+abbrev pub UnmarksOnlyBlock : Partition → ℕ → BlockMarks → BlockMarks → Type 0
+UnmarksOnlyBlock part at m m' = (other : Partition) (u : ℕ) → IsUnmarked (marks_of other m') u →
     IsUnmarked (marks_of other m) u ⊎ ((other ≡ part) × (u ≡ at))
 
 -- the cells with a number are dead under each assignment, one in each plane

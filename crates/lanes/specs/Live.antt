@@ -69,8 +69,8 @@ TakesMarkOfOther at other old others new =
     (u : ℕ) → IsUnmarked new u → ((u ≢ at) × IsUnmarked old u) ⊎ ((u ≡ at) × IsUnmarked others other)
 
 -- no mark is taken off, but that of a cell if it is dead
-abbrev pub UnmarksIfDead : ℕ → ℕ → List ℕ → List ℕ → List ℕ → Type 0
-UnmarksIfDead words at cells old new =
+abbrev pub UnmarksOnlyIfDead : ℕ → ℕ → List ℕ → List ℕ → List ℕ → Type 0
+UnmarksOnlyIfDead words at cells old new =
     (u : ℕ) → IsUnmarked new u → IsUnmarked old u ⊎ ((u ≡ at) × IsDeadCell words at cells)
 
 -- one more cell of each plane is marked, if the diagonal of the block that it is on changes
@@ -81,11 +81,11 @@ pub record MarksCells (main anti : Bool) (b : BlockPlaces) (l l' : LiveMarks) : 
   pub even : MarksCellIf main b.even l.even.items l'.even.items
 
 -- no mark is taken off but those of the dead cells of a block
-pub record UnmarksDeadCells (p : Planes) (b : BlockPlaces) (l l' : LiveMarks) : Type 0 where
-  pub odd : UnmarksIfDead p.words b.odd p.odd.items l.odd.items l'.odd.items
-  pub right : UnmarksIfDead p.words b.right p.right.items l.right.items l'.right.items
-  pub down : UnmarksIfDead p.words b.down p.down.items l.down.items l'.down.items
-  pub even : UnmarksIfDead p.words b.even p.even.items l.even.items l'.even.items
+pub record UnmarksOnlyDeadCells (p : Planes) (b : BlockPlaces) (l l' : LiveMarks) : Type 0 where
+  pub odd : UnmarksOnlyIfDead p.words b.odd p.odd.items l.odd.items l'.odd.items
+  pub right : UnmarksOnlyIfDead p.words b.right p.right.items l.right.items l'.right.items
+  pub down : UnmarksOnlyIfDead p.words b.down p.down.items l.down.items l'.down.items
+  pub even : UnmarksOnlyIfDead p.words b.even p.even.items l.even.items l'.even.items
 
 -- the marks of the cells of a diagonal change places
 abbrev pub SwapsMarks : Diagonal → BlockPlaces → LiveMarks → LiveMarks → Type 0

@@ -1,7 +1,7 @@
 //! Marks on the blocks of both partitions.
 
 ghost use Rattle.lanes.specs.Blocks.{block_at, marks_of};
-ghost use Rattle.lanes.specs.Calm.{AreAllMarked, AreMarkedUnlessIn, HasRoomForBlockMarks, HasSameBlockRoom, MarksBlocks, UnmarksBlock};
+ghost use Rattle.lanes.specs.Calm.{AreAllMarked, AreMarkedUnlessIn, HasRoomForBlockMarks, HasSameBlockRoom, MarksBlocks, UnmarksOnlyBlock};
 ghost use Rattle.std.specs.Prelude.{ℕ, ◌≡◌, ◌+◌, ◌*◌, ◌^◌, ◌<◌, ◌≤◌, vec_len, IfOk, true};
 
 use crate::blocks::Partition;
@@ -70,7 +70,7 @@ impl BlockMarks {
     #[inline(always)]
     pub fn unmark(&mut self, partition: Partition, u: usize)
         requires { HasRoomForBlockMarks (u + 1) self.old }
-        ensures unmarked { UnmarksBlock partition u self.old self.new }
+        ensures unmarked { UnmarksOnlyBlock partition u self.old self.new }
         ensures room { HasSameBlockRoom self.old self.new }
     {
         match partition {

@@ -12,7 +12,7 @@ use crate::words::{Changes, part_changes, swap_part, turn_part, turn_word, word_
 
 impl Planes {
     ghost use Rattle.lanes.specs.Lanes.{HasWordsStrideRows};
-    ghost use Rattle.lanes.specs.Live.{UnmarksDeadCells, HasRoomForBlockCells, HasSameRoom};
+    ghost use Rattle.lanes.specs.Live.{UnmarksOnlyDeadCells, HasRoomForBlockCells, HasSameRoom};
 
     // The places of the first words of a block's cells.
     #[inline(always)]
@@ -133,7 +133,7 @@ impl Planes {
     pub(crate) fn unmark_dead_cells(&self, live: &mut LiveMarks, block: BlockPlaces)
         requires marks { HasRoomForBlockCells live.old block }
         requires cells { AreCellNumbers block self.now }
-        ensures unmarked { UnmarksDeadCells self.now block live.old live.new }
+        ensures unmarked { UnmarksOnlyDeadCells self.now block live.old live.new }
         ensures same_room { HasSameRoom live.old live.new }
     {
         // Read once, as the compiler does not see that no mark lies there.

@@ -24,8 +24,8 @@
 //!   compare all words of a cell with others: if they return `false`, all are equal.
 //! - [`MarkedPlanes::may_be_live`] and [`MarkedPlanes::skip_dead_in_row`] find cells that may be live: the others are
 //!   dead under each assignment.
-//! - [`MarkedPlanes::border_word`] finds the cells of ring and halo that may be live or that the caller marked: each
-//!   other cell is dead and unmarked, or neither in the ring nor in the halo.
+//! - [`MarkedPlanes::border_marks_to_check`] finds the cells of ring and halo that may be live or that the caller
+//!   marked: each other cell is dead and unmarked, or neither in the ring nor in the halo.
 //! - [`is_marked`] and [`take_first`] read such marks.
 //! - [`Planes::cell_number`] returns the number of a cell in its plane, [`Planes::column_and_row`] the column and row
 //!   of a number there, and [`Planes::cells_per_plane`] how many numbers there are.

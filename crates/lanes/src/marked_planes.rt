@@ -123,7 +123,7 @@ impl MarkedPlanes {
     /// A number has no mark only if its cells are neither in the ring nor in the halo, or dead under each assignment
     /// and without a mark among the others.
     #[inline(always)]
-    pub fn border_word(&self, others: &[u64], k: usize) -> u64
+    pub fn border_marks_to_check(&self, others: &[u64], k: usize) -> u64
         requires within { 64 * k < self.now.planes.stride * self.now.planes.rows }
         requires room { k < length others.now }
         ensures passed { (u : ℕ) → u / 64 ≡ k → bit result (u % 64) ≡ false →

@@ -4,7 +4,7 @@ ghost use Rattle.bbm_rule.specs.Bits.{bit};
 ghost use Rattle.bbm_rule.specs.Marks.{IsUnmarked};
 ghost use Rattle.bbm_rule.specs.Rows.{cell_at};
 ghost use Rattle.lanes.specs.Borders.{AreUnmarkedAwayFromBorder};
-ghost use Rattle.lanes.specs.Live.{AreNumberCellsUnmarked, UnmarksIfDead, HasRoomForCellMarks, IsDeadCell, MarksCellIf, TakesMarkOfOther};
+ghost use Rattle.lanes.specs.Live.{AreNumberCellsUnmarked, UnmarksOnlyIfDead, HasRoomForCellMarks, IsDeadCell, MarksCellIf, TakesMarkOfOther};
 ghost use Rattle.lanes.specs.Blocks.{block_at};
 ghost use Rattle.lanes.specs.Calm.{MarksSharing};
 ghost use Rattle.std.specs.Int.{trailing_zeros, w64};
@@ -106,7 +106,7 @@ fn are_cell_words_zero(cells: &[u64], at: usize, words: usize) -> bool
 pub fn unmark_if_dead(marks: &mut [u64], at: usize, cells: &[u64], words: usize)
     requires mark { at / 64 < length marks.old }
     requires cell { words * at + words ≤ length cells.now }
-    ensures { UnmarksIfDead words at cells.now marks.old marks.new }
+    ensures { UnmarksOnlyIfDead words at cells.now marks.old marks.new }
 {
     if is_marked(marks, at) && are_cell_words_zero(cells, at, words) {
         unmark(marks, at);

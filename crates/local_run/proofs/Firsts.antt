@@ -140,14 +140,15 @@ not_in_ring b x y lx hx ly hy =
     (sym (both_beside b.y b.h y ly hy))) ∙ none_of _
 
 -- where a row is passed over, it is so from its first cell to its last one
-abbrev pub IsAtEnd : ℕ → ℕ → ℕ → Type 0
-IsAtEnd w x stride = (stride ≡ 1) ⊎ ((x ≡ 0) ⊎ (w ≤ x + 1))
+abbrev pub IsAtEitherEnd : ℕ → ℕ → ℕ → Type 0
+IsAtEitherEnd w x stride = (stride ≡ 1) ⊎ ((x ≡ 0) ⊎ (w ≤ x + 1))
 
-pub still_at_end : (kind : Kind) (w h y x stride : ℕ) → IsScanStride kind w h y stride → IsAtEnd w x stride →
-    IsAtEnd w (x + stride) stride
-still_at_end kind w h y x stride s at = grind (arith, common_steps)
+pub still_at_either_end : (kind : Kind) (w h y x stride : ℕ) → IsScanStride kind w h y stride →
+    IsAtEitherEnd w x stride →
+    IsAtEitherEnd w (x + stride) stride
+still_at_either_end kind w h y x stride s at = grind (arith, common_steps)
 
 pub passed_over : (j : JobView) (u : Valuation) (t : ℕ) (kind : Kind) (x x' y stride : ℕ) →
-    IsScanStride kind j.area.w j.area.h y stride → IsAtEnd j.area.w x stride →
+    IsScanStride kind j.area.w j.area.h y stride → IsAtEitherEnd j.area.w x stride →
     x < x' → x' < x + stride → x' < j.area.w → ¬ IsFaultUnder j u t kind (box_coord j.area.x x') (box_coord j.area.y y)
 passed_over j u t kind x x' y stride s at after before within f = grind (arith, common_steps, edge_none, not_in_ring)

@@ -4,7 +4,7 @@ use Rattle.local_run.proofs.Imports.{Shows, Valuation, Values, Zero, ap, arith, 
 use Rattle.local_run.proofs.Imports.{by_lt_or_le, common_steps, false, if◌then◌else◌, is_live, job_demand, job_start}
 use Rattle.local_run.proofs.Imports.{lane, local_run, place_in, refl, slice_get, sym, true, unwrap_or, ℕ, ℤ, ◌*◌, ◌+◌}
 use Rattle.local_run.proofs.Imports.{◌<◌, ◌∙◌, ◌≡◌, ◌≤◌}
-use Rattle.local_run.proofs.Firsts.{FreeAt, IsAtEnd, end_least, inner_in_box}
+use Rattle.local_run.proofs.Firsts.{FreeAt, IsAtEitherEnd, end_least, inner_in_box}
 use Rattle.local_run.proofs.Stepping.{run_start}
 use Rattle.module_job.specs.declared.job.Demand.TheVariants as Demanded
 
@@ -54,5 +54,5 @@ free_to j vs t kind x next y p ready sought shows ly before end must dead k a lk
 
 -- only at the last time are cells passed over, and there the next one is looked at after each
 pub next_at_end : (kind : Kind) (w h y x next stride : ℕ) → IsScanStride kind w h y stride → x ≤ next →
-    (x < next → kind ≡ End) → IsAtEnd w x stride → IsAtEnd w next stride
+    (x < next → kind ≡ End) → IsAtEitherEnd w x stride → IsAtEitherEnd w next stride
 next_at_end kind w h y x next stride s le end at = grind (arith, common_steps, by_eq_or_not)

@@ -80,14 +80,14 @@ IsKindSoughtAt j t End = t ≡ j.steps
 
 -- How far apart the cells of row y of a box are that can have a fault of the kind: next to each other, or the first and
 -- the last
-pub record HasBothEnds (kind : Kind) (w h y stride : ℕ) : Type 0 where
+pub record IsEndToEndStride (kind : Kind) (w h y stride : ℕ) : Type 0 where
   pub edge : Edge ≡ kind
   pub between : (1 ≤ y) × (y + 1 < h)
   pub ends : stride + 1 ≡ w
 
 -- a distance at which a scan of row y looks at each cell that can have a fault of the kind
 abbrev pub IsScanStride : Kind → ℕ → ℕ → ℕ → ℕ → Type 0
-IsScanStride kind w h y stride = (1 ≤ stride) × (stride ≤ 64) × ((stride ≡ 1) ⊎ HasBothEnds kind w h y stride)
+IsScanStride kind w h y stride = (1 ≤ stride) × (stride ≤ 64) × ((stride ≡ 1) ⊎ IsEndToEndStride kind w h y stride)
 
 -- f comes first among the faults of a kind at a time
 pub record IsFirstOfKind (j : JobView) (vs : Values) (t : ℕ) (kind : Kind) (f : Fault) : Type 0 where

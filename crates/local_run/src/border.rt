@@ -256,7 +256,7 @@ pub fn set_halo_check_ring(
     let cells = marked_planes.planes().cells_per_plane();
     let mut is_right = true;
     'words: for k in 0..cells.div_ceil(64) {
-        let word = marked_planes.border_word(lines.marks(), k);
+        let word = marked_planes.border_marks_to_check(lines.marks(), k);
         if word == 0 {
             continue;
         }

@@ -14,7 +14,7 @@ use crate::keep::find_least_keep_fault;
 use crate::leaps::next_time;
 use crate::line_marks::LineMarks;
 use crate::lines::EventPlaces;
-use crate::scan::{FaultSearch, first_fault, first_stop_fault};
+use crate::scan::{FaultSearch, first_fault_of_kind, first_stop_fault};
 use crate::steps::{make_even_step, make_odd_step, put_start};
 use crate::values::Values;
 use lanes::MarkedPlanes;
@@ -50,7 +50,7 @@ fn set_halo_find_edge_fault(
         time,
         near: lines.places().edges,
     };
-    first_fault(marked_planes, values, job, search)
+    first_fault_of_kind(marked_planes, values, job, search)
 }
 
 // The first fault of a time before the last, where `next` is the place of the first stop that is not earlier. If there
@@ -141,7 +141,7 @@ fn least_fault(alloc: Global, values: &Values, job: &Job) -> Result<Option<Fault
         time: steps,
         near: EventPlaces::NO_PHASE,
     };
-    Ok(first_fault(&marked_planes, values, job, search))
+    Ok(first_fault_of_kind(&marked_planes, values, job, search))
 }
 
 // The least fault of the job. If a used gate lacks a row under every assignment, the job has no fault and is not run.

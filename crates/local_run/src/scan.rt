@@ -132,7 +132,7 @@ fn skip_faultless_columns(
 
 /// Returns the first fault of the kind at the time, by row, column and assignment, if there is one.
 #[tactic(auto, using(crate::proofs::Firsts::free_from))]
-pub fn first_fault(
+pub fn first_fault_of_kind(
     marked_planes: &MarkedPlanes,
     values: &Values,
     job: &Job,

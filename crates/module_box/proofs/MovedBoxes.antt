@@ -8,7 +8,7 @@ use Rattle.lemmas.proofs.Common.{if◌then◌else◌, unwrap_or, int_le, int_lt,
 use Rattle.lemmas.proofs.Common.{up_moved}
 use Rattle.std.specs.Ordering.{int_eq, int_cmp, nat_cmp}
 use Rattle.bbm_rule.specs.Moves.{IsMoved}
-use Rattle.module_box.specs.Moves.{moved_cell, moved_signals, IsMovedBox, BoxesMoveAlong, SignalsMoveAlong}
+use Rattle.module_box.specs.Moves.{moved_cell, moved_signals, IsMovedBox, RingsAndHalosMoveAlong, SignalsMoveAlong}
 use Rattle.module_box.specs.Schedules.{Signals, signal_at}
 
 -- ---- comparisons of numbers that are moved alike
@@ -41,7 +41,7 @@ some_moved : (dx dy : ℤ) (s s' : State) → IsMoved dx dy s s' → IsMoved dx 
 unfolding some_neighbour
 some_moved dx dy s s' m x y = grind (arith, common_steps, down_moved, up_moved)
 
-pub boxes_moved : BoxesMoveAlong
+pub boxes_moved : RingsAndHalosMoveAlong
 unfolding in_ring in_halo
 boxes_moved dx dy b b' m =
     let inside = box_moved dx dy b b' m in

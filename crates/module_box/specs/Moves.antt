@@ -49,8 +49,8 @@ pub record BoxMovesAlong (dx dy : ℤ) (b b' : Box2) : Type 0 where
   pub halo : IsMoved dx dy (in_halo b) (in_halo b')
 
 -- The ring and the halo of a box move along with it.
-abbrev pub BoxesMoveAlong : Type 0
-BoxesMoveAlong = (dx dy : ℤ) (b b' : Box2) → IsMovedBox dx dy b b' → BoxMovesAlong dx dy b b'
+abbrev pub RingsAndHalosMoveAlong : Type 0
+RingsAndHalosMoveAlong = (dx dy : ℤ) (b b' : Box2) → IsMovedBox dx dy b b' → BoxMovesAlong dx dy b b'
 
 -- a cell that is moved carries in moved signals what it carried before
 abbrev pub SignalsMoveAlong : Type 0

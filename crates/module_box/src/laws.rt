@@ -1,7 +1,7 @@
 //! Laws on the definitions alone.
 
 ghost use Rattle.module_box.specs.Laws.{ChoicesAreAssignments, EvenStepStaysInBox, FaultMeansNoTiling, StepDependsOnBoxAndHalo, HaloCellIsRingCellOfOwner, LocalsEqualityDecides, LocalValuesAgree, ScheduleEqualityDecides, UndefinedGateIsSeenLocally};
-ghost use Rattle.module_box.specs.Moves.{BoxesMoveAlong, SignalsMoveAlong};
+ghost use Rattle.module_box.specs.Moves.{RingsAndHalosMoveAlong, SignalsMoveAlong};
 ghost use Rattle.module_box.specs.Numbers.{NumbersDetermineGates};
 
 /// States that an even step maps the cells of an even box into the box.
@@ -52,7 +52,7 @@ pub fn local_values_agree()
 
 /// States that the ring and the halo of a box move along with it, and signals with the cells that carry them.
 pub fn boxes_and_signals_move_along()
-    ensures boxes { BoxesMoveAlong }
+    ensures boxes { RingsAndHalosMoveAlong }
     ensures signals { SignalsMoveAlong }
 {}
 

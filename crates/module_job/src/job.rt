@@ -243,9 +243,9 @@ impl Job {
     }
 
     /// Returns whether the module keeps the gate at this place among those that it uses.
-    pub fn keeps(&self, place: u16) -> bool
+    pub fn keeps_gate(&self, place: u16) -> bool
         ensures { result ≡ is_among self.now.kept place }
     {
-        self.shape.keeps(place)
+        self.shape.keeps_gate(place)
     }
 }

@@ -136,7 +136,7 @@ impl Shape {
     }
 
     /// Returns whether the gate at this place is kept.
-    pub fn keeps(&self, place: u16) -> bool
+    pub fn keeps_gate(&self, place: u16) -> bool
         ensures { result ≡ is_among self.now.kept place }
     {
         self.kept.iter().any(|kept| *kept == place)

@@ -127,7 +127,7 @@ fn push_live_row(out: &mut Vec<Cell>, grid: &Grid, w: u32, y: u32) -> Result<(),
 }
 
 // The live cells in order of y and then x.
-#[tactic(auto, using(crate::proofs::Imports::live, crate::proofs::CellLists::rows_filtered), unfolding(crate::proofs::Imports::live_cells, crate::proofs::Imports::rectangle_cells))]
+#[tactic(auto, using(crate::proofs::Imports::live, bbm_rule::proofs::CellLists::rows_filtered), unfolding(crate::proofs::Imports::live_cells, crate::proofs::Imports::rectangle_cells))]
 fn live_cells_in_order(
     alloc: Global,
     grid: &Grid,

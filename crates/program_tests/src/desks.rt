@@ -55,7 +55,7 @@ fn are_turns_draws_right(desk: &Desk, first: &mut DeskSeat, second: &mut DeskSea
 }
 
 /// Returns whether two lists of draws are these.
-fn are_two_draw_lists(draws: &[Vec<usize>], first: &[usize], second: &[usize]) -> bool {
+fn are_draws_equal_to(draws: &[Vec<usize>], first: &[usize], second: &[usize]) -> bool {
     match draws {
         [one, two] => one.as_slice() == first && two.as_slice() == second,
         _ => false,
@@ -78,7 +78,7 @@ fn two_seats_draw_three_numbers(rt: HostRuntime) {
     } = fault;
     seats.push(second).expect(&rt, "room");
     let Closed { draws, counter } = close_with_all_seats(&rt, rt.alloc(), desk, seats);
-    assert!(rt; are_two_draw_lists(&draws, &[0, 2], &[1, 3]) && counter == 4);
+    assert!(rt; are_draws_equal_to(&draws, &[0, 2], &[1, 3]) && counter == 4);
 }
 
 /// Draws with each of the seats, in a thread of its own, until there is no number left.
@@ -160,5 +160,5 @@ fn a_desk_opens_and_closes_at_the_second_try(rt: HostRuntime) {
             close_with_all_seats(&rt, rt.alloc(), fault.desk, fault.seats)
         }
     };
-    assert!(rt; are_two_draw_lists(&draws, &[], &[0]) && counter == 1);
+    assert!(rt; are_draws_equal_to(&draws, &[], &[0]) && counter == 1);
 }

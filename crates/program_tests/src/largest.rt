@@ -80,7 +80,7 @@ fn text_of_64_modules(alloc: Global) -> Result<String, AllocError> {
 /// Returns the report on these modules. The fault of each is at its output cell.
 ///
 /// This is the first of its cells, from module 27 on the second, from module 54 on the third.
-fn report_on_64_modules(alloc: Global) -> Result<String, AllocError> {
+fn expected_report_on_64_modules(alloc: Global) -> Result<String, AllocError> {
     let mut report = format!(in alloc;
         "bbmcheck 1\ncertificate d703d23eb6b93c49bd0027729197bf8cc495c873ff97d62e612cde71b6dfc028\nmodules 64\nverdict no\n"
     )?;
@@ -119,7 +119,7 @@ const WORKERS: [(&str, u64); 2] = [("8", 8), ("64", 64)];
 #[test]
 fn workers_report_on_64_modules(rt: HostRuntime) {
     let text = text_of_64_modules(rt.alloc()).expect(&rt, "a text");
-    let report = report_on_64_modules(rt.alloc()).expect(&rt, "a report");
+    let report = expected_report_on_64_modules(rt.alloc()).expect(&rt, "a report");
     for (count, workers) in WORKERS {
         let gate = CrowdGate::new(workers);
         let words = ["check", "--workers", count];

@@ -56,8 +56,9 @@ jobs = map (job_of (circuit_of lines) layout) modules
 
 is_faultless : IsFaultless (certificate_grammar (setting_of lines layout)) 1 certificate
 unfolding place_of number rectangle_cells in_box in_span orders.is_cut orders.may_precede orders.may_follow
-    entries.change_last entries.last_of entries.add_line entries.modules_of rules.has_nonlocal_port rules.box_fault
-    rules.module_fault rules.cut_fault rules.are_new_and_distinct rules.entry_fault rules.end_fault
+    entries.change_last entries.last_of entries.add_line entries.modules_of rules.has_nonlocal_port
+    rules.module_box_code
+    rules.module_line_code rules.cut_line_code rules.are_new_and_distinct rules.entry_fault rules.end_fault
 is_faultless = record { header = refl; each = (refl, (refl, tt)); end = refl }
 
 is_ordered : AreOrdered (netlist_of lines).given (netlist_of lines).gates

@@ -1,6 +1,6 @@
 -- The first fault is one of the whole plane
 use Rattle.soundness.proofs.Imports.{All, All-cons, All-contains, All-nil, BelongTogether, Bool, Box2, Cell, Circuit}
-use Rattle.soundness.proofs.Imports.{CircuitLine, Contains, Demand, Fault, GivesModuleAssignment, HasGoodBorders}
+use Rattle.soundness.proofs.Imports.{CircuitLine, Contains, Demand, Fault, IsModuleAssignmentOf, HasGoodBorders}
 use Rattle.soundness.proofs.Imports.{HasInputNames, IsAsCertified, IsAssignmentOf, IsCorrect, IsFaultUnder}
 use Rattle.soundness.proofs.Imports.{IsFirstFault, IsJobOf, IsModule, IsRunOfJobs, IsStop, JobView, Kind, List}
 use Rattle.soundness.proofs.Imports.{LocalNet, LooksAsAsked, MeetsDemand, ModuleLines, None, Option, Pattern, Port}
@@ -262,7 +262,7 @@ placed_wire f (x ∷ ns) n k all at =
 -- what gives the cuts the bits by their names does so by the job's wires
 pub assigned : (lines : List CircuitLine) (p : Pattern) (m : ModuleLines) (j : JobView) (v : Valuation) (a : ℕ) →
     IsModule (setting_of lines p) m → IsJobOf (circuit_of lines) p m j →
-    GivesModuleAssignment (circuit_of lines) m v a →
+    IsModuleAssignmentOf (circuit_of lines) m v a →
     (k : ℕ) → k < j.locals.netlist.given → bit a k ≡ values_by_local_number j.locals v k
 assigned lines p m j v a good is has k lt =
     let c = circuit_of lines in

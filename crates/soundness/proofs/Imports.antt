@@ -94,7 +94,7 @@ pub use Rattle.pattern.specs.declared.layout_line.LayoutLine.TheVariants.{Ball, 
 pub use Rattle.pattern.specs.declared.layout_line.Port.{Port}
 pub use Rattle.section_text.specs.declared.code.RefusalCode.{RefusalCode}
 pub use Rattle.section_text.specs.declared.code.RefusalCode.TheVariants.{UnknownName}
-pub use Rattle.soundness.specs.FirstFaults.{GivesModuleAssignment, HasGoodBorders, IsAsCertified, IsAssignmentOf}
+pub use Rattle.soundness.specs.FirstFaults.{IsModuleAssignmentOf, HasGoodBorders, IsAsCertified, IsAssignmentOf}
 pub use Rattle.soundness.specs.FirstFaults.{IsFirstFault}
 pub use Rattle.soundness.specs.HeadlineLaws.{BelongTogether, HasInputNames, IsAcceptedBundle, IsInputName, IsRunOfJobs}
 pub use Rattle.soundness.specs.OnTime.{StopHolds}

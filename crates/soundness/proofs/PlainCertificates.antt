@@ -2,7 +2,7 @@
 use Rattle.soundness.proofs.Imports.{Accepts, All, All-append, All-cons, All-contains, All-head, All-nil, All-tail}
 use Rattle.soundness.proofs.Imports.{AreDistinct, AreLeastFaultsOfJob, AreOrdered, AreReportLines, BelongTogether, Bool}
 use Rattle.soundness.proofs.Imports.{BorderFault, BorderLine, Circuit, CircuitLine, Contains, Contains-append_left}
-use Rattle.soundness.proofs.Imports.{Delay, Fault, Gate, GivesModuleAssignment, Greater, HasGoodBorders, HasInputNames}
+use Rattle.soundness.proofs.Imports.{Delay, Fault, Gate, IsModuleAssignmentOf, Greater, HasGoodBorders, HasInputNames}
 use Rattle.soundness.proofs.Imports.{IsAcceptedBundle, IsAsCertified, IsAssignmentOf, IsBorderFault, IsCorrect, IsFault}
 use Rattle.soundness.proofs.Imports.{IsFaultUnder, IsFirstFault, IsInputName, IsJobOf, IsKeepFault, IsLeastBorderFault}
 use Rattle.soundness.proofs.Imports.{IsLeastFault, IsLeastKeepFault, IsRunOfJobs, IsStop, IsVerdict, JobView, KeepFault}
@@ -31,7 +31,8 @@ use Rattle.certificate.proofs.ArrivalLemmas.{lines_tell}
 use Rattle.local_run.specs.Faults.{IsEdgeFault}
 use Rattle.soundness.specs.PlainCertificates.{IsPlain, IsWrongDesign, PlainCertificateDecides, PlainNoMeansWrong}
 use Rattle.soundness.specs.PlainCertificates.{TouchesRim, UntimedIsOnTime, IsLiveOnRim, KeepLineMeans, LineMeans}
-use Rattle.soundness.specs.PlainCertificates.{DelayLineMeans, MeetLineMeans, PlainLinesHaveMeaning, LocalLineMeans}
+use Rattle.soundness.specs.PlainCertificates.{DelayLineMeans, MeetLineMeans, PlainReportLinesHaveMeaning}
+use Rattle.soundness.specs.PlainCertificates.{LocalLineMeans}
 use Rattle.soundness.proofs.KeptGates.{PlaceOf, place_of}
 use Rattle.soundness.proofs.FirstFaults.{correct_meets, real, ring_inside, runs_up_to, seen_fault, stop_by_lines}
 use Rattle.soundness.proofs.FirstFaults.{IsPlacedWire, assigned, first_means, placed_wire}
@@ -255,7 +256,7 @@ module _ (lines : List CircuitLine) (p : Pattern) (m : ModuleLines) (jobs : List
   its_inputs : ℕ → Valuation
   its_inputs a = inputs_of (known c m) a
 
-  its_assignment : (a : ℕ) → GivesModuleAssignment c m (its_inputs a) a
+  its_assignment : (a : ℕ) → IsModuleAssignmentOf c m (its_inputs a) a
   unfolding its_inputs
   its_assignment a k n at =
       let good = b.are_modules.each 0 m refl in
@@ -648,9 +649,9 @@ plain_no lines p m jobs report named b plain judged =
     decide lines p m jobs named b plain f.0.fault is.keep _ j.0 (its_job lines p m jobs named b plain 0 j.0 j.1)
     is.fault is.least_keep refl judged.0
 
-pub plain_lines : PlainLinesHaveMeaning
+pub plain_report_lines : PlainReportLinesHaveMeaning
 unfolding IsVerdict
-plain_lines lines p m jobs report named b plain judged =
+plain_report_lines lines p m jobs report named b plain judged =
     all_mean lines p m jobs named b plain report.items judged.1
 
 -- ---- where nothing is timed

@@ -107,8 +107,8 @@ EarliestLineIsFirstFault = (lines : List CircuitLine) (p : Pattern) (ms : List M
 -- ---- what a line says of the whole plane
 
 -- The values v of the circuit's wires give module m the assignment a: cut k has the value of bit k.
-abbrev pub GivesModuleAssignment : Circuit → ModuleLines → Valuation → ℕ → Type 0
-GivesModuleAssignment c m v a =
+abbrev pub IsModuleAssignmentOf : Circuit → ModuleLines → Valuation → ℕ → Type 0
+IsModuleAssignmentOf c m v a =
     (k : ℕ) (name : List ℕ) → slice_get (cuts m) k ≡ Some name → values_by_name c v name ≡ bit a k
 
 -- The fault of module m is one of the whole plane, if the inputs have these values and the wires the values v: there
@@ -127,4 +127,4 @@ EarliestLineIsReal = (lines : List CircuitLine) (p : Pattern) (ms : List ModuleL
     (report : Vec ReportLine Global) (inputs v : Valuation) (i : ℕ) (m : ModuleLines) (f : Fault) →
     HasInputNames lines p → BelongTogether lines p ms jobs → IsVerdict (setting_of lines p) ms jobs (No report) →
     IsEarliestLine report.items i f → slice_get ms i ≡ Some m → Satisfies (netlist_of lines) inputs v →
-    GivesModuleAssignment (circuit_of lines) m v f.assignment → IsReal lines p m inputs v f
+    IsModuleAssignmentOf (circuit_of lines) m v f.assignment → IsReal lines p m inputs v f

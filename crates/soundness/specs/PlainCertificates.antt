@@ -24,7 +24,7 @@ use Rattle.certificate.specs.declared.times.StopGap.{StopGap}
 use Rattle.certificate.specs.declared.times.StopGap.TheVariants.{Steps}
 use Rattle.local_run.specs.declared.fault.Fault.{Fault}
 use Rattle.local_run.specs.declared.fault.Kind.TheVariants.{Edge, Stop}
-use Rattle.soundness.specs.FirstFaults.{GivesModuleAssignment, IsReal}
+use Rattle.soundness.specs.FirstFaults.{IsModuleAssignmentOf, IsReal}
 use Rattle.soundness.specs.HeadlineLaws.{BelongTogether, HasInputNames, IsInputName}
 use Rattle.meaning.specs.Implements.{IsCorrect, IsNamed, run_under}
 use Rattle.soundness.specs.OnTime.{IsOnTime, StopHolds}
@@ -93,7 +93,7 @@ PlainNoMeansWrong = (lines : List CircuitLine) (p : Pattern) (m : ModuleLines) (
 -- stop is wrong. If it is an end line, the layout does not compute the circuit (`IsReal`).
 pub record LocalLineMeans (lines : List CircuitLine) (p : Pattern) (m : ModuleLines) (f : Fault) : Type 0 where
   pub inputs : Valuation
-  pub under : GivesModuleAssignment (circuit_of lines) m inputs f.assignment
+  pub under : IsModuleAssignmentOf (circuit_of lines) m inputs f.assignment
   pub values : Valuation
   pub satisfied : Satisfies (netlist_of lines) inputs values
   pub real : IsReal lines p m inputs values f
@@ -104,7 +104,7 @@ pub record LocalLineMeans (lines : List CircuitLine) (p : Pattern) (m : ModuleLi
 -- layout does not compute it.
 pub record KeepLineMeans (lines : List CircuitLine) (p : Pattern) (m : ModuleLines) (assignment : ℕ) : Type 0 where
   pub inputs : Valuation
-  pub under : GivesModuleAssignment (circuit_of lines) m inputs assignment
+  pub under : IsModuleAssignmentOf (circuit_of lines) m inputs assignment
   pub lacks : (v : Valuation) → ¬ Satisfies (netlist_of lines) inputs v
   pub incorrect : ¬ IsCorrect lines p
 
@@ -139,8 +139,8 @@ LineMeans lines p m (DelayLine gate wanted gap) = DelayLineMeans lines (stops m)
 LineMeans lines p m (Meet gate at) = MeetLineMeans lines (stops m) gate at
 
 -- It means so in every report on a plain certificate.
-abbrev pub PlainLinesHaveMeaning : Type 0
-PlainLinesHaveMeaning = (lines : List CircuitLine) (p : Pattern) (m : ModuleLines) (jobs : List JobView)
+abbrev pub PlainReportLinesHaveMeaning : Type 0
+PlainReportLinesHaveMeaning = (lines : List CircuitLine) (p : Pattern) (m : ModuleLines) (jobs : List JobView)
     (report : Vec ReportLine Global) → HasInputNames lines p → BelongTogether lines p (m ∷ []) jobs →
     IsPlain lines p m →
     IsVerdict (setting_of lines p) (m ∷ []) jobs (No report) → All (LineMeans lines p m) report.items

@@ -1,7 +1,7 @@
 //! Laws of the whole plane, each the contract of a function without a body.
 ghost use Rattle.soundness.specs.HeadlineLaws.{AcceptedHasValuation, AcceptedIsCorrect, AcceptedIsOnTime, PlaneEndsAsAsked, SomeAcceptedBundle, InputsDecideTheRun, AcceptedHasNoUndefinedGate, ReadLayoutHasInputNames, ReadLayoutHasPortNames, PlaneStartsAsJobs, PlaneStepsAsJobs, SomeWrongLayout};
 ghost use Rattle.soundness.specs.FirstFaults.{EarliestLineIsFirstFault, EarliestLineIsReal, EndFaultMeansIncorrect, FirstFaultIsReal, StepsWithGoodBorders};
-ghost use Rattle.soundness.specs.PlainCertificates.{AcceptedKeepsOffRim, PlainCertificateDecides, PlainLinesHaveMeaning, PlainNoMeansWrong, UntimedIsOnTime};
+ghost use Rattle.soundness.specs.PlainCertificates.{AcceptedKeepsOffRim, PlainCertificateDecides, PlainReportLinesHaveMeaning, PlainNoMeansWrong, UntimedIsOnTime};
 ghost use Rattle.soundness.specs.ModuleLaws.{ModuleHasOneJob, ModuleHasSomeJob, VerdictExists};
 ghost use Rattle.soundness.specs.MigrationLaws.{AcceptedWithoutHalos, MigrationKeepsAcceptance};
 
@@ -41,7 +41,7 @@ pub fn plain_certificate_decides()
     ensures off_rim { AcceptedKeepsOffRim }
     ensures decides { PlainCertificateDecides }
     ensures no { PlainNoMeansWrong }
-    ensures lines { PlainLinesHaveMeaning }
+    ensures lines { PlainReportLinesHaveMeaning }
     ensures untimed { UntimedIsOnTime }
 {}
 

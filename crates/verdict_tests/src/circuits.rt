@@ -47,7 +47,7 @@ fn are_names_equal_to(names: &[Name], words: &[&str]) -> bool {
     names.len() == words.len()
 }
 
-fn are_port_names_of_kinds(ports: &PortNames) -> bool {
+fn are_ports_of_kinds_circuit(ports: &PortNames) -> bool {
     match ports {
         PortNames::Only { ins, outs } => {
             are_names_equal_to(ins, &["end", "p"])
@@ -62,7 +62,7 @@ fn all_gate_kinds_are_reprinted(rt: HostRuntime) {
     let circuit = circuit_of(rt.alloc(), KINDS).expect(&rt, "a circuit");
     let printed = print_circuit(rt.alloc(), &circuit).expect(&rt, "a text");
     assert!(rt; printed.as_slice() == KINDS.as_bytes() && is_gate_3_the_switch(&circuit));
-    assert!(rt; are_port_names_of_kinds(&port_names(rt.alloc(), &circuit).expect(&rt, "names")));
+    assert!(rt; are_ports_of_kinds_circuit(&port_names(rt.alloc(), &circuit).expect(&rt, "names")));
 }
 
 fn name(rt: &impl Abort, word: &[u8]) -> Name {

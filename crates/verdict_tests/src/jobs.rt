@@ -109,12 +109,12 @@ fn jobs_of_four_modules(rt: HostRuntime) {
 }
 
 /// A mirror across the border of two modules, a ball, a waste cell, and a wire that is cut in one of them.
-const MIRROR: &str =
+const MIRROR_BUNDLE: &str =
     "circuit\ninput a\noutput a\nend\nlayout 8 4 2\nmirror 3 1 2 1\nball 1 2\nin a 6 2\nout a 6 2\nwaste 1 2\nend\ncertificate 1\nmodule 0 0 4 4\nedge * 3 1 1\nhalo * 4 1 1\nmodule 4 0 4 4\ncut a\nhalo * 3 1 1\nend\n";
 
 /// The module, a cell, what is there at the start and to be there at the end, and what it carries at time 1 as edge and
 /// as halo.
-const MIRROR_CELLS: [(usize, (i32, i32), Signal, Demand, Signal, Signal); 6] = [
+const MIRROR_BUNDLE_CELLS: [(usize, (i32, i32), Signal, Demand, Signal, Signal); 6] = [
     (0, (3, 1), Signal::One, Demand::Live, Signal::One, ZERO),
     (0, (1, 2), Signal::One, Demand::Any, ZERO, ZERO),
     (0, (4, 1), ZERO, Demand::Dead, ZERO, Signal::One),
@@ -125,9 +125,9 @@ const MIRROR_CELLS: [(usize, (i32, i32), Signal, Demand, Signal, Signal); 6] = [
 
 #[test]
 fn jobs_with_mirror_ball_waste(rt: HostRuntime) {
-    let jobs = work_of(rt.alloc(), MIRROR).expect(&rt, "work").jobs;
+    let jobs = work_of(rt.alloc(), MIRROR_BUNDLE).expect(&rt, "work").jobs;
     assert!(rt; jobs.len() == 2);
-    for (module, (x, y), start, demand, edge, halo) in MIRROR_CELLS {
+    for (module, (x, y), start, demand, edge, halo) in MIRROR_BUNDLE_CELLS {
         let job = jobs.get(module).expect(&rt, "a job");
         let cell = Cell { x, y };
         assert!(rt; 0 <= x && x < 8 && 0 <= y && y < 8);

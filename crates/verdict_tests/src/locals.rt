@@ -212,7 +212,9 @@ fn assignments_without_row(rt: HostRuntime) {
         rows.undefined.as_slice() == [0xE4E4_E4E4_E4E4_E4E4, 0, 0x1A0A_1A0A_1A0A_1A0A].as_slice()
     );
     assert!(rt; rows.defined.as_slice() == [0x0111_0111_0111_0111].as_slice());
-    assert!(rt; !job.keeps(0) && !job.keeps(1) && job.keeps(2) && job.gate_number(2) == 2);
+    assert!(rt;
+        !job.keeps_gate(0) && !job.keeps_gate(1) && job.keeps_gate(2) && job.gate_number(2) == 2
+    );
 }
 
 #[test]

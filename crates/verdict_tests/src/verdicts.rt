@@ -138,7 +138,7 @@ fn verdict_ignores_filing_order(rt: HostRuntime) {
 }
 
 /// The bundle of the book's jobs, the numbers that are filed, and the first module without a finding.
-const MISSING_CASES: [(&str, &[usize], usize); 3] = [
+const MISSING_FINDING_CASES: [(&str, &[usize], usize); 3] = [
     (GOOD_BUNDLE, &[], 0),
     (GOOD_BUNDLE, &[0, 1, 3], 2),
     // another job 0 under the same digest
@@ -157,7 +157,7 @@ pub(crate) fn is_first_missing(
 
 #[test]
 fn first_missing_number_is_named(rt: HostRuntime) {
-    for (text, numbers, missing) in &MISSING_CASES {
+    for (text, numbers, missing) in &MISSING_FINDING_CASES {
         let book = book_with_filed_numbers(&rt, rt.alloc(), DIGEST, text, numbers);
         assert!(rt;
             is_first_missing(&rt, rt.alloc(), &book, *missing),

@@ -6,8 +6,8 @@ use Rattle.certificate.proofs.BesideLines.{all_parts, one_part, other_line_on, w
 use Rattle.certificate.proofs.implied_halos.module_slices.Goals.{in-Module+in_ok-push, in_default}
 use Rattle.certificate.proofs.implied_halos.module_slices.Goals as goal
 
-pub lines_of_module_past-lines-requires : goal.lines_of_module_past-lines-requires
-lines_of_module_past-lines-requires c =
+pub lines_before_next_module-lines-requires : goal.lines_before_next_module-lines-requires
+lines_before_next_module-lines-requires c =
     let es = c.args.entries.now in
     let line_is : Module c.in-Module.area ≡ get_or es c.lines.place (Module c.in-Module.area) =
     subst (λ e. e ≡ get_or es c.lines.place e) (sym c.line.ensures ∙ c.in-Module.is) c.index-entries-place.is in
@@ -27,11 +27,11 @@ lines-preserved c =
       | in-Module+in_ok-push w ↦
           let line_is : Module w.in-Module.area ≡ get_or es c.lines.place (Module w.in-Module.area) =
           subst (λ e. e ≡ get_or es c.lines.place e) (sym c.line.ensures ∙ w.in-Module.is) c.index-entries-place.is in
-          let inner_is : w.lines_of_module_past-lines.result.now ≡ body_lines (drop (c.lines.place + 1) es) =
-          w.lines_of_module_past-lines.ensures ∙ ap body_lines (rest_of_lines es (c.lines.place + 1)) in
+          let inner_is : w.lines_before_next_module-lines.result.now ≡ body_lines (drop (c.lines.place + 1) es) =
+          w.lines_before_next_module-lines.ensures ∙ ap body_lines (rest_of_lines es (c.lines.place + 1)) in
           one_part es c.lines.place w.in-Module.area
-          (record { area = w.in-Module.area; lines = w.lines_of_module_past-lines.result }) c.lines.parts.items
-          c.match-line.parts.items (length w.lines_of_module_past-lines.result.now) (c.match-line.place + 1)
+          (record { area = w.in-Module.area; lines = w.lines_before_next_module-lines.result }) c.lines.parts.items
+          c.match-line.parts.items (length w.lines_before_next_module-lines.result.now) (c.match-line.place + 1)
           c.lines-test.true line_is
           (ap (λ ls. record { area = w.in-Module.area; lines = ls }) inner_is)
           (ap (λ v. v.items) w.parts-is ∙ w.in_ok-push.ensures.items) (ap length inner_is)

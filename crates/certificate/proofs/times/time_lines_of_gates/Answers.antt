@@ -9,7 +9,7 @@ delays-preserved c =
     let at : slice_get gates c.delays.number ≡ Some (gate_of c.gate-gate.result) =
     ap (slice_get gates) (sym c.of.ensures) ∙ c.gate-gate.ensures in
     one_gate_more (delay_line (time_in_table c.args.firsts.now) (time_in_table c.args.lasts.now)) _ c.delays.lines.items
-    c.push_if_delay.new.lines.items c.delays.number gates _ at c.in_ok-push_if_delay.ensures c.delays.invariant
+    c.push_delay_line.new.lines.items c.delays.number gates _ at c.in_ok-push_delay_line.ensures c.delays.invariant
 
 pub meetings-init : goal.meetings-init
 meetings-init c =
@@ -25,8 +25,8 @@ meetings-preserved c =
     let gates = (netlist_of c.args.circuit.now).gates in
     let at : slice_get gates c.meetings.number ≡ Some (gate_of c.gate-gate-in-meetings.result) =
     ap (slice_get gates) (sym c.of-in-meetings.ensures) ∙ c.gate-gate-in-meetings.ensures in
-    one_gate_more (meet_line (time_in_table c.args.lasts.now)) _ c.meetings.lines.items c.push_if_meet.new.lines.items
-    c.meetings.number gates _ at c.in_ok-push_if_meet.ensures c.meetings.invariant
+    one_gate_more (meet_line (time_in_table c.args.lasts.now)) _ c.meetings.lines.items c.push_meet_line.new.lines.items
+    c.meetings.number gates _ at c.in_ok-push_meet_line.ensures c.meetings.invariant
 
 pub returns : goal.returns
 returns c =

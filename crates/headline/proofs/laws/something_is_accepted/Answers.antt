@@ -14,7 +14,7 @@ pub returns-clause-small : goal.returns-clause-small
 returns-clause-small c = texts.small
 
 pub returns-clause-meeting : goal.returns-clause-meeting
-returns-clause-meeting c = texts.plain_yes_accepted
+returns-clause-meeting c = texts.plain_yes_text_accepted
 
 pub returns-clause-design : goal.returns-clause-design
 returns-clause-design c = texts.design_accepted

@@ -11,7 +11,7 @@ use Rattle.local_run.proofs.border.set_halo_check_ring.Goals as goal
 pub set_halo_test_ring_in_word-is_right-requires-clause-passed :
     goal.set_halo_test_ring_in_word-is_right-requires-clause-passed
 set_halo_test_ring_in_word-is_right-requires-clause-passed c = λ u e none.
-    (rw c.marks.ensures at c.border_word-word.ensures.passed) u (omega (arith, e)) none
+    (rw c.marks.ensures at c.border_marks_to_check-word.ensures.passed) u (omega (arith, e)) none
 
 pub words-preserved : goal.words-preserved
 words-preserved c =
@@ -35,7 +35,7 @@ words-preserved-then-word-eq0 c =
     let p = c.words.marked_planes in
     let passed : (n : ℕ) → 64 * c.words.k ≤ n → n < 64 * (c.words.k + 1) →
     AreSkippableBetween n (n + 1) c.args.lines.now.marks.items p.planes =
-    λ n g h. (rw c.marks.ensures at c.border_word-word.ensures.passed) n (omega arith)
+    λ n g h. (rw c.marks.ensures at c.border_marks_to_check-word.ensures.passed) n (omega arith)
     (whole_zero _ (n % 64) c.if-word-eq0.true) in
     record {
       shows = m.shows;

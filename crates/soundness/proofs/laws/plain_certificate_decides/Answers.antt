@@ -1,4 +1,4 @@
-use Rattle.soundness.proofs.PlainCertificates.{plain_decides, plain_lines, plain_no, untimed}
+use Rattle.soundness.proofs.PlainCertificates.{plain_decides, plain_report_lines, plain_no, untimed}
 use Rattle.soundness.proofs.WholeRuns.{off_rim}
 use Rattle.soundness.proofs.laws.plain_certificate_decides.Goals as goal
 
@@ -15,4 +15,4 @@ pub returns-clause-untimed : goal.returns-clause-untimed
 returns-clause-untimed c = untimed
 
 pub returns-clause-lines : goal.returns-clause-lines
-returns-clause-lines c = plain_lines
+returns-clause-lines c = plain_report_lines

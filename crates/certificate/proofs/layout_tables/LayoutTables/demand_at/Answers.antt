@@ -1,4 +1,5 @@
-use Rattle.certificate.proofs.Imports.{CircuitPorts, Dead, IsPortWireLocalAt, LayoutTablesView, None, Option, Some, ap}
+use Rattle.certificate.proofs.Imports.{CircuitAndPorts, Dead, IsPortWireLocalAt, LayoutTablesView, None, Option, Some}
+use Rattle.certificate.proofs.Imports.{ap}
 use Rattle.certificate.proofs.Imports.{arith, circuit_of, circuit_wire, common_steps, demand_outside_mirrors}
 use Rattle.certificate.proofs.Imports.{end_demand, option_map, port_at, refl, subst, sym, wire_of, ℕ, ℤ, ◌∙◌, ◌≡◌}
 use Rattle.module_job.specs.declared.job.Demand.TheVariants.{Wire, Any}
@@ -6,7 +7,7 @@ use Rattle.certificate.proofs.LayoutTableLemmas.{demand_of_port, end_live, end_p
 use Rattle.certificate.proofs.layout_tables.LayoutTables.demand_at.Goals as goal
 
 -- the wires of the port at a cell, in a table and by name
-abbrev wires_at : CircuitPorts → ℤ → ℤ → Option (Option ℕ)
+abbrev wires_at : CircuitAndPorts → ℤ → ℤ → Option (Option ℕ)
 wires_at t x y = option_map (wire_of t.circuit) (port_at t.ports x y)
 
 pub returns-then-is_live-clause-same_demand : goal.returns-then-is_live-clause-same_demand

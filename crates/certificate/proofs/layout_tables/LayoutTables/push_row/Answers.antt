@@ -34,10 +34,10 @@ cells-preserved c =
           omega (arith, c.cells.invariant.from, c.next_occupied-named.ensures.range, c.next_nonmirror-x.ensures.range);
       most = c.next_nonmirror-x.ensures.range.1;
       added = add_same circuit c.args.self.now.layout c.args.locals.now c.args.lists.now c.push_dead.new.self
-          c.push_mirrors.new.self c.args.area.x named c.args.y
+          c.push_live.new.self c.args.area.x named c.args.y
           (omega (arith, c.cells.invariant.from, c.next_occupied-named.ensures.range)) dead One Live
-          c.next_nonmirror-x.result c.next_nonmirror-x.ensures.range.0 c.in_ok-push_mirrors.ensures.starts
-          c.in_ok-push_mirrors.ensures.demands c.next_nonmirror-x.ensures.starts c.next_nonmirror-x.ensures.demands tt
+          c.next_nonmirror-x.result c.next_nonmirror-x.ensures.range.0 c.in_ok-push_live.ensures.starts
+          c.in_ok-push_live.ensures.demands c.next_nonmirror-x.ensures.starts c.next_nonmirror-x.ensures.demands tt
           tt;
     }
 
@@ -52,16 +52,16 @@ cells-preserved-then-x-named c =
     c.next_occupied-named.ensures.range.0 c.in_ok-push_dead.ensures.starts c.in_ok-push_dead.ensures.demands
     c.next_occupied-named.ensures.starts c.next_occupied-named.ensures.demands tt tt in
     let mirrors = add_same circuit c.args.self.now.layout c.args.locals.now c.args.lists.now c.push_dead.new.self
-    c.push_mirrors.new.self c.args.area.x named c.args.y from dead One Live c.next_nonmirror-x.result
-    c.next_nonmirror-x.ensures.range.0 c.in_ok-push_mirrors.ensures.starts c.in_ok-push_mirrors.ensures.demands
+    c.push_live.new.self c.args.area.x named c.args.y from dead One Live c.next_nonmirror-x.result
+    c.next_nonmirror-x.ensures.range.0 c.in_ok-push_live.ensures.starts c.in_ok-push_live.ensures.demands
     c.next_nonmirror-x.ensures.starts c.next_nonmirror-x.ensures.demands tt tt in
     let before = subst (λ (n : ℕ). AddsCells circuit c.args.self.now.layout c.args.locals.now
-    (row_cells c.args.area.x (n - c.args.area.x) c.args.y) c.args.lists.now c.push_mirrors.new.self)
+    (row_cells c.args.area.x (n - c.args.area.x) c.args.y) c.args.lists.now c.push_live.new.self)
     c.if-x-named.true mirrors in
     record {
       from = omega (arith, from);
       most = omega (arith, c.next_occupied-named.ensures.range, c.if-named-end.false);
-      added = add_cell circuit c.args.self.now.layout c.args.locals.now c.args.lists.now c.push_mirrors.new.self
+      added = add_cell circuit c.args.self.now.layout c.args.locals.now c.args.lists.now c.push_live.new.self
           c.push.new.self c.args.area.x named c.args.y from before c.start_at.result c.demand_at.result
           (omega (arith, c.next_occupied-named.ensures.range, c.requires.columns, c.if-named-end.false))
           c.requires.row.2 c.in_ok-push.ensures.starts c.in_ok-push.ensures.demands c.start_at.ensures.same_signal

@@ -1,4 +1,5 @@
-use Rattle.certificate.proofs.Imports.{CircuitPorts, IsPortWireLocalAt, LayoutTablesView, Option, Some, Zero, ap, arith}
+use Rattle.certificate.proofs.Imports.{CircuitAndPorts, IsPortWireLocalAt, LayoutTablesView, Option, Some, Zero, ap}
+use Rattle.certificate.proofs.Imports.{arith}
 use Rattle.certificate.proofs.Imports.{circuit_of, circuit_wire, common_steps, option_map, port_at, refl, start_signal}
 use Rattle.certificate.proofs.Imports.{subst, sym, wire_of, wire_or_zero, ℕ, ℤ, ◌∙◌, ◌≡◌}
 use Rattle.module_box.specs.declared.schedules.Signal.TheVariants.{Wire}
@@ -6,7 +7,7 @@ use Rattle.certificate.proofs.LayoutTableLemmas.{no_port_there, port_known, port
 use Rattle.certificate.proofs.layout_tables.LayoutTables.start_at.Goals as goal
 
 -- the wires of the port at a cell, in a table and by name
-abbrev wires_at : CircuitPorts → ℤ → ℤ → Option (Option ℕ)
+abbrev wires_at : CircuitAndPorts → ℤ → ℤ → Option (Option ℕ)
 wires_at t x y = option_map (wire_of t.circuit) (port_at t.ports x y)
 
 pub returns-then-mirror-ball-clause-same_signal : goal.returns-then-mirror-ball-clause-same_signal

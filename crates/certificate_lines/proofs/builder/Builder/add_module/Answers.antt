@@ -1,4 +1,4 @@
-use Rattle.certificate_lines.proofs.Imports.{BuilderView, None, last_body_line, last_module, map, module_fault}
+use Rattle.certificate_lines.proofs.Imports.{BuilderView, None, last_body_line, last_module, map, module_line_code}
 use Rattle.certificate_lines.proofs.Imports.{modules_of, subst, sym, ◌∙◌, ◌≡◌}
 use Rattle.certificate_lines.proofs.Keeping.{with_module}
 use Rattle.certificate_lines.proofs.builder.Builder.add_module.Goals as goal
@@ -6,7 +6,7 @@ use Rattle.certificate_lines.proofs.builder.Builder.add_module.Goals as goal
 pub invariant_of-self-2 : goal.invariant_of-self-2
 invariant_of-self-2 c =
     let good = subst (λ (s : BuilderView).
-    module_fault s.setting (modules_of s.entries) (last_module s.entries) c.args.area ≡ None)
+    module_line_code s.setting (modules_of s.entries) (last_module s.entries) c.args.area ≡ None)
     (sym c.self.view_is) (sym c.module_code.ensures.code ∙ c.in_default.is) in
     rw (
       c.in_ok-push_module.ensures.entries,

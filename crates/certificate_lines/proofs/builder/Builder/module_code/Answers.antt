@@ -1,4 +1,5 @@
-use Rattle.certificate_lines.proofs.Imports.{BuilderView, None, areas, arith, box_fault, common_steps, last_module}
+use Rattle.certificate_lines.proofs.Imports.{BuilderView, None, areas, arith, module_box_code, common_steps}
+use Rattle.certificate_lines.proofs.Imports.{last_module}
 use Rattle.certificate_lines.proofs.Imports.{length, modules_of, subst, sym, ◌∙◌, ◌≡◌}
 use Rattle.certificate_lines.proofs.BuiltLemmas.{early_fault, live_overlaps, no_fault, overlap_fault}
 use Rattle.certificate_lines.proofs.builder.Builder.module_code.Goals as goal
@@ -12,7 +13,8 @@ pub returns-then-is_any_live_in-clause-code : goal.returns-then-is_any_live_in-c
 returns-then-is_any_live_in-clause-code c =
     let es = c.self.inside.entries.items in
     let good = subst (λ (s : BuilderView).
-    box_fault s.setting (length (modules_of s.entries)) (last_module s.entries) c.args.area ≡ None) (sym c.self.view_is)
+    module_box_code s.setting (length (modules_of s.entries)) (last_module s.entries) c.args.area ≡ None)
+    (sym c.self.view_is)
     (sym c.box_code.ensures.code ∙ c.in_default.is) in
     let same = live_overlaps (areas (modules_of es)) c.args.area c.self.inside.covered
     c.self.invariant.kept.built.cells in
@@ -22,7 +24,8 @@ pub returns-clause-code : goal.returns-clause-code
 returns-clause-code c =
     let es = c.self.inside.entries.items in
     let good = subst (λ (s : BuilderView).
-    box_fault s.setting (length (modules_of s.entries)) (last_module s.entries) c.args.area ≡ None) (sym c.self.view_is)
+    module_box_code s.setting (length (modules_of s.entries)) (last_module s.entries) c.args.area ≡ None)
+    (sym c.self.view_is)
     (sym c.box_code.ensures.code ∙ c.in_default.is) in
     let same = live_overlaps (areas (modules_of es)) c.args.area c.self.inside.covered
     c.self.invariant.kept.built.cells in

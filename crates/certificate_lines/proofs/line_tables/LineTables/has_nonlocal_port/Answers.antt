@@ -1,4 +1,4 @@
-use Rattle.certificate_lines.proofs.Imports.{Bool, CircuitPorts, Setting, ap, ap₂, circuit_of, in_box, is_local}
+use Rattle.certificate_lines.proofs.Imports.{Bool, CircuitAndPorts, Setting, ap, ap₂, circuit_of, in_box, is_local}
 use Rattle.certificate_lines.proofs.Imports.{is_nonlocal_signal, list_any, not, port_at, rectangle_cells, subst, ◌&&◌}
 use Rattle.certificate_lines.proofs.Imports.{◌||◌, ◌∙◌, ◌≡◌}
 use Rattle.certificate_lines.proofs.TableLemmas.{both_ports}
@@ -7,7 +7,7 @@ use Rattle.certificate_lines.proofs.line_tables.LineTables.has_nonlocal_port.Goa
 pub returns : goal.returns
 returns c =
     let a = c.self.inside in let local = c.args.known.now.wires in
-    let lacks : CircuitPorts → Bool = λ t.
+    let lacks : CircuitAndPorts → Bool = λ t.
     list_any (λ d. is_nonlocal_signal t.circuit local (port_at t.ports d.x d.y)) (rectangle_cells c.args.area) in
     subst (λ (g : Setting). (c.has_box_nonlocal_port-lacks_input.result || c.has_box_nonlocal_port-lacks_output.result)
     ≡ list_any (λ p. in_box c.args.area p.cell.x p.cell.y && not (is_local g.circuit local p.name)) g.ports)

@@ -1,4 +1,4 @@
-use Rattle.certificate_lines.proofs.Imports.{Cell, CircuitPorts, Inside, IsPortTable, List, Option, Some, ap, arith}
+use Rattle.certificate_lines.proofs.Imports.{Cell, CircuitAndPorts, Inside, IsPortTable, List, Option, Some, ap, arith}
 use Rattle.certificate_lines.proofs.Imports.{circuit_of, common_steps, entry_place, get_or, in_box, length-map}
 use Rattle.certificate_lines.proofs.Imports.{number_at, option_map, port_at, positive, subst, sym, true, wire_of, ℕ}
 use Rattle.certificate_lines.proofs.Imports.{◌-◌, ◌∙◌, ◌≡◌}
@@ -33,7 +33,7 @@ returns c =
     let a = c.self.inside in
     let is : IsNumbered a.ports.now (c.index.result.now - 1) c.args.cell.x c.args.cell.y =
     grind (arith, common_steps, place_at, entry_at, numbered_below, positive) in
-    subst (λ (t : CircuitPorts). Some c.index-2.result.now
+    subst (λ (t : CircuitAndPorts). Some c.index-2.result.now
     ≡ option_map (wire_of t.circuit) (port_at t.ports c.args.cell.x c.args.cell.y)) c.self.view_is
     (numbered_wire (circuit_of a.circuit.now) a.ports.now a.wires.items (c.index.result.now - 1)
     c.args.cell.x c.args.cell.y c.index-2.result.now c.self.invariant.wires is (grind (arith, common_steps)))

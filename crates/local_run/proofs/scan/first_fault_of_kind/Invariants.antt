@@ -1,5 +1,5 @@
 use Rattle.local_run.proofs.Imports.{IsFaultWhereDefined, assignments, box_coord, ℕ, ◌+◌, ◌-◌, ◌<◌, ◌≡◌, ◌≤◌, ◌⊎◌}
-use Rattle.local_run.proofs.scan.first_fault.Given as goal
+use Rattle.local_run.proofs.scan.first_fault_of_kind.Given as goal
 
 -- no fault in the rows so far
 abbrev pub invariant-rows : goal.invariant-rows

@@ -1,6 +1,6 @@
 -- The cells of the mirrors so far are in the lists.
 use Rattle.certificate.proofs.Imports.{Live, One, replicate, ◌++◌, ◌≡◌}
-use Rattle.certificate.proofs.layout_tables.CellLists.push_mirrors.Given as goal
+use Rattle.certificate.proofs.layout_tables.CellLists.push_live.Given as goal
 
 abbrev pub invariant-mirrors : goal.invariant-mirrors
 invariant-mirrors l = record {

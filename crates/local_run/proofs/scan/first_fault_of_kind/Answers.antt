@@ -1,8 +1,8 @@
 use Rattle.local_run.proofs.Imports.{Box2, IsFaultWhereDefined, IsScanStride, ap, arith, box_coord, by_eq_or_not}
 use Rattle.local_run.proofs.Imports.{by_lt_or_le, subst, sym, valuation, ℕ, ◌∙◌, ◌≡◌}
-use Rattle.local_run.proofs.Firsts.{first_from, still_at_end, passed_over}
+use Rattle.local_run.proofs.Firsts.{first_from, still_at_either_end, passed_over}
 use Rattle.local_run.proofs.NextCells.{free_to, next_at_end}
-use Rattle.local_run.proofs.scan.first_fault.Goals as goal
+use Rattle.local_run.proofs.scan.first_fault_of_kind.Goals as goal
 
 pub returns-in-Some : goal.returns-in-Some
 returns-in-Some c =
@@ -52,5 +52,5 @@ cells-preserved c =
           (λ ne f. passed_over j (valuation c.args.values.now a) c.args.search.time c.args.search.kind n x c.rows.y s
           stride at
           (omega arith) lx lw f.1));
-      at = still_at_end c.args.search.kind _ _ c.rows.y n s c.scan_stride-stride.ensures here;
+      at = still_at_either_end c.args.search.kind _ _ c.rows.y n s c.scan_stride-stride.ensures here;
     }

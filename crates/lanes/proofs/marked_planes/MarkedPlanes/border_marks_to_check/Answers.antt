@@ -1,6 +1,6 @@
 use Rattle.lanes.proofs.Imports.{IsUnmarked, arith, inl, inr, mul-le-mul_left, subst, ◌*◌, ◌+◌, ◌<◌, ◌≡◌, ◌≤◌}
 use Rattle.lanes.proofs.LiveLemmas.{dead_at}
-use Rattle.lanes.proofs.marked_planes.MarkedPlanes.border_word.Goals as goal
+use Rattle.lanes.proofs.marked_planes.MarkedPlanes.border_marks_to_check.Goals as goal
 
 pub returns : goal.returns
 returns c =
