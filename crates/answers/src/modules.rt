@@ -9,8 +9,8 @@ ghost use Rattle.answers.specs.ModulesText.{SaysModules, words_of_counts, module
 
 use crate::outcome::{Answered, Outcome};
 use certificate::{Cert, Counts};
-use module_box::Box2;
-use section_text::{print_number, print_word};
+use pattern::print_box;
+use section_text::print_word;
 use std::alloc::{AllocError, Global};
 
 // A space and a number.

@@ -10,12 +10,12 @@ use Rattle.bbm_rule.proofs.BitLemmas.{holds_below, below_from_test, xor, bit-and
 abbrev pub changed_of : ℕ → ℕ → ℕ → ℕ → ℕ
 changed_of ul ur ll lr = bit_xor (bit_or ul lr) (bit_or ur ll)
 
-abbrev pub flip_main_of : ℕ → ℕ → ℕ → ℕ → ℕ
-flip_main_of ul ur ll lr =
+abbrev pub main_flips_of : ℕ → ℕ → ℕ → ℕ → ℕ
+main_flips_of ul ur ll lr =
     bit_xor (changed_of ul ur ll lr) (bit_and (changed_of ul ur ll lr) (bit_xor ur ll))
 
-abbrev pub flip_anti_of : ℕ → ℕ → ℕ → ℕ → ℕ
-flip_anti_of ul ur ll lr =
+abbrev pub anti_flips_of : ℕ → ℕ → ℕ → ℕ → ℕ
+anti_flips_of ul ur ll lr =
     bit_xor (changed_of ul ur ll lr) (bit_and (changed_of ul ur ll lr) (bit_xor ul lr))
 
 -- one bit of each answer
@@ -96,8 +96,8 @@ by_cases_lr false false false true = refl
 by_cases_lr false false false false = refl
 
 pub words_turned : (ul ur ll lr : ℕ) →
-    AreTurned ul ur ll lr (bit_xor ul (flip_main_of ul ur ll lr)) (bit_xor ur (flip_anti_of ul ur ll lr))
-    (bit_xor ll (flip_anti_of ul ur ll lr)) (bit_xor lr (flip_main_of ul ur ll lr))
+    AreTurned ul ur ll lr (bit_xor ul (main_flips_of ul ur ll lr)) (bit_xor ur (anti_flips_of ul ur ll lr))
+    (bit_xor ll (anti_flips_of ul ur ll lr)) (bit_xor lr (main_flips_of ul ur ll lr))
 words_turned ul ur ll lr =
     grind (arith, common_steps, bit-xor, bit-or, bit-and, by_cases_ul, by_cases_ur, by_cases_ll, by_cases_lr)
 

@@ -40,6 +40,6 @@ unfolding unkept_from
 unkept_same ms ns same n [] = refl
 unkept_same ms ns same n (g ∷ gs) = grind (arith, common_steps, unkept_same ms ns same (n + 1) gs)
 
-pub unkept_meant : (version : ℕ) (g : Setting) (ms : List ModuleLines) →
+pub unkept_gates_meant : (version : ℕ) (g : Setting) (ms : List ModuleLines) →
     unkept g (modules_by_version version g ms) ≡ unkept g ms
-unkept_meant version g ms = grind (arith, common_steps, unkept_same, kept_meant)
+unkept_gates_meant version g ms = grind (arith, common_steps, unkept_same, kept_meant)

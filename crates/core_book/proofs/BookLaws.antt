@@ -8,9 +8,10 @@ use Rattle.core_book.proofs.Imports.{not, number_of, option_eq, pointwise, refl,
 use Rattle.core_book.proofs.Imports.{slice_get_within, subst, sym, true, ℕ, ◌∙◌, ◌≡◌, ◌≢◌}
 use Rattle.lemmas.proofs.Common.{bytes_decides}
 use Rattle.local_run.specs.Shown.{fault_of, keep_of}
-use Rattle.core_book.specs.Laws.{AcceptedIsBooksAndNew, BooksAgreeOnFaults, ClosedAnswersClosed, DoubleIsBooksAndHeld}
+use Rattle.core_book.specs.Laws.{AcceptedFindingMatchesBookAndIsNew, BooksAgreeOnFaults, ClosedBookAloneAnswersClosed}
+use Rattle.core_book.specs.Laws.{DoubleFindingMatchesBookAndIsHeld}
 use Rattle.core_book.specs.Laws.{AcceptedFindingIsHeld, UnacceptedKeepsFindings, FilingKeepsHeldFindings}
-use Rattle.core_book.specs.Laws.{BooksFindingIsNoStranger, FilingKeepsBookValid, EachEntryKeepsReplay}
+use Rattle.core_book.specs.Laws.{MatchingFindingIsNoStranger, FilingKeepsBookValid, EachEntryKeepsReplay}
 use Rattle.core_book.specs.declared.reply.Mismatch.{Mismatch}
 use Rattle.core_book.proofs.Filings.{IsBook-filed, accepted-inside, accepted-new, accepted-own, findings_after-accepted}
 use Rattle.core_book.proofs.Filings.{findings_after-other, is_job_of-true, reply_to-closed, reply_to-held, reply_to-new}
@@ -32,7 +33,7 @@ pub own-job : (b : BookView) (n : ℕ) (f : Finding) → IsOwn b n f → is_job_
 unfolding is_job_of
 own-job b n f own = grind (arith, common_steps, option_eq, jobs_decide)
 
-pub accepts-its-own : AcceptedIsBooksAndNew
+pub accepts-its-own : AcceptedFindingMatchesBookAndIsNew
 accepts-its-own b f e = (accepted-own b f e, none_held _ (accepted-new b f e))
 
 no_stranger : (b : BookView) (f : Finding) (mismatch : Mismatch) (closed held : Bool) → IsOwn b (number_of f) f →
@@ -43,7 +44,7 @@ no_stranger b f mismatch false true own is held_is e =
 no_stranger b f mismatch false false own is held_is e =
     grind (arith, common_steps, reply_to-new, own-digest, own-number, own-job)
 
-pub knows-its-own : BooksFindingIsNoStranger
+pub knows-its-own : MatchingFindingIsNoStranger
 knows-its-own b f k mismatch own = grind (arith, common_steps, no_stranger)
 
 -- the outcomes of the tests of a finding that is answered `Double`
@@ -85,13 +86,13 @@ closed_tells : (b : BookView) (f : Finding) → reply_to b f ≡ Closed → b.cl
 unfolding reply_to
 closed_tells b f e = not_closed _ _ _ _ _ (number_of f) e
 
-pub closed-answers-closed : ClosedAnswersClosed
+pub closed-answers-closed : ClosedBookAloneAnswersClosed
 closed-answers-closed b f = (closed_tells b f, reply_to-closed b f)
 
 double-own : (b : BookView) (f : Finding) (k : ℕ) → reply_to b f ≡ Double k → IsOwn b k f
 double-own b f k e = grind (arith, common_steps, double_tells, bytes_decides, is_job_of-true)
 
-pub doubles-what_is_held : DoubleIsBooksAndHeld
+pub doubles-what_is_held : DoubleFindingMatchesBookAndIsHeld
 doubles-what_is_held b f k e =
     let p = double_tells b f k e in
     (double-own b f k e, subst (λ (n : ℕ). IsSome (found_in b n)) p.same p.held_is)

@@ -8,7 +8,7 @@ use Rattle.core_book.proofs.Imports.{new_core, number_of, occurrences, refl, rep
 use Rattle.core_book.proofs.Imports.{total, true, ℕ, ◌+◌, ◌<◌, ◌==◌, ◌∙◌, ◌∷◌, ◌≡◌, ◌≢◌, ◌≤◌}
 use Rattle.lemmas.proofs.Common.{◌⊎◌, Contains, Contains-append_cases, Contains-append_left, Contains-append_right}
 use Rattle.lemmas.proofs.Common.{Contains-push, sum_by-append, nothing_in, one_in}
-use Rattle.core_book.specs.Claims.{claim_of_draw}
+use Rattle.core_book.specs.Claims.{claim_answer_of_draw}
 use Rattle.core_book.specs.Core.{answer_of_claim, answer_to}
 use Rattle.core_book.specs.CoreLaws.{AcceptsAtMostOnePerNumber, AreAllDrawn, DrawsEachOnce, EmptyOnlyIfAllAreDrawn}
 use Rattle.core_book.specs.CoreLaws.{EventsKeepHeldFindings, HistoryReplaysAfterEvents, HeldFindingsAreBooksAndLeast}
@@ -35,7 +35,7 @@ draws-each-once digest jobs seats es seated = (all-core digest jobs seats es sea
 -- where a claim answers `Empty`, the next number after it is past the numbers
 empty-past : (n next : ℕ) (lists : List (List ℕ)) (seat : ℕ) → seat < length lists → IsDrawn next lists → (has : Bool) →
     is_seat_finished n (get_or lists seat []) ≡ has →
-    answer_of_claim (if has then Claimed.Empty else claim_of_draw n next) ≡ Answered.Empty →
+    answer_of_claim (if has then Claimed.Empty else claim_answer_of_draw n next) ≡ Answered.Empty →
     n ≤ (if has then next else next + 1)
 empty-past n next lists seat inside is true e h = let past = one_if_ended-all n next lists seat inside e is in
     omega (arith, past)

@@ -9,12 +9,12 @@ abbrev pub is_seat_finished : ℕ → List ℕ → Bool
 is_seat_finished n draws = nat_lt n (past_last draws)
 
 -- a draw below n is one of the numbers
-abbrev pub claim_of_draw : ℕ → ℕ → Claim
-claim_of_draw n draw = if nat_lt draw n then Number draw else Empty
+abbrev pub claim_answer_of_draw : ℕ → ℕ → Claim
+claim_answer_of_draw n draw = if nat_lt draw n then Number draw else Empty
 
 -- what a claim answers, if there are n numbers, the seat drew these, and the next number is `next`
 abbrev pub claim_answer : ℕ → List ℕ → ℕ → Claim
-claim_answer n draws next = if is_seat_finished n draws then Empty else claim_of_draw n next
+claim_answer n draws next = if is_seat_finished n draws then Empty else claim_answer_of_draw n next
 
 -- the seat's draws after it
 abbrev pub draws_after_claim : ℕ → List ℕ → ℕ → List ℕ

@@ -10,23 +10,23 @@ use Rattle.core_book.specs.declared.reply.Mismatch.{Mismatch}
 use Rattle.core_book.specs.declared.reply.Reply.TheVariants.{Closed, Stranger, Double, Accepted}
 
 -- what is accepted is the book's own, and nothing is held for its number
-abbrev pub AcceptedIsBooksAndNew : Type 0
-AcceptedIsBooksAndNew = (b : BookView) (f : Finding) → reply_to b f ≡ Accepted →
+abbrev pub AcceptedFindingMatchesBookAndIsNew : Type 0
+AcceptedFindingMatchesBookAndIsNew = (b : BookView) (f : Finding) → reply_to b f ≡ Accepted →
     IsOwn b (number_of f) f × (found_in b (number_of f) ≡ None)
 
 -- what is answered `Double` is the book's own, and a finding is held for its number
-abbrev pub DoubleIsBooksAndHeld : Type 0
-DoubleIsBooksAndHeld = (b : BookView) (f : Finding) (number : ℕ) → reply_to b f ≡ Double number →
+abbrev pub DoubleFindingMatchesBookAndIsHeld : Type 0
+DoubleFindingMatchesBookAndIsHeld = (b : BookView) (f : Finding) (number : ℕ) → reply_to b f ≡ Double number →
     IsOwn b number f × IsSome (found_in b number)
 
 -- what is the book's own is no stranger
-abbrev pub BooksFindingIsNoStranger : Type 0
-BooksFindingIsNoStranger = (b : BookView) (f : Finding) (number : ℕ) (mismatch : Mismatch) → IsOwn b number f →
+abbrev pub MatchingFindingIsNoStranger : Type 0
+MatchingFindingIsNoStranger = (b : BookView) (f : Finding) (number : ℕ) (mismatch : Mismatch) → IsOwn b number f →
     reply_to b f ≢ Stranger mismatch
 
 -- a closed book answers `Closed`, and no other does
-abbrev pub ClosedAnswersClosed : Type 0
-ClosedAnswersClosed = (b : BookView) (f : Finding) → (reply_to b f ≡ Closed) ↔ (b.closed ≡ true)
+abbrev pub ClosedBookAloneAnswersClosed : Type 0
+ClosedBookAloneAnswersClosed = (b : BookView) (f : Finding) → (reply_to b f ≡ Closed) ↔ (b.closed ≡ true)
 
 -- what is accepted is held from then on
 abbrev pub AcceptedFindingIsHeld : Type 0

@@ -1,6 +1,6 @@
 //! Laws of books and of the core, each the contract of a function without a body.
 ghost use Rattle.core_book.specs.CoreLaws.{AcceptsAtMostOnePerNumber, DrawsEachOnce, EmptyOnlyIfAllAreDrawn, EventsKeepHeldFindings, HistoryReplaysAfterEvents, HeldFindingsAreBooksAndLeast, HoldsWhatWasAccepted, OnlyAcceptedChangesWhatIsHeld, VerdictIsUnique};
-ghost use Rattle.core_book.specs.Laws.{AcceptedIsBooksAndNew, BooksAgreeOnFaults, ClosedAnswersClosed, ClosedIfHistoryHasClosing, DoubleIsBooksAndHeld, FullBookHoldsAll, AcceptedFindingIsHeld, UnacceptedKeepsFindings, FilingKeepsHeldFindings, BooksFindingIsNoStranger, FilingKeepsBookValid, EachEntryKeepsReplay};
+ghost use Rattle.core_book.specs.Laws.{AcceptedFindingMatchesBookAndIsNew, BooksAgreeOnFaults, ClosedBookAloneAnswersClosed, ClosedIfHistoryHasClosing, DoubleFindingMatchesBookAndIsHeld, FullBookHoldsAll, AcceptedFindingIsHeld, UnacceptedKeepsFindings, FilingKeepsHeldFindings, MatchingFindingIsNoStranger, FilingKeepsBookValid, EachEntryKeepsReplay};
 
 /// States that, after any events, a new core has given each number below the next to one seat, once.
 ///
@@ -36,7 +36,7 @@ pub fn verdict_is_unique()
 
 /// States that a closed book answers `Closed` to every finding, and that no other book does.
 pub fn closed_book_answers_closed()
-    ensures { ClosedAnswersClosed }
+    ensures { ClosedBookAloneAnswersClosed }
 {}
 
 /// States that a book whose history replays to it keeps this after each filing and after a closing.
@@ -53,9 +53,9 @@ pub fn history_replays()
 /// - One that is answered `Double` is the book's own, and one is held for its number.
 /// - One that is the book's own is no stranger.
 pub fn replies_tell_whose_a_finding_is()
-    ensures accepted { AcceptedIsBooksAndNew }
-    ensures double { DoubleIsBooksAndHeld }
-    ensures knows_its_own { BooksFindingIsNoStranger }
+    ensures accepted { AcceptedFindingMatchesBookAndIsNew }
+    ensures double { DoubleFindingMatchesBookAndIsHeld }
+    ensures knows_its_own { MatchingFindingIsNoStranger }
 {}
 
 /// States what a book holds after a filing.

@@ -1,7 +1,7 @@
 //! The core: seats that draw numbers, and a book.
 ghost use Rattle.std.specs.Prelude.{◌≡◌, ◌<◌, ◌≤◌, ◌^◌, IfErr, IfOk, OnErr, OnOk, [], length, map, nat_lt, replicate, vec_len};
 ghost use Rattle.std.specs.Arc.{arc_value};
-ghost use Rattle.core_book.specs.Claims.{claim_answer, draws_after_claim, next_after_claim, claim_of_draw, is_seat_finished};
+ghost use Rattle.core_book.specs.Claims.{claim_answer, draws_after_claim, next_after_claim, claim_answer_of_draw, is_seat_finished};
 ghost use Rattle.core_book.specs.CoreView.{lists_of};
 
 use crate::book::{BookState, NotFiled};
@@ -204,7 +204,7 @@ fn next_claim(
         return Ok((Claim::Empty, next));
     }
     drawn.push(next)?;
-    Ok((claim_of_draw(next, count), next + 1))
+    Ok((claim_answer_of_draw(next, count), next + 1))
 }
 
 // Whether the draws of a seat end with one that is past the numbers.
@@ -218,8 +218,8 @@ fn is_seat_finished(drawn: &[usize], count: usize) -> bool
 }
 
 // What a draw gets.
-fn claim_of_draw(draw: usize, count: usize) -> Claim
-    ensures { result ≡ claim_of_draw count draw }
+fn claim_answer_of_draw(draw: usize, count: usize) -> Claim
+    ensures { result ≡ claim_answer_of_draw count draw }
 {
     if draw < count {
         Claim::Number(draw)

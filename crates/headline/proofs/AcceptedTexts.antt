@@ -29,7 +29,7 @@ use Rattle.headline.specs.TimedModules.{timed_modules_text}
 use Rattle.headline.specs.Witnesses.{PlainNoTextIsRefuted, PlainYesTextIsAccepted, SmallDesignIsAccepted}
 use Rattle.headline.specs.Witnesses.{SmallDesignIsRefuted}
 use Rattle.headline.proofs.FailingTexts.{Fails, is_refuted}
-use Rattle.headline.proofs.PassingTexts.{PassesIfRead, accepted_if}
+use Rattle.headline.proofs.PassingTexts.{IsReadAndPasses, accepted_if}
 use Rattle.headline.proofs.PlainLines.{plain_lines_decide}
 use Rattle.headline.proofs.SmallDesigns.{is_plain_text}
 use Rattle.headline.proofs.Designs.{one_certificate, one_design}
@@ -175,10 +175,10 @@ meeting_plain b c = record {
 -- ---- the texts are read, and pass
 
 record AreRead : Type 0 where
-  pub timed : PassesIfRead (bundle_of timed_modules_text)
-  pub inverse : PassesIfRead (bundle_of there_and_back_text)
+  pub timed : IsReadAndPasses (bundle_of timed_modules_text)
+  pub inverse : IsReadAndPasses (bundle_of there_and_back_text)
   pub reads : bundle_of there_and_back_text ≡ Ok bundle
-  pub yes : PassesIfRead (bundle_of plain_yes_text)
+  pub yes : IsReadAndPasses (bundle_of plain_yes_text)
   pub yes_reads : bundle_of plain_yes_text ≡ Ok (meeting_bundle right_layout)
   pub no_reads : bundle_of plain_no_text ≡ Ok (meeting_bundle wrong_layout)
   pub no_fails : Fails (meeting_bundle wrong_layout) wrong_layout one (cell 2 2) 1 (Meet 0 (Some 1) ∷ [])

@@ -50,7 +50,7 @@ pub use Rattle.core_book.specs.Concluding.{port_names_of}
 pub use Rattle.core_book.specs.declared.verdict.ReportLine.{ReportLine}
 pub use Rattle.core_book.specs.declared.verdict.ReportLine.TheVariants.{Local, Meet}
 pub use Rattle.core_book.specs.declared.verdict.Verdict.{Verdict}
-pub use Rattle.headline.specs.Laws.{HasAnAnswer, HasAtMostOneAnswer}
+pub use Rattle.headline.specs.Laws.{HasAnAnswerToEachText, HasAtMostOneAnswerToEachText}
 pub use Rattle.headline.specs.MovedDesigns.{HasRoom, enlarged, moved, moved_by_two, port_moved_by_two}
 pub use Rattle.headline.specs.MovedDesigns.{rectangle_moved_by_two}
 pub use Rattle.headline.specs.Plain.{HasRimTouch, SaysPlain}

@@ -1,5 +1,5 @@
 -- A text has one answer.
-use Rattle.headline.proofs.Imports.{AnswersOrRefuses, Bool, Cells, Err, HasAtMostOneAnswer, IsDeadOutside}
+use Rattle.headline.proofs.Imports.{AnswersOrRefuses, Bool, Cells, Err, HasAtMostOneAnswerToEachText, IsDeadOutside}
 use Rattle.headline.proofs.Imports.{IsLiveOutside, IsRunEnd, IsRunOf, LayoutHeader, LayoutLine, LeftAt, List, Ok}
 use Rattle.headline.proofs.Imports.{Outcome, Pattern, Refusal, Result, RunEnd, RunQuestion, SaysRunEnd, State, ap}
 use Rattle.headline.proofs.Imports.{arith, common_steps, layout_of, layout_section, parts_of, run_end_outcome}
@@ -44,5 +44,5 @@ pub answered_once : {A : Type 0} (says : A → List ℕ → Outcome → Type 0) 
 answered_once says once (Ok asked) output output' outcome outcome' h h' = grind (arith, common_steps)
 answered_once says once (Err refusal) output output' outcome outcome' h h' = (h.0 ∙ sym h'.0, h.1 ∙ sym h'.1)
 
-pub one_answer : HasAtMostOneAnswer IsRunOf
+pub one_answer : HasAtMostOneAnswerToEachText IsRunOf
 one_answer text output output' outcome outcome' h h' = grind (arith, common_steps, answered_once, one_run)

@@ -1,5 +1,6 @@
 -- A text has one report.
-use Rattle.headline.proofs.Imports.{AreJobsOf, AreModules, Bundle, CertView, HasAtMostOneAnswer, IsReportOf, IsVerdict}
+use Rattle.headline.proofs.Imports.{AreJobsOf, AreModules, Bundle, CertView, HasAtMostOneAnswerToEachText, IsReportOf}
+use Rattle.headline.proofs.Imports.{IsVerdict}
 use Rattle.headline.proofs.Imports.{IsVerdictOn, JobView, List, ModuleLines, None, Option, Outcome, SaysReport, Some}
 use Rattle.headline.proofs.Imports.{Verdict, ap, arith, circuit_of, common_steps, length, modules_in, refl, report_text}
 use Rattle.headline.proofs.Imports.{setting_of, slice_get, slice_get_within, subst, sym, verdict_outcome, ℕ, ◌<◌, ◌∙◌}
@@ -82,5 +83,5 @@ one_said bundle output output' outcome outcome' h h' =
       h.ends ∙ same_outcome h.verdict h'.verdict said ∙ sym h'.ends,
     )
 
-pub one_report : HasAtMostOneAnswer IsReportOf
+pub one_report : HasAtMostOneAnswerToEachText IsReportOf
 one_report text output output' outcome outcome' h h' = grind (arith, common_steps, answered_once, one_said)

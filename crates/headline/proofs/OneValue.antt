@@ -1,5 +1,6 @@
 -- A circuit has one answer.
-use Rattle.headline.proofs.Imports.{AreOrdered, Bool, HasAtMostOneAnswer, IsValueOf, List, Outcome, SaysValues}
+use Rattle.headline.proofs.Imports.{AreOrdered, Bool, HasAtMostOneAnswerToEachText, IsValueOf, List, Outcome}
+use Rattle.headline.proofs.Imports.{SaysValues}
 use Rattle.headline.proofs.Imports.{Valuation, ValueQuestion, [], ap, ap₂, arith, as_values, codes, decimal, defined}
 use Rattle.headline.proofs.Imports.{false, inl, inr, length, line_text, netlist_of, refl, subst, suc, sym, value_lines}
 use Rattle.headline.proofs.Imports.{value_sections_of, zero, ℕ, ◌++◌, ◌<◌, ◌∙◌, ◌∷◌, ◌≡◌, ◌⊎◌}
@@ -60,6 +61,6 @@ one_evaluation : (asked : ValueQuestion) (output output' : List ℕ) (outcome ou
 one_evaluation asked output output' outcome outcome' h h' =
     one_of asked output output' outcome outcome' h.ordered h.says h'.says
 
-pub one_value : HasAtMostOneAnswer IsValueOf
+pub one_value : HasAtMostOneAnswerToEachText IsValueOf
 one_value text output output' outcome outcome' h h' =
     answered_once SaysValues one_evaluation (value_sections_of text) output output' outcome outcome' h h'

@@ -23,9 +23,9 @@ pub record Passes (b : Bundle) : Type 0 where
       (map (job_of (circuit_of b.circuit) (layout_in b)) (modules_by b))
 
 -- it is read, and passes
-abbrev pub PassesIfRead : Result Bundle Refusal → Type 0
-PassesIfRead (Ok b) = Passes b
-PassesIfRead (Err refusal) = ⊥
+abbrev pub IsReadAndPasses : Result Bundle Refusal → Type 0
+IsReadAndPasses (Ok b) = Passes b
+IsReadAndPasses (Err refusal) = ⊥
 
 module _ (text : List ℕ) (b : Bundle) (e : bundle_of text ≡ Ok b) (pass : Passes b) where
   abbrev p : Pattern
@@ -58,10 +58,10 @@ module _ (text : List ℕ) (b : Bundle) (e : bundle_of text ≡ Ok b) (pass : Pa
         (reported_by text b e p pass.layout verdict.Yes is_verdict),
   )
 
-pub accepted_if : (text : List ℕ) → PassesIfRead (bundle_of text) → (output : List ℕ) × IsReportOf text output Yes
+pub accepted_if : (text : List ℕ) → IsReadAndPasses (bundle_of text) → (output : List ℕ) × IsReportOf text output Yes
 accepted_if text = by (bundle_of text) refl
   where
-    by : (r : Result Bundle Refusal) → bundle_of text ≡ r → PassesIfRead r →
+    by : (r : Result Bundle Refusal) → bundle_of text ≡ r → IsReadAndPasses r →
         (output : List ℕ) × IsReportOf text output Yes
     by (Ok b) e pass = accepted_bundle text b e pass
     by (Err refusal) e pass = absurd pass

@@ -1,5 +1,6 @@
 -- `modules`, `migrate` and `value` have an answer to each text
-use Rattle.headline.proofs.Imports.{AnswersOrRefuses, AreOrdered, CircuitLine, Err, HasAnAnswer, IsMigrationOf}
+use Rattle.headline.proofs.Imports.{AnswersOrRefuses, AreOrdered, CircuitLine, Err, HasAnAnswerToEachText}
+use Rattle.headline.proofs.Imports.{IsMigrationOf}
 use Rattle.headline.proofs.Imports.{IsModulesOf, IsValueOf, List, No, Ok, Outcome, Refusal, Refused, Result}
 use Rattle.headline.proofs.Imports.{SaysMigration, SaysModules, SaysValues, ValueQuestion, Yes, [], bundle_of}
 use Rattle.headline.proofs.Imports.{circuit_grammar, codes, decimal, defined, gates_are_ordered, inl, inr, line_text}
@@ -22,11 +23,11 @@ pub answered_always : {A : Type 0} (says : A → List ℕ → Outcome → Type 0
 answered_always says (Ok asked) each = let s = each asked refl in (s.output, s.outcome, s.is)
 answered_always says (Err refusal) each = (refusal_line refusal, Refused, (refl, refl))
 
-pub some_list : HasAnAnswer IsModulesOf
+pub some_list : HasAnAnswerToEachText IsModulesOf
 some_list text = answered_always SaysModules (bundle_of text)
     (λ bundle e. record { output = _; outcome = Yes; is = record { says = refl; ends = refl } })
 
-pub some_migration : HasAnAnswer IsMigrationOf
+pub some_migration : HasAnAnswerToEachText IsMigrationOf
 some_migration text = answered_always SaysMigration (bundle_of text)
     (λ bundle e. record { output = _; outcome = Yes; is = record { says = refl; ends = refl } })
 
@@ -66,7 +67,7 @@ asked_ordered text asked e =
     subst (λ es. AreOrdered (netlist_of es).given (netlist_of es).gates) same
     (gates_are_ordered c.items (circuit_good 0 (lines_of text) c.header c.items c.was))
 
-pub some_values : HasAnAnswer IsValueOf
+pub some_values : HasAnAnswerToEachText IsValueOf
 some_values text = answered_always SaysValues (value_sections_of text) (λ asked e.
     let ordered = asked_ordered text asked e in
     says_values asked ordered (values_or_stop (netlist_of asked.0) (assigned_inputs asked) ordered))

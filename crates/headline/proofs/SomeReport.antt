@@ -1,5 +1,6 @@
 -- A text has a report
-use Rattle.headline.proofs.Imports.{AreFaultless, AreModules, Ball, Bundle, CertView, HasAnAnswer, In, IsFaultless}
+use Rattle.headline.proofs.Imports.{AreFaultless, AreModules, Ball, Bundle, CertView, HasAnAnswerToEachText, In}
+use Rattle.headline.proofs.Imports.{IsFaultless}
 use Rattle.headline.proofs.Imports.{IsReportOf, IsVerdictOn, LayoutHeader, LayoutLine, List, Mirror, None, Ok, Option}
 use Rattle.headline.proofs.Imports.{Out, Pattern, PortNameLists, SaysReport, Setting, Some, Verdict, Waste, [], ap}
 use Rattle.headline.proofs.Imports.{append-nil, append_assoc, bundle_of, certificate_grammar, faultless_modules}
@@ -113,5 +114,5 @@ reported text b e =
       });
     }
 
-pub some_report : HasAnAnswer IsReportOf
+pub some_report : HasAnAnswerToEachText IsReportOf
 some_report text = answered_always SaysReport (bundle_of text) (λ b e. reported text b e)

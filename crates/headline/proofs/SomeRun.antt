@@ -1,5 +1,6 @@
 -- `run` has an answer to each text
-use Rattle.headline.proofs.Imports.{Bool, Cell, Cells, Err, HasAnAnswer, IsDeadOutside, IsFaultless, IsLiveOutside}
+use Rattle.headline.proofs.Imports.{Bool, Cell, Cells, Err, HasAnAnswerToEachText, IsDeadOutside, IsFaultless}
+use Rattle.headline.proofs.Imports.{IsLiveOutside}
 use Rattle.headline.proofs.Imports.{IsRunEnd, IsRunOf, LayoutHeader, LayoutLine, LeftAt, List, None, Ok, Pattern}
 use Rattle.headline.proofs.Imports.{Refusal, Result, RunEnd, RunQuestion, SaysRunEnd, State, [], arith, cases_Bool}
 use Rattle.headline.proofs.Imports.{cond, false, filter, flat_map, has, in_box, in_layout, inl, inr, layout_grammar}
@@ -194,6 +195,6 @@ says_end asked a =
       is = record { layout = p.0; end = end.0; lines = p.1 ∙ a.same; run = end.1; says = refl; ends = refl };
     }
 
-pub some_run : HasAnAnswer IsRunOf
+pub some_run : HasAnAnswerToEachText IsRunOf
 some_run text = answered_always SaysRunEnd (run_sections_of text)
     (λ asked e. says_end asked (asked_layout text asked e))

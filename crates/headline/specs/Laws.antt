@@ -20,13 +20,13 @@ use Rattle.headline.specs.Stops.{HasRightStops, SaysBundle}
 use Rattle.headline.specs.RightInFull.{IsGoodDesign, IsRightInFull}
 
 -- a command has at most one answer to each text
-abbrev pub HasAtMostOneAnswer : (List ℕ → List ℕ → Outcome → Type 0) → Type 0
-HasAtMostOneAnswer R = (text output output' : List ℕ) (outcome outcome' : Outcome) → R text output outcome →
+abbrev pub HasAtMostOneAnswerToEachText : (List ℕ → List ℕ → Outcome → Type 0) → Type 0
+HasAtMostOneAnswerToEachText R = (text output output' : List ℕ) (outcome outcome' : Outcome) → R text output outcome →
     R text output' outcome' → (output ≡ output') × (outcome ≡ outcome')
 
 -- a command has an answer to each text; with the law above, its answer is a function of the text
-abbrev pub HasAnAnswer : (List ℕ → List ℕ → Outcome → Type 0) → Type 0
-HasAnAnswer R = (text : List ℕ) → (output : List ℕ) × (outcome : Outcome) × R text output outcome
+abbrev pub HasAnAnswerToEachText : (List ℕ → List ℕ → Outcome → Type 0) → Type 0
+HasAnAnswerToEachText R = (text : List ℕ) → (output : List ℕ) × (outcome : Outcome) × R text output outcome
 
 -- what is reported with the outcome yes is right
 abbrev pub YesMeansRight : Type 0

@@ -1,6 +1,6 @@
 //! Laws of the definitions, each the contract of a function without a body.
 ghost use Rattle.answers.specs.CheckText.{IsReportOf};
-ghost use Rattle.headline.specs.Laws.{BeginsWithOneDesign, SaysYesMeansFourthLine, FourthLineShowsOutcome, HasAnAnswer, HasAtMostOneAnswer, PrintedDesignIsRead, TextBeginsWithReadDesign, UnrefusedDesignIsGood, RightSaysCorrectDesign, SaysOneCertificate, SaysOneDesign, ThereAndBackTextIsAccepted, TimedModulesTextIsAccepted, YesHasOneValuation, YesMeansRight, YesMeansRightInFull, YesMeansRightStops};
+ghost use Rattle.headline.specs.Laws.{BeginsWithOneDesign, SaysYesMeansFourthLine, FourthLineShowsOutcome, HasAnAnswerToEachText, HasAtMostOneAnswerToEachText, PrintedDesignIsRead, TextBeginsWithReadDesign, UnrefusedDesignIsGood, RightSaysCorrectDesign, SaysOneCertificate, SaysOneDesign, ThereAndBackTextIsAccepted, TimedModulesTextIsAccepted, YesHasOneValuation, YesMeansRight, YesMeansRightInFull, YesMeansRightStops};
 ghost use Rattle.headline.specs.PlainLaws.{UnrefusedKeepsDesignRules, EachSmallDesignHasPlainText, EachSmallDesignIsDecided, PlainIsDecided, PlainLinesTextIsDecided, PlainNoMeansWrong, RefusedIsNoSmallDesign, SmallDesignIsDecided, ThereAndBackTextIsPlain, ThereAndBackTextIsSmall, YesKeepsOffRim, LinesOfNoHaveMeaning};
 ghost use Rattle.headline.specs.Witnesses.{PlainNoTextIsRefuted, PlainYesTextIsAccepted, SmallDesignIsAccepted, SmallDesignIsRefuted};
 ghost use Rattle.headline.specs.MovedDesigns.{EachCorrectDesignGetsYes, SomeDesignNeedsRoom};
@@ -12,32 +12,32 @@ ghost use Rattle.answers.specs.ValueText.{IsValueOf};
 
 /// States that what `check` writes for a text, and its outcome, is a function of the text.
 pub fn check_has_one_answer()
-    ensures one { HasAtMostOneAnswer IsReportOf }
-    ensures some { HasAnAnswer IsReportOf }
+    ensures one { HasAtMostOneAnswerToEachText IsReportOf }
+    ensures some { HasAnAnswerToEachText IsReportOf }
 {}
 
 /// States that what `run` writes for a text, and its outcome, is a function of the text.
 pub fn run_has_one_answer()
-    ensures one { HasAtMostOneAnswer IsRunOf }
-    ensures some { HasAnAnswer IsRunOf }
+    ensures one { HasAtMostOneAnswerToEachText IsRunOf }
+    ensures some { HasAnAnswerToEachText IsRunOf }
 {}
 
 /// States that what `value` writes for a text, and its outcome, is a function of the text.
 pub fn value_has_one_answer()
-    ensures one { HasAtMostOneAnswer IsValueOf }
-    ensures some { HasAnAnswer IsValueOf }
+    ensures one { HasAtMostOneAnswerToEachText IsValueOf }
+    ensures some { HasAnAnswerToEachText IsValueOf }
 {}
 
 /// States that what `modules` writes for a text, and its outcome, is a function of the text.
 pub fn modules_has_one_answer()
-    ensures one { HasAtMostOneAnswer IsModulesOf }
-    ensures some { HasAnAnswer IsModulesOf }
+    ensures one { HasAtMostOneAnswerToEachText IsModulesOf }
+    ensures some { HasAnAnswerToEachText IsModulesOf }
 {}
 
 /// States that what `migrate` writes for a text, and its outcome, is a function of the text.
 pub fn migrate_has_one_answer()
-    ensures one { HasAtMostOneAnswer IsMigrationOf }
-    ensures some { HasAnAnswer IsMigrationOf }
+    ensures one { HasAtMostOneAnswerToEachText IsMigrationOf }
+    ensures some { HasAnAnswerToEachText IsMigrationOf }
 {}
 
 /// States that `migrate` keeps what is said and what is accepted.

@@ -7,7 +7,7 @@ use Rattle.lemmas.proofs.Common.{◌↔◌, nat_eq, and_or_self, and_zero_l, bit
 use Rattle.lemmas.proofs.Common.{xor_assoc, xor_self, xor_zero_l, xor_zero_r}
 use Rattle.std.proofs.lemmas.Slice.{take-put_mid_below, drop-put_mid}
 use Rattle.bbm_rule.proofs.BitLemmas.{zero_or_one}
-use Rattle.bbm_rule.proofs.Turning.{words_turned, flip_main_of, flip_anti_of}
+use Rattle.bbm_rule.proofs.Turning.{words_turned, main_flips_of, anti_flips_of}
 use Rattle.lanes.proofs.LaneLemmas.{part_read, part_written}
 use borrow.Rule.Slice.PartMut.{mid_of, put_mid}
 
@@ -66,18 +66,18 @@ same_beside a n xs = record { below = λ k l. refl; above = λ k l. refl }
 flips_none : (a f j : ℕ) → f ≡ 0 → bit (bit_xor a f) j ≡ bit a j
 flips_none a f j e = grind (arith, common_steps, bit-xor, bit-zero, xor)
 
-pub main_stays : (ul ur ll lr : ℕ) → flip_main_of ul ur ll lr ≡ 0 → DiagonalStays ul lr ur ll
+pub main_stays : (ul ur ll lr : ℕ) → main_flips_of ul ur ll lr ≡ 0 → DiagonalStays ul lr ur ll
 main_stays ul ur ll lr e j =
     let t = words_turned ul ur ll lr in (
-      sym (t.upper_left j) ∙ flips_none ul (flip_main_of ul ur ll lr) j e,
-      sym (t.lower_right j) ∙ flips_none lr (flip_main_of ul ur ll lr) j e,
+      sym (t.upper_left j) ∙ flips_none ul (main_flips_of ul ur ll lr) j e,
+      sym (t.lower_right j) ∙ flips_none lr (main_flips_of ul ur ll lr) j e,
     )
 
-pub anti_stays : (ul ur ll lr : ℕ) → flip_anti_of ul ur ll lr ≡ 0 → DiagonalStays ur ll ul lr
+pub anti_stays : (ul ur ll lr : ℕ) → anti_flips_of ul ur ll lr ≡ 0 → DiagonalStays ur ll ul lr
 anti_stays ul ur ll lr e j =
     let t = words_turned ul ur ll lr in (
-      sym (t.upper_right j) ∙ flips_none ur (flip_anti_of ul ur ll lr) j e,
-      sym (t.lower_left j) ∙ flips_none ll (flip_anti_of ul ur ll lr) j e,
+      sym (t.upper_right j) ∙ flips_none ur (anti_flips_of ul ur ll lr) j e,
+      sym (t.lower_left j) ∙ flips_none ll (anti_flips_of ul ur ll lr) j e,
     )
 
 pub calm_turned : (ul ur ll lr : ℕ) → DiagonalStays ul lr ur ll → DiagonalStays ur ll ul lr →

@@ -2,7 +2,7 @@ use Rattle.certificate.proofs.Imports.{CircuitLine, Gate, List, Some, ap, arith,
 use Rattle.certificate.proofs.Imports.{is_kept, length, modules_of, netlist_of, setting_of, slice_get, sym, unkept, ◌∙◌}
 use Rattle.certificate.proofs.Imports.{◌≡◌}
 use Rattle.certificate.proofs.KeepLemmas.{unkept_more, unkept_all}
-use Rattle.certificate.proofs.MeantLines.{unkept_meant}
+use Rattle.certificate.proofs.MeantLines.{unkept_gates_meant}
 use Rattle.certificate.proofs.cert.Cert.unkept.Goals as goal
 
 pub gates-preserved : goal.gates-preserved
@@ -32,4 +32,4 @@ returns c =
     unkept_all (unkept (setting_of s.circuit s.layout) (modules_of s.entries)) c.gates.gates.items
     (modules_of s.entries) (netlist_of s.circuit).gates c.gates.number
     (let test = c.gates-test.false in omega (arith, test, count)) c.gates.invariant
-    ∙ sym (unkept_meant s.version (setting_of s.circuit s.layout) (modules_of s.entries))
+    ∙ sym (unkept_gates_meant s.version (setting_of s.circuit s.layout) (modules_of s.entries))
