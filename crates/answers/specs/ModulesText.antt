@@ -1,4 +1,5 @@
 -- The answer of `modules` to a text: a line for each module of a bundle's certificate, or the refusal of the text.
+use Rattle.pattern.specs.Text.{box_words}
 use Rattle.std.specs.Prelude.{◌≡◌, ℕ, ◌+◌, List, [], ◌∷◌, ◌++◌, map, codes}
 use Rattle.std.specs.Fmt.{decimal}
 use Rattle.section_text.specs.Spelling.{line_text}
