@@ -46,20 +46,26 @@ mirror x y = in_area 1 0 2 2 x y
 -- the rows of a block are alike
 rows_stay : (a b c : Bool) → turned (a && b) (c && b) (c && b) (a && b) ≡ (a && b)
 unfolding turned
+rows_stay true true true = refl
+rows_stay true true false = refl
 rows_stay true false true = refl
+rows_stay true false false = refl
+rows_stay false true true = refl
 rows_stay false true false = refl
-rows_stay _ true true = refl
-rows_stay true _ false = refl
-rows_stay false false _ = refl
+rows_stay false false true = refl
+rows_stay false false false = refl
 
 -- its columns are alike
 columns_stay : (a b d : Bool) → turned (a && b) (a && d) (a && b) (a && d) ≡ (a && b)
 unfolding turned
+columns_stay true true true = refl
+columns_stay true true false = refl
 columns_stay true false true = refl
+columns_stay true false false = refl
+columns_stay false true true = refl
 columns_stay false true false = refl
-columns_stay _ true true = refl
-columns_stay true _ false = refl
-columns_stay false false _ = refl
+columns_stay false false true = refl
+columns_stay false false false = refl
 
 beyond : (k : ℕ) → in_span 1 2 (pos (3 + k)) ≡ false
 beyond k = in_span-pos 1 2 (3 + k) ∙ tests k
@@ -104,7 +110,7 @@ unfolding step
 odd_stays x y = grind (arith, common_steps, odd_span, columns_stay)
 
 at_start : (on : List ℕ → Bool) (x y : ℤ) → start rim_mirror on x y ≡ mirror x y
-unfolding start
+unfolding start in_box
 at_start on x y = only (mirror x y)
   where
     only : (b : Bool) → ((b || false) || false || false) ≡ b
@@ -132,6 +138,7 @@ unfolding number row
 satisfied inputs = grind (arith, common_steps)
 
 looks : (value : List ℕ → Bool) (s : State) → ((x y : ℤ) → s x y ≡ mirror x y) → LooksAsAsked rim_mirror value s
+unfolding in_box
 looks value s same = record {
   mirrors = λ x y h. same x y ∙ one (mirror x y) h;
   outputs = λ i q at. absurd cc;
