@@ -20,9 +20,10 @@ of_memory kinds error none (inr among) = absurd (subst (λ (k : Kinds). IsAmong 
 -- an error that is help is among the kinds
 help_is_asked : (kinds : Kinds) (error : Error) → IsHelp (kind_of error) → HasKind kinds error →
     IsAmong DisplayHelp kinds ⊎ IsAmong DisplayVersion kinds
+help_is_asked kinds error (inl help) (inl memory) = absurd cc
 help_is_asked kinds error (inl help) (inr among) = inl (subst (λ k. IsAmong k kinds) help among)
+help_is_asked kinds error (inr version) (inl memory) = absurd cc
 help_is_asked kinds error (inr version) (inr among) = inr (subst (λ k. IsAmong k kinds) version among)
-help_is_asked kinds error _ (inl memory) = absurd cc
 
 -- a command ran, whatever its request is called
 ran_for : {R W E : Type 0} {source : Source R} {sink : Sink W} {messages : Sink E} (asked wanted : Request)
