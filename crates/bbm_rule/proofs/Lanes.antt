@@ -1,11 +1,10 @@
 -- Vectors of four words, and the words of four slices.
 use Rattle.bbm_rule.proofs.Imports.{List, TurnsBetween, arith, bit_and, bit_or, bit_xor, common_steps, get_or, length}
-use Rattle.bbm_rule.proofs.Imports.{refl, ℕ, ◌+◌, ◌-◌, ◌<◌, ◌∙◌, ◌≡◌, ◌≤◌}
+use Rattle.bbm_rule.proofs.Imports.{refl, ℕ, ◌+◌, ◌-◌, ◌<◌, ◌≡◌, ◌≤◌}
 use Rattle.lemmas.proofs.Common.{get_or-chunk, get_or-put_chunk_above, get_or-put_chunk_at, get_or-put_chunk_below}
 use Rattle.lemmas.proofs.Common.{get_or-zip2, length-zip2}
 use Rattle.std.specs.Simd.Lanes.{zip2, chunk, put_chunk}
 use Rattle.bbm_rule.specs.Words.{AreTurnedAt}
-use Rattle.bbm_rule.proofs.BitLemmas.{by_lt_or_le}
 use Rattle.bbm_rule.proofs.Turning.{words_turned}
 
 -- v has four lanes, and lane k is f k
@@ -98,26 +97,3 @@ chunk_turned at ul ur ll lr a b c d wul wur wdl wdr la lb lc ld turned = record 
           get_or-chunk at 4 lr j 0 l,
         ) at h in
         rw (e, stored ul a j wul la l, stored ur b j wur lb l, stored ll c j wdl lc l, stored lr d j wdr ld l) h
-
-pub no_turns : (ul ur ll lr : List ℕ) → TurnsBetween 0 0 ul ur ll lr ul ur ll lr
-no_turns ul ur ll lr = grind (arith, common_steps)
-
-pub turns_join : (m n : ℕ) (ul ur ll lr ul' ur' ll' lr' ul'' ur'' ll'' lr'' : List ℕ) → m ≤ n →
-    TurnsBetween 0 m ul ur ll lr ul' ur' ll' lr' → TurnsBetween m n ul' ur' ll' lr' ul'' ur'' ll'' lr'' →
-    TurnsBetween 0 n ul ur ll lr ul'' ur'' ll'' lr''
-turns_join m n ul ur ll lr ul' ur' ll' lr' ul'' ur'' ll'' lr'' le first second = record {
-  inside = λ k low high. by_lt_or_le k m
-      (λ l. let s = second.below k l in
-      rw (s.upper_left, s.upper_right, s.lower_left, s.lower_right) (first.inside k low l))
-      (λ l. let s = first.above k l in let h = second.inside k l high in
-      rw (s.upper_left, s.upper_right, s.lower_left, s.lower_right) at h);
-  below = λ k l. absurd (omega arith);
-  above = λ k l.
-      let s = first.above k (omega arith) in let t = second.above k l in
-      record {
-        upper_left = t.upper_left ∙ s.upper_left;
-        upper_right = t.upper_right ∙ s.upper_right;
-        lower_left = t.lower_left ∙ s.lower_left;
-        lower_right = t.lower_right ∙ s.lower_right;
-      };
-}

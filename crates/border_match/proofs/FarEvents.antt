@@ -1,9 +1,9 @@
 -- Moments and events that a search for the cells around a box passes over
-use Rattle.border_match.proofs.Imports.{AreEventsFar, Bool, Box2, Cell, Equal, Greater, IsEventFarAt, IsInWindow}
+use Rattle.border_match.proofs.Imports.{Box2, Cell, Equal, Greater, IsInWindow}
 use Rattle.border_match.proofs.Imports.{IsRising, IsWindowAround, Less, List, Moment, Ordering, Some, TimedSignal}
-use Rattle.border_match.proofs.Imports.{Window, arith, below_or_from, below_or_same, cell_cmp, common_steps, false}
-use Rattle.border_match.proofs.Imports.{false≢true, get_or, inl, inr, ints, length, moment_cmp, moment_of, moment_total}
-use Rattle.border_match.proofs.Imports.{pos, refl, same_some, slice_get, slice_get-get_or, slice_get_within, true, ℕ, ℤ}
+use Rattle.border_match.proofs.Imports.{Window, arith, below_or_same, cell_cmp, common_steps}
+use Rattle.border_match.proofs.Imports.{get_or, inl, inr, ints, length, moment_cmp, moment_of, moment_total}
+use Rattle.border_match.proofs.Imports.{pos, refl, same_some, slice_get, slice_get-get_or, slice_get_within, ℕ, ℤ}
 use Rattle.border_match.proofs.Imports.{◌%◌, ◌+ℤ◌, ◌+◌, ◌<◌, ◌∙◌, ◌≡◌, ◌≢◌, ◌≤◌, ◌⊎◌}
 use Rattle.lemmas.proofs.Common.{◌<ℤ◌, ◌≤ℤ◌, ordering_then, int_equal, int_less, nat_equal, nat_less, same_or_higher}
 use Rattle.border_match.specs.Surroundings.{AreMomentsFarBetween, IsInOrAroundFromCorner}
@@ -108,20 +108,3 @@ pub seen : (area corner : Box2) (w : Window) (c : Cell) → IsWindowAround area 
     IsInOrAroundFromCorner area corner c →
     IsInWindow w c
 seen area corner w c is g = grind (arith, common_steps, ints)
-
-pub far_none : (w : Window) (events : List TimedSignal) (place : ℕ) → AreEventsFar w events place place
-far_none w events place i e from lt got odd = absurd (omega (arith, from, lt))
-
-pub far_more : (w : Window) (events : List TimedSignal) (start place : ℕ) → AreEventsFar w events start place →
-    IsEventFarAt w events place → AreEventsFar w events start (place + 1)
-far_more w events start place far here i e from lt got odd = grind (arith, common_steps, below_or_same)
-
-pub far_joined : (w : Window) (events : List TimedSignal) (start middle last next : ℕ) → last ≤ middle →
-    AreEventsFar w events start middle → AreEventsFar w events last next → AreEventsFar w events start next
-far_joined w events start middle last next le far behind i e from lt got odd =
-    grind (arith, common_steps, below_or_from, behind)
-
-pub far_at : (w : Window) (events : List TimedSignal) (place : ℕ) (d : TimedSignal) (r : Bool) → place < length events →
-    (IsInWindow w (get_or events place d).at.cell → r ≡ true) → r ≡ false → IsEventFarAt w events place
-far_at w events place d r within sees none e got g =
-    grind (arith, common_steps, same_some, slice_get-get_or, false≢true)

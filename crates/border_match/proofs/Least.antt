@@ -1,5 +1,5 @@
 -- Candidates for a least border fault
-use Rattle.border_match.proofs.Imports.{BorderFault, Equal, Greater, HasCandidateAtMost, IsLeast, IsNextBest, Less}
+use Rattle.border_match.proofs.Imports.{BorderFault, Greater, HasCandidateAtMost, IsLeast, IsNextBest}
 use Rattle.border_match.proofs.Imports.{None, Option, Ordering, Some, arith, border_cmp, common_steps, false, refl}
 use Rattle.border_match.proofs.Imports.{tied_itself, ◌≡◌, ◌≢◌, ◌⊎◌}
 use Rattle.lemmas.proofs.Common.{is_gt, upto}

@@ -8,7 +8,6 @@ pub mod Cells
 pub mod Stars
 pub mod Steps
 pub mod Marks
-pub mod Unheld
 pub mod Renumbered
 pub mod Modules
 pub mod Bridge

@@ -4,9 +4,9 @@ use Rattle.border_match.proofs.Imports.{CellDiffersWithoutEvent, IsAtOwnersEdgeE
 use Rattle.border_match.proofs.Imports.{IsFaultOfSearchedJob, IsListed, JobView, List, Moment, Signals, Some}
 use Rattle.border_match.proofs.Imports.{TimedSignal, ap, ap₂, arith, below_or_same, cell_back, common_steps, false}
 use Rattle.border_match.proofs.Imports.{false≢true, inl, inr, ints, jobs_of, length, map, mapped_from, moved_cell}
-use Rattle.border_match.proofs.Imports.{moved_event, moved_signals, owner_of, pos, refl, replicate, same_some}
-use Rattle.border_match.proofs.Imports.{shift_to_origin, slice_get, slice_get_within, some_at, suc, sym, take, true}
-use Rattle.border_match.proofs.Imports.{zero, ℕ, ℤ, ◌++◌, ◌+◌, ◌∙◌, ◌≡◌, ◌≤◌, ◌⊎◌}
+use Rattle.border_match.proofs.Imports.{moved_event, moved_signals, owner_of, pos, refl, same_some}
+use Rattle.border_match.proofs.Imports.{shift_to_origin, slice_get, slice_get_within, some_at, sym, take, true}
+use Rattle.border_match.proofs.Imports.{ℕ, ℤ, ◌++◌, ◌+◌, ◌∙◌, ◌≡◌, ◌≤◌, ◌⊎◌}
 use Rattle.lemmas.proofs.Common.{take-append_seam}
 use Rattle.border_match.specs.Boards.{AddsOnlyMarksAt, IsAtEvent, IsPlaceOf, IsAtUnmarkedEvent}
 use Rattle.border_match.proofs.Steps.{fault_covered, same_fault}
@@ -40,15 +40,6 @@ pub still_marked : (b : Borders) (other : JobView) (event : TimedSignal) (old ne
 still_marked b other event old new owned listed adds marked = grind (arith, common_steps)
 
 -- ---- no mark at first
-
-all_false : (n p : ℕ) → slice_get (replicate n false) p ≡ Some true → ⊥
-all_false zero p e = cc
-all_false (suc n) zero e = cc
-all_false (suc n) (suc p) e = all_false n p e
-
-pub unmarked_first : (b : Borders) (seen : List Bool) (n : ℕ) → n ≡ length b.job.now.halos.events →
-    seen ≡ replicate n false → length seen ≡ n → AreHaloMarks b seen
-unmarked_first b seen n count are sized = grind (arith, common_steps, all_false)
 
 -- marks that are written back into their vector
 pub written_back : (new rest items : List Bool) (n : ℕ) → n ≡ length new → items ≡ take n (new ++ rest) → new ≡ items

@@ -1,6 +1,6 @@
 -- The boxes of the modules of a certificate
 use Rattle.border_match.proofs.Imports.{Box2, List, Memory, ModuleLines, Some, Tile, [], ap, areas, arith, common_steps}
-use Rattle.border_match.proofs.Imports.{length, option_map, rectangle_of, refl, slice_get, slice_get-map, ℕ, ◌++◌, ◌+◌}
+use Rattle.border_match.proofs.Imports.{length, option_map, rectangle_of, refl, slice_get, slice_get-map, ℕ, ◌++◌}
 use Rattle.border_match.proofs.Imports.{◌∙◌, ◌∷◌, ◌≡◌}
 use Rattle.module_box.specs.Tiling.{MayHaveOwnerTable, IsTileFault}
 use Rattle.module_box.specs.declared.tile.TileFault.{TileFault}

@@ -46,10 +46,6 @@ noted_still : (b : Borders) (old new : List ℕ) (x y : ℤ) → KeepsAllNumbers
     IsOwnerListedIfOutsideBox b new x y
 noted_still b old new x y keeps noted inside out = keeps _ (noted inside out)
 
--- the cells of the module's box have no owner to be noted
-pub own_noted : (b : Borders) (ks : List ℕ) (a : Box2) → a ≡ b.job.now.area → AreOutsideOwnersListed b ks a
-own_noted b ks a same x y inside there out = grind (arith, common_steps, false≢true)
-
 -- the cells of a module's box have that module as their owner
 pub owner_noted : (b : Borders) (ks : List ℕ) (k : ℕ) (j : JobView) (a : Box2) → AreReadyBorders b → a ≡ j.area →
     slice_get (jobs_of b) k ≡ Some j → is_among ks k ≡ true → AreOutsideOwnersListed b ks a

@@ -1,12 +1,11 @@
 -- A wire that the signals of a job name is one of its own, at each cell and time
-use Rattle.border_match.proofs.Imports.{All, All-head, All-tail, AllTimesSignal, Halo, IsListed, JobView, List, Ring}
+use Rattle.border_match.proofs.Imports.{All, All-head, All-tail, AllTimesSignal, JobView, List}
 use Rattle.border_match.proofs.Imports.{Signal, Signals, TimedSignal, Zero, [], all_times_at, cases_Bool, event_at}
-use Rattle.border_match.proofs.Imports.{get_or_from_slice_get, inl, inr, is_at, is_moment_at, job_signals, signal_at}
-use Rattle.border_match.proofs.Imports.{slice_get_within, subst, unwrap_or, ℕ, ℤ, ◌∷◌}
+use Rattle.border_match.proofs.Imports.{inl, inr, is_at, is_moment_at, signal_at}
+use Rattle.border_match.proofs.Imports.{unwrap_or, ℕ, ℤ, ◌∷◌}
 use Rattle.circuit.specs.Meaning.{wires}
 use Rattle.module_job.specs.Jobs.{NamesOwnWires}
 use Rattle.module_job.specs.Signals.{IsSignalWireBelow}
-use Rattle.border_match.specs.declared.signals.RingOrHalo.{RingOrHalo}
 
 all_times_below : (n : ℕ) (hs : List AllTimesSignal) (x y : ℤ) (d : Signal) →
     All (λ h. IsSignalWireBelow n h.signal) hs →
@@ -44,17 +43,3 @@ edge_below j t x y own = signal_below (wires j.locals.netlist) j.edges t x y own
 pub halo_below : (j : JobView) (t : ℕ) (x y : ℤ) → NamesOwnWires j →
     IsSignalWireBelow (wires j.locals.netlist) (signal_at j.halos t x y)
 halo_below j t x y own = signal_below (wires j.locals.netlist) j.halos t x y own.halo_all_times own.halo_events
-
--- an event of the ring or the halo names a wire of the module
-pub listed_below : (b : RingOrHalo) (j : JobView) (e : TimedSignal) → NamesOwnWires j →
-    IsListed (job_signals b j).events e →
-    IsSignalWireBelow (wires j.locals.netlist) e.signal
-listed_below b j e own at =
-    let P : TimedSignal → Type 0 = λ e. IsSignalWireBelow (wires j.locals.netlist) e.signal in
-    let es = (job_signals b j).events in
-    subst P (get_or_from_slice_get es at.0 e e at.1) (all_below b at.0 e (slice_get_within es at.0 e at.1))
-  where
-    all_below : (b : RingOrHalo) →
-        All (λ e. IsSignalWireBelow (wires j.locals.netlist) e.signal) (job_signals b j).events
-    all_below Ring = own.edge_events
-    all_below Halo = own.halo_events

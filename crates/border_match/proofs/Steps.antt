@@ -1,5 +1,5 @@
 -- One more event, module or time
-use Rattle.border_match.proofs.Imports.{AreEventsFar, AreHaloOwnersListed, AreReadyBorders, Bool, BorderFault, Borders}
+use Rattle.border_match.proofs.Imports.{AreEventsFar, AreReadyBorders, Bool, BorderFault, Borders}
 use Rattle.border_match.proofs.Imports.{Box2, Cell, CellDiffersWithoutEvent, Greater, HasCandidateAtMost}
 use Rattle.border_match.proofs.Imports.{IsAtEdgeEventOfAny, IsAtOwnersEdgeEvent, IsAtSomeEventBelow}
 use Rattle.border_match.proofs.Imports.{IsFaultOfSearchedJob, IsInOrAround, IsRising, IsWindowAround, JobView, Less}
@@ -9,7 +9,7 @@ use Rattle.border_match.proofs.Imports.{cases_Bool, cell_back, circuit_wire, com
 use Rattle.border_match.proofs.Imports.{false≢true, get_or, inl, inr, ints, is_moment_at, jobs_of, length, length-map}
 use Rattle.border_match.proofs.Imports.{map, moment_cmp, moment_of, moved_cell, moved_event, option_map, pos, refl}
 use Rattle.border_match.proofs.Imports.{renumber_signal, same_some, shape_of, shift_to_origin, signal_at, slice_get}
-use Rattle.border_match.proofs.Imports.{slice_get-map, slice_get_within, subst, suc, sym, take, take_all, take_more}
+use Rattle.border_match.proofs.Imports.{slice_get-map, slice_get_within, subst, suc, sym, take, take_more}
 use Rattle.border_match.proofs.Imports.{tied_itself, true, unwrap_or, ℕ, ℤ, ◌%◌, ◌+◌, ◌<◌, ◌∙◌, ◌∷◌, ◌≡◌, ◌≢◌, ◌≤◌, ◌⊎◌}
 use Rattle.lemmas.proofs.Common.{less_nat, three_ways}
 use Rattle.module_box.proofs.Rising.{then_moment}
@@ -17,7 +17,7 @@ use Rattle.border_match.specs.Boards.{IsAtSomeEvent, IsAtEdgeEventOf}
 use Rattle.border_match.proofs.FarEvents.{seen}
 use Rattle.border_match.proofs.FaultOrder.{border_total}
 use Rattle.border_match.proofs.Least.{covers_after}
-use Rattle.border_match.proofs.Cells.{fault_around, reached}
+use Rattle.border_match.proofs.Cells.{fault_around}
 use Rattle.border_match.proofs.NearModules.{among_more}
 
 pub same_fault : (time : ℕ) (cell : Cell) (f : BorderFault) → f.time ≡ time → f.cell ≡ cell →
@@ -113,10 +113,6 @@ pub edges_step : (b : Borders) (ks : List ℕ) (i k : ℕ) (d : ℕ) (f : Border
     IsAtEdgeEventOfAny (take (i + 1) ks) b f → IsAtEdgeEventOfAny (take i ks) b f ⊎ IsAtEdgeEventOf k b f
 edges_step b ks i k d f lt is h = grind (arith, common_steps, among_more, take_more)
 
-pub edges_all : (b : Borders) (ks : List ℕ) (i : ℕ) (f : BorderFault) → length ks ≤ i → AreHaloOwnersListed b ks →
-    IsFaultOfSearchedJob b f → IsAtOwnersEdgeEvent b f → IsAtEdgeEventOfAny (take i ks) b f
-edges_all b ks i f le noted g h = grind (arith, common_steps, take_all, reached)
-
 other_is : (b : Borders) (k : ℕ) (other : JobView) (f : BorderFault) → slice_get (jobs_of b) k ≡ Some other →
     (h : IsAtEdgeEventOf k b f) → h.0.owner ≡ other
 other_is b k other f e h = grind (arith, common_steps, same_some)
@@ -138,14 +134,6 @@ pub first_is_least : (time : ℕ) (cell : Cell) (f : BorderFault) → time ≤ f
     border_cmp (record { time = time; cell = cell }) f ≢ Greater
 first_is_least time cell f le same g =
     grind (arith, common_steps, lower_or_eq, time_less, tied_itself, border_total, same_fault)
-
-pub no_fault_step : (F : BorderFault → Type 0) (cell : Cell) (time : ℕ) →
-    ((f : BorderFault) → F f → f.cell ≡ cell → f.time < time → ⊥) → (F (record { time = time; cell = cell }) → ⊥) →
-    (f : BorderFault) → F f → f.cell ≡ cell → f.time < time + 1 → ⊥
-no_fault_step F cell time before here f g same lt = elim (below_or_same f.time time lt) [
-  | inl l ↦ before f g same l
-  | inr e ↦ here (subst F (same_fault time cell f e same) g)
-]
 
 pub not_before : (a b : ℕ) → (a < b → ⊥) → b ≤ a
 not_before a b h = omega arith

@@ -1,7 +1,7 @@
 -- The edge and halo lines of a module rise, those with a `*` by their cells, the others by time and cell.
-use Rattle.certificate.proofs.Imports.{AllTimesSignal, AreInOrder, Bool, BorderLine, CertificateLine, Cut, Each, Edge}
-use Rattle.certificate.proofs.Imports.{Equal, Greater, Halo, Keep, Less, List, Module, None, Option, Ordering, Pairs}
-use Rattle.certificate.proofs.Imports.{Signal, Some, Stop, TimedSignal, Use, [], all_times_of_line, and_parts, arith}
+use Rattle.certificate.proofs.Imports.{AllTimesSignal, AreInOrder, Bool, BorderLine, CertificateLine, Each, Edge}
+use Rattle.certificate.proofs.Imports.{Halo, Less, List, None, Option, Ordering, Pairs}
+use Rattle.certificate.proofs.Imports.{Signal, Some, TimedSignal, [], all_times_of_line, and_parts, arith}
 use Rattle.certificate.proofs.Imports.{cell_cmp, cell_of, common_steps, edge_in, events_of_line, false, halo_in, is_cut}
 use Rattle.certificate.proofs.Imports.{line_cmp, list_all, map, may_precede, moment_cmp, ordering_then, pairs_flat}
 use Rattle.certificate.proofs.Imports.{rank_of, refl, renumber_all_times, renumber_event, rising_of, some_is}

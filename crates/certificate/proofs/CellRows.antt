@@ -74,10 +74,6 @@ all_same P old new n v pushed own all = grind (arith, common_steps, get_or-repli
 
 -- ---- the lists of a row
 
-pub add_none : (c : Circuit) (p : Pattern) (l : LocalNet) (first : CellLists) (x y : ℕ) →
-    AddsCells c p l (row_cells x (x - x) y) first first
-add_none c p l first x y = grind (arith, common_steps)
-
 module _ (c : Circuit) (p : Pattern) (l : LocalNet) (first old new : CellLists) (x k y : ℕ) (from : x ≤ k)
     (was : AddsCells c p l (row_cells x (k - x) y) first old) where
   abbrev starts_at : Cell → Signal

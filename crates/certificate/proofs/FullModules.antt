@@ -1,6 +1,6 @@
 -- The modules of version 2 as modules of version 1
 use Rattle.certificate.proofs.Imports.{All, All-cons, All-nil, AreDistinct, AreInOrder, AreModules, Bool, BorderLine}
-use Rattle.certificate.proofs.Imports.{Box2, Cell, CertificateLine, Cut, Each, Edge, Equal, Greater, Halo}
+use Rattle.certificate.proofs.Imports.{Box2, Cell, CertificateLine, Cut, Each, Edge, Equal, Halo}
 use Rattle.certificate.proofs.Imports.{HasLocalPorts, IfSome, In, IsModule, IsTrue, Keep, Less, List, Module}
 use Rattle.certificate.proofs.Imports.{ModuleLines, None, Option, Ordering, Pairs, Rises, Setting, Some}
 use Rattle.certificate.proofs.Imports.{StarsExcludeLaterTimes, Stop, StopLine, Tile, Use, [], all_in, and_parts, any_at}

@@ -1,8 +1,8 @@
 -- The parts of a job by its module's lines.
-use Rattle.certificate.proofs.Imports.{All, AreLocalLines, CircuitLine, HasLocalWire, IsModule, IsTrue, LayoutHeader}
+use Rattle.certificate.proofs.Imports.{All, AreLocalLines, CircuitLine, HasLocalWire, IsModule, LayoutHeader}
 use Rattle.certificate.proofs.Imports.{List, LocalNet, ModuleLines, Netlist, None, Pattern, Setting, ap, arith}
-use Rattle.certificate.proofs.Imports.{circuit_of, common_steps, cut_wires, cuts, edges, gates, get_or, halos, is_among}
-use Rattle.certificate.proofs.Imports.{is_sized, keeps, known, length, local_wires, netlist_of, setting_of, size_fault}
+use Rattle.certificate.proofs.Imports.{circuit_of, common_steps, cut_wires, cuts, edges, gates, get_or, halos}
+use Rattle.certificate.proofs.Imports.{is_sized, known, length, local_wires, netlist_of, setting_of, size_fault}
 use Rattle.certificate.proofs.Imports.{slice_get-get_or, slice_get_within, subst, sym, ℕ, ◌+◌, ◌<◌, ◌∙◌, ◌≡◌, ◌≤◌}
 use Rattle.lemmas.proofs.Common.{◌^◌}
 
@@ -63,8 +63,3 @@ pub cut_count : (ls cs : List CircuitLine) (p : Pattern) (m : ModuleLines) (cw :
     cw ≡ cut_wires (circuit_of ls) m → n ≡ length cw →
     IsModule (setting_of cs p) m → n ≡ length (cuts m)
 cut_count ls cs p m cw n e ce ne h = ne ∙ ap length ce ∙ ap (λ l. length (cut_wires (circuit_of l) m)) e ∙ h.named
-
--- the gates that a module keeps are used
-pub keeps_used : (g : Setting) (m : ModuleLines) (gs : List ℕ) → gs ≡ gates m → IsModule g m →
-    All (λ k. IsTrue (is_among gs k)) (keeps m)
-keeps_used g m gs is h k d lt = grind (arith, common_steps)

@@ -1,17 +1,14 @@
 -- Lines in order rise by rank, and the lines of one kind lie on one side of a split.
-use Rattle.certificate.proofs.Imports.{All-head, All-tail, AreInOrder, Bool, CertificateLine, Cut, Edge, Greater, Halo}
-use Rattle.certificate.proofs.Imports.{Keep, List, Module, Some, Stop, Use, [], and_parts, ap, append-nil, ap₂, arith}
-use Rattle.certificate.proofs.Imports.{common_steps, cut_name_in, drop, edge_in, false, flat_map-append, get_or}
-use Rattle.certificate.proofs.Imports.{halo_in}
-use Rattle.certificate.proofs.Imports.{is_cut, kept_gate_in, length, line_cmp, list_all, ltb, may_precede, rank_of}
+use Rattle.certificate.proofs.Imports.{All-head, All-tail, AreInOrder, Bool, CertificateLine}
+use Rattle.certificate.proofs.Imports.{List, Some, [], and_parts, ap, append-nil, ap₂, arith}
+use Rattle.certificate.proofs.Imports.{common_steps, drop, false, flat_map-append, get_or}
+use Rattle.certificate.proofs.Imports.{length, list_all, ltb, may_precede, rank_of}
 use Rattle.certificate.proofs.Imports.{refl}
-use Rattle.certificate.proofs.Imports.{same_Some, slice_get, slice_get-get_or, stop_in, subst, suc, sym, take, take_all}
-use Rattle.certificate.proofs.Imports.{true, used_gate_in, zero, ℕ, ◌&&◌, ◌++◌, ◌+◌, ◌-◌, ◌<◌, ◌∙◌, ◌∷◌, ◌≡◌, ◌≢◌, ◌≤◌}
+use Rattle.certificate.proofs.Imports.{same_Some, slice_get, slice_get-get_or, subst, suc, sym, take, take_all}
+use Rattle.certificate.proofs.Imports.{true, zero, ℕ, ◌&&◌, ◌++◌, ◌+◌, ◌-◌, ◌<◌, ◌∙◌, ◌∷◌, ◌≡◌, ◌≤◌}
 use Rattle.lemmas.proofs.Common.{take-append-drop, AllPass-from_list_all, IsNonDecreasingBy, IsPartitionPoint}
 use Rattle.lemmas.proofs.Common.{get_or-drop, get_or-take, length-drop, length-take, lt-ltb, ltb-false, ltb-true}
-use Rattle.lemmas.proofs.Common.{nat_cmp_is}
 use Rattle.std.specs.List.{All, flat_map}
-use Rattle.bbm_rule.proofs.BitLemmas.{by_lt_or_le}
 use Rattle.certificate_lines.proofs.LineRanks.{rank_rises}
 use Rattle.certificate.specs.LineKinds.{IsSplitAt}
 

@@ -22,7 +22,6 @@ pub mod Soundness
 pub mod Spelling
 mod RoundTrip
 pub mod NearLines
-mod HashedLines
 mod PrintedLines
 pub mod JobPlaces
 pub mod CellRows

@@ -1,10 +1,10 @@
 -- Each line of the certificate section is the spelling of its form.
-use Rattle.certificate.proofs.Imports.{BorderLine, Box2, Cell, Cut, Edge, End, Halo, Header, Item, Keep, List, Module}
+use Rattle.certificate.proofs.Imports.{BorderLine, Cut, Edge, End, Halo, Header, Item, Keep, List, Module}
 use Rattle.certificate.proofs.Imports.{Option, Some, Stop, StopLine, Use, [], ap, arith, codes, common_steps, eqb}
 use Rattle.certificate.proofs.Imports.{eqb-true, form_text, inl, inr, length, refl, same_Some, slice_get, subst, true}
-use Rattle.certificate.proofs.Imports.{ℕ, ◌+◌}
+use Rattle.certificate.proofs.Imports.{ℕ}
 use Rattle.certificate.proofs.Imports.{◌∷◌, ◌≡◌}
-use Rattle.pattern.specs.Forms.{corner_and_sides, box_of, cell_of_words_from}
+use Rattle.pattern.specs.Forms.{cell_of_words_from}
 use Rattle.lemmas.proofs.Common.{decimal, option_and_then_some}
 use Rattle.section_text.specs.Words.{◌>>=◌, words_of, is_word_at, if_one_word, number_after_keyword, name_after_keyword}
 use Rattle.section_text.specs.Words.{name_at, number_at}
@@ -16,7 +16,7 @@ use Rattle.pattern.specs.Text.{natural_or_zero}
 use Rattle.certificate_lines.specs.Forms.{Line, star_or_time_at_word, one_or_name_at_word, border_of_five_words}
 use Rattle.certificate_lines.specs.Forms.{border_of, stop_of_five_words, stop_of, form_of}
 use Rattle.pattern.specs.Text.{box_words}
-use Rattle.pattern.proofs.Spelling.{CellAt, cell_spelled, box_spelled}
+use Rattle.pattern.proofs.Spelling.{cell_spelled, box_spelled}
 use Rattle.certificate.specs.Text.{star_or_time_word, one_or_name_word, border_words, stop_words}
 
 time_spelled : (ws : List (List ℕ)) (i : ℕ) (t : Option ℕ) → star_or_time_at_word ws i ≡ Some t →

@@ -1,8 +1,8 @@
 -- The stops of a module: what its lines give, and their order.
 use Rattle.certificate.proofs.Imports.{All, All-append, All-cons, All-head, All-nil, All-tail, AreInOrder, AreStops}
-use Rattle.certificate.proofs.Imports.{CertificateLine, Circuit, Cut, Each, Edge, Halo, IsModule, IsRising, Keep, Less}
-use Rattle.certificate.proofs.Imports.{List, LocalNet, Module, ModuleLines, None, Option, Pairs, Setting, Some, Stop}
-use Rattle.certificate.proofs.Imports.{StopLine, Use, [], arith, cell_cmp, cell_of, circuit_wire, common_steps, false}
+use Rattle.certificate.proofs.Imports.{CertificateLine, Circuit, Each, IsModule, IsRising, Less}
+use Rattle.certificate.proofs.Imports.{List, LocalNet, ModuleLines, None, Option, Pairs, Setting, Some, Stop}
+use Rattle.certificate.proofs.Imports.{StopLine, [], arith, cell_cmp, cell_of, circuit_wire, common_steps, false}
 use Rattle.certificate.proofs.Imports.{flat_map, is_cut, is_local, known, line_cmp, map, may_precede, moment_cmp}
 use Rattle.certificate.proofs.Imports.{nat_cmp, ordering_then, pairs_flat, rank_of, refl, rising_of, sort_number_of}
 use Rattle.certificate.proofs.Imports.{stop_in, stops, stops_of_lines, subst, sym, true, wire_of, ℕ, ◌∷◌, ◌≡◌}

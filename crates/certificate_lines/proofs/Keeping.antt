@@ -43,12 +43,6 @@ kept_none g covered w h dead local e f = grind (arith, common_steps, built_none,
 
 -- ---- the last module and its counts
 
-last_none : {X : Type 0} (xs : List X) → last_of xs ≡ None → xs ≡ []
-unfolding last_of
-last_none [] e = refl
-last_none (x ∷ []) e = absurd cc
-last_none (x ∷ y ∷ xs) e = grind (arith, common_steps, last_none (y ∷ xs) e)
-
 mapped_none : {X Y : Type 0} (f : X → Y) (o : Option X) → option_map f o ≡ None → o ≡ None
 mapped_none f None e = refl
 mapped_none f (Some x) e = absurd cc

@@ -1,7 +1,7 @@
 -- The ranks of lines: lines in order rise by rank, and the lines of one kind have one rank.
 use Rattle.certificate_lines.proofs.Imports.{CertificateLine, Cut, Edge, Halo, Keep, Stop, Use, [], arith}
 use Rattle.certificate_lines.proofs.Imports.{common_steps, edge_in, false, halo_in, is_cut, kept_gate_in, line_cmp}
-use Rattle.certificate_lines.proofs.Imports.{may_precede, rank_of, refl, stop_in, sym, true, used_gate_in, ℕ, ◌&&◌}
+use Rattle.certificate_lines.proofs.Imports.{may_precede, rank_of, refl, stop_in, sym, true, used_gate_in, ◌&&◌}
 use Rattle.certificate_lines.proofs.Imports.{◌==◌}
 use Rattle.certificate_lines.proofs.Imports.{◌<◌, ◌≡◌, ◌≤◌, Greater, cut_name_in, nat_tests}
 use Rattle.lemmas.proofs.Common.{◌≢◌}

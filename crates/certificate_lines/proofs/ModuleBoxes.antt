@@ -35,9 +35,6 @@ is_task g ms s boxes same limits good are =
           subst P m.2 (is.wide.0, is.high.0);
     })
 
-pub sides_at_most : (s : LayoutHeader) → size_fault s ≡ None → (s.w ≤ 512) × (s.h ≤ 512)
-sides_at_most s limits = let sized = is_sized s limits in (sized.width.1, sized.height.1)
-
 -- corners and sides are even
 abbrev pub EvenBoxes : List ModuleLines → Type 0
 EvenBoxes ms = (k : ℕ) (m : ModuleLines) → slice_get ms k ≡ Some m → IsEven m.area

@@ -1,6 +1,6 @@
 -- The name in a good line is that of a wire
-use Rattle.certificate_lines.proofs.Imports.{All, CertificateLine, Circuit, Cut, Edge, Halo, IfSome, IsTrue, Keep, List}
-use Rattle.certificate_lines.proofs.Imports.{Module, ModuleLines, None, Option, Setting, Some, Stop, Use, content_code}
+use Rattle.certificate_lines.proofs.Imports.{All, CertificateLine, Circuit, Cut, Edge, Halo, IfSome, IsTrue, List}
+use Rattle.certificate_lines.proofs.Imports.{ModuleLines, None, Option, Setting, Some, Stop, content_code}
 use Rattle.certificate_lines.proofs.Imports.{false≢true, is_local, is_local_wire, is_some, known, option_map, refl}
 use Rattle.certificate_lines.proofs.Imports.{replicate, subst, sym, wire_of, ℕ, ◌<◌, ◌≡◌}
 use Rattle.lemmas.proofs.Common.{All-replicate}

@@ -1,11 +1,11 @@
 -- Lines in order: what comes after the last comes after all.
-use Rattle.certificate_lines.proofs.Imports.{AreInOrder, Bool, Box2, CertificateLine, Cut, Edge, Equal, Greater, Halo}
+use Rattle.certificate_lines.proofs.Imports.{AreInOrder, Bool, Box2, CertificateLine, Cut, Edge, Equal, Halo}
 use Rattle.certificate_lines.proofs.Imports.{IsBodyLine, IsTotalOrder, Keep, Less, LineKey, List, Module, None, Option}
 use Rattle.certificate_lines.proofs.Imports.{Ordering, Some, Stop, Use, [], and_parts, ap, arith, cell_cmp, cell_of}
 use Rattle.certificate_lines.proofs.Imports.{cell_total, common_steps, false, inl, inr, is_cut, is_lt, key_of}
 use Rattle.certificate_lines.proofs.Imports.{key_or_first, last_body_line, last_of, line_cmp, list_all, may_follow}
 use Rattle.certificate_lines.proofs.Imports.{may_precede, nat_cmp_total, ne_eqb, on_total, or-false, or_cases, or_right}
-use Rattle.certificate_lines.proofs.Imports.{rank_of, refl, sort_number_of, sym, then_total, true, ℕ, ◌&&◌, ◌++◌, ◌==◌}
+use Rattle.certificate_lines.proofs.Imports.{rank_of, refl, sort_number_of, sym, then_total, true, ℕ, ◌&&◌, ◌++◌}
 use Rattle.certificate_lines.proofs.Imports.{◌∙◌, ◌∷◌, ◌≡◌, ◌⊎◌}
 use Rattle.lemmas.proofs.Common.{nat_cmp, and-true}
 use Rattle.std.specs.Cmp.{nat_cmp_is}

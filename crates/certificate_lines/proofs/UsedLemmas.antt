@@ -1,8 +1,8 @@
 -- The gates that the last module uses, found from its last line on.
-use Rattle.certificate_lines.proofs.Imports.{Bool, CertificateLine, Cut, Edge, Halo, Keep, List, Module, ModuleLines}
-use Rattle.certificate_lines.proofs.Imports.{Some, Stop, Use, [], add_line, arith, common_steps, false, gates, get_or}
+use Rattle.certificate_lines.proofs.Imports.{Bool, CertificateLine, List, Module, ModuleLines}
+use Rattle.certificate_lines.proofs.Imports.{Some, [], add_line, arith, common_steps, false, gates, get_or}
 use Rattle.certificate_lines.proofs.Imports.{is_among, is_module, last_module, last_of, length, list_any-append}
-use Rattle.certificate_lines.proofs.Imports.{module_with_line, modules_of, refl, subst, sym, take, take_all, take_more}
+use Rattle.certificate_lines.proofs.Imports.{module_with_line, modules_of, refl, subst, sym, take, take_more}
 use Rattle.certificate_lines.proofs.Imports.{true, used_gate_in, ℕ, ◌++◌, ◌+◌, ◌-◌, ◌<◌, ◌||◌, ◌∷◌, ◌≡◌, ◌≤◌}
 use Rattle.certificate_lines.proofs.Growing.{modules_push, flat_push, last_pushed, last_changed}
 use Rattle.certificate_lines.proofs.Keeping.{mapped_some}
@@ -58,9 +58,6 @@ told_module es _ k is m e = absurd cc
 -- what the lines before the last `back` ones tell is what all tell
 abbrev pub IsToldBefore : List CertificateLine → ℕ → ℕ → Type 0
 IsToldBefore es k back = (b : Bool) → Tells (take (length es - back) es) k b → Tells es k b
-
-pub told_by_all : (es : List CertificateLine) (k : ℕ) → IsToldBefore es k 0
-told_by_all es k b h = subst (λ l. Tells l k b) (take_all (length es - 0) es (omega arith)) h
 
 module _ (es : List CertificateLine) (k back : ℕ) (i : CertificateLine) (within : back < length es)
     (is : i ≡ get_or es (length es - 1 - back) i) (so_far : IsToldBefore es k back) where

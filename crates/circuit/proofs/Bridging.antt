@@ -11,7 +11,7 @@ use Rattle.circuit.specs.Rules.{limit_fault, name_fault}
 use Rattle.circuit.specs.Bridge.{IsGoodAfter}
 use Rattle.circuit.specs.Laws.{GatesAreOrdered}
 use Rattle.circuit.proofs.Places.{Have, number_new, numbers_left, numbers_below, consume_have, bytes_same}
-use Rattle.circuit.specs.declared.circuit_line.Kind.TheVariants.{Input, Output, Spill, Gate as GateLine}
+use Rattle.circuit.specs.declared.circuit_line.Kind.TheVariants.{Input, Gate as GateLine}
 
 -- ---- what the tests of a line say
 or_else_none : (a b : Option RefusalCode) → or_else a b ≡ None → (a ≡ None) × (b ≡ None)

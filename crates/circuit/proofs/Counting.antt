@@ -3,7 +3,7 @@ use Rattle.circuit.proofs.Imports.{AreGoodAfter, AreGoodCircuitLines, CircuitLin
 use Rattle.circuit.proofs.Imports.{common_steps, cond, input_count, input_names, is_input, length, refl, ℕ, ◌++◌, ◌∷◌}
 use Rattle.circuit.proofs.Imports.{◌≡◌}
 use Rattle.circuit.proofs.Bridging.{input_cons}
-use Rattle.circuit.specs.declared.circuit_line.Kind.TheVariants.{Input, Output, Spill, Gate as GateLine}
+use Rattle.circuit.specs.declared.circuit_line.Kind.TheVariants.{Input}
 
 line_counted : (kind : Kind) (ins outs : List (List ℕ)) → FitsKind (record { kind = kind; ins = ins; outs = outs }) →
     length (cond (is_input kind) outs []) ≡ cond (is_input kind) 1 0

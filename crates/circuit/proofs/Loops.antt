@@ -2,8 +2,8 @@
 use Rattle.circuit.proofs.Imports.{Bool, EvaluatesUpTo, Gate, GateWires, List, None, Option, Some, [], ap, as_values}
 use Rattle.circuit.proofs.Imports.{evaluate, gate_of, get_or, length, map, option_and_then, option_map, refl, row}
 use Rattle.circuit.proofs.Imports.{slice_get-map, slice_get_read, subst, suc, sym, take, take_more, zero, ℕ, ◌++◌, ◌+◌}
-use Rattle.circuit.proofs.Imports.{◌<◌, ◌∙◌, ◌∷◌, ◌≡◌, ◌≤◌}
-use Rattle.lemmas.proofs.Common.{map_push, take_all}
+use Rattle.circuit.proofs.Imports.{◌<◌, ◌∙◌, ◌∷◌, ◌≡◌}
+use Rattle.lemmas.proofs.Common.{map_push}
 
 pub none_done : (vs given : List Bool) → vs ≡ given → evaluate given [] ≡ Some vs
 unfolding evaluate
@@ -44,10 +44,6 @@ values_more given before after gs k g h is here so_far =
     (take_more gs k g h ∙ ap (λ (x : GateWires). take k gs ++ x ∷ []) (sym is))
     ∙ ap (evaluate given) (map_push gate_of (take k gs) g)
     ∙ evaluate_more given before after (map gate_of (take k gs)) (gate_of g) so_far here
-
-pub values_all : (given vs : List Bool) (gs : List GateWires) (k : ℕ) → length gs ≤ k →
-    evaluate given (map gate_of (take k gs)) ≡ Some vs → evaluate given (map gate_of gs) ≡ Some vs
-values_all given vs gs k h e = ap (λ (l : List GateWires). evaluate given (map gate_of l)) (sym (take_all k gs h)) ∙ e
 
 map_take : (gs : List GateWires) (k : ℕ) → take k (map gate_of gs) ≡ map gate_of (take k gs)
 map_take gs zero = refl

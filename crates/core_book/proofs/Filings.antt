@@ -5,11 +5,10 @@ use Rattle.core_book.proofs.Imports.{Stranger, [], accepted_in, after_closing, a
 use Rattle.core_book.proofs.Imports.{cond, digest_of, eqb_tells, false, filing_of, findings_after, found_in, get_or}
 use Rattle.core_book.proofs.Imports.{get_or-set_other, get_or-set_same, if◌then◌else◌, is_job_of, is_some, job_of}
 use Rattle.core_book.proofs.Imports.{jobs_decide, length, length-set, map, nat_eq, nat_lt, nat_tests, not, number_of}
-use Rattle.core_book.proofs.Imports.{option_copied, option_eq, option_map, pointwise, refl, reply_to, same_job, set}
+use Rattle.core_book.proofs.Imports.{option_eq, option_map, pointwise, refl, reply_to, same_job, set}
 use Rattle.core_book.proofs.Imports.{slice_get, slice_get-map, slice_get_read, suc, sum_by, sym, true, zero, ℕ, ◌++◌}
 use Rattle.core_book.proofs.Imports.{◌+◌, ◌<◌, ◌∙◌, ◌∷◌, ◌≡◌, ◌≢◌, ◌≤◌}
-use Rattle.lemmas.proofs.Common.{IfSome, same_text, sum_by-set, false_from_not, true_from_not}
-use Rattle.std.specs.Borrow.{Bor}
+use Rattle.lemmas.proofs.Common.{same_text, sum_by-set, false_from_not, true_from_not}
 use Rattle.core_book.specs.Book.{accepted_count_after}
 
 -- ---- which reply, by the tests
@@ -226,11 +225,6 @@ accepted_count_after-other n Accepted other = absurd (other refl)
 accepted_count_after-other n _ other = refl
 
 -- ---- what a book says of a number
-
-pub found-own : (b : BookView) (n : ℕ) (o : Option (Bor Finding)) → IsBook b → option_copied o ≡ found_in b n →
-    IfSome o (λ f. IsOwn b n f.now)
-found-own b n None is e = tt
-found-own b n (Some f) is e = is.own n f.now (sym e)
 
 -- ---- what the code leaves
 

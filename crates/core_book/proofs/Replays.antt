@@ -1,6 +1,6 @@
 -- The history of a book replays to it
-use Rattle.core_book.proofs.Imports.{Accepted, BookView, Bool, Closed, Double, Filed, Filing, Finding, IsBook}
-use Rattle.core_book.proofs.Imports.{IsReplayed, JobView, List, LogEntry, None, Option, Reply, Some, Stranger, []}
+use Rattle.core_book.proofs.Imports.{Accepted, BookView, Bool, Filed, Filing, Finding, IsBook}
+use Rattle.core_book.proofs.Imports.{IsReplayed, JobView, List, LogEntry, None, Option, Reply, Some, []}
 use Rattle.core_book.proofs.Imports.{accepted_in, after_closing, after_filing, ap, arith, common_steps, count_by}
 use Rattle.core_book.proofs.Imports.{eqb_tells, false, filing_of, findings_after, found_in, get_or, get_or-set_other}
 use Rattle.core_book.proofs.Imports.{get_or-set_same, if◌then◌else◌, is_some, length, length-append, length-replicate}

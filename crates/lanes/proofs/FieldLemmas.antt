@@ -6,7 +6,6 @@ use Rattle.lanes.proofs.Imports.{TurnsBlocksBetween, TurnsBlocksWhere, ap, arith
 use Rattle.lanes.proofs.Imports.{by_eq_or_not, by_lt_or_le, common_steps, div-add-mod, false, false≢true, inl, inr}
 use Rattle.lanes.proofs.Imports.{marks_of, mod-lt, mul-le-mul_left, refl, subst, sym, true, ℕ, ◌%◌, ◌*◌, ◌+◌, ◌/◌, ◌<◌}
 use Rattle.lanes.proofs.Imports.{◌∙◌, ◌≡◌, ◌≢◌, ◌≤◌, ◌⊎◌}
-use Rattle.lemmas.proofs.Common.{ltb}
 use Rattle.lanes.specs.Sweeps.{IsInRangeNotInWord, TurnsNamed}
 use Rattle.lanes.specs.Lanes.{TurnsCells}
 use Rattle.lanes.proofs.TurnLemmas.{calm_turned, half_turned}
@@ -82,10 +81,6 @@ past_before first end rest t n aligned short le none l h = (l, h, none (n % 64) 
 -- and so are all if there is no rest
 pub past_all : (first end rest n : ℕ) → rest ≡ 0 → first ≤ n → n < end → IsInRangeNotInWord first end rest n
 past_all first end rest n e l h = (l, h, ap (λ (m : ℕ). bit m (n % 64)) e ∙ bit-zero (n % 64))
-
--- no block was turned, where their count is not more than none
-pub none_more : (n : ℕ) → ltb 0 n ≡ false → n ≡ 0
-none_more n e = grind arith
 
 -- ---- the blocks of a partition
 -- blocks stay whose marks are not in a word, where these blocks have no mark or have none on their cells

@@ -1,7 +1,7 @@
 -- The words of cuts: the bits of a counter, 64 values of the counter at once
-use Rattle.module_box.proofs.Imports.{Bool, List, [], ap, arith, bit, bit-zero, cases_lt, common_steps, false}
-use Rattle.module_box.proofs.Imports.{get_or_append_left, length, refl, slice_index_or, sym, true, ℕ, ◌*◌, ◌++◌, ◌+◌}
-use Rattle.module_box.proofs.Imports.{◌-◌, ◌<◌, ◌∙◌, ◌∷◌, ◌≡◌, ◌≤◌}
+use Rattle.module_box.proofs.Imports.{Bool, ap, arith, bit, bit-zero, false}
+use Rattle.module_box.proofs.Imports.{refl, sym, true, ℕ, ◌*◌, ◌+◌}
+use Rattle.module_box.proofs.Imports.{◌-◌, ◌<◌, ◌∙◌, ◌≡◌, ◌≤◌}
 use Rattle.lemmas.proofs.Common.{bit_at_cat_high, bit_at_cat_low, bit_at_ones}
 use Rattle.bbm_rule.proofs.BitLemmas.{holds_below, below_from_test}
 
@@ -68,10 +68,3 @@ mask_4 = refl
 pub mask_5 : holds_below (λ b. same (bit 18446744069414584320 b) (bit b 5)) 64 ≡ true
 unfolding bit
 mask_5 = refl
-
--- one word more
-pub words_more : (ws new : List ℕ) (w j n : ℕ) → length ws ≡ n → new ≡ ws ++ w ∷ [] →
-    ((b : ℕ) → b < 64 → bit w b ≡ bit (64 * j + b) n) →
-    ((i : ℕ) → i < n → (b : ℕ) → b < 64 → bit (slice_index_or ws i 0) b ≡ bit (64 * j + b) i) →
-    (i : ℕ) → i < n + 1 → (b : ℕ) → b < 64 → bit (slice_index_or new i 0) b ≡ bit (64 * j + b) i
-words_more ws new w j n len more here before i h b small = grind (arith, common_steps, cases_lt, get_or_append_left)

@@ -1,6 +1,6 @@
 -- Lists of numbers that tell what they were made of
 use Rattle.module_box.proofs.Imports.{Cswap, Delay, Fredkin, GateKind, Interact, List, Source, Switch, Uninteract}
-use Rattle.module_box.proofs.Imports.{Unswitch, [], ap, append_assoc, ap₂, arith, common_steps, false, flat_map}
+use Rattle.module_box.proofs.Imports.{Unswitch, [], ap, append_assoc, ap₂, arith, common_steps, flat_map}
 use Rattle.module_box.proofs.Imports.{gate_code_numbers, gate_kind_number, get_or, length, nat_eq, range_with_len, refl}
 use Rattle.module_box.proofs.Imports.{suc, sym, true, zero, ℕ, ◌++◌, ◌+◌, ◌∙◌, ◌∷◌, ◌≡◌}
 use Rattle.lemmas.proofs.Common.{same_head, same_tail}

@@ -1,7 +1,7 @@
 -- The wires and gates of a module, gate after gate
-use Rattle.module_box.proofs.Imports.{All, All-head, All-tail, AreDistinct, AreLocalsOf, AreOrdered, Cswap, Delay}
-use Rattle.module_box.proofs.Imports.{Fredkin, Gate, GateKind, Interact, IsTrue, List, Netlist, Some, Source, Switch}
-use Rattle.module_box.proofs.Imports.{Uninteract, Unswitch, [], ap, append_assoc, ap₂, arith, common_steps, defines}
+use Rattle.module_box.proofs.Imports.{All, All-head, All-tail, AreDistinct, AreLocalsOf, AreOrdered}
+use Rattle.module_box.proofs.Imports.{Gate, GateKind, IsTrue, List, Netlist, Some, Source}
+use Rattle.module_box.proofs.Imports.{[], ap, append_assoc, ap₂, arith, common_steps, defines}
 use Rattle.module_box.proofs.Imports.{drop, flat_map, get_or, get_or_append_left, get_or_default, inl, inr, is_among}
 use Rattle.module_box.proofs.Imports.{length, length-append, length-map, length-range_with_len, length_push, map}
 use Rattle.module_box.proofs.Imports.{range_with_len, refl, renumber_gate, same_Some, slice_get, slice_get-get_or}

@@ -1,9 +1,7 @@
 -- Boxes that a halo reaches
-use Rattle.module_box.proofs.Imports.{Box2, and_from, and_parts, arith, common_steps, in_box, in_halo, in_span, inl}
+use Rattle.module_box.proofs.Imports.{Box2, and_parts, arith, common_steps, in_halo, in_span, inl}
 use Rattle.module_box.proofs.Imports.{inr, ints, or_cases, pos, refl, true, ℕ, ℤ, ◌+ℤ◌, ◌+◌, ◌-ℤ◌, ◌<◌, ◌||◌, ◌∙◌, ◌≡◌}
 use Rattle.module_box.proofs.Imports.{◌≤◌, ◌⊎◌}
-use Rattle.lemmas.proofs.Common.{lt-ltb}
-use Rattle.bbm_rule.specs.Boxes.{is_near}
 use Rattle.bbm_rule.proofs.RingTests.{halo_read}
 use Rattle.module_box.proofs.BoxCells.{in_span_nat}
 
@@ -27,7 +25,3 @@ beside_bounds f n g m i j x y p q (inr (inr e)) a b c d = (omega (arith, ints), 
 near_span : (f n g m : ℕ) (x : ℤ) → (in_span f n (x -ℤ pos 1) || in_span f n x || in_span f n (x +ℤ pos 1)) ≡ true →
     in_span g m x ≡ true → (g < f + n + 1) × (f < g + m + 1)
 near_span f n g m x h k = grind (arith, common_steps, near_one, in_span_nat, beside_bounds)
-
-pub near_boxes : (a b : Box2) (x y : ℤ) → in_halo a x y ≡ true → in_box b x y ≡ true → is_near a b ≡ true
-unfolding in_box
-near_boxes a b x y h k = grind (arith, common_steps, near_parts, and_parts, near_span, and_from, lt-ltb)

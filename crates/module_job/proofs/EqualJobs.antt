@@ -21,9 +21,6 @@ and_apart false q r = refl
 stop_test : (a b : Stop) → stops.eq-value.it a b ≡ same_stop a b
 stop_test a b = and_apart (nat_eq a.at.time b.at.time) (same_cell a.at.cell b.at.cell) (nat_eq a.wire b.wire)
 
-pub stop_tests : (xs ys : List Stop) → pointwise stops.eq-value.it xs ys ≡ pointwise same_stop xs ys
-stop_tests xs ys i = pointwise (λ a b. stop_test a b i) xs ys
-
 -- ---- and they decide
 
 box_decides : (a b : Box2) → Decides (same_box a b) (a ≡ b)

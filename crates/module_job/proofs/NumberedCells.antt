@@ -1,11 +1,11 @@
 -- Lists of what cells carry or must be, by their numbers.
-use Rattle.module_job.proofs.Imports.{All, All-head, All-tail, Bool, Decides, Decides-eqb, Demand, List, One, Signal}
-use Rattle.module_job.proofs.Imports.{Wire, Zero, [], ap, ap₂, arith, common_steps, demand_from_number, demand_number}
-use Rattle.module_job.proofs.Imports.{length, length-map, length-replicate, lists, map, nat_eq, pointwise, refl}
+use Rattle.module_job.proofs.Imports.{All, All-head, All-tail, Bool, Decides, Decides-eqb, List}
+use Rattle.module_job.proofs.Imports.{Zero, [], ap, ap₂, arith, common_steps, demand_from_number, demand_number}
+use Rattle.module_job.proofs.Imports.{length, length-map, lists, map, nat_eq, pointwise, refl}
 use Rattle.module_job.proofs.Imports.{replicate, same_demand, same_from_decides, same_signal, signal_decides}
 use Rattle.module_job.proofs.Imports.{signal_from_number, signal_number, slice_get, sparse_entries_from}
-use Rattle.module_job.proofs.Imports.{sparse_list_numbers, suc, sym, unwrap_or, zero, ℕ, ◌++◌, ◌+◌, ◌<◌, ◌∙◌, ◌∷◌, ◌≡◌}
-use Rattle.lemmas.proofs.Common.{get_or-replicate, map-append}
+use Rattle.module_job.proofs.Imports.{sparse_list_numbers, suc, sym, unwrap_or, zero, ℕ, ◌++◌, ◌<◌, ◌∙◌, ◌∷◌, ◌≡◌}
+use Rattle.lemmas.proofs.Common.{map-append}
 use Rattle.module_job.proofs.EqualJobs.{demand_decides}
 use Rattle.module_job.specs.declared.job.Demand.TheVariants as Demanded
 
@@ -18,14 +18,6 @@ signal_back _ = refl
 demand_back : (n : ℕ) → demand_number (demand_from_number n) ≡ n
 demand_back (suc (suc (suc w))) = omega arith
 demand_back _ = refl
-
-signal_again : (s : Signal) → signal_from_number (signal_number s) ≡ s
-signal_again (Wire w) = let e : w + 2 ≡ suc (suc w) = omega arith in ap signal_from_number e
-signal_again _ = refl
-
-demand_again : (d : Demand) → demand_from_number (demand_number d) ≡ d
-demand_again (Demanded.Wire w) = let e : w + 3 ≡ suc (suc (suc w)) = omega arith in ap demand_from_number e
-demand_again _ = refl
 
 -- ---- lists
 
@@ -45,10 +37,6 @@ below bound [] place some all = some
 below bound (n ∷ ns) zero some all = All-head (λ m. m < bound) n ns all
 below bound (n ∷ ns) (suc place) some all = below bound ns place some (All-tail (λ m. m < bound) n ns all)
 
-pub zeros_below : (bound count : ℕ) (ns : List ℕ) → 0 < bound → All (λ n. n < bound) ns →
-    All (λ n. n < bound) (ns ++ replicate count 0)
-zeros_below bound count ns some all = grind (arith, common_steps, get_or-replicate, length-replicate)
-
 module _ {A : Type 0} (of : ℕ → A) (number : A → ℕ) (exact : (n : ℕ) → number (of n) ≡ n) where
   numbers_again : (ns : List ℕ) → map number (map of ns) ≡ ns
   numbers_again [] = refl
@@ -67,10 +55,6 @@ module _ {A : Type 0} (of : ℕ → A) (number : A → ℕ) (exact : (n : ℕ) �
 
 -- ---- what the cells carry at time 0
 
-pub start_pushed : (ns : List ℕ) (s : Signal) →
-    map signal_from_number (ns ++ signal_number s ∷ []) ≡ map signal_from_number ns ++ s ∷ []
-start_pushed ns s = grind (arith, common_steps, map-append, signal_again)
-
 pub dead_pushed : (ns : List ℕ) (count : ℕ) →
     map signal_from_number (ns ++ replicate count 0) ≡ map signal_from_number ns ++ replicate count Zero
 dead_pushed ns count = grind (arith, common_steps, map-append, map_zeros)
@@ -88,10 +72,6 @@ pub start_tests : (ns ms : List ℕ) →
 start_tests = same_tests signal_from_number signal_number signal_back same_signal signal_decides
 
 -- ---- what they must be at the last time
-
-pub demand_pushed : (ns : List ℕ) (d : Demand) →
-    map demand_from_number (ns ++ demand_number d ∷ []) ≡ map demand_from_number ns ++ d ∷ []
-demand_pushed ns d = grind (arith, common_steps, map-append, demand_again)
 
 pub dead_demands_pushed : (ns : List ℕ) (count : ℕ) →
     map demand_from_number (ns ++ replicate count 0) ≡ map demand_from_number ns ++ replicate count Demanded.Dead

@@ -102,9 +102,6 @@ not_two n h = grind arith
 not_three : (n : ℕ) → 0 < n → (suc (suc (suc n)) == 3) ≡ false
 not_three n h = grind arith
 
-pub is_alone : (l : List ℕ) → words_of l ≡ l ∷ [] → true ≡ (length (words_of l) == 1)
-is_alone l a = rw a refl
-
 pub is_not_alone : (l w r : List ℕ) → words_of l ≡ w ∷ words_of r → false ≡ (length (words_of l) == 1)
 is_not_alone l w r a = rw (a, not_one (length (words_of r)) (some_words r)) refl
 
