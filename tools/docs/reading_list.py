@@ -7,14 +7,17 @@ usage: tools/docs/reading_list.py [--definitions] [--check PAGE] [FILE]
 FILE is meaning/specs/Headline.antt if it is left out. --definitions names the definitions that are reached, and the definitions of the kit's
 library that these name. --check compares a page. It must contain the table of meaning/specs/Headline.antt, line for line, and each word of
 the kit's library that these definitions name. Behind each name of this command with a FILE it must give the numbers of the table as
-"N files and M lines". --check also looks for definitions of specs/ that this script does not find.
+"N files and M lines". --check also compares the two numbers of lines in README.md, and looks for definitions of specs/ that this script
+does not find.
 """
 import re
 import sys
 from pathlib import Path
 
 CRATES = Path(__file__).resolve().parent.parent.parent / "crates"
+README = CRATES.parent / "README.md"
 STATEMENT = "meaning/specs/Headline.antt"
+IN_FULL = "headline/specs/RightInFull.antt"
 HEAD = re.compile(r"^(?:(?:abbrev|unfoldable|pub|infixl|infixr)\s+)*(\S+)\s*(?:\{[^}]*\}|\([^)]*\)|\s)*:(?:\s|$)")
 # A record has its name before its parameters, which may take more lines and may have parentheses in parentheses.
 RECORD = re.compile(r"^(?:(?:abbrev|unfoldable|pub)\s+)*(?:record|data)\s+(\S+)")
@@ -183,6 +186,14 @@ def wrong_numbers(text):
             yield f"{start}: {len(counts)} files and {sum(counts)} lines, and the page says {files} and {lines}"
 
 
+def wrong_readme():
+    """Yields a line if README.md gives other numbers of lines than the lists."""
+    said = re.search(r"(\d+)\s+lines,\s+and\s+(\d+)\s+with\s+the\s+rim\s+and\s+the\s+stops", README.read_text())
+    counts = tuple(str(sum(count for _, _, count, _ in rows_of(Closure(start)))) for start in (STATEMENT, IN_FULL))
+    if not said or said.groups() != counts:
+        yield f"README.md: {counts[0]} lines, and {counts[1]} with the rim and the stops, are not its numbers"
+
+
 def missing_words(text, library):
     """Yields the words of the kit's library that no piece of code of a page contains."""
     pieces = re.findall(r"`([^`]+)`", text)
@@ -222,7 +233,7 @@ def main(words):
     if table:
         text = Path(table).read_text()
         found = [] if "\n".join(lines) in text else ["\n".join([f"{table} does not contain this table:", *lines])]
-        found += [*wrong_numbers(text), *missing_words(text, closure.library), *(f"not found: {lost}" for lost in lost_definitions())]
+        found += [*wrong_numbers(text), *wrong_readme(), *missing_words(text, closure.library), *(f"not found: {lost}" for lost in lost_definitions())]
         print(*found, sep="\n", end="\n" if found else "")
         return 1 if found else 0
     print(*lines, sep="\n")
