@@ -20,5 +20,6 @@ pub mod Moving
 pub mod SameCells
 pub mod RingTests
 pub mod CellLists
+pub mod CellOrder
 pub mod RectangleLemmas
 pub mod Imports

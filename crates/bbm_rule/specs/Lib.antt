@@ -11,3 +11,4 @@ pub mod Laws
 pub mod Moves
 pub mod Boxes
 pub mod CellLists
+pub mod CellOrder

@@ -13,6 +13,7 @@
 
 mod block;
 mod boxes;
+mod cell_order;
 mod cells;
 mod grid;
 pub mod laws;
@@ -22,6 +23,7 @@ mod rows;
 mod words;
 
 pub use block::{Box2, Cell, odd_partner, turn};
+pub use cell_order::compare_cells;
 pub use grid::{Grid, Left};
 pub use rectangles::{
     are_all_cells_live, fill_rectangle, is_any_live, is_any_live_in, is_live, make_live,

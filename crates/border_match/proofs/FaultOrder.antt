@@ -2,7 +2,7 @@
 use Rattle.border_match.proofs.Imports.{BorderFault, arith, border_cmp, cell_cmp, common_steps, ℕ, ℤ}
 use Rattle.lemmas.proofs.Common.{CmpEqualImpliesEq, IsTotalOrder, exact_pairs, exact_signed, exact_unsigned}
 use Rattle.lemmas.proofs.Common.{nat_cmp_total, on_total, then_total}
-use Rattle.module_box.proofs.Rising.{cell_total}
+use Rattle.bbm_rule.proofs.CellOrder.{cell_total}
 
 pub border_total : IsTotalOrder border_cmp
 unfolding border_cmp

@@ -5,7 +5,7 @@ use Rattle.std.specs.declared.cmp.Ordering.TheVariants.{Greater}
 use Rattle.std.specs.Ordering.{nat_cmp, ordering_then}
 use Rattle.circuit.specs.Meaning.{Circuit}
 use Rattle.bbm_rule.specs.Boxes.{in_box, in_halo}
-use Rattle.module_box.specs.Moments.{cell_cmp}
+use Rattle.bbm_rule.specs.CellOrder.{cell_cmp}
 use Rattle.module_box.specs.Schedules.{signal_at}
 use Rattle.module_box.specs.declared.schedules.Signal.{Signal}
 use Rattle.certificate_lines.specs.Entries.{Setting, ModuleLines, edges, halos}

@@ -4,8 +4,7 @@ ghost use Rattle.border_match.specs.BorderFaults.{border_cmp};
 ghost use Rattle.border_match.specs.Candidates.{HasCandidateAtMost};
 ghost use Rattle.border_match.specs.declared.fault.BorderFault.{BorderFault};
 
-use bbm_rule::Cell;
-use module_box::compare_cells;
+use bbm_rule::{Cell, compare_cells};
 use std::cmp::Ordering;
 
 /// A time and a cell at which a module does not say the same as the module that has the cell.

@@ -16,7 +16,7 @@ use Rattle.certificate.proofs.Imports.{precedes_halos, rank_of, refl, slice_get,
 use Rattle.certificate.proofs.Imports.{sorted_border_lines, stop_in, stops, subst, suc, sym, true, true≢false, whole}
 use Rattle.certificate.proofs.Imports.{wire_of, with_halos, without_halos, zero, ℕ, ℤ, ◌&&◌, ◌++◌, ◌<◌, ◌||◌, ◌∙◌, ◌∷◌}
 use Rattle.certificate.proofs.Imports.{◌≡◌, ◌≢◌, ◌≤◌}
-use Rattle.module_box.proofs.Rising.{cell_exact}
+use Rattle.bbm_rule.proofs.CellOrder.{cell_exact}
 use Rattle.certificate_lines.specs.Modules.{IsEdge, IsHalo, IsStop}
 use Rattle.certificate_lines.proofs.LineOrder.{pairs_each, rising_distinct}
 use Rattle.certificate_lines.proofs.Pairs.{each_append, pairs_append}

@@ -57,7 +57,8 @@ pub use Rattle.module_box.proofs.Imports.{slice_get-get_or, slice_get_within, sp
 pub use Rattle.module_box.proofs.Imports.{take_more, true, true≢false, unsigned_abs, w32, zero, ℕ, ℤ, ◌%◌, ◌&&◌, ◌*◌}
 pub use Rattle.module_box.proofs.Imports.{◌++◌, ◌+◌, ◌-◌, ◌<◌, ◌==◌, ◌||◌, ◌∙◌, ◌∷◌, ◌≡◌, ◌≤◌, ◌⊎◌}
 unfoldable pub use Rattle.module_box.proofs.Imports.{cell_cmp, in_box, in_halo, partner}
-pub use Rattle.module_box.proofs.Rising.{cell_total, pushed}
+pub use Rattle.bbm_rule.proofs.CellOrder.{cell_total}
+pub use Rattle.module_box.proofs.Rising.{pushed}
 pub use Rattle.module_box.specs.Locals.{AreLocalLines, local_wires}
 pub use Rattle.module_box.specs.Places.{place_in}
 pub use Rattle.module_box.specs.Tiling.{AreOwners, IsInside, rectangle_of}

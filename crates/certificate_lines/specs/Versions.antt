@@ -8,7 +8,7 @@ use Rattle.std.specs.List.{filter, flat_map, list_any}
 use Rattle.std.specs.declared.cmp.Ordering.{Ordering}
 use Rattle.std.specs.Ordering.{nat_cmp, ordering_then, is_lt}
 use Rattle.bbm_rule.specs.Boxes.{in_halo}
-use Rattle.module_box.specs.Moments.{cell_cmp}
+use Rattle.bbm_rule.specs.CellOrder.{cell_cmp}
 use Rattle.bbm_rule.specs.declared.block.Box2.{Box2}
 use Rattle.circuit.specs.Meaning.{Circuit}
 use Rattle.certificate_lines.specs.Entries.{Setting, ModuleLines, edges, known, stops}

@@ -9,8 +9,7 @@ ghost use Rattle.certificate_lines.specs.declared.certificate_line.CertificateLi
 
 use crate::certificate_line::CertificateLine;
 use crate::stored_line::StoredBorder;
-use bbm_rule::Cell;
-use module_box::compare_cells;
+use bbm_rule::{Cell, compare_cells};
 use std::cmp::Ordering;
 
 // The rank of cuts.

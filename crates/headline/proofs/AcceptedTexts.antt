@@ -13,7 +13,7 @@ use Rattle.headline.proofs.Imports.{numbered_signals, option_map, partner, parts
 use Rattle.headline.proofs.Imports.{step, subst, suc, sym, true, true≢false, turned, whole, zero, ℕ, ◌∙◌, ◌∷◌, ◌≡◌, ◌≢◌}
 use Rattle.lemmas.proofs.Common.{unwrap_or}
 use Rattle.circuit.specs.Gates.{is_inverse}
-use Rattle.module_box.specs.Moments.{cell_cmp}
+use Rattle.bbm_rule.specs.CellOrder.{cell_cmp}
 use Rattle.module_box.specs.Schedules.{all_times_at, event_at, signal_at}
 use Rattle.certificate_lines.specs.PortTables.{port_at}
 use Rattle.certificate.specs.Jobs.{end_demand, start_signal}

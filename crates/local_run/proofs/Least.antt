@@ -3,12 +3,9 @@ use Rattle.local_run.proofs.Imports.{Cell, Edge, End, Equal, Fault, Greater, Kee
 use Rattle.local_run.proofs.Imports.{Some, Stop, ap, arith, cell_cmp, common_steps, fault_cmp, keep_cmp, kind_number}
 use Rattle.local_run.proofs.Imports.{refl, suc, zero, ℕ, ℤ, ◌≡◌, ◌≢◌}
 use Rattle.lemmas.proofs.Common.{CmpEqualImpliesEq, IsTotalOrder, exact_pairs, exact_signed, exact_unsigned}
-use Rattle.lemmas.proofs.Common.{int_cmp_total, nat_cmp_total, on_total, ordering_reverse, then_total}
+use Rattle.bbm_rule.proofs.CellOrder.{cell_total}
+use Rattle.lemmas.proofs.Common.{nat_cmp_total, on_total, ordering_reverse, then_total}
 use Rattle.local_run.specs.Laws.{LeastFaultIsUnique, LeastKeepFaultIsUnique}
-
-cell_total : IsTotalOrder cell_cmp
-unfolding cell_cmp
-cell_total = then_total (on_total (λ (c : Cell). c.y) int_cmp_total) (on_total (λ (c : Cell). c.x) int_cmp_total)
 
 fault_total : IsTotalOrder fault_cmp
 unfolding fault_cmp

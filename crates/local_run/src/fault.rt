@@ -2,8 +2,7 @@
 ghost use Rattle.std.specs.Prelude.{◌≡◌};
 ghost use Rattle.local_run.specs.Order.{fault_cmp, kind_number};
 
-use bbm_rule::Cell;
-use module_box::compare_cells;
+use bbm_rule::{Cell, compare_cells};
 use std::cmp::Ordering;
 
 /// The kind of a fault: what the cell is compared with.
@@ -50,7 +49,7 @@ fn kind_number(kind: Kind) -> u8
 
 impl Fault {
     /// Compares faults by time, kind (`Edge`, `Stop`, `End`), y, x and assignment.
-    #[tactic(auto, unfolding(crate::specs::Order::fault_cmp, module_box::specs::Moments::cell_cmp))]
+    #[tactic(auto, unfolding(crate::specs::Order::fault_cmp, bbm_rule::specs::CellOrder::cell_cmp))]
     pub fn compare(self, other: Fault) -> Ordering
         ensures { result ≡ fault_cmp self other }
     {

@@ -32,7 +32,8 @@ pub use Rattle.module_box.specs.LocalGates.{gate_of_local_gate}
 pub use Rattle.module_box.specs.LocalValues.{IsColumnAt, SaysColumn, gate_out_words, is_none, is_this_gate, lane}
 pub use Rattle.module_box.specs.LocalValues.{word_of_input}
 pub use Rattle.module_box.specs.Locals.{AreDistinct, AreLocalsOf, LocalNet, circuit_wire, is_among, renumber_gate}
-unfoldable pub use Rattle.module_box.specs.Moments.{cell_cmp, moment_cmp}
+unfoldable pub use Rattle.bbm_rule.specs.CellOrder.{cell_cmp}
+unfoldable pub use Rattle.module_box.specs.Moments.{moment_cmp}
 pub use Rattle.module_box.specs.Moves.{moved_all_times, moved_event}
 pub use Rattle.module_box.specs.Numbers.{gate_code_numbers}
 pub use Rattle.module_box.specs.Schedules.{IsRising, cell_of, moment_of}

@@ -5,27 +5,17 @@ use Rattle.module_box.proofs.Imports.{below_or_from, below_or_same, cases_Bool, 
 use Rattle.module_box.proofs.Imports.{event_at, inl, inr, is_at, length, moment_cmp, refl, rules, slice_get, suc, sym}
 use Rattle.module_box.proofs.Imports.{true, zero, ℕ, ℤ, ◌++◌, ◌+◌, ◌<◌, ◌∙◌, ◌∷◌, ◌≡◌, ◌≢◌, ◌≤◌, ◌⊎◌}
 use Rattle.lemmas.proofs.Common.{CmpEqualImpliesEq, IsTotalOrder, cond-false, cond-true, exact_pairs, exact_signed}
-use Rattle.lemmas.proofs.Common.{exact_unsigned, int_cmp_total, nat_cmp_total, on_total, then_total, tied_itself}
+use Rattle.lemmas.proofs.Common.{exact_unsigned, nat_cmp_total, on_total, then_total, tied_itself}
+use Rattle.bbm_rule.proofs.CellOrder.{cell_total}
 use Rattle.lemmas.proofs.Common.{int_itself, int_same, same_or_higher}
 use Rattle.module_box.specs.declared.schedules.Moment.{Moment}
 use Rattle.module_box.specs.Schedules.{is_moment_at}
 
--- ---- the two orders
-pub cell_total : IsTotalOrder cell_cmp
-unfolding cell_cmp
-cell_total = then_total (on_total (λ (c : Cell). c.y) int_cmp_total) (on_total (λ (c : Cell). c.x) int_cmp_total)
-
+-- ---- the order of moments
 pub moment_total : IsTotalOrder moment_cmp
 unfolding moment_cmp
 moment_total = then_total (on_total (λ (m : Moment). m.time) nat_cmp_total)
     (on_total (λ (m : Moment). m.cell) cell_total)
-
-abbrev cell_key : Cell → ℤ × ℤ
-cell_key c = (c.y, c.x)
-
-pub cell_exact : CmpEqualImpliesEq cell_cmp
-unfolding cell_cmp
-cell_exact a b e = grind (arith, common_steps, exact_pairs, exact_signed, cell_key)
 
 abbrev moment_key : Moment → ℕ × (ℤ × ℤ)
 moment_key m = (m.time, (m.cell.y, m.cell.x))

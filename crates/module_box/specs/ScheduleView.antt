@@ -1,6 +1,7 @@
 -- The view of a schedule, from the fields
 use Rattle.module_box.specs.declared.schedules.Schedule.TheInside.{Inside}
-use Rattle.module_box.specs.Moments.{cell_cmp, moment_cmp}
+use Rattle.bbm_rule.specs.CellOrder.{cell_cmp}
+use Rattle.module_box.specs.Moments.{moment_cmp}
 use Rattle.module_box.specs.Schedules.{Signals, IsRising, cell_of, moment_of}
 
 -- the signals of a schedule, from the fields

@@ -31,7 +31,7 @@ pub use locals::Locals;
 pub use moving::{moved_cell, moved_event};
 pub use owners::Owners;
 pub use places::place_in;
-pub use schedules::{AllTimesSignal, Moment, Schedule, Signal, TimedSignal, compare_cells};
+pub use schedules::{AllTimesSignal, Moment, Schedule, Signal, TimedSignal};
 pub use tile::{TileFault, owner_table};
 pub use values::{LocalValuesError, ValueRows};
 pub use wiring::Wiring;

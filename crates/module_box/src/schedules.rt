@@ -1,10 +1,11 @@
 //! Signals at cells and times.
 
 ghost use Rattle.std.specs.Prelude.{◌≡◌};
-ghost use Rattle.module_box.specs.Moments.{cell_cmp, moment_cmp};
+ghost use Rattle.bbm_rule.specs.CellOrder.{cell_cmp};
+ghost use Rattle.module_box.specs.Moments.{moment_cmp};
 ghost use Rattle.module_box.specs.Schedules.{IsRising, cell_of, moment_of, all_times_at, event_at, signal_at};
 
-use bbm_rule::Cell;
+use bbm_rule::{Cell, compare_cells};
 use std::cmp::Ordering;
 use std::marker::Model;
 
@@ -58,14 +59,6 @@ impl Model for Schedule {
     ghost view = { signals };
 
     ghost invariant = { IsSchedule };
-}
-
-/// Compares cells by y, then x.
-#[tactic(auto, unfolding(crate::specs::Moments::cell_cmp))]
-pub fn compare_cells(a: Cell, b: Cell) -> Ordering
-    ensures { result ≡ cell_cmp a b }
-{
-    a.y.cmp(&b.y).then(a.x.cmp(&b.x))
 }
 
 impl Moment {

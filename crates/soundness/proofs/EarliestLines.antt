@@ -9,7 +9,7 @@ use Rattle.soundness.proofs.Imports.{report_lines_from, same_Some, setting_of, s
 use Rattle.soundness.proofs.Imports.{subst, suc, sym, timing_report_line, unkept, unkept_lines, zero, ℕ, ◌++◌, ◌+◌, ◌<◌}
 use Rattle.soundness.proofs.Imports.{◌∙◌, ◌∷◌, ◌≡◌, ◌≢◌, ◌≤◌}
 use Rattle.lemmas.proofs.Common.{Contains-append_cases, Contains-append_right, nothing_in, one_in}
-use Rattle.module_box.specs.Moments.{cell_cmp}
+use Rattle.bbm_rule.specs.CellOrder.{cell_cmp}
 use Rattle.soundness.specs.FirstFaults.{EarliestLineIsFirstFault, EarliestLineIsReal}
 use Rattle.core_book.specs.declared.verdict.ReportLine.TheVariants.{Local, Keep, Border, Delay, Meet}
 use Rattle.soundness.proofs.FirstFaults.{assigned, first_means}

@@ -12,7 +12,7 @@ use Rattle.soundness.proofs.Imports.{undefined_has_none, whole, ℕ, ℤ, ∥∥
 use Rattle.lemmas.proofs.Common.{Decides-int_eq, nat_cmp_total, on_total, then_total}
 use Rattle.circuit.proofs.Undefined.{stopped, undefined_is_one}
 use Rattle.module_box.specs.LocalValues.{IsFirstLocalGateWithoutRow}
-use Rattle.module_box.proofs.Rising.{cell_total}
+use Rattle.bbm_rule.proofs.CellOrder.{cell_total}
 use Rattle.certificate_lines.proofs.LineOrder.{In, flat_in}
 use Rattle.certificate.proofs.FullModules.{stands}
 use Rattle.module_job.specs.Jobs.{IsStopOf}

@@ -1,5 +1,6 @@
 use Rattle.module_box.proofs.Imports.{arith, common_steps, length, slice_get-get_or, sym, ◌+◌, ◌-◌, ◌/◌, ◌<◌}
-use Rattle.module_box.proofs.Rising.{raise_low, drop_high, is_absent, is_first, cell_total, cell_exact, all_times_none}
+use Rattle.bbm_rule.proofs.CellOrder.{cell_total, cell_exact}
+use Rattle.module_box.proofs.Rising.{raise_low, drop_high, is_absent, is_first, all_times_none}
 use Rattle.module_box.proofs.Rising.{all_times_found}
 use Rattle.module_box.proofs.schedules.find_all_times.Goals as goal
 
