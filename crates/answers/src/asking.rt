@@ -14,8 +14,8 @@ pub(crate) fn read_assign_and_end(
     feed: &mut Feed,
     names: &[Name],
 ) -> Result<Vec<Name>, ReadFault>
-    requires closed { feed.old.closed ≡ true }
-    requires going { feed.old.stop ≡ None }
+    requires text_closed { feed.old.closed ≡ true }
+    requires feed_not_stopped { feed.old.stop ≡ None }
     ensures { ReaderReturnsSection (λ on. on.items) result
         (names_on_from_last_section feed.old.text names.now feed.old.taken (ahead feed.old)) }
 {

@@ -28,9 +28,9 @@ pub(crate) enum Question {
 
 /// Reads a bundle up to the end of the text, and lists its modules. The text is read whole.
 pub fn modules_text(alloc: Global, text: &mut Feed) -> Result<Answered, AllocError>
-    requires closed { text.old.closed ≡ true }
+    requires text_closed { text.old.closed ≡ true }
     requires unread { text.old.taken ≡ 0 }
-    requires going { text.old.stop ≡ None }
+    requires feed_not_stopped { text.old.stop ≡ None }
     ensures { IfOk result (λ answered. IsModulesOf text.old.text answered.output.items
         answered.outcome) }
 {
@@ -40,9 +40,9 @@ pub fn modules_text(alloc: Global, text: &mut Feed) -> Result<Answered, AllocErr
 /// Reads a bundle up to the end of the text, and writes it in certificate version 2, without halo lines. The text is
 /// read whole.
 pub fn migrate_text(alloc: Global, text: &mut Feed) -> Result<Answered, AllocError>
-    requires closed { text.old.closed ≡ true }
+    requires text_closed { text.old.closed ≡ true }
     requires unread { text.old.taken ≡ 0 }
-    requires going { text.old.stop ≡ None }
+    requires feed_not_stopped { text.old.stop ≡ None }
     ensures { IfOk result (λ answered. IsMigrationOf text.old.text answered.output.items
         answered.outcome) }
 {
@@ -55,9 +55,9 @@ fn answer_of_text(
     text: &mut Feed,
     question: Question,
 ) -> Result<Answered, AllocError>
-    requires closed { text.old.closed ≡ true }
+    requires text_closed { text.old.closed ≡ true }
     requires unread { text.old.taken ≡ 0 }
-    requires going { text.old.stop ≡ None }
+    requires feed_not_stopped { text.old.stop ≡ None }
     ensures { IfOk result (λ answered. AnsweredAs (AnswersQuestion question)
         (bundle_of text.old.text) answered.output.items answered.outcome) }
 {

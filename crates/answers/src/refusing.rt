@@ -13,7 +13,7 @@ use std::alloc::{AllocError, Global};
 ///
 /// Out of memory, also if that is the fault.
 pub fn refusal_answer(alloc: Global, fault: ReadFault) -> Result<Answered, AllocError>
-    ensures told { IfOk result (λ answered. TellsRefusal fault answered.output.items
+    ensures refusal_told { IfOk result (λ answered. TellsRefusal fault answered.output.items
         answered.outcome) }
 {
     match fault {

@@ -24,9 +24,9 @@ fn input_cell_names(alloc: Global, layout: &Layout) -> Result<Vec<Name>, AllocEr
 
 // Reads a layout, the names that are on, and the end of the text.
 fn read_layout_and_assign(alloc: Global, feed: &mut Feed) -> Result<(Layout, Vec<Name>), ReadFault>
-    requires closed { feed.old.closed ≡ true }
+    requires text_closed { feed.old.closed ≡ true }
     requires unread { feed.old.taken ≡ 0 }
-    requires going { feed.old.stop ≡ None }
+    requires feed_not_stopped { feed.old.stop ≡ None }
     ensures { ReaderReturnsSection (λ asked. (layout_section asked.0, asked.1.items)) result
         (run_sections_of feed.old.text) }
 {
@@ -115,9 +115,9 @@ fn answer(alloc: Global, layout: &Layout, on: &[Name]) -> Result<Answered, Alloc
 
 /// Runs the layout of a text under its assignment, and answers as `run` does. The text is read whole.
 pub fn run_text(alloc: Global, feed: &mut Feed) -> Result<Answered, AllocError>
-    requires closed { feed.old.closed ≡ true }
+    requires text_closed { feed.old.closed ≡ true }
     requires unread { feed.old.taken ≡ 0 }
-    requires going { feed.old.stop ≡ None }
+    requires feed_not_stopped { feed.old.stop ≡ None }
     ensures { IfOk result (λ answered. IsRunOf feed.old.text answered.output.items
         answered.outcome) }
 {

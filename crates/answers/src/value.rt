@@ -33,9 +33,9 @@ fn read_circuit_and_assign(
     alloc: Global,
     feed: &mut Feed,
 ) -> Result<(Circuit, Vec<Name>), ReadFault>
-    requires closed { feed.old.closed ≡ true }
+    requires text_closed { feed.old.closed ≡ true }
     requires unread { feed.old.taken ≡ 0 }
-    requires going { feed.old.stop ≡ None }
+    requires feed_not_stopped { feed.old.stop ≡ None }
     ensures { ReaderReturnsSection (λ asked. (asked.0, asked.1.items)) result
         (value_sections_of feed.old.text) }
 {
@@ -100,9 +100,9 @@ fn answer(alloc: Global, circuit: &Circuit, on: &[Name]) -> Result<Answered, All
 
 /// Evaluates the circuit of a text under its assignment, and answers as `value` does. The text is read whole.
 pub fn value_text(alloc: Global, feed: &mut Feed) -> Result<Answered, AllocError>
-    requires closed { feed.old.closed ≡ true }
+    requires text_closed { feed.old.closed ≡ true }
     requires unread { feed.old.taken ≡ 0 }
-    requires going { feed.old.stop ≡ None }
+    requires feed_not_stopped { feed.old.stop ≡ None }
     ensures { IfOk result (λ answered. IsValueOf feed.old.text answered.output.items
         answered.outcome) }
 {

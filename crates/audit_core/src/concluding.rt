@@ -48,7 +48,7 @@ pub fn conclude(
 ) -> Result<Verdict, Unfinished>
     requires own_jobs { AreJobsOfCertificate cert.now (map arc_value jobs.now) }
     requires borders { AreBorderFaultsOf (setting cert.now) (modules cert.now) borders.now }
-    ensures held { OnOk result (AreFindingsHeldBelow book.now (map arc_value jobs.now)
+    ensures findings_held { OnOk result (AreFindingsHeldBelow book.now (map arc_value jobs.now)
         (length jobs.now)) }
     ensures verdict { IfOk result (λ v. IsVerdict (setting cert.now) (modules cert.now)
         (map arc_value jobs.now) v) }
@@ -75,7 +75,7 @@ pub fn conclude_from_full_book(
     book: &BookState,
 ) -> Result<Verdict, AllocError>
     requires own_jobs { AreJobsOfCertificate cert.now book.now.jobs }
-    requires held { AreFindingsHeldBelow book.now book.now.jobs (length book.now.jobs) }
+    requires findings_held { AreFindingsHeldBelow book.now book.now.jobs (length book.now.jobs) }
     requires borders { AreBorderFaultsOf (setting cert.now) (modules cert.now) borders.now }
     ensures verdict { IfOk result (λ v. IsVerdict (setting cert.now) (modules cert.now)
         book.now.jobs v) }
@@ -157,7 +157,7 @@ fn faults_of_held_findings(
     jobs: &[Arc<Job>],
     book: &BookState,
 ) -> Result<Vec<LeastFaults>, Unfinished>
-    ensures held { OnOk result (AreFindingsHeldBelow book.now (map arc_value jobs.now)
+    ensures findings_held { OnOk result (AreFindingsHeldBelow book.now (map arc_value jobs.now)
         (length jobs.now)) }
     ensures least { IfOk result (λ fs. AreLeastFaults (map arc_value jobs.now) fs.items) }
     ensures missing { (number : ℕ) → result ≡ Err (Missing number) →

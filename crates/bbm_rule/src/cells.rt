@@ -41,7 +41,7 @@ pub(crate) fn cell_bit(words: &[u64], place: usize) -> bool
 #[inline(always)]
 #[tactic(auto, using(crate::proofs::CellLemmas::live_in))]
 fn is_live_in(words: &[u64], i: usize, bit: usize) -> bool
-    requires inside { i < length words.now }
+    requires index_below_length { i < length words.now }
     requires one_word { bit < 64 }
     ensures { result ≡ cell_at words.now (64 * i + bit) }
 {
@@ -67,7 +67,7 @@ pub(crate) fn put_cell(words: &mut [u64], place: usize, value: bool)
 #[inline(always)]
 #[tactic(auto, using(crate::proofs::FilledRuns::cells_filled))]
 fn fill_in_word(words: &mut [u64], first: usize, count: usize)
-    requires inside { first / 64 < length words.old }
+    requires first_word_exists { first / 64 < length words.old }
     requires one_word { (0 < count) × (first % 64 + count ≤ 64) }
     ensures { FillsRowPart first count words.old words.new }
 {
@@ -76,8 +76,8 @@ fn fill_in_word(words: &mut [u64], first: usize, count: usize)
 
 // makes the cells at `count` places live, word by word
 pub(crate) fn fill_cells(words: &mut [u64], first: usize, count: usize)
-    requires inside { first + count ≤ 64 * length words.old }
-    requires small { length words.old < 2 ^ 32 }
+    requires run_within_words { first + count ≤ 64 * length words.old }
+    requires word_count_fits_u32 { length words.old < 2 ^ 32 }
     ensures { FillsRowPart first count words.old words.new }
 {
     let end = first + count;
@@ -104,8 +104,8 @@ pub(crate) fn has_live_margin(
     requires marks { height / 2 + 1 ≤ 64 * length marks.now }
     requires unmarked { (y : ℕ) → y < height + 2 → IsUnmarked marks.now (y / 2) →
         HasDeadMarginInRow width height (64 * stride) y words.now }
-    ensures live { OnTrue result (HasLiveMargin width height (64 * stride) words.now) }
-    ensures dead { result ≡ false → HasDeadMargin width height (64 * stride) words.now }
+    ensures any_live { OnTrue result (HasLiveMargin width height (64 * stride) words.now) }
+    ensures all_dead { result ≡ false → HasDeadMargin width height (64 * stride) words.now }
 {
     let pairs = height / 2 + 1;
     let mut pair = next_marked(marks, 0, pairs);
@@ -127,8 +127,8 @@ fn is_row_margin_live(words: &[u64], stride: usize, width: usize, height: usize,
     requires height { height ≤ 1024 }
     requires row { y < height + 2 }
     requires word_count { length words.now ≡ stride * (height + 2) }
-    ensures live { OnTrue result (HasLiveMargin width height (64 * stride) words.now) }
-    ensures dead { result ≡ false → HasDeadMarginInRow width height (64 * stride) y words.now }
+    ensures any_live { OnTrue result (HasLiveMargin width height (64 * stride) words.now) }
+    ensures all_dead { result ≡ false → HasDeadMarginInRow width height (64 * stride) y words.now }
 {
     let first = stride * y;
     // The word of the last column is found once for all rows.

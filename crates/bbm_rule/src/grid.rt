@@ -57,7 +57,7 @@ impl Grid {
         requires width { (2 ≤ width) × (width ≤ 1024) × (width % 2 ≡ 0) }
         requires height { (2 ≤ height) × (height ≤ 1024) × (height % 2 ≡ 0) }
         ensures size { IfOk result (λ g. (g.width ≡ width) × (g.height ≡ height)) }
-        ensures dead { IfOk result (λ g. (x y : ℤ) → live g x y ≡ false) }
+        ensures all_cells_dead { IfOk result (λ g. (x y : ℤ) → live g x y ≡ false) }
     {
         let width = width as usize;
         let height = height as usize;
@@ -102,8 +102,8 @@ impl Grid {
         requires row { y < self.now.height }
         requires columns { (from ≤ end) × (end ≤ self.now.width) }
         ensures range { (from ≤ result) × (result ≤ end) }
-        ensures dead { (x : ℕ) → from ≤ x → x < result → live self.now (pos x) (pos y) ≡ false }
-        ensures live { result < end → live self.now (pos result) (pos y) ≡ true }
+        ensures all_dead { (x : ℕ) → from ≤ x → x < result → live self.now (pos x) (pos y) ≡ false }
+        ensures found_live { result < end → live self.now (pos result) (pos y) ≡ true }
     {
         let first = 64 * self.stride * (y as usize + 1) + 1;
         let place = next_marked(&self.words, first + from as usize, first + end as usize);
@@ -116,8 +116,8 @@ impl Grid {
         requires row { y < self.now.height }
         requires columns { (from ≤ end) × (end ≤ self.now.width) }
         ensures range { (from ≤ result) × (result ≤ end) }
-        ensures live { (x : ℕ) → from ≤ x → x < result → live self.now (pos x) (pos y) ≡ true }
-        ensures dead { result < end → live self.now (pos result) (pos y) ≡ false }
+        ensures all_live { (x : ℕ) → from ≤ x → x < result → live self.now (pos x) (pos y) ≡ true }
+        ensures found_dead { result < end → live self.now (pos result) (pos y) ≡ false }
     {
         let first = 64 * self.stride * (y as usize + 1) + 1;
         let place = next_unmarked(&self.words, first + from as usize, first + end as usize);
@@ -159,8 +159,8 @@ impl Grid {
     /// border at an even time, so a step at an even time makes no error.
     pub fn step(&mut self, t: u32) -> Result<(), Left>
         ensures stepped { OnOk result (IsStep t self.old self.new) }
-        ensures left { OnErr result (Leaves t self.old) }
-        ensures unchanged { OnErr result (self.new ≡ self.old) }
+        ensures cell_leaves_on_error { OnErr result (Leaves t self.old) }
+        ensures unchanged_on_error { OnErr result (self.new ≡ self.old) }
         ensures size { HasSameSize self.old self.new }
     {
         if t % 2 == 0 {

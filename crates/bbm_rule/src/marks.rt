@@ -6,7 +6,7 @@ ghost use Rattle.bbm_rule.specs.Rows.{cell_at, SetsPlace};
 
 /// Returns the first number from `from` on that has a mark, or `end` if there is none below it.
 pub fn next_marked(marks: &[u64], from: usize, end: usize) -> usize
-    requires within { (from ≤ end) × (end ≤ 64 * length marks.now) × (end < 2 ^ 32) }
+    requires range_within_marks { (from ≤ end) × (end ≤ 64 * length marks.now) × (end < 2 ^ 32) }
     ensures range { (from ≤ result) × (result ≤ end) }
     ensures passed_unmarked { (u : ℕ) → from ≤ u → u < result → IsUnmarked marks.now u }
     ensures marked { result < end → cell_at marks.now result ≡ true }
@@ -31,7 +31,7 @@ pub fn next_marked(marks: &[u64], from: usize, end: usize) -> usize
 /// Returns the first number from `from` on that has no mark, or `end` if all below it have one.
 #[tactic(auto, using(crate::proofs::BitLemmas::by_lt_or_le, crate::proofs::GapLemmas::all_before, crate::proofs::GapLemmas::all_in_word, crate::proofs::GapLemmas::first_unmarked))]
 pub fn next_unmarked(marks: &[u64], from: usize, end: usize) -> usize
-    requires within { (from ≤ end) × (end ≤ 64 * length marks.now) × (end < 2 ^ 32) }
+    requires range_within_marks { (from ≤ end) × (end ≤ 64 * length marks.now) × (end < 2 ^ 32) }
     ensures range { (from ≤ result) × (result ≤ end) }
     ensures passed_marked { (u : ℕ) → from ≤ u → u < result → cell_at marks.now u ≡ true }
     ensures unmarked { result < end → IsUnmarked marks.now result }

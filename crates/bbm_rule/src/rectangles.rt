@@ -58,7 +58,7 @@ fn is_row_all_live(grid: &Grid, w: u32, y: u32) -> bool
 /// Returns whether all cells of a rectangle from the cell (0, 0) on, as wide and as high as the grid, are live.
 pub fn are_all_cells_live(grid: &Grid, w: u32, h: u32) -> bool
     requires same_size { (grid.now.width ≡ w) × (grid.now.height ≡ h) }
-    requires small { (w ≤ 512) × (h ≤ 512) }
+    requires sides_at_most_512 { (w ≤ 512) × (h ≤ 512) }
     ensures { result
         ≡ list_all (λ c. live grid.now c.x c.y)
         (rectangle_cells (record { x = 0; y = 0; w = w; h = h })) }

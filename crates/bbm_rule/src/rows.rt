@@ -25,7 +25,7 @@ fn block_flips(
     lower_next: u64,
 ) -> (u64, u64, u64)
     ensures flips { AreFlips lefts upper upper_next lower lower_next result.0 result.1 }
-    ensures stays { HasNoSetBit result.2 → HasNoSetBit result.0 × HasNoSetBit result.1 }
+    ensures no_flips_if_zero { HasNoSetBit result.2 → HasNoSetBit result.0 × HasNoSetBit result.1 }
 {
     let main = upper ^ lower_next;
     let anti = upper_next ^ lower;
@@ -67,7 +67,7 @@ fn shifted_word(words: &[u64], i: usize) -> u64
 #[inline(always)]
 fn turn_aligned(words: &mut [u64], upper: usize, stride: usize) -> bool
     requires rows_inside { upper + stride + stride ≤ length words.old }
-    requires wide { 0 < stride }
+    requires stride_positive { 0 < stride }
     ensures turned { TurnsRowPart (64 * upper) (64 * stride) (64 * stride) words.old words.new }
     ensures same_cells { result ≡ false → AreSameCells words.old words.new }
 {
@@ -94,8 +94,8 @@ fn turn_words_shifted(
     anti: u64,
 ) -> (u64, u64, u64)
     requires rows_inside { i + stride + 1 < length words.old }
-    requires wide { 0 < stride }
-    requires alone { stride ≡ 1 → main ≡ 0 }
+    requires stride_positive { 0 < stride }
+    requires no_main_at_stride_1 { stride ≡ 1 → main ≡ 0 }
     ensures turned { TurnsRowPart (64 * i + 1) 64 (64 * stride)
         (flip_carried_bits i stride main anti words.old)
         (flip_carried_bits (i + 1) stride result.0 result.1 words.new) }
@@ -122,7 +122,7 @@ fn turn_words_shifted(
 #[inline(always)]
 fn turn_shifted(words: &mut [u64], upper: usize, stride: usize) -> bool
     requires rows_inside { upper + stride + stride < length words.old }
-    requires wide { 0 < stride }
+    requires stride_positive { 0 < stride }
     ensures turned { TurnsRowPart (64 * upper + 1) (64 * stride) (64 * stride) words.old words.new }
     ensures same_cells { result ≡ false → AreSameCells words.old words.new }
 {
@@ -155,15 +155,15 @@ pub(crate) fn turn_all_aligned(
     pairs: usize,
 )
     requires pairs_inside { 2 * (pairs * stride) ≤ length words.old }
-    requires wide { 0 < stride }
-    requires small { length words.old < 2 ^ 32 }
+    requires stride_positive { 0 < stride }
+    requires word_count_fits_u32 { length words.old < 2 ^ 32 }
     requires marks { (pairs ≤ 64 * length own.old) × (pairs ≤ 64 * length others.old) }
     requires own_calm { AreRowPairsStable 0 (64 * stride) pairs own.old words.old }
-    requires others { AreRowPairsStable (64 * stride + 1) (64 * stride) (pairs - 1) others.old
+    requires others_calm { AreRowPairsStable (64 * stride + 1) (64 * stride) (pairs - 1) others.old
         words.old }
     ensures turned { TurnsRows 0 (64 * stride) pairs words.old words.new }
     ensures own_calm { AreRowPairsStable 0 (64 * stride) pairs own.new words.new }
-    ensures others { AreRowPairsStable (64 * stride + 1) (64 * stride) (pairs - 1) others.new
+    ensures others_calm { AreRowPairsStable (64 * stride + 1) (64 * stride) (pairs - 1) others.new
         words.new }
 {
     let mut pair = next_marked(own, 0, pairs);
@@ -188,14 +188,14 @@ pub(crate) fn turn_all_shifted(
     pairs: usize,
 )
     requires pairs_inside { stride + 2 * (pairs * stride) < length words.old }
-    requires wide { 0 < stride }
-    requires small { length words.old < 2 ^ 32 }
+    requires stride_positive { 0 < stride }
+    requires word_count_fits_u32 { length words.old < 2 ^ 32 }
     requires marks { (pairs ≤ 64 * length own.old) × (pairs + 1 ≤ 64 * length others.old) }
     requires own_calm { AreRowPairsStable (64 * stride + 1) (64 * stride) pairs own.old words.old }
-    requires others { AreRowPairsStable 0 (64 * stride) (pairs + 1) others.old words.old }
+    requires others_calm { AreRowPairsStable 0 (64 * stride) (pairs + 1) others.old words.old }
     ensures turned { TurnsRows (64 * stride + 1) (64 * stride) pairs words.old words.new }
     ensures own_calm { AreRowPairsStable (64 * stride + 1) (64 * stride) pairs own.new words.new }
-    ensures others { AreRowPairsStable 0 (64 * stride) (pairs + 1) others.new words.new }
+    ensures others_calm { AreRowPairsStable 0 (64 * stride) (pairs + 1) others.new words.new }
 {
     let mut pair = next_marked(own, 0, pairs);
     'rows: while pair < pairs {

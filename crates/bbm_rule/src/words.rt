@@ -44,7 +44,7 @@ fn turn_vectors(
     ensures lanes { (k : ℕ) → k < 4 →
         AreTurnedAt k upper_lefts upper_rights lower_lefts lower_rights result.0 result.1 result.2
         result.3 }
-    ensures long { (length result.0 ≡ 4) × (length result.1 ≡ 4) × (length result.2 ≡ 4)
+    ensures lengths_are_4 { (length result.0 ≡ 4) × (length result.1 ≡ 4) × (length result.2 ≡ 4)
         × (length result.3 ≡ 4) }
 {
     let main = upper_lefts ^ lower_rights;

@@ -55,8 +55,8 @@ fn possible_fault_at(event: TimedSignal) -> BorderFault
 impl<'a> Borders<'a> {
     // The job of the module that has a cell of the rectangle.
     fn owner(&self, cell: Cell) -> &'a Job
-        requires ready { AreReadyBorders self.now }
-        requires inside { IsTrue (in_box self.now.whole cell.x cell.y) }
+        requires borders_ready { AreReadyBorders self.now }
+        requires cell_inside { IsTrue (in_box self.now.whole cell.x cell.y) }
         ensures { slice_get (jobs_of self.now) (owner_of self.now.owners.now cell.x cell.y)
             ≡ Some result.now }
     {
@@ -73,8 +73,8 @@ impl<'a> Borders<'a> {
 
     /// Returns whether the module says another thing of a cell of the rectangle than the module that has it.
     pub(crate) fn differs_from_owner(&self, time: u32, cell: Cell) -> bool
-        requires ready { AreReadyBorders self.now }
-        requires inside { IsTrue (in_box self.now.whole cell.x cell.y) }
+        requires borders_ready { AreReadyBorders self.now }
+        requires cell_inside { IsTrue (in_box self.now.whole cell.x cell.y) }
         ensures { IsTrue result ↔ SignalsDifferAt self.now time cell.x cell.y }
     {
         let owner = self.owner(cell);
@@ -87,9 +87,9 @@ impl<'a> Borders<'a> {
     // Returns whether the module says another thing of the cell and time of an event of its halo than the module that
     // has the cell. It needs one search less than for any cell.
     fn halo_event_differs(&self, event: TimedSignal) -> bool
-        requires ready { AreReadyBorders self.now }
-        requires inside { IsTrue (in_box self.now.whole event.at.cell.x event.at.cell.y) }
-        requires listed { IsListed self.now.job.now.halos.events event }
+        requires borders_ready { AreReadyBorders self.now }
+        requires cell_inside { IsTrue (in_box self.now.whole event.at.cell.x event.at.cell.y) }
+        requires event_listed { IsListed self.now.job.now.halos.events event }
         ensures { IsTrue result
             ↔ SignalsDifferAt self.now event.at.time event.at.cell.x event.at.cell.y }
     {
@@ -102,12 +102,12 @@ impl<'a> Borders<'a> {
     // Returns whether the module says another thing, `own`, of the cell and time of an event than the module whose ring
     // has the event.
     fn edge_event_differs(&self, owner: &Job, event: TimedSignal, own: Signal) -> bool
-        requires ready { AreReadyBorders self.now }
-        requires inside { IsTrue (in_box self.now.whole event.at.cell.x event.at.cell.y) }
+        requires borders_ready { AreReadyBorders self.now }
+        requires cell_inside { IsTrue (in_box self.now.whole event.at.cell.x event.at.cell.y) }
         requires owner { slice_get (jobs_of self.now)
             (owner_of self.now.owners.now event.at.cell.x event.at.cell.y) ≡ Some owner.now }
-        requires listed { IsListed owner.now.edges.events event }
-        requires own { own
+        requires event_listed { IsListed owner.now.edges.events event }
+        requires own_is_halo_signal { own
             ≡ job_signal Halo self.now.job.now event.at.time event.at.cell.x event.at.cell.y }
         ensures { IsTrue result
             ↔ SignalsDifferAt self.now event.at.time event.at.cell.x event.at.cell.y }
@@ -139,8 +139,8 @@ impl<'a> Borders<'a> {
 
     // The lesser of the candidate and the fault that an event of the module's halo names.
     fn with_halo_event(&self, best: Option<BorderFault>, event: TimedSignal) -> Option<BorderFault>
-        requires ready { AreReadyBorders self.now }
-        requires listed { IsListed self.now.job.now.halos.events event }
+        requires borders_ready { AreReadyBorders self.now }
+        requires event_listed { IsListed self.now.job.now.halos.events event }
         ensures { IsNextBest (IsFaultOfSearchedJob self.now) (IsAtEvent event) best result }
     {
         let fault = possible_fault_at(event);
@@ -173,8 +173,8 @@ impl<'a> Borders<'a> {
     // and the walk goes on behind it.
     #[inline(always)]
     fn read_and_mark_halo(&self, at: Moment, seen: &mut [bool], walk: &mut EventWalk) -> Signal
-        requires near { IsInShiftRange at.cell }
-        requires sized { length seen.old ≡ length self.now.job.now.halos.events }
+        requires cell_in_shift_range { IsInShiftRange at.cell }
+        requires one_mark_per_event { length seen.old ≡ length self.now.job.now.halos.events }
         ensures signal { result ≡ job_signal Halo self.now.job.now at.time at.cell.x at.cell.y }
         ensures marks { AddsOnlyMarksAt self.now.job.now.halos.events at seen.old seen.new }
     {
@@ -200,11 +200,11 @@ impl<'a> Borders<'a> {
         seen: &mut [bool],
         walk: &mut EventWalk,
     ) -> Option<BorderFault>
-        requires ready { AreReadyBorders self.now }
-        requires inside { IsTrue (in_box self.now.whole event.at.cell.x event.at.cell.y) }
+        requires borders_ready { AreReadyBorders self.now }
+        requires cell_inside { IsTrue (in_box self.now.whole event.at.cell.x event.at.cell.y) }
         requires owner { slice_get (jobs_of self.now)
             (owner_of self.now.owners.now event.at.cell.x event.at.cell.y) ≡ Some owner.now }
-        requires listed { IsListed owner.now.edges.events event }
+        requires event_listed { IsListed owner.now.edges.events event }
         requires marked { AreHaloMarks self.now seen.old }
         ensures better { IsNextBest (IsFaultOfSearchedJob self.now) (IsAtEvent event) best result }
         ensures marked { AreHaloMarks self.now seen.new }
@@ -223,8 +223,8 @@ impl<'a> Borders<'a> {
 
     // The least of the candidate and the faults that the events of the module's halo without a mark name.
     fn with_halo_events(&self, best: Option<BorderFault>, seen: &[bool]) -> Option<BorderFault>
-        requires ready { AreReadyBorders self.now }
-        requires sized { length seen.now ≡ length self.now.job.now.halos.events }
+        requires borders_ready { AreReadyBorders self.now }
+        requires one_mark_per_event { length seen.now ≡ length self.now.job.now.halos.events }
         ensures { IsNextBest (IsFaultOfSearchedJob self.now)
             (IsAtUnmarkedEvent seen.now self.now.job.now.halos.events) best result }
     {
@@ -247,7 +247,7 @@ impl<'a> Borders<'a> {
         extent: &Window,
         seen: &mut [bool],
     ) -> Option<BorderFault>
-        requires ready { AreReadyBorders self.now }
+        requires borders_ready { AreReadyBorders self.now }
         requires extent { IsEdgeEventExtent other.now extent.now }
         requires numbered { slice_get (jobs_of self.now) number ≡ Some other.now }
         requires marked { AreHaloMarks self.now seen.old }
@@ -283,7 +283,7 @@ impl<'a> Borders<'a> {
         extents: &[Window],
         seen: &mut [bool],
     ) -> Option<BorderFault>
-        requires ready { AreReadyBorders self.now }
+        requires borders_ready { AreReadyBorders self.now }
         requires extents { AreEdgeEventExtents (jobs_of self.now) extents.now }
         requires number { number < length self.now.jobs.now }
         requires marked { AreHaloMarks self.now seen.old }
@@ -304,10 +304,10 @@ impl<'a> Borders<'a> {
         extents: &[Window],
         seen: &mut [bool],
     ) -> Option<BorderFault>
-        requires ready { AreReadyBorders self.now }
+        requires borders_ready { AreReadyBorders self.now }
         requires extents { AreEdgeEventExtents (jobs_of self.now) extents.now }
-        requires noted { AreHaloOwnersListed self.now near.now }
-        requires below { AreModuleNumbers self.now near.now }
+        requires owners_listed { AreHaloOwnersListed self.now near.now }
+        requires numbers_exist { AreModuleNumbers self.now near.now }
         requires marked { AreHaloMarks self.now seen.old }
         ensures better { IsNextBest (IsFaultOfSearchedJob self.now) (IsAtOwnersEdgeEvent self.now)
             best result }
@@ -326,7 +326,7 @@ impl<'a> Borders<'a> {
         alloc: Global,
         extents: &[Window],
     ) -> Result<Option<BorderFault>, AllocError>
-        requires ready { AreReadyBorders self.now }
+        requires borders_ready { AreReadyBorders self.now }
         requires extents { AreEdgeEventExtents (jobs_of self.now) extents.now }
         ensures { IfOk result (IsLeast (IsFaultOfSearchedJob self.now)) }
     {

@@ -46,8 +46,8 @@ pub(crate) fn is_less(fault: BorderFault, best: Option<BorderFault>) -> bool
 pub(crate) fn lesser(best: Option<BorderFault>, fault: BorderFault) -> Option<BorderFault>
     ensures covers_as_before { (h : BorderFault) → HasCandidateAtMost best h →
         HasCandidateAtMost result h }
-    ensures covered { HasCandidateAtMost result fault }
-    ensures one { (result ≡ best) ⊎ (result ≡ Some fault) }
+    ensures fault_covered { HasCandidateAtMost result fault }
+    ensures best_or_fault { (result ≡ best) ⊎ (result ≡ Some fault) }
 {
     match best {
         Some(other) => match other.compare(fault) {

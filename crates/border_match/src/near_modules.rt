@@ -23,14 +23,14 @@ impl<'a> Borders<'a> {
     // Adds the number of the module that has the cell, unless it is this one. Returns the box of that module, whose
     // cells all have this owner.
     fn add_other_owner(&self, near: &mut Vec<usize>, cell: Cell) -> Result<Box2, AllocError>
-        requires ready { AreReadyBorders self.now }
-        requires inside { IsTrue (in_box self.now.whole cell.x cell.y) }
-        requires below { AreModuleNumbers self.now near.old.items }
-        ensures noted { IfOk result (AreOutsideOwnersListed self.now near.new.items) }
+        requires borders_ready { AreReadyBorders self.now }
+        requires cell_inside { IsTrue (in_box self.now.whole cell.x cell.y) }
+        requires numbers_exist { AreModuleNumbers self.now near.old.items }
+        ensures owners_listed { IfOk result (AreOutsideOwnersListed self.now near.new.items) }
         ensures holds { IfOk result (λ area. IsTrue (in_box area cell.x cell.y)) }
-        ensures within { IfOk result (λ area. (area.x + area.w ≤ 512) × (area.y + area.h ≤ 512)) }
-        ensures kept { OnOk result (KeepsAllNumbers near.old.items near.new.items) }
-        ensures below { OnOk result (AreModuleNumbers self.now near.new.items) }
+        ensures fits_512 { IfOk result (λ area. (area.x + area.w ≤ 512) × (area.y + area.h ≤ 512)) }
+        ensures numbers_kept { OnOk result (KeepsAllNumbers near.old.items near.new.items) }
+        ensures numbers_exist { OnOk result (AreModuleNumbers self.now near.new.items) }
     {
         let area = self.job.area();
         if area.holds(cell) {
@@ -44,14 +44,14 @@ impl<'a> Borders<'a> {
     // Adds the numbers of the modules that have cells of row `y` in the columns of the halo. Returns the first row
     // below it in which another module may have a cell in these columns.
     fn add_other_owners_in_row(&self, near: &mut Vec<usize>, y: u32) -> Result<u32, AllocError>
-        requires ready { AreReadyBorders self.now }
-        requires below { AreModuleNumbers self.now near.old.items }
-        requires inside { y < self.now.whole.h }
+        requires borders_ready { AreReadyBorders self.now }
+        requires numbers_exist { AreModuleNumbers self.now near.old.items }
+        requires row_inside { y < self.now.whole.h }
         requires row { y < self.now.job.now.area.y + self.now.job.now.area.h + 1 }
-        ensures noted { IfOk result (AreOwnersListedInRows self.now near.new.items y) }
-        ensures after { IfOk result (λ next. y < next) }
-        ensures kept { OnOk result (KeepsAllNumbers near.old.items near.new.items) }
-        ensures below { OnOk result (AreModuleNumbers self.now near.new.items) }
+        ensures owners_listed { IfOk result (AreOwnersListedInRows self.now near.new.items y) }
+        ensures next_row_later { IfOk result (λ next. y < next) }
+        ensures numbers_kept { OnOk result (KeepsAllNumbers near.old.items near.new.items) }
+        ensures numbers_exist { OnOk result (AreModuleNumbers self.now near.new.items) }
     {
         let area = self.job.area();
         let end = self.whole.w.min(area.x + area.w + 1);
@@ -73,8 +73,8 @@ impl<'a> Borders<'a> {
     /// cell to cell, so a module among others of its size takes a dozen looks.
     pub(crate) fn near_modules(&self, alloc: Global) -> Result<Vec<usize>, AllocError>
         requires { AreReadyBorders self.now }
-        ensures noted { IfOk result (λ near. AreHaloOwnersListed self.now near.items) }
-        ensures below { IfOk result (λ near. AreModuleNumbers self.now near.items) }
+        ensures owners_listed { IfOk result (λ near. AreHaloOwnersListed self.now near.items) }
+        ensures numbers_exist { IfOk result (λ near. AreModuleNumbers self.now near.items) }
     {
         let area = self.job.area();
         let end = self.whole.h.min(area.y + area.h + 1);

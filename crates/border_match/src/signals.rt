@@ -73,8 +73,8 @@ fn has_starred_line(job: &Job, border: RingOrHalo) -> bool
 /// itself says it: no two events are of one cell and time, since they rise.
 #[inline(always)]
 pub(crate) fn signal_at_event(job: &Job, border: RingOrHalo, event: TimedSignal) -> Signal
-    requires near { IsInShiftRange event.at.cell }
-    requires listed { IsListed (job_signals border job.now).events event }
+    requires cell_in_shift_range { IsInShiftRange event.at.cell }
+    requires event_listed { IsListed (job_signals border job.now).events event }
     ensures { result ≡ job_signal border job.now event.at.time event.at.cell.x event.at.cell.y }
 {
     if has_starred_line(job, border) {

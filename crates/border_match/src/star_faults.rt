@@ -52,7 +52,7 @@ impl<'a> Borders<'a> {
         corner: Box2,
         stars: &[AllTimesSignal],
     ) -> Option<BorderFault>
-        requires ready { AreReadyBorders self.now }
+        requires borders_ready { AreReadyBorders self.now }
         requires corner { (corner.x ≤ 512) × (corner.y ≤ 512) }
         ensures { IsNextBest (IsFaultOfSearchedJob self.now)
             (DiffersAtStar self.now (map (moved_all_times (pos corner.x) (pos corner.y)) stars.now))
@@ -77,7 +77,7 @@ impl<'a> Borders<'a> {
         job: &Job,
         border: RingOrHalo,
     ) -> Option<BorderFault>
-        requires ready { AreReadyBorders self.now }
+        requires borders_ready { AreReadyBorders self.now }
         ensures { IsNextBest (IsFaultOfSearchedJob self.now)
             (DiffersAtStar self.now (job_signals border job.now).all_times) best result }
     {
@@ -95,9 +95,9 @@ impl<'a> Borders<'a> {
         best: Option<BorderFault>,
         near: &[usize],
     ) -> Option<BorderFault>
-        requires ready { AreReadyBorders self.now }
-        requires noted { AreHaloOwnersListed self.now near.now }
-        requires below { AreModuleNumbers self.now near.now }
+        requires borders_ready { AreReadyBorders self.now }
+        requires owners_listed { AreHaloOwnersListed self.now near.now }
+        requires numbers_exist { AreModuleNumbers self.now near.now }
         ensures { IsNextBest (IsFaultOfSearchedJob self.now) (CellDiffersWithoutEvent self.now) best
             result }
     {

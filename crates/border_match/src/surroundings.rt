@@ -58,7 +58,7 @@ impl LeapPlan {
     // Returns how long to wait after a leap of this length.
     fn looks_before_leap(self, length: usize) -> usize
         ensures most { result ≤ MAX_LOOKS_BEFORE_LEAP }
-        ensures long { MIN_LONG_LEAP ≤ length → result ≡ MIN_LOOKS_BEFORE_LEAP }
+        ensures min_if_leap_long { MIN_LONG_LEAP ≤ length → result ≡ MIN_LOOKS_BEFORE_LEAP }
     {
         if length < MIN_LONG_LEAP {
             self.wait.saturating_mul(2).min(MAX_LOOKS_BEFORE_LEAP)
@@ -85,7 +85,7 @@ impl LeapPlan {
 
 // Returns whether `z`, counted from a corner, is one of the `n` numbers from `from` on or next to one of them.
 fn is_in_or_next_to(from: u32, n: u32, corner: u32, z: i32) -> bool
-    ensures beside { let at = z +ℤ pos corner in
+    ensures true_if_next_to { let at = z +ℤ pos corner in
         pos from ≤ℤ (at +ℤ pos 1) → at ≤ℤ pos (from + n) → IsTrue result }
     ensures bounds { let at = z +ℤ pos corner in
         IsTrue result → (pos from ≤ℤ (at +ℤ pos 1)) × (at ≤ℤ pos (from + n)) }
@@ -103,7 +103,7 @@ fn is_in_or_next_to(from: u32, n: u32, corner: u32, z: i32) -> bool
 // Returns whether a cell, counted from the corner of another box, is in the columns and rows of the area or next to
 // them.
 fn is_in_or_around(area: Box2, corner: Box2, cell: Cell) -> bool
-    ensures around { IsInOrAroundFromCorner area corner cell → IsTrue result }
+    ensures true_if_around { IsInOrAroundFromCorner area corner cell → IsTrue result }
     ensures bounds { IsTrue result → IsInOrAroundFromCorner area corner cell }
 {
     if !is_in_or_next_to(area.x, area.w, corner.x, cell.x) {
@@ -117,9 +117,9 @@ fn is_in_or_around(area: Box2, corner: Box2, cell: Cell) -> bool
 pub(crate) fn plane_cell_if_near(area: Box2, corner: Box2, cell: Cell) -> Option<Cell>
     requires area { (area.x + area.w ≤ 512) × (area.y + area.h ≤ 512) }
     requires corner { (corner.x ≤ 512) × (corner.y ≤ 512) }
-    ensures around { IfSome result (λ c. c
+    ensures cell_moved { IfSome result (λ c. c
         ≡ moved_cell (pos corner.x) (pos corner.y) cell) }
-    ensures far { IfNone result (¬ IsInOrAroundFromCorner area corner cell) }
+    ensures far_if_none { IfNone result (¬ IsInOrAroundFromCorner area corner cell) }
 {
     if !is_in_or_around(area, corner, cell) {
         return None;
@@ -140,8 +140,8 @@ pub(crate) fn find_first_not_before(
     guess: usize,
     at: Moment,
 ) -> usize
-    requires within { from ≤ length events.now }
-    requires rising { IsRising moment_cmp moment_of events.now }
+    requires start_within_events { from ≤ length events.now }
+    requires rising_moments { IsRising moment_cmp moment_of events.now }
     ensures { IsFirstNotBefore events.now from at result }
 {
     let mut low = from;
@@ -170,11 +170,11 @@ pub(crate) fn find_first_not_before(
 // Returns the place behind a leap over the events that cannot be at a cell of the window.
 #[inline(never)]
 fn leap(window: &Window, events: &[TimedSignal], place: usize, leaps: &mut LeapPlan) -> usize
-    requires within { place < length events.now }
-    requires rising { IsRising moment_cmp moment_of events.now }
-    requires far { IsEventFarAt window.now events.now place }
-    ensures after { place < result }
-    ensures far { AreEventsFar window.now events.now place result }
+    requires place_within_events { place < length events.now }
+    requires rising_moments { IsRising moment_cmp moment_of events.now }
+    requires event_far { IsEventFarAt window.now events.now place }
+    ensures place_moves_on { place < result }
+    ensures passed_events_far { AreEventsFar window.now events.now place result }
 {
     let target = window.next_moment_near(events[place].at);
     let next = find_first_not_before(events, place + 1, leaps.last_place_of_leap(place), target);
@@ -191,9 +191,9 @@ pub(crate) fn next_place_near(
     from: usize,
     leaps: &mut LeapPlan,
 ) -> usize
-    requires rising { IsRising moment_cmp moment_of events.now }
-    ensures after { from ≤ result }
-    ensures far { AreEventsFar window.now events.now from result }
+    requires rising_moments { IsRising moment_cmp moment_of events.now }
+    ensures place_moves_on { from ≤ result }
+    ensures passed_events_far { AreEventsFar window.now events.now from result }
 {
     let mut place = from;
     'leaps: while place < events.len() {
@@ -218,7 +218,7 @@ pub(crate) fn first_place_near(
     events: &[TimedSignal],
     leaps: &mut LeapPlan,
 ) -> usize
-    requires rising { IsRising moment_cmp moment_of events.now }
+    requires rising_moments { IsRising moment_cmp moment_of events.now }
     requires extent { IsExtent events.now extent.now }
     ensures { AreEventsFar window.now events.now 0 result }
 {

@@ -73,7 +73,7 @@ impl Window {
     #[inline(always)]
     pub(crate) fn include(&mut self, cell: Cell)
         ensures cell { IsInWindow self.new cell }
-        ensures kept { (c : Cell) → IsInWindow self.old c → IsInWindow self.new c }
+        ensures cells_stay_in_window { (c : Cell) → IsInWindow self.old c → IsInWindow self.new c }
     {
         self.first = upper_left(self.first, cell);
         self.last = lower_right(self.last, cell);
@@ -91,7 +91,7 @@ impl Window {
 
     /// Returns whether the cell is in these columns and rows.
     pub(crate) fn holds(self, cell: Cell) -> bool
-        ensures seen { IsInWindow self cell → IsTrue result }
+        ensures true_if_in_window { IsInWindow self cell → IsTrue result }
         ensures bounds { IsTrue result → IsInWindow self cell }
     {
         if cell.x < self.first.x {
@@ -109,9 +109,9 @@ impl Window {
     /// Returns a moment at the first column after one at a far cell. Between the two, no moment at an odd time is at a
     /// cell of the window. Border faults are at odd times.
     pub(crate) fn next_moment_near(self, at: Moment) -> Moment
-        requires far { ¬ IsInWindow self at.cell }
+        requires cell_far { ¬ IsInWindow self at.cell }
         ensures column { result.cell.x ≡ self.first.x }
-        ensures passed { AreMomentsFarBetween self at result }
+        ensures passed_moments_far { AreMomentsFarBetween self at result }
     {
         let Moment { time, cell } = at;
         let later = Moment {

@@ -160,7 +160,7 @@ fn audit_with_book<F: Filings + Sync, A: Ledger + Sync, G: Gate + Sync, R: Threa
     requires groups { AreGroups (shapes_of (map arc_value jobs.now)) groups.now }
     requires ledger_names_book { (unopened.state.digest ≡ F.digest)
         × (unopened.state.jobs ≡ F.jobs) }
-    requires fresh { unopened.state.history ≡ [] }
+    requires history_empty { unopened.state.history ≡ [] }
     ensures open_for_jobs { IfOk result (λ audited. IsOpenFor F.digest F.jobs audited.state) }
     ensures no_closing { IfOk result (λ audited. has_closing audited.state.history ≡ false) }
     ensures filed { IfOk result (λ audited. audited.memory ≡ false →

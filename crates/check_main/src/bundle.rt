@@ -52,9 +52,9 @@ pub fn check_text<G: Gate + Sync, R: Threads + Wait + Sync>(
     gate: &G,
 ) -> Result<Answered, AllocError>
     requires workers { (0 < workers) × (workers ≤ 64) }
-    requires closed { feed.closed ≡ true }
+    requires text_closed { feed.closed ≡ true }
     requires unread { feed.taken ≡ 0 }
-    requires going { feed.stop ≡ None }
+    requires feed_not_stopped { feed.stop ≡ None }
 
     // The output is the report on the text, with its outcome. `verdict yes` is its fourth line exactly at a yes.
     ensures reported { IfOk result (λ answered. IsReportOf feed.text answered.output.items
@@ -76,7 +76,7 @@ pub fn check_text<G: Gate + Sync, R: Threads + Wait + Sync>(
         LinesHaveMeaning feed.text answered.output.items) }
 
     // A refusal: the text is not the plain text of a small design.
-    ensures small { IfOk result (λ answered. answered.outcome ≡ Outcome.Refused →
+    ensures refused_not_small { IfOk result (λ answered. answered.outcome ≡ Outcome.Refused →
         IsNoSmallDesignText feed.text) }
 {
     report_of_text(rt, alloc, feed, workers, gate)
@@ -91,9 +91,9 @@ fn report_of_text<G: Gate + Sync, R: Threads + Wait + Sync>(
     gate: &G,
 ) -> Result<Answered, AllocError>
     requires workers { (0 < workers) × (workers ≤ 64) }
-    requires closed { feed.closed ≡ true }
+    requires text_closed { feed.closed ≡ true }
     requires unread { feed.taken ≡ 0 }
-    requires going { feed.stop ≡ None }
+    requires feed_not_stopped { feed.stop ≡ None }
     ensures answered { IfOk result (λ answered. IsReportOf feed.text answered.output.items
         answered.outcome) }
 {

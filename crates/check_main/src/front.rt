@@ -99,7 +99,7 @@ where
         (W.written_bytes streams.old.writer) (W.written_bytes streams.new.writer) }
 
     // A refusal of `check`: the text is not the plain text of a small design.
-    ensures small { AsksForCheck (texts words.entry.now) → result ≡ 3 →
+    ensures refused_not_small { AsksForCheck (texts words.entry.now) → result ≡ 3 →
         HoldsOfKnownInput IsNoSmallDesignText (R.left streams.old.reader) }
 {
     match read_words(alloc, words) {
@@ -145,7 +145,7 @@ where
     ensures lines { asked.request ≡ Request.Check → result ≡ Ok Outcome.No →
         RelatesReadToWritten LinesHaveMeaning (R.left reader.old) (W.written_bytes writer.old)
         (W.written_bytes writer.new) }
-    ensures small { asked.request ≡ Request.Check → result ≡ Ok Outcome.Refused →
+    ensures refused_not_small { asked.request ≡ Request.Check → result ≡ Ok Outcome.Refused →
         HoldsOfKnownInput IsNoSmallDesignText (R.left reader.old) }
 {
     match asked.request {
@@ -160,8 +160,8 @@ where
 /// Returns the status for the end of a command, and writes its fault to `errors`.
 pub fn status_of<E: Sink>(ended: Result<Outcome, CheckFault>, errors: &mut E) -> u8
     ensures status { result ≡ status_for ended }
-    ensures quiet { OnOk ended (errors.new ≡ errors.old) }
-    ensures said { IfErr ended (WritesFaultLine E.Sink errors.old errors.new) }
+    ensures errors_unchanged { OnOk ended (errors.new ≡ errors.old) }
+    ensures fault_line_written { IfErr ended (WritesFaultLine E.Sink errors.old errors.new) }
 {
     match ended {
         Ok(Outcome::Yes) => DONE,
@@ -213,7 +213,7 @@ fn write_help<W: Sink, E: Sink>(text: &str, writer: &mut W, errors: &mut E) -> u
     ensures device { result ≡ 4 →
         (W.has_failed writer.new ≡ true)
         × WritesFaultLine E.Sink errors.old errors.new CheckFault.Write }
-    ensures quiet { result ≡ 0 → errors.new ≡ errors.old }
+    ensures errors_unchanged { result ≡ 0 → errors.new ≡ errors.old }
     ensures works { result ≡ 0 → W.has_failed writer.new ≡ false }
 {
     if write_whole(writer, text.as_bytes()) {

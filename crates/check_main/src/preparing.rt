@@ -55,7 +55,7 @@ fn digest_jobs_and_borders<R: Threads>(
 ) -> ([u8; 32], Result<JobsAndBorders, AllocError>)
     requires { IsSectionOf text from cert.now }
     ensures digest { result.0 ≡ sha256 (certificate_text cert.now) }
-    ensures made { IfOk result.1 (IsMadeFor cert.now) }
+    ensures made_for_cert { IfOk result.1 (IsMadeFor cert.now) }
 {
     if workers == 1 {
         let digest = Sha256::digest(certificate_section_in(&text, from));
@@ -73,7 +73,7 @@ fn digest_in_parallel<R: Threads>(
     section: &[u8],
 ) -> ([u8; 32], Result<JobsAndBorders, AllocError>)
     ensures digest { result.0 ≡ sha256 section.now }
-    ensures made { IfOk result.1 (IsMadeFor cert.now) }
+    ensures made_for_cert { IfOk result.1 (IsMadeFor cert.now) }
 {
     join_mut(
         rt,

@@ -70,7 +70,7 @@ where
     ensures lines { result ≡ Ok Outcome.No →
         RelatesReadToWritten LinesHaveMeaning (R.left reader.old) (W.written_bytes writer.old)
         (W.written_bytes writer.new) }
-    ensures small { result ≡ Ok Outcome.Refused →
+    ensures refused_not_small { result ≡ Ok Outcome.Refused →
         HoldsOfKnownInput IsNoSmallDesignText (R.left reader.old) }
 {
     let feed = read_text(rt, alloc, reader)?;

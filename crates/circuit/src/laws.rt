@@ -19,7 +19,7 @@ pub fn gates_are_ordered()
 
 /// States that ordered gates have a valuation exactly if no gate is the first one without a row.
 pub fn has_valuation_if_defined()
-    ensures found { HasValuationIfDefined }
+    ensures valuation_found { HasValuationIfDefined }
     ensures undefined_has_none { UndefinedHasNoValuation }
 {}
 

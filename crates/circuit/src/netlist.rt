@@ -80,7 +80,7 @@ fn count_inputs(entries: &[CircuitLine]) -> usize
 #[inline(always)]
 fn is_name_at(names: &[Name], place: usize, name: &Name) -> bool
     ensures name { result ≡ true → slice_get names.now place ≡ Some name.now }
-    ensures within { result ≡ true → place < length names.now }
+    ensures place_within_names { result ≡ true → place < length names.now }
 {
     match names.get(place) {
         Some(found) => *found == *name,
@@ -109,8 +109,8 @@ impl Circuit {
     #[tactic(auto, using(crate::proofs::Counting::inputs_counted, crate::proofs::Naming::inputs_are_first))]
     pub fn inputs(&self) -> usize
         ensures count { result ≡ (netlist_of self.now).given }
-        ensures first { take result (defined self.now) ≡ input_names self.now }
-        ensures named { length (input_names self.now) ≡ result }
+        ensures inputs_come_first { take result (defined self.now) ≡ input_names self.now }
+        ensures inputs_named { length (input_names self.now) ≡ result }
     {
         count_inputs(self.entries.as_slice())
     }
@@ -119,7 +119,7 @@ impl Circuit {
     #[tactic(auto, using(crate::proofs::Naming::wires_are_named))]
     pub fn wires(&self) -> usize
         ensures count { result ≡ wires (netlist_of self.now) }
-        ensures named { result ≡ length (defined self.now) }
+        ensures wires_named { result ≡ length (defined self.now) }
         ensures at_most_4096 { result ≤ 4096 }
     {
         self.wires.len()
@@ -129,7 +129,7 @@ impl Circuit {
     #[tactic(auto, using(crate::proofs::Naming::place_position, crate::proofs::Naming::wires_are_named))]
     pub fn wire(&self, name: &Name) -> Option<WireNo>
         ensures wire { result ≡ wire_of (circuit_of self.now) name.now }
-        ensures below { IfSome result (λ w. w < wires (netlist_of self.now)) }
+        ensures wire_exists { IfSome result (λ w. w < wires (netlist_of self.now)) }
     {
         let index = self.wires.get_index_of(name)?;
         Some(WireNo::of(index as u16))
@@ -142,7 +142,7 @@ impl Circuit {
     #[tactic(auto, using(crate::proofs::Naming::names_are_own, crate::proofs::Naming::wires_are_named))]
     pub fn wire_by_hint(&self, likely: u16, name: &Name) -> Option<WireNo>
         ensures wire { result ≡ wire_of (circuit_of self.now) name.now }
-        ensures below { IfSome result (λ w. w < wires (netlist_of self.now)) }
+        ensures wire_exists { IfSome result (λ w. w < wires (netlist_of self.now)) }
     {
         if is_name_at(self.wires.as_slice(), likely as usize, name) {
             return Some(WireNo::of(likely));
@@ -177,7 +177,7 @@ impl Circuit {
     pub fn gates(&self) -> usize
         ensures count { result ≡ length (netlist_of self.now).gates }
         ensures at_most_1024 { result ≤ 1024 }
-        ensures ordered { AreOrdered (netlist_of self.now).given (netlist_of self.now).gates }
+        ensures gates_ordered { AreOrdered (netlist_of self.now).given (netlist_of self.now).gates }
     {
         self.wired.len()
     }

@@ -116,7 +116,7 @@ fn top_command<'a>(alloc: Global) -> Result<Command<'a>, AllocError>
 // The command that has an option.
 fn check_command<'a>(alloc: Global) -> Result<Command<'a>, AllocError>
     ensures app { IfOk result (λ command. app_of command ≡ check_app) }
-    ensures local { IfOk result (λ command. (fields_of command).has_globals ≡ false) }
+    ensures no_globals { IfOk result (λ command. (fields_of command).has_globals ≡ false) }
 {
     plain_command(alloc, "check", texts::CHECK).arg(workers_option(alloc))
 }
@@ -136,7 +136,7 @@ fn workers_option<'a>(alloc: Global) -> Arg<'a>
 // A command without options.
 fn plain_command<'a>(alloc: Global, name: &'a str, help: Help) -> Command<'a>
     ensures app { app_of result ≡ new_app name.entry.now }
-    ensures local { (fields_of result).has_globals ≡ false }
+    ensures no_globals { (fields_of result).has_globals ≡ false }
 {
     Command::new(alloc, name)
         .about(help.about)

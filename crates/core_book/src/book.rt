@@ -199,7 +199,7 @@ impl BookState {
 
     /// Returns the finding that is held for a number, if it is of this job.
     pub fn found_for(&self, number: usize, job: &Job) -> Option<&Finding>
-        ensures held { IfSome result (λ f. (found_in self.now number ≡ Some f.now)
+        ensures finding_held { IfSome result (λ f. (found_in self.now number ≡ Some f.now)
             × (job_of f.now ≡ job.now)) }
         ensures missing { IfNone result (¬ IsHeld self.now number job.now) }
     {

@@ -100,8 +100,8 @@ fn fill_number(
 ) -> Result<(), AllocError>
     requires still_open { state.old.closed ≡ false }
     requires job { slice_get state.old.jobs number ≡ Some (arc_value job.now) }
-    requires alike { first ≢ number → HoldsOfSameShape state.old first (arc_value job.now) }
-    ensures held { OnOk result (IsHeldOrFiled state.old state.new number) }
+    requires shapes_equal { first ≢ number → HoldsOfSameShape state.old first (arc_value job.now) }
+    ensures held_or_filed { OnOk result (IsHeldOrFiled state.old state.new number) }
     ensures unchanged { OnErr result (state.new ≡ state.old) }
     ensures no_run { first ≢ number → runs.new ≡ runs.old }
     ensures one_run { runs.new ≤ runs.old + 1 }
@@ -126,7 +126,7 @@ fn moved_or_run_finding(
     first: usize,
     runs: &mut usize,
 ) -> Result<Finding, AllocError>
-    requires alike { first ≢ number → HoldsOfSameShape state.now first (arc_value job.now) }
+    requires shapes_equal { first ≢ number → HoldsOfSameShape state.now first (arc_value job.now) }
     ensures digest { IfOk result (λ f. digest_of f ≡ state.now.digest) }
     ensures number { IfOk result (λ f. number_of f ≡ number) }
     ensures job { IfOk result (λ f. job_of f ≡ arc_value job.now) }

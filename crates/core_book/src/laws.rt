@@ -6,7 +6,7 @@ ghost use Rattle.core_book.specs.Laws.{AcceptedFindingMatchesBookAndIsNew, Books
 ///
 /// No other number was drawn. A claim answers `Empty` only if all numbers were drawn.
 pub fn core_draws_each_once()
-    ensures once { DrawsEachOnce }
+    ensures drawn_once { DrawsEachOnce }
     ensures empty { EmptyOnlyIfAllAreDrawn }
 {}
 

@@ -174,7 +174,7 @@ impl Core {
     pub fn draws(&self, seat: usize) -> &[usize]
         requires { seat < length self.now.draws }
         ensures value { result.now ≡ draws_of self.now seat }
-        ensures once { IsDrawn self.now.next self.now.draws }
+        ensures drawn_once { IsDrawn self.now.next self.now.draws }
     {
         let draws = &self.draws;
         draws[seat].as_slice()

@@ -50,7 +50,7 @@ pub fn migrate_has_one_answer()
 pub fn migration_keeps_what_is_accepted()
     ensures unchanged { MigrationKeepsVersionTwo }
     ensures says_the_same { MigrationSaysTheSame }
-    ensures once { MigrationIsIdempotent }
+    ensures migration_idempotent { MigrationIsIdempotent }
     ensures accepted { MigrationKeepsYes }
 {}
 
@@ -66,7 +66,7 @@ pub fn yes_means_right()
     ensures stops { YesMeansRightStops }
     ensures in_full { YesMeansRightInFull }
     ensures one_valuation { YesHasOneValuation }
-    ensures told { FourthLineShowsOutcome }
+    ensures fourth_line_shown { FourthLineShowsOutcome }
     ensures line { SaysYesMeansFourthLine }
 {}
 
@@ -75,7 +75,7 @@ pub fn yes_means_right()
 /// The text is wrong: the layout does not compute the circuit, or the stops are not right, or the layout touches its
 /// rim. No text with a yes touches its rim. So `check` decides plain texts that are not refused.
 pub fn plain_no_means_wrong()
-    ensures no { PlainNoMeansWrong }
+    ensures plain_no_is_wrong { PlainNoMeansWrong }
     ensures off_rim { YesKeepsOffRim }
     ensures decided { PlainIsDecided }
     ensures lines { PlainLinesTextIsDecided }
@@ -134,7 +134,7 @@ pub fn lines_of_no_have_meaning()
 pub fn says_one_design()
     ensures one { SaysOneDesign }
     ensures certificate { SaysOneCertificate }
-    ensures good { UnrefusedDesignIsGood }
+    ensures unrefused_is_good { UnrefusedDesignIsGood }
     ensures printed { PrintedDesignIsRead }
     ensures read { TextBeginsWithReadDesign }
     ensures begins { BeginsWithOneDesign }

@@ -40,7 +40,7 @@ impl Desk {
         // where some seat met the end, each number was drawn
         ensures ended { IfOk result (λ c. Any (λ s. number_count_of self < past_last (drawn_by s))
             seats.items → number_count_of self < c.counter) }
-        ensures back { IfErr result (λ f. (f.desk ≡ self) × (f.seats ≡ seats)) }
+        ensures inputs_returned { IfErr result (λ f. (f.desk ≡ self) × (f.seats ≡ seats)) }
         ensures missing { IfErr result (λ f. IsTrue f.missing
             ↔ (vec_len seats < seat_count_of self)) }
     {

@@ -241,10 +241,10 @@ impl FrozenBlocks {
     fn is_mark_correct(&self, planes: &Planes, partition: Partition, u: usize) -> bool
         requires room { HasRoomForMarks self.now planes.now }
         requires place { u < block_count partition planes.now }
-        ensures held { result ≡ true → IsNotRowEnd partition planes.now.stride u →
+        ensures marked_block_held { result ≡ true → IsNotRowEnd partition planes.now.stride u →
             cell_at (marks_of partition self.now.marks) u ≡ true →
             IsBlockHeld partition self.now.marks planes.now u }
-        ensures last { result ≡ true → (IsNotRowEnd partition planes.now.stride u → ⊥) →
+        ensures row_end_marked { result ≡ true → (IsNotRowEnd partition planes.now.stride u → ⊥) →
             cell_at (marks_of partition self.now.marks) u ≡ true }
     {
         let is_marked = is_marked(self.marks.marks_of(partition), u);

@@ -16,9 +16,9 @@ impl FrozenBlocks {
     /// Marks the blocks of both partitions, but for the frozen ones.
     #[tactic(auto, using(crate::proofs::FrozenLemmas::room_found, crate::proofs::FrozenLemmas::active_stable))]
     pub fn mark_active_blocks(&self, planes: &Planes, marks: &mut BlockMarks)
-        requires frozen { AreFrozenIfFound self.now planes.now }
+        requires frozen_if_found { AreFrozenIfFound self.now planes.now }
         requires room { HasRoomForBlockMarks (planes.now.stride * planes.now.rows) marks.old }
-        ensures calm { AreUnmarkedBlocksStable marks.new planes.now }
+        ensures unmarked_blocks_stable { AreUnmarkedBlocksStable marks.new planes.now }
         ensures same_room { HasSameBlockRoom marks.old marks.new }
     {
         if self.is_found {
@@ -31,9 +31,9 @@ impl FrozenBlocks {
 
     /// Marks the cells that may be live, which those of the frozen and empty blocks are not.
     pub fn mark_live(&self, planes: &Planes, live: &mut LiveMarks)
-        requires frozen { AreFrozenIfFound self.now planes.now }
+        requires frozen_if_found { AreFrozenIfFound self.now planes.now }
         requires room { HasRoomForCellMarks (planes.now.stride * planes.now.rows) live.old }
-        ensures dead { AllUnmarkedDead live.new planes.now }
+        ensures unmarked_cells_dead { AllUnmarkedDead live.new planes.now }
         ensures same_room { HasSameRoom live.old live.new }
     {
         if self.is_found {
@@ -48,11 +48,11 @@ impl FrozenBlocks {
     #[tactic(auto, using(crate::proofs::FrozenLemmas::found_stable, crate::proofs::FieldLemmas::all_turned, crate::proofs::FrozenLemmas::still_frozen, crate::proofs::FrozenLemmas::all_may_turn))]
     #[inline(always)]
     pub fn step(&self, partition: Partition, planes: &mut Planes)
-        requires frozen { AreFrozenIfFound self.now planes.old }
+        requires frozen_if_found { AreFrozenIfFound self.now planes.old }
         ensures turned { TurnsCells partition planes.old planes.new }
         ensures size { HasWordsStrideRows planes.old.words planes.old.stride planes.old.rows
             planes.new }
-        ensures frozen { AreFrozenIfFound self.now planes.new }
+        ensures frozen_if_found { AreFrozenIfFound self.now planes.new }
     {
         if self.is_found {
             planes.prove_planes_are_words();

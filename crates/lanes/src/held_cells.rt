@@ -107,10 +107,10 @@ impl Planes {
     #[inline(always)]
     pub(crate) fn step_between_marks(&mut self, partition: Partition, marks: &[u64])
         requires room { self.old.stride * self.old.rows ≤ 64 * length marks.now }
-        requires calm { AreMarkedBlocksStable partition marks.now self.old }
+        requires marked_blocks_stable { AreMarkedBlocksStable partition marks.now self.old }
         ensures turned { TurnsBlocksBetween partition 0 (block_count partition self.old) self.old
             self.new }
-        ensures first { KeepsCellsOutsideBlocks partition self.old self.new }
+        ensures outside_cells_kept { KeepsCellsOutsideBlocks partition self.old self.new }
         ensures size { HasWordsStrideRows self.old.words self.old.stride self.old.rows self.new }
     {
         let blocks = self.block_count(partition);

@@ -31,7 +31,7 @@ impl LiveMarks {
     pub fn new(alloc: Global, long: usize) -> Result<LiveMarks, AllocError>
         requires { long ≤ 64 }
         ensures size { IfOk result (λ l. HasRoomForCellMarks (64 * long) l) }
-        ensures none { IfOk result (λ l. (u : ℕ) → AreNumberCellsUnmarked l u) }
+        ensures no_cell_marked { IfOk result (λ l. (u : ℕ) → AreNumberCellsUnmarked l u) }
     {
         Ok(LiveMarks {
             odd: vec![in alloc; 0u64; long]?,
@@ -79,7 +79,7 @@ impl LiveMarks {
     ///
     /// Only cells in rows with the parity of row y count.
     pub fn next_marked_in_row(&self, y: usize, from: usize, end: usize) -> usize
-        requires within { (from ≤ end) × (end < 2 ^ 32) }
+        requires range_ordered { (from ≤ end) × (end < 2 ^ 32) }
         requires room { HasRoomForCellMarks end self.now }
         ensures range { (from ≤ result) × (result ≤ end) }
         ensures upper { y % 2 ≡ 0 → (u : ℕ) → from ≤ u → u < result →

@@ -49,7 +49,7 @@ impl MarkedPlanes {
     #[inline(always)]
     fn swap_lone(&mut self, partition: Partition, u: usize, diagonal: Diagonal)
         requires block { IsBlock partition self.old.planes u }
-        requires lone { IsLone diagonal self.old.live_marks
+        requires diagonal_lone { IsLone diagonal self.old.live_marks
             (block_at partition self.old.planes.stride u) }
         ensures turned { TurnsBlock (block_at partition self.old.planes.stride u) self.old.planes
             self.new.planes }
@@ -73,7 +73,7 @@ impl MarkedPlanes {
             self.new.planes }
         ensures size { HasWordsStrideRows self.old.planes.words self.old.planes.stride
             self.old.planes.rows self.new.planes }
-        ensures stays { result ≡ false → self.new.planes ≡ self.old.planes }
+        ensures unchanged_if_false { result ≡ false → self.new.planes ≡ self.old.planes }
     {
         let block = self.planes.block_places(partition, u);
         let changes = self.planes.block_changes(block);
@@ -103,7 +103,7 @@ impl MarkedPlanes {
     fn unmark_even_block_if_dead(&mut self, n: usize) -> bool
         requires { n < block_count Partition.Even self.old.planes }
         ensures planes { self.new.planes ≡ self.old.planes }
-        ensures live { self.new.live_marks ≡ self.old.live_marks }
+        ensures marks_unchanged { self.new.live_marks ≡ self.old.live_marks }
         ensures turned { result ≡ true →
             TurnsBlock (block_at Partition.Even self.old.planes.stride n) self.old.planes
             self.new.planes }
@@ -153,13 +153,13 @@ impl MarkedPlanes {
     #[inline(always)]
     fn turn_lone(&mut self, partition: Partition, u: usize, diagonal: Diagonal) -> bool
         requires block { IsBlock partition self.old.planes u }
-        requires lone { IsLone diagonal self.old.live_marks
+        requires diagonal_lone { IsLone diagonal self.old.live_marks
             (block_at partition self.old.planes.stride u) }
         ensures turned { TurnsBlock (block_at partition self.old.planes.stride u) self.old.planes
             self.new.planes }
         ensures size { HasWordsStrideRows self.old.planes.words self.old.planes.stride
             self.old.planes.rows self.new.planes }
-        ensures stays { result ≡ false → self.new.planes ≡ self.old.planes }
+        ensures unchanged_if_false { result ≡ false → self.new.planes ≡ self.old.planes }
     {
         if let (Partition::Even, Diagonal::Main) = (partition, diagonal) {
             if self.unmark_even_block_if_dead(u) {
@@ -200,7 +200,7 @@ impl MarkedPlanes {
             self.new.planes }
         ensures size { HasWordsStrideRows self.old.planes.words self.old.planes.stride
             self.old.planes.rows self.new.planes }
-        ensures stays { result ≡ false → self.new.planes ≡ self.old.planes }
+        ensures unchanged_if_false { result ≡ false → self.new.planes ≡ self.old.planes }
     {
         let block = self.planes.block_places(partition, u);
         if self.is_exact && self.live_marks.is_lone(Diagonal::Main, block) {
@@ -219,8 +219,8 @@ impl MarkedPlanes {
     #[inline(always)]
     fn is_row_end(&self, partition: Partition, u: usize) -> bool
         requires { u < self.now.planes.stride * self.now.planes.rows }
-        ensures last { result ≡ true → IsNotRowEnd partition self.now.planes.stride u → ⊥ }
-        ensures other { result ≡ false → IsNotRowEnd partition self.now.planes.stride u }
+        ensures is_row_end { result ≡ true → IsNotRowEnd partition self.now.planes.stride u → ⊥ }
+        ensures not_row_end { result ≡ false → IsNotRowEnd partition self.now.planes.stride u }
     {
         is_marked(&self.border_marks, u) && self.planes.is_row_end(partition, u)
     }
@@ -237,9 +237,9 @@ impl MarkedPlanes {
             self.new.planes }
         ensures size { HasWordsStrideRows self.old.planes.words self.old.planes.stride
             self.old.planes.rows self.new.planes }
-        ensures last { (IsNotRowEnd partition self.old.planes.stride u → ⊥) →
+        ensures row_end_unchanged { (IsNotRowEnd partition self.old.planes.stride u → ⊥) →
             self.new.planes ≡ self.old.planes }
-        ensures stays { result ≡ false → self.new.planes ≡ self.old.planes }
+        ensures unchanged_if_false { result ≡ false → self.new.planes ≡ self.old.planes }
     {
         if self.is_row_end(partition, u) {
             self.block_marks.unmark(partition, u);

@@ -75,7 +75,7 @@ impl MarkedPlanes {
         requires words { (0 < words) × (words ≤ 64) }
         ensures size { IfOk result (λ m. HasWordsStrideRows words (width / 2 + 1)
             (height / 2 + 1) m.planes) }
-        ensures dead { IfOk result (λ m. AreAllCellsDead m.planes) }
+        ensures all_cells_dead { IfOk result (λ m. AreAllCellsDead m.planes) }
     {
         let planes = Planes::new(alloc, width, height, words)?;
         let long = planes.cells_per_plane().div_ceil(64);
@@ -124,9 +124,9 @@ impl MarkedPlanes {
     /// and without a mark among the others.
     #[inline(always)]
     pub fn border_marks_to_check(&self, others: &[u64], k: usize) -> u64
-        requires within { 64 * k < self.now.planes.stride * self.now.planes.rows }
+        requires word_within_planes { 64 * k < self.now.planes.stride * self.now.planes.rows }
         requires room { k < length others.now }
-        ensures passed { (u : ℕ) → u / 64 ≡ k → bit result (u % 64) ≡ false →
+        ensures unset_are_skippable { (u : ℕ) → u / 64 ≡ k → bit result (u % 64) ≡ false →
             AreSkippableBetween u (u + 1) others.now self.now.planes }
     {
         marked_in_first_and_other(&self.border_marks, &self.live_marks, others, k)
@@ -160,7 +160,7 @@ impl MarkedPlanes {
     pub fn skip_dead_in_row(&self, x: usize, y: usize) -> usize
         requires { (x / 2 < self.now.planes.stride) × (y / 2 < self.now.planes.rows) }
         ensures range { x ≤ result }
-        ensures dead { (a k : ℕ) → a < 64 * self.now.planes.words → x ≤ k → k < result →
+        ensures passed_dead { (a k : ℕ) → a < 64 * self.now.planes.words → x ≤ k → k < result →
             lane self.now.planes a k y ≡ false }
     {
         let first = self.planes.cell_number(0, y);

@@ -109,14 +109,14 @@ impl MarkedPlanes {
         end: usize,
     ) -> usize
         requires word { (first % 64 ≡ 0) × (first < end) × (end ≤ first + 64) }
-        requires within { end ≤ block_count partition self.old.planes }
-        requires calm { TurnsBlocksWhere partition
+        requires end_within_blocks { end ≤ block_count partition self.old.planes }
+        requires passed_stable { TurnsBlocksWhere partition
             (IsPassed partition self.old.planes.stride first end word) self.old.planes
             self.old.planes }
         ensures turned { TurnsBlocksBetween partition first end self.old.planes self.new.planes }
         ensures size { HasWordsStrideRows self.old.planes.words self.old.planes.stride
             self.old.planes.rows self.new.planes }
-        ensures stays { result ≡ 0 → self.new.planes ≡ self.old.planes }
+        ensures unchanged_if_zero { result ≡ 0 → self.new.planes ≡ self.old.planes }
         ensures count { first + result ≤ end }
     {
         let mut rest = word;
@@ -142,7 +142,7 @@ impl MarkedPlanes {
         ensures turned { TurnsCells partition self.old.planes self.new.planes }
         ensures size { HasWordsStrideRows self.old.planes.words self.old.planes.stride
             self.old.planes.rows self.new.planes }
-        ensures stays { result ≡ 0 → self.new.planes ≡ self.old.planes }
+        ensures unchanged_if_zero { result ≡ 0 → self.new.planes ≡ self.old.planes }
         ensures at_most_4096 { result ≤ 4096 }
     {
         let blocks = self.planes.block_count(partition);
@@ -179,7 +179,7 @@ impl MarkedPlanes {
         ensures turned { TurnsCells Partition.Odd self.old.planes self.new.planes }
         ensures size { HasWordsStrideRows self.old.planes.words self.old.planes.stride
             self.old.planes.rows self.new.planes }
-        ensures stays { result ≡ false → self.new.planes ≡ self.old.planes }
+        ensures unchanged_if_false { result ≡ false → self.new.planes ≡ self.old.planes }
     {
         if self.whole_plane_steps.left > 0 {
             self.turn_all_unfrozen(Partition::Odd);
@@ -199,7 +199,7 @@ impl MarkedPlanes {
         ensures turned { TurnsCells Partition.Even self.old.planes self.new.planes }
         ensures size { HasWordsStrideRows self.old.planes.words self.old.planes.stride
             self.old.planes.rows self.new.planes }
-        ensures stays { result ≡ false → AreSameInBox self.old.planes self.new.planes }
+        ensures unchanged_if_false { result ≡ false → AreSameInBox self.old.planes self.new.planes }
     {
         if self.whole_plane_steps.left > 0 {
             self.turn_all_unfrozen(Partition::Even);

@@ -63,8 +63,8 @@ pub fn set_marks_to_not_both(marks: &mut [u64], first: &[u64], second: &[u64])
 #[inline(always)]
 fn flip_mark(marks: &mut [u64], at: usize)
     requires { at / 64 < length marks.old }
-    ensures there { cell_at marks.new at ≡ not (cell_at marks.old at) }
-    ensures elsewhere { (u : ℕ) → u ≢ at → cell_at marks.new u ≡ cell_at marks.old u }
+    ensures mark_flipped { cell_at marks.new at ≡ not (cell_at marks.old at) }
+    ensures other_marks_kept { (u : ℕ) → u ≢ at → cell_at marks.new u ≡ cell_at marks.old u }
 {
     marks[at / 64] ^= 1u64 << (at % 64);
 }
@@ -184,7 +184,7 @@ pub fn take_first(word: u64) -> (usize, u64)
         × ((j : ℕ) → j < result.0 → bit word j ≡ false) }
     ensures rest { (bit result.1 result.0 ≡ false)
         × ((j : ℕ) → j ≢ result.0 → bit result.1 j ≡ bit word j) }
-    ensures later { (result.0 ≡ trailing_zeros w64 word)
+    ensures first_bit_lowest { (result.0 ≡ trailing_zeros w64 word)
         × (result.0 < trailing_zeros w64 result.1) }
 {
     let place = word.trailing_zeros();
@@ -193,10 +193,10 @@ pub fn take_first(word: u64) -> (usize, u64)
 
 /// Returns the first number from `from` on that has a mark in one of the lists, or `end` if there is none below it.
 pub fn next_marked_in_either(first: &[u64], second: &[u64], from: usize, end: usize) -> usize
-    requires within { (from ≤ end) × (end < 2 ^ 32) }
+    requires range_ordered { (from ≤ end) × (end < 2 ^ 32) }
     requires room { (end ≤ 64 * length first.now) × (end ≤ 64 * length second.now) }
     ensures range { (from ≤ result) × (result ≤ end) }
-    ensures passed { (u : ℕ) → from ≤ u → u < result →
+    ensures passed_unmarked { (u : ℕ) → from ≤ u → u < result →
         IsUnmarked first.now u × IsUnmarked second.now u }
 {
     next_marked(second, from, next_marked(first, from, end))

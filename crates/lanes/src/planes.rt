@@ -60,7 +60,7 @@ impl Planes {
         requires words { (0 < words) × (words ≤ 64) }
         ensures size { IfOk result (λ p. HasWordsStrideRows words (width / 2 + 1) (height / 2 + 1)
             p) }
-        ensures dead { IfOk result (λ p. AreAllCellsDead p) }
+        ensures all_cells_dead { IfOk result (λ p. AreAllCellsDead p) }
     {
         let stride = width / 2 + 1;
         let rows = height / 2 + 1;
@@ -163,8 +163,8 @@ impl Planes {
     #[inline(always)]
     pub(crate) fn is_row_end(&self, partition: Partition, u: usize) -> bool
         requires { u < self.now.stride * self.now.rows }
-        ensures last { result ≡ true → IsNotRowEnd partition self.now.stride u → ⊥ }
-        ensures other { result ≡ false → IsNotRowEnd partition self.now.stride u }
+        ensures is_row_end { result ≡ true → IsNotRowEnd partition self.now.stride u → ⊥ }
+        ensures not_row_end { result ≡ false → IsNotRowEnd partition self.now.stride u }
     {
         match partition {
             Partition::Odd => false,
@@ -318,7 +318,7 @@ impl Planes {
     #[tactic(auto, using(crate::proofs::PlaneWords::other_word))]
     pub(crate) fn set_word(&mut self, x: usize, y: usize, k: usize, word: u64)
         requires { (x / 2 < self.old.stride) × (y / 2 < self.old.rows) × (k < self.old.words) }
-        ensures set { SetsWord x y k word self.old self.new }
+        ensures word_set { SetsWord x y k word self.old self.new }
         ensures cells { ChangesCells (is_on_main_diagonal x y) (not (is_on_main_diagonal x y))
             (block_at Partition.Odd self.old.stride (self.old.stride * (y / 2) + x / 2)) self.old
             self.new }
@@ -365,7 +365,7 @@ impl Planes {
     pub(crate) fn put(&mut self, x: usize, y: usize, list: &[u64], source: WordSource)
         requires place { (x / 2 < self.old.stride) × (y / 2 < self.old.rows) }
         requires source { HasWords self.old.words list.now source }
-        ensures put { SetsCell x y list.now source self.old self.new }
+        ensures cell_set { SetsCell x y list.now source self.old self.new }
         ensures cells { ChangesCells (is_on_main_diagonal x y) (not (is_on_main_diagonal x y))
             (block_at Partition.Odd self.old.stride (self.old.stride * (y / 2) + x / 2)) self.old
             self.new }

@@ -167,7 +167,7 @@ impl Changes {
     pub fn is_none(self) -> bool
         ensures main { result ≡ true → self.main ≡ false }
         ensures anti { result ≡ true → self.anti ≡ false }
-        ensures some { result ≡ false → (self.main ≡ true) ⊎ (self.anti ≡ true) }
+        ensures some_if_false { result ≡ false → (self.main ≡ true) ⊎ (self.anti ≡ true) }
     {
         !self.main && !self.anti
     }

@@ -35,7 +35,7 @@ fn halo_signal(
     ensures signal_is_exact { result
         ≡ signal_at job.now.halos lines.now.time (halo_coord job.now.area.x x)
         (halo_coord job.now.area.y y) }
-    ensures below { IsSignalWireBelow (wires job.now.locals.netlist) result }
+    ensures wire_exists { IsSignalWireBelow (wires job.now.locals.netlist) result }
 {
     if lines.may_have_line(marked_planes.planes(), x, y) {
         halo_at(job, lines.time(), x, y, lines.places().halos)
@@ -63,7 +63,7 @@ fn edge_signal(
     ensures signal_is_exact { result
         ≡ signal_at job.now.edges lines.now.time (halo_coord job.now.area.x x)
         (halo_coord job.now.area.y y) }
-    ensures below { IsSignalWireBelow (wires job.now.locals.netlist) result }
+    ensures wire_exists { IsSignalWireBelow (wires job.now.locals.netlist) result }
 {
     if lines.may_have_line(marked_planes.planes(), x, y) {
         edge_at(job, lines.time(), x - 1, y - 1, lines.places().edges)
@@ -83,7 +83,7 @@ fn is_edge_correct(
     x: usize,
     y: usize,
 ) -> bool
-    requires ready { IsReady job.now values.now }
+    requires job_ready { IsReady job.now values.now }
     requires shows { Shows job.now values.now lines.now.time marked_planes.now.planes }
     requires lines { AreLineMarks job.now lines.now.time lines.now.marks.items }
     requires column { (1 ≤ x) × (x ≤ job.now.area.w) }
@@ -110,13 +110,13 @@ fn set_halo_cell(
     x: usize,
     y: usize,
 )
-    requires ready { IsReady job.now values.now }
+    requires job_ready { IsReady job.now values.now }
     requires shows { Shows job.now values.now lines.now.time marked_planes.old.planes }
     requires lines { AreLineMarks job.now lines.now.time lines.now.marks.items }
     requires place { (x < job.now.area.w + 2) × (y < job.now.area.h + 2) }
     requires halo_coord { IsOutsideBoxFromHalo job.now.area x y }
     ensures shows { Shows job.now values.now lines.now.time marked_planes.new.planes }
-    ensures here { IsHaloCellSet job.now values.now lines.now.time marked_planes.new.planes x y }
+    ensures is_set { IsHaloCellSet job.now values.now lines.now.time marked_planes.new.planes x y }
     ensures rest { IsSameButAtCell job.now marked_planes.old.planes marked_planes.new.planes x y }
 {
     let signal = halo_signal(marked_planes, job, lines, x, y);
@@ -137,7 +137,7 @@ fn set_halo_or_test_ring_cell(
     x: usize,
     y: usize,
 ) -> bool
-    requires ready { IsReady job.now values.now }
+    requires job_ready { IsReady job.now values.now }
     requires shows { Shows job.now values.now lines.now.time marked_planes.old.planes }
     requires lines { AreLineMarks job.now lines.now.time lines.now.marks.items }
     requires sought { IsKindSoughtAt job.now lines.now.time Kind.Edge }
@@ -168,7 +168,7 @@ fn set_or_test_four_cells(
     column: usize,
     row: usize,
 ) -> bool
-    requires ready { IsReady job.now values.now }
+    requires job_ready { IsReady job.now values.now }
     requires shows { Shows job.now values.now lines.now.time marked_planes.old.planes }
     requires lines { AreLineMarks job.now lines.now.time lines.now.marks.items }
     requires sought { IsKindSoughtAt job.now lines.now.time Kind.Edge }
@@ -204,13 +204,13 @@ fn set_halo_test_ring_in_word(
     first: usize,
     word: u64,
 ) -> bool
-    requires ready { IsReady job.now values.now }
+    requires job_ready { IsReady job.now values.now }
     requires shows { Shows job.now values.now lines.now.time marked_planes.old.planes }
     requires lines { AreLineMarks job.now lines.now.time lines.now.marks.items }
     requires sought { IsKindSoughtAt job.now lines.now.time Kind.Edge }
     requires first { (first % 64 ≡ 0) × (first < marked_planes.old.planes.stride
         * marked_planes.old.planes.rows) }
-    requires passed { (u : ℕ) → u / 64 ≡ first / 64 → bit word (u % 64) ≡ false →
+    requires unset_are_skippable { (u : ℕ) → u / 64 ≡ first / 64 → bit word (u % 64) ≡ false →
         AreSkippableBetween u (u + 1) lines.now.marks.items marked_planes.old.planes }
     ensures shows { Shows job.now values.now lines.now.time marked_planes.new.planes }
     ensures halo { AreHaloCellsSetBetween job.now values.now lines.now.time first (first + 64)
@@ -244,7 +244,7 @@ pub fn set_halo_check_ring(
     job: &Job,
     lines: &LineMarks,
 ) -> bool
-    requires ready { IsReady job.now values.now }
+    requires job_ready { IsReady job.now values.now }
     requires shows { Shows job.now values.now lines.now.time marked_planes.old.planes }
     requires lines { AreLineMarks job.now lines.now.time lines.now.marks.items }
     requires sought { IsKindSoughtAt job.now lines.now.time Kind.Edge }

@@ -109,7 +109,7 @@ impl Finding {
     /// Returns the least fault of the job, or `None` if it has no fault.
     pub fn fault(&self) -> Option<Fault>
         ensures value { result ≡ fault_of self.now }
-        ensures honest { IsLeastFault (job_of self.now) result }
+        ensures fault_is_least { IsLeastFault (job_of self.now) result }
     {
         self.fault
     }
@@ -117,7 +117,7 @@ impl Finding {
     /// Returns the least keep fault of the job, or `None` if it has none.
     pub fn keep_fault(&self) -> Option<KeepFault>
         ensures value { result ≡ keep_of self.now }
-        ensures honest { IsLeastKeepFault (job_of self.now) result }
+        ensures keep_fault_is_least { IsLeastKeepFault (job_of self.now) result }
     {
         self.keep
     }

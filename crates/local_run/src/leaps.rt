@@ -12,7 +12,7 @@ use module_job::{Job, Shape};
 /// Returns the place of the first event at the time or after it, or how many events there are.
 #[tactic(auto, using(crate::proofs::LeapLemmas::met))]
 pub fn first_event_place(events: &[TimedSignal], time: u32) -> usize
-    requires rising { IsRising moment_cmp moment_of events.now }
+    requires rising_moments { IsRising moment_cmp moment_of events.now }
     ensures range { result ≤ length events.now }
     ensures first { IsTimePlaceBetween events.now time result result }
 {
@@ -32,9 +32,9 @@ pub fn first_event_place(events: &[TimedSignal], time: u32) -> usize
 // A place before which all events are earlier than the time: `place`, if it is one, or the first.
 #[tactic(auto, using(crate::proofs::LeapLemmas::any_place))]
 fn valid_start_place(events: &[TimedSignal], place: usize, time: u32) -> usize
-    requires rising { IsRising moment_cmp moment_of events.now }
+    requires rising_moments { IsRising moment_cmp moment_of events.now }
     ensures range { result ≤ length events.now }
-    ensures below { IsTimePlaceBetween events.now time result (length events.now) }
+    ensures start_is_valid { IsTimePlaceBetween events.now time result (length events.now) }
 {
     if place == 0 || events.len() < place {
         return 0;
@@ -49,7 +49,7 @@ fn valid_start_place(events: &[TimedSignal], place: usize, time: u32) -> usize
 /// on. If the event is near it, a few looks are enough.
 #[tactic(auto, using(crate::proofs::LeapLemmas::raise_time, crate::proofs::LeapLemmas::met))]
 pub fn first_event_place_from(events: &[TimedSignal], place: usize, time: u32) -> usize
-    requires rising { IsRising moment_cmp moment_of events.now }
+    requires rising_moments { IsRising moment_cmp moment_of events.now }
     ensures range { result ≤ length events.now }
     ensures first { IsTimePlaceBetween events.now time result result }
 {
@@ -68,10 +68,10 @@ pub fn first_event_place_from(events: &[TimedSignal], place: usize, time: u32) -
 // The first time from `time` on at which there is an event, or `end`, whichever comes first.
 #[tactic(auto, using(crate::proofs::LeapLemmas::above_at))]
 fn next_event_time(events: &[TimedSignal], time: u32, end: u32) -> u32
-    requires rising { IsRising moment_cmp moment_of events.now }
+    requires rising_moments { IsRising moment_cmp moment_of events.now }
     requires range { time ≤ end }
     ensures range { (time ≤ result) × (result ≤ end) }
-    ensures none { HasNoEventsBetween events.now time result }
+    ensures no_event_passed { HasNoEventsBetween events.now time result }
 {
     let first = first_event_place(events, time);
     if first < events.len() {
@@ -87,7 +87,7 @@ fn next_event_time(events: &[TimedSignal], time: u32, end: u32) -> u32
 fn end_of_same_signals(schedule: &Schedule, time: u32, end: u32) -> u32
     requires { time ≤ end }
     ensures range { (time ≤ result) × (result ≤ end) }
-    ensures steady { HasSameSignalsAtOddTimes schedule.now time result }
+    ensures signals_unchanged { HasSameSignalsAtOddTimes schedule.now time result }
 {
     next_event_time(schedule.events(), time, end)
 }

@@ -44,7 +44,7 @@ pub fn own_mark_number(number: usize, x: usize, y: usize) -> usize
 // Marks the cell, if it is in the box or its halo: a mark for its number in the planes, and one of its own.
 fn mark_cell(marks: &mut [u64], area: Box2, cell: Cell)
     requires { HasRoomForCellNumbers area marks.old }
-    ensures keeps { KeepsMarks marks.old marks.new }
+    ensures marks_kept { KeepsMarks marks.old marks.new }
     ensures marked { IsCellMarked area cell marks.new }
 {
     let Some(x) = number_from_halo(cell.x, area.x, area.w) else {
@@ -61,7 +61,7 @@ fn mark_cell(marks: &mut [u64], area: Box2, cell: Cell)
 // Marks the cells of signals at all times.
 fn mark_starred_cells(marks: &mut [u64], area: Box2, list: &[AllTimesSignal])
     requires { HasRoomForCellNumbers area marks.old }
-    ensures keeps { KeepsMarks marks.old marks.new }
+    ensures marks_kept { KeepsMarks marks.old marks.new }
     ensures marked { (i : ℕ) (h : AllTimesSignal) → slice_get list.now i ≡ Some h →
         IsCellMarked area h.cell marks.new }
 {
@@ -74,7 +74,7 @@ fn mark_starred_cells(marks: &mut [u64], area: Box2, list: &[AllTimesSignal])
 fn mark_events(marks: &mut [u64], area: Box2, list: &[TimedSignal], first: usize, end: usize)
     requires room_for_marks { HasRoomForCellNumbers area marks.old }
     requires range { end ≤ length list.now }
-    ensures keeps { KeepsMarks marks.old marks.new }
+    ensures marks_kept { KeepsMarks marks.old marks.new }
     ensures marked { (i : ℕ) (e : TimedSignal) → first ≤ i → i < end →
         slice_get list.now i ≡ Some e → IsCellMarked area e.at.cell marks.new }
 {
@@ -93,9 +93,9 @@ fn mark_events_at(
     time: u32,
 ) -> EventPlaces
     requires room_for_marks { HasRoomForCellNumbers area marks.old }
-    requires rising { IsRising moment_cmp moment_of list.now }
+    requires rising_moments { IsRising moment_cmp moment_of list.now }
     requires range { time < 65536 }
-    ensures keeps { KeepsMarks marks.old marks.new }
+    ensures marks_kept { KeepsMarks marks.old marks.new }
     ensures marked { (i : ℕ) (e : TimedSignal) → slice_get list.now i ≡ Some e → e.at.time ≡ time →
         IsCellMarked area e.at.cell marks.new }
 {
@@ -117,8 +117,8 @@ fn mark_schedule(
     requires room_for_marks { HasRoomForCellNumbers area marks.old }
     requires range { time < 65536 }
     requires all_times { AreStarredCellsMarked schedule.now area marks.old }
-    ensures keeps { KeepsMarks marks.old marks.new }
-    ensures quiet { IsZeroAtUnmarked schedule.now area time marks.new }
+    ensures marks_kept { KeepsMarks marks.old marks.new }
+    ensures unmarked_cells_zero { IsZeroAtUnmarked schedule.now area time marks.new }
 {
     mark_events_at(marks, area, schedule.events(), place, time)
 }
@@ -229,7 +229,7 @@ pub fn mark_lines(marks: &mut [u64], places: &mut LinePlaces, job: &Job, time: u
 // Marks the cells of which an edge or halo line says something at all times.
 fn mark_stars_of_shape(marks: &mut [u64], shape: &Shape)
     requires { HasRoomForCellNumbers (box_at_origin shape.now) marks.old }
-    ensures keeps { KeepsMarks marks.old marks.new }
+    ensures marks_kept { KeepsMarks marks.old marks.new }
     ensures edges { AreStarredCellsMarked shape.now.edges (box_at_origin shape.now) marks.new }
     ensures halos { AreStarredCellsMarked shape.now.halos (box_at_origin shape.now) marks.new }
 {

@@ -57,7 +57,7 @@ pub fn start_signal_at(job: &Job, x: usize, y: usize) -> Signal
     requires { (x < job.now.area.w) × (y < job.now.area.h) }
     ensures start_is_exact { result
         ≡ job_start job.now (box_coord job.now.area.x x) (box_coord job.now.area.y y) }
-    ensures below { IsSignalWireBelow (wires job.now.locals.netlist) result }
+    ensures wire_exists { IsSignalWireBelow (wires job.now.locals.netlist) result }
 {
     job.start(box_cell_at(job.area(), x, y))
 }
@@ -69,7 +69,7 @@ pub fn start_signal_at(job: &Job, x: usize, y: usize) -> Signal
 pub fn skip_dead_starts(job: &Job, x: usize, y: usize) -> usize
     requires { (x ≤ job.now.area.w) × (y < job.now.area.h) }
     ensures range { (x ≤ result) × (result ≤ job.now.area.w) }
-    ensures dead { (k : ℕ) → x ≤ k → k < result →
+    ensures passed_dead { (k : ℕ) → x ≤ k → k < result →
         job_start job.now (box_coord job.now.area.x k) (box_coord job.now.area.y y) ≡ Signal.Zero }
 {
     let width = job.area().w as usize;
@@ -84,7 +84,7 @@ pub fn demand_at(job: &Job, x: usize, y: usize) -> Demand
     requires { (x < job.now.area.w) × (y < job.now.area.h) }
     ensures demand_is_exact { result
         ≡ job_demand job.now (box_coord job.now.area.x x) (box_coord job.now.area.y y) }
-    ensures below { IsDemandWireBelow (wires job.now.locals.netlist) result }
+    ensures wire_exists { IsDemandWireBelow (wires job.now.locals.netlist) result }
 {
     job.demand(box_cell_at(job.area(), x, y))
 }
@@ -97,7 +97,7 @@ pub fn demand_at(job: &Job, x: usize, y: usize) -> Demand
 pub fn skip_dead_demands(job: &Job, x: usize, y: usize) -> usize
     requires { (x ≤ job.now.area.w) × (y < job.now.area.h) }
     ensures range { (x ≤ result) × (result ≤ job.now.area.w) }
-    ensures dead { (k : ℕ) → x ≤ k → k < result →
+    ensures passed_dead { (k : ℕ) → x ≤ k → k < result →
         job_demand job.now (box_coord job.now.area.x k) (box_coord job.now.area.y y) ≡ Demand.Dead }
 {
     let width = job.area().w as usize;
@@ -113,7 +113,7 @@ pub fn edge_at(job: &Job, time: u32, x: usize, y: usize, near: EventPlaces) -> S
     requires { (x < job.now.area.w) × (y < job.now.area.h) }
     ensures signal_is_exact { result
         ≡ signal_at job.now.edges time (box_coord job.now.area.x x) (box_coord job.now.area.y y) }
-    ensures below { IsSignalWireBelow (wires job.now.locals.netlist) result }
+    ensures wire_exists { IsSignalWireBelow (wires job.now.locals.netlist) result }
 {
     let _area = job.area();
     let shape: &Shape = job.shape();
@@ -128,7 +128,7 @@ pub fn halo_at(job: &Job, time: u32, x: usize, y: usize, near: EventPlaces) -> S
     requires { (x < job.now.area.w + 2) × (y < job.now.area.h + 2) }
     ensures signal_is_exact { result
         ≡ signal_at job.now.halos time (halo_coord job.now.area.x x) (halo_coord job.now.area.y y) }
-    ensures below { IsSignalWireBelow (wires job.now.locals.netlist) result }
+    ensures wire_exists { IsSignalWireBelow (wires job.now.locals.netlist) result }
 {
     let _area = job.area();
     let shape: &Shape = job.shape();

@@ -30,7 +30,7 @@ fn set_halo_find_edge_fault(
     job: &Job,
     time: u32,
 ) -> Option<Fault>
-    requires ready { IsReady job.now values.now }
+    requires job_ready { IsReady job.now values.now }
     requires lines { AreStarredCellMarks (shape_of job.now) lines.old.all_times.items }
     requires sought { IsKindSoughtAt job.now time Kind.Edge }
     requires shows { Shows job.now values.now time marked_planes.old.planes }
@@ -64,9 +64,9 @@ fn fault_at_time(
     time: u32,
     next: &mut usize,
 ) -> Option<Fault>
-    requires ready { IsReady job.now values.now }
+    requires job_ready { IsReady job.now values.now }
     requires lines { AreStarredCellMarks (shape_of job.now) lines.old.all_times.items }
-    requires early { time < job.now.steps }
+    requires time_before_end { time < job.now.steps }
     requires shows { Shows job.now values.now time marked_planes.old.planes }
     requires next { IsNextStop job.now time next.old }
     ensures shows { Shows job.now values.now time marked_planes.new.planes }
@@ -85,7 +85,7 @@ fn fault_at_time(
 
 // One step. Tells whether a cell of the box may have changed.
 fn one_step(marked_planes: &mut MarkedPlanes, values: &Values, job: &Job, time: u32) -> bool
-    requires ready { IsReady job.now values.now }
+    requires job_ready { IsReady job.now values.now }
     requires shows { Shows job.now values.now time marked_planes.old.planes }
     requires halo { time % 2 ≡ 1 → IsHaloSet job.now values.now time marked_planes.old.planes }
     ensures next { Shows job.now values.now (time + 1) marked_planes.new.planes }

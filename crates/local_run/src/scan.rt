@@ -30,7 +30,7 @@ fn first_live_assignment(
         × (y / 2 < marked_planes.now.planes.rows) }
     requires words { (values.now.words ≡ marked_planes.now.planes.words) × (values.now.words ≤ 64) }
     requires room_for_assignments { values.now.count ≤ 64 * values.now.words }
-    requires defined { values.now.words ≤ length values.now.rows.defined.items }
+    requires defined_covers_words { values.now.words ≤ length values.now.rows.defined.items }
     ensures { IsLeastBelow values.now.count
         (λ a. (is_defined_under values.now a ≡ true)
         × (lane marked_planes.now.planes a x y ≢ is_live (valuation values.now a) Signal.Zero))
@@ -61,7 +61,7 @@ pub fn cell_fault_assignment(
     x: usize,
     y: usize,
 ) -> Option<u32>
-    requires ready { IsReady job.now values.now }
+    requires job_ready { IsReady job.now values.now }
     requires shows { Shows job.now values.now search.time marked_planes.now.planes }
     requires sought { IsKindSoughtAt job.now search.time search.kind }
     requires place { (x < job.now.area.w) × (y < job.now.area.h) }
@@ -115,10 +115,10 @@ fn skip_faultless_columns(
     requires columns { marked_planes.now.planes.stride ≡ job.now.area.w / 2 + 1 }
     requires rows { marked_planes.now.planes.rows ≡ job.now.area.h / 2 + 1 }
     ensures range { x ≤ result }
-    ensures at_end { x < result → kind ≡ Kind.End }
+    ensures skips_only_at_end { x < result → kind ≡ Kind.End }
     ensures demands { (k : ℕ) → x ≤ k → k < result →
         job_demand job.now (box_coord job.now.area.x k) (box_coord job.now.area.y y) ≡ Demand.Dead }
-    ensures dead { (a k : ℕ) → a < 64 * marked_planes.now.planes.words → x ≤ k → k < result →
+    ensures passed_dead { (a k : ℕ) → a < 64 * marked_planes.now.planes.words → x ≤ k → k < result →
         lane marked_planes.now.planes a (1 + k) (1 + y) ≡ false }
 {
     match kind {
@@ -138,7 +138,7 @@ pub fn first_fault_of_kind(
     job: &Job,
     search: FaultSearch,
 ) -> Option<Fault>
-    requires ready { IsReady job.now values.now }
+    requires job_ready { IsReady job.now values.now }
     requires shows { Shows job.now values.now search.time marked_planes.now.planes }
     requires sought { IsKindSoughtAt job.now search.time search.kind }
     ensures { MatchOption result (HasNoFaultOfKind job.now values.now search.time search.kind)
@@ -185,9 +185,9 @@ fn stop_fault_assignment(
     job: &Job,
     stop: Stop,
 ) -> Option<u32>
-    requires ready { IsReady job.now values.now }
+    requires job_ready { IsReady job.now values.now }
     requires shows { Shows job.now values.now stop.at.time marked_planes.now.planes }
-    requires inside { IsTrue (in_box job.now.area stop.at.cell.x stop.at.cell.y) }
+    requires cell_in_box { IsTrue (in_box job.now.area stop.at.cell.x stop.at.cell.y) }
     requires own_wire { stop.wire < wires job.now.locals.netlist }
     ensures { IsLeastBelow (assignments job.now) (λ a. IsStopMissed job.now values.now a stop)
         result }
@@ -213,7 +213,7 @@ pub fn first_stop_fault(
     time: u32,
     next: &mut usize,
 ) -> Option<Fault>
-    requires ready { IsReady job.now values.now }
+    requires job_ready { IsReady job.now values.now }
     requires shows { Shows job.now values.now time marked_planes.now.planes }
     requires next { IsNextStop job.now time next.old }
     ensures { MatchOption result

@@ -15,11 +15,11 @@ use module_job::Job;
 // Sets a cell of the box, that is dead, to what it is at time 0.
 #[tactic(auto, using(crate::proofs::Scans::row_from))]
 fn put_start_cell(marked_planes: &mut MarkedPlanes, values: &Values, job: &Job, x: usize, y: usize)
-    requires ready { IsReady job.now values.now }
+    requires job_ready { IsReady job.now values.now }
     requires size { HasWordsStrideRows values.now.words (job.now.area.w / 2 + 1)
         (job.now.area.h / 2 + 1) marked_planes.old.planes }
     requires place { (x < job.now.area.w) × (y < job.now.area.h) }
-    requires dead { (a : ℕ) → a < 64 * values.now.words →
+    requires cell_dead { (a : ℕ) → a < 64 * values.now.words →
         lane marked_planes.old.planes a (1 + x) (1 + y) ≡ false }
     ensures { PutsCell values.now (1 + x) (1 + y)
         (job_start job.now (box_coord job.now.area.x x) (box_coord job.now.area.y y))
@@ -35,10 +35,10 @@ fn put_start_cell(marked_planes: &mut MarkedPlanes, values: &Values, job: &Job, 
 /// Sets the cells of the box to those of time 0. All cells are dead before.
 #[tactic(auto, using(crate::proofs::NextCells::dead_start, bbm_rule::proofs::BitLemmas::by_lt_or_le, crate::proofs::Stepping::run_start))]
 pub fn put_start(marked_planes: &mut MarkedPlanes, values: &Values, job: &Job)
-    requires ready { IsReady job.now values.now }
+    requires job_ready { IsReady job.now values.now }
     requires size { HasWordsStrideRows values.now.words (job.now.area.w / 2 + 1)
         (job.now.area.h / 2 + 1) marked_planes.old.planes }
-    requires dead { AreAllCellsDead marked_planes.old.planes }
+    requires all_cells_dead { AreAllCellsDead marked_planes.old.planes }
     ensures { Shows job.now values.now 0 marked_planes.new.planes }
 {
     let area = job.area();
@@ -59,8 +59,8 @@ pub fn make_odd_step(
     job: &Job,
     time: u32,
 ) -> bool
-    requires ready { IsReady job.now values.now }
-    requires odd { time % 2 ≡ 1 }
+    requires job_ready { IsReady job.now values.now }
+    requires time_odd { time % 2 ≡ 1 }
     requires shows { Shows job.now values.now time marked_planes.old.planes }
     requires halo { IsHaloSet job.now values.now time marked_planes.old.planes }
     ensures next { Shows job.now values.now (time + 1) marked_planes.new.planes }
@@ -77,8 +77,8 @@ pub fn make_even_step(
     job: &Job,
     time: u32,
 ) -> bool
-    requires ready { IsReady job.now values.now }
-    requires even { time % 2 ≡ 0 }
+    requires job_ready { IsReady job.now values.now }
+    requires time_even { time % 2 ≡ 0 }
     requires shows { Shows job.now values.now time marked_planes.old.planes }
     ensures next { Shows job.now values.now (time + 1) marked_planes.new.planes }
     ensures stays { result ≡ false → Shows job.now values.now time marked_planes.new.planes }

@@ -14,10 +14,10 @@ use std::alloc::{AllocError, Global};
 
 // The rows, in which the values are made false under the assignments under which some used gate lacks a row.
 fn without_undefined(rows: ValueRows) -> ValueRows
-    requires wide { 0 < length rows.defined.items }
+    requires defined_not_empty { 0 < length rows.defined.items }
     ensures defined { result.defined ≡ rows.defined }
     ensures undefined { result.undefined ≡ rows.undefined }
-    ensures long { length result.values.items ≡ length rows.values.items }
+    ensures length_unchanged { length result.values.items ≡ length rows.values.items }
     ensures keeps { KeepsDefinedValues rows.defined.items rows.values.items result.values.items }
 {
     let ValueRows {
@@ -37,8 +37,8 @@ fn without_undefined(rows: ValueRows) -> ValueRows
 // Makes the values false under the assignments under which some used gate lacks a row. No fault is sought under these,
 // and a run in which all wires are false changes less.
 fn clear_undefined(values: &mut [u64], defined: &[u64])
-    requires wide { 0 < length defined.now }
-    ensures long { length values.new ≡ length values.old }
+    requires defined_not_empty { 0 < length defined.now }
+    ensures length_unchanged { length values.new ≡ length values.old }
     ensures keeps { KeepsDefinedValues defined.now values.old values.new }
 {
     if defined.iter().all(|word| *word == 0xFFFF_FFFF_FFFF_FFFF) {
@@ -126,7 +126,7 @@ impl Values {
         requires words { (self.now.words ≡ planes.now.words) × (self.now.words ≤ 64) }
         requires room_for_assignments { self.now.count ≤ 64 * self.now.words }
         requires row { HasValueRow self.now signal }
-        requires defined { self.now.words ≤ length self.now.rows.defined.items }
+        requires defined_covers_words { self.now.words ≤ length self.now.rows.defined.items }
         ensures { IsLeastBelow self.now.count
             (λ a. (is_defined_under self.now a ≡ true)
             × (lane planes.now a x y ≢ is_live (valuation self.now a) signal)) result }
@@ -146,7 +146,7 @@ impl Values {
         requires words { (self.now.words ≡ planes.now.words) × (self.now.words ≤ 64) }
         requires room_for_assignments { self.now.count ≤ 64 * self.now.words }
         requires row { HasValueRow self.now signal }
-        requires defined { self.now.words ≤ length self.now.rows.defined.items }
+        requires defined_covers_words { self.now.words ≤ length self.now.rows.defined.items }
         ensures { IsLeastBelow self.now.count
             (λ a. (is_defined_under self.now a ≡ true)
             × (lane planes.now a x y ≢ is_live (valuation self.now a) signal)) result }
@@ -187,7 +187,7 @@ impl Values {
 
     /// Returns whether each used gate has a row under some assignment. Only `false` is proved to be right.
     pub fn has_defined_assignment(&self) -> bool
-        requires defined { self.now.words ≤ length self.now.rows.defined.items }
+        requires defined_covers_words { self.now.words ≤ length self.now.rows.defined.items }
         requires room_for_assignments { self.now.count ≤ 64 * self.now.words }
         ensures { result ≡ false → (a : ℕ) → a < self.now.count →
             is_defined_under self.now a ≡ false }

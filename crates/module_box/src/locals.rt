@@ -62,8 +62,8 @@ fn add_wires(known: &mut NumberedWires, wires: &[WireNo]) -> Result<(), AllocErr
 
 // The number here of a wire that is known.
 fn local_number(known: &NumberedWires, wire: WireNo) -> u16
-    requires known { IsTrue (is_among known.now wire) }
-    ensures within { result < length known.now }
+    requires wire_known { IsTrue (is_among known.now wire) }
+    ensures number_within_known { result < length known.now }
     ensures wire { slice_index known.now result ≡ wire }
 {
     match known.number(wire.number()) {
@@ -75,10 +75,10 @@ fn local_number(known: &NumberedWires, wire: WireNo) -> u16
 // The gate over the wires that are known. Those that it defines come next.
 fn local_gate(known: &NumberedWires, gate: GateWires) -> LocalGate
     requires below_65536 { length known.now < 2 ^ 16 }
-    requires known { All (λ w. IsTrue (is_among known.now w)) (gate_of gate).ins }
+    requires inputs_known { All (λ w. IsTrue (is_among known.now w)) (gate_of gate).ins }
     requires fits { length (gate_of gate).ins ≡ uses (gate_of gate).kind }
     ensures kind { (gate_of_local_gate result).kind ≡ (gate_of gate).kind }
-    ensures within { All (λ w. w < length known.now) (gate_of_local_gate result).ins }
+    ensures inputs_within_known { All (λ w. w < length known.now) (gate_of_local_gate result).ins }
     ensures ins { map (slice_index known.now) (gate_of_local_gate result).ins ≡ (gate_of gate).ins }
     ensures first { result.first ≡ length known.now }
 {
@@ -145,7 +145,7 @@ impl Locals {
             ≡ local_wires (netlist_of circuit.now) cuts.now gates.now) }
         ensures gates { IfOk result (λ l. l.circuit_gates ≡ gates.now) }
         ensures count { IfOk result (λ l. length l.netlist.gates ≡ length gates.now) }
-        ensures given { IfOk result (λ l. l.netlist.given ≡ length cuts.now) }
+        ensures cuts_given { IfOk result (λ l. l.netlist.given ≡ length cuts.now) }
     {
         let circuit_gates = gates.to_vec(alloc)?;
         Locals::with_gates(alloc, circuit, cuts, circuit_gates)
@@ -164,7 +164,7 @@ impl Locals {
             ≡ local_wires (netlist_of circuit.now) cuts.now circuit_gates.items) }
         ensures gates { IfOk result (λ l. l.circuit_gates ≡ circuit_gates.items) }
         ensures count { IfOk result (λ l. length l.netlist.gates ≡ length circuit_gates.items) }
-        ensures given { IfOk result (λ l. l.netlist.given ≡ length cuts.now) }
+        ensures cuts_given { IfOk result (λ l. l.netlist.given ≡ length cuts.now) }
     {
         // Room for most modules: a gate mostly defines one to three wires.
         let room = cuts
@@ -185,7 +185,7 @@ impl Locals {
         ensures wiring { result.0 ≡ self.netlist }
         ensures wires { result.1.items ≡ self.circuit_wires }
         ensures gates { result.2.items ≡ self.circuit_gates }
-        ensures sized { length self.circuit_wires ≡ wires self.netlist }
+        ensures wire_count { length self.circuit_wires ≡ wires self.netlist }
     {
         let wires = self.wires();
         let wiring = Wiring {
@@ -199,7 +199,7 @@ impl Locals {
     /// Returns how many wires the module knows, at most 268: 12 cuts, and 4 wires of each of 64 gates.
     pub fn wires(&self) -> usize
         ensures count { result ≡ length self.now.circuit_wires }
-        ensures sized { result ≡ wires self.now.netlist }
+        ensures netlist_wires { result ≡ wires self.now.netlist }
         ensures at_most_268 { result ≤ 268 }
     {
         self.circuit_wires.len()
@@ -208,8 +208,8 @@ impl Locals {
     /// Returns the module's number, below `wires()`, of a wire of the circuit, if the module knows it.
     pub fn module_number(&self, wire: WireNo) -> Option<u16>
         ensures place { result ≡ position (λ w. w == wire) self.now.circuit_wires }
-        ensures found { is_some result ≡ is_among self.now.circuit_wires wire }
-        ensures within { IfSome result (λ i. i < length self.now.circuit_wires) }
+        ensures found_if_known { is_some result ≡ is_among self.now.circuit_wires wire }
+        ensures number_exists { IfSome result (λ i. i < length self.now.circuit_wires) }
         ensures same_wire { IfSome result (λ i. circuit_wire self.now i ≡ wire) }
     {
         self.circuit_wires.number(wire.number())

@@ -94,7 +94,7 @@ impl NumberedWires {
     #[tactic(auto, using(crate::proofs::Imports::length_push, crate::proofs::WireLists::different_push))]
     pub(crate) fn push(&mut self, wire: u16) -> Result<(), AllocError>
         requires wire_is_new { is_among self.old wire ≡ false }
-        requires few { length self.old < 2 ^ 16 }
+        requires count_below_65536 { length self.old < 2 ^ 16 }
         ensures added { OnOk result (self.new ≡ self.old ++ wire ∷ []) }
         ensures unchanged_on_error { OnErr result (self.new ≡ self.old) }
     {

@@ -8,8 +8,8 @@ use bbm_rule::{Box2, Cell};
 /// Returns the place of a cell of a box, whose cells are counted row by row.
 #[tactic(auto, using(crate::proofs::FromCorner::abs_from))]
 pub fn place_in(area: Box2, cell: Cell) -> usize
-    requires inside { IsTrue (in_box area cell.x cell.y) }
-    requires small { (area.w ≤ 512) × (area.h ≤ 512) }
+    requires cell_in_box { IsTrue (in_box area cell.x cell.y) }
+    requires sides_at_most_512 { (area.w ≤ 512) × (area.h ≤ 512) }
     ensures { result ≡ place_in area cell.x cell.y }
 {
     let row = (cell.y.unsigned_abs() - area.y) as usize;

@@ -139,7 +139,7 @@ impl Schedule {
     /// Returns the signals at all times, rising strictly by y, then x of their cells.
     pub fn all_times(&self) -> &[AllTimesSignal]
         ensures same_list { result.now ≡ self.now.all_times }
-        ensures rising { IsRising cell_cmp cell_of result.now }
+        ensures rising_cells { IsRising cell_cmp cell_of result.now }
     {
         &self.all_times
     }
@@ -147,7 +147,7 @@ impl Schedule {
     /// Returns the events, rising strictly by time, then y, then x.
     pub fn events(&self) -> &[TimedSignal]
         ensures same_list { result.now ≡ self.now.events }
-        ensures rising { IsRising moment_cmp moment_of result.now }
+        ensures rising_moments { IsRising moment_cmp moment_of result.now }
     {
         &self.events
     }

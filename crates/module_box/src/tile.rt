@@ -45,7 +45,7 @@ fn is_inside(width: u32, height: u32, area: Box2) -> bool
 // the number of the first box that is not inside, or how many there are.
 fn first_box_outside(width: u32, height: u32, boxes: &[Box2]) -> usize
     ensures bound { result ≤ length boxes.now }
-    ensures before { AreFirstBoxesInside width height result boxes.now }
+    ensures earlier_boxes_inside { AreFirstBoxesInside width height result boxes.now }
     ensures outside { result < length boxes.now →
         (b : Box2) × (slice_get boxes.now result ≡ Some b) × ¬ IsInside width height b }
 {
@@ -61,8 +61,8 @@ fn first_box_outside(width: u32, height: u32, boxes: &[Box2]) -> usize
 // the first place of the table that is free, or its length.
 fn first_free_place(table: &[usize], free: usize) -> usize
     ensures bound { result ≤ length table.now }
-    ensures before { (k : ℕ) → k < result → ¬ (slice_index table.now k ≡ free) }
-    ensures found { result < length table.now → slice_index table.now result ≡ free }
+    ensures earlier_places_taken { (k : ℕ) → k < result → ¬ (slice_index table.now k ≡ free) }
+    ensures found_place_free { result < length table.now → slice_index table.now result ≡ free }
 {
     // Most tables have no free place, and this search tests several places at once.
     if !table.iter().any(|number| *number == free) {

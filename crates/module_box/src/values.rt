@@ -121,7 +121,7 @@ struct ValueWords {
 
 // The words of all wires, those that are given first.
 fn value_words(alloc: Global, given: &[u64], gates: &[LocalGate]) -> Result<ValueWords, AllocError>
-    ensures long { IfOk result (λ c. length c.words.items
+    ensures each_wire_has_word { IfOk result (λ c. length c.words.items
         ≡ wires_after (length given.now) (map gate_of_local_gate gates.now)) }
     ensures count { IfOk result (λ c. length c.undefined.items ≡ length gates.now) }
     ensures says { IfOk result (λ c. (b : ℕ) → b < 64 →
@@ -177,11 +177,11 @@ fn first_word_with_bit(words: &[u64], place: u32) -> Option<usize>
 // Writes the words into rows of `words` words each, one into each row.
 fn put_word_in_each_row(rows: &mut [u64], words: usize, place: usize, column: &[u64])
     requires at_most_64 { words ≤ 64 }
-    requires short { length column.now ≤ 268 }
+    requires column_at_most_268 { length column.now ≤ 268 }
     requires place { place < words }
-    requires long { length rows.old ≡ words * length column.now }
-    ensures long { length rows.new ≡ length rows.old }
-    ensures put { (w : ℕ) → w < length column.now →
+    requires rows_fit_column { length rows.old ≡ words * length column.now }
+    ensures length_unchanged { length rows.new ≡ length rows.old }
+    ensures column_put_in_rows { (w : ℕ) → w < length column.now →
         slice_index rows.new (words * w + place) ≡ slice_index column.now w }
     ensures others_unchanged { (w k : ℕ) → w < length column.now → k < words → k ≢ place →
         slice_index rows.new (words * w + k) ≡ slice_index rows.old (words * w + k) }
@@ -233,14 +233,14 @@ impl Wiring {
     pub fn cuts(&self) -> usize
         ensures count { result ≡ self.now.given }
         ensures at_most_12 { result ≤ 12 }
-        ensures ordered { AreOrdered self.now.given self.now.gates }
+        ensures gates_ordered { AreOrdered self.now.given self.now.gates }
     {
         self.given
     }
 
     /// Returns how many wires there are, at most 268: 12 cuts, and 4 wires of each of 64 gates.
     pub fn wires(&self) -> usize
-        ensures sized { result ≡ wires self.now }
+        ensures netlist_wires { result ≡ wires self.now }
         ensures at_most_268 { result ≤ 268 }
     {
         self.wires
@@ -256,7 +256,7 @@ impl Wiring {
 
     // The word of each wire: at bit b its value under assignment 64 * chunk + b.
     fn words_of_chunk(&self, alloc: Global, chunk: u32) -> Result<ValueWords, AllocError>
-        ensures ordered { AreOrdered self.now.given self.now.gates }
+        ensures gates_ordered { AreOrdered self.now.given self.now.gates }
         ensures count { IfOk result (λ c. length c.words.items ≡ wires self.now) }
         ensures gates { IfOk result (λ c. length c.undefined.items ≡ length self.now.gates) }
         ensures values { IfOk result (λ c. (b : ℕ) → b < 64 →

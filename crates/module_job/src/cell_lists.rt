@@ -107,7 +107,7 @@ impl StartSignals {
     pub(crate) fn skip_dead(&self, place: usize, end: usize) -> usize
         requires { (place ≤ end) × (end < 2 ^ 32) }
         ensures range { (place ≤ result) × (result ≤ end) }
-        ensures dead { (u : ℕ) → place ≤ u → u < result →
+        ensures passed_dead { (u : ℕ) → place ≤ u → u < result →
             unwrap_or (slice_get self.now u) Signal.Zero ≡ Signal.Zero }
     {
         self.numbers.skip_zeros(place, end)
@@ -187,7 +187,7 @@ impl EndDemands {
     pub(crate) fn skip_dead(&self, place: usize, end: usize) -> usize
         requires { (place ≤ end) × (end < 2 ^ 32) }
         ensures range { (place ≤ result) × (result ≤ end) }
-        ensures dead { (u : ℕ) → place ≤ u → u < result →
+        ensures passed_dead { (u : ℕ) → place ≤ u → u < result →
             unwrap_or (slice_get self.now u) Demand.Dead ≡ Demand.Dead }
     {
         self.numbers.skip_zeros(place, end)

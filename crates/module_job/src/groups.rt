@@ -91,8 +91,8 @@ pub fn shape_groups(
 
 // Whether two jobs have the same shape.
 fn have_same_shape(jobs: &[Arc<Job>], one: usize, other: usize) -> bool
-    requires one { one < length jobs.now }
-    requires other { other < length jobs.now }
+    requires one_below_count { one < length jobs.now }
+    requires other_below_count { other < length jobs.now }
     ensures { IsTrue result ↔ (slice_get (map shape_of (map arc_value jobs.now)) one
         ≡ slice_get (map shape_of (map arc_value jobs.now)) other) }
 {

@@ -77,7 +77,7 @@ impl Model for Job {
 pub fn shift_to_origin(corner: u32) -> i32
     requires { corner ≤ 512 }
     ensures distance_is_exact { result ≡ shift_to_origin corner }
-    ensures small { IsSmallShift result }
+    ensures shift_small { IsSmallShift result }
 {
     0 - corner as i32
 }
@@ -86,7 +86,7 @@ pub fn shift_to_origin(corner: u32) -> i32
 fn shift_from_origin(corner: u32) -> i32
     requires { corner ≤ 512 }
     ensures distance_is_exact { result ≡ pos corner }
-    ensures small { IsSmallShift result }
+    ensures shift_small { IsSmallShift result }
 {
     corner as i32
 }
@@ -97,7 +97,7 @@ impl Job {
     /// Its corner and sides are even, its sides 2 to 64, and it lies in a rectangle of 512 by 512 cells.
     pub fn area(&self) -> Box2
         ensures area { result ≡ self.now.area }
-        ensures good { IsJob self.now }
+        ensures job_valid { IsJob self.now }
     {
         Box2 {
             x: self.x,
@@ -124,7 +124,7 @@ impl Job {
     /// Returns the gates that the module knows, over wires of its own.
     pub fn wiring(&self) -> &Wiring
         ensures wiring { result.now ≡ self.now.locals.netlist }
-        ensures sized { length self.now.locals.circuit_wires ≡ wires self.now.locals.netlist }
+        ensures wire_count { length self.now.locals.circuit_wires ≡ wires self.now.locals.netlist }
     {
         self.shape.wiring()
     }

@@ -168,7 +168,7 @@ fn push_number_code(bytes: &mut Vec<u8>, number: u64) -> Result<(), AllocError>
 // The bytes of the numbers.
 fn bytes_of(alloc: Global, numbers: &[u64]) -> Result<Vec<u8>, AllocError>
     ensures bytes { IfOk result (λ bytes. bytes.items ≡ flat_map number_bytes numbers.now) }
-    ensures small { All (λ n. n < 2 ^ 64) numbers.now }
+    ensures all_fit_u64 { All (λ n. n < 2 ^ 64) numbers.now }
 {
     let mut bytes = Vec::with_capacity(alloc, numbers.len())?;
     for number in numbers {
@@ -199,7 +199,7 @@ impl Shape {
     /// (laws). One key for both would be a collision of SHA-256.
     pub fn key(&self, alloc: Global) -> Result<[u8; 32], AllocError>
         ensures key { IfOk result (λ key. key ≡ shape_digest self.now) }
-        ensures small { IfOk result (λ _. All (λ n. n < 2 ^ 64) (shape_numbers self.now)) }
+        ensures all_fit_u64 { IfOk result (λ _. All (λ n. n < 2 ^ 64) (shape_numbers self.now)) }
     {
         let numbers = self.numbers(alloc)?;
         let bytes = bytes_of(alloc, &numbers)?;

@@ -95,7 +95,7 @@ impl Shape {
     pub fn skip_dead_starts(&self, place: usize, end: usize) -> usize
         requires { (place ≤ end) × (end < 2 ^ 32) }
         ensures range { (place ≤ result) × (result ≤ end) }
-        ensures dead { (u : ℕ) → place ≤ u → u < result →
+        ensures passed_dead { (u : ℕ) → place ≤ u → u < result →
             unwrap_or (slice_get self.now.starts u) Signal.Zero ≡ Signal.Zero }
     {
         self.starts.skip_dead(place, end)
@@ -108,7 +108,7 @@ impl Shape {
     pub fn skip_dead_demands(&self, place: usize, end: usize) -> usize
         requires { (place ≤ end) × (end < 2 ^ 32) }
         ensures range { (place ≤ result) × (result ≤ end) }
-        ensures dead { (u : ℕ) → place ≤ u → u < result →
+        ensures passed_dead { (u : ℕ) → place ≤ u → u < result →
             unwrap_or (slice_get self.now.demands u) Demand.Dead ≡ Demand.Dead }
     {
         self.demands.skip_dead(place, end)

@@ -104,7 +104,7 @@ impl SparseNumbers {
     #[tactic(auto, using(crate::proofs::SparseLists::zeros_grow, crate::proofs::SparseLists::zeros_unmarked))]
     pub(crate) fn push_zeros(&mut self, count: usize) -> Result<(), AllocError>
         ensures added { OnOk result (self.new ≡ self.old ++ replicate count 0) }
-        ensures unchanged { OnErr result (self.new ≡ self.old) }
+        ensures unchanged_on_error { OnErr result (self.new ≡ self.old) }
     {
         match self.count.checked_add(count) {
             Some(sum) => {
@@ -120,7 +120,7 @@ impl SparseNumbers {
     #[tactic(auto, using(lemmas::proofs::Common::with_items_is, crate::proofs::SparseLists::number_grows, crate::proofs::SparseLists::number_unmarked))]
     pub(crate) fn push(&mut self, number: u64) -> Result<(), AllocError>
         ensures added { OnOk result (self.new ≡ self.old ++ number ∷ []) }
-        ensures unchanged { OnErr result (self.new ≡ self.old) }
+        ensures unchanged_on_error { OnErr result (self.new ≡ self.old) }
     {
         if number == 0 {
             return self.push_zeros(1);

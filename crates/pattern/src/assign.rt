@@ -81,7 +81,7 @@ fn read_names(
     feed: &mut Feed,
     reading: &mut AssignReader,
 ) -> Result<Vec<Name>, ReadFault>
-    requires closed { feed.old.closed ≡ true }
+    requires text_closed { feed.old.closed ≡ true }
     requires none_on { reading.old.on.keys ≡ [] }
     ensures { Reads (assign_grammar reading.old.ins.now) (λ names. assign_section names.items)
         feed.old feed.new result }

@@ -105,7 +105,7 @@ impl Layout {
     pub fn size(&self) -> LayoutHeader
         ensures size { result ≡ self.now.size }
         ensures limits { size_fault result ≡ None }
-        ensures good { AreGoodAfter result [] (parts_of self.now) }
+        ensures parts_good { AreGoodAfter result [] (parts_of self.now) }
     {
         self.size
     }

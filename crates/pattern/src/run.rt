@@ -134,7 +134,7 @@ fn live_cells_in_order(
     size: LayoutHeader,
 ) -> Result<Vec<Cell>, AllocError>
     requires same_size { (grid.now.width ≡ size.w) × (grid.now.height ≡ size.h) }
-    requires small { (size.w ≤ 512) × (size.h ≤ 512) }
+    requires sides_at_most_512 { (size.w ≤ 512) × (size.h ≤ 512) }
     ensures { IfOk result (λ cells. cells.items ≡ live_cells size (live grid.now)) }
 {
     let mut cells = Vec::new(alloc);

@@ -12,8 +12,8 @@ use bbm_rule::{Grid, fill_rectangle, is_any_live, is_any_live_in, make_live};
 /// Returns whether a cell of the line is taken: in the first grid if the line takes its cells at the start, else in the
 /// second.
 pub(crate) fn is_any_cell_taken(at_start: &Grid, at_end: &Grid, part: &LayoutLine) -> bool
-    requires at_start { LiesOn at_start.now part.now }
-    requires at_end { LiesOn at_end.now part.now }
+    requires start_on_part { LiesOn at_start.now part.now }
+    requires end_on_part { LiesOn at_end.now part.now }
     ensures { result
         ≡ (if takes_at_start part.now then list_any (λ c. live at_start.now c.x c.y)
         (cells_of part.now) else list_any (λ c. live at_end.now c.x c.y) (cells_of part.now)) }

@@ -115,7 +115,7 @@ fn gathered_after_all_file<
     requires filings { (f.name ≡ F.name) × (f.parts ≡ F.parts) × (f.parts ≡ 4) }
     requires acceptances { (a.name ≡ A.name) × (a.parts ≡ A.parts) × (a.parts ≡ 4) }
     requires ledger_names_book { (state.digest ≡ F.digest) × (state.jobs ≡ F.jobs) }
-    requires fresh { state.history ≡ [] }
+    requires history_empty { state.history ≡ [] }
 {
     let work = work_of(alloc, GOOD_BUNDLE).expect(rt, "work");
     let opened: (Book<F, A>, Vec<Share<F, A>>) = Book::open(alloc, f, a, state, 4).expect(
@@ -190,7 +190,7 @@ fn gathered_from_one_share<F: Filings, A: Ledger, R: Abort + Wait>(
     requires filings { (f.name ≡ F.name) × (f.parts ≡ F.parts) × (f.parts ≡ 2) }
     requires acceptances { (a.name ≡ A.name) × (a.parts ≡ A.parts) × (a.parts ≡ 2) }
     requires ledger_names_book { (state.digest ≡ F.digest) × (state.jobs ≡ F.jobs) }
-    requires fresh { state.history ≡ [] }
+    requires history_empty { state.history ≡ [] }
 {
     let opened: Result<(Book<F, A>, Vec<Share<F, A>>), AllocError> = Book::open(
         alloc, f, a, state, 2,

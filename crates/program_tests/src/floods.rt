@@ -102,7 +102,7 @@ fn gathered_after_flood<
     requires filings { (f.name ≡ F.name) × (f.parts ≡ F.parts) × (f.parts ≡ 8) }
     requires acceptances { (a.name ≡ A.name) × (a.parts ≡ A.parts) × (a.parts ≡ 8) }
     requires ledger_names_book { (state.digest ≡ F.digest) × (state.jobs ≡ F.jobs) }
-    requires fresh { state.history ≡ [] }
+    requires history_empty { state.history ≡ [] }
 {
     let opened: (Book<F, A>, Vec<Share<F, A>>) = Book::open(alloc, f, a, state, 8).expect(
         rt, "a book",

@@ -33,7 +33,7 @@ fn file_by_workers<
     requires count { (0 < count) × (count ≤ 64) }
     requires jobs { length jobs.now ≤ 1024 }
     requires ledger_names_book { (state.digest ≡ F.digest) × (state.jobs ≡ F.jobs) }
-    requires fresh { state.history ≡ [] }
+    requires history_empty { state.history ≡ [] }
 {
     let groups = job_groups(alloc, jobs).expect(rt, "groups");
     let opened: (Book<F, A>, Vec<Share<F, A>>) = Book::open(alloc, f, a, state, count).expect(

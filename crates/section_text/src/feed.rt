@@ -120,7 +120,7 @@ impl Feed {
         ensures err { OnErr result (self.new ≡ self.old) }
         ensures too_long { (result ≡ Err PushFault.TooLong)
             ↔ (text_limit < length self.old.text + length piece.now) }
-        ensures within { length self.new.text ≤ text_limit }
+        ensures text_within_limit { length self.new.text ≤ text_limit }
     {
         if piece.len() > MAX_TEXT_BYTES - self.bytes.len() {
             return Err(PushFault::TooLong);
@@ -165,7 +165,7 @@ impl Feed {
     /// one answers it.
     pub fn take(&mut self) -> Result<Line, ReadFault>
         requires { self.old.closed ≡ true }
-        ensures stopped { ForSome self.old.stop
+        ensures earlier_stop_returned { ForSome self.old.stop
             (λ fault. (result ≡ Err fault) × (self.new ≡ self.old)) }
         ensures next { self.old.stop ≡ None → IfOk result (TakesLine self.old self.new) }
         ensures runs_out { self.old.stop ≡ None → IfErr result (RunsOut self.old self.new) }
@@ -243,7 +243,7 @@ impl Feed {
     pub fn number(&self, line: &Line, index: usize) -> Option<u32>
         requires { IsLine self.now line.now }
         ensures number { result ≡ number_at (words_of (line_bytes self.now line.now)) index }
-        ensures small { IfSome result (λ n. n < 10 ^ 9) }
+        ensures below_a_billion { IfSome result (λ n. n < 10 ^ 9) }
     {
         read_number(self.word(line, index)?)
     }
@@ -292,7 +292,7 @@ impl Feed {
     pub fn number_after_keyword(&self, line: &Line) -> Option<u32>
         requires { IsLine self.now line.now }
         ensures number { result ≡ number_after_keyword (words_of (line_bytes self.now line.now)) }
-        ensures small { IfSome result (λ n. n < 10 ^ 9) }
+        ensures below_a_billion { IfSome result (λ n. n < 10 ^ 9) }
     {
         number_after_keyword_in(self.line(line))
     }
@@ -340,7 +340,7 @@ impl Feed {
     /// Refuses a line with a code. The feed keeps this refusal, but a feed that has a fault keeps and answers that one.
     pub fn refuse(&mut self, line: &Line, code: RefusalCode) -> ReadFault
         ensures answer { result ≡ unwrap_or self.old.stop (refusal line.now.number code) }
-        ensures stopped { self.new ≡ record self.old { stop = Some result } }
+        ensures stop_recorded { self.new ≡ record self.old { stop = Some result } }
     {
         let fault = self.stop.unwrap_or(ReadFault::Refused(Refusal {
             line: line.number,
@@ -354,7 +354,7 @@ impl Feed {
     /// that one.
     pub fn starve(&mut self) -> ReadFault
         ensures answer { result ≡ unwrap_or self.old.stop Memory }
-        ensures stopped { self.new ≡ record self.old { stop = Some result } }
+        ensures stop_recorded { self.new ≡ record self.old { stop = Some result } }
     {
         let fault = self.stop.unwrap_or(ReadFault::Memory);
         self.stop = Some(fault);
@@ -370,7 +370,7 @@ impl Feed {
     #[tactic(auto, using(crate::proofs::Lines::nothing_left, crate::proofs::Lines::something_left))]
     pub fn finish(&mut self) -> Result<(), ReadFault>
         requires { self.old.closed ≡ true }
-        ensures stopped { ForSome self.old.stop
+        ensures earlier_stop_returned { ForSome self.old.stop
             (λ fault. (result ≡ Err fault) × (self.new ≡ self.old)) }
         ensures ok { self.old.stop ≡ None →
             OnOk result ((ahead self.old ≡ []) × (bytes_after_last_line_feed self.old.text ≡ [])

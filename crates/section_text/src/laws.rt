@@ -8,7 +8,7 @@ use crate::reader::Section;
 pub fn one_spelling_of_a_number()
     ensures one_spelling { NumbersHaveOneSpelling }
     ensures short { NumbersAreShort }
-    ensures each { EachNumberHasASpelling }
+    ensures each_number_spelled { EachNumberHasASpelling }
 {}
 
 /// States that the lines of a text and the bytes after its last line feed are the whole text.

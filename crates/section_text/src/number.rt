@@ -43,7 +43,7 @@ fn has_number_length_and_start(word: &[u8]) -> bool
 #[tactic(auto, using(crate::proofs::Numbers::not_read, crate::proofs::Numbers::number_read, crate::proofs::Numbers::read_small))]
 pub fn read_number(word: &[u8]) -> Option<u32>
     ensures number { result ≡ number_of word.now }
-    ensures small { IfSome result (λ n. n < 10 ^ 9) }
+    ensures below_a_billion { IfSome result (λ n. n < 10 ^ 9) }
 {
     if has_number_length_and_start(word) {
         read_digits(word)
@@ -58,7 +58,7 @@ fn take_digits(first: u8, line: &[u8]) -> Option<(u32, &[u8])>
     requires first { (49 ≤ first) × (first ≤ 57) }
     ensures number { option_map (λ r. (r.0, words_of r.1.now)) result
         ≡ leading_number (words_of (first ∷ line.now)) }
-    ensures small { IfSome result (λ r. r.0 < 10 ^ 9) }
+    ensures below_a_billion { IfSome result (λ r. r.0 < 10 ^ 9) }
 {
     let mut number = u32::from(first - b'0');
     let most = line.len().min(MAX_DIGITS - 1);
@@ -85,7 +85,7 @@ fn take_digits(first: u8, line: &[u8]) -> Option<(u32, &[u8])>
 fn zero_if_space_follows(line: &[u8]) -> Option<(u32, &[u8])>
     ensures number { option_map (λ r. (r.0, words_of r.1.now)) result
         ≡ leading_number (words_of (48 ∷ line.now)) }
-    ensures small { IfSome result (λ r. r.0 < 10 ^ 9) }
+    ensures below_a_billion { IfSome result (λ r. r.0 < 10 ^ 9) }
 {
     match line {
         [b' ', rest @ ..] => Some((0, rest)),
@@ -99,7 +99,7 @@ fn zero_if_space_follows(line: &[u8]) -> Option<(u32, &[u8])>
 fn take_number_from_digit(first: u8, line: &[u8]) -> Option<(u32, &[u8])>
     ensures number { option_map (λ r. (r.0, words_of r.1.now)) result
         ≡ leading_number (words_of (first ∷ line.now)) }
-    ensures small { IfSome result (λ r. r.0 < 10 ^ 9) }
+    ensures below_a_billion { IfSome result (λ r. r.0 < 10 ^ 9) }
 {
     if first == b'0' {
         return zero_if_space_follows(line);
@@ -120,7 +120,7 @@ fn take_number_from_digit(first: u8, line: &[u8]) -> Option<(u32, &[u8])>
 pub fn take_number(line: &[u8]) -> Option<(u32, &[u8])>
     ensures number { option_map (λ r. (r.0, words_of r.1.now)) result
         ≡ leading_number (words_of line.now) }
-    ensures small { IfSome result (λ r. r.0 < 10 ^ 9) }
+    ensures below_a_billion { IfSome result (λ r. r.0 < 10 ^ 9) }
 {
     match line {
         [] => None,

@@ -129,7 +129,7 @@ pub(crate) fn name_after_keyword_in(line: &[u8]) -> Option<Name>
 #[tactic(auto, using(crate::proofs::Splitting::lone_number_is, crate::proofs::Splitting::one_word_is_no_number))]
 pub(crate) fn number_after_keyword_in(line: &[u8]) -> Option<u32>
     ensures number { result ≡ number_after_keyword (words_of line.now) }
-    ensures small { IfSome result (λ n. n < 10 ^ 9) }
+    ensures below_a_billion { IfSome result (λ n. n < 10 ^ 9) }
 {
     let (_, rest) = split_word(line)?;
     read_number(rest)
@@ -221,7 +221,7 @@ fn take_names(left: Option<&[u8]>, count: usize) -> Option<(Names, Option<&[u8]>
     requires { count ≤ 4 }
     ensures names { option_map (λ r. r.0) result
         ≡ names_at (words_of_rest (option_copied left.entry)) 0 count }
-    ensures left { IfSome result (λ r. words_of_rest (option_copied r.1)
+    ensures rest_of_words { IfSome result (λ r. words_of_rest (option_copied r.1)
         ≡ drop count (words_of_rest (option_copied left.entry))) }
 {
     let mut names = Names::new();

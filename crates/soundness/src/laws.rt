@@ -40,7 +40,7 @@ pub fn first_fault_is_real()
 pub fn plain_certificate_decides()
     ensures off_rim { AcceptedKeepsOffRim }
     ensures decides { PlainCertificateDecides }
-    ensures no { PlainNoMeansWrong }
+    ensures plain_no_is_wrong { PlainNoMeansWrong }
     ensures lines { PlainReportLinesHaveMeaning }
     ensures untimed { UntimedIsOnTime }
 {}

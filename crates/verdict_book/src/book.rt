@@ -54,7 +54,7 @@ impl<F: Filings, A: Ledger> Book<F, A> {
         requires acceptances { (a.name ≡ A.name) × (a.parts ≡ A.parts) × (a.parts ≡ shares) }
         requires count { (0 < shares) × (shares ≤ 64) }
         requires ledger_names_book { (state.digest ≡ F.digest) × (state.jobs ≡ F.jobs) }
-        requires fresh { state.history ≡ [] }
+        requires history_empty { state.history ≡ [] }
         ensures book { IfOk result (λ r. r.0 ≡ shares) }
         ensures shares { IfOk result (λ r. r.1.items ≡ replicate shares no_counts) }
     {

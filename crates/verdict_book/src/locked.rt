@@ -42,7 +42,7 @@ impl<F: Filings, A: Ledger> LockedBook<F, A> {
         acceptances: ledger::Book<A>,
     ) -> LockedBook<F, A>
         requires ledger_names_book { (state.digest ≡ F.digest) × (state.jobs ≡ F.jobs) }
-        requires fresh { state.history ≡ [] }
+        requires history_empty { state.history ≡ [] }
         requires totals { (filings.total ≡ 0) × (acceptances.total ≡ 0) }
     {
         // the history replays to the state

@@ -9,26 +9,28 @@ use Rattle.answers.proofs.bundle.answer_of_text.Goals as goal
 
 pub returns-in-Err : goal.returns-in-Err
 returns-in-Err c =
-    let fails = circuit_failed c.args.text.now c.read_circuit.new.feed c.requires.unread c.requires.going c.in-Err.fault
+    let fails = circuit_failed c.args.text.now c.read_circuit.new.feed c.requires.unread c.requires.feed_not_stopped
+    c.in-Err.fault
     c.in-Err.ensures in
     IfOk-weaker c.refusal_answer.result _ _
     (λ answered told. refusal_answers (AnswersQuestion c.args.question)
     (bundle_of c.args.text.now.text) c.in-Err.fault answered.output.items answered.outcome fails told)
-    c.refusal_answer.ensures.told
+    c.refusal_answer.ensures.refusal_told
 
 pub returns-in-Err-read_layout : goal.returns-in-Err-read_layout
 returns-in-Err-read_layout c =
-    let fails = layout_failed c.args.text.now c.read_circuit.new.feed c.requires.unread c.requires.going c.in-Ok.circuit
+    let fails = layout_failed c.args.text.now c.read_circuit.new.feed c.requires.unread c.requires.feed_not_stopped
+    c.in-Ok.circuit
     c.in-Ok.ensures (named_ports c.in-Ok-port_names.ports) c.read_layout.new.feed c.in-Ok-port_names.ensures.ports
     c.in-Err-read_layout.fault c.in-Err-read_layout.ensures.reads in
     IfOk-weaker c.refusal_answer-in-Err-read_layout.result _ _
     (λ answered told. refusal_answers (AnswersQuestion c.args.question)
     (bundle_of c.args.text.now.text) c.in-Err-read_layout.fault answered.output.items answered.outcome fails told)
-    c.refusal_answer-in-Err-read_layout.ensures.told
+    c.refusal_answer-in-Err-read_layout.ensures.refusal_told
 
 pub returns-in-Err-read_certificate : goal.returns-in-Err-read_certificate
 returns-in-Err-read_certificate c =
-    let fails = certificate_failed c.args.text.now c.read_circuit.new.feed c.requires.unread c.requires.going
+    let fails = certificate_failed c.args.text.now c.read_circuit.new.feed c.requires.unread c.requires.feed_not_stopped
     c.in-Ok.circuit c.in-Ok.ensures
     (named_ports c.in-Ok-port_names.ports) c.read_layout.new.feed c.in-Ok-port_names.ensures.ports
     c.in-Ok-read_layout.layout c.in-Ok-read_layout.ensures.reads c.read_certificate.new.feed
@@ -36,15 +38,16 @@ returns-in-Err-read_certificate c =
     IfOk-weaker c.refusal_answer-in-Err-read_certificate.result _ _
     (λ answered told. refusal_answers (AnswersQuestion c.args.question)
     (bundle_of c.args.text.now.text) c.in-Err-read_certificate.fault answered.output.items answered.outcome fails told)
-    c.refusal_answer-in-Err-read_certificate.ensures.told
+    c.refusal_answer-in-Err-read_certificate.ensures.refusal_told
 
 pub returns-in-Err-finish : goal.returns-in-Err-finish
 returns-in-Err-finish c =
-    let going = going_3 c.args.text.now c.read_circuit.new.feed c.requires.unread c.requires.going c.in-Ok.circuit
+    let going = going_3 c.args.text.now c.read_circuit.new.feed c.requires.unread c.requires.feed_not_stopped
+    c.in-Ok.circuit
     c.in-Ok.ensures (named_ports c.in-Ok-port_names.ports) c.read_layout.new.feed c.in-Ok-port_names.ensures.ports
     c.in-Ok-read_layout.layout c.in-Ok-read_layout.ensures.reads c.read_certificate.new.feed
     c.in-Ok-read_certificate.cert c.in-Ok-read_certificate.ensures.reads in
-    let fails = bundle_goes_on c.args.text.now c.read_circuit.new.feed c.requires.unread c.requires.going
+    let fails = bundle_goes_on c.args.text.now c.read_circuit.new.feed c.requires.unread c.requires.feed_not_stopped
     c.in-Ok.circuit c.in-Ok.ensures
     (named_ports c.in-Ok-port_names.ports) c.read_layout.new.feed c.in-Ok-port_names.ensures.ports
     c.in-Ok-read_layout.layout c.in-Ok-read_layout.ensures.reads c.read_certificate.new.feed
@@ -53,16 +56,17 @@ returns-in-Err-finish c =
     IfOk-weaker c.refusal_answer-in-Err-finish.result _ _
     (λ answered told. refusal_answers (AnswersQuestion c.args.question)
     (bundle_of c.args.text.now.text) c.in-Err-finish.fault answered.output.items answered.outcome fails told)
-    c.refusal_answer-in-Err-finish.ensures.told
+    c.refusal_answer-in-Err-finish.ensures.refusal_told
 
 pub returns : goal.returns
 returns c =
-    let going = going_3 c.args.text.now c.read_circuit.new.feed c.requires.unread c.requires.going c.in-Ok.circuit
+    let going = going_3 c.args.text.now c.read_circuit.new.feed c.requires.unread c.requires.feed_not_stopped
+    c.in-Ok.circuit
     c.in-Ok.ensures (named_ports c.in-Ok-port_names.ports) c.read_layout.new.feed c.in-Ok-port_names.ensures.ports
     c.in-Ok-read_layout.layout c.in-Ok-read_layout.ensures.reads c.read_certificate.new.feed
     c.in-Ok-read_certificate.cert c.in-Ok-read_certificate.ensures.reads in
     let done = c.in_default.ensures.ok going in
-    let was_read = bundle_read c.args.text.now c.read_circuit.new.feed c.requires.unread c.requires.going
+    let was_read = bundle_read c.args.text.now c.read_circuit.new.feed c.requires.unread c.requires.feed_not_stopped
     c.in-Ok.circuit c.in-Ok.ensures
     (named_ports c.in-Ok-port_names.ports) c.read_layout.new.feed c.in-Ok-port_names.ensures.ports
     c.in-Ok-read_layout.layout c.in-Ok-read_layout.ensures.reads c.read_certificate.new.feed

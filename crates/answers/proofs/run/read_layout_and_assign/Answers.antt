@@ -19,13 +19,13 @@ pub returns-in-Err : goal.returns-in-Err
 unfolding run_sections_of lines names
 returns-in-Err c = first_failed {A = Pattern}
     (layout_grammar None) layout_section lines names c.args.feed.now c.read_layout.new.feed c.requires.unread
-    c.requires.going c.in-Err.fault c.in-Err.ensures.reads
+    c.requires.feed_not_stopped c.in-Err.fault c.in-Err.ensures.reads
 
 pub returns-in-Err-read_assign_and_end : goal.returns-in-Err-read_assign_and_end
 unfolding run_sections_of lines names
 returns-in-Err-read_assign_and_end c =
     then_failed {A = Pattern} (layout_grammar None) layout_section lines names c.args.feed.now c.read_layout.new.feed
-    c.requires.unread c.requires.going c.in-Ok.layout c.deref.result.now c.in-Err-read_assign_and_end.fault
+    c.requires.unread c.requires.feed_not_stopped c.in-Ok.layout c.deref.result.now c.in-Err-read_assign_and_end.fault
     c.in-Ok.ensures.reads
     (c.deref.ensures.value ∙ c.in-Ok-input_cell_names.ensures ∙ sym (in_names_are c.in-Ok.layout))
     c.in-Err-read_assign_and_end.ensures
@@ -34,7 +34,7 @@ pub returns-in-Ok-read_assign_and_end : goal.returns-in-Ok-read_assign_and_end
 unfolding run_sections_of lines names
 returns-in-Ok-read_assign_and_end c =
     then_read {A = Pattern} (layout_grammar None) layout_section lines names c.args.feed.now c.read_layout.new.feed
-    c.requires.unread c.requires.going c.in-Ok.layout c.deref.result.now c.in-Ok-read_assign_and_end.on.items
+    c.requires.unread c.requires.feed_not_stopped c.in-Ok.layout c.deref.result.now c.in-Ok-read_assign_and_end.on.items
     c.in-Ok.ensures.reads
     (c.deref.ensures.value ∙ c.in-Ok-input_cell_names.ensures ∙ sym (in_names_are c.in-Ok.layout))
     c.in-Ok-read_assign_and_end.ensures

@@ -9,4 +9,4 @@ returns-in-Err c =
     IfOk-weaker c.refusal_answer.result _ _
     (λ answered told. refusal_answers SaysRunEnd
     (run_sections_of c.args.feed.now.text) c.in-Err.fault answered.output.items answered.outcome c.in-Err.ensures told)
-    c.refusal_answer.ensures.told
+    c.refusal_answer.ensures.refusal_told

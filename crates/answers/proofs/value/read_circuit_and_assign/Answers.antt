@@ -16,14 +16,14 @@ names _ list = input_names list
 pub returns-in-Err : goal.returns-in-Err
 unfolding value_sections_of entries names
 returns-in-Err c = first_failed {A = List CircuitLine} circuit_grammar circuit_section entries names c.args.feed.now
-    c.read_circuit.new.feed c.requires.unread c.requires.going c.in-Err.fault c.in-Err.ensures
+    c.read_circuit.new.feed c.requires.unread c.requires.feed_not_stopped c.in-Err.fault c.in-Err.ensures
 
 pub returns-in-Err-read_assign_and_end : goal.returns-in-Err-read_assign_and_end
 unfolding value_sections_of entries names
 returns-in-Err-read_assign_and_end c =
     then_failed {A = List CircuitLine} circuit_grammar circuit_section entries names c.args.feed.now
     c.read_circuit.new.feed
-    c.requires.unread c.requires.going c.in-Ok.circuit c.deref.result.now c.in-Err-read_assign_and_end.fault
+    c.requires.unread c.requires.feed_not_stopped c.in-Ok.circuit c.deref.result.now c.in-Err-read_assign_and_end.fault
     c.in-Ok.ensures
     (c.deref.ensures.value ∙ c.in-Ok-input_name_list.ensures.names) c.in-Err-read_assign_and_end.ensures
 
@@ -32,6 +32,7 @@ unfolding value_sections_of entries names
 returns-in-Ok-read_assign_and_end c =
     then_read {A = List CircuitLine} circuit_grammar circuit_section entries names c.args.feed.now
     c.read_circuit.new.feed
-    c.requires.unread c.requires.going c.in-Ok.circuit c.deref.result.now c.in-Ok-read_assign_and_end.on.items
+    c.requires.unread c.requires.feed_not_stopped c.in-Ok.circuit c.deref.result.now
+    c.in-Ok-read_assign_and_end.on.items
     c.in-Ok.ensures
     (c.deref.ensures.value ∙ c.in-Ok-input_name_list.ensures.names) c.in-Ok-read_assign_and_end.ensures

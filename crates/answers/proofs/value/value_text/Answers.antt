@@ -10,4 +10,4 @@ returns-in-Err c =
     (λ answered told. refusal_answers SaysValues
     (value_sections_of c.args.feed.now.text) c.in-Err.fault answered.output.items answered.outcome c.in-Err.ensures
     told)
-    c.refusal_answer.ensures.told
+    c.refusal_answer.ensures.refusal_told

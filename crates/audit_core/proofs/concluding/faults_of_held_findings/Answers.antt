@@ -24,5 +24,5 @@ modules-preserved c =
     let fs = c.modules.faults.items in
     let at = job-at arc_value c.args.jobs.now n c.index-jobs-number.result c.modules-test.true c.index-jobs-number.is in
     let more = one-more b jobs n fs _ c.in-Some.finding.now c.least_faults_of.result c.modules.invariant at
-    c.in-Some.ensures.held.0 (c.in-Some.ensures.held.1 ∙ c.deref.ensures) c.least_faults_of.ensures in
+    c.in-Some.ensures.finding_held.0 (c.in-Some.ensures.finding_held.1 ∙ c.deref.ensures) c.least_faults_of.ensures in
     subst (AreFaultsBelow b jobs (n + 1)) (sym c.in_ok-push.ensures.items) more

@@ -6,8 +6,8 @@ use Rattle.bbm_rule.proofs.cells.is_row_margin_live.Goals.{then-is_live_in-via-t
 use Rattle.bbm_rule.proofs.cells.is_row_margin_live.Goals.{then-is_live_in-via-else-is_live_in+then-is_live_in-2}
 use Rattle.bbm_rule.proofs.cells.is_row_margin_live.Goals as goal
 
-pub returns-then-is_live_in-clause-live : goal.returns-then-is_live_in-clause-live
-returns-then-is_live_in-clause-live c = elim c.then-is_live_in.branch [
+pub returns-then-is_live_in-clause-any_live : goal.returns-then-is_live_in-clause-any_live
+returns-then-is_live_in-clause-any_live c = elim c.then-is_live_in.branch [
   | then-is_live_in-via-then-is_live_in w ↦ record {
     x = 0;
     y = c.args.y;
@@ -29,8 +29,8 @@ returns-then-is_live_in-clause-live c = elim c.then-is_live_in.branch [
   }
 ]
 
-pub returns-clause-live : goal.returns-clause-live
-returns-clause-live c = OnTrue_from _ _ (λ h.
+pub returns-clause-any_live : goal.returns-clause-any_live
+returns-clause-any_live c = OnTrue_from _ _ (λ h.
     let found = ltb-true c.next_marked.result (64 * (c.args.stride * c.args.y) + (c.args.width + 2)) h in
     record {
       x = c.next_marked.result - 64 * (c.args.stride * c.args.y);

@@ -17,8 +17,8 @@ pub returns-then-is_haloless : goal.returns-then-is_haloless
 unfolding modules_by_version
 returns-then-is_haloless c = grind (arith, common_steps, told, none_for_each)
 
-pub least_fault-requires-clause-ready : goal.least_fault-requires-clause-ready
-least_fault-requires-clause-ready c =
+pub least_fault-requires-clause-borders_ready : goal.least_fault-requires-clause-borders_ready
+least_fault-requires-clause-borders_ready c =
     let s = c.args.cert.now in
     let js = map arc_value c.args.jobs.now in
     let o = c.in_ok-owners.owners in

@@ -10,4 +10,4 @@ returns c =
     c.args.event
     (c.has_starred_line.ensures c.if-has_starred_line.false) c.events-events.ensures.same_list
     c.schedule.ensures
-    c.events-events.ensures.rising c.requires.listed))
+    c.events-events.ensures.rising_moments c.requires.event_listed))

@@ -72,6 +72,6 @@ returns-clause-in_shift_range c =
     (grind (arith, common_steps)) c.requires.low in
     subst (λ (t : Signals). All (λ (e : TimedSignal). IsInShiftRange e.at.cell) t.events)
     (sym (moved_back x y _ _ s c.moved.result c.shift_to_origin.ensures.distance_is_exact
-    c.shift_to_origin.ensures.small c.shift_to_origin-2.ensures.distance_is_exact
-    c.shift_to_origin-2.ensures.small c.moved.ensures))
+    c.shift_to_origin.ensures.shift_small c.shift_to_origin-2.ensures.distance_is_exact
+    c.shift_to_origin-2.ensures.shift_small c.moved.ensures))
     (near_moved x y s.events c.requires.corner.0 c.requires.corner.1 low)

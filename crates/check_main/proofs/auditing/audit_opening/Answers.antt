@@ -5,8 +5,8 @@ use Rattle.core_book.proofs.Fillings.{clones-same}
 use Rattle.check_main.proofs.Closings.{audit_of, completed_closed, many_filings, no_history, own_digest, own_jobs}
 use Rattle.check_main.proofs.auditing.audit_opening.Goals as goal
 
-pub audit_with_book-requires-clause-fresh : goal.audit_with_book-requires-clause-fresh
-audit_with_book-requires-clause-fresh g c κs within = no_history c.in_ok-state.state _ _ c.in_ok-state.ensures
+pub audit_with_book-requires-clause-history_empty : goal.audit_with_book-requires-clause-history_empty
+audit_with_book-requires-clause-history_empty g c κs within = no_history c.in_ok-state.state _ _ c.in_ok-state.ensures
 
 pub fill_and_close-requires : goal.fill_and_close-requires
 fill_and_close-requires g c =

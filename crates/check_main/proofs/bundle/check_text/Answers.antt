@@ -28,7 +28,7 @@ returns g c = record {
   lines = IfOk-weaker c.report_of_text.result _ _
       (λ a says no. no_lines_tell c.args.feed.text a.output.items
       (subst (IsReportOf c.args.feed.text a.output.items) no says)) c.report_of_text.ensures.answered;
-  small = IfOk-weaker c.report_of_text.result _ _
+  refused_not_small = IfOk-weaker c.report_of_text.result _ _
       (λ a says refused. refused_is_none c.args.feed.text a.output.items
       (subst (IsReportOf c.args.feed.text a.output.items) refused says)) c.report_of_text.ensures.answered;
 }

@@ -13,30 +13,32 @@ use Rattle.check_main.proofs.bundle.report_of_text.Goals as goal
 
 pub returns-in-Err : goal.returns-in-Err
 returns-in-Err g c =
-    let fails = circuit_failed c.args.feed c.read_circuit.new.feed c.requires.unread c.requires.going c.in-Err.fault
+    let fails = circuit_failed c.args.feed c.read_circuit.new.feed c.requires.unread c.requires.feed_not_stopped
+    c.in-Err.fault
     c.in-Err.ensures in
     record {
       answered = IfOk-weaker c.refusal_answer.result _ _
           (λ answered told. refusal_answers SaysReport
           (bundle_of c.args.feed.text) c.in-Err.fault answered.output.items answered.outcome fails told)
-          c.refusal_answer.ensures.told;
+          c.refusal_answer.ensures.refusal_told;
     }
 
 pub returns-in-Err-read_layout : goal.returns-in-Err-read_layout
 returns-in-Err-read_layout g c =
-    let fails = layout_failed c.args.feed c.read_circuit.new.feed c.requires.unread c.requires.going c.in-Ok.circuit
+    let fails = layout_failed c.args.feed c.read_circuit.new.feed c.requires.unread c.requires.feed_not_stopped
+    c.in-Ok.circuit
     c.in-Ok.ensures (named_ports c.in_ok-ports.ports) c.read_layout.new.feed c.in_ok-ports.ensures.ports
     c.in-Err-read_layout.fault c.in-Err-read_layout.ensures.reads in
     record {
       answered = IfOk-weaker c.refusal_answer-in-Err-read_layout.result _ _
           (λ answered told. refusal_answers SaysReport
           (bundle_of c.args.feed.text) c.in-Err-read_layout.fault answered.output.items answered.outcome fails told)
-          c.refusal_answer-in-Err-read_layout.ensures.told;
+          c.refusal_answer-in-Err-read_layout.ensures.refusal_told;
     }
 
 pub returns-in-Err-read_certificate : goal.returns-in-Err-read_certificate
 returns-in-Err-read_certificate g c =
-    let fails = certificate_failed c.args.feed c.read_circuit.new.feed c.requires.unread c.requires.going
+    let fails = certificate_failed c.args.feed c.read_circuit.new.feed c.requires.unread c.requires.feed_not_stopped
     c.in-Ok.circuit c.in-Ok.ensures (named_ports c.in_ok-ports.ports) c.read_layout.new.feed c.in_ok-ports.ensures.ports
     c.in-Ok-read_layout.layout c.in-Ok-read_layout.ensures.reads c.read_certificate.new.feed
     c.in-Err-read_certificate.fault c.in-Err-read_certificate.ensures.reads in
@@ -45,16 +47,18 @@ returns-in-Err-read_certificate g c =
           (λ answered told. refusal_answers SaysReport
           (bundle_of c.args.feed.text) c.in-Err-read_certificate.fault answered.output.items
           answered.outcome fails
-          told) c.refusal_answer-in-Err-read_certificate.ensures.told;
+          told) c.refusal_answer-in-Err-read_certificate.ensures.refusal_told;
     }
 
 pub returns-in-Err-finish : goal.returns-in-Err-finish
 returns-in-Err-finish g c =
-    let going = going_3 c.args.feed c.read_circuit.new.feed c.requires.unread c.requires.going c.in-Ok.circuit
+    let going = going_3 c.args.feed c.read_circuit.new.feed c.requires.unread c.requires.feed_not_stopped
+    c.in-Ok.circuit
     c.in-Ok.ensures (named_ports c.in_ok-ports.ports) c.read_layout.new.feed c.in_ok-ports.ensures.ports
     c.in-Ok-read_layout.layout c.in-Ok-read_layout.ensures.reads c.read_certificate.new.feed
     c.in-Ok-read_certificate.cert c.in-Ok-read_certificate.ensures.reads in
-    let fails = bundle_goes_on c.args.feed c.read_circuit.new.feed c.requires.unread c.requires.going c.in-Ok.circuit
+    let fails = bundle_goes_on c.args.feed c.read_circuit.new.feed c.requires.unread c.requires.feed_not_stopped
+    c.in-Ok.circuit
     c.in-Ok.ensures (named_ports c.in_ok-ports.ports) c.read_layout.new.feed c.in_ok-ports.ensures.ports
     c.in-Ok-read_layout.layout c.in-Ok-read_layout.ensures.reads c.read_certificate.new.feed
     c.in-Ok-read_certificate.cert c.in-Ok-read_certificate.ensures.reads
@@ -63,13 +67,14 @@ returns-in-Err-finish g c =
       answered = IfOk-weaker c.refusal_answer-in-Err-finish.result _ _
           (λ answered told. refusal_answers SaysReport
           (bundle_of c.args.feed.text) c.in-Err-finish.fault answered.output.items answered.outcome fails told)
-          c.refusal_answer-in-Err-finish.ensures.told;
+          c.refusal_answer-in-Err-finish.ensures.refusal_told;
     }
 
 -- the certificate's section was read last, and the end of the text was looked for after it
 pub prepare-requires : goal.prepare-requires
 prepare-requires g c =
-    let going = going_3 c.args.feed c.read_circuit.new.feed c.requires.unread c.requires.going c.in-Ok.circuit
+    let going = going_3 c.args.feed c.read_circuit.new.feed c.requires.unread c.requires.feed_not_stopped
+    c.in-Ok.circuit
     c.in-Ok.ensures (named_ports c.in_ok-ports.ports) c.read_layout.new.feed c.in_ok-ports.ensures.ports
     c.in-Ok-read_layout.layout c.in-Ok-read_layout.ensures.reads c.read_certificate.new.feed
     c.in-Ok-read_certificate.cert c.in-Ok-read_certificate.ensures.reads in
@@ -85,12 +90,14 @@ prepare-requires g c =
 
 pub returns : goal.returns
 returns g c =
-    let going = going_3 c.args.feed c.read_circuit.new.feed c.requires.unread c.requires.going c.in-Ok.circuit
+    let going = going_3 c.args.feed c.read_circuit.new.feed c.requires.unread c.requires.feed_not_stopped
+    c.in-Ok.circuit
     c.in-Ok.ensures (named_ports c.in_ok-ports.ports) c.read_layout.new.feed c.in_ok-ports.ensures.ports
     c.in-Ok-read_layout.layout c.in-Ok-read_layout.ensures.reads c.read_certificate.new.feed
     c.in-Ok-read_certificate.cert c.in-Ok-read_certificate.ensures.reads in
     let done = c.in_default.ensures.ok going in
-    let was_read = bundle_read c.args.feed c.read_circuit.new.feed c.requires.unread c.requires.going c.in-Ok.circuit
+    let was_read = bundle_read c.args.feed c.read_circuit.new.feed c.requires.unread c.requires.feed_not_stopped
+    c.in-Ok.circuit
     c.in-Ok.ensures (named_ports c.in_ok-ports.ports) c.read_layout.new.feed c.in_ok-ports.ensures.ports
     c.in-Ok-read_layout.layout c.in-Ok-read_layout.ensures.reads c.read_certificate.new.feed
     c.in-Ok-read_certificate.cert c.in-Ok-read_certificate.ensures.reads

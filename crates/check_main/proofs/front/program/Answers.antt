@@ -37,8 +37,8 @@ returns-in-Ok-clause-ran g c accepted = ran_for _ _ _ _ _ c.in-Ok.ensures.reques
   ended = c.run_request-ended.result;
   served = c.run_request-ended.ensures.serves;
   status_of_end = c.status_of.ensures.status;
-  said = c.status_of.ensures.said;
-  quiet = c.status_of.ensures.quiet;
+  said = c.status_of.ensures.fault_line_written;
+  quiet = c.status_of.ensures.errors_unchanged;
 })
 
 -- the promise of a yes, by the status
@@ -66,9 +66,9 @@ returns-in-Ok-clause-lines g c check one =
     c.run_request-ended.ensures.lines (c.in-Ok.ensures.request ∙ check.asked)
     (outcome_of No c.run_request-ended.result (sym c.status_of.ensures.status ∙ one))
 
-pub returns-in-Ok-clause-small : goal.returns-in-Ok-clause-small
-returns-in-Ok-clause-small g c check three =
-    c.run_request-ended.ensures.small (c.in-Ok.ensures.request ∙ check.asked)
+pub returns-in-Ok-clause-refused_not_small : goal.returns-in-Ok-clause-refused_not_small
+returns-in-Ok-clause-refused_not_small g c check three =
+    c.run_request-ended.ensures.refused_not_small (c.in-Ok.ensures.request ∙ check.asked)
     (outcome_of Refused c.run_request-ended.result (sym c.status_of.ensures.status ∙ three))
 
 pub returns-in-Err-clause-ran : goal.returns-in-Err-clause-ran

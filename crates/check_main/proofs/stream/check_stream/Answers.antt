@@ -36,9 +36,9 @@ returns-clause-lines g c is =
     c.in_ok-answered.ensures.lines c.in_ok-feed.ensures.read_all c.write_answer.result is
     c.write_answer.ensures.outcome c.write_answer.ensures.all
 
-pub returns-clause-small : goal.returns-clause-small
-returns-clause-small g c is =
+pub returns-clause-refused_not_small : goal.returns-clause-refused_not_small
+returns-clause-refused_not_small g c is =
     outcome_means IsNoSmallDesignText Refused (g.R.Source.left c.args.reader.now)
     (g.R.Source.left c.read_text.new.reader) c.in_ok-feed.feed.text c.in_ok-answered.answered.outcome
-    c.in_ok-answered.ensures.small c.in_ok-feed.ensures.read_all c.write_answer.result is
+    c.in_ok-answered.ensures.refused_not_small c.in_ok-feed.ensures.read_all c.write_answer.result is
     c.write_answer.ensures.outcome

@@ -5,8 +5,8 @@ use Rattle.core_book.proofs.Fillings.{filed-for}
 use Rattle.core_book.proofs.filling.fill_number.Goals.{in-Ok, in-Err}
 use Rattle.core_book.proofs.filling.fill_number.Goals as goal
 
-pub returns-clause-held : goal.returns-clause-held
-returns-clause-held c =
+pub returns-clause-held_or_filed : goal.returns-clause-held_or_filed
+returns-clause-held_or_filed c =
     let b = c.args.state.now in
     let lacks : is_some (found_in b c.args.number) ≡ false = search rules in
     elim c.match-file.branch [

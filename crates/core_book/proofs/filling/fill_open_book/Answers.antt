@@ -45,8 +45,8 @@ within : {Y : Type 0} (view : Y → JobView) (jobs : List Y) (g : List ℕ) (n :
     AreGroups (shapes_of (map view jobs)) g → n < length jobs → n < length g
 within view jobs g n are lt = grind (arith, common_steps, length-map)
 
-pub fill_number-requires-clause-alike : goal.fill_number-requires-clause-alike
-fill_number-requires-clause-alike c = λ other.
+pub fill_number-requires-clause-shapes_equal : goal.fill_number-requires-clause-shapes_equal
+fill_number-requires-clause-shapes_equal c = λ other.
     let jobs = map arc_value c.args.jobs.now in
     let g = c.in_ok-groups.groups.items in
     let n = c.numbers.number in
@@ -71,7 +71,7 @@ numbers-preserved c =
     (within arc_value c.args.jobs.now c.in_ok-groups.groups.items c.numbers.number c.in_ok-groups.ensures
     c.numbers-test.true) c.index.ensures in (
       filling-step c.args.state.now c.numbers.state c.fill_number.new.state c.numbers.number c.numbers.invariant.0
-          c.in_ok-fill_number.ensures.held,
+          c.in_ok-fill_number.ensures.held_or_filed,
       runs_step c.in_ok-groups.groups.items c.numbers.number c.args.runs.now c.numbers.runs c.fill_number.new.runs
           c.numbers.invariant.1
           (λ other. c.fill_number.ensures.no_run (λ e. other (first ∙ e))) c.fill_number.ensures.one_run,

@@ -7,6 +7,6 @@ returns c =
     record {
       unchanged = keeps_version_two;
       says_the_same = says_the_same;
-      once = migrates_once;
+      migration_idempotent = migrates_once;
       accepted = migration_is-accepted;
     }

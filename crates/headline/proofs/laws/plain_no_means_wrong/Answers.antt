@@ -3,4 +3,10 @@ use Rattle.headline.proofs.PlainTexts.{no_is_wrong, plain_is_decided, yes_off_ri
 use Rattle.headline.proofs.laws.plain_no_means_wrong.Goals as goal
 
 pub returns : goal.returns
-returns c = record { no = no_is_wrong; off_rim = yes_off_rim; decided = plain_is_decided; lines = plain_lines_decide }
+returns c =
+    record {
+      plain_no_is_wrong = no_is_wrong;
+      off_rim = yes_off_rim;
+      decided = plain_is_decided;
+      lines = plain_lines_decide;
+    }

@@ -8,7 +8,7 @@ pub returns : goal.returns
 returns c = record {
   one = one_design;
   certificate = one_certificate;
-  good = good_designs;
+  unrefused_is_good = good_designs;
   printed = printed_is_read;
   read = read_is_printed;
   begins = begins_with_one;

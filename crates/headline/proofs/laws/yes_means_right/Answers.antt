@@ -12,6 +12,6 @@ returns c =
       stops = yes_has_right_stops;
       in_full = yes_is_right_in_full;
       one_valuation = one_valuation;
-      told = fourth_line-tells;
+      fourth_line_shown = fourth_line-tells;
       line = fourth_line_is_line;
     }

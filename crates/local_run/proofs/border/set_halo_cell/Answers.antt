@@ -5,8 +5,8 @@ pub returns-then-is_different-clause-shows : goal.returns-then-is_different-clau
 returns-then-is_different-clause-shows c =
     let e = c.put.ensures in
     let shows = c.requires.shows in
-    let room = c.requires.ready.room in
-    let count = c.requires.ready.count in
+    let room = c.requires.job_ready.room in
+    let count = c.requires.job_ready.count in
     let s1 = shows.size.1 in
     record {
       size = (e.size.0 ∙ shows.size.0, e.size.1 ∙ shows.size.1, e.size.2 ∙ shows.size.2);

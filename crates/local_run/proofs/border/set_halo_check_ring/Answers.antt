@@ -8,10 +8,10 @@ use Rattle.local_run.proofs.Silence.{passed_edges, passed_halo}
 use Rattle.local_run.proofs.Stepping.{outer_inner}
 use Rattle.local_run.proofs.border.set_halo_check_ring.Goals as goal
 
-pub set_halo_test_ring_in_word-is_right-requires-clause-passed :
-    goal.set_halo_test_ring_in_word-is_right-requires-clause-passed
-set_halo_test_ring_in_word-is_right-requires-clause-passed c = λ u e none.
-    (rw c.marks.ensures at c.border_marks_to_check-word.ensures.passed) u (omega (arith, e)) none
+pub set_halo_test_ring_in_word-is_right-requires-clause-unset_are_skippable :
+    goal.set_halo_test_ring_in_word-is_right-requires-clause-unset_are_skippable
+set_halo_test_ring_in_word-is_right-requires-clause-unset_are_skippable c = λ u e none.
+    (rw c.marks.ensures at c.border_marks_to_check-word.ensures.unset_are_skippable) u (omega (arith, e)) none
 
 pub words-preserved : goal.words-preserved
 words-preserved c =
@@ -35,19 +35,19 @@ words-preserved-then-word-eq0 c =
     let p = c.words.marked_planes in
     let passed : (n : ℕ) → 64 * c.words.k ≤ n → n < 64 * (c.words.k + 1) →
     AreSkippableBetween n (n + 1) c.args.lines.now.marks.items p.planes =
-    λ n g h. (rw c.marks.ensures at c.border_marks_to_check-word.ensures.passed) n (omega arith)
+    λ n g h. (rw c.marks.ensures at c.border_marks_to_check-word.ensures.unset_are_skippable) n (omega arith)
     (whole_zero _ (n % 64) c.if-word-eq0.true) in
     record {
       shows = m.shows;
       halo = λ x y lx ly before. let n = number_at j.area x y in by_lt_or_le n (64 * c.words.k)
           (m.halo x y lx ly)
           (λ g. passed_halo j c.args.values.now p.planes c.args.lines.now.time n
-          (n + 1) x y c.args.lines.now.marks.items c.requires.ready
+          (n + 1) x y c.args.lines.now.marks.items c.requires.job_ready
           m.shows c.requires.lines (passed n g (omega (arith, before))) lx ly (omega arith) (omega arith));
       right = λ all x y lx ly before. let n = number_at j.area x y in by_lt_or_le n (64 * c.words.k)
           (m.right all x y lx ly)
           (λ g. passed_edges j c.args.values.now p.planes c.args.lines.now.time n
-          (n + 1) x y c.args.lines.now.marks.items c.requires.ready
+          (n + 1) x y c.args.lines.now.marks.items c.requires.job_ready
           m.shows c.requires.lines (passed n g (omega (arith, before))) lx ly (omega arith) (omega arith));
     }
 
@@ -59,8 +59,11 @@ returns-clause-halo c = λ x y lx ly.
     c.cells_per_plane-cells.ensures.count_is_exact ∙ ap (λ (p : Planes). p.stride * p.rows) c.planes.ensures
     ∙ ap₂ (λ s r. s * r) s1 s2 in
     c.words.invariant.halo x y lx ly
-    (omega
-    (arith, number_below c.args.job.now.area x y c.requires.ready.job.even.w c.requires.ready.job.even.h lx ly, long))
+    (omega (
+      arith,
+      number_below c.args.job.now.area x y c.requires.job_ready.job.even.w c.requires.job_ready.job.even.h lx ly,
+      long,
+    ))
 
 pub returns-clause-edges : goal.returns-clause-edges
 returns-clause-edges c = λ h.
@@ -82,6 +85,6 @@ returns-clause-edges c = λ h.
         ∙ ap₂ (λ s r. s * r) c.requires.shows.size.1 c.requires.shows.size.2 in
         omega (
           arith,
-          number_below c.args.job.now.area x y c.requires.ready.job.even.w c.requires.ready.job.even.h lx ly,
+          number_below c.args.job.now.area x y c.requires.job_ready.job.even.w c.requires.job_ready.job.even.h lx ly,
           long,
         )

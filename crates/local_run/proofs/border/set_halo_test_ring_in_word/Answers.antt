@@ -13,16 +13,16 @@ border-init c =
       halo = λ x y lx ly past.
           let n = number_at a.job.now.area x y in
           passed_halo a.job.now a.values.now m.planes a.lines.now.time n
-          (n + 1) x y a.lines.now.marks.items c.requires.ready
+          (n + 1) x y a.lines.now.marks.items c.requires.job_ready
           c.requires.shows c.requires.lines
-          (c.requires.passed n (omega (arith, past.0, past.1)) past.2) lx ly
+          (c.requires.unset_are_skippable n (omega (arith, past.0, past.1)) past.2) lx ly
           (omega arith) (omega arith);
       right = λ e x y lx ly past.
           let n = number_at a.job.now.area x y in
           passed_edges a.job.now a.values.now m.planes a.lines.now.time n
-          (n + 1) x y a.lines.now.marks.items c.requires.ready
+          (n + 1) x y a.lines.now.marks.items c.requires.job_ready
           c.requires.shows c.requires.lines
-          (c.requires.passed n (omega (arith, past.0, past.1)) past.2) lx ly
+          (c.requires.unset_are_skippable n (omega (arith, past.0, past.1)) past.2) lx ly
           (omega arith) (omega arith);
       same = λ b x y lb lx before. refl;
     }

@@ -11,7 +11,7 @@ returns-clause-edges c =
     less_steady j.edges c.args.time c.end_of_same_signals-edges.result _ c.end_of_same_signals.ensures.range.1
     (steady_moved j.edges (shift_to_origin j.area.x) (shift_to_origin j.area.y) c.args.time _
     (subst (λ (s : Signals). HasSameSignalsAtOddTimes s c.args.time c.end_of_same_signals-edges.result) is
-    c.end_of_same_signals-edges.ensures.steady))
+    c.end_of_same_signals-edges.ensures.signals_unchanged))
 
 pub returns-clause-halos : goal.returns-clause-halos
 returns-clause-halos c =
@@ -20,4 +20,4 @@ returns-clause-halos c =
     let is = c.halos.ensures ∙ ap (λ (s : ShapeView). s.halos) shape in
     steady_moved j.halos (shift_to_origin j.area.x) (shift_to_origin j.area.y) c.args.time _
     (subst (λ (s : Signals). HasSameSignalsAtOddTimes s c.args.time c.end_of_same_signals.result) is
-    c.end_of_same_signals.ensures.steady)
+    c.end_of_same_signals.ensures.signals_unchanged)

@@ -1,11 +1,11 @@
 use Rattle.local_run.proofs.QuietLemmas.{quiet_in, still_all_times}
 use Rattle.local_run.proofs.lines.mark_schedule.Goals as goal
 
-pub returns-clause-quiet : goal.returns-clause-quiet
-returns-clause-quiet c =
+pub returns-clause-unmarked_cells_zero : goal.returns-clause-unmarked_cells_zero
+returns-clause-unmarked_cells_zero c =
     let s = c.args.schedule.now in
     let b = c.args.area in
     let m = c.mark_events_at.ensures in
     let events = rw c.events.ensures.same_list at m.marked in
     quiet_in s b c.args.time c.mark_events_at.new.marks
-    (still_all_times s b c.args.marks.now c.mark_events_at.new.marks m.keeps c.requires.all_times) events
+    (still_all_times s b c.args.marks.now c.mark_events_at.new.marks m.marks_kept c.requires.all_times) events

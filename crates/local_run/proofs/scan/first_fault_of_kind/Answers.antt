@@ -20,8 +20,8 @@ returns-in-Some c =
     (λ x a l la. free_to j c.args.values.now c.args.search.time c.args.search.kind c.cells.x
     c.skip_faultless_columns-x.result
     c.rows.y
-    c.args.marked_planes.now.planes c.requires.ready c.requires.sought c.requires.shows (omega arith)
-    c.cells.invariant.cells next.at_end next.demands next.dead x a l (omega arith) la)
+    c.args.marked_planes.now.planes c.requires.job_ready c.requires.sought c.requires.shows (omega arith)
+    c.cells.invariant.cells next.skips_only_at_end next.demands next.passed_dead x a l (omega arith) la)
     c.in-Some.ensures
 
 pub cells-preserved : goal.cells-preserved
@@ -36,15 +36,15 @@ cells-preserved c =
     let stride : IsScanStride c.args.search.kind j.area.w j.area.h c.rows.y s =
     subst (λ (b : Box2). IsScanStride c.args.search.kind b.w b.h c.rows.y s) e c.scan_stride-stride.ensures in
     let here = next_at_end c.args.search.kind _ _ c.rows.y c.cells.x n s c.scan_stride-stride.ensures next.range
-    next.at_end
+    next.skips_only_at_end
     c.cells.invariant.at in
     let at = rw e at here in
     record {
       rows = c.cells.invariant.rows;
       cells = λ x a lx lw la. by_lt_or_le x n
           (λ l. free_to j c.args.values.now c.args.search.time c.args.search.kind c.cells.x n c.rows.y
-          c.args.marked_planes.now.planes c.requires.ready c.requires.sought c.requires.shows (omega arith)
-          c.cells.invariant.cells next.at_end next.demands next.dead x a l lw la)
+          c.args.marked_planes.now.planes c.requires.job_ready c.requires.sought c.requires.shows (omega arith)
+          c.cells.invariant.cells next.skips_only_at_end next.demands next.passed_dead x a l lw la)
           (λ g. by_eq_or_not x n
           (λ same. subst (λ (m : ℕ). IsFaultWhereDefined j c.args.values.now a c.args.search.time c.args.search.kind
           (box_coord j.area.x m)

@@ -5,7 +5,7 @@ use Rattle.local_run.proofs.scan.first_stop_fault.Goals as goal
 pub returns-in-Some : goal.returns-in-Some
 returns-in-Some c =
     stop_first c.args.job.now c.args.values.now c.args.time c.stops.place c.in-Some.assignment _
-    c.requires.ready.job.stops_rise c.stops.invariant
+    c.requires.job_ready.job.stops_rise c.stops.invariant
     c.stop-stop.ensures c.if-stop-time.false c.in-Some.ensures
 
 pub returns-after-stops : goal.returns-after-stops
@@ -16,7 +16,8 @@ returns-after-stops c =
 
 pub returns-then-stop-time : goal.returns-then-stop-time
 returns-then-stop-time c =
-    let past = past_these c.args.job.now c.args.values.now c.args.time c.stops.place _ c.requires.ready.job.stops_rise
+    let past = past_these c.args.job.now c.args.values.now c.args.time c.stops.place _
+    c.requires.job_ready.job.stops_rise
     c.stops.invariant
     c.stop-stop.ensures c.if-stop-time.true in
     (past.free, past.next)

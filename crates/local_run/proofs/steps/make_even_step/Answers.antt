@@ -3,4 +3,4 @@ use Rattle.local_run.proofs.steps.make_even_step.Goals as goal
 
 pub returns-clause-next : goal.returns-clause-next
 returns-clause-next c = even_shows c.args.job.now c.args.values.now c.args.time c.args.marked_planes.now.planes _
-    c.requires.ready c.requires.even c.requires.shows c.even_step.ensures.size c.even_step.ensures.turned
+    c.requires.job_ready c.requires.time_even c.requires.shows c.even_step.ensures.size c.even_step.ensures.turned

@@ -7,6 +7,7 @@ rows-init c =
     record {
       size = size;
       above = λ a x y la lx ly. absurd (omega arith);
-      below = λ a x y la lx ly. dead_lane c.args.marked_planes.now.planes (1 + x) (1 + y) a (c.requires.dead _)
+      below = λ a x y la lx ly. dead_lane c.args.marked_planes.now.planes (1 + x) (1 + y) a
+          (c.requires.all_cells_dead _)
           (let e = size.0 in rw e la);
     }

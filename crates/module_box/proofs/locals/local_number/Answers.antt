@@ -5,7 +5,7 @@ use Rattle.module_box.proofs.locals.local_number.Goals as goal
 pub unreachable-requires : goal.unreachable-requires
 unreachable-requires c = false≢true
     (sym (ap is_some c.in-None.is) ∙ ap is_some c.number-2.ensures ∙ place_among c.args.known.now c.number.result
-    ∙ ap (is_among c.args.known.now) c.number.ensures ∙ c.requires.known)
+    ∙ ap (is_among c.args.known.now) c.number.ensures ∙ c.requires.wire_known)
 
 pub returns-clause-wire : goal.returns-clause-wire
 returns-clause-wire c =

@@ -28,8 +28,8 @@ prove-unreachable-requires c =
     let below = slice_get_within n.gates c.used-item.result known.gate known.numbered in
     omega (arith, below)
 
-pub local_gate-local-requires-clause-known : goal.local_gate-local-requires-clause-known
-local_gate-local-requires-clause-known c =
+pub local_gate-local-requires-clause-inputs_known : goal.local_gate-local-requires-clause-inputs_known
+local_gate-local-requires-clause-inputs_known c =
     let n : Netlist = netlist_of c.args.circuit.now in
     let known = next_known n c.args.cuts.now c.args.gates.now c.gates.used-index c.used-item.result c.gates.known _
     c.requires.lines c.gates.invariant c.gates-test.true c.used-item.is in
@@ -48,7 +48,7 @@ gates-preserved c =
     let local : LocalGate = c.local_gate-local.result in
     let over : IsOver c.gates.known (gate_of c.gate-gate.result) (gate_of_local_gate local) = record {
       kind = c.local_gate-local.ensures.kind;
-      within = c.local_gate-local.ensures.within;
+      within = c.local_gate-local.ensures.inputs_within_known;
       ins = c.local_gate-local.ensures.ins;
       outs = ap (λ m. range_with_len m (defines (gate_of_local_gate local).kind)) c.local_gate-local.ensures.first;
     } in
@@ -59,7 +59,7 @@ gates-preserved c =
     (c.gates.used-index + 1) c.add_wires-in-gates.new.known done) (sym done)
     (part_more n c.args.cuts.now c.args.gates.now c.gates.used-index c.used-item.result c.gates.known
     c.add_wires-in-gates.new.known _ (gate_of c.gate-gate.result) (gate_of_local_gate local)
-    c.gates-gate_count.ensures.ordered c.gates.invariant c.gates-test.true c.used-item.is c.gate-gate.ensures over
+    c.gates-gate_count.ensures.gates_ordered c.gates.invariant c.gates-test.true c.used-item.is c.gate-gate.ensures over
     (c.in_ok-add_wires-2.ensures ∙ ap (λ (l : List ℕ). c.gates.known ++ l) c.outs.ensures))
 
 pub returns-clause-locals : goal.returns-clause-locals

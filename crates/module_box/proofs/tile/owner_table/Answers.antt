@@ -36,11 +36,11 @@ returns-then-gap-len c =
     let lt : place < length table = omega (arith, c.boxes.numbers.ok.0) in
     let within : place < blocks = (let b = t.bound in omega (arith, b, lt)) in (
       bad_block c.args.width c.args.height _ place c.args.boxes.now c.block_corner.result
-          c.first_box_outside-outside.ensures.before c.if-outside-boxes.false within
-          (taken_all_times columns blocks place c.args.boxes.now table t (omega (arith, lt)) free.before)
+          c.first_box_outside-outside.ensures.earlier_boxes_inside c.if-outside-boxes.false within
+          (taken_all_times columns blocks place c.args.boxes.now table t (omega (arith, lt)) free.earlier_places_taken)
           c.block_corner.ensures,
       taken_gap columns blocks place c.args.boxes.now table c.block_corner.result t lt
-          (free.found lt) c.block_corner.ensures,
+          (free.found_place_free lt) c.block_corner.ensures,
     )
 
 pub returns-then-len-blocks : goal.returns-then-len-blocks
@@ -54,9 +54,9 @@ returns-then-len-blocks c =
     let long : place ≡ length table = omega (arith, c.boxes.numbers.ok.0) in
     let within : place < blocks = omega arith in
     let full : (k : ℕ) → k < place → ¬ (slice_index table k ≡ length c.args.boxes.now) =
-    λ k p. free.before k (omega arith) in (
+    λ k p. free.earlier_places_taken k (omega arith) in (
       bad_block c.args.width c.args.height _ place c.args.boxes.now c.block_corner-then-len-blocks.result
-          c.first_box_outside-outside.ensures.before c.if-outside-boxes.false within
+          c.first_box_outside-outside.ensures.earlier_boxes_inside c.if-outside-boxes.false within
           (taken_all_times columns blocks place c.args.boxes.now table t (omega (arith, long)) full)
           c.block_corner-then-len-blocks.ensures,
       taken_twice columns blocks place c.args.boxes.now table c.block_corner-then-len-blocks.result t long within
@@ -71,11 +71,11 @@ returns c =
     let filled = filled_from (c.args.width / 2)
     (c.args.height / 2 * (c.args.width / 2)) c.boxes.number c.first_free_place-gap.result c.args.boxes.now
     c.boxes.numbers.items c.boxes.invariant (omega arith)
-    (omega (arith, c.boxes.numbers.ok.0)) (omega (arith, c.boxes.numbers.ok.0)) free.before in
+    (omega (arith, c.boxes.numbers.ok.0)) (omega (arith, c.boxes.numbers.ok.0)) free.earlier_places_taken in
     let table : IsOwnersTable owners_view =
     record { width = c.requires.width; height = c.requires.height; sized = filled.sized } in (
       refl,
       refl,
       owners_from owners_view c.args.boxes.now table c.requires.even filled
-          (all_inside _ _ _ _ c.first_box_outside-outside.ensures.before c.if-outside-boxes.false),
+          (all_inside _ _ _ _ c.first_box_outside-outside.ensures.earlier_boxes_inside c.if-outside-boxes.false),
     )

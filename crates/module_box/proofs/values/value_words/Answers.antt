@@ -13,8 +13,9 @@ pub gates-init : goal.gates-init
 gates-init c = column_none c.args.given.now c.args.gates.now c.in_ok-words.words.items c.in_ok-undefined.undefined.items
     (search rules) c.in_ok-undefined.ensures.items
 
-pub returns-clause-long : goal.returns-clause-long
-returns-clause-long c = column_long c.args.given.now c.args.gates.now c.gates.gate-index c.gates.words.items
+pub returns-clause-each_wire_has_word : goal.returns-clause-each_wire_has_word
+returns-clause-each_wire_has_word c =
+    column_long c.args.given.now c.args.gates.now c.gates.gate-index c.gates.words.items
     c.gates.undefined.items c.gates.defined (omega arith) c.gates.invariant
 
 pub returns-clause-says : goal.returns-clause-says

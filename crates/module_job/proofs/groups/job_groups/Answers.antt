@@ -15,7 +15,10 @@ have_same_shape-requires c =
     let summary : List ℕ = c.summary.result in
     let within = found_within _ c.jobs.number summary (get same_key c.jobs.summaries summary)
     (c.jobs.invariant.summaries summary) in
-    record { one = omega (arith, within, c.in_ok-group.ensures.first, c.jobs-test.true); other = c.jobs-test.true }
+    record {
+      one_below_count = omega (arith, within, c.in_ok-group.ensures.first, c.jobs-test.true);
+      other_below_count = c.jobs-test.true;
+    }
 
 pub first_of_shape-group-requires : goal.first_of_shape-group-requires
 first_of_shape-group-requires c =

@@ -13,8 +13,8 @@ returns-in-Some c =
     subst (λ (p : Pattern). LeavesAt p on c.in-Some.step) c.layout.view_is
     (leaves_at (pattern_of c.layout.inside) on g _ cells_taken_at_start c.in-Some.ensures.run)
 
-pub live_cells_in_order-requires-clause-small : goal.live_cells_in_order-requires-clause-small
-live_cells_in_order-requires-clause-small c = grind (arith, common_steps, size_sides)
+pub live_cells_in_order-requires-clause-sides_at_most_512 : goal.live_cells_in_order-requires-clause-sides_at_most_512
+live_cells_in_order-requires-clause-sides_at_most_512 c = grind (arith, common_steps, size_sides)
 
 pub returns : goal.returns
 returns c =

@@ -13,7 +13,7 @@ pub returns-then-is_err-clause-run : goal.returns-then-is_err-clause-run
 returns-then-is_err-clause-run c =
     run_leaves (live c.args.grid.now) c.loop-t.t c.loop-t.grid c.args.size (c.loop-t.invariant.size.0 ∙ c.requires.0)
     (c.loop-t.invariant.size.1 ∙ c.requires.1) (omega arith) c.loop-t.invariant.cells c.loop-t.invariant.stays
-    (at_err c.step.result _ c.step.ensures.left (sym c.is_err.ensures.value ∙ c.if-is_err.true))
+    (at_err c.step.result _ c.step.ensures.cell_leaves_on_error (sym c.is_err.ensures.value ∙ c.if-is_err.true))
 
 pub loop-t-preserved : goal.loop-t-preserved
 loop-t-preserved c =

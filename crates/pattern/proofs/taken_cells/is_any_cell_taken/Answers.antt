@@ -4,31 +4,31 @@ use Rattle.pattern.proofs.taken_cells.is_any_cell_taken.Goals as goal
 
 pub is_any_live_in-requires-clause-columns : goal.is_any_live_in-requires-clause-columns
 is_any_live_in-requires-clause-columns c =
-    (mirror_lies_on c.args.at_start.now c.args.part.now c.in-Mirror.r c.in-Mirror.is c.requires.at_start).0
+    (mirror_lies_on c.args.at_start.now c.args.part.now c.in-Mirror.r c.in-Mirror.is c.requires.start_on_part).0
 
 pub is_any_live_in-requires-clause-rows : goal.is_any_live_in-requires-clause-rows
 is_any_live_in-requires-clause-rows c =
-    (mirror_lies_on c.args.at_start.now c.args.part.now c.in-Mirror.r c.in-Mirror.is c.requires.at_start).1
+    (mirror_lies_on c.args.at_start.now c.args.part.now c.in-Mirror.r c.in-Mirror.is c.requires.start_on_part).1
 
 pub is_any_live-requires : goal.is_any_live-requires
 unfolding cells_of
 is_any_live-requires c =
-    one_lies_on c.args.at_start.now c.args.part.now c.in-Ball.cell (ap cells_of c.in-Ball.is) c.requires.at_start
+    one_lies_on c.args.at_start.now c.args.part.now c.in-Ball.cell (ap cells_of c.in-Ball.is) c.requires.start_on_part
 
 pub is_any_live-requires-in-In : goal.is_any_live-requires-in-In
 unfolding cells_of
 is_any_live-requires-in-In c =
-    one_lies_on c.args.at_start.now c.args.part.now c.in-In.port.cell (ap cells_of c.in-In.is) c.requires.at_start
+    one_lies_on c.args.at_start.now c.args.part.now c.in-In.port.cell (ap cells_of c.in-In.is) c.requires.start_on_part
 
 pub is_any_live-requires-in-Out : goal.is_any_live-requires-in-Out
 unfolding cells_of
 is_any_live-requires-in-Out c =
-    one_lies_on c.args.at_end.now c.args.part.now c.in-Out.port.cell (ap cells_of c.in-Out.is) c.requires.at_end
+    one_lies_on c.args.at_end.now c.args.part.now c.in-Out.port.cell (ap cells_of c.in-Out.is) c.requires.end_on_part
 
 pub is_any_live-requires-in-Waste : goal.is_any_live-requires-in-Waste
 unfolding cells_of
 is_any_live-requires-in-Waste c =
-    one_lies_on c.args.at_end.now c.args.part.now c.in-Waste.cell (ap cells_of c.in-Waste.is) c.requires.at_end
+    one_lies_on c.args.at_end.now c.args.part.now c.in-Waste.cell (ap cells_of c.in-Waste.is) c.requires.end_on_part
 
 pub returns-in-Mirror : goal.returns-in-Mirror
 unfolding takes_at_start cells_of

@@ -7,7 +7,8 @@ returns-then-has_number_length_and_start-clause-number c = number_read c.args.wo
     c.read_digits.ensures.number
     c.read_digits.ensures.none_means_no_digits
 
-pub returns-then-has_number_length_and_start-clause-small : goal.returns-then-has_number_length_and_start-clause-small
-returns-then-has_number_length_and_start-clause-small c = read_small c.args.word.now c.read_digits.result
+pub returns-then-has_number_length_and_start-clause-below_a_billion :
+    goal.returns-then-has_number_length_and_start-clause-below_a_billion
+returns-then-has_number_length_and_start-clause-below_a_billion c = read_small c.args.word.now c.read_digits.result
     (c.has_number_length_and_start.ensures.is_number_if_digits c.if-has_number_length_and_start.true)
     c.read_digits.ensures.number

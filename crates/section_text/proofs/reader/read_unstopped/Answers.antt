@@ -11,7 +11,7 @@ returns-in-None-clause-reads g c =
     (s.grammar c.read_items.new.section) c.args.feed.now c.read_header.new.feed c.read_items.new.feed
     c.read_items.new.feed c.in_ok-line.line
     (s.header c.read_header.new.section) (s.header c.read_items.new.section)
-    (s.items c.read_items.new.section) c.requires.going one.0 one.1 one.3 two.0 two.1 two.2 tt refl
+    (s.items c.read_items.new.section) c.requires.feed_not_stopped one.0 one.1 one.3 two.0 two.1 two.2 tt refl
     (sym c.missing.ensures ∙ c.in-None.is) refl
 
 pub returns-in-Some-clause-reads : goal.returns-in-Some-clause-reads
@@ -23,6 +23,6 @@ returns-in-Some-clause-reads g c =
     (s.grammar c.read_items.new.section) c.args.feed.now c.read_header.new.feed c.read_items.new.feed c.refuse.new.self
     c.in_ok-line.line
     (s.header c.read_header.new.section) (s.header c.read_items.new.section)
-    (s.items c.read_items.new.section) c.requires.going one.0 one.1 one.3 two.0 two.1 two.2 c.refuse.result
+    (s.items c.read_items.new.section) c.requires.feed_not_stopped one.0 one.1 one.3 two.0 two.1 two.2 c.refuse.result
     c.in-Some.code (sym c.missing.ensures ∙ c.in-Some.is)
-    (record { answer = c.refuse.ensures.answer; stopped = c.refuse.ensures.stopped })
+    (record { answer = c.refuse.ensures.answer; stopped = c.refuse.ensures.stop_recorded })

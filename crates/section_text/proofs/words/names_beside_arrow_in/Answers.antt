@@ -19,19 +19,19 @@ returns-in_err-outs c = grind (arith, common_steps, drop-drop, one_further, no_n
 pub returns-in-Some : goal.returns-in-Some
 returns-in-Some c =
     let ws = words_of c.args.line.now in
-    let behind = c.in_ok-ins.ensures.left ∙ ap (drop c.args.before) c.words_from.ensures
+    let behind = c.in_ok-ins.ensures.rest_of_words ∙ ap (drop c.args.before) c.words_from.ensures
     ∙ drop-drop c.args.before c.args.from ws in
     let here = sym c.next_word.ensures ∙ ap (λ r. words_of_rest (option_copied r)) (sym c.in_ok-rest.was) ∙ behind in
     let after = one_further ws (c.args.from + c.args.before) _ _ here in
     words_after ws c.args.from c.args.before c.args.after c.in-Some.field-0.now
     (ap (λ r. words_of_rest (option_copied r)) (sym c.in-Some.is)
-    ∙ c.in_ok-outs.ensures.left ∙ ap (drop c.args.after) after
+    ∙ c.in_ok-outs.ensures.rest_of_words ∙ ap (drop c.args.after) after
     ∙ drop-drop c.args.after (c.args.from + c.args.before + 1) ws)
 
 pub returns-in-None : goal.returns-in-None
 returns-in-None c =
     let ws = words_of c.args.line.now in
-    let behind = c.in_ok-ins.ensures.left ∙ ap (drop c.args.before) c.words_from.ensures
+    let behind = c.in_ok-ins.ensures.rest_of_words ∙ ap (drop c.args.before) c.words_from.ensures
     ∙ drop-drop c.args.before c.args.from ws in
     let here = sym c.next_word.ensures ∙ ap (λ r. words_of_rest (option_copied r)) (sym c.in_ok-rest.was) ∙ behind in
     let after = one_further ws (c.args.from + c.args.before) _ _ here in
@@ -41,5 +41,5 @@ returns-in-None c =
     (c.in_ok-ins.ensures.names ∙ names_from ws _ c.args.from c.args.before c.words_from.ensures)
     (c.in_ok-outs.ensures.names ∙ names_from ws _ (c.args.from + c.args.before + 1) c.args.after after)
     (ap (λ r. words_of_rest (option_copied r)) (sym c.in-None.is)
-    ∙ c.in_ok-outs.ensures.left ∙ ap (drop c.args.after) after
+    ∙ c.in_ok-outs.ensures.rest_of_words ∙ ap (drop c.args.after) after
     ∙ drop-drop c.args.after (c.args.from + c.args.before + 1) ws)

@@ -8,8 +8,8 @@ returns-clause-off_rim c = off_rim
 pub returns-clause-decides : goal.returns-clause-decides
 returns-clause-decides c = plain_decides
 
-pub returns-clause-no : goal.returns-clause-no
-returns-clause-no c = plain_no
+pub returns-clause-plain_no_is_wrong : goal.returns-clause-plain_no_is_wrong
+returns-clause-plain_no_is_wrong c = plain_no
 
 pub returns-clause-untimed : goal.returns-clause-untimed
 returns-clause-untimed c = untimed

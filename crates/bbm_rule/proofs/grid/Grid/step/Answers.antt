@@ -37,8 +37,10 @@ pub turn_all_aligned-requires-then-has_live_margin-clause-pairs_inside :
 turn_all_aligned-requires-then-has_live_margin-clause-pairs_inside c =
     grind (arith, common_steps, with_items_is, aligned_room)
 
-pub returns-then-has_live_margin-clause-left : goal.returns-then-has_live_margin-clause-left
-returns-then-has_live_margin-clause-left c = grind (arith, common_steps, with_items_is, odd_leaves, plane_of)
+pub returns-then-has_live_margin-clause-cell_leaves_on_error :
+    goal.returns-then-has_live_margin-clause-cell_leaves_on_error
+returns-then-has_live_margin-clause-cell_leaves_on_error c =
+    grind (arith, common_steps, with_items_is, odd_leaves, plane_of)
 
 pub invariant_of-self-then-has_live_margin : goal.invariant_of-self-then-has_live_margin
 invariant_of-self-then-has_live_margin c =
@@ -88,11 +90,11 @@ invariant_of-self-then-has_live_margin c =
     (omega (arith, g.odd_marks.ok.0)))
     long' again_e again_o
     (plane_same g.width g.height (64 * g.stride) g.words.items second same plane)
-    (rw whole at c.turn_all_aligned-then-has_live_margin.ensures.others)
+    (rw whole at c.turn_all_aligned-then-has_live_margin.ensures.others_calm)
     c.turn_all_aligned-then-has_live_margin.ensures.own_calm
 
-pub returns-then-has_live_margin-clause-unchanged : goal.returns-then-has_live_margin-clause-unchanged
-returns-then-has_live_margin-clause-unchanged c =
+pub returns-then-has_live_margin-clause-unchanged_on_error : goal.returns-then-has_live_margin-clause-unchanged_on_error
+returns-then-has_live_margin-clause-unchanged_on_error c =
     grind (arith, common_steps, with_items_is, plane_of, undone, board_of_words, board_same)
 
 pub invariant_of-self-else-has_live_margin : goal.invariant_of-self-else-has_live_margin
@@ -109,13 +111,13 @@ invariant_of-self-else-has_live_margin c =
     omega (arith, c.turn_all_aligned.auto.own, ap length c.deref_mut-3.ensures.value) in
     let items_e = with_items_is g.even_marks c.turn_all_aligned.new.others (omega (arith, g.even_marks.ok.0)) in
     let items_o = with_items_is g.odd_marks c.turn_all_aligned.new.own (omega (arith, g.odd_marks.ok.0)) in
-    let dead = rw (c.deref.ensures.value, items) at (c.has_live_margin.ensures.dead c.if-has_live_margin.false) in
+    let dead = rw (c.deref.ensures.value, items) at (c.has_live_margin.ensures.all_dead c.if-has_live_margin.false) in
     let whole : g.height / 2 + 1 - 1 ≡ g.height / 2 = omega arith in
     grid_of g _ _ _ first c.turn_all_aligned.new.others c.turn_all_aligned.new.own ok items items_e items_o long long_e
     long_o
     (odd_plane g.width g.height (64 * g.stride) (g.height / 2 + 1) g.words.items first (plane_of g ok) rows
     (omega (arith, ok.height.2)) dead)
-    (rw whole at c.turn_all_aligned.ensures.others) c.turn_all_aligned.ensures.own_calm
+    (rw whole at c.turn_all_aligned.ensures.others_calm) c.turn_all_aligned.ensures.own_calm
 
 pub returns-clause-stepped : goal.returns-clause-stepped
 returns-clause-stepped c =
@@ -126,7 +128,7 @@ returns-clause-stepped c =
     let long : length first ≡ length g.words.items =
     omega (arith, c.turn_all_aligned.auto.words, ap length c.deref_mut-2.ensures.value) in
     let items = with_items_is g.words first (omega (arith, g.words.ok.0)) in
-    let dead = rw (c.deref.ensures.value, items) at (c.has_live_margin.ensures.dead c.if-has_live_margin.false) in
+    let dead = rw (c.deref.ensures.value, items) at (c.has_live_margin.ensures.all_dead c.if-has_live_margin.false) in
     let e : 2 * (g.height / 2 + 1) ≡ g.height + 2 = omega (arith, ok.height.2) in
     let plane = plane_of g ok in
     let plane' = odd_plane g.width g.height (64 * g.stride) (g.height / 2 + 1) g.words.items first plane rows e dead in

@@ -22,15 +22,16 @@ returns c =
     let is = c.in_ok-add_number_once.ensures in
     let lt : number < length b.jobs.now =
     subst (λ (n : ℕ). n < length b.jobs.now) (sym c.owner-number.ensures)
-    (owner_within b x y c.requires.ready c.requires.inside) in
+    (owner_within b x y c.requires.borders_ready c.requires.cell_inside) in
     let got : slice_get (jobs_of b) number ≡ Some owner =
     job_at arc_value b.jobs.now number _ owner lt c.deref.ensures in
     let same = c.area.ensures.area in
     record {
-      noted = owner_noted b new number owner c.area.result c.requires.ready same got (with_among near new number is);
-      holds = owner_holds b x y owner c.area.result c.requires.ready c.requires.inside same
+      owners_listed = owner_noted b new number owner c.area.result c.requires.borders_ready same got
+          (with_among near new number is);
+      holds = owner_holds b x y owner c.area.result c.requires.borders_ready c.requires.cell_inside same
           (subst (λ (n : ℕ). slice_get (jobs_of b) n ≡ Some owner) c.owner-number.ensures got);
-      within = within_limits owner c.area.result same c.area.ensures.good;
-      kept = with_keeps near new number is;
-      below = with_below b near new number is c.requires.below lt;
+      fits_512 = within_limits owner c.area.result same c.area.ensures.job_valid;
+      numbers_kept = with_keeps near new number is;
+      numbers_exist = with_below b near new number is c.requires.numbers_exist lt;
     }

@@ -3,8 +3,8 @@ use Rattle.border_match.proofs.Cells.{area_at, in_whole}
 use Rattle.border_match.proofs.NearModules.{all_columns, columns_more}
 use Rattle.border_match.proofs.borders.Borders.add_other_owners_in_row.Goals as goal
 
-pub add_other_owner-requires-clause-inside : goal.add_other_owner-requires-clause-inside
-add_other_owner-requires-clause-inside c = grind (arith, common_steps, in_whole)
+pub add_other_owner-requires-clause-cell_inside : goal.add_other_owner-requires-clause-cell_inside
+add_other_owner-requires-clause-cell_inside c = grind (arith, common_steps, in_whole)
 
 pub columns-smaller : goal.columns-smaller
 columns-smaller c = grind (arith, common_steps, area_at)
@@ -19,10 +19,10 @@ columns-preserved c =
     record {
       noted = columns_more c.args.self.now c.columns.near.items c.add_other_owner.new.near.items c.args.y c.columns.next
           c.min-next.result c.columns.x owner _ _ (search rules) (search rules) now.holds (omega (arith, least))
-          (omega (arith, least)) before.noted now.kept now.noted;
+          (omega (arith, least)) before.noted now.numbers_kept now.owners_listed;
       after = omega (arith, least, before.after, at.1.1);
-      kept = λ k h. now.kept k (before.kept k h);
-      below = now.below;
+      kept = λ k h. now.numbers_kept k (before.kept k h);
+      below = now.numbers_exist;
     }
 
 pub returns : goal.returns
@@ -34,9 +34,9 @@ returns c =
     let end = c.columns-test.false in
     let all = c.columns.invariant in
     record {
-      noted = all_columns b c.columns.near.items c.args.y c.columns.next c.columns.x c.requires.ready
+      owners_listed = all_columns b c.columns.near.items c.args.y c.columns.next c.columns.x c.requires.borders_ready
           (λ d from lt. omega (arith, left, wide, least, end, from, lt)) all.noted;
-      after = all.after;
-      kept = all.kept;
-      below = all.below;
+      next_row_later = all.after;
+      numbers_kept = all.kept;
+      numbers_exist = all.below;
     }

@@ -11,4 +11,4 @@ returns c =
     (c.in_ok-seen.ensures.len ∙ c.halo_events.ensures ∙ sym marked.sized) c.deref-2.ensures.value in
     least_by_three _ _ _ _ _ _ _ c.with_edges-by_edges.ensures.better c.with_halo_events-by_halo.ensures
     c.with_star_faults.ensures
-    (λ h f. fault_unmarked b c.deref-2.result.now h c.requires.ready (subst (AreHaloMarks b) back marked) f)
+    (λ h f. fault_unmarked b c.deref-2.result.now h c.requires.borders_ready (subst (AreHaloMarks b) back marked) f)

@@ -10,7 +10,7 @@ returns c =
     let least = c.min-end.ensures in
     let end = c.rows-test.false in
     record {
-      noted = all_rows b c.rows.near.items c.rows.y c.requires
+      owners_listed = all_rows b c.rows.near.items c.rows.y c.requires
           (λ r from lt. omega (arith, top, high, least, end, from, lt)) c.rows.invariant.noted;
-      below = c.rows.invariant.below;
+      numbers_exist = c.rows.invariant.below;
     }

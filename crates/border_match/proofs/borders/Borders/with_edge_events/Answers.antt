@@ -43,7 +43,7 @@ events-preserved c = record {
       c.events-events.result.now c.edges.result.now _ (c.events.place + 1) _ h c.area.ensures.area c.area-2.ensures.area
       c.around-window.ensures c.events-events.ensures.same_list c.edges.ensures
       (c.deref-shape.ensures ∙ c.shape.ensures)
-      c.next_place_near-place.ensures.far f r));
+      c.next_place_near-place.ensures.passed_events_far f r));
   marked = c.with_edge_event-least.ensures.marked;
 }
 
@@ -64,7 +64,7 @@ returns-then-not-is_less c =
     let R : List TimedSignal → Type 0 = IsRising moment_cmp moment_of in
     let rising : R other.edges.events =
     events_unmoved (shift_to_origin other.area.x) (shift_to_origin other.area.y) (pos other.area.x) (pos other.area.y)
-    other.edges (omega (arith, ints)) (omega (arith, ints)) (subst R are c.events-events.ensures.rising) in
+    other.edges (omega (arith, ints)) (omega (arith, ints)) (subst R are c.events-events.ensures.rising_moments) in
     let covered = subst (HasCandidateAtMost c.events.least)
     (same_fault _ _ c.possible_fault_at.result c.possible_fault_at.ensures.time c.possible_fault_at.ensures.cell)
     (c.is_less.ensures c.if-not-is_less.true) in

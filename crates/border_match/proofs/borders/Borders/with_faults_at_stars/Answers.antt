@@ -10,9 +10,9 @@ pub stars-preserved : goal.stars-preserved
 stars-preserved c = better_then _ _ _ _ _ _ _ c.stars.invariant c.with_star_fault_at-least.ensures
     (λ h f r. star_step c.args.corner c.args.self.now c.args.stars.now c.stars.place _ c.in-Some.cell h
     c.stars-test.true
-    c.in-Some.ensures.around r)
+    c.in-Some.ensures.cell_moved r)
 
 pub stars-preserved-in_default : goal.stars-preserved-in_default
 stars-preserved-in_default c = better_for _ _ _ _ _ c.stars.invariant
     (λ h f r. star_far c.area-area.result c.args.corner c.args.self.now c.args.stars.now c.stars.place _ h
-    c.area-area.ensures.area c.stars-test.true c.in_default.ensures.far f r)
+    c.area-area.ensures.area c.stars-test.true c.in_default.ensures.far_if_none f r)

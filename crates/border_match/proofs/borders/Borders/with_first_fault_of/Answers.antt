@@ -7,7 +7,7 @@ pub returns-then-is_fault : goal.returns-then-is_fault
 returns-then-is_fault c =
     better_with _ _ _ _ _ (c.is_fault.ensures.0 c.if-is_fault.true)
     (λ h f same. first_is_least c.times.time c.args.cell h (not_before _ _ (c.times.invariant h f same)) same)
-    c.lesser.ensures.covers_as_before c.lesser.ensures.one c.lesser.ensures.covered
+    c.lesser.ensures.covers_as_before c.lesser.ensures.best_or_fault c.lesser.ensures.fault_covered
 
 pub returns : goal.returns
 returns c = better_same _ _ _ (λ h f same. c.times.invariant h f same (let e = f.early in omega (arith, e)))

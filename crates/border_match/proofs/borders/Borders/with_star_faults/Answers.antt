@@ -11,7 +11,7 @@ modules-preserved c =
     let number = get_or near c.modules.number-index 0 in
     let owner = c.deref.result.now in
     let got = job_at arc_value b.jobs.now number _ owner
-    (c.requires.below c.modules.number-index 0 c.modules-test.true) c.deref.ensures in
+    (c.requires.numbers_exist c.modules.number-index 0 c.modules-test.true) c.deref.ensures in
     better_then _ _ _ _ _ _ _ c.modules.invariant c.with_stars_of-least-in-modules.ensures
     (λ h f r. modules_step b near c.modules.number-index number 0 owner h c.modules-test.true refl got r)
 
@@ -19,5 +19,5 @@ pub returns : goal.returns
 returns c =
     let b = c.args.self.now in
     better_for _ _ _ _ _ c.modules.invariant
-    (λ h f d. star_covered b c.args.near.now h c.modules.number-index c.requires.ready c.requires.noted
+    (λ h f d. star_covered b c.args.near.now h c.modules.number-index c.requires.borders_ready c.requires.owners_listed
     c.modules-test.false f d)

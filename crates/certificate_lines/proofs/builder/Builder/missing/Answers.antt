@@ -5,8 +5,10 @@ use Rattle.certificate_lines.proofs.Imports.{◌∙◌, ◌≡◌}
 use Rattle.certificate_lines.proofs.BuiltLemmas.{live_gap, missing_none, missing_some}
 use Rattle.certificate_lines.proofs.builder.Builder.missing.Goals as goal
 
-pub are_all_cells_live-full-requires-clause-small : goal.are_all_cells_live-full-requires-clause-small
-are_all_cells_live-full-requires-clause-small c = let s = size_sides c.size-size.result c.size-size.ensures.limits in
+pub are_all_cells_live-full-requires-clause-sides_at_most_512 :
+    goal.are_all_cells_live-full-requires-clause-sides_at_most_512
+are_all_cells_live-full-requires-clause-sides_at_most_512 c =
+    let s = size_sides c.size-size.result c.size-size.ensures.limits in
     (s.0.most, s.1.most)
 
 pub returns-then-lacks-full : goal.returns-then-lacks-full

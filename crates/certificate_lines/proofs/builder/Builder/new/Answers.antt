@@ -16,4 +16,4 @@ invariant_of-result c =
     (with_none c.args.tables c.in_ok-covered.covered
     (c.in_ok-covered.ensures.size.0 ∙ ap (λ (s : LayoutHeader). s.w) c.size-size.ensures.size)
     (c.in_ok-covered.ensures.size.1 ∙ ap (λ (s : LayoutHeader). s.h) c.size-size.ensures.size)
-    c.in_ok-covered.ensures.dead _ _ _ c.first_key.ensures)
+    c.in_ok-covered.ensures.all_cells_dead _ _ _ c.first_key.ensures)

@@ -10,4 +10,4 @@ returns-clause-below_4096 c =
     let n : Netlist = netlist_of c.self.inside.circuit.now in
     let few : wires n ≤ 4096 =
     omega (arith, c.wires-wire_count.ensures.count, c.wires-wire_count.ensures.at_most_4096) in
-    outs_below n.given n.gates c.of.result 4096 (gate_of c.gate.result) c.gates.ensures.ordered c.gate.ensures few
+    outs_below n.given n.gates c.of.result 4096 (gate_of c.gate.result) c.gates.ensures.gates_ordered c.gate.ensures few

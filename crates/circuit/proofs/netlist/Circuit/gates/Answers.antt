@@ -6,5 +6,5 @@ use Rattle.circuit.proofs.netlist.Circuit.gates.Goals as goal
 pub returns-clause-at_most_1024 : goal.returns-clause-at_most_1024
 returns-clause-at_most_1024 c = grind (arith, common_steps, length-map, gates_counted)
 
-pub returns-clause-ordered : goal.returns-clause-ordered
-returns-clause-ordered c = grind (arith, common_steps, gates_are_ordered)
+pub returns-clause-gates_ordered : goal.returns-clause-gates_ordered
+returns-clause-gates_ordered c = grind (arith, common_steps, gates_are_ordered)

@@ -2,8 +2,8 @@ use Rattle.core_book.proofs.Imports.{sym, ◌∙◌}
 use Rattle.core_book.proofs.HeldJobs.{whole-job, other-job}
 use Rattle.core_book.proofs.book.BookState.found_for.Goals as goal
 
-pub returns-then-eq-clause-held : goal.returns-then-eq-clause-held
-returns-then-eq-clause-held c = (
+pub returns-then-eq-clause-finding_held : goal.returns-then-eq-clause-finding_held
+returns-then-eq-clause-finding_held c = (
   sym c.in-Some.ensures.held,
   whole-job c.args.job.now c.deref.result.now c.in-Some.finding.now c.eq.result c.eq.ensures
       (c.deref.ensures ∙ c.job.ensures) c.if-eq.true,

@@ -13,5 +13,5 @@ unmarked : (n : ℕ) (marks : List ℕ) (u : ℕ) → marks ≡ zeros n → IsUn
 unfolding cell_at
 unmarked n marks u e = rw (e, zero_word n (u / 64)) (bit-zero (u % 64))
 
-pub returns-clause-none : goal.returns-clause-none
-returns-clause-none c u = grind (arith, common_steps, unmarked)
+pub returns-clause-no_cell_marked : goal.returns-clause-no_cell_marked
+returns-clause-no_cell_marked c u = grind (arith, common_steps, unmarked)

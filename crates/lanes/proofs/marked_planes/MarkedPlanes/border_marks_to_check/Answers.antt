@@ -7,7 +7,7 @@ returns c =
     let f = c.args.self.now in
     let says = rw c.deref.ensures.value at c.marked_in_first_and_other.ensures in
     record {
-      passed = λ u e none column row lc lr after before.
+      unset_are_skippable = λ u e none column row lc lr after before.
           let s = f.planes.stride in
           let at : u ≡ s * row + column = omega arith in
           let within : s * row + column < s * f.planes.rows =

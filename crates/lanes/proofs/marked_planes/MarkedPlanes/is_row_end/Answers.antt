@@ -2,8 +2,8 @@ use Rattle.lanes.proofs.Imports.{arith, sym, ◌∙◌}
 use Rattle.lanes.proofs.InsideLemmas.{not_last}
 use Rattle.lanes.proofs.marked_planes.MarkedPlanes.is_row_end.Goals as goal
 
-pub returns-else-is_marked-clause-other : goal.returns-else-is_marked-clause-other
-returns-else-is_marked-clause-other c = λ h e.
+pub returns-else-is_marked-clause-not_row_end : goal.returns-else-is_marked-clause-not_row_end
+returns-else-is_marked-clause-not_row_end c = λ h e.
     let f = c.args.self.now in
     let wide = f.planes.some.2 in
     let marked = rw c.deref.ensures.value at c.is_marked.ensures in

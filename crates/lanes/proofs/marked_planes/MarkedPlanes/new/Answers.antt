@@ -5,7 +5,7 @@ use Rattle.lanes.proofs.marked_planes.MarkedPlanes.new.Goals as goal
 
 pub invariant_of-result-clause-all_dead : goal.invariant_of-result-clause-all_dead
 invariant_of-result-clause-all_dead c =
-    dead_all c.in_ok-live_marks.live_marks c.in_ok-planes.planes c.in_ok-planes.ensures.dead
+    dead_all c.in_ok-live_marks.live_marks c.in_ok-planes.planes c.in_ok-planes.ensures.all_cells_dead
 
 pub invariant_of-result-clause-all_inner : goal.invariant_of-result-clause-all_inner
 invariant_of-result-clause-all_inner c =

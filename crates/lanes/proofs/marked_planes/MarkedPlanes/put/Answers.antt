@@ -12,7 +12,8 @@ invariant_of-self-clause-calm c =
       c.stride.ensures.stride_is_exact,
       c.cell_number-u.ensures.number_is_exact,
     ) at c.mark_changes.ensures.marked in
-    still_stable _ _ _ f.block_marks c.mark_changes.new.self f.planes c.put.new.self e.put.size e.cells marks f.calm
+    still_stable _ _ _ f.block_marks c.mark_changes.new.self f.planes c.put.new.self e.cell_set.size e.cells marks
+    f.calm
 
 pub invariant_of-self-clause-all_dead : goal.invariant_of-self-clause-all_dead
 invariant_of-self-clause-all_dead c =
@@ -24,4 +25,4 @@ invariant_of-self-clause-all_dead c =
       c.block_places-block.ensures.block,
       c.cell_number-u.ensures.number_is_exact,
     ) at c.mark_cells.ensures.cells in
-    cells_dead _ _ _ f.live_marks c.mark_cells.new.self f.planes c.put.new.self e.put.size e.cells marks f.all_dead
+    cells_dead _ _ _ f.live_marks c.mark_cells.new.self f.planes c.put.new.self e.cell_set.size e.cells marks f.all_dead

@@ -2,8 +2,8 @@ use Rattle.lanes.proofs.Imports.{arith, by_eq_or_not, ◌%◌, ◌*◌, ◌+◌,
 use Rattle.lanes.proofs.PlaneWords.{dead_down, dead_even, dead_odd, dead_right}
 use Rattle.lanes.proofs.marked_planes.MarkedPlanes.skip_dead_in_row.Goals as goal
 
-pub returns-clause-dead : goal.returns-clause-dead
-returns-clause-dead c a k la from before =
+pub returns-clause-passed_dead : goal.returns-clause-passed_dead
+returns-clause-passed_dead c a k la from before =
     let f = c.args.self.now in
     let p = f.planes in
     let y = c.args.y in

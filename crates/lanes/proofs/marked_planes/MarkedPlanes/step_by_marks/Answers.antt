@@ -11,7 +11,7 @@ words-preserved c =
     (c.words.changed ≡ 0) × (c.turn_marked_blocks-changed.result ≡ 0) = λ e. (omega (arith, e), omega (arith, e)) in
     record {
       size = (t.size.0 ∙ m.size.0, t.size.1 ∙ m.size.1, t.size.2 ∙ m.size.2);
-      stays = λ e. t.stays (none e).1 ∙ m.stays (none e).0;
+      stays = λ e. t.unchanged_if_zero (none e).1 ∙ m.stays (none e).0;
       count = (omega arith, omega arith);
       turned = word_more c.args.partition c.args.self.now.planes c.words.self.planes
           c.turn_marked_blocks-changed.new.self.planes c.words.k c.min-end.result c.block_count-blocks.result m.size

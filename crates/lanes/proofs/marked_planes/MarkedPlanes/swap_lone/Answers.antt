@@ -32,5 +32,6 @@ invariant_of-self-clause-freezes c =
     still_frozen c.args.partition f.frozen f.planes c.swap-2.new.self c.swap-2.ensures.size
     (one_may_turn c.args.partition f.planes c.swap-2.new.self c.args.u c.requires.block
     (lone_turned c.args.diagonal (block_at c.args.partition f.planes.stride c.args.u) f.live_marks f.planes
-    c.swap-2.new.self (cells_of c.args.partition f.planes c.args.u c.requires.block.0) c.requires.lone f.all_dead swap))
+    c.swap-2.new.self (cells_of c.args.partition f.planes c.args.u c.requires.block.0) c.requires.diagonal_lone
+    f.all_dead swap))
     f.freezes

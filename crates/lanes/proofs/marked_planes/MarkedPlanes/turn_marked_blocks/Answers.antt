@@ -38,7 +38,7 @@ marked-preserved-then-turn_block c =
       count = (omega arith, omega arith);
       turned = one_more a.partition a.self.now.planes c.marked.self.planes c.turn_block.new.self.planes
           (a.first + c.take_first-place.result.0) a.first a.end c.marked.rest c.take_first-place.result.1 one m.size
-          m.turned t.turned t.last;
+          m.turned t.turned t.row_end_unchanged;
     }
 
 pub marked-preserved : goal.marked-preserved
@@ -51,9 +51,9 @@ marked-preserved c =
     (omega arith) (omega arith) taken.first.0 (omega arith) taken.first.1 taken.rest.0 taken.rest.1 in
     record {
       size = (t.size.0 ∙ m.size.0, t.size.1 ∙ m.size.1, t.size.2 ∙ m.size.2);
-      stays = λ e. t.stays c.if-turn_block.false ∙ m.stays e;
+      stays = λ e. t.unchanged_if_false c.if-turn_block.false ∙ m.stays e;
       count = (omega arith, omega arith);
       turned = one_more a.partition a.self.now.planes c.marked.self.planes c.turn_block.new.self.planes
           (a.first + c.take_first-place.result.0) a.first a.end c.marked.rest c.take_first-place.result.1 one m.size
-          m.turned t.turned t.last;
+          m.turned t.turned t.row_end_unchanged;
     }

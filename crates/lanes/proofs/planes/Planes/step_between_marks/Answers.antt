@@ -22,13 +22,14 @@ runs-preserved c =
     by_row_end part q.stride n (λ i. i) (λ out.
     let out = rw m.size.1 at out in
     absurd (false≢true (sym (marked.passed_unmarked n g h)
-    ∙ c.requires.calm.last n (omega (arith, h, marked.range.1, blocks)) out))) in
+    ∙ c.requires.marked_blocks_stable.last n (omega (arith, h, marked.range.1, blocks)) out))) in
     let run = run_turned part q r at (end - at) end (omega (arith, marked.range.0)) inside e.part in
     record {
       size = size;
       within = next.range.1;
       unmarked = next.unmarked;
-      turned = run_skipped part p r c.args.marks.now end c.next_unmarked-at-in-runs.result c.requires.calm
+      turned = run_skipped part p r c.args.marks.now end c.next_unmarked-at-in-runs.result
+          c.requires.marked_blocks_stable
           (omega (arith, next.range.1, blocks)) next.passed_marked
           (join part p q r at end m.size (omega (arith, marked.range.0)) m.turned run) next.range.0;
       first = first_join part p q r m.size m.first (first_part part q r at (q.words * (end - at)) e.part);

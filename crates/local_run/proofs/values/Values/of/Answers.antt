@@ -27,11 +27,11 @@ returns c =
     let known = c.without_undefined-rows.ensures in
     let rows : AreValueRows c.args.job.now.locals.netlist c.div_ceil-words.result c.without_undefined-rows.result =
     subst (λ (m : Netlist). AreValueRows m c.div_ceil-words.result c.without_undefined-rows.result) e
-    (rows_kept _ c.div_ceil-words.result _ _ known.defined known.undefined known.long known.keeps
+    (rows_kept _ c.div_ceil-words.result _ _ known.defined known.undefined known.length_unchanged known.keeps
     c.in_ok-value_rows.ensures) in
     record {
       job = c.requires;
-      ordered = subst (λ (l : Netlist). AreOrdered l.given l.gates) e c.cuts-count.ensures.ordered;
+      ordered = subst (λ (l : Netlist). AreOrdered l.given l.gates) e c.cuts-count.ensures.gates_ordered;
       wide = (w.0, w.1);
       count = count;
       room = w.2;

@@ -2,8 +2,8 @@ use Rattle.module_box.proofs.Imports.{IfSome, LocalNet, ap, circuit_wire, get_or
 use Rattle.module_box.proofs.WireLists.{place_among, place_holds}
 use Rattle.module_box.proofs.locals.Locals.module_number.Goals as goal
 
-pub returns-clause-found : goal.returns-clause-found
-returns-clause-found c =
+pub returns-clause-found_if_known : goal.returns-clause-found_if_known
+returns-clause-found_if_known c =
     ap is_some c.number-2.ensures ∙ place_among c.self.inside.circuit_wires c.number.result
     ∙ ap (is_among c.self.inside.circuit_wires) c.number.ensures
     ∙ ap (λ (l : LocalNet). is_among l.circuit_wires c.args.wire) c.self.view_is

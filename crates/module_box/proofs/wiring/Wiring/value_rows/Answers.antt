@@ -11,30 +11,32 @@ chunks-preserved c =
     let gaps : List ℕ = c.chunks.undefined.items in
     let gaps' : List ℕ = c.put_word_in_each_row-in-chunks.new.rows in
     let kept_len : c.chunks.values.len ≡ length values' =
-    sym (c.put_word_in_each_row.ensures.long ∙ c.deref_mut.ensures.len) in
+    sym (c.put_word_in_each_row.ensures.length_unchanged ∙ c.deref_mut.ensures.len) in
     let same : take c.chunks.values.len (values' ++ drop (length values') values) ≡ values' =
     ap (λ n. take n (values' ++ drop (length values') values)) kept_len
     ∙ take-append_seam values' (drop (length values') values) in
     let kept_len' : c.chunks.undefined.len ≡ length gaps' =
-    sym (c.put_word_in_each_row-in-chunks.ensures.long ∙ c.deref_mut-in-chunks.ensures.len) in
+    sym (c.put_word_in_each_row-in-chunks.ensures.length_unchanged ∙ c.deref_mut-in-chunks.ensures.len) in
     let same' : take c.chunks.undefined.len (gaps' ++ drop (length gaps') gaps) ≡ gaps' =
     ap (λ n. take n (gaps' ++ drop (length gaps') gaps)) kept_len'
     ∙ take-append_seam gaps' (drop (length gaps') gaps) in
     let more : AreRowsBelow l c.args.words (c.chunks.chunk + 1) values' gaps' c.push.new.self.items =
     rows_more l c.args.words c.chunks.chunk c.in_ok-column.column.defined c.in_ok-column.column.words.items
     c.in_ok-column.column.undefined.items values values' gaps gaps' c.chunks.defined.items c.push.new.self.items
-    c.words_of_chunk.ensures.ordered c.chunks-test.true
+    c.words_of_chunk.ensures.gates_ordered c.chunks-test.true
     (written c.args.words c.chunks.chunk
     (wires l) c.in_ok-column.column.words.items values values' c.deref.result.now c.deref_mut.result.now
-    c.deref.ensures.value c.deref_mut.ensures.value c.in_ok-column.ensures.count c.put_word_in_each_row.ensures.put
+    c.deref.ensures.value c.deref_mut.ensures.value c.in_ok-column.ensures.count
+    c.put_word_in_each_row.ensures.column_put_in_rows
     c.put_word_in_each_row.ensures.others_unchanged)
     (written c.args.words c.chunks.chunk
     (length l.gates) c.in_ok-column.column.undefined.items gaps gaps' c.deref-in-chunks.result.now
     c.deref_mut-in-chunks.result.now c.deref-in-chunks.ensures.value c.deref_mut-in-chunks.ensures.value
     c.in_ok-column.ensures.gates
-    c.put_word_in_each_row-in-chunks.ensures.put c.put_word_in_each_row-in-chunks.ensures.others_unchanged)
-    (c.put_word_in_each_row.ensures.long ∙ ap length c.deref_mut.ensures.value)
-    (c.put_word_in_each_row-in-chunks.ensures.long ∙ ap length c.deref_mut-in-chunks.ensures.value)
+    c.put_word_in_each_row-in-chunks.ensures.column_put_in_rows
+    c.put_word_in_each_row-in-chunks.ensures.others_unchanged)
+    (c.put_word_in_each_row.ensures.length_unchanged ∙ ap length c.deref_mut.ensures.value)
+    (c.put_word_in_each_row-in-chunks.ensures.length_unchanged ∙ ap length c.deref_mut-in-chunks.ensures.value)
     (search rules) c.in_ok-column.ensures.values c.chunks.invariant in
     subst (λ (rows : List ℕ). AreRowsBelow l c.args.words (c.chunks.chunk + 1) rows
     (take c.chunks.undefined.len (gaps' ++ drop (length gaps') gaps)) c.push.new.self.items) (sym same)

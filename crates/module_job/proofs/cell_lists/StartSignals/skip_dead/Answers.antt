@@ -2,7 +2,7 @@ use Rattle.module_job.proofs.Imports.{Zero, ap, signal_from_number, slice_get, s
 use Rattle.module_job.proofs.NumberedCells.{start_found}
 use Rattle.module_job.proofs.cell_lists.StartSignals.skip_dead.Goals as goal
 
-pub returns-clause-dead : goal.returns-clause-dead
-returns-clause-dead c u from before =
+pub returns-clause-passed_dead : goal.returns-clause-passed_dead
+returns-clause-passed_dead c u from before =
     sym (ap (λ cells. unwrap_or (slice_get cells u) Zero) c.self.view_is) ∙ sym (start_found c.self.inside.numbers u)
     ∙ ap signal_from_number (c.skip_zeros.ensures.zeros u from before)

@@ -8,15 +8,15 @@ use Rattle.pattern.proofs.draft.Draft.cell_code.Goals as goal
 pub returns-then-not-is_inside : goal.returns-then-not-is_inside
 returns-then-not-is_inside c = grind (arith, common_steps, outside_is_fault)
 
-pub is_any_cell_taken-requires-clause-at_start : goal.is_any_cell_taken-requires-clause-at_start
-is_any_cell_taken-requires-clause-at_start c =
+pub is_any_cell_taken-requires-clause-start_on_part : goal.is_any_cell_taken-requires-clause-start_on_part
+is_any_cell_taken-requires-clause-start_on_part c =
     lies_on c.self.inside.cells_taken_at_start c.size.result c.size.ensures.limits
     (c.self.invariant.begun_width ∙ ap (λ (s : LayoutHeader). s.w) (sym c.size.ensures.size))
     (c.self.invariant.begun_height ∙ ap (λ (s : LayoutHeader). s.h) (sym c.size.ensures.size))
     c.args.part.now (sym c.is_inside.ensures ∙ c.if-not-is_inside.false)
 
-pub is_any_cell_taken-requires-clause-at_end : goal.is_any_cell_taken-requires-clause-at_end
-is_any_cell_taken-requires-clause-at_end c =
+pub is_any_cell_taken-requires-clause-end_on_part : goal.is_any_cell_taken-requires-clause-end_on_part
+is_any_cell_taken-requires-clause-end_on_part c =
     lies_on c.self.inside.cells_taken_at_end c.size.result c.size.ensures.limits
     (c.self.invariant.ended_width ∙ ap (λ (s : LayoutHeader). s.w) (sym c.size.ensures.size))
     (c.self.invariant.ended_height ∙ ap (λ (s : LayoutHeader). s.h) (sym c.size.ensures.size))
