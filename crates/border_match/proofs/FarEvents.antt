@@ -1,10 +1,9 @@
 -- Moments and events that a search for the cells around a box passes over
-use Rattle.border_match.proofs.Imports.{Box2, Cell, Equal, Greater, IsInWindow}
-use Rattle.border_match.proofs.Imports.{IsRising, IsWindowAround, Less, List, Moment, Ordering, Some, TimedSignal}
-use Rattle.border_match.proofs.Imports.{Window, arith, below_or_same, cell_cmp, common_steps}
-use Rattle.border_match.proofs.Imports.{get_or, inl, inr, ints, length, moment_cmp, moment_of, moment_total}
-use Rattle.border_match.proofs.Imports.{pos, refl, same_some, slice_get, slice_get-get_or, slice_get_within, ℕ, ℤ}
-use Rattle.border_match.proofs.Imports.{◌%◌, ◌+ℤ◌, ◌+◌, ◌<◌, ◌∙◌, ◌≡◌, ◌≢◌, ◌≤◌, ◌⊎◌}
+use Rattle.border_match.proofs.Imports.{Box2, Cell, Equal, Greater, IsInWindow, IsRising, IsWindowAround, Less, List}
+use Rattle.border_match.proofs.Imports.{Moment, Ordering, Some, TimedSignal, Window, arith, below_or_same, cell_cmp}
+use Rattle.border_match.proofs.Imports.{common_steps, get_or, inl, inr, ints, length, moment_cmp, moment_of}
+use Rattle.border_match.proofs.Imports.{moment_total, pos, refl, same_some, slice_get, slice_get-get_or}
+use Rattle.border_match.proofs.Imports.{slice_get_within, ℕ, ℤ, ◌%◌, ◌+ℤ◌, ◌+◌, ◌<◌, ◌∙◌, ◌≡◌, ◌≢◌, ◌≤◌, ◌⊎◌}
 use Rattle.lemmas.proofs.Common.{◌<ℤ◌, ◌≤ℤ◌, ordering_then, int_equal, int_less, nat_equal, nat_less, same_or_higher}
 use Rattle.border_match.specs.Surroundings.{AreMomentsFarBetween, IsInOrAroundFromCorner}
 

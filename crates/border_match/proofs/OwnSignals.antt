@@ -1,8 +1,7 @@
 -- A wire that the signals of a job name is one of its own, at each cell and time
-use Rattle.border_match.proofs.Imports.{All, All-head, All-tail, AllTimesSignal, JobView, List}
-use Rattle.border_match.proofs.Imports.{Signal, Signals, TimedSignal, Zero, [], all_times_at, cases_Bool, event_at}
-use Rattle.border_match.proofs.Imports.{inl, inr, is_at, is_moment_at, signal_at}
-use Rattle.border_match.proofs.Imports.{unwrap_or, ℕ, ℤ, ◌∷◌}
+use Rattle.border_match.proofs.Imports.{All, All-head, All-tail, AllTimesSignal, JobView, List, Signal, Signals}
+use Rattle.border_match.proofs.Imports.{TimedSignal, Zero, [], all_times_at, cases_Bool, event_at, inl, inr, is_at}
+use Rattle.border_match.proofs.Imports.{is_moment_at, signal_at, unwrap_or, ℕ, ℤ, ◌∷◌}
 use Rattle.circuit.specs.Meaning.{wires}
 use Rattle.module_job.specs.Jobs.{NamesOwnWires}
 use Rattle.module_job.specs.Signals.{IsSignalWireBelow}

@@ -1,7 +1,6 @@
 -- Border faults by the jobs of the modules, and the parts of a search for them
 use Rattle.std.specs.Prelude.{◌≡◌, ◌≢◌, ℕ, ℤ, pos, ◌+◌, ◌+ℤ◌, ◌≤ℤ◌, ◌<◌, ◌-◌, ◌%◌, ◌&&◌, ◌++◌, ◌∷◌, if◌then◌else◌, true}
-use Rattle.std.specs.Prelude.{false, List, length, map}
-use Rattle.std.specs.Prelude.{[], Bool, ◌≤◌, ◌⊎◌, Some, None, slice_get, IsTrue}
+use Rattle.std.specs.Prelude.{false, List, length, map, [], Bool, ◌≤◌, ◌⊎◌, Some, None, slice_get, IsTrue}
 use Rattle.std.specs.List.{All}
 use Rattle.std.specs.Arc.{arc_value}
 use Rattle.bbm_rule.specs.declared.block.Cell.{Cell}

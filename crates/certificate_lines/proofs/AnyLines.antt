@@ -1,8 +1,6 @@
 -- Whether some line of some module passes a test
-use Rattle.certificate_lines.proofs.Imports.{Bool, List, [], ap, arith, common_steps, false, get_or, if◌then◌else◌}
-use Rattle.certificate_lines.proofs.Imports.{length, list_any, list_any-append, refl, true, ℕ, ◌&&◌, ◌<◌, ◌||◌, ◌∙◌}
-use Rattle.certificate_lines.proofs.Imports.{◌∷◌, ◌≡◌}
-use Rattle.lemmas.proofs.Common.{list_any_at}
+use Rattle.certificate_lines.proofs.Imports.{Bool, List, [], ap, false, if◌then◌else◌, list_any, list_any-append, refl}
+use Rattle.certificate_lines.proofs.Imports.{true, ◌&&◌, ◌||◌, ◌∙◌, ◌∷◌, ◌≡◌}
 use Rattle.std.specs.List.{filter, flat_map}
 
 passes_if : {A : Type 0} (test : A → Bool) (b : Bool) (x : A) (xs : List A) (more : Bool) → list_any test xs ≡ more →
@@ -20,7 +18,3 @@ module _ {A X : Type 0} (test : A → Bool) (f : X → List A) where
   pub any_flat : (xs : List X) → list_any test (flat_map f xs) ≡ list_any (λ x. list_any test (f x)) xs
   any_flat [] = refl
   any_flat (x ∷ xs) = list_any-append test (f x) (flat_map f xs) ∙ ap (λ b. list_any test (f x) || b) (any_flat xs)
-
-  pub any_here : (xs : List X) (i : ℕ) (x : X) → i < length xs → x ≡ get_or xs i x → list_any test (f x) ≡ true →
-      list_any test (flat_map f xs) ≡ true
-  any_here xs i x lt is h = grind (arith, common_steps, any_flat, list_any_at)

@@ -1,10 +1,10 @@
 -- The modules so far, after one more module and after one more line.
 use Rattle.certificate_lines.proofs.Imports.{AreApart, AreBuilt, AreGoodModulesSoFar, AreInOrder, Board, Bool, Box2}
-use Rattle.certificate_lines.proofs.Imports.{Cell, CertificateLine, Counts, HasSameSize, IsEven, IsInside, IsModule}
+use Rattle.certificate_lines.proofs.Imports.{Cell, CertificateLine, HasSameSize, IsEven, IsInside, IsModule}
 use Rattle.certificate_lines.proofs.Imports.{IsModuleInLimits, LayoutHeader, List, ModuleLines, None, Option}
 use Rattle.certificate_lines.proofs.Imports.{RefusalCode, Setting, Some, SomethingMissing, StarsExcludeLaterTimes, []}
 use Rattle.certificate_lines.proofs.Imports.{ap, ap₂, areas, arith, module_box_code, change_last, code_if, common_steps}
-use Rattle.certificate_lines.proofs.Imports.{counts_of, end_fault, false, has_nonlocal_port, in_box, inl, inr}
+use Rattle.certificate_lines.proofs.Imports.{end_fault, false, has_nonlocal_port, in_box, inl, inr}
 use Rattle.certificate_lines.proofs.Imports.{is_last_module_incomplete, is_odd, last_of, length, length_push, list_all}
 use Rattle.certificate_lines.proofs.Imports.{list_any, list_any-append, live, map-append, module_line_code}
 use Rattle.certificate_lines.proofs.Imports.{module_with_line, modules_of, nat_lt, nat_tests, none_at, not, pushed}
@@ -15,7 +15,6 @@ use Rattle.lemmas.proofs.Common.{not_below_by_test, or_parts}
 use Rattle.certificate_lines.specs.Rules.{is_bad_box_side, is_misplaced, leaves_gap, overlaps, in_boxes}
 use Rattle.section_text.specs.declared.code.RefusalCode.TheVariants.{MisplacedBox}
 use Rattle.certificate_lines.proofs.Growing.{areas_changed, length_changed, changed_at, last_at, last_by_place}
-use Rattle.certificate_lines.proofs.Growing.{map_changed}
 use Rattle.certificate_lines.proofs.Lists.{any_at}
 use Rattle.certificate_lines.proofs.ModulePushes.{no_code, both_none, less}
 use Rattle.certificate_lines.proofs.PortLemmas.{has_cell}
@@ -169,8 +168,8 @@ module _ (g : Setting) (ms : List ModuleLines) where
   sound_none = grind (arith, common_steps, none_at)
 
   pub built_none : (covered : Board) → covered.width ≡ g.size.w → covered.height ≡ g.size.h →
-      ((x y : ℤ) → live covered x y ≡ false) → AreBuilt g [] covered []
-  built_none covered w h dead = record { sound = sound_none; width = w; height = h; cells = dead; counted = refl }
+      ((x y : ℤ) → live covered x y ≡ false) → AreBuilt g [] covered
+  built_none covered w h dead = record { sound = sound_none; width = w; height = h; cells = dead }
 
   abbrev new_module : Box2 → ModuleLines
   new_module b = record { area = b; lines = [] }
@@ -194,12 +193,11 @@ module _ (g : Setting) (ms : List ModuleLines) where
     ported = ported_push b sound.ported good.complete;
   }
 
-  pub module_built : (b : Box2) (old new : Board) (counts : List Counts) →
-      AreBuilt g ms old counts → IsGoodModule g ms (last_of ms) b
+  pub module_built : (b : Box2) (old new : Board) → AreBuilt g ms old → IsGoodModule g ms (last_of ms) b
       → ((x y : ℤ) → live new x y ≡ (live old x y || in_box b x y)) → HasSameSize old new →
-      AreBuilt g (ms ++ new_module b ∷ []) new (counts ++ counts_of (new_module b) ∷ [])
-  module_built b old new counts built good after size =
-      grind (arith, common_steps, module_sound, cells_pushed, areas_push, new_module, map-append)
+      AreBuilt g (ms ++ new_module b ∷ []) new
+  module_built b old new built good after size =
+      grind (arith, common_steps, module_sound, cells_pushed, areas_push, new_module)
 
   -- one more line of the last module
   pub line_sound : (i : CertificateLine) → AreGoodModulesSoFar g ms →
@@ -216,17 +214,14 @@ module _ (g : Setting) (ms : List ModuleLines) where
     ported = grind (arith, common_steps, changed_at, length_changed);
   }
 
-  pub line_built : (i : CertificateLine) (covered : Board) (counts more : List Counts) (count : Counts → Counts) →
-      AreBuilt g ms covered counts →
-      ((m : ModuleLines) → last_of ms ≡ Some m → IsModuleInLimits g m → IsModuleInLimits g (module_with_line i m))
-      → ((m : ModuleLines) → counts_of (module_with_line i m) ≡ count (counts_of m)) → more ≡ change_last count counts →
-      AreBuilt g (change_last (module_with_line i) ms) covered more
-  line_built i covered counts more count built grows counted now = record {
+  pub line_built : (i : CertificateLine) (covered : Board) → AreBuilt g ms covered →
+      ((m : ModuleLines) → last_of ms ≡ Some m → IsModuleInLimits g m → IsModuleInLimits g (module_with_line i m)) →
+      AreBuilt g (change_last (module_with_line i) ms) covered
+  line_built i covered built grows = record {
     sound = line_sound i built.sound grows;
     width = built.width;
     height = built.height;
     cells = λ x y. built.cells x y ∙ ap (λ l. in_boxes l x y) (sym (areas_changed i ms));
-    counted = grind (arith, common_steps, map_changed);
   }
 
 pub near_by : (s : LayoutHeader) (b : Box2) → size_fault s ≡ None → is_misplaced s b ≡ false → IsNear s b

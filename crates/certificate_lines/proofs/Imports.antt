@@ -8,10 +8,8 @@ pub use Rattle.certificate_lines.specs.BuilderView.{AreApart, AreBuilt, AreGoodM
 pub use Rattle.certificate_lines.specs.BuilderView.{BuilderView, IsBodyLine, IsModuleInLimits, does_neighbour_lack_wire}
 pub use Rattle.certificate_lines.specs.BuilderView.{is_outside_and_nonlocal, lacks_edge_wire, last_body_line}
 pub use Rattle.certificate_lines.specs.Entries.{ModuleLines, Setting, areas, counts_of, cut_name_in, cuts, edge_in}
-pub use Rattle.certificate_lines.specs.Entries.{edges}
-pub use Rattle.certificate_lines.specs.Entries.{gates, halo_in, kept_gate_in, known, last_module, module_with_line}
-pub use Rattle.certificate_lines.specs.Entries.{stop_in}
-pub use Rattle.certificate_lines.specs.Entries.{used_gate_in}
+pub use Rattle.certificate_lines.specs.Entries.{edges, gates, halo_in, kept_gate_in, known, last_module}
+pub use Rattle.certificate_lines.specs.Entries.{module_with_line, stop_in, used_gate_in}
 unfoldable pub use Rattle.certificate_lines.specs.Entries.{add_line, change_last, last_of, modules_of}
 unfoldable pub use Rattle.certificate_lines.specs.Forms.{border_of, form_of, stop_of}
 pub use Rattle.certificate_lines.specs.LineKeys.{key_of, key_or_first}
@@ -27,8 +25,7 @@ unfoldable pub use Rattle.certificate_lines.specs.PortTables.{entry_place_by_row
 pub use Rattle.certificate_lines.specs.Rules.{body_line_code, content_code, is_last_module_incomplete, is_local}
 pub use Rattle.certificate_lines.specs.Rules.{is_local_wire, is_odd, is_star, is_starred_line_at, same_cell, whole}
 unfoldable pub use Rattle.certificate_lines.specs.Rules.{are_new_and_distinct, module_box_code, end_fault}
-unfoldable pub use Rattle.certificate_lines.specs.Rules.{has_nonlocal_port}
-unfoldable pub use Rattle.certificate_lines.specs.Rules.{module_line_code}
+unfoldable pub use Rattle.certificate_lines.specs.Rules.{has_nonlocal_port, module_line_code}
 pub use Rattle.certificate_lines.specs.Versions.{is_nonlocal_signal}
 pub use Rattle.certificate_lines.specs.declared.certificate_line.BorderLine.{BorderLine}
 pub use Rattle.certificate_lines.specs.declared.certificate_line.CertificateLine.{CertificateLine}
@@ -43,7 +40,8 @@ unfoldable pub use Rattle.circuit.proofs.Imports.{is_word_at}
 pub use Rattle.circuit.specs.Bridge.{circuit_of}
 pub use Rattle.circuit.specs.Meaning.{Circuit, wire_of}
 pub use Rattle.lemmas.proofs.Common.{All-append, All-nil, IsTotalOrder, false_from_not, filter, is_lt, length-replicate}
-pub use Rattle.lemmas.proofs.Common.{map-append, mapped_from, nat_cmp_total, none_at, on_total, option_to_list}
+pub use Rattle.lemmas.proofs.Common.{list_any_at, map-append, mapped_from, nat_cmp_total, none_at, on_total}
+pub use Rattle.lemmas.proofs.Common.{option_to_list}
 pub use Rattle.lemmas.proofs.Common.{or_right, positive, replicate, take-suc, then_total, to_z, true_from_not}
 pub use Rattle.module_box.proofs.BoxCells.{in_box_nats}
 pub use Rattle.module_box.proofs.FromCorner.{abs_from}

@@ -1,19 +1,16 @@
 -- The wires that modules lack of the edge lines beside them, and the local wires of each module
-use Rattle.certificate_lines.proofs.Imports.{AreGoodModulesSoFar, AreInBox, AreLocalWiresOfModules, BeginWithModule}
-use Rattle.certificate_lines.proofs.Imports.{Bool, BorderLine, Box2, CertificateLine, Circuit, IsInside, IsModule}
-use Rattle.certificate_lines.proofs.Imports.{IsTrue, List, ModuleLines, Setting, Some, [], and_from, and_parts, ap, ap₂}
-use Rattle.certificate_lines.proofs.Imports.{arith, change_last, common_steps, cond-false, cond-true, edge_in, edges}
-use Rattle.certificate_lines.proofs.Imports.{false, filter, flat_map, in_box, in_box_nats, in_halo, is_nonlocal_signal}
-use Rattle.certificate_lines.proofs.Imports.{known, lacks_edge_wire, last_of, length, length-map, length_push, list_any}
-use Rattle.certificate_lines.proofs.Imports.{map, map-append, modules_of, nat_lt, rectangle_of, refl, slice_get}
-use Rattle.certificate_lines.proofs.Imports.{slice_get-get_or, span_from, subst, suc, sym, true, whole, zero, ℕ, ℤ}
-use Rattle.certificate_lines.proofs.Imports.{◌++◌, ◌+◌, ◌<◌, ◌||◌, ◌∙◌, ◌∷◌, ◌≡◌, ◌≤◌}
+use Rattle.certificate_lines.proofs.Imports.{AreInBox, AreLocalWiresOfModules, Bool, BorderLine, Box2, Circuit}
+use Rattle.certificate_lines.proofs.Imports.{IsInside, IsModule, List, ModuleLines, Setting, Some, [], and_from}
+use Rattle.certificate_lines.proofs.Imports.{and_parts, ap, ap₂, arith, change_last, common_steps, cond-false}
+use Rattle.certificate_lines.proofs.Imports.{cond-true, edges, false, filter, flat_map, in_box, in_box_nats, in_halo}
+use Rattle.certificate_lines.proofs.Imports.{is_nonlocal_signal, known, lacks_edge_wire, last_of, length, length-map}
+use Rattle.certificate_lines.proofs.Imports.{length_push, list_any, map, map-append, nat_lt, rectangle_of, refl}
+use Rattle.certificate_lines.proofs.Imports.{slice_get, span_from, suc, sym, true, whole, zero, ℕ, ℤ, ◌++◌, ◌+◌, ◌<◌}
+use Rattle.certificate_lines.proofs.Imports.{◌||◌, ◌∙◌, ◌∷◌, ◌≡◌, ◌≤◌}
 use Rattle.lemmas.proofs.Common.{same_from_push}
 use Rattle.bbm_rule.specs.Boxes.{in_ring}
 use Rattle.certificate_lines.specs.Versions.{edge_lines_beside, lacks_edge_wire_beside}
-use Rattle.certificate_lines.proofs.FlatParts.{flat_all}
 use Rattle.certificate_lines.proofs.Lists.{some_is}
-use Rattle.certificate_lines.proofs.ModuleSplit.{edges_of_lines}
 
 -- ---- tests of two lists
 
@@ -140,15 +137,6 @@ in_rectangle w h b x y inside here = grind (arith, common_steps, in_box_nats, an
 
 -- ---- the edge lines of all modules
 
-edge_inside : (g : Setting) (m : ModuleLines) → IsModule g m → AreInBox (whole g.size) (edges m)
+pub edge_inside : (g : Setting) (m : ModuleLines) → IsModule g m → AreInBox (whole g.size) (edges m)
 unfolding in_ring
 edge_inside g m good k d lt = grind (arith, common_steps, and_parts, in_rectangle)
-
--- they are for cells of the rectangle
-pub lines_on_layout : (g : Setting) (es : List CertificateLine) → AreGoodModulesSoFar g (modules_of es) →
-    BeginWithModule es →
-    AreInBox (whole g.size) (flat_map edge_in es)
-lines_on_layout g es sound begun =
-    subst (AreInBox (whole g.size)) (sym (edges_of_lines es begun))
-    (flat_all (λ (e : BorderLine). IsTrue (in_box (whole g.size) e.cell.x e.cell.y)) edges (IsModule g) (edge_inside g)
-    (modules_of es) (λ k d lt. (sound.each k _ (slice_get-get_or (modules_of es) k d lt)).good))

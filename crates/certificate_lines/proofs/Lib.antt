@@ -3,11 +3,9 @@ pub mod BorderLines
 pub mod BorderText
 pub mod BoxPlaces
 pub mod BuiltLemmas
-pub mod CountLemmas
 pub mod FlatParts
 pub mod Growing
 pub mod InList
-pub mod InnerLines
 pub mod Keeping
 pub mod KnownLemmas
 mod WireListLemmas
@@ -15,14 +13,15 @@ pub mod LackedWires
 pub mod LayoutPorts
 pub mod LineOrder
 pub mod LineRanks
-pub mod LinesLeft
 pub mod Lists
 pub mod LocalLemmas
 pub mod ModuleBoxes
 pub mod ModuleLemmas
 pub mod ModulePushes
 pub mod ModuleSplit
-pub mod NamedLines
+pub mod StoredEdges
+pub mod StoredLemmas
+pub mod StoredLines
 pub mod OddBlocks
 pub mod OrderLemmas
 pub mod Pairs
@@ -30,6 +29,5 @@ pub mod PortLemmas
 pub mod RowLemmas
 pub mod StarLemmas
 pub mod TableLemmas
-pub mod UsedLemmas
 mod WireBounds
 pub mod Imports

@@ -1,9 +1,8 @@
 -- The ranks of lines: lines in order rise by rank, and the lines of one kind have one rank.
-use Rattle.certificate_lines.proofs.Imports.{CertificateLine, Cut, Edge, Halo, Keep, Stop, Use, [], arith}
-use Rattle.certificate_lines.proofs.Imports.{common_steps, edge_in, false, halo_in, is_cut, kept_gate_in, line_cmp}
-use Rattle.certificate_lines.proofs.Imports.{may_precede, rank_of, refl, stop_in, sym, true, used_gate_in, ◌&&◌}
-use Rattle.certificate_lines.proofs.Imports.{◌==◌}
-use Rattle.certificate_lines.proofs.Imports.{◌<◌, ◌≡◌, ◌≤◌, Greater, cut_name_in, nat_tests}
+use Rattle.certificate_lines.proofs.Imports.{CertificateLine, Cut, Edge, Halo, Keep, Stop, Use, [], arith, common_steps}
+use Rattle.certificate_lines.proofs.Imports.{edge_in, false, halo_in, is_cut, kept_gate_in, line_cmp, may_precede}
+use Rattle.certificate_lines.proofs.Imports.{rank_of, refl, stop_in, sym, true, used_gate_in, ◌&&◌, ◌==◌, ◌<◌, ◌≡◌, ◌≤◌}
+use Rattle.certificate_lines.proofs.Imports.{Greater, nat_tests}
 use Rattle.lemmas.proofs.Common.{◌≢◌}
 use Rattle.std.specs.Cmp.{nat_cmp_is}
 use Rattle.bbm_rule.proofs.BitLemmas.{by_lt_or_le}
@@ -23,11 +22,6 @@ no_higher_first i j lt = rw (sym (nat_cmp_is (rank_of i) (rank_of j) Greater lt)
 
 pub rank_rises : (i j : CertificateLine) → may_precede i j ≡ true → rank_of i ≤ rank_of j
 rank_rises i j h = grind (arith, common_steps, by_lt_or_le, no_higher_first)
-
-pub only_cuts : (i : CertificateLine) → rank_of i ≢ 1 → cut_name_in i ≡ []
-unfolding rank_of
-only_cuts (Cut n) other = absurd (other refl)
-only_cuts _ other = refl
 
 pub only_uses : (i : CertificateLine) → rank_of i ≢ 2 → used_gate_in i ≡ []
 unfolding rank_of

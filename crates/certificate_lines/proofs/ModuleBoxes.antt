@@ -1,19 +1,9 @@
 -- The boxes of modules, for a table of their owners
-use Rattle.certificate_lines.proofs.Imports.{AreGoodModulesSoFar, Box2, Counts, IsEven, IsModule, LayoutHeader, List}
-use Rattle.certificate_lines.proofs.Imports.{ModuleLines, None, Setting, Some, [], ap, areas, counts_of, map}
-use Rattle.certificate_lines.proofs.Imports.{mapped_from, refl, size_fault, slice_get, subst, sym, ℕ, ◌∙◌, ◌∷◌, ◌≡◌}
-use Rattle.certificate_lines.proofs.Imports.{◌≤◌}
+use Rattle.certificate_lines.proofs.Imports.{AreGoodModulesSoFar, Box2, IsEven, IsModule, LayoutHeader, List}
+use Rattle.certificate_lines.proofs.Imports.{ModuleLines, None, Setting, Some, areas, mapped_from, size_fault}
+use Rattle.certificate_lines.proofs.Imports.{slice_get, subst, sym, ℕ, ◌≡◌, ◌≤◌}
 use Rattle.pattern.proofs.TakenLemmas.{is_sized}
 use Rattle.module_box.specs.Tiling.{MayHaveOwnerTable}
-
--- the boxes of modules, by their counts
-pub counted_areas : (ms : List ModuleLines) (counts : List Counts) → counts ≡ map counts_of ms →
-    map (λ (k : Counts). k.area) counts ≡ areas ms
-counted_areas ms counts are = ap (map (λ (k : Counts). k.area)) are ∙ same ms
-  where
-    same : (ms : List ModuleLines) → map (λ (k : Counts). k.area) (map counts_of ms) ≡ areas ms
-    same [] = refl
-    same (m ∷ ms) = ap (λ bs. m.area ∷ bs) (same ms)
 
 pub is_task : (g : Setting) (ms : List ModuleLines) (s : LayoutHeader) (boxes : List Box2) → s ≡ g.size →
     size_fault s ≡ None → ((k : ℕ) (m : ModuleLines) → slice_get ms k ≡ Some m → IsModule g m) → boxes ≡ areas ms →

@@ -1,11 +1,9 @@
 -- A module after one more line.
-use Rattle.certificate_lines.proofs.Imports.{All-append, All-nil, AreInOrder, Bool, CertificateLine}
-use Rattle.certificate_lines.proofs.Imports.{Equal, Less, List, Ordering}
-use Rattle.certificate_lines.proofs.Imports.{Use, [], and_parts, ap₂, cell_cmp, cell_of, false}
-use Rattle.certificate_lines.proofs.Imports.{is_cut, line_cmp, list_all, list_all-append}
-use Rattle.certificate_lines.proofs.Imports.{may_follow}
-use Rattle.certificate_lines.proofs.Imports.{may_precede, rank_of, refl, sort_number_of, true, used_gate_in, ℕ}
-use Rattle.certificate_lines.proofs.Imports.{◌++◌, ◌<◌, ◌||◌, ◌∙◌, ◌∷◌, ◌≡◌}
+use Rattle.certificate_lines.proofs.Imports.{All-append, All-nil, AreInOrder, Bool, CertificateLine, Equal, Less, List}
+use Rattle.certificate_lines.proofs.Imports.{Ordering, Use, [], and_parts, ap₂, cell_cmp, cell_of, false, is_cut}
+use Rattle.certificate_lines.proofs.Imports.{line_cmp, list_all, list_all-append, may_follow, may_precede, rank_of}
+use Rattle.certificate_lines.proofs.Imports.{refl, sort_number_of, true, used_gate_in, ℕ, ◌++◌, ◌<◌, ◌||◌, ◌∙◌, ◌∷◌}
+use Rattle.certificate_lines.proofs.Imports.{◌≡◌}
 use Rattle.lemmas.proofs.Common.{All-push, arith, ordering_then, nat_less, ◌≢◌}
 use Rattle.certificate_lines.proofs.LineRanks.{rank_rises}
 use Rattle.std.specs.List.{All, flat_map}

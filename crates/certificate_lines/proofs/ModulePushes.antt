@@ -4,16 +4,13 @@ use Rattle.certificate_lines.proofs.Imports.{Circuit, Cut, Edge, Gate, Halo, IfS
 use Rattle.certificate_lines.proofs.Imports.{Keep, List, ModuleLines, None, Option, RefusalCode, Setting, Some}
 use Rattle.certificate_lines.proofs.Imports.{StarsExcludeLaterTimes, Stop, StopLine, Use, [], and_parts, ap, ap₂}
 use Rattle.certificate_lines.proofs.Imports.{are_new_and_distinct, arith, code_if, common_steps, cut_name_in, cuts}
-use Rattle.certificate_lines.proofs.Imports.{edge_in}
-use Rattle.certificate_lines.proofs.Imports.{edges, eqb-true, false, false_from_not, flat_map, gates, halo_in, in_box}
-use Rattle.certificate_lines.proofs.Imports.{is_among, is_local, is_odd, is_star, is_starred_line_at, kept_gate_in}
-use Rattle.certificate_lines.proofs.Imports.{known}
-use Rattle.certificate_lines.proofs.Imports.{length, length_push, list_all, list_any, local_wires, may_follow}
-use Rattle.certificate_lines.proofs.Imports.{module_with_line, rank_of, nat_lt, nat_tests, not, option_to_list, or_else}
-use Rattle.certificate_lines.proofs.Imports.{refl}
-use Rattle.certificate_lines.proofs.Imports.{slice_get, stop_in, subst, sym, true, true_from_not, used_gate_in, wire_of}
-use Rattle.certificate_lines.proofs.Imports.{ℕ}
-use Rattle.certificate_lines.proofs.Imports.{◌%◌, ◌&&◌, ◌++◌, ◌<◌, ◌||◌, ◌∙◌, ◌∷◌, ◌≡◌}
+use Rattle.certificate_lines.proofs.Imports.{edge_in, edges, eqb-true, false, false_from_not, flat_map, gates, halo_in}
+use Rattle.certificate_lines.proofs.Imports.{in_box, is_among, is_local, is_odd, is_star, is_starred_line_at}
+use Rattle.certificate_lines.proofs.Imports.{kept_gate_in, known, length, length_push, list_all, list_any, local_wires}
+use Rattle.certificate_lines.proofs.Imports.{may_follow, module_with_line, rank_of, nat_lt, nat_tests, not}
+use Rattle.certificate_lines.proofs.Imports.{option_to_list, or_else, refl, slice_get, stop_in, subst, sym, true}
+use Rattle.certificate_lines.proofs.Imports.{true_from_not, used_gate_in, wire_of, ℕ, ◌%◌, ◌&&◌, ◌++◌, ◌<◌, ◌||◌, ◌∙◌}
+use Rattle.certificate_lines.proofs.Imports.{◌∷◌, ◌≡◌}
 use Rattle.lemmas.proofs.Common.{nat_le, at_most_by_test, below_by_test}
 use Rattle.certificate_lines.specs.Entries.{keeps, halos, stops, cut_wires}
 use Rattle.certificate_lines.specs.Rules.{cut_line_code, cut_wire_fault, used_gate_fault, use_line_code, keep_line_code}
@@ -293,18 +290,18 @@ pub good_border : (c : Circuit) (count : ℕ) (local : List ℕ) (placed : Bool)
 unfolding border_line_code
 good_border c count local placed signal e = grind (arith, common_steps, both_none, less, no_code, true_from_not)
 
-edge_good : (g : Setting) (area : Box2) (local : List ℕ) (count : ℕ) (starred : Bool) (e : BorderLine) →
+pub edge_good : (g : Setting) (area : Box2) (local : List ℕ) (count : ℕ) (starred : Bool) (e : BorderLine) →
     IsGoodBorder g.circuit count local (is_edge_place_and_time g.size area starred e) e.signal → IsEdge g area local e
 unfolding is_edge_place_and_time
 edge_good g area local count starred e good =
     grind (arith, common_steps, and_parts, false_from_not, time_good, signal_good)
 
-halo_good : (g : Setting) (area : Box2) (local : List ℕ) (count : ℕ) (starred : Bool) (e : BorderLine) →
+pub halo_good : (g : Setting) (area : Box2) (local : List ℕ) (count : ℕ) (starred : Bool) (e : BorderLine) →
     IsGoodBorder g.circuit count local (is_halo_place_and_time g.size area starred e) e.signal → IsHalo g area local e
 unfolding is_halo_place_and_time
 halo_good g area local count starred e good = grind (arith, common_steps, and_parts, time_good, signal_good)
 
-stop_good : (g : Setting) (area : Box2) (local : List ℕ) (count : ℕ) (s : StopLine) →
+pub stop_good : (g : Setting) (area : Box2) (local : List ℕ) (count : ℕ) (s : StopLine) →
     IsGoodBorder g.circuit count local (is_stop_place_and_time g.size area s) (Some s.wire) → IsStop g area local s
 unfolding is_stop_place_and_time
 stop_good g area local count s good =
@@ -350,7 +347,7 @@ module _ (g : Setting) (m : ModuleLines) (i : CertificateLine) (no_cut : cut_nam
 
 -- ---- a kept gate
 
-keep_good : (g : Setting) (used : List ℕ) (k : ℕ) → keep_line_code g.circuit used k ≡ None → IsKeep g used k
+pub keep_good : (g : Setting) (used : List ℕ) (k : ℕ) → keep_line_code g.circuit used k ≡ None → IsKeep g used k
 unfolding keep_line_code
 keep_good g mine k e = grind (arith, common_steps, both_none, true_from_not, no_code)
 

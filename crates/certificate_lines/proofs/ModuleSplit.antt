@@ -1,18 +1,25 @@
 -- The modules of lines, one after the other.
-use Rattle.certificate_lines.proofs.Imports.{BeginWithModule, Bool, Box2, CertificateLine, Cut, Edge, Halo, Keep, List}
+use Rattle.certificate_lines.proofs.Imports.{Bool, Box2, CertificateLine, Cut, Edge, Halo, Keep, List}
 use Rattle.certificate_lines.proofs.Imports.{Module, ModuleLines, Stop, Use, [], add_line, ap, append-nil, append_assoc}
-use Rattle.certificate_lines.proofs.Imports.{ap₂, arith, body_lines, change_last, common_steps, drop, edge_in, edges}
-use Rattle.certificate_lines.proofs.Imports.{false, flat_map, is_module, length, module_with_line, modules_of, refl}
+use Rattle.certificate_lines.proofs.Imports.{ap₂, arith, body_lines, change_last, common_steps, edge_in, edges}
+use Rattle.certificate_lines.proofs.Imports.{false, flat_map, is_module, module_with_line, modules_of, refl}
 use Rattle.certificate_lines.proofs.Imports.{sym, true, ◌++◌, ◌∙◌, ◌∷◌, ◌≡◌}
 use Rattle.lemmas.proofs.Common.{fold}
-use Rattle.certificate_lines.proofs.InnerLines.{inner_module, inner_other, nothing_inner}
-use Rattle.certificate_lines.proofs.LinesLeft.{nothing_left}
+
+pub inner_module : (e : CertificateLine) (es : List CertificateLine) → is_module e ≡ true → body_lines (e ∷ es) ≡ []
+unfolding body_lines
+inner_module e es m = rw m refl
+
+pub inner_other : (e : CertificateLine) (es : List CertificateLine) → is_module e ≡ false →
+    body_lines (e ∷ es) ≡ e ∷ body_lines es
+unfolding body_lines
+inner_other e es m = rw m refl
 
 -- the modules of further lines after some
 abbrev onward : List ModuleLines → List CertificateLine → List ModuleLines
 onward ms es = fold add_line ms es
 
-last_changed : {X : Type 0} (f : X → X) (xs : List X) (x : X) → change_last f (xs ++ x ∷ []) ≡ xs ++ f x ∷ []
+pub last_changed : {X : Type 0} (f : X → X) (xs : List X) (x : X) → change_last f (xs ++ x ∷ []) ≡ xs ++ f x ∷ []
 unfolding change_last
 last_changed f [] x = refl
 last_changed f (y ∷ []) x = refl
@@ -114,18 +121,6 @@ pub no_module : (e : CertificateLine) → ((b : Box2) → e ≡ Module b → ⊥
 no_module (Module b) h = absurd (h b refl)
 no_module _ h = refl
 
-after_first : (b : Bool) (e : CertificateLine) (es : List CertificateLine) → is_module e ≡ b →
-    modules_of (drop (length (body_lines es)) es) ≡ modules_of es →
-    modules_of (drop (length (body_lines (e ∷ es))) (e ∷ es)) ≡ modules_of (e ∷ es)
-after_first true e es m h = ap (λ xs. modules_of (drop (length xs) (e ∷ es))) (inner_module e es m)
-after_first false e es m h =
-    ap (λ xs. modules_of (drop (length xs) (e ∷ es))) (inner_other e es m) ∙ h ∙ sym (other_first e es m)
-
--- the modules behind the lines of a module
-pub after_inner : (es : List CertificateLine) → modules_of (drop (length (body_lines es)) es) ≡ modules_of es
-after_inner [] = ap (λ xs. modules_of (drop (length xs) [])) nothing_inner
-after_inner (e ∷ es) = after_first (is_module e) e es refl (after_inner es)
-
 -- ---- the edge lines of all modules
 
 edges_step : (b : Bool) (e : CertificateLine) (es : List CertificateLine) → is_module e ≡ b →
@@ -143,28 +138,3 @@ edges_step false e es m h =
     ap (λ ds. edge_in e ++ ds) h
     ∙ sym (append_assoc (edge_in e) (flat_map edge_in (body_lines es)) (flat_map edges (modules_of es)))
     ∙ sym (ap₂ (λ xs ms. flat_map edge_in xs ++ flat_map edges ms) (inner_other e es m) (split_other e es m))
-
-edges_from : (es : List CertificateLine) →
-    flat_map edge_in es ≡ flat_map edge_in (body_lines es) ++ flat_map edges (modules_of es)
-edges_from [] = sym (ap₂ (λ xs ms. flat_map edge_in xs ++ flat_map edges ms) nothing_inner nothing_left)
-edges_from (e ∷ es) = edges_step (is_module e) e es refl (edges_from es)
-
--- the edge lines are those of the modules, if no line comes before the first `module` line
-pub edges_of_lines : (es : List CertificateLine) → BeginWithModule es →
-    flat_map edge_in es ≡ flat_map edges (modules_of es)
-edges_of_lines es begun = edges_from es ∙ ap (λ xs. flat_map edge_in xs ++ flat_map edges (modules_of es)) begun
-
-cons_begun : (b : Bool) (e i : CertificateLine) (es : List CertificateLine) → is_module e ≡ b →
-    body_lines (e ∷ es) ≡ [] →
-    body_lines ((e ∷ es) ++ i ∷ []) ≡ []
-cons_begun true e i es m h = inner_module e (es ++ i ∷ []) m
-cons_begun false e i es m h = absurd (cons_some e (body_lines es) (sym (inner_other e es m) ∙ h))
-  where
-    cons_some : (e : CertificateLine) (es : List CertificateLine) → e ∷ es ≡ [] → ⊥
-    cons_some e es h = cc
-
--- that is kept by one line more
-pub still_begun : (es : List CertificateLine) (i : CertificateLine) → BeginWithModule es →
-    (es ≡ [] → is_module i ≡ true) → BeginWithModule (es ++ i ∷ [])
-still_begun [] i h first = inner_module i [] (first refl)
-still_begun (e ∷ es) i h first = cons_begun (is_module e) e i es refl h

@@ -1,13 +1,15 @@
 -- The modules beside the cell of an edge line, by the cells of its block at odd times
-use Rattle.certificate_lines.proofs.Imports.{AreApart, AreOwners, Bool, BorderLine, Box2, Cell, Circuit, Counts, IsEven}
+use Rattle.certificate_lines.proofs.Imports.{subst, AreApart, AreOwners, Bool, BorderLine, Box2, Cell, Circuit, IsEven}
 use Rattle.certificate_lines.proofs.Imports.{List, ModuleLines, None, Option, Some, [], and-false, ap, ap₂, areas}
-use Rattle.certificate_lines.proofs.Imports.{arith, cases_Bool, common_steps, cond-false, cond-true, counts_of}
+use Rattle.certificate_lines.proofs.Imports.{arith, cases_Bool, common_steps, cond-false, cond-true}
 use Rattle.certificate_lines.proofs.Imports.{does_neighbour_lack_wire, eqb-true, false, false≢true, in_box, in_box_nats}
 use Rattle.certificate_lines.proofs.Imports.{in_halo, inl, inr, ints, is_local_wire, is_nonlocal_signal}
 use Rattle.certificate_lines.proofs.Imports.{is_outside_and_nonlocal, known, lacks_edge_wire, list_any, map}
 use Rattle.certificate_lines.proofs.Imports.{mapped_from, ne_eqb, not, option_map, or-false, partner, pos, rectangle}
 use Rattle.certificate_lines.proofs.Imports.{rectangle_of, refl, slice_get, slice_get-map, suc, sym, true, zero, ℕ, ℤ}
 use Rattle.certificate_lines.proofs.Imports.{◌%◌, ◌&&◌, ◌<◌, ◌||◌, ◌∙◌, ◌∷◌, ◌≡◌, ◌≤◌, ◌⊎◌}
+use Rattle.certificate_lines.specs.StoredModules.{module_lines}
+use Rattle.certificate_lines.specs.declared.stored_module.StoredModule.{StoredModule}
 use Rattle.lemmas.proofs.Common.{◌+ℤ◌, ◌-ℤ◌, ◌≤ℤ◌, eq-eqb, negsuc, eqb-false}
 use Rattle.bbm_rule.specs.Plane.{parity}
 use Rattle.bbm_rule.specs.Spans.{in_span}
@@ -140,16 +142,18 @@ module _ (ms : List ModuleLines) (o : OwnersView) (good : AreOwners o (areas ms)
     | inr there ↦ there
   ]
 
--- by the counts of the modules
-module _ (ms : List ModuleLines) (counts : List Counts) (are : counts ≡ map counts_of ms) (c : Cell) where
-  pub cell_found : (k : ℕ) (of : Counts) → slice_get counts k ≡ Some of → in_box of.area c.x c.y ≡ true →
-      IsModuleWithCell ms c (Some k)
-  cell_found k of at here = grind (arith, common_steps, mapped_from)
+-- by the modules that are kept
+module _ (d : Circuit) (ms : List StoredModule) (c : Cell) where
+  pub cell_found : (k : ℕ) (of : StoredModule) → slice_get ms k ≡ Some of → in_box of.area c.x c.y ≡ true →
+      IsModuleWithCell (map (module_lines d) ms) c (Some k)
+  cell_found k of at here =
+      (module_lines d of, slice_get-map (module_lines d) ms k ∙ ap (option_map (module_lines d)) at, here)
 
-  pub cell_missing : ((k : ℕ) (of : Counts) → slice_get counts k ≡ Some of → in_box of.area c.x c.y ≡ false) →
-      IsModuleWithCell ms c None
+  pub cell_missing : ((k : ℕ) (of : StoredModule) → slice_get ms k ≡ Some of → in_box of.area c.x c.y ≡ false) →
+      IsModuleWithCell (map (module_lines d) ms) c None
   cell_missing none k m at =
-      none k (counts_of m) (ap (λ cs. slice_get cs k) are ∙ slice_get-map counts_of ms k ∙ ap (option_map counts_of) at)
+      let from = mapped_from (module_lines d) ms k m at in
+      subst (λ (n : ModuleLines). in_box n.area c.x c.y ≡ false) from.2 (none k from.0 from.1)
 
 module _ (ms : List ModuleLines) (apart : AreApart (areas ms)) (c : Cell) (q : ModuleLines → Bool) where
   pub asked_owner : (k : ℕ) (r : Bool) → IsModuleWithCell ms c (Some k) →

@@ -1,7 +1,6 @@
 -- The cells of a box.
-use Rattle.certificate_lines.proofs.Imports.{Bool, Cell, List, [], ap, cell_itself, cell_same, inl, inr}
-use Rattle.certificate_lines.proofs.Imports.{is_at, list_any, or_cases, or_right, true, ◌∙◌, ◌∷◌}
-use Rattle.certificate_lines.proofs.Imports.{◌≡◌}
+use Rattle.certificate_lines.proofs.Imports.{Bool, Cell, List, [], ap, cell_itself, cell_same, inl, inr, is_at}
+use Rattle.certificate_lines.proofs.Imports.{list_any, or_cases, or_right, true, ◌∙◌, ◌∷◌, ◌≡◌}
 use Rattle.lemmas.proofs.Common.{or_left}
 use Rattle.bbm_rule.specs.CellLists.{in_cells}
 

@@ -1,30 +1,28 @@
 -- The fields of a certificate that is being read, and its view
-use Rattle.std.specs.Prelude.{◌≡◌, ℕ, ◌+◌, ◌<◌, ◌≤◌, ℤ, ◌&&◌, Bool, not, false, List, [], ◌∷◌, ◌++◌, map, length}
-use Rattle.std.specs.Prelude.{IfSome, Option}
-use Rattle.std.specs.Prelude.{Some, None, slice_get, IsTrue}
-use Rattle.std.specs.Option.{is_some, option_to_list}
+use Rattle.std.specs.Prelude.{◌≡◌, ℕ, ◌+◌, ◌<◌, ◌≤◌, ◌^◌, ◌≤ℤ◌, ℤ, pos, ◌&&◌, Bool, not, false, List, [], ◌∷◌, ◌++◌}
+use Rattle.std.specs.Prelude.{map, length, IfSome, Option, Some, None, slice_get, IsTrue}
+use Rattle.std.specs.Option.{is_some, option_map, option_to_list}
 use Rattle.circuit.specs.Meaning.{Circuit, Gate, wire_of}
-use Rattle.std.specs.List.{filter, list_any}
+use Rattle.std.specs.List.{All, filter, list_any}
 use Rattle.bbm_rule.specs.Board.{Board, live}
 use Rattle.bbm_rule.specs.declared.block.Cell.{Cell}
 use Rattle.bbm_rule.specs.Boxes.{in_box, in_halo}
 use Rattle.module_box.specs.Tiling.{AreOwners, OwnersView}
 use Rattle.bbm_rule.specs.declared.block.Box2.{Box2}
-use Rattle.certificate_lines.specs.Entries.{Setting, ModuleLines, modules_of, last_of, areas, counts_of, known, edges}
-use Rattle.certificate_lines.specs.Entries.{name_in}
+use Rattle.certificate_lines.specs.Entries.{Setting, ModuleLines, modules_of, last_of, areas, known, edges, name_in}
 use Rattle.certificate_lines.specs.Entries.{halos}
 use Rattle.certificate_lines.specs.Rules.{in_boxes, is_local_wire, is_star, is_starred_line_at, same_cell}
 use Rattle.certificate_lines.specs.Rules.{has_nonlocal_port}
 use Rattle.certificate_lines.specs.LineKeys.{key_or_first}
-use Rattle.certificate_lines.specs.ModuleParts.{BeginWithModule}
 use Rattle.certificate_lines.specs.declared.order.LineKey.{LineKey}
 use Rattle.certificate_lines.specs.Modules.{IsWithinLineLimit, IsModule}
+use Rattle.certificate_lines.specs.StoredModules.{HasOwnWires, IsOwnWire, lines_of_modules, wire_name}
 use Rattle.certificate_lines.specs.Versions.{is_nonlocal_signal}
 use Rattle.certificate_lines.specs.declared.certificate_line.BorderLine.{BorderLine}
-use Rattle.certificate_lines.specs.declared.certificate_line.Counts.{Counts}
 use Rattle.certificate_lines.specs.declared.certificate_line.CertificateLine.{CertificateLine}
 use Rattle.certificate_lines.specs.declared.certificate_line.CertificateLine.TheVariants.{Module, Cut, Use, Keep, Edge}
 use Rattle.certificate_lines.specs.declared.certificate_line.CertificateLine.TheVariants.{Halo, Stop}
+use Rattle.certificate_lines.specs.declared.stored_module.StoredModule.{StoredModule}
 use Rattle.certificate_lines.specs.declared.builder.Builder.TheInside.{Inside}
 
 -- what the certificate is for, and the lines so far
@@ -32,9 +30,13 @@ pub record BuilderView : Type 0 where
   pub setting : Setting
   pub entries : List CertificateLine
 
+-- the lines of a builder, from its fields
+abbrev pub builder_lines : Inside → List CertificateLine
+builder_lines a = lines_of_modules a.tables.circuit a.modules.items
+
 -- the view of a builder, from its fields
 abbrev pub builder_view : Inside → BuilderView
-builder_view a = record { setting = a.tables; entries = a.entries.items }
+builder_view a = record { setting = a.tables; entries = builder_lines a }
 
 -- what is kept of the last module is what its lines say
 pub record IsLastModule (g : Setting) (m : ModuleLines) (last : Option CertificateLine) (local : List ℕ)
@@ -64,17 +66,16 @@ pub record AreGoodModulesSoFar (g : Setting) (ms : List ModuleLines) : Type 0 wh
   pub ported : (i : ℕ) (m : ModuleLines) → i + 1 < length ms → slice_get ms i ≡ Some m → has_nonlocal_port g m ≡ false
 
 -- the modules so far, and what is kept of all of them
-pub record AreBuilt (g : Setting) (ms : List ModuleLines) (covered : Board) (counts : List Counts) : Type 0 where
+pub record AreBuilt (g : Setting) (ms : List ModuleLines) (covered : Board) : Type 0 where
   pub sound : AreGoodModulesSoFar g ms
   pub width : covered.width ≡ g.size.w
   pub height : covered.height ≡ g.size.h
   pub cells : (x y : ℤ) → live covered x y ≡ in_boxes (areas ms) x y
-  pub counted : counts ≡ map counts_of ms
 
 -- what is kept of the lines is what they say
-pub record IsTracked (g : Setting) (es : List CertificateLine) (covered : Board) (counts : List Counts)
-    (last : Option CertificateLine) (local : List ℕ) (e h : List Cell) : Type 0 where
-  pub built : AreBuilt g (modules_of es) covered counts
+pub record IsTracked (g : Setting) (es : List CertificateLine) (covered : Board) (last : Option CertificateLine)
+    (local : List ℕ) (e h : List Cell) : Type 0 where
+  pub built : AreBuilt g (modules_of es) covered
   pub last_module : (m : ModuleLines) → last_of (modules_of es) ≡ Some m → IsLastModule g m last local e h
 
 -- one of these edge lines is for a cell in the halo of the module, and names a wire that is not local there
@@ -113,12 +114,10 @@ abbrev pub AreLocalWiresOfModules : Circuit → List ModuleLines → List (List 
 AreLocalWiresOfModules c ms earlier local = earlier ++ local ∷ [] ≡ [] ∷ map (known c) ms
 
 -- what is kept of the lines, and of the wires of all modules
-pub record IsTrackedWith (g : Setting) (es : List CertificateLine) (covered : Board) (counts : List Counts)
-    (last : Option CertificateLine) (key : LineKey) (earlier : List (List ℕ)) (local : List ℕ)
-    (e h : List Cell) : Type 0 where
-  pub kept : IsTracked g es covered counts last local e h
+pub record IsTrackedWith (g : Setting) (es : List CertificateLine) (covered : Board) (last : Option CertificateLine)
+    (key : LineKey) (earlier : List (List ℕ)) (local : List ℕ) (e h : List Cell) : Type 0 where
+  pub kept : IsTracked g es covered last local e h
   pub wires : AreLocalWiresOfModules g.circuit (modules_of es) earlier local
-  pub begun : BeginWithModule es
   pub key_is : key ≡ key_or_first (last_of es)
 
 -- the line, if it is no `module` line
@@ -136,36 +135,45 @@ body_line_or_none (Some (Stop s)) = Some (Stop s)
 abbrev pub last_body_line : List CertificateLine → Option CertificateLine
 last_body_line entries = body_line_or_none (last_of entries)
 
--- the fields of every builder: its tables are those of its lines
+-- what is kept of modules, and of their lines
+pub record AreTrackedModules (g : Setting) (ms : List StoredModule) (covered : Board) (key : LineKey)
+    (earlier : List (List ℕ))
+    (local : List ℕ) (e h : List Cell) : Type 0 where
+  pub tracked : IsTrackedWith g (lines_of_modules g.circuit ms) covered (last_body_line (lines_of_modules g.circuit ms))
+      key earlier local e h
+  pub wires : All (HasOwnWires g.circuit) ms
+
+-- the fields of every builder: its tables are those of its lines, and the wires of its modules are the circuit's
 abbrev pub AreBuilderFields : Inside → Type 0
-AreBuilderFields a = IsTrackedWith a.tables a.entries.items a.covered a.modules.items (last_body_line a.entries.items)
-    a.last (map (λ s. s.wires) a.earlier.items) a.known.wires a.edges.keys a.halos.keys
-
--- ---- the counts of a module with one more line
-
--- the counts of a module with one line more
-unfoldable pub counts_with_line : CertificateLine → Counts → Counts
-counts_with_line (Module b) k = k
-counts_with_line (Cut n) k = record k { cuts = k.cuts + 1 }
-counts_with_line (Use g) k = record k { gates = k.gates + 1 }
-counts_with_line (Keep g) k = k
-counts_with_line (Edge e) k = record k { edges = k.edges + 1 }
-counts_with_line (Halo e) k = record k { halos = k.halos + 1 }
-counts_with_line (Stop s) k = record k { stops = k.stops + 1 }
-
--- no count is near its greatest value
-pub record AreSmallCounts (k : Counts) : Type 0 where
-  pub few_cuts : k.cuts ≤ 12
-  pub few_gates : k.gates ≤ 64
-  pub few_borders : k.edges + k.halos + k.stops ≤ 65536
+AreBuilderFields a = AreTrackedModules a.tables a.modules.items a.covered a.last
+    (map (λ s. s.wires) a.earlier.items) a.known.wires
+    a.edges.keys a.halos.keys
 
 -- those of the edge or halo lines that have a `*`
 abbrev pub starred_lines : List BorderLine → List BorderLine
 starred_lines lines = filter (λ e. is_star e.time) lines
 
--- the circuit has a wire of the name in a line, if there is one
-abbrev pub NamesWire : Circuit → CertificateLine → Type 0
-NamesWire c line = IfSome (name_in line) (λ n. IsTrue (is_some (wire_of c n)))
+-- ---- a line that is kept by its numbers
+
+-- column and row are those of a cell of a layout
+pub record IsWithinMaxSize (c : Cell) : Type 0 where
+  pub column : (pos 0 ≤ℤ c.x) × (c.x ≤ℤ pos 511)
+  pub row : (pos 0 ≤ℤ c.y) × (c.y ≤ℤ pos 511)
+
+-- the numbers of a line are small, and a cut or a stop has its wire
+abbrev pub MayBeStored : CertificateLine → Option ℕ → Type 0
+MayBeStored (Module b) wire = ⊥
+MayBeStored (Cut n) wire = IsTrue (is_some wire)
+MayBeStored (Use k) wire = k < 2 ^ 16
+MayBeStored (Keep k) wire = k < 2 ^ 16
+MayBeStored (Edge e) wire = IsWithinMaxSize e.cell
+MayBeStored (Halo e) wire = IsWithinMaxSize e.cell
+MayBeStored (Stop s) wire = IsWithinMaxSize s.cell × IsTrue (is_some wire)
+
+-- the wire is the circuit's wire of the name in a line, if the line has a name
+pub record IsWireOfLine (c : Circuit) (i : CertificateLine) (wire : Option ℕ) : Type 0 where
+  pub name : option_map (wire_name c) wire ≡ name_in i
+  pub own : IfSome wire (IsOwnWire c)
 
 -- the line is no `module` line
 abbrev pub IsBodyLine : CertificateLine → Type 0

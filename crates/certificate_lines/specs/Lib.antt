@@ -6,11 +6,10 @@ pub mod LineKeys
 pub mod LineTablesView
 pub mod ModuleParts
 pub mod Modules
-pub mod NamedWires
 pub mod Orders
 pub mod PortTables
 pub mod Rules
 pub mod Settings
-pub mod StoredLines
+pub mod StoredModules
 pub mod Versions
 pub mod WireListView

@@ -11,8 +11,7 @@ use Rattle.certificate_lines.specs.Entries.{Setting, ModuleLines, areas, cuts, g
 use Rattle.certificate_lines.specs.Entries.{cut_wires, known}
 use Rattle.certificate_lines.specs.Orders.{AreInOrder}
 use Rattle.certificate_lines.specs.Rules.{whole, is_local, is_inverse_gate, is_star, is_starred_line_at}
-use Rattle.certificate_lines.specs.Rules.{timed_line_count}
-use Rattle.certificate_lines.specs.Rules.{timed_line_limit}
+use Rattle.certificate_lines.specs.Rules.{timed_line_count, timed_line_limit}
 use Rattle.certificate_lines.specs.declared.certificate_line.BorderLine.{BorderLine}
 use Rattle.certificate_lines.specs.declared.certificate_line.StopLine.{StopLine}
 

@@ -20,8 +20,7 @@ use Rattle.certificate_lines.specs.declared.certificate_line.StopLine.{StopLine}
 use Rattle.certificate_lines.specs.declared.certificate_line.CertificateLine.TheVariants.{Module, Cut, Use, Keep, Edge}
 use Rattle.certificate_lines.specs.declared.certificate_line.CertificateLine.TheVariants.{Halo, Stop}
 use Rattle.certificate_lines.specs.Entries.{Setting, ModuleLines, modules_of, last_module, areas, cuts, gates, edges}
-use Rattle.certificate_lines.specs.Entries.{halos}
-use Rattle.certificate_lines.specs.Entries.{stops, known}
+use Rattle.certificate_lines.specs.Entries.{halos, stops, known}
 use Rattle.certificate_lines.specs.Orders.{may_follow}
 use Rattle.section_text.specs.declared.code.RefusalCode.{RefusalCode}
 use Rattle.section_text.specs.declared.code.RefusalCode.TheVariants.{PastLimit, UnknownName, DefinedTwice, OutOfOrder}

@@ -1,26 +1,26 @@
 //! A certificate that is read, line by line.
-ghost use Rattle.std.specs.Prelude.{◌≡◌, ◌+◌, ◌≤◌, ◌<◌, ◌++◌, ◌∷◌, [], map, None, Option, Some, List, ℕ, length, OnOk, IfOk, IfErr};
+ghost use Rattle.std.specs.Prelude.{◌≡◌, ◌+◌, ◌≤◌, ◌<◌, ◌++◌, ◌∷◌, [], None, Option, Some, List, ℕ, length, OnOk, IfOk, IfErr, IfSome};
 ghost use Rattle.section_text.specs.Adding.{HasRefusalCode};
-ghost use Rattle.std.specs.Option.{is_some};
-ghost use Rattle.certificate_lines.specs.Entries.{ModuleLines, counts_of, known, modules_of, last_module, name_in};
-ghost use Rattle.certificate_lines.specs.ModuleParts.{BeginWithModule};
-ghost use Rattle.certificate_lines.specs.NamedWires.{IsWireOfName};
+ghost use Rattle.std.specs.List.{All};
+ghost use Rattle.std.specs.Option.{is_some, option_and_then, option_map};
+ghost use Rattle.circuit.specs.Meaning.{wire_of};
+ghost use Rattle.certificate_lines.specs.Entries.{ModuleLines, known, modules_of, last_module, name_in};
+ghost use Rattle.certificate_lines.specs.Modules.{IsWithinLineLimit};
+ghost use Rattle.certificate_lines.specs.StoredModules.{HasOwnWires, lines_of_modules, module_lines};
 ghost use Rattle.certificate_lines.specs.Rules.{timed_line_count, border_line_code, entry_fault, end_fault, module_box_code, module_line_code, body_line_code, content_code, is_last_module_incomplete};
-ghost use Rattle.certificate_lines.specs.BuilderView.{BuilderView, IsEdgeHaloOrStopLine, IsBodyLine, AreSmallCounts};
+ghost use Rattle.certificate_lines.specs.BuilderView.{BuilderView, IsEdgeHaloOrStopLine, IsBodyLine};
 ghost use Rattle.certificate_lines.specs.declared.certificate_line.CertificateLine.TheVariants.{Module};
 
-use crate::certificate_line::{CertificateLine, Counts};
-use crate::counts::{count_in_last, last_counts, pop_module, push_entry, push_module};
+use crate::certificate_line::CertificateLine;
 use crate::line_tables::LineTables;
 use crate::local_wires::{make_room_for_wires, move_wires_to_earlier, push_line_wires};
-use crate::named_wires::NamedWire;
 use crate::order::{LineKey, first_key, key_of, may_follow};
 use crate::rules::{
     border_code, cut_code, is_bad_box_side, is_misplaced_box, keep_code, may_edge_be_there,
     may_halo_be_there, may_stop_be_there, use_code,
 };
 use crate::stars::{has_star, make_room_for_stars, note_stars};
-use crate::stored_line::StoredLine;
+use crate::stored_module::{StoredModule, push_in_last};
 use crate::wire_list::WireList;
 use bbm_rule::{Cell, Grid, are_all_cells_live, fill_rectangle, is_any_live_in};
 use indexmap::IndexSet;
@@ -39,8 +39,7 @@ const MAX_MODULES: usize = 1024;
 #[derive(Drop)]
 pub struct Builder<'a> {
     pub(crate) tables: LineTables<'a>,
-    pub(crate) entries: Vec<StoredLine<'a>>,
-    pub(crate) modules: Vec<Counts>,
+    pub(crate) modules: Vec<StoredModule>,
     // the cells of all boxes
     covered: Grid,
     // the wires that are local in each module before the last, behind none
@@ -74,7 +73,6 @@ impl<'a> Builder<'a> {
         let covered = Grid::new(alloc, size.w, size.h)?;
         Ok(Builder {
             tables,
-            entries: Vec::new(alloc),
             modules: Vec::new(alloc),
             covered,
             earlier: Vec::new(alloc),
@@ -85,110 +83,117 @@ impl<'a> Builder<'a> {
         })
     }
 
+    // The last module.
+    #[inline(always)]
+    fn last_module(&self) -> Option<&StoredModule>
+        ensures module { option_map (λ m. module_lines self.now.setting.circuit m.now) result
+            ≡ last_module self.now.entries }
+        ensures within_limit { IfSome result (λ m. IsWithinLineLimit
+            (module_lines self.now.setting.circuit m.now)) }
+    {
+        self.modules.last()
+    }
+
     // Whether a port in the box of the last module has a wire that is not local.
     fn has_nonlocal_port(&self) -> bool
         ensures { result
             ≡ is_last_module_incomplete self.now.setting (last_module self.now.entries) }
     {
         let _size = self.tables.size();
-        match last_counts(&self.modules) {
-            Some(counts) => self.tables.has_nonlocal_port(&self.known, counts.area),
+        match self.last_module() {
+            Some(last) => self.tables.has_nonlocal_port(&self.known, last.area),
             None => false,
         }
     }
 
     // The code of an edge, halo or stop line, by `border_code` with the wires of the last module.
     #[inline(always)]
+    #[tactic(auto, using(crate::proofs::StoredLemmas::timed_count))]
     fn border_code(
         &self,
-        counts: Counts,
+        last: &StoredModule,
         placed: bool,
         named: bool,
-        wire: Option<NamedWire<'a>>,
+        wire: Option<u16>,
     ) -> Option<RefusalCode>
-        requires counts { AreSmallCounts counts }
+        requires { IsWithinLineLimit (module_lines self.now.setting.circuit last.now) }
         ensures { (m : ModuleLines) (signal : Option (List ℕ)) →
-            last_module self.now.entries ≡ Some m → counts ≡ counts_of m →
-            named ≡ is_some signal → IsWireOfName self.now.setting.circuit signal wire.entry →
+            last_module self.now.entries ≡ Some m →
+            m ≡ module_lines self.now.setting.circuit last.now →
+            named ≡ is_some signal →
+            wire ≡ option_and_then (wire_of self.now.setting.circuit) signal →
             result ≡ border_line_code self.now.setting.circuit (timed_line_count m)
             (known self.now.setting.circuit m) placed signal }
     {
-        let borders = counts.edges + counts.halos + counts.stops;
-        border_code(
-            borders,
-            &self.known,
-            placed,
-            named,
-            wire.map(|own| own.wire),
-        )
+        let borders = last.edges.len() + last.halos.len() + last.stops.len();
+        border_code(borders, &self.known, placed, named, wire)
     }
 
-    // The code of the tests that come after that of the order, where these are the counts of the last module.
+    // The code of the tests that come after that of the order, for a line of the last module.
     #[inline(always)]
+    #[tactic(auto, using(crate::proofs::StoredLemmas::cut_count, crate::proofs::StoredLemmas::used_gates))]
     fn content_code(
         &self,
-        counts: Counts,
+        last: &StoredModule,
         entry: &CertificateLine,
-        wire: Option<NamedWire<'a>>,
+        wire: Option<u16>,
     ) -> Option<RefusalCode>
-        requires counts { AreSmallCounts counts }
-        requires wire { IsWireOfName self.now.setting.circuit (name_in entry.now) wire }
+        requires within_limit { IsWithinLineLimit (module_lines self.now.setting.circuit
+            last.now) }
+        requires wire { wire
+            ≡ option_and_then (wire_of self.now.setting.circuit) (name_in entry.now) }
         ensures { (m : ModuleLines) → last_module self.now.entries ≡ Some m →
-            counts ≡ counts_of m → result ≡ content_code self.now.setting m entry.now }
+            m ≡ module_lines self.now.setting.circuit last.now →
+            result ≡ content_code self.now.setting m entry.now }
     {
         let size = self.tables.size();
         match entry {
             CertificateLine::Module(_) => None,
-            CertificateLine::Cut(_) => {
-                cut_code(counts.cuts, &self.known, wire.map(|own| own.wire))
-            }
+            CertificateLine::Cut(_) => cut_code(last.cuts.len(), &self.known, wire),
             CertificateLine::Use(number) => use_code(
                 &self.tables,
-                counts.gates,
+                last.gates.len(),
                 &self.known,
                 *number,
             ),
             CertificateLine::Keep(number) => keep_code(
                 &self.tables,
-                self.entries.as_slice(),
+                last.gates.as_slice(),
                 *number,
             ),
             CertificateLine::Edge(border) => {
                 let starred = has_star(&self.edges, border.cell);
-                let placed = may_edge_be_there(size, counts.area, starred, border);
-                self.border_code(counts, placed, border.signal.is_some(), wire)
+                let placed = may_edge_be_there(size, last.area, starred, border);
+                self.border_code(last, placed, border.signal.is_some(), wire)
             }
             CertificateLine::Halo(border) => {
                 let starred = has_star(&self.halos, border.cell);
-                let placed = may_halo_be_there(size, counts.area, starred, border);
-                self.border_code(counts, placed, border.signal.is_some(), wire)
+                let placed = may_halo_be_there(size, last.area, starred, border);
+                self.border_code(last, placed, border.signal.is_some(), wire)
             }
             CertificateLine::Stop(stop) => {
-                let placed = may_stop_be_there(size, counts.area, stop);
-                self.border_code(counts, placed, true, wire)
+                let placed = may_stop_be_there(size, last.area, stop);
+                self.border_code(last, placed, true, wire)
             }
         }
     }
 
     // The code of a line of a module. `wire` is the wire that the line names, if it names one.
     #[inline(always)]
-    fn body_line_code(
-        &self,
-        entry: &CertificateLine,
-        wire: Option<NamedWire<'a>>,
-    ) -> Option<RefusalCode>
+    fn body_line_code(&self, entry: &CertificateLine, wire: Option<u16>) -> Option<RefusalCode>
         requires inner { IsBodyLine entry.now }
-        requires wire { IsWireOfName self.now.setting.circuit (name_in entry.now) wire }
+        requires wire { wire
+            ≡ option_and_then (wire_of self.now.setting.circuit) (name_in entry.now) }
         ensures { result
             ≡ body_line_code self.now.setting (last_module self.now.entries) entry.now }
     {
-        let Some(counts) = last_counts(&self.modules) else {
+        let Some(last) = self.last_module() else {
             return Some(RefusalCode::OutOfOrder);
         };
         if !may_follow(self.last, entry) {
             return Some(RefusalCode::OutOfOrder);
         }
-        self.content_code(counts, entry, wire)
+        self.content_code(last, entry, wire)
     }
 }
 
@@ -197,7 +202,7 @@ impl<'a> Builder<'a> {
     //
     // It is inlined where the kind of line is known, so that no test asks for the kind.
     #[inline(always)]
-    #[tactic(auto, using(crate::proofs::Keeping::good_line, crate::proofs::Keeping::small, crate::proofs::Keeping::with_border, crate::proofs::NamedLines::named_line))]
+    #[tactic(auto, using(crate::proofs::Keeping::good_line, crate::proofs::Keeping::with_border))]
     fn add_border_or_stop(&mut self, entry: CertificateLine) -> Result<(), LineFault>
         requires { IsEdgeHaloOrStopLine entry }
         ensures ok { OnOk result ((body_line_code self.old.setting (last_module self.old.entries)
@@ -213,16 +218,15 @@ impl<'a> Builder<'a> {
         if make_room_for_stars(&mut self.edges, &mut self.halos, &entry).is_err() {
             return Err(LineFault::Memory);
         }
-        push_entry(&mut self.entries, StoredLine::of(&entry, wire))?;
+        push_in_last(&mut self.modules, &entry, wire)?;
         note_stars(&mut self.edges, &mut self.halos, &entry);
-        count_in_last(&mut self.modules, &entry);
         self.last = key_of(&entry);
         Ok(())
     }
 
     // Adds a line of a module, or answers the code of the first test that it fails.
     #[inline(never)]
-    #[tactic(auto, using(crate::proofs::Keeping::small, crate::proofs::Keeping::good_line, crate::proofs::Keeping::with_inner, crate::proofs::NamedLines::named_line))]
+    #[tactic(auto, using(crate::proofs::Keeping::good_line, crate::proofs::Keeping::with_inner))]
     fn add_body_line(&mut self, entry: CertificateLine) -> Result<(), LineFault>
         requires { IsBodyLine entry }
         ensures ok { OnOk result ((body_line_code self.old.setting (last_module self.old.entries)
@@ -241,10 +245,9 @@ impl<'a> Builder<'a> {
         if make_room_for_stars(&mut self.edges, &mut self.halos, &entry).is_err() {
             return Err(LineFault::Memory);
         }
-        push_entry(&mut self.entries, StoredLine::of(&entry, wire))?;
+        push_in_last(&mut self.modules, &entry, wire)?;
         push_line_wires(&mut self.known, &self.tables, &entry, wire);
         note_stars(&mut self.edges, &mut self.halos, &entry);
-        count_in_last(&mut self.modules, &entry);
         self.last = key_of(&entry);
         Ok(())
     }
@@ -252,6 +255,7 @@ impl<'a> Builder<'a> {
 
 impl<'a> Builder<'a> {
     // How many modules there are.
+    #[tactic(auto, using(crate::proofs::StoredLemmas::count_stored))]
     fn module_count(&self) -> usize
         ensures { result ≡ length (modules_of self.now.entries) }
     {
@@ -313,9 +317,12 @@ impl<'a> Builder<'a> {
         if let Some(code) = self.module_code(area) {
             return Err(LineFault::Code(code));
         }
-        push_module(&mut self.entries, &mut self.modules, area)?;
+        let before = self.modules.len();
+        let Ok(()) = self.modules.push(StoredModule::new(alloc, area)) else {
+            return Err(LineFault::Memory);
+        };
         let Ok(()) = move_wires_to_earlier(alloc, &mut self.earlier, &mut self.known) else {
-            pop_module(&mut self.entries, &mut self.modules);
+            self.modules.truncate(before);
             return Err(LineFault::Memory);
         };
         fill_rectangle(&mut self.covered, area);
@@ -363,17 +370,13 @@ impl<'a> Builder<'a> {
         }
     }
 
-    /// Returns the lines, and the counts of the modules.
-    pub fn into_parts(self) -> (Vec<StoredLine<'a>>, Vec<Counts>)
-        ensures entries { result.0.items ≡ self.entry.entries }
-        ensures counts { result.1.items ≡ map counts_of (modules_of self.entry.entries) }
-        ensures begun { BeginWithModule self.entry.entries }
+    /// Returns the modules.
+    pub fn into_modules(self) -> Vec<StoredModule>
+        ensures entries { lines_of_modules self.entry.setting.circuit result.items
+            ≡ self.entry.entries }
+        ensures wires { All (HasOwnWires self.entry.setting.circuit) result.items }
     {
-        let Builder {
-            entries,
-            modules,
-            ..
-        } = self;
-        (entries, modules)
+        let Builder { modules, .. } = self;
+        modules
     }
 }

@@ -1,5 +1,4 @@
 //! The lines of a certificate, and how many of each kind a module has.
-ghost use Rattle.std.specs.Prelude.{◌≡◌};
 
 use bbm_rule::Cell;
 use module_box::Box2;
@@ -54,21 +53,4 @@ pub struct Counts {
     pub edges: usize,
     pub halos: usize,
     pub stops: usize,
-}
-
-impl Counts {
-    // A module without lines.
-    pub(crate) fn new(area: Box2) -> Counts
-        ensures { result
-            ≡ record { area = area; cuts = 0; gates = 0; edges = 0; halos = 0; stops = 0 } }
-    {
-        Counts {
-            area,
-            cuts: 0,
-            gates: 0,
-            edges: 0,
-            halos: 0,
-            stops: 0,
-        }
-    }
 }

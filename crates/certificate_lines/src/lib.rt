@@ -6,26 +6,21 @@
 
 mod builder;
 mod certificate_line;
-mod counts;
 mod form;
 mod line_tables;
-mod lines;
 mod local_wires;
-mod named_wires;
 mod neighbour_wires;
 mod order;
 mod ports;
 mod rules;
 mod stars;
-mod stored_line;
+mod stored_module;
 mod wire_list;
 
 pub use builder::Builder;
 pub use certificate_line::{BorderLine, CertificateLine, Counts, OneOrName, StopLine};
-pub use counts::{boxes_of, push_entry};
 pub use form::line_form;
 pub use line_tables::LineTables;
-pub use lines::{cut_list, kept_places, lines_before_next_module, used_gates};
-pub use order::{compare_borders, rank};
+pub use order::compare_borders;
 pub use ports::{PortTable, PortWire, port_tables};
-pub use stored_line::{StoredBorder, StoredLine, StoredStop};
+pub use stored_module::{StoredBorder, StoredModule, StoredStop, boxes_of};

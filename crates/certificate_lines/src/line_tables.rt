@@ -1,6 +1,6 @@
 //! The circuit and the layout that a certificate is for, with tables of the layout's ports by their cells.
 ghost use Rattle.bbm_rule.specs.CellLists.{rectangle_cells};
-ghost use Rattle.std.specs.Prelude.{◌≡◌, ◌+◌, ◌<◌, ◌≤◌, ◌&&◌, not, slice_get, IfOk, IfSome};
+ghost use Rattle.std.specs.Prelude.{◌≡◌, ◌+◌, ◌<◌, ◌≤◌, ◌&&◌, not, length, slice_get, IfOk, IfSome};
 ghost use Rattle.std.specs.List.{All, list_any};
 ghost use Rattle.std.specs.Option.{option_and_then, option_map};
 ghost use Rattle.circuit.specs.Meaning.{wire_of};
@@ -9,21 +9,19 @@ ghost use Rattle.bbm_rule.specs.CellLists.{row_cells};
 ghost use Rattle.pattern.specs.Lines.{size_fault};
 ghost use Rattle.bbm_rule.specs.Boxes.{in_box};
 ghost use Rattle.certificate_lines.specs.Entries.{name_in};
-ghost use Rattle.certificate_lines.specs.NamedWires.{IsWireOfName};
 ghost use Rattle.certificate_lines.specs.Rules.{is_inverse_gate, is_local};
 ghost use Rattle.certificate_lines.specs.Versions.{is_nonlocal_signal};
 ghost use Rattle.certificate_lines.specs.PortTables.{port_at};
 ghost use Rattle.certificate_lines.specs.Settings.{setting_of};
 
 use crate::certificate_line::CertificateLine;
-use crate::named_wires::{NamedWire, SLOT_COUNT, empty_slots, find_wire, name_in};
 use crate::ports::{PortTable, port_tables};
-use crate::stored_line::StoredBorder;
 use crate::wire_list::WireList;
 use bbm_rule::Cell;
 use circuit::{Circuit, GateNo, GateWires};
 use module_box::Box2;
 use pattern::{Layout, LayoutHeader};
+use section_text::Name;
 use std::alloc::{AllocError, Global};
 use std::marker::Model;
 
@@ -34,8 +32,8 @@ pub struct LineTables<'a> {
     layout: &'a Layout,
     ins: PortTable<'a>,
     outs: PortTable<'a>,
-    // wires that lines named
-    slots: [Option<NamedWire<'a>>; SLOT_COUNT],
+    // the wire that was named last by a name of this slot
+    likely: [u16; SLOT_COUNT],
 }
 
 impl<'a> Model for LineTables<'a> {
@@ -48,6 +46,34 @@ impl<'a> Model for LineTables<'a> {
     ghost view = { tables_setting };
 
     ghost invariant = { AreLineTables };
+}
+
+// The count of slots.
+const SLOT_COUNT: usize = 64;
+
+// The slot of a name, by its last two bytes, in which the names of a module's wires mostly differ.
+fn slot_of(name: &Name) -> usize
+    ensures { result < 64 }
+{
+    match name.bytes() {
+        [.., ten, one] => (10 * *ten as usize + *one as usize) % SLOT_COUNT,
+        [one] => *one as usize % SLOT_COUNT,
+        [] => 0,
+    }
+}
+
+// The name in a line, if it has one.
+#[inline(always)]
+fn name_in(line: &CertificateLine) -> Option<&Name>
+    ensures { option_map (λ n. n.now) result ≡ name_in line.now }
+{
+    match line {
+        CertificateLine::Cut(name) => Some(name),
+        CertificateLine::Edge(border) => border.signal.as_ref(),
+        CertificateLine::Halo(border) => border.signal.as_ref(),
+        CertificateLine::Stop(stop) => Some(&stop.wire),
+        _ => None,
+    }
 }
 
 // Whether there is a port at the cell, and its wire is not local.
@@ -104,7 +130,6 @@ fn has_box_nonlocal_port(ports: &PortTable, known: &WireList, area: Box2) -> boo
 
 impl<'a> LineTables<'a> {
     /// Creates the tables of the layout's ports.
-    #[tactic(auto, using(crate::proofs::NamedLines::no_wires))]
     pub fn new(
         alloc: Global,
         circuit: &'a Circuit,
@@ -112,13 +137,17 @@ impl<'a> LineTables<'a> {
     ) -> Result<LineTables<'a>, AllocError>
         ensures { IfOk result (λ tables. tables ≡ setting_of circuit.now layout.now) }
     {
+        // The limits of a circuit and of a layout.
+        let _wires = circuit.wires();
+        let _gates = circuit.gates();
+        let _size = layout.size();
         let (ins, outs) = port_tables(alloc, circuit, layout)?;
         Ok(LineTables {
             circuit,
             layout,
             ins,
             outs,
-            slots: empty_slots(),
+            likely: [0; SLOT_COUNT],
         })
     }
 
@@ -130,21 +159,23 @@ impl<'a> LineTables<'a> {
         self.layout.size()
     }
 
-    /// Returns the circuit's wire that a line names, if it names one.
+    /// Returns the circuit's wire that a line names, if it names one and the circuit has it.
+    ///
+    /// The lines of a module name few wires. To compare a name with that of the wire named last costs less than to look
+    /// it up by its hash.
     #[inline(always)]
-    pub(crate) fn wire_in(&mut self, line: &CertificateLine) -> Option<NamedWire<'a>>
-        ensures wire { IsWireOfName self.old.circuit (name_in line.now) result }
+    pub(crate) fn wire_in(&mut self, line: &CertificateLine) -> Option<u16>
+        ensures wire { result ≡ option_and_then (wire_of self.old.circuit) (name_in line.now) }
+        ensures below_4096 { IfSome result (λ w. w < 4096) }
+        ensures gates_at_most_1024 { length self.old.circuit.netlist.gates ≤ 1024 }
+        ensures size_limits { size_fault self.old.size ≡ None }
         ensures same_setting { self.new ≡ self.old }
     {
+        let circuit = self.circuit;
         let name = name_in(line)?;
-        find_wire(self.circuit, &mut self.slots, name)
-    }
-
-    /// Returns the number of the circuit's wire of a signal, or `None` if the signal is `1` or there is no such wire.
-    pub(crate) fn signal_wire(&self, border: &StoredBorder) -> Option<u16>
-        ensures { result ≡ option_and_then (wire_of self.now.circuit) border.now.signal }
-    {
-        let wire = border.wire_in(self.circuit)?;
+        let slot = slot_of(name);
+        let wire = circuit.wire_by_hint(self.likely[slot], name)?;
+        self.likely[slot] = wire.number();
         Some(wire.number())
     }
 

@@ -1,15 +1,15 @@
 //! The wires that are local in a module, by their numbers in the circuit.
-ghost use Rattle.std.specs.Prelude.{◌≡◌, ◌≤◌, ◌<◌, ◌++◌, ◌∷◌, [], length, map, OnErr, OnOk};
+ghost use Rattle.std.specs.Prelude.{◌≡◌, ◌≤◌, ◌<◌, ◌++◌, ◌∷◌, [], length, map, IfSome, OnErr, OnOk};
 ghost use Rattle.std.specs.List.{All, list_all};
+ghost use Rattle.std.specs.Option.{option_and_then};
 ghost use Rattle.module_box.specs.Locals.{is_among};
 ghost use Rattle.certificate_lines.specs.BuilderView.{wires_made_local};
 ghost use Rattle.certificate_lines.specs.Entries.{name_in};
-ghost use Rattle.certificate_lines.specs.NamedWires.{IsWireOfName};
+ghost use Rattle.circuit.specs.Meaning.{wire_of};
 ghost use Rattle.certificate_lines.specs.Rules.{are_new_and_distinct};
 
 use crate::certificate_line::CertificateLine;
 use crate::line_tables::LineTables;
-use crate::named_wires::NamedWire;
 use crate::wire_list::WireList;
 use circuit::WireNo;
 use std::alloc::{AllocError, Global};
@@ -87,9 +87,10 @@ pub(crate) fn push_line_wires(
     known: &mut WireList,
     tables: &LineTables,
     entry: &CertificateLine,
-    wire: Option<NamedWire>,
+    wire: Option<u16>,
 )
-    requires wire { IsWireOfName tables.now.circuit (name_in entry.now) wire }
+    requires wire { wire ≡ option_and_then (wire_of tables.now.circuit) (name_in entry.now) }
+    requires of_a_circuit { IfSome wire (λ w. w < 4096) }
     requires room_for_wires { length (wires_made_local tables.now.circuit entry.now) ≤
         known.old.spare }
     ensures { known.new.wires ≡ known.old.wires ++ wires_made_local tables.now.circuit entry.now }
@@ -97,7 +98,7 @@ pub(crate) fn push_line_wires(
     match entry {
         CertificateLine::Cut(_) => {
             if let Some(cut) = wire {
-                known.push(cut.wire);
+                known.push(cut);
             }
         }
         CertificateLine::Use(number) => {

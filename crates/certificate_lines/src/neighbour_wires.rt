@@ -1,27 +1,25 @@
 //! Whether an edge line names a wire that is not local in a module beside it.
 ghost use Rattle.std.specs.Prelude.{◌≡◌, ◌<◌, List, map, ◌&&◌, Some, length, slice_get, IfSome, IsTrue};
-ghost use Rattle.std.specs.List.{flat_map, list_any};
-ghost use Rattle.certificate_lines.specs.Entries.{ModuleLines, areas, counts_of, edge_in, known, modules_of};
-ghost use Rattle.certificate_lines.specs.ModuleParts.{AreInBox};
+ghost use Rattle.std.specs.List.{All, flat_map, list_any};
+ghost use Rattle.circuit.specs.Meaning.{Circuit};
+ghost use Rattle.certificate_lines.specs.Entries.{ModuleLines, areas, edges, known, modules_of};
+ghost use Rattle.certificate_lines.specs.StoredModules.{HasOwnWire, IsWithin, border_line, module_lines};
 ghost use Rattle.certificate_lines.specs.Rules.{whole};
 ghost use Rattle.bbm_rule.specs.Boxes.{in_box};
 ghost use Rattle.certificate_lines.specs.BuilderView.{AreApart, AreModuleOwners, IsModuleWithCell, does_neighbour_lack_wire, is_outside_and_nonlocal, is_nonlocal_in_neighbour, lacks_edge_wire};
 ghost use Rattle.certificate_lines.specs.Versions.{lacks_edge_wire_beside};
 
 use crate::builder::Builder;
-use crate::certificate_line::Counts;
-use crate::counts::boxes_of;
 use crate::rules::{is_local_wire, whole_of};
-use crate::stored_line::{StoredBorder, StoredLine};
+use crate::stored_module::{StoredBorder, StoredModule, boxes_of};
 use crate::wire_list::WireList;
 use bbm_rule::{Cell, odd_partner};
 use module_box::{Owners, owner_table};
 use std::alloc::Global;
 
 // The number of the first module that has the cell.
-fn first_with_cell(modules: &[Counts], cell: Cell) -> Option<usize>
-    ensures { (ms : List ModuleLines) → modules.now ≡ map counts_of ms →
-        IsModuleWithCell ms cell result }
+fn first_with_cell(modules: &[StoredModule], cell: Cell) -> Option<usize>
+    ensures { (c : Circuit) → IsModuleWithCell (map (module_lines c) modules.now) cell result }
 {
     'modules: for number in 0..modules.len() {
         if modules[number].area.holds(cell) {
@@ -49,6 +47,7 @@ impl<'a> Builder<'a> {
 
 impl<'a> Builder<'a> {
     // Which module has each cell, or `None` if there is no memory or the boxes leave a gap.
+    #[tactic(auto, using(crate::proofs::StoredLemmas::areas_stored))]
     fn owners(&self, alloc: Global) -> Option<Owners>
         ensures { IfSome result (AreModuleOwners self.now) }
     {
@@ -63,6 +62,7 @@ impl<'a> Builder<'a> {
     }
 
     // Whether the cell is outside the module of this number, and the wire is unknown or not local there.
+    #[tactic(auto, using(crate::proofs::StoredLemmas::count_stored))]
     fn is_outside_and_nonlocal(&self, number: usize, cell: Cell, wire: Option<u16>) -> bool
         requires { number < length (modules_of self.now.entries) }
         ensures { (m : ModuleLines) → slice_get (modules_of self.now.entries) number ≡ Some m →
@@ -144,46 +144,45 @@ impl<'a> Builder<'a> {
     // Whether some module has the cell of an edge line in its halo, and lacks its wire.
     fn does_neighbour_lack_wire(&self, owners: &Option<Owners>, border: &StoredBorder) -> bool
         requires owners { IfSome owners.now (AreModuleOwners self.now) }
-        requires inside { IsTrue
-            (in_box (whole self.now.setting.size) border.now.cell.x border.now.cell.y) }
+        requires own { HasOwnWire self.now.setting.circuit border.now }
+        requires inside { IsWithin self.now.setting.size border.now }
         ensures { result
             ≡ does_neighbour_lack_wire self.now.setting.circuit (modules_of self.now.entries)
-            border.now }
+            (border_line self.now.setting.circuit border.now) }
     {
-        match border.wire_name() {
+        match border.wire {
             None => false,
-            Some(_) => {
-                // The wire is found once for all modules beside the cell.
-                let wire = self.tables.signal_wire(border);
-                self.is_nonlocal_in_neighbour(owners, border.cell(), wire)
-            }
+            Some(_) => self.is_nonlocal_in_neighbour(owners, border.cell(), border.wire),
         }
     }
 
-    // Whether a line is an edge line of which some module has the cell in its halo, and lacks the wire.
-    fn neighbour_lacks_edge_wire(&self, owners: &Option<Owners>, line: &StoredLine) -> bool
+    // Whether some module lacks the wire of one of these edge lines, by the modules beside each of them.
+    #[tactic(auto, using(lemmas::proofs::Common::list_any_at))]
+    fn do_neighbours_lack_a_wire(&self, owners: &Option<Owners>, lines: &[StoredBorder]) -> bool
         requires owners { IfSome owners.now (AreModuleOwners self.now) }
-        requires inside { AreInBox (whole self.now.setting.size) (edge_in line.now) }
+        requires own { All (HasOwnWire self.now.setting.circuit) lines.now }
+        requires inside { All (IsWithin self.now.setting.size) lines.now }
         ensures { result
-            ≡ list_any (does_neighbour_lack_wire self.now.setting.circuit
-            (modules_of self.now.entries)) (edge_in line.now) }
-    {
-        match line.edge() {
-            Some(border) => self.does_neighbour_lack_wire(owners, &border),
-            None => false,
-        }
-    }
-
-    // Whether some module lacks the wire of one of the edge lines, by the modules beside each of them.
-    fn do_neighbours_lack_a_wire(&self, owners: &Option<Owners>, lines: &[StoredLine]) -> bool
-        requires owners { IfSome owners.now (AreModuleOwners self.now) }
-        requires inside { AreInBox (whole self.now.setting.size) (flat_map edge_in lines.now) }
-        ensures { result
-            ≡ list_any (lacks_edge_wire self.now.setting.circuit (flat_map edge_in lines.now))
-            (modules_of self.now.entries) }
+            ≡ list_any (λ b. does_neighbour_lack_wire self.now.setting.circuit
+            (modules_of self.now.entries) (border_line self.now.setting.circuit b)) lines.now }
     {
         'lines: for line in lines {
-            if self.neighbour_lacks_edge_wire(owners, line) {
+            if self.does_neighbour_lack_wire(owners, line) {
+                return true;
+            }
+        }
+        false
+    }
+
+    // Whether some module lacks the wire of an edge line beside it, by the modules beside each edge line.
+    fn does_any_neighbour_lack_a_wire(&self, owners: &Option<Owners>) -> bool
+        requires { IfSome owners.now (AreModuleOwners self.now) }
+        ensures { result
+            ≡ list_any (lacks_edge_wire self.now.setting.circuit
+            (flat_map edges (modules_of self.now.entries))) (modules_of self.now.entries) }
+    {
+        'modules: for module in &self.modules {
+            if self.do_neighbours_lack_a_wire(owners, module.edges.as_slice()) {
                 return true;
             }
         }
@@ -204,6 +203,6 @@ impl<'a> Builder<'a> {
             return false;
         }
         let owners = self.owners(alloc);
-        self.do_neighbours_lack_a_wire(&owners, self.entries.as_slice())
+        self.does_any_neighbour_lack_a_wire(&owners)
     }
 }

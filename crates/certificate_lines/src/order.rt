@@ -3,22 +3,24 @@ ghost use Rattle.std.specs.Prelude.{◌≡◌, List, None, Option};
 ghost use Rattle.certificate_lines.specs.Entries.{last_of};
 ghost use Rattle.certificate_lines.specs.Orders.{AreInOrder, rank_of, time_rank, sort_number_of, cell_of, may_precede, may_follow};
 ghost use Rattle.certificate_lines.specs.LineKeys.{key_of, key_or_first};
+ghost use Rattle.circuit.specs.Meaning.{Circuit};
+ghost use Rattle.certificate_lines.specs.StoredModules.{border_line};
 ghost use Rattle.certificate_lines.specs.Versions.{border_line_cmp};
 ghost use Rattle.certificate_lines.specs.BuilderView.{IsBodyLine, body_line_or_none};
 ghost use Rattle.certificate_lines.specs.declared.certificate_line.CertificateLine.{CertificateLine};
 
 use crate::certificate_line::CertificateLine;
-use crate::stored_line::StoredBorder;
+use crate::stored_module::StoredBorder;
 use bbm_rule::{Cell, compare_cells};
 use std::cmp::Ordering;
 
 // The rank of cuts.
 const CUT_RANK: u8 = 1;
 
-/// Returns the rank of a line by its kind: the lines of a module are in order of their ranks.
+// The rank of a line by its kind: the lines of a module are in order of their ranks.
 #[inline(always)]
 #[tactic(auto, unfolding(crate::specs::Orders::rank_of))]
-pub fn rank(entry: &CertificateLine) -> u8
+fn rank(entry: &CertificateLine) -> u8
     ensures { result ≡ rank_of entry.now }
 {
     match entry {
@@ -140,9 +142,10 @@ pub(crate) fn may_follow(last: LineKey, entry: &CertificateLine) -> bool
 /// Compares two edge lines, or two halo lines.
 #[tactic(auto, unfolding(crate::specs::Versions::border_line_cmp))]
 pub fn compare_borders(first: &StoredBorder, second: &StoredBorder) -> Ordering
-    ensures { result ≡ border_line_cmp first.now second.now }
+    ensures { (c : Circuit) → result
+        ≡ border_line_cmp (border_line c first.now) (border_line c second.now) }
 {
-    rank_of_time(first.time())
-        .cmp(&rank_of_time(second.time()))
+    rank_of_time(first.time)
+        .cmp(&rank_of_time(second.time))
         .then(compare_cells(first.cell(), second.cell()))
 }

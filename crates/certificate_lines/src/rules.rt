@@ -1,16 +1,15 @@
 //! The tests of a line of a module, after its order.
-ghost use Rattle.std.specs.Prelude.{◌≡◌, ◌+◌, ℕ, List, Option, Some};
+ghost use Rattle.std.specs.Prelude.{◌≡◌, ◌+◌, ℕ, List, Option};
 ghost use Rattle.std.specs.Option.{is_some, option_and_then};
 ghost use Rattle.circuit.specs.Meaning.{Circuit, wire_of};
-ghost use Rattle.certificate_lines.specs.Entries.{ModuleLines, gates, last_module};
+ghost use Rattle.module_box.specs.Locals.{is_among};
 ghost use Rattle.certificate_lines.specs.Rules.{whole, is_bad_box_side, is_misplaced, is_odd, is_local_wire, cut_line_code, use_line_code, keep_line_code, is_line_time_allowed, is_edge_place_and_time, is_halo_place_and_time, is_stop_place_and_time, border_line_code};
 
 use crate::certificate_line::{BorderLine, StopLine};
 use crate::line_tables::LineTables;
-use crate::lines::is_gate_used_in_last;
 use crate::local_wires::{are_all_new_and_distinct, knows_all};
-use crate::stored_line::StoredLine;
 use crate::wire_list::WireList;
+use circuit::GateNo;
 use module_box::Box2;
 use pattern::LayoutHeader;
 use section_text::RefusalCode;
@@ -111,20 +110,22 @@ pub(crate) fn use_code(
     None
 }
 
-/// Returns the code of a kept gate. `lines` are the lines before it.
+// Whether the gate of this number is one of those that are used.
+fn is_used(used: &[GateNo], number: u32) -> bool
+    ensures { result ≡ is_among used.now number }
+{
+    used.iter().any(|gate| u32::from(gate.number()) == number)
+}
+
+/// Returns the code of a kept gate of a module that uses these gates.
 #[tactic(auto, unfolding(crate::specs::Rules::keep_line_code))]
-pub(crate) fn keep_code(
-    tables: &LineTables,
-    entries: &[StoredLine],
-    number: u32,
-) -> Option<RefusalCode>
-    ensures { (m : ModuleLines) → last_module entries.now ≡ Some m →
-        result ≡ keep_line_code tables.now.circuit (gates m) number }
+pub(crate) fn keep_code(tables: &LineTables, used: &[GateNo], number: u32) -> Option<RefusalCode>
+    ensures { result ≡ keep_line_code tables.now.circuit used.now number }
 {
     if !tables.is_inverse(number) {
         return Some(RefusalCode::UnknownName);
     }
-    if !is_gate_used_in_last(entries, number) {
+    if !is_used(used, number) {
         return Some(RefusalCode::NotLocal);
     }
     None

@@ -1,11 +1,10 @@
 -- The history of a book replays to it
-use Rattle.core_book.proofs.Imports.{Accepted, BookView, Bool, Filed, Filing, Finding, IsBook}
-use Rattle.core_book.proofs.Imports.{IsReplayed, JobView, List, LogEntry, None, Option, Reply, Some, []}
-use Rattle.core_book.proofs.Imports.{accepted_in, after_closing, after_filing, ap, arith, common_steps, count_by}
-use Rattle.core_book.proofs.Imports.{eqb_tells, false, filing_of, findings_after, found_in, get_or, get_or-set_other}
-use Rattle.core_book.proofs.Imports.{get_or-set_same, if◌then◌else◌, is_some, length, length-append, length-replicate}
-use Rattle.core_book.proofs.Imports.{new_book, number_of, refl, replicate, reply_to, set, suc, sym, true, zero, ℕ, ◌++◌}
-use Rattle.core_book.proofs.Imports.{◌+◌, ◌<◌, ◌∙◌, ◌∷◌, ◌≡◌}
+use Rattle.core_book.proofs.Imports.{Accepted, BookView, Bool, Filed, Filing, Finding, IsBook, IsReplayed, JobView}
+use Rattle.core_book.proofs.Imports.{List, LogEntry, None, Option, Reply, Some, [], accepted_in, after_closing}
+use Rattle.core_book.proofs.Imports.{after_filing, ap, arith, common_steps, count_by, eqb_tells, false, filing_of}
+use Rattle.core_book.proofs.Imports.{findings_after, found_in, get_or, get_or-set_other, get_or-set_same, if◌then◌else◌}
+use Rattle.core_book.proofs.Imports.{is_some, length, length-append, length-replicate, new_book, number_of, refl}
+use Rattle.core_book.proofs.Imports.{replicate, reply_to, set, suc, sym, true, zero, ℕ, ◌++◌, ◌+◌, ◌<◌, ◌∙◌, ◌∷◌, ◌≡◌}
 use Rattle.lemmas.proofs.Common.{list_any-append}
 use Rattle.core_book.specs.Replay.{Replayed, AreRepliesByRule, IsReplyByRule, accepted_after, after_entry}
 use Rattle.core_book.specs.Replay.{empty_replayed, has_closing, has_number, replay, replay_from}

@@ -1,8 +1,7 @@
 -- The meaning of a no under a plain certificate, of one module that is the whole rectangle: `check` decides the layout.
 --
 -- Read before: meaning/specs/Implements.antt, OnTime.antt, FirstFaults.antt.
-use Rattle.std.specs.Prelude.{◌≡◌, ◌≢◌, ℕ, ℤ, ◌<◌, ◌%◌, ◌↔◌, ◌⊎◌, List, [], ◌∷◌, Option, Some, None, slice_get}
-use Rattle.std.specs.Prelude.{IsTrue}
+use Rattle.std.specs.Prelude.{◌≡◌, ◌≢◌, ℕ, ℤ, ◌<◌, ◌%◌, ◌↔◌, ◌⊎◌, List, [], ◌∷◌, Option, Some, None, slice_get, IsTrue}
 use Rattle.std.specs.List.{All}
 use Rattle.std.specs.declared.vec.Vec.{Vec}
 use Rattle.std.specs.declared.alloc.Global.{Global}

@@ -1,5 +1,4 @@
-use Rattle.core_book.proofs.Imports.{IsHeldOrFiled, arc_value, false, found_in, is_some, rules}
-use Rattle.core_book.proofs.Imports.{subst, sym, ◌≡◌}
+use Rattle.core_book.proofs.Imports.{IsHeldOrFiled, arc_value, false, found_in, is_some, rules, subst, sym, ◌≡◌}
 use Rattle.lemmas.proofs.Common.{OnOk}
 use Rattle.core_book.proofs.Fillings.{filed-for}
 use Rattle.core_book.proofs.filling.fill_number.Goals.{in-Ok, in-Err}

@@ -1,16 +1,60 @@
 use Rattle.certificate_lines.proofs.Imports.{arith, common_steps}
-use Rattle.certificate_lines.proofs.Keeping.{good_line, small, with_border}
+use Rattle.certificate_lines.specs.StoredModules.{lines_of_modules}
+use Rattle.certificate_lines.proofs.Keeping.{border_is_inner, good_line, last_good}
+use Rattle.certificate_lines.proofs.StoredLines.{follows_last, kept_border, kept_left, may_store, named_line}
+use Rattle.certificate_lines.proofs.StoredLines.{some_module}
 use Rattle.certificate_lines.proofs.builder.Builder.add_border_or_stop.Goals as goal
 
-pub count_in_last-requires : goal.count_in_last-requires
-count_in_last-requires c = small _ _ _ _ _ _ _ _ c.self.invariant.kept
+pub push_in_last-requires-clause-some_module : goal.push_in_last-requires-clause-some_module
+push_in_last-requires-clause-some_module c =
+    let g = c.self.inside.tables in
+    let good = good_line g _ c.args.entry (grind (arith, common_steps)) in
+    some_module g.circuit c.self.inside.modules.items good.module_lines good.last
+
+pub push_in_last-requires-clause-line : goal.push_in_last-requires-clause-line
+push_in_last-requires-clause-line c =
+    let g = c.self.inside.tables in
+    let good = good_line g _ c.args.entry (grind (arith, common_steps)) in
+    may_store g good.module_lines c.args.entry c.wire_in-wire.result
+    (last_good g _ _ _ _ _ _ c.self.invariant.tracked.kept good.module_lines good.last)
+    c.wire_in-wire.ensures.size_limits c.wire_in-wire.ensures.gates_at_most_1024
+    (border_is_inner c.args.entry c.requires) good.words
+    (named_line g good.module_lines c.args.entry c.wire_in-wire.result good.words c.wire_in-wire.ensures.wire)
+
+pub invariant_of-self-in_err-push_in_last : goal.invariant_of-self-in_err-push_in_last
+invariant_of-self-in_err-push_in_last c =
+    let g = c.self.inside.tables in
+    let good = good_line g (lines_of_modules g.circuit c.self.inside.modules.items) c.args.entry
+    (grind (arith, common_steps)) in
+    let own = named_line g good.module_lines c.args.entry c.wire_in-wire.result good.words
+    c.wire_in-wire.ensures.wire in
+    rw (c.wire_in-wire.ensures.same_setting, c.make_room_for_stars.ensures.edges, c.make_room_for_stars.ensures.halos)
+    (kept_left g c.self.inside.modules.items c.push_in_last.new.modules.items _ _ _ _ _ _ c.self.invariant
+    (c.push_in_last.ensures.wires g.circuit own c.self.invariant.wires)
+    (c.in_err-push_in_last.ensures.lines_on_error g.circuit))
 
 pub invariant_of-self-2 : goal.invariant_of-self-2
 invariant_of-self-2 c =
-    let good = good_line c.self.inside.tables c.self.inside.entries.items c.args.entry
-    (grind (arith, common_steps)) in
-    rw (c.wire_in-wire.ensures.same_setting, c.in_ok-push_entry.ensures.ok, c.of.ensures, c.key_of-self-inside.ensures)
-    (with_border _ _ _ _ _ _ _ _ _ _ c.self.invariant c.args.entry c.requires good c.count_in_last.new.modules.items
-    c.count_in_last.ensures c.note_stars.new.edges.keys c.note_stars.new.halos.keys
-    (grind (arith, common_steps))
-    (grind (arith, common_steps)))
+    let g = c.self.inside.tables in
+    let ms = c.self.inside.modules.items in
+    let good = good_line g (lines_of_modules g.circuit ms) c.args.entry (grind (arith, common_steps)) in
+    let own = named_line g good.module_lines c.args.entry c.wire_in-wire.result good.words
+    c.wire_in-wire.ensures.wire in
+    rw (c.wire_in-wire.ensures.same_setting, c.key_of-self-inside.ensures)
+    (kept_border g ms c.push_in_last.new.modules.items _ _ _ _ _ _ c.self.invariant
+    (c.push_in_last.ensures.wires g.circuit own c.self.invariant.wires) c.args.entry good
+    (c.in_ok-push_in_last.ensures.lines g.circuit own
+    (follows_last g.circuit ms good.module_lines c.args.entry good.last
+    good.follows)) c.note_stars.new.edges.keys c.note_stars.new.halos.keys (grind (arith, common_steps))
+    (grind (arith, common_steps)) c.requires)
+
+pub returns-clause-ok : goal.returns-clause-ok
+returns-clause-ok c =
+    let g = c.self.inside.tables in
+    let ms = c.self.inside.modules.items in
+    let good = good_line g (lines_of_modules g.circuit ms) c.args.entry (grind (arith, common_steps)) in
+    let own = named_line g good.module_lines c.args.entry c.wire_in-wire.result good.words
+    c.wire_in-wire.ensures.wire in
+    let more = c.in_ok-push_in_last.ensures.lines g.circuit own
+    (follows_last g.circuit ms good.module_lines c.args.entry good.last good.follows) in
+    grind (arith, common_steps)

@@ -1,36 +1,42 @@
-use Rattle.certificate_lines.proofs.Imports.{BuilderView, OutOfOrder, Some, ap, arith, body_line_code, common_steps}
-use Rattle.certificate_lines.proofs.Imports.{last_module, last_of, subst, sym, ◌∙◌, ◌≡◌}
-use Rattle.certificate_lines.proofs.Keeping.{no_module, small, too_late, in_place}
+use Rattle.certificate_lines.proofs.Imports.{BuilderView, OutOfOrder, Some, ap, body_line_code, content_code}
+use Rattle.certificate_lines.proofs.Imports.{last_module, option_map, refl, subst, sym, ◌∙◌, ◌≡◌}
+use Rattle.certificate_lines.specs.StoredModules.{module_lines}
+use Rattle.certificate_lines.specs.declared.stored_module.StoredModule.{StoredModule}
+use Rattle.std.proofs.Common.{Bor}
+use Rattle.certificate_lines.proofs.Keeping.{too_late, in_place}
 use Rattle.certificate_lines.proofs.builder.Builder.body_line_code.Goals as goal
 
 pub returns-in_default : goal.returns-in_default
 returns-in_default c =
-    subst (λ (s : BuilderView). Some OutOfOrder ≡ body_line_code s.setting (last_module s.entries) c.args.entry.now)
-    c.self.view_is
-    (ap (λ o. body_line_code c.self.inside.tables o c.args.entry.now)
-    (sym (no_module _ _ _ _ _ _ _ _ c.self.invariant.kept
-    (ap last_of (sym c.deref.ensures.value) ∙ sym c.last_counts.ensures ∙ c.in_default.is))))
+    sym (ap (λ o. body_line_code c.args.self.now.setting o c.args.entry.now)
+    (sym c.last_module.ensures.module ∙ ap (option_map (λ (m : Bor StoredModule).
+    module_lines c.args.self.now.setting.circuit m.now)) c.in_default.is))
 
 pub returns-then-not-may_follow : goal.returns-then-not-may_follow
 returns-then-not-may_follow c =
-    subst (λ (s : BuilderView). Some OutOfOrder ≡ body_line_code s.setting (last_module s.entries) c.args.entry.now)
-    c.self.view_is
-    (too_late _ _ _ _ _ _ _ _ c.self.invariant.kept c.in-Some.counts c.args.entry.now c.may_follow.result
-    (ap last_of (sym c.deref.ensures.value) ∙ sym c.last_counts.ensures ∙ c.in-Some.is)
-    (λ lines order last. c.may_follow.ensures _ lines c.self.invariant.key_is order last)
+    let n = c.in-Some.last.now in
+    subst (λ (s : BuilderView). last_module s.entries ≡ Some (module_lines s.setting.circuit n) →
+    Some OutOfOrder ≡ body_line_code s.setting (last_module s.entries) c.args.entry.now) c.self.view_is
+    (λ l. too_late _ _ _ _ _ _ _ c.self.invariant.tracked.kept (module_lines c.self.inside.tables.circuit n)
+    c.args.entry.now c.may_follow.result l
+    (λ lines order last. c.may_follow.ensures _ lines c.self.invariant.tracked.key_is order last)
     c.if-not-may_follow.true)
+    (sym c.last_module.ensures.module ∙ ap (option_map (λ (m : Bor StoredModule).
+    module_lines c.args.self.now.setting.circuit m.now)) c.in-Some.is)
 
-pub content_code-requires-clause-counts : goal.content_code-requires-clause-counts
-content_code-requires-clause-counts c = small _ _ _ _ _ _ _ _ c.self.invariant.kept c.in-Some.counts
-    (ap last_of (sym c.deref.ensures.value) ∙ sym c.last_counts.ensures ∙ c.in-Some.is)
+pub content_code-requires-clause-within_limit : goal.content_code-requires-clause-within_limit
+content_code-requires-clause-within_limit c = c.in-Some.ensures.within_limit
 
 pub returns : goal.returns
 returns c =
-    subst (λ (s : BuilderView). c.content_code.result
-    ≡ body_line_code s.setting (last_module s.entries) c.args.entry.now)
-    c.self.view_is
-    (in_place _ _ _ _ _ _ _ _ c.self.invariant.kept c.in-Some.counts c.args.entry.now c.may_follow.result
-    c.content_code.result (ap last_of (sym c.deref.ensures.value) ∙ sym c.last_counts.ensures ∙ c.in-Some.is)
-    (λ lines order last. c.may_follow.ensures _ lines c.self.invariant.key_is order last)
-    c.if-not-may_follow.false
-    (grind (arith, common_steps)))
+    let n = c.in-Some.last.now in
+    let some = sym c.last_module.ensures.module ∙ ap (option_map (λ (m : Bor StoredModule).
+    module_lines c.args.self.now.setting.circuit m.now)) c.in-Some.is in
+    subst (λ (s : BuilderView). last_module s.entries ≡ Some (module_lines s.setting.circuit n) →
+    c.content_code.result ≡ content_code s.setting (module_lines s.setting.circuit n) c.args.entry.now →
+    c.content_code.result ≡ body_line_code s.setting (last_module s.entries) c.args.entry.now) c.self.view_is
+    (λ l good. in_place _ _ _ _ _ _ _ c.self.invariant.tracked.kept (module_lines c.self.inside.tables.circuit n)
+    c.args.entry.now c.may_follow.result c.content_code.result l
+    (λ lines order last. c.may_follow.ensures _ lines c.self.invariant.tracked.key_is order last)
+    c.if-not-may_follow.false good)
+    some (c.content_code.ensures (module_lines c.args.self.now.setting.circuit n) some refl)

@@ -1,23 +1,33 @@
-use Rattle.certificate_lines.proofs.Imports.{BuilderView, None, ap, false, is_last_module_incomplete, last_module}
-use Rattle.certificate_lines.proofs.Imports.{last_of, size_fault, subst, sym, ◌∙◌, ◌≡◌}
-use Rattle.certificate_lines.proofs.Keeping.{lacks, last_fits, no_module}
+use Rattle.certificate_lines.proofs.Imports.{BuilderView, None, Some, ap, is_last_module_incomplete, last_module}
+use Rattle.certificate_lines.proofs.Imports.{option_map, size_fault, subst, sym, ◌+◌, ◌∙◌, ◌≡◌, ◌≤◌}
+use Rattle.certificate_lines.specs.StoredModules.{module_lines}
+use Rattle.certificate_lines.specs.declared.stored_module.StoredModule.{StoredModule}
+use Rattle.std.proofs.Common.{Bor}
+use Rattle.certificate_lines.proofs.Keeping.{lacks, last_fits}
 use Rattle.certificate_lines.proofs.builder.Builder.has_nonlocal_port.Goals as goal
 
 pub has_nonlocal_port-requires : goal.has_nonlocal_port-requires
 has_nonlocal_port-requires c =
-    last_fits _ _ _ _ _ _ _ _ c.self.invariant.kept c.in-Some.counts
-    (ap last_of (sym c.deref.ensures.value) ∙ sym c.last_counts.ensures ∙ c.in-Some.is)
-    (subst (λ s. size_fault s ≡ None) c.size-size.ensures.size c.size-size.ensures.limits)
+    let n = c.in-Some.last.now in
+    subst (λ (s : BuilderView). last_module s.entries ≡ Some (module_lines s.setting.circuit n) →
+    (n.area.x + n.area.w ≤ 512) × (n.area.y + n.area.h ≤ 512)) c.self.view_is
+    (λ l. last_fits _ _ _ _ _ _ _ c.self.invariant.tracked.kept (module_lines c.self.inside.tables.circuit n) l
+    (subst (λ s. size_fault s ≡ None) c.size-size.ensures.size c.size-size.ensures.limits))
+    (sym c.last_module.ensures.module ∙ ap (option_map (λ (m : Bor StoredModule).
+    module_lines c.args.self.now.setting.circuit m.now)) c.in-Some.is)
 
 pub returns-in-Some : goal.returns-in-Some
 returns-in-Some c =
-    subst (λ (s : BuilderView). c.has_nonlocal_port.result
-    ≡ is_last_module_incomplete s.setting (last_module s.entries)) c.self.view_is
-    (c.has_nonlocal_port.ensures ∙ lacks _ _ _ _ _ _ _ _ c.self.invariant.kept c.in-Some.counts
-    (ap last_of (sym c.deref.ensures.value) ∙ sym c.last_counts.ensures ∙ c.in-Some.is))
+    let n = c.in-Some.last.now in
+    subst (λ (s : BuilderView). last_module s.entries ≡ Some (module_lines s.setting.circuit n) →
+    c.has_nonlocal_port.result ≡ is_last_module_incomplete s.setting (last_module s.entries)) c.self.view_is
+    (λ l. c.has_nonlocal_port.ensures
+    ∙ lacks _ _ _ _ _ _ _ c.self.invariant.tracked.kept (module_lines c.self.inside.tables.circuit n) l)
+    (sym c.last_module.ensures.module ∙ ap (option_map (λ (m : Bor StoredModule).
+    module_lines c.args.self.now.setting.circuit m.now)) c.in-Some.is)
 
 pub returns-in-None : goal.returns-in-None
 returns-in-None c =
-    subst (λ (s : BuilderView). false ≡ is_last_module_incomplete s.setting (last_module s.entries)) c.self.view_is
-    (ap (is_last_module_incomplete c.self.inside.tables) (sym (no_module _ _ _ _ _ _ _ _ c.self.invariant.kept
-    (ap last_of (sym c.deref.ensures.value) ∙ sym c.last_counts.ensures ∙ c.in-None.is))))
+    sym (ap (is_last_module_incomplete c.args.self.now.setting)
+    (sym c.last_module.ensures.module ∙ ap (option_map (λ (m : Bor StoredModule).
+    module_lines c.args.self.now.setting.circuit m.now)) c.in-None.is))

@@ -4,6 +4,7 @@ use Rattle.certificate_lines.proofs.Imports.{partner, rules, size_sides, subst, 
 use Rattle.certificate_lines.proofs.Imports.{◌&&◌, ◌||◌, ◌∙◌, ◌≡◌}
 use Rattle.certificate_lines.proofs.ModuleBoxes.{EvenBoxes, even_boxes}
 use Rattle.certificate_lines.proofs.OddBlocks.{lacked_beside, low_cell}
+use Rattle.certificate_lines.specs.BuilderView.{builder_lines}
 use Rattle.certificate_lines.proofs.builder.Builder.is_nonlocal_in_neighbour.Goals as goal
 
 pub odd_partner-column-requires : goal.odd_partner-column-requires
@@ -47,4 +48,5 @@ returns c =
     (corner ∙ ap₂ asks px py)
     ∙ lacked_beside v.setting.circuit ms cell c.args.wire
     (subst (λ (s : BuilderView). EvenBoxes (modules_of s.entries)) c.self.view_is
-    (even_boxes c.self.inside.tables (modules_of c.self.inside.entries.items) c.self.invariant.kept.built.sound))
+    (even_boxes c.self.inside.tables
+    (modules_of (builder_lines c.self.inside)) c.self.invariant.tracked.kept.built.sound))

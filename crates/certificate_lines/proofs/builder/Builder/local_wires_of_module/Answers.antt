@@ -3,6 +3,7 @@ use Rattle.certificate_lines.proofs.Imports.{modules_of, option_map, refl, slice
 use Rattle.certificate_lines.proofs.Imports.{◌≡◌}
 use Rattle.lemmas.proofs.Common.{slice_get_read}
 use Rattle.certificate_lines.proofs.LackedWires.{earlier_wires, last_wires}
+use Rattle.certificate_lines.specs.BuilderView.{builder_lines}
 use Rattle.certificate_lines.proofs.builder.Builder.local_wires_of_module.Goals as goal
 
 pub returns-then-number-last : goal.returns-then-number-last
@@ -15,8 +16,8 @@ returns-then-number-last c =
     (omega (arith, long, counted)) c.index.ensures in
     subst (λ (s : BuilderView). slice_get (map (known s.setting.circuit) (modules_of s.entries)) c.args.number
     ≡ Some c.index.result.now.wires) c.self.view_is
-    (earlier_wires g.circuit (modules_of c.self.inside.entries.items) keys c.self.inside.known.wires
-    c.self.invariant.wires c.args.number (omega (arith, long, counted, same))
+    (earlier_wires g.circuit (modules_of (builder_lines c.self.inside)) keys c.self.inside.known.wires
+    c.self.invariant.tracked.wires c.args.number (omega (arith, long, counted, same))
     ∙ slice_get-map (λ s. s.wires) items n ∙ ap (option_map (λ s. s.wires)) found)
 
 pub returns-else-number-last : goal.returns-else-number-last

@@ -3,6 +3,7 @@ use Rattle.certificate_lines.proofs.Imports.{end_fault, is_last_module_incomplet
 use Rattle.certificate_lines.proofs.Imports.{modules_of, not, rectangle_cells, rectangle_of, size_sides, subst, sym}
 use Rattle.certificate_lines.proofs.Imports.{◌∙◌, ◌≡◌}
 use Rattle.certificate_lines.proofs.BuiltLemmas.{live_gap, missing_none, missing_some}
+use Rattle.certificate_lines.specs.BuilderView.{builder_lines}
 use Rattle.certificate_lines.proofs.builder.Builder.missing.Goals as goal
 
 pub are_all_cells_live-full-requires-clause-sides_at_most_512 :
@@ -13,7 +14,7 @@ are_all_cells_live-full-requires-clause-sides_at_most_512 c =
 
 pub returns-then-lacks-full : goal.returns-then-lacks-full
 returns-then-lacks-full c =
-    let es = c.self.inside.entries.items in
+    let es = (builder_lines c.self.inside) in
     let full = ap not (c.are_all_cells_live-full.ensures
     ∙ ap (λ (s : LayoutHeader). list_all (λ d. live c.self.inside.covered d.x d.y)
     (rectangle_cells (rectangle_of s.w s.h)))
@@ -24,11 +25,11 @@ returns-then-lacks-full c =
     subst (λ (s : BuilderView). Some SomethingMissing ≡ end_fault s.setting s.entries) c.self.view_is
     (missing_some c.self.inside.tables es c.has_nonlocal_port-lacks.result c.are_all_cells_live-full.result lacks
     (full ∙ live_gap c.self.inside.tables.size
-    (areas (modules_of es)) c.self.inside.covered c.self.invariant.kept.built.cells) c.if-lacks-full.true)
+    (areas (modules_of es)) c.self.inside.covered c.self.invariant.tracked.kept.built.cells) c.if-lacks-full.true)
 
 pub returns-else-lacks-full : goal.returns-else-lacks-full
 returns-else-lacks-full c =
-    let es = c.self.inside.entries.items in
+    let es = (builder_lines c.self.inside) in
     let full = ap not (c.are_all_cells_live-full.ensures
     ∙ ap (λ (s : LayoutHeader). list_all (λ d. live c.self.inside.covered d.x d.y)
     (rectangle_cells (rectangle_of s.w s.h)))
@@ -39,4 +40,4 @@ returns-else-lacks-full c =
     subst (λ (s : BuilderView). None ≡ end_fault s.setting s.entries) c.self.view_is
     (missing_none c.self.inside.tables es c.has_nonlocal_port-lacks.result c.are_all_cells_live-full.result lacks
     (full ∙ live_gap c.self.inside.tables.size
-    (areas (modules_of es)) c.self.inside.covered c.self.invariant.kept.built.cells) c.if-lacks-full.false)
+    (areas (modules_of es)) c.self.inside.covered c.self.invariant.tracked.kept.built.cells) c.if-lacks-full.false)

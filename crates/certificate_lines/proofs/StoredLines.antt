@@ -1,0 +1,214 @@
+-- A good line is one that a module can store
+use Rattle.certificate_lines.proofs.Imports.{Box2, Cell, CertificateLine, Circuit, Cut, Edge, Gate, Halo, IfSome}
+use Rattle.certificate_lines.proofs.Imports.{IsBodyLine, IsModule, IsTrue, Keep, LayoutHeader, List, Module}
+use Rattle.certificate_lines.proofs.Imports.{ModuleLines, None, Option, Setting, Some, Stop, Use, [], ap, arith}
+use Rattle.certificate_lines.proofs.Imports.{bytes_eq-Decides, common_steps, content_code, false≢true, gates, in_box}
+use Rattle.certificate_lines.proofs.Imports.{in_box_nats, ints, is_local, is_local_wire, is_some, is_starred_line_at}
+use Rattle.certificate_lines.proofs.Imports.{known, last_module, last_of, length, list_any, may_follow, option_map, pos}
+use Rattle.certificate_lines.proofs.Imports.{refl, size_fault, size_sides, slice_get, slice_get_within, subst, sym}
+use Rattle.certificate_lines.proofs.Imports.{true, whole, wire_of, edges, and_parts, ℕ, ℤ, ◌<◌, ◌∙◌, ◌∷◌, ◌≡◌, ◌≤◌, All}
+use Rattle.certificate_lines.proofs.Imports.{Board, LineKey, edge_in, halo_in, key_of, last_body_line, same_cell}
+use Rattle.certificate_lines.proofs.Imports.{HasSameSize, flat_map-append, key_or_first, live, module_line_code}
+use Rattle.certificate_lines.proofs.Imports.{modules_of, ◌++◌, ◌||◌}
+use Rattle.lemmas.proofs.Common.{All-push}
+use Rattle.std.specs.Prelude.{◌≤ℤ◌}
+use Rattle.std.specs.Option.{option_and_then}
+use Rattle.std.proofs.lemmas.List.Quantifiers.{position-Some}
+use Rattle.circuit.proofs.Naming.{place_position}
+use Rattle.bbm_rule.specs.Boxes.{in_ring}
+use Rattle.certificate_lines.specs.BuilderView.{IsEdgeHaloOrStopLine, IsTrackedWith, wires_made_local}
+use Rattle.certificate_lines.specs.BuilderView.{AreTrackedModules, IsWireOfLine, IsWithinMaxSize, MayBeStored}
+use Rattle.certificate_lines.specs.Entries.{halos, name_in}
+use Rattle.certificate_lines.specs.Rules.{is_edge_place_and_time, is_halo_place_and_time, is_inverse_gate}
+use Rattle.certificate_lines.specs.Rules.{is_stop_place_and_time, timed_line_count}
+use Rattle.certificate_lines.specs.StoredModules.{HasOwnWires, IsOwnWire, lines_of_modules, module_lines, wire_name}
+use Rattle.certificate_lines.specs.declared.stored_module.StoredModule.{StoredModule}
+use Rattle.certificate_lines.proofs.Keeping.{IsGoodLine, with_border, with_inner, with_module}
+use Rattle.certificate_lines.proofs.LackedWires.{in_rectangle}
+use Rattle.certificate_lines.proofs.ModulePushes.{edge_good, good_border, good_use, halo_good, keep_good, new_wire}
+use Rattle.certificate_lines.proofs.ModulePushes.{signal_good, stop_good}
+use Rattle.certificate_lines.proofs.StoredLemmas.{last_stored}
+
+-- ---- the wire of a name
+
+wire_named : (c : Circuit) (n : List ℕ) (w : ℕ) → wire_of c n ≡ Some w → wire_name c w ≡ n
+wire_named c n w e = grind (arith, common_steps, position-Some, place_position, bytes_eq-Decides)
+
+local_is_some : (local : List ℕ) (wire : Option ℕ) → IsTrue (is_local_wire local wire) → IsTrue (is_some wire)
+local_is_some local None h = absurd cc
+local_is_some local (Some w) h = refl
+
+signal_named : (c : Circuit) (local : List ℕ) (signal : Option (List ℕ)) →
+    IfSome signal (λ n. IsTrue (is_local c local n)) → IfSome signal (λ n. IsTrue (is_some (wire_of c n)))
+signal_named c local None h = tt
+signal_named c local (Some n) h = local_is_some local (wire_of c n) h
+
+-- the name in a line whose words are good
+named_words : (g : Setting) (m : ModuleLines) (i : CertificateLine) → content_code g m i ≡ None →
+    IfSome (name_in i) (λ n. IsTrue (is_some (wire_of g.circuit n)))
+named_words g m (Cut n) e = subst (λ o. IsTrue (is_some o)) (sym (new_wire _ _ _ n e).1.named) refl
+named_words g m (Edge b) e = signal_named g.circuit (known g.circuit m) b.signal
+    (signal_good _ _ b.signal (good_border _ _ _ _ _ e).names)
+named_words g m (Halo b) e = signal_named g.circuit (known g.circuit m) b.signal
+    (signal_good _ _ b.signal (good_border _ _ _ _ _ e).names)
+named_words g m (Stop s) e = signal_named g.circuit (known g.circuit m) (Some s.wire)
+    (signal_good _ _ (Some s.wire) (good_border _ _ _ _ _ e).names)
+named_words g m _ e = tt
+
+found_by : (c : Circuit) (n : List ℕ) (found : Option ℕ) → wire_of c n ≡ found → IsTrue (is_some found) →
+    (option_map (wire_name c) found ≡ Some n) × IfSome found (IsOwnWire c)
+found_by c n None is some = absurd (false≢true some)
+found_by c n (Some w) is some = (ap Some (wire_named c n w is), ap (wire_of c) (wire_named c n w is) ∙ is)
+
+found : (c : Circuit) (name : Option (List ℕ)) → IfSome name (λ n. IsTrue (is_some (wire_of c n))) →
+    (option_map (wire_name c) (option_and_then (wire_of c) name) ≡ name)
+    × IfSome (option_and_then (wire_of c) name) (IsOwnWire c)
+found c None named = (refl, tt)
+found c (Some n) named = found_by c n (wire_of c n) refl named
+
+-- so the wire that was found for it is that of the line
+pub named_line : (g : Setting) (m : ModuleLines) (i : CertificateLine) (wire : Option ℕ) → content_code g m i ≡ None →
+    wire ≡ option_and_then (wire_of g.circuit) (name_in i) → IsWireOfLine g.circuit i wire
+named_line g m i wire good is =
+    let all = found g.circuit (name_in i) (named_words g m i good) in
+    subst (IsWireOfLine g.circuit i) (sym is) (record { name = all.0; own = all.1 })
+
+-- ---- the numbers of a line
+
+low_number : (z : ℤ) (k : ℕ) → z ≡ pos k → k < 512 → (pos 0 ≤ℤ z) × (z ≤ℤ pos 511)
+low_number z k e lt = (omega (arith, ints, e, lt), omega (arith, ints, e, lt))
+
+pub max_size : (s : LayoutHeader) (x y : ℤ) → size_fault s ≡ None → in_box (whole s) x y ≡ true →
+    IsWithinMaxSize (record { x = x; y = y })
+max_size s x y sized inside =
+    let sides = size_sides s sized in
+    grind (arith, common_steps, in_box_nats, low_number)
+
+ring_in_box : (b : Box2) (x y : ℤ) → in_ring b x y ≡ true → in_box b x y ≡ true
+unfolding in_ring
+ring_in_box b x y h = (and_parts (in_box b x y) _ h).0
+
+wire_there : (f : ℕ → List ℕ) (wire : Option ℕ) (n : List ℕ) → option_map f wire ≡ Some n → IsTrue (is_some wire)
+wire_there f None n e = absurd cc
+wire_there f (Some w) n e = refl
+
+gate_there : (gates : List Gate) (k : ℕ) (found : Option Gate) → slice_get gates k ≡ found →
+    IsTrue (is_inverse_gate found) → k < length gates
+gate_there gates k None is inverse = absurd (false≢true inverse)
+gate_there gates k (Some gate) is inverse = slice_get_within gates k gate is
+
+pub may_store : (g : Setting) (m : ModuleLines) (i : CertificateLine) (wire : Option ℕ) → IsModule g m →
+    size_fault g.size ≡ None → length g.circuit.netlist.gates ≤ 1024 → IsBodyLine i → content_code g m i ≡ None →
+    IsWireOfLine g.circuit i wire → MayBeStored i wire
+may_store g m (Module b) wire is sized few body good own = absurd body
+may_store g m (Cut n) wire is sized few body good own = wire_there (wire_name g.circuit) wire n own.name
+may_store g m (Use k) wire is sized few body good own =
+    let words = (good_use g.circuit (length (gates m)) (known g.circuit m) k good).1 in
+    let within = slice_get_within g.circuit.netlist.gates k words.gate words.numbered in
+    omega (arith, within, few)
+may_store g m (Keep k) wire is sized few body good own =
+    let within = gate_there g.circuit.netlist.gates k _ refl (keep_good g (gates m) k good).inverse in
+    omega (arith, within, few)
+may_store g m (Edge e) wire is sized few body good own =
+    let b = good_border g.circuit (timed_line_count m) (known g.circuit m)
+    (is_edge_place_and_time g.size m.area (list_any (is_starred_line_at e.cell) (edges m)) e) e.signal good in
+    let here = edge_good g m.area (known g.circuit m) (timed_line_count m)
+    (list_any (is_starred_line_at e.cell) (edges m)) e b in
+    max_size g.size e.cell.x e.cell.y sized (in_rectangle g.size.w g.size.h m.area e.cell.x e.cell.y is.inside
+    (ring_in_box m.area e.cell.x e.cell.y here.ring))
+may_store g m (Halo e) wire is sized few body good own =
+    let b = good_border g.circuit (timed_line_count m) (known g.circuit m)
+    (is_halo_place_and_time g.size m.area (list_any (is_starred_line_at e.cell) (halos m)) e) e.signal good in
+    let here = halo_good g m.area (known g.circuit m) (timed_line_count m)
+    (list_any (is_starred_line_at e.cell) (halos m)) e b in
+    max_size g.size e.cell.x e.cell.y sized here.inside
+may_store g m (Stop s) wire is sized few body good own =
+    let b = good_border g.circuit (timed_line_count m) (known g.circuit m) (is_stop_place_and_time g.size m.area s)
+    (Some s.wire) good in
+    let here = stop_good g m.area (known g.circuit m) (timed_line_count m) s b in (
+      max_size g.size s.cell.x s.cell.y sized (in_rectangle g.size.w g.size.h m.area s.cell.x s.cell.y is.inside
+          here.inside),
+      wire_there (wire_name g.circuit) wire s.wire own.name,
+    )
+
+-- ---- the last of the modules that are kept
+
+some_by : (c : Circuit) (ms : List StoredModule) (m : ModuleLines) → option_map (module_lines c) (last_of ms) ≡ Some m →
+    0 < length ms
+unfolding last_of
+some_by c [] m e = absurd cc
+some_by c (n ∷ ms) m e = omega arith
+
+pub some_module : (c : Circuit) (ms : List StoredModule) (m : ModuleLines) →
+    last_module (lines_of_modules c ms) ≡ Some m → 0 < length ms
+some_module c ms m last = some_by c ms m (last_stored c ms ∙ last)
+
+follows_by : (c : Circuit) (last : Option StoredModule) (m : ModuleLines) (i : CertificateLine) →
+    option_map (module_lines c) last ≡ Some m → may_follow m.lines i ≡ true →
+    IfSome last (λ n. may_follow (module_lines c n).lines i ≡ true)
+follows_by c None m i e h = tt
+follows_by c (Some n) m i e h = grind (arith, common_steps)
+
+pub follows_last : (c : Circuit) (ms : List StoredModule) (m : ModuleLines) (i : CertificateLine) →
+    last_module (lines_of_modules c ms) ≡ Some m → may_follow m.lines i ≡ true →
+    IfSome (last_of ms) (λ n. may_follow (module_lines c n).lines i ≡ true)
+follows_last c ms m i last h = follows_by c (last_of ms) m i (last_stored c ms ∙ last) h
+
+-- ---- what is kept of modules, after one more line or none
+
+module _ (g : Setting) (ms new : List StoredModule) (covered : Board) (key : LineKey) (earlier : List (List ℕ))
+    (local : List ℕ) (e h : List Cell) (was : AreTrackedModules g ms covered key earlier local e h)
+    (own : All (HasOwnWires g.circuit) new) where
+  pub kept_left : lines_of_modules g.circuit new ≡ lines_of_modules g.circuit ms →
+      AreTrackedModules g new covered key earlier local e h
+  kept_left same = record {
+    tracked = subst (λ es. IsTrackedWith g es covered (last_body_line es) key earlier local e h) (sym same) was.tracked;
+    wires = own;
+  }
+
+  module _ (i : CertificateLine) (good : IsGoodLine g (lines_of_modules g.circuit ms) i)
+      (more : lines_of_modules g.circuit new ≡ lines_of_modules g.circuit ms ++ i ∷ []) (e' h' : List Cell)
+      (stars : (c : Cell) → list_any (same_cell c) e'
+      ≡ (list_any (same_cell c) e || list_any (is_starred_line_at c) (edge_in i)))
+      (halo_stars : (c : Cell) → list_any (same_cell c) h'
+      ≡ (list_any (same_cell c) h || list_any (is_starred_line_at c) (halo_in i))) where
+    pub kept_border : IsEdgeHaloOrStopLine i → AreTrackedModules g new covered (key_of i) earlier local e' h'
+    kept_border border = record {
+      tracked = subst (λ es. IsTrackedWith g es covered (last_body_line es) (key_of i) earlier local e' h') (sym more)
+          (with_border g _ covered _ key earlier local e h was.tracked i border good e' h' stars halo_stars);
+      wires = own;
+    }
+
+    pub kept_body : IsBodyLine i →
+        AreTrackedModules g new covered (key_of i) earlier (local ++ wires_made_local g.circuit i) e' h'
+    kept_body body = record {
+      tracked = subst (λ es. IsTrackedWith g es covered (last_body_line es) (key_of i) earlier
+          (local ++ wires_made_local g.circuit i) e' h') (sym more)
+          (with_inner g _ covered _ key earlier local e h was.tracked i body good e' h' stars halo_stars);
+      wires = own;
+    }
+
+-- ---- what is kept of modules, after one more module
+
+begun_lines : (c : Circuit) (ms : List StoredModule) (n : StoredModule) (b : Box2) →
+    module_lines c n ≡ record { area = b; lines = [] } →
+    lines_of_modules c (ms ++ n ∷ []) ≡ lines_of_modules c ms ++ Module b ∷ []
+begun_lines c ms n b empty = grind (arith, common_steps, flat_map-append)
+
+pub kept_module : (g : Setting) (ms new : List StoredModule) (covered : Board) (key : LineKey)
+    (earlier : List (List ℕ)) (local : List ℕ) (e h : List Cell) →
+    AreTrackedModules g ms covered key earlier local e h →
+    (n : StoredModule) → new ≡ ms ++ n ∷ [] → (b : Box2) → module_lines g.circuit n ≡ record { area = b; lines = [] } →
+    HasOwnWires g.circuit n → (new_covered : Board) →
+    module_line_code g (modules_of (lines_of_modules g.circuit ms)) (last_module (lines_of_modules g.circuit ms)) b
+    ≡ None → ((x y : ℤ) → live new_covered x y ≡ (live covered x y || in_box b x y)) →
+    HasSameSize covered new_covered →
+    AreTrackedModules g new new_covered (key_or_first None) (earlier ++ local ∷ []) [] [] []
+kept_module g ms new covered key earlier local e h was n are b empty own new_covered good after size =
+    subst (λ l. AreTrackedModules g l new_covered (key_or_first None) (earlier ++ local ∷ []) [] [] []) (sym are)
+    (record {
+      tracked = subst (λ es. IsTrackedWith g es new_covered (last_body_line es) (key_or_first None)
+          (earlier ++ local ∷ []) [] [] []) (sym (begun_lines g.circuit ms n b empty))
+          (with_module g _ covered _ key earlier local e h was.tracked new_covered b good after size);
+      wires = All-push (HasOwnWires g.circuit) ms n was.wires own;
+    })
