@@ -101,63 +101,66 @@ both_timed (Some a) (Some b) t v c s u h = grind (arith, common_steps, earlier_l
 both_timed None b t v c s u h = absurd cc
 both_timed (Some a) None t v c s u h = absurd cc
 
-module _ (σ : BorderLine → Signal) where
-  all_times_first : (d : BorderLine) (t : Option ℕ) → d.time ≡ t → (e : BorderLine) (u : Option ℕ) → e.time ≡ u →
-      Before d e →
-      Each (λ a. Each (HeldBefore a) (all_times_of_line e u (σ e))) (all_times_of_line d t (σ d))
+module _ {X : Type 0} (line : X → BorderLine) (σ : X → Signal) where
+  all_times_first : (d : X) (t : Option ℕ) → (line d).time ≡ t → (e : X) (u : Option ℕ) → (line e).time ≡ u →
+      Before (line d) (line e) →
+      Each (λ a. Each (HeldBefore a) (all_times_of_line (line e) u (σ e))) (all_times_of_line (line d) t (σ d))
   unfolding Each
-  all_times_first d None s e None u h = ((both_starred d.time e.time (cell_cmp d.cell e.cell) s u h, tt), tt)
+  all_times_first d None s e None u h =
+      ((both_starred (line d).time (line e).time (cell_cmp (line d).cell (line e).cell) s u h, tt), tt)
   all_times_first d None s e (Some v) u h = (tt, tt)
   all_times_first d (Some t) s e u v h = tt
 
-  event_first : (d : BorderLine) (t : Option ℕ) → d.time ≡ t → (e : BorderLine) (u : Option ℕ) → e.time ≡ u →
-      Before d e →
-      Each (λ a. Each (EventBefore a) (events_of_line e u (σ e))) (events_of_line d t (σ d))
+  event_first : (d : X) (t : Option ℕ) → (line d).time ≡ t → (e : X) (u : Option ℕ) → (line e).time ≡ u →
+      Before (line d) (line e) →
+      Each (λ a. Each (EventBefore a) (events_of_line (line e) u (σ e))) (events_of_line (line d) t (σ d))
   unfolding Each moment_cmp
   event_first d None s e v u h = tt
   event_first d (Some t) s e None u h = (tt, tt)
-  event_first d (Some t) s e (Some v) u h = ((both_timed d.time e.time t v (cell_cmp d.cell e.cell) s u h, tt), tt)
+  event_first d (Some t) s e (Some v) u h =
+      ((both_timed (line d).time (line e).time t v (cell_cmp (line d).cell (line e).cell) s u h, tt), tt)
 
-  all_times_by_time : (d : BorderLine) (t : Option ℕ) → d.time ≡ t →
-      Each (λ a. (e : BorderLine) → Before d e → Each (HeldBefore a) (all_times_of_line e e.time (σ e)))
-      (all_times_of_line d t (σ d))
+  all_times_by_time : (d : X) (t : Option ℕ) → (line d).time ≡ t →
+      Each (λ a. (e : X) → Before (line d) (line e) →
+      Each (HeldBefore a) (all_times_of_line (line e) (line e).time (σ e)))
+      (all_times_of_line (line d) t (σ d))
   unfolding Each
-  all_times_by_time d None s = ((λ e h. (all_times_first d None s e e.time refl h).0), tt)
+  all_times_by_time d None s = ((λ e h. (all_times_first d None s e (line e).time refl h).0), tt)
   all_times_by_time d (Some t) s = tt
 
-  event_by_time : (d : BorderLine) (t : Option ℕ) → d.time ≡ t →
-      Each (λ a. (e : BorderLine) → Before d e → Each (EventBefore a) (events_of_line e e.time (σ e)))
-      (events_of_line d t (σ d))
+  event_by_time : (d : X) (t : Option ℕ) → (line d).time ≡ t →
+      Each (λ a. (e : X) → Before (line d) (line e) →
+      Each (EventBefore a) (events_of_line (line e) (line e).time (σ e)))
+      (events_of_line (line d) t (σ d))
   unfolding Each
   event_by_time d None s = tt
-  event_by_time d (Some t) s = ((λ e h. (event_first d (Some t) s e e.time refl h).0), tt)
+  event_by_time d (Some t) s = ((λ e h. (event_first d (Some t) s e (line e).time refl h).0), tt)
 
-  all_times_alone : (d : BorderLine) (t : Option ℕ) → Pairs HeldBefore (all_times_of_line d t (σ d))
+  all_times_alone : (d : X) (t : Option ℕ) → Pairs HeldBefore (all_times_of_line (line d) t (σ d))
   unfolding Each Pairs
   all_times_alone d None = (tt, tt)
   all_times_alone d (Some t) = tt
 
-  event_alone : (d : BorderLine) (t : Option ℕ) → Pairs EventBefore (events_of_line d t (σ d))
+  event_alone : (d : X) (t : Option ℕ) → Pairs EventBefore (events_of_line (line d) t (σ d))
   unfolding Each Pairs
   event_alone d None = tt
   event_alone d (Some t) = (tt, tt)
 
-  all_times_pairs : (es : List BorderLine) → Pairs Before es →
-      Pairs HeldBefore (flat_map (λ e. all_times_of_line e e.time (σ e)) es)
-  all_times_pairs es p = grind (arith, common_steps, pairs_flat, all_times_by_time, all_times_alone)
-
-  event_pairs : (es : List BorderLine) → Pairs Before es →
-      Pairs EventBefore (flat_map (λ e. events_of_line e e.time (σ e)) es)
-  event_pairs es p = grind (arith, common_steps, pairs_flat, event_by_time, event_alone)
-
   -- also by other numbers of the wires
-  pub all_times_rises : (f : ℕ → ℕ) (es : List BorderLine) → Pairs Before es → (hs : List AllTimesSignal) →
-      map (renumber_all_times f) hs ≡ flat_map (λ e. all_times_of_line e e.time (σ e)) es →
+  pub all_times_rises : (f : ℕ → ℕ) (es : List X) → Pairs (λ d e. Before (line d) (line e)) es →
+      (hs : List AllTimesSignal) →
+      map (renumber_all_times f) hs ≡ flat_map (λ e. all_times_of_line (line e) (line e).time (σ e)) es →
       IsRising cell_cmp all_times_cell hs
   all_times_rises f es p hs e =
-      rising_of cell_cmp all_times_cell (renumber_all_times f) (λ a. refl) hs _ e (all_times_pairs es p)
+      rising_of cell_cmp all_times_cell (renumber_all_times f) (λ a. refl) hs _ e
+      (pairs_flat (λ d e. Before (line d) (line e)) HeldBefore (λ e. all_times_of_line (line e) (line e).time (σ e))
+      (λ d. all_times_by_time d (line d).time refl) (λ d. all_times_alone d (line d).time) es p)
 
-  pub events_rise : (f : ℕ → ℕ) (es : List BorderLine) → Pairs Before es → (hs : List TimedSignal) →
-      map (renumber_event f) hs ≡ flat_map (λ e. events_of_line e e.time (σ e)) es →
+  pub events_rise : (f : ℕ → ℕ) (es : List X) → Pairs (λ d e. Before (line d) (line e)) es →
+      (hs : List TimedSignal) →
+      map (renumber_event f) hs ≡ flat_map (λ e. events_of_line (line e) (line e).time (σ e)) es →
       IsRising moment_cmp moment_of hs
-  events_rise f es p hs e = rising_of moment_cmp moment_of (renumber_event f) (λ a. refl) hs _ e (event_pairs es p)
+  events_rise f es p hs e =
+      rising_of moment_cmp moment_of (renumber_event f) (λ a. refl) hs _ e
+      (pairs_flat (λ d e. Before (line d) (line e)) EventBefore (λ e. events_of_line (line e) (line e).time (σ e))
+      (λ d. event_by_time d (line d).time refl) (λ d. event_alone d (line d).time) es p)

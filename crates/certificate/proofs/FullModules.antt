@@ -1,21 +1,20 @@
 -- The modules of version 2 as modules of version 1
 use Rattle.certificate.proofs.Imports.{All, All-cons, All-nil, AreDistinct, AreInOrder, AreModules, Bool, BorderLine}
-use Rattle.certificate.proofs.Imports.{Box2, Cell, CertificateLine, Cut, Each, Edge, Equal, Halo}
-use Rattle.certificate.proofs.Imports.{HasLocalPorts, IfSome, In, IsModule, IsTrue, Keep, Less, List, Module}
-use Rattle.certificate.proofs.Imports.{ModuleLines, None, Option, Ordering, Pairs, Rises, Setting, Some}
-use Rattle.certificate.proofs.Imports.{StarsExcludeLaterTimes, Stop, StopLine, Tile, Use, [], all_in, and_parts, any_at}
-use Rattle.certificate.proofs.Imports.{ap, ap₂, areas, arith, border_line_cmp, cases_Bool, cell_of, common_steps}
-use Rattle.certificate.proofs.Imports.{cond-false, cond-true, cut_wires, cuts, each_in, edge_in, edge_lines_beside}
-use Rattle.certificate.proofs.Imports.{edges, false, filter, filter_in, flat_map, flat_map-append, gates, halo_in}
-use Rattle.certificate.proofs.Imports.{halos, in_box, in_each, in_filter, in_flat, in_halo, in_ordered, in_ring, inl}
-use Rattle.certificate.proofs.Imports.{inr, is_halo, is_haloless_version, is_local, is_lt, is_nonlocal_signal, keeps}
-use Rattle.certificate.proofs.Imports.{known, lacks_edge_wire_beside, length, length-map, line_cmp, list_all, list_any}
-use Rattle.certificate.proofs.Imports.{local_wires, map, mapped_at, mapped_from, may_precede, modules_by_version}
-use Rattle.certificate.proofs.Imports.{nat_lt, option_to_list, ordered_rises, ordering_then, pairs_filter, placed}
-use Rattle.certificate.proofs.Imports.{precedes_halos, rank_of, refl, slice_get, some_is, sort_number_of}
-use Rattle.certificate.proofs.Imports.{sorted_border_lines, stop_in, stops, subst, suc, sym, true, true≢false, whole}
-use Rattle.certificate.proofs.Imports.{wire_of, with_halos, without_halos, zero, ℕ, ℤ, ◌&&◌, ◌++◌, ◌<◌, ◌||◌, ◌∙◌, ◌∷◌}
-use Rattle.certificate.proofs.Imports.{◌≡◌, ◌≢◌, ◌≤◌}
+use Rattle.certificate.proofs.Imports.{Box2, Cell, CertificateLine, Cut, Each, Edge, Equal, Halo, HasLocalPorts, IfSome}
+use Rattle.certificate.proofs.Imports.{In, IsModule, IsTrue, Keep, Less, List, Module, ModuleLines, None, Option}
+use Rattle.certificate.proofs.Imports.{Ordering, Pairs, Rises, Setting, Some, StarsExcludeLaterTimes, Stop, StopLine}
+use Rattle.certificate.proofs.Imports.{Tile, Use, [], all_in, and_parts, any_at, ap, ap₂, areas, arith, border_line_cmp}
+use Rattle.certificate.proofs.Imports.{cases_Bool, cell_of, common_steps, cond-false, cond-true, cut_wires, cuts}
+use Rattle.certificate.proofs.Imports.{each_in, edge_in, edge_lines_beside, edges, false, filter, filter_in, flat_map}
+use Rattle.certificate.proofs.Imports.{flat_map-append, gates, halo_in, halos, in_box, in_each, in_filter, in_flat}
+use Rattle.certificate.proofs.Imports.{in_halo, in_ordered, in_ring, inl, inr, is_halo, is_haloless_version, is_local}
+use Rattle.certificate.proofs.Imports.{is_lt, is_nonlocal_signal, keeps, known, lacks_edge_wire_beside, length}
+use Rattle.certificate.proofs.Imports.{length-map, line_cmp, list_all, list_any, local_wires, map, mapped_at}
+use Rattle.certificate.proofs.Imports.{mapped_from, may_precede, modules_by_version, nat_lt, option_to_list}
+use Rattle.certificate.proofs.Imports.{ordered_rises, ordering_then, pairs_filter, placed, precedes_halos, rank_of}
+use Rattle.certificate.proofs.Imports.{refl, slice_get, some_is, sort_number_of, sorted_border_lines, stop_in, stops}
+use Rattle.certificate.proofs.Imports.{subst, suc, sym, true, true≢false, whole, wire_of, with_halos, without_halos}
+use Rattle.certificate.proofs.Imports.{zero, ℕ, ℤ, ◌&&◌, ◌++◌, ◌<◌, ◌||◌, ◌∙◌, ◌∷◌, ◌≡◌, ◌≢◌, ◌≤◌}
 use Rattle.bbm_rule.proofs.CellOrder.{cell_exact}
 use Rattle.certificate_lines.specs.Modules.{IsEdge, IsHalo, IsStop}
 use Rattle.certificate_lines.proofs.LineOrder.{pairs_each, rising_distinct}

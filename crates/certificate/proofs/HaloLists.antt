@@ -1,23 +1,26 @@
 -- Lists of the places of edge lines, as places are added
-use Rattle.certificate.proofs.Imports.{AddsEdgePlaces, AreReady, Bool, BorderLine, Box2, Cell, CertificateLine, Edge}
-use Rattle.certificate.proofs.Imports.{IsEven, IsInnerCell, List, Some, [], and_from, and_parts, ap, append-nil}
+use Rattle.certificate.proofs.Imports.{AddsEdgePlaces, AreReady, Bool, Box2, Cell, EdgePlace}
+use Rattle.certificate.proofs.Imports.{IsEven, IsInnerCell, List, Some, StoredBorder, StoredModule, [], and_from}
+use Rattle.certificate.proofs.Imports.{and_parts, ap, append-nil}
 use Rattle.certificate.proofs.Imports.{append_assoc, arith, cases_Bool, common_steps, cond-false, cond-true}
-use Rattle.certificate.proofs.Imports.{edge_lines_at, eqb, eqb-true, false, filter, flat_map-append, get_or}
-use Rattle.certificate.proofs.Imports.{if◌then◌else◌, in_box, in_halo, in_span, inl, inr, length, list_at_or_empty, map}
+use Rattle.certificate.proofs.Imports.{edge_lines_at, edge_lines_at_place, eqb, eqb-true, false, filter, flat_map}
+use Rattle.certificate.proofs.Imports.{flat_map-append}
+use Rattle.certificate.proofs.Imports.{get_or, option_to_list, take, take_more, ◌+◌}
+use Rattle.certificate.proofs.Imports.{if◌then◌else◌, in_box, in_halo, in_span, inl, inr, length, line_cell}
+use Rattle.certificate.proofs.Imports.{list_at_or_empty, map}
 use Rattle.certificate.proofs.Imports.{not, pos, rectangle, refl, slice_get, slice_get_within, some_is, suc, sym, true}
 use Rattle.certificate.proofs.Imports.{true_from_not, zero, ℕ, ℤ, ◌&&◌, ◌++◌, ◌+ℤ◌, ◌<◌, ◌||◌, ◌∙◌, ◌∷◌, ◌≡◌}
-use Rattle.lemmas.proofs.Common.{◌-ℤ◌, slice_set, eqb-false}
+use Rattle.lemmas.proofs.Common.{◌-ℤ◌, slice_set, eqb-false, filter-append}
 use Rattle.bbm_rule.specs.Plane.{partner}
 use Rattle.bbm_rule.proofs.Spans.{partner_near}
 use Rattle.module_box.specs.Tiling.{AreOwners, OwnersView, owner_of}
 use Rattle.bbm_rule.proofs.RingTests.{ring_read}
 use Rattle.certificate_lines.proofs.OddBlocks.{halo_either}
 use Rattle.certificate.specs.HaloPlaces.{AddsPlaceWhere}
-use Rattle.certificate.proofs.BesideLines.{filter-append}
 
 -- ---- one list of several
 
-module _ {X : Type 0} (f : X → List ℕ) where
+module _ {X : Type 0} (f : X → List EdgePlace) where
   pub list_written : (xs : List X) (n : ℕ) (v : X) → n < length xs → list_at_or_empty (map f (slice_set xs n v)) n ≡ f v
   list_written [] n v lt = absurd (omega arith)
   list_written (x ∷ xs) zero v lt = refl
@@ -63,13 +66,8 @@ module _ (boxes : List Box2) (o : OwnersView) (good : AreOwners o boxes) (x y : 
       i ≡ owner_of o x y → b ≡ a
   same_box i b a at own is = some_is b a (sym at ∙ ap (slice_get boxes) is ∙ own)
 
-  module _ (q : Box2 → Bool) (a : Box2) (own : slice_get boxes (owner_of o x y) ≡ Some a) (place : ℕ) where
-    -- if that box is to have none
-    pub no_place : (lists : List (List ℕ)) → q a ≡ true →
-        AddsPlaceWhere boxes (λ b. in_box b x y && not (q b)) place lists lists
-    no_place lists taken = grind (arith, common_steps, cases_Bool, same_box, owner_is, append-nil, cond-false)
-
-    pub one_place : (old new : List (List ℕ)) → q a ≡ false → length new ≡ length old →
+  module _ (q : Box2 → Bool) (a : Box2) (own : slice_get boxes (owner_of o x y) ≡ Some a) (place : EdgePlace) where
+    pub one_place : (old new : List (List EdgePlace)) → q a ≡ false → length new ≡ length old →
         list_at_or_empty new (owner_of o x y) ≡ list_at_or_empty old (owner_of o x y) ++ place ∷ [] →
         ((i : ℕ) → (i ≡ owner_of o x y → ⊥) → list_at_or_empty new i ≡ list_at_or_empty old i) →
         AddsPlaceWhere boxes (λ b. in_box b x y && not (q b)) place old new
@@ -83,13 +81,14 @@ module _ (boxes : List Box2) (o : OwnersView) (good : AreOwners o boxes) (x y : 
       ];
     }
 
-pub same_test : (boxes : List Box2) (p q : Box2 → Bool) (place : ℕ) (old new : List (List ℕ)) →
+pub same_test : (boxes : List Box2) (p q : Box2 → Bool) (place : EdgePlace) (old new : List (List EdgePlace)) →
     ((b : Box2) → p b ≡ q b) → AddsPlaceWhere boxes p place old new → AddsPlaceWhere boxes q place old new
 same_test boxes p q place old new same h = grind (arith, common_steps)
 
 -- ---- a place more for each box that has a cell in its halo
 
-at_most_one : (r s t : Bool) (p : ℕ) (l : List ℕ) → (r && s) ≡ false → (r && t) ≡ false → (s && t) ≡ false →
+at_most_one : (r s t : Bool) (p : EdgePlace) (l : List EdgePlace) → (r && s) ≡ false → (r && t) ≡ false →
+    (s && t) ≡ false →
     ((l ++ (if r then p ∷ [] else [])) ++ (if s then p ∷ [] else [])) ++ (if t then p ∷ [] else [])
     ≡ l ++ (if r || s || t then p ∷ [] else [])
 at_most_one true true t p l e f g = absurd cc
@@ -140,7 +139,7 @@ module _ (x y : ℤ) where
   abbrev pub corner : Box2 → Bool
   corner b = in_box b x' y' && not (in_box b x y || (in_box b x' y || (in_box b x y' || false)))
 
-  pub beside_places : (boxes : List Box2) (place : ℕ) (old l m new : List (List ℕ)) →
+  pub beside_places : (boxes : List Box2) (place : EdgePlace) (old l m new : List (List EdgePlace)) →
       ((k : ℕ) (b : Box2) → slice_get boxes k ≡ Some b → IsEven b) →
       AddsPlaceWhere boxes side place old l → AddsPlaceWhere boxes above place l m →
       AddsPlaceWhere boxes corner place m new →
@@ -179,37 +178,48 @@ inner_block b c inner =
 
 -- ---- the edge lines at the places
 
-edges_more : (es : List CertificateLine) (l : List ℕ) (t : Bool) (place : ℕ) (e : BorderLine) →
-    slice_get es place ≡ Some (Edge e) →
-    edge_lines_at es (l ++ (if t then place ∷ [] else [])) ≡ edge_lines_at es l ++ (if t then e ∷ [] else [])
-edges_more es l true place e at = grind (arith, common_steps, flat_map-append)
-edges_more es l false place e at = ap (edge_lines_at es) (append-nil l) ∙ sym (append-nil (edge_lines_at es l))
+edges_more : (ms : List StoredModule) (l : List EdgePlace) (t : Bool) (place : EdgePlace) (e : StoredBorder) →
+    edge_lines_at_place ms place ≡ e ∷ [] →
+    edge_lines_at ms (l ++ (if t then place ∷ [] else [])) ≡ edge_lines_at ms l ++ (if t then e ∷ [] else [])
+edges_more ms l true place e at = grind (arith, common_steps, flat_map-append)
+edges_more ms l false place e at = ap (edge_lines_at ms) (append-nil l) ∙ sym (append-nil (edge_lines_at ms l))
 
-module _ (es : List CertificateLine) (boxes : List Box2) where
-  pub edge_placed : (place : ℕ) (e : BorderLine) (old new : List (List ℕ)) → slice_get es place ≡ Some (Edge e) →
-      AddsPlaceWhere boxes (λ b. in_halo b e.cell.x e.cell.y) place old new → AddsEdgePlaces es boxes (e ∷ []) old new
+-- the lines at a place of a module
+pub place_found : (ms : List StoredModule) (m : StoredModule) (p : EdgePlace) → slice_get ms p.number ≡ Some m →
+    edge_lines_at_place ms p ≡ option_to_list (slice_get m.edges.items p.line)
+place_found ms m p at =
+    ap (λ o. flat_map (λ (m : StoredModule). option_to_list (slice_get m.edges.items p.line)) (option_to_list o)) at
+    ∙ append-nil (option_to_list (slice_get m.edges.items p.line))
+
+module _ (ms : List StoredModule) (boxes : List Box2) where
+  pub edge_placed : (place : EdgePlace) (e : StoredBorder) (old new : List (List EdgePlace)) →
+      edge_lines_at_place ms place ≡ e ∷ [] →
+      AddsPlaceWhere boxes (λ b. in_halo b (line_cell e).x (line_cell e).y) place old new →
+      AddsEdgePlaces ms boxes (e ∷ []) old new
   edge_placed place e old new at h = record {
     count = h.count;
-    each = λ i b box. ap (edge_lines_at es) (h.each i b box)
-        ∙ edges_more es (list_at_or_empty old i) (in_halo b e.cell.x e.cell.y) place e at;
+    each = λ i b box. ap (edge_lines_at ms) (h.each i b box)
+        ∙ edges_more ms (list_at_or_empty old i) (in_halo b (line_cell e).x (line_cell e).y) place e at;
   }
 
-  pub no_edges : (lists : List (List ℕ)) → AddsEdgePlaces es boxes [] lists lists
-  no_edges lists = grind (arith, common_steps, append-nil)
-
-  pub edges_then : (more next : List BorderLine) (old l new : List (List ℕ)) → AddsEdgePlaces es boxes more old l →
-      AddsEdgePlaces es boxes next l new → AddsEdgePlaces es boxes (more ++ next) old new
+  pub edges_then : (more next : List StoredBorder) (old l new : List (List EdgePlace)) →
+      AddsEdgePlaces ms boxes more old l →
+      AddsEdgePlaces ms boxes next l new → AddsEdgePlaces ms boxes (more ++ next) old new
   edges_then more next old l new h k = record {
     count = k.count ∙ h.count;
     each = λ i b box.
-        let keep = λ (e : BorderLine). in_halo b e.cell.x e.cell.y in
+        let keep = λ (e : StoredBorder). in_halo b (line_cell e).x (line_cell e).y in
         k.each i b box ∙ ap (λ m. m ++ filter keep next) (h.each i b box)
-        ∙ append_assoc (edge_lines_at es (list_at_or_empty old i)) (filter keep more) (filter keep next)
-        ∙ ap (λ m. edge_lines_at es (list_at_or_empty old i) ++ m) (sym (filter-append keep more next));
+        ∙ append_assoc (edge_lines_at ms (list_at_or_empty old i)) (filter keep more) (filter keep next)
+        ∙ ap (λ m. edge_lines_at ms (list_at_or_empty old i) ++ m) (sym (filter-append keep more next));
   }
 
 -- ---- tables and lists
 
-pub still_ready : (boxes : List Box2) (o : OwnersView) (old new : List (List ℕ)) → AreReady boxes o old →
+pub still_ready : (boxes : List Box2) (o : OwnersView) (old new : List (List EdgePlace)) → AreReady boxes o old →
     length new ≡ length old → AreReady boxes o new
 still_ready boxes o old new h same = grind (arith, common_steps)
+
+pub taken_one : {X : Type 0} (xs : List X) (i : ℕ) (x : X) → i < length xs → x ≡ get_or xs i x →
+    take i xs ++ x ∷ [] ≡ take (i + 1) xs
+taken_one xs i x lt is = grind (arith, common_steps, take_more)

@@ -1,13 +1,18 @@
 -- The lists of the edge lines beside each module, from the modules of a certificate
-use Rattle.certificate.proofs.Imports.{AddsEdgePlaces, All, AreModules, AreNeighbourEdgePlaces, BorderLine, Box2}
-use Rattle.certificate.proofs.Imports.{CertificateLine, IsEven, IsInnerCell, IsModule, List, ModuleLines, Setting, Some}
-use Rattle.certificate.proofs.Imports.{[], and_parts, ap, areas, arith, common_steps, cond-false, cond-true}
-use Rattle.certificate.proofs.Imports.{edge_lines_at, edge_lines_beside, edges, false, filter, flat_all, flat_map}
-use Rattle.certificate.proofs.Imports.{get_or, in_box, in_halo, in_ring, length, list_at_or_empty, mapped_from}
-use Rattle.certificate.proofs.Imports.{modules_of, nat_lt, nat_tests, slice_get, slice_get-get_or, subst, sym, true}
-use Rattle.certificate.proofs.Imports.{whole, ℕ, ℤ, ◌++◌, ◌<◌, ◌∙◌, ◌≡◌, ◌≤◌}
+use Rattle.certificate.proofs.Imports.{AddsEdgePlaces, All, AreModules, BorderLine, Box2, Circuit, EdgePlace}
+use Rattle.certificate.proofs.Imports.{HaveListsFrom, HasOwnWires, IsEven, IsInnerCell, IsModule, List, ModuleLines}
+use Rattle.certificate.proofs.Imports.{Setting, Some, StoredBorder, StoredModule, [], and_parts, ap, areas, arith}
+use Rattle.certificate.proofs.Imports.{border_line, cases_Bool, common_steps, cond-false, cond-true, edge_lines_at}
+use Rattle.certificate.proofs.Imports.{edge_lines_beside, edges, false, filter, flat_map, get_or, in_box, in_halo}
+use Rattle.certificate.proofs.Imports.{in_ring, inl, inr, length, length-map, line_cell, list_at_or_empty, map}
+use Rattle.certificate.proofs.Imports.{map-append, mapped_at, mapped_from, module_lines, nat_lt, nat_tests, refl}
+use Rattle.certificate.proofs.Imports.{slice_get, slice_get-get_or, subst, sym, true, whole, ℕ, ℤ, ◌++◌, ◌<◌, ◌∙◌, ◌∷◌}
+use Rattle.certificate.proofs.Imports.{◌≡◌, ◌≤◌, ap₂, All-append, All-cons, All-nil, HasOwnWire, None, Option}
+use Rattle.certificate.proofs.Imports.{edge_lines_at_place, get_or_from_slice_get, option_to_list, slice_get_within}
+use Rattle.lemmas.proofs.Common.{all_unmapped}
+use Rattle.certificate_lines.specs.Modules.{IsWithinLineLimit}
 use Rattle.certificate_lines.proofs.LackedWires.{in_rectangle}
-use Rattle.certificate_lines.proofs.OddBlocks.{area_of}
+use Rattle.certificate_lines.proofs.StoredLemmas.{edges_with}
 
 -- ---- modules that are good
 
@@ -24,18 +29,57 @@ inner_edge g m good k d lt =
       is.rim,
     )
 
--- edge lines are inside the rectangle and not on its rim
-pub inner_edges : (g : Setting) (ms : List ModuleLines) → AreModules g ms →
-    All (λ e. IsInnerCell (whole g.size) e.cell) (flat_map edges ms)
-inner_edges g ms good = flat_all (λ (e : BorderLine). IsInnerCell (whole g.size) e.cell) edges (IsModule g)
-    (inner_edge g) ms (λ k d lt. good.each k _ (slice_get-get_or ms k d lt))
+pub stored_areas : (c : Circuit) (ms : List StoredModule) → areas (map (module_lines c) ms) ≡ map (λ m. m.area) ms
+stored_areas c [] = refl
+stored_areas c (m ∷ ms) = ap (λ bs. m.area ∷ bs) (stored_areas c ms)
 
-pub even_areas : (g : Setting) (ms : List ModuleLines) → AreModules g ms → (k : ℕ) (b : Box2) →
-    slice_get (areas ms) k ≡ Some b → IsEven b
-even_areas g ms good k b at =
-    let m = mapped_from (λ (n : ModuleLines). n.area) ms k b at in
-    let P : Box2 → Type 0 = IsEven in
-    subst P m.2 (good.each k m.0 m.1).even
+module _ (g : Setting) (ms : List StoredModule) where
+  abbrev lines : List ModuleLines
+  lines = map (module_lines g.circuit) ms
+
+  lines_at : (k : ℕ) (d : StoredModule) → k < length ms →
+      slice_get lines k ≡ Some (module_lines g.circuit (get_or ms k d))
+  lines_at k d lt = mapped_at (module_lines g.circuit) ms k (get_or ms k d) (slice_get-get_or ms k d lt)
+
+  -- edge lines are inside the rectangle and not on its rim
+  pub inner_edges : AreModules g lines →
+      All (λ m. All (λ e. IsInnerCell (whole g.size) (line_cell e)) m.edges.items) ms
+  inner_edges good k d lt =
+      let m = get_or ms k d in
+      all_unmapped (λ (e : BorderLine). IsInnerCell (whole g.size) e.cell) (border_line g.circuit) m.edges.items
+      (subst (All (λ (e : BorderLine). IsInnerCell (whole g.size) e.cell)) (edges_with g.circuit m m.halos.items)
+      (inner_edge g (module_lines g.circuit m) (good.each k _ (lines_at k d lt))))
+
+  pub few_edges : All IsWithinLineLimit lines → All (λ m. length m.edges.items ≤ 65536) ms
+  few_edges few k d lt =
+      let m = get_or ms k d in
+      let within = all_unmapped IsWithinLineLimit (module_lines g.circuit) ms few k d lt in
+      let same = ap length (edges_with g.circuit m m.halos.items) ∙ length-map m.edges.items (border_line g.circuit) in
+      omega (arith, within, same)
+
+  pub even_areas : AreModules g lines → (k : ℕ) (b : Box2) → slice_get (areas lines) k ≡ Some b → IsEven b
+  even_areas good k b at =
+      let m = mapped_from (λ (n : ModuleLines). n.area) lines k b at in
+      let P : Box2 → Type 0 = IsEven in
+      subst P m.2 (good.each k m.0 m.1).even
+
+-- ---- the edge lines beside a box
+
+edges_stored : (c : Circuit) (ms : List StoredModule) → flat_map edges (map (module_lines c) ms)
+    ≡ map (border_line c) (flat_map (λ (m : StoredModule). m.edges.items) ms)
+edges_stored c [] = refl
+edges_stored c (m ∷ ms) =
+    ap₂ (λ xs ys. xs ++ ys) (edges_with c m m.halos.items) (edges_stored c ms)
+    ∙ sym (map-append (border_line c) m.edges.items (flat_map (λ (m : StoredModule). m.edges.items) ms))
+
+filter_stored : (c : Circuit) (b : Box2) (es : List StoredBorder) →
+    map (border_line c) (filter (λ e. in_halo b (line_cell e).x (line_cell e).y) es)
+    ≡ filter (λ (e : BorderLine). in_halo b e.cell.x e.cell.y) (map (border_line c) es)
+filter_stored c b [] = refl
+filter_stored c b (e ∷ es) = elim (cases_Bool (in_halo b (line_cell e).x (line_cell e).y)) [
+  | inl here ↦ grind (arith, common_steps, filter_stored c b es, cond-true)
+  | inr there ↦ grind (arith, common_steps, filter_stored c b es, cond-false)
+]
 
 long : (steps : ℕ) → 1 < steps → nat_lt 1 steps ≡ true
 long steps lt = grind (arith, nat_tests)
@@ -43,22 +87,60 @@ long steps lt = grind (arith, nat_tests)
 short : (steps : ℕ) → steps ≤ 1 → nat_lt 1 steps ≡ false
 short steps le = grind (arith, nat_tests)
 
-module _ (g : Setting) (es : List CertificateLine) where
+module _ (g : Setting) (ms : List StoredModule) where
   -- without odd times the lists are empty
-  pub none_placed : (lists : List (List ℕ)) → g.size.steps ≤ 1 → length lists ≡ length (modules_of es) →
-      ((i : ℕ) → list_at_or_empty lists i ≡ []) → AreNeighbourEdgePlaces g es lists
+  pub none_placed : (lists : List (List EdgePlace)) → g.size.steps ≤ 1 → length lists ≡ length ms →
+      ((i : ℕ) → list_at_or_empty lists i ≡ []) → HaveListsFrom g ms 0 lists
   unfolding edge_lines_beside
   none_placed lists few count empty = grind (arith, common_steps, cond-false, short)
 
-  pub all_placed : (boxes : List Box2) (old new : List (List ℕ)) → 1 < g.size.steps → boxes ≡ areas (modules_of es) →
-      length old ≡ length (modules_of es) → ((i : ℕ) → list_at_or_empty old i ≡ []) →
-      AddsEdgePlaces es boxes (flat_map edges (modules_of es)) old new → AreNeighbourEdgePlaces g es new
+  pub all_placed : (boxes : List Box2) (old new : List (List EdgePlace)) → 1 < g.size.steps →
+      boxes ≡ map (λ m. m.area) ms →
+      length old ≡ length ms → ((i : ℕ) → list_at_or_empty old i ≡ []) →
+      AddsEdgePlaces ms boxes (flat_map (λ m. m.edges.items) ms) old new → HaveListsFrom g ms 0 new
   unfolding edge_lines_beside
   all_placed boxes old new many are count empty h = record {
     count = h.count ∙ count;
-    each = λ i m at.
-        h.each i m.area (ap (λ bs. slice_get bs i) are ∙ area_of (modules_of es) i m at)
-        ∙ ap (λ l. edge_lines_at es l ++ filter (λ (e : BorderLine). in_halo m.area e.cell.x e.cell.y)
-        (flat_map edges (modules_of es))) (empty i)
+    each = λ i m le at.
+        let all = flat_map (λ (m : StoredModule). m.edges.items) ms in
+        ap (map (border_line g.circuit))
+        (h.each i m.area (ap (λ bs. slice_get bs i) are ∙ mapped_at (λ (m : StoredModule). m.area) ms i m at)
+        ∙ ap (λ l. edge_lines_at ms l
+        ++ filter (λ (e : StoredBorder). in_halo m.area (line_cell e).x (line_cell e).y) all)
+        (empty i))
+        ∙ filter_stored g.circuit m.area all
+        ∙ ap (filter (λ (e : BorderLine). in_halo m.area e.cell.x e.cell.y)) (sym (edges_stored g.circuit ms))
         ∙ sym (cond-true _ _ _ (long g.size.steps many));
   }
+
+-- ---- the wires of edge lines
+
+own_at_place : (c : Circuit) (ms : List StoredModule) → All (HasOwnWires c) ms → (p : EdgePlace) →
+    All (HasOwnWire c) (edge_lines_at_place ms p)
+own_at_place c ms own p = of_module (slice_get ms p.number) (λ m at. at_own m at)
+  where
+    at_own : (m : StoredModule) → slice_get ms p.number ≡ Some m → HasOwnWires c m
+    at_own m at = subst (HasOwnWires c) (get_or_from_slice_get ms p.number m m at)
+        (own p.number m (slice_get_within ms p.number m at))
+
+    of_line : (es : List StoredBorder) → All (HasOwnWire c) es → (o : Option StoredBorder) →
+        slice_get es p.line ≡ o → All (HasOwnWire c) (option_to_list o)
+    of_line es all None at = All-nil (HasOwnWire c)
+    of_line es all (Some e) at = All-cons (HasOwnWire c) e []
+        (subst (HasOwnWire c) (get_or_from_slice_get es p.line e e at) (all p.line e (slice_get_within es p.line e at)))
+        (All-nil (HasOwnWire c))
+
+    of_module : (o : Option StoredModule) → ((m : StoredModule) → o ≡ Some m → HasOwnWires c m) →
+        All (HasOwnWire c) (flat_map (λ (m : StoredModule). option_to_list (slice_get m.edges.items p.line))
+        (option_to_list o))
+    of_module None h = All-nil (HasOwnWire c)
+    of_module (Some m) h =
+        All-append (HasOwnWire c) (option_to_list (slice_get m.edges.items p.line)) []
+        (of_line m.edges.items (h m refl).edges (slice_get m.edges.items p.line) refl) (All-nil (HasOwnWire c))
+
+pub own_edges_at : (c : Circuit) (ms : List StoredModule) (places : List EdgePlace) → All (HasOwnWires c) ms →
+    All (HasOwnWire c) (edge_lines_at ms places)
+own_edges_at c ms [] own = All-nil (HasOwnWire c)
+own_edges_at c ms (p ∷ places) own =
+    All-append (HasOwnWire c) (edge_lines_at_place ms p) (edge_lines_at ms places) (own_at_place c ms own p)
+    (own_edges_at c ms places own)

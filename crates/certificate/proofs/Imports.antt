@@ -3,8 +3,8 @@ pub use Rattle.bbm_rule.specs.Boxes.{Tile}
 pub use Rattle.bbm_rule.specs.declared.block.Box2.{Box2}
 pub use Rattle.bbm_rule.specs.declared.block.Cell.{Cell}
 pub use Rattle.certificate.specs.Grammars.{CertView, certificate_grammar}
-pub use Rattle.certificate.specs.HaloPlaces.{AddsEdgePlaces, AreNeighbourEdgePlaces, AreReady, IsInnerCell}
-pub use Rattle.certificate.specs.HaloPlaces.{edge_lines_at, list_at_or_empty}
+pub use Rattle.certificate.specs.HaloPlaces.{AddsEdgePlaces, AreReady, HaveListsFrom, IsInnerCell, edge_lines_at}
+pub use Rattle.certificate.specs.HaloPlaces.{edge_lines_at_place, line_cell, list_at_or_empty}
 pub use Rattle.certificate.specs.Jobs.{IsJobOf, all_times_of_line, demand_outside_mirrors, events_of_line, line_signals}
 pub use Rattle.certificate.specs.Jobs.{one_or_named_wire, stops_of_lines, wire_or_zero}
 unfoldable pub use Rattle.certificate.specs.Jobs.{end_demand, start_signal}
@@ -12,38 +12,35 @@ pub use Rattle.certificate.specs.Keeps.{is_kept, unkept}
 unfoldable pub use Rattle.certificate.specs.Keeps.{unkept_from}
 pub use Rattle.certificate.specs.LayoutTablesView.{AddsCells, IsPortWireLocalAt, LayoutTablesView}
 pub use Rattle.certificate.specs.SeenTimes.{IsStopTimeTable, time_in_table}
-pub use Rattle.certificate.specs.SliceLines.{slice_lines}
-pub use Rattle.certificate.specs.StopLists.{AreStops}
+pub use Rattle.certificate.specs.StopLists.{AreStops, stored_stop}
 pub use Rattle.certificate.specs.Text.{entry_text, form_text}
 unfoldable pub use Rattle.certificate.specs.Text.{certificate_text}
 pub use Rattle.certificate.specs.Times.{all_stops, delay_and_meet_lines, delay_line, earlier, last_times, later}
 pub use Rattle.certificate.specs.Times.{meet_line, stop_times_of_wire, time_lines_of_gates}
 unfoldable pub use Rattle.certificate.specs.Times.{lines_by_number}
-pub use Rattle.certificate.specs.Timetables.{AreSignalLists, HasLocalWire, IsWithinMaxSize, borders_in}
-pub use Rattle.certificate.specs.declared.implied_halos.ModuleSlice.{ModuleSlice}
+pub use Rattle.certificate.specs.Timetables.{AreRising, AreSignalLists, HasLocalWire, IsWithinMaxSize, one_or_wire}
+pub use Rattle.certificate.specs.Timetables.{stored_signals, unnamed_line}
+pub use Rattle.certificate.specs.declared.neighbour_edges.EdgePlace.{EdgePlace}
 pub use Rattle.certificate.specs.declared.times.TimeLine.{TimeLine}
 pub use Rattle.certificate_lines.proofs.FlatParts.{flat_all, flat_at}
 pub use Rattle.certificate_lines.proofs.Imports.{All, All-append, All-nil, All-tail, AreLocalLines, Bool, Circuit}
 pub use Rattle.certificate_lines.proofs.Imports.{CircuitAndPorts, Equal, Gate, Greater, IfSome, IsEven, IsModule}
-pub use Rattle.certificate_lines.proofs.Imports.{IsTrue}
-pub use Rattle.certificate_lines.proofs.Imports.{Less, List, ModuleLines, Netlist, None, Option, Ordering, Setting}
-pub use Rattle.certificate_lines.proofs.Imports.{Some, [], and_from, and_parts, ap, append-nil, append_assoc, ap₂}
-pub use Rattle.certificate_lines.proofs.Imports.{areas, arith, cases_Bool, cell_same, circuit_of, codes, common_steps}
-pub use Rattle.certificate_lines.proofs.Imports.{cond-false, cond-true, cut_name_in, cuts, drop, edge_in, edges}
-pub use Rattle.certificate_lines.proofs.Imports.{eqb-true}
-pub use Rattle.certificate_lines.proofs.Imports.{false, filter, flat_map, flat_map-append, gates, get_or}
-pub use Rattle.certificate_lines.proofs.Imports.{get_or_from_slice_get, halo_in, if◌then◌else◌, inl, inr, ints}
+pub use Rattle.certificate_lines.proofs.Imports.{IsTrue, Less, List, ModuleLines, Netlist, None, Option, Ordering}
+pub use Rattle.certificate_lines.proofs.Imports.{Setting, Some, [], and_from, and_parts, ap, append-nil, append_assoc}
+pub use Rattle.certificate_lines.proofs.Imports.{ap₂, areas, arith, cases_Bool, cell_same, circuit_of, codes}
+pub use Rattle.certificate_lines.proofs.Imports.{common_steps, cond-false, cond-true, cut_name_in, cuts, drop, edge_in}
+pub use Rattle.certificate_lines.proofs.Imports.{edges, eqb-true, false, filter, flat_map, flat_map-append, gates}
+pub use Rattle.certificate_lines.proofs.Imports.{get_or, get_or_from_slice_get, halo_in, if◌then◌else◌, inl, inr, ints}
 pub use Rattle.certificate_lines.proofs.Imports.{is_among, is_at, is_last_module_incomplete, is_local, is_lt, is_module}
 pub use Rattle.certificate_lines.proofs.Imports.{is_nonlocal_signal, kept_gate_in, known, last_module, length}
-pub use Rattle.certificate_lines.proofs.Imports.{length-map}
-pub use Rattle.certificate_lines.proofs.Imports.{list_all, list_any, local_wires, map, map-append, mapped_from}
-pub use Rattle.certificate_lines.proofs.Imports.{module_with_line, nat_lt, nat_tests, not, option_map, option_to_list}
-pub use Rattle.certificate_lines.proofs.Imports.{pos, range_with_len, rectangle, refl, replicate, row_cells, rules}
-pub use Rattle.certificate_lines.proofs.Imports.{size_sides, slice_get, slice_get-get_or, slice_get_within, stop_in}
-pub use Rattle.certificate_lines.proofs.Imports.{subst, suc, sym, take, take_all, take_more, to_z, true, true_from_not}
-pub use Rattle.certificate_lines.proofs.Imports.{true≢false, used_gate_in, w32, whole, wire_of, zero, ℕ, ℤ, ◌&&◌, ◌++◌}
-pub use Rattle.certificate_lines.proofs.Imports.{◌+◌}
-pub use Rattle.certificate_lines.proofs.Imports.{◌-◌, ◌<◌, ◌==◌, ◌||◌, ◌∙◌, ◌∷◌, ◌≡◌, ◌≤◌, ◌⊎◌}
+pub use Rattle.certificate_lines.proofs.Imports.{length-map, list_all, list_any, local_wires, map, map-append}
+pub use Rattle.certificate_lines.proofs.Imports.{mapped_from, module_with_line, nat_lt, nat_tests, not, option_map}
+pub use Rattle.certificate_lines.proofs.Imports.{option_to_list, pos, range_with_len, rectangle, refl, replicate}
+pub use Rattle.certificate_lines.proofs.Imports.{row_cells, rules, size_sides, slice_get, slice_get-get_or}
+pub use Rattle.certificate_lines.proofs.Imports.{slice_get_within, stop_in, subst, suc, sym, take, take_all, take_more}
+pub use Rattle.certificate_lines.proofs.Imports.{to_z, true, true_from_not, true≢false, used_gate_in, w32, whole}
+pub use Rattle.certificate_lines.proofs.Imports.{wire_of, zero, ℕ, ℤ, ◌&&◌, ◌++◌, ◌+◌, ◌-◌, ◌<◌, ◌==◌, ◌||◌, ◌∙◌, ◌∷◌}
+pub use Rattle.certificate_lines.proofs.Imports.{◌≡◌, ◌≤◌, ◌⊎◌}
 unfoldable pub use Rattle.certificate_lines.proofs.Imports.{AreInOrder, StarsExcludeLaterTimes, add_line, body_lines}
 unfoldable pub use Rattle.certificate_lines.proofs.Imports.{cell_cmp, cell_of, change_last, end_fault}
 unfoldable pub use Rattle.certificate_lines.proofs.Imports.{has_nonlocal_port, in_box, in_halo, is_cut, last_of}
@@ -66,6 +63,9 @@ pub use Rattle.certificate_lines.specs.Orders.{time_rank}
 pub use Rattle.certificate_lines.specs.Rules.{leaves_gap}
 unfoldable pub use Rattle.certificate_lines.specs.Rules.{entry_fault}
 pub use Rattle.certificate_lines.specs.Settings.{setting_of}
+pub use Rattle.certificate_lines.specs.StoredModules.{HasOwnWire, HasOwnWires, IsOwnWire, body_lines_with, border_line}
+pub use Rattle.certificate_lines.specs.StoredModules.{cell_at, lines_of_modules, module_lines, module_lines_with}
+pub use Rattle.certificate_lines.specs.StoredModules.{stop_line, wire_name}
 pub use Rattle.certificate_lines.specs.Versions.{is_haloless_version}
 unfoldable pub use Rattle.certificate_lines.specs.Versions.{border_line_cmp, edge_lines_beside, is_halo}
 unfoldable pub use Rattle.certificate_lines.specs.Versions.{lacks_edge_wire_beside, modules_by_version, precedes_halos}
@@ -75,6 +75,9 @@ pub use Rattle.certificate_lines.specs.declared.certificate_line.CertificateLine
 pub use Rattle.certificate_lines.specs.declared.certificate_line.CertificateLine.TheVariants.{Cut, Edge, Halo, Keep}
 pub use Rattle.certificate_lines.specs.declared.certificate_line.CertificateLine.TheVariants.{Module, Stop, Use}
 pub use Rattle.certificate_lines.specs.declared.certificate_line.StopLine.{StopLine}
+pub use Rattle.certificate_lines.specs.declared.stored_module.StoredBorder.{StoredBorder}
+pub use Rattle.certificate_lines.specs.declared.stored_module.StoredModule.{StoredModule}
+pub use Rattle.certificate_lines.specs.declared.stored_module.StoredStop.{StoredStop}
 pub use Rattle.circuit.proofs.Imports.{gate_of, is_inverse}
 pub use Rattle.circuit.specs.declared.circuit_line.CircuitLine.{CircuitLine}
 pub use Rattle.lemmas.proofs.Common.{All-cons, Contains, IfOk-weaker, IsPermutation, fold, ltb, max, min, nat_cmp}

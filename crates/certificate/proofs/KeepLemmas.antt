@@ -2,7 +2,9 @@
 use Rattle.certificate.proofs.Imports.{Bool, Gate, List, ModuleLines, Some, [], append-nil, ap₂, arith, common_steps}
 use Rattle.certificate.proofs.Imports.{drop, get_or, get_or_from_slice_get, is_inverse, is_kept, length, not, slice_get}
 use Rattle.certificate.proofs.Imports.{sym, unkept_from, ℕ, ◌&&◌, ◌++◌, ◌+◌, ◌<◌, ◌∙◌, ◌∷◌, ◌≡◌, ◌≤◌}
+use Rattle.certificate.proofs.Imports.{Circuit, StoredModule, ap, is_among, list_any, map, module_lines, refl, ◌||◌}
 use Rattle.lemmas.proofs.Common.{add-one, cond, drop-cons}
+use Rattle.certificate_lines.proofs.StoredLemmas.{keeps_with}
 
 -- ---- the gates that nobody keeps
 
@@ -23,3 +25,11 @@ pub unkept_all : (all out : List ℕ) (ms : List ModuleLines) (gs : List Gate) (
     out ++ unkept_from ms n (drop n gs) ≡ all → out ≡ all
 unfolding unkept_from
 unkept_all all out ms gs n past so_far = grind (arith, common_steps, append-nil)
+
+-- ---- modules as they are kept
+
+pub kept_stored : (c : Circuit) (ms : List StoredModule) (n : ℕ) →
+    is_kept (map (module_lines c) ms) n ≡ list_any (λ (m : StoredModule). is_among m.keeps.items n) ms
+kept_stored c [] n = refl
+kept_stored c (m ∷ ms) n =
+    ap₂ (λ a b. a || b) (ap (λ ks. is_among ks n) (keeps_with c m m.halos.items)) (kept_stored c ms n)

@@ -1,7 +1,5 @@
 pub mod JobLemmas
 pub mod KeepLemmas
-pub mod KindLemmas
-pub mod SliceLemmas
 pub mod LayoutTableLemmas
 pub mod TimetableLemmas
 pub mod StopLemmas
@@ -15,12 +13,14 @@ pub mod HaloSignals
 pub mod HaloTables
 pub mod LineSignals
 pub mod SortedLines
-pub mod BesideLines
+pub mod JobsSoFar
+pub mod StoredSignals
 pub mod Migrated
 pub mod MeantLines
 pub mod Soundness
 pub mod Spelling
 mod RoundTrip
+mod ReadModules
 pub mod NearLines
 mod PrintedLines
 pub mod JobPlaces

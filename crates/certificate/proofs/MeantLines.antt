@@ -43,3 +43,8 @@ unkept_same ms ns same n (g ∷ gs) = grind (arith, common_steps, unkept_same ms
 pub unkept_gates_meant : (version : ℕ) (g : Setting) (ms : List ModuleLines) →
     unkept g (modules_by_version version g ms) ≡ unkept g ms
 unkept_gates_meant version g ms = grind (arith, common_steps, unkept_same, kept_meant)
+
+-- the same modules mean the same
+pub meant_of : {ms ns : List ModuleLines} (version : ℕ) (g : Setting) → ms ≡ ns →
+    modules_by_version version g ms ≡ modules_by_version version g ns
+meant_of version g same = ap (modules_by_version version g) same

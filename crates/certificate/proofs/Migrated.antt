@@ -3,23 +3,20 @@ use Rattle.certificate.proofs.Imports.{AreFaultless, AreModules, Bool, BorderLin
 use Rattle.certificate.proofs.Imports.{Edge, Halo, Keep, List, Module, ModuleLines, None, Option, PastLimit, Setting}
 use Rattle.certificate.proofs.Imports.{Some, SomethingMissing, Stop, Use, [], add_line, and_parts, ap, append-nil, ap₂}
 use Rattle.certificate.proofs.Imports.{areas, arith, both_none, certificate_grammar, change_last, common_steps}
-use Rattle.certificate.proofs.Imports.{cut_name_in}
-use Rattle.certificate.proofs.Imports.{cuts, edge_in, edge_lines_beside, edges, end_fault, entry_fault, false, filter}
-use Rattle.certificate.proofs.Imports.{flat_map, fold, gates, halos, has_nonlocal_port, is_halo, is_haloless_version}
-use Rattle.certificate.proofs.Imports.{is_last_module_incomplete, is_nonlocal_signal, known, lacks_edge_wire_beside}
-use Rattle.certificate.proofs.Imports.{last_module, last_of, leaves_gap, length, length-map, list_all, list_any, map}
-use Rattle.certificate.proofs.Imports.{map-append, may_precede, module_with_line, modules_by_version, modules_of}
-use Rattle.certificate.proofs.Imports.{nat_le, nat_tests, no_code, option_map, precedes_halos, refl, stop_in, stops}
-use Rattle.certificate.proofs.Imports.{sym, true, true_from_not, used_gate_in, with_halos, without_halos, ℕ, ◌&&◌, ◌++◌}
-use Rattle.certificate.proofs.Imports.{◌||◌}
-use Rattle.certificate.proofs.Imports.{◌∙◌, ◌∷◌, ◌≡◌, ◌≤◌}
+use Rattle.certificate.proofs.Imports.{cut_name_in, cuts, edge_in, edge_lines_beside, edges, end_fault, entry_fault}
+use Rattle.certificate.proofs.Imports.{false, filter, flat_map, fold, gates, halos, has_nonlocal_port, is_halo}
+use Rattle.certificate.proofs.Imports.{is_haloless_version, is_last_module_incomplete, is_nonlocal_signal, known}
+use Rattle.certificate.proofs.Imports.{lacks_edge_wire_beside, last_module, last_of, leaves_gap, length, length-map}
+use Rattle.certificate.proofs.Imports.{list_all, list_any, map, map-append, may_precede, module_with_line}
+use Rattle.certificate.proofs.Imports.{modules_by_version, modules_of, nat_le, nat_tests, no_code, option_map}
+use Rattle.certificate.proofs.Imports.{precedes_halos, refl, stop_in, stops, sym, true, true_from_not, used_gate_in}
+use Rattle.certificate.proofs.Imports.{with_halos, without_halos, ℕ, ◌&&◌, ◌++◌, ◌||◌, ◌∙◌, ◌∷◌, ◌≡◌, ◌≤◌}
 use Rattle.section_text.specs.Codes.{or_else, code_if}
 use Rattle.certificate.specs.Laws.{AreFaultlessLines, GoodWithoutHalos, IsSectionOf, SectionWithoutHalos}
 use Rattle.certificate_lines.specs.Orders.{may_follow}
 use Rattle.certificate_lines.specs.Rules.{cut_line_code, use_line_code, keep_line_code, timed_line_count}
-use Rattle.certificate_lines.specs.Rules.{border_line_code}
-use Rattle.certificate_lines.specs.Rules.{body_line_code, line_fault, module_line_code, module_box_code, is_misplaced}
-use Rattle.certificate_lines.specs.Rules.{is_bad_box_side, overlaps, content_code}
+use Rattle.certificate_lines.specs.Rules.{border_line_code, body_line_code, line_fault, module_line_code}
+use Rattle.certificate_lines.specs.Rules.{module_box_code, is_misplaced, is_bad_box_side, overlaps, content_code}
 use Rattle.certificate_lines.specs.Versions.{AreGoodLines, haloless_module}
 use Rattle.certificate_lines.proofs.Growing.{map_changed, unchanged}
 use Rattle.section_text.specs.declared.code.RefusalCode.{RefusalCode}

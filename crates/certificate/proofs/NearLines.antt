@@ -1,15 +1,16 @@
 -- The cells of a module's edge and halo lines lie within 512 columns and rows.
-use Rattle.certificate.proofs.Imports.{All, All-cons, All-nil, AllTimesSignal, BorderLine, Box2, Cell, Circuit}
-use Rattle.certificate.proofs.Imports.{IsInShiftRange, IsModule, IsSmallShift, IsWithinMaxSize, LayoutHeader, List}
-use Rattle.certificate.proofs.Imports.{ModuleLines, None, Option, Setting, Signal, Signals, Some, TimedSignal, []}
+use Rattle.certificate.proofs.Imports.{All, All-cons, All-nil, AllTimesSignal, BorderLine, Box2, Cell, IsInShiftRange}
+use Rattle.certificate.proofs.Imports.{IsModule, IsSmallShift, IsWithinMaxSize, LayoutHeader, List, ModuleLines, None}
+use Rattle.certificate.proofs.Imports.{Option, Setting, Signal, Signals, Some, StoredBorder, TimedSignal, []}
 use Rattle.certificate.proofs.Imports.{all_times_of_line, and_parts, ap, arith, common_steps, edges, events_of_line}
-use Rattle.certificate.proofs.Imports.{flat_all, get_or, halos, in_box, in_ring, ints, is_sized, line_signals, map}
-use Rattle.certificate.proofs.Imports.{moved_stop, one_or_named_wire, pos, renumber_all_times, renumber_event}
-use Rattle.certificate.proofs.Imports.{renumber_signals, shift_to_origin, size_fault, stops, subst, sym, true, ℕ, ℤ}
-use Rattle.certificate.proofs.Imports.{◌+ℤ◌, ◌+◌, ◌<◌, ◌≡◌, ◌≤◌}
+use Rattle.certificate.proofs.Imports.{flat_all, get_or, halos, in_box, in_ring, ints, is_sized, map, moved_stop}
+use Rattle.certificate.proofs.Imports.{one_or_wire, pos, renumber_all_times, renumber_event, renumber_signals}
+use Rattle.certificate.proofs.Imports.{shift_to_origin, size_fault, stops, stored_signals, subst, sym, true}
+use Rattle.certificate.proofs.Imports.{unnamed_line, ℕ, ℤ, ◌+ℤ◌, ◌+◌, ◌<◌, ◌≡◌, ◌≤◌, StoredStop, cell_at, stored_stop}
 use Rattle.lemmas.proofs.Common.{◌≤ℤ◌, All-map, All-weaker, all_unmapped}
 use Rattle.module_box.specs.Moves.{moved_event}
 use Rattle.module_box.proofs.BoxCells.{in_box_nats}
+use Rattle.module_job.specs.Signals.{renumber_stop}
 use Rattle.module_job.specs.declared.job.Stop.{Stop}
 use Rattle.certificate.proofs.JobLemmas.{within_512}
 
@@ -55,29 +56,37 @@ event_low : (e : BorderLine) (t : Option ℕ) (s : Signal) → IsWithinMaxSize e
 event_low e None s low = All-nil _
 event_low e (Some t) s low = All-cons (λ (h : TimedSignal). IsWithinMaxSize h.at.cell) _ [] low (All-nil _)
 
-pub low_all_times : (f : ℕ → ℕ) (c : Circuit) (es : List BorderLine) (s : Signals) →
-    renumber_signals f s ≡ line_signals c es →
-    All (λ e. IsWithinMaxSize e.cell) es → All (λ (h : AllTimesSignal). IsWithinMaxSize h.cell) s.all_times
-low_all_times f c es s same all =
+pub low_all_times : (f : ℕ → ℕ) (bs : List StoredBorder) (s : Signals) → renumber_signals f s ≡ stored_signals bs →
+    All (λ b. IsWithinMaxSize (unnamed_line b).cell) bs →
+    All (λ (h : AllTimesSignal). IsWithinMaxSize h.cell) s.all_times
+low_all_times f bs s same all =
     all_unmapped (λ (h : AllTimesSignal). IsWithinMaxSize h.cell) (renumber_all_times f) s.all_times
     (subst (λ (hs : List AllTimesSignal). All (λ (h : AllTimesSignal). IsWithinMaxSize h.cell) hs)
     (sym (ap (λ (r : Signals). r.all_times) same))
     (flat_all (λ (h : AllTimesSignal). IsWithinMaxSize h.cell)
-    (λ e. all_times_of_line e e.time (one_or_named_wire c e.signal))
-    (λ e. IsWithinMaxSize e.cell)
-    (λ e low. all_times_low e e.time (one_or_named_wire c e.signal) low) es all))
+    (λ b. all_times_of_line (unnamed_line b) b.time (one_or_wire b.wire))
+    (λ b. IsWithinMaxSize (unnamed_line b).cell)
+    (λ b low. all_times_low (unnamed_line b) b.time (one_or_wire b.wire) low) bs all))
 
-pub low_events : (f : ℕ → ℕ) (c : Circuit) (es : List BorderLine) (s : Signals) →
-    renumber_signals f s ≡ line_signals c es →
-    All (λ e. IsWithinMaxSize e.cell) es → All (λ (h : TimedSignal). IsWithinMaxSize h.at.cell) s.events
-low_events f c es s same all =
+pub low_events : (f : ℕ → ℕ) (bs : List StoredBorder) (s : Signals) → renumber_signals f s ≡ stored_signals bs →
+    All (λ b. IsWithinMaxSize (unnamed_line b).cell) bs →
+    All (λ (h : TimedSignal). IsWithinMaxSize h.at.cell) s.events
+low_events f bs s same all =
     all_unmapped (λ (h : TimedSignal). IsWithinMaxSize h.at.cell) (renumber_event f) s.events
     (subst (λ (hs : List TimedSignal). All (λ (h : TimedSignal). IsWithinMaxSize h.at.cell) hs)
     (sym (ap (λ (r : Signals). r.events) same))
     (flat_all (λ (h : TimedSignal). IsWithinMaxSize h.at.cell)
-    (λ e. events_of_line e e.time (one_or_named_wire c e.signal))
-    (λ e. IsWithinMaxSize e.cell)
-    (λ e low. event_low e e.time (one_or_named_wire c e.signal) low) es all))
+    (λ b. events_of_line (unnamed_line b) b.time (one_or_wire b.wire))
+    (λ b. IsWithinMaxSize (unnamed_line b).cell)
+    (λ b low. event_low (unnamed_line b) b.time (one_or_wire b.wire) low) bs all))
+
+pub low_stops_of : (f : ℕ → ℕ) (ss : List StoredStop) (own : List Stop) →
+    map (renumber_stop f) own ≡ map stored_stop ss →
+    All (λ s. IsWithinMaxSize (cell_at s.column s.row)) ss → All (λ (s : Stop). IsWithinMaxSize s.at.cell) own
+low_stops_of f ss own same all =
+    all_unmapped (λ (s : Stop). IsWithinMaxSize s.at.cell) (renumber_stop f) own
+    (subst (All (λ (s : Stop). IsWithinMaxSize s.at.cell)) (sym same)
+    (All-map (λ (s : Stop). IsWithinMaxSize s.at.cell) stored_stop ss all))
 
 -- ---- low cells are near, also where a box moves to the corner
 small_low : (z : ℤ) → (pos 0 ≤ℤ z) → (z ≤ℤ pos 511) → IsSmallShift z

@@ -5,7 +5,8 @@ use Rattle.certificate.proofs.Imports.{each_in, false, get_or, get_or_from_slice
 use Rattle.certificate.proofs.Imports.{in_ordered, is_lt, line_total, ordered_in, ordered_rises, ranks_by, refl}
 use Rattle.certificate.proofs.Imports.{rising_same, slice_get_within, sorted_border_lines, ℕ, ◌+◌, ◌∷◌, ◌≡◌, ◌≢◌, ◌≤◌}
 use Rattle.lemmas.proofs.Common.{is_eq, sum_by, All-permutation, IsPermutation-sym, IsSortedBy, sorted_far}
-use Rattle.lemmas.proofs.Common.{sum_by-IsPermutation, sum_by-cons}
+use Rattle.lemmas.proofs.Common.{sum_by-IsPermutation, sum_by-cons, get_or-map}
+use Rattle.certificate.proofs.Imports.{Circuit, None, StoredBorder, ap₂, border_line, length-map, map, ◌∙◌}
 use Rattle.certificate_lines.proofs.Pairs.{pairs_at}
 use Rattle.certificate.proofs.FullModules.{in_all, pairs_by_place}
 
@@ -100,3 +101,15 @@ sorted_lines xs ys d p up =
     rising_same ys (sorted_border_lines xs) (sorted_rises ys up (kept_distinct xs ys p d)) (ordered_rises xs d)
     (λ x i. ordered_in x xs (kept_in xs ys p x i))
     (λ x i. kept_in ys xs (IsPermutation-sym xs ys p) x (in_ordered x xs i))
+
+-- lines that are kept, by their names
+pub sorted_by_lines : (c : Circuit) (bs : List StoredBorder) →
+    IsSortedBy (λ a b. is_lt (border_line_cmp (border_line c a) (border_line c b))) bs →
+    IsSortedBy (λ a b. is_lt (border_line_cmp a b)) (map (border_line c) bs)
+sorted_by_lines c bs h k d le lt =
+    let long = length-map bs (border_line c) in
+    let other : StoredBorder = record { time = None; column = 0; row = 0; wire = None } in
+    ap₂ (λ a b. is_lt (border_line_cmp a b))
+    (get_or-map (border_line c) bs (k + 1) other d (omega (arith, long, lt)))
+    (get_or-map (border_line c) bs k other d (omega (arith, long, lt)))
+    ∙ h k other le (omega (arith, long, lt))

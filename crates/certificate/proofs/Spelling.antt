@@ -1,9 +1,8 @@
 -- Each line of the certificate section is the spelling of its form.
-use Rattle.certificate.proofs.Imports.{BorderLine, Cut, Edge, End, Halo, Header, Item, Keep, List, Module}
-use Rattle.certificate.proofs.Imports.{Option, Some, Stop, StopLine, Use, [], ap, arith, codes, common_steps, eqb}
-use Rattle.certificate.proofs.Imports.{eqb-true, form_text, inl, inr, length, refl, same_Some, slice_get, subst, true}
-use Rattle.certificate.proofs.Imports.{ℕ}
-use Rattle.certificate.proofs.Imports.{◌∷◌, ◌≡◌}
+use Rattle.certificate.proofs.Imports.{BorderLine, Cut, Edge, End, Halo, Header, Item, Keep, List, Module, Option, Some}
+use Rattle.certificate.proofs.Imports.{Stop, StopLine, Use, [], ap, arith, codes, common_steps, eqb, eqb-true}
+use Rattle.certificate.proofs.Imports.{form_text, inl, inr, length, refl, same_Some, slice_get, subst, true, ℕ, ◌∷◌}
+use Rattle.certificate.proofs.Imports.{◌≡◌}
 use Rattle.pattern.specs.Forms.{cell_of_words_from}
 use Rattle.lemmas.proofs.Common.{decimal, option_and_then_some}
 use Rattle.section_text.specs.Words.{◌>>=◌, words_of, is_word_at, if_one_word, number_after_keyword, name_after_keyword}
@@ -12,10 +11,9 @@ use Rattle.section_text.specs.Section.{with_line_feed}
 use Rattle.section_text.specs.Spelling.{line_text}
 use Rattle.section_text.proofs.Spellings.{chosen, passed, number_at_spelled, one_word, two_words, five_words}
 use Rattle.section_text.proofs.WordPlaces.{is_at_is, name_at_is, line_from_words}
-use Rattle.pattern.specs.Text.{natural_or_zero}
+use Rattle.pattern.specs.Text.{natural_or_zero, box_words}
 use Rattle.certificate_lines.specs.Forms.{Line, star_or_time_at_word, one_or_name_at_word, border_of_five_words}
 use Rattle.certificate_lines.specs.Forms.{border_of, stop_of_five_words, stop_of, form_of}
-use Rattle.pattern.specs.Text.{box_words}
 use Rattle.pattern.proofs.Spelling.{cell_spelled, box_spelled}
 use Rattle.certificate.specs.Text.{star_or_time_word, one_or_name_word, border_words, stop_words}
 

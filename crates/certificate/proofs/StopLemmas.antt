@@ -1,11 +1,10 @@
 -- The stops of a module: what its lines give, and their order.
 use Rattle.certificate.proofs.Imports.{All, All-append, All-cons, All-head, All-nil, All-tail, AreInOrder, AreStops}
-use Rattle.certificate.proofs.Imports.{CertificateLine, Circuit, Each, IsModule, IsRising, Less}
-use Rattle.certificate.proofs.Imports.{List, LocalNet, ModuleLines, None, Option, Pairs, Setting, Some, Stop}
-use Rattle.certificate.proofs.Imports.{StopLine, [], arith, cell_cmp, cell_of, circuit_wire, common_steps, false}
-use Rattle.certificate.proofs.Imports.{flat_map, is_cut, is_local, known, line_cmp, map, may_precede, moment_cmp}
+use Rattle.certificate.proofs.Imports.{CertificateLine, Circuit, Each, IsRising, Less, List, LocalNet, None, Option}
+use Rattle.certificate.proofs.Imports.{Pairs, Some, Stop, StopLine, [], arith, cell_cmp, cell_of, circuit_wire}
+use Rattle.certificate.proofs.Imports.{common_steps, false, flat_map, is_cut, line_cmp, map, may_precede, moment_cmp}
 use Rattle.certificate.proofs.Imports.{nat_cmp, ordering_then, pairs_flat, rank_of, refl, rising_of, sort_number_of}
-use Rattle.certificate.proofs.Imports.{stop_in, stops, stops_of_lines, subst, sym, true, wire_of, ℕ, ◌∷◌, ◌≡◌}
+use Rattle.certificate.proofs.Imports.{stop_in, stops_of_lines, subst, sym, true, wire_of, ℕ, ◌∷◌, ◌≡◌}
 use Rattle.module_box.specs.declared.schedules.Moment.{Moment}
 use Rattle.certificate.specs.Jobs.{stop_with_wire_number}
 use Rattle.module_job.specs.Jobs.{stop_moment}
@@ -100,8 +99,3 @@ pub stops_stand : (P : Moment → Type 0) (c : Circuit) (l : LocalNet) (lines : 
     AreStops c l lines ss → All (λ s. P (record { time = s.time; cell = s.cell })) lines → All (λ r. P r.at) ss
 stops_stand P c l lines ss are h =
     all_renumbered P (circuit_wire l) ss (subst (All (λ r. P r.at)) (sym are.same) (all_said P c lines h))
-
--- the wires that stops name are the module's
-pub stops_named : (g : Setting) (m : ModuleLines) (l : LocalNet) → l.circuit_wires ≡ known g.circuit m → IsModule g m →
-    All (λ s. is_local g.circuit l.circuit_wires s.wire ≡ true) (stops m)
-stops_named g m l is h k d lt = grind (arith, common_steps)

@@ -7,10 +7,15 @@ use Rattle.certificate.proofs.Imports.{entry_fault, false, flat_map, get_or, is_
 use Rattle.certificate.proofs.Imports.{lines_by_number, modules_of, refl, same_Some, slice_get, slice_get-get_or}
 use Rattle.certificate.proofs.Imports.{slice_get_within, split_module, split_other, stop_in, sym, time_in_table}
 use Rattle.certificate.proofs.Imports.{time_lines_of_gates, ℕ, ◌++◌, ◌+◌, ◌<◌, ◌∙◌, ◌∷◌, ◌≡◌, ◌≤◌}
+use Rattle.certificate.proofs.Imports.{StoredModule, StoredStop, append_assoc, ap₂, map, map-append, module_lines}
+use Rattle.certificate.proofs.Imports.{stop_line, stops, take, take_more}
+use Rattle.std.proofs.lemmas.List.Folds.{flat_map-map}
+use Rattle.certificate_lines.proofs.FlatParts.{flat_more}
+use Rattle.certificate_lines.proofs.StoredLemmas.{stops_with}
 use Rattle.certificate.specs.SeenTimes.{seen_time}
 use Rattle.certificate.specs.declared.times.FirstOrLast.{FirstOrLast}
 use Rattle.certificate.specs.declared.times.FirstOrLast.TheVariants.{First, Last}
-use Rattle.certificate_lines.proofs.InnerLines.{inner_module, inner_other}
+use Rattle.certificate_lines.proofs.ModuleSplit.{inner_module, inner_other}
 
 -- ---- the stops of all lines from the first module line on are those of all modules
 
@@ -94,3 +99,20 @@ pub lines_told : (c : Circuit) (ms : List ModuleLines) (ss : List StopLine) (fir
 lines_told c ms ss firsts lasts f l ef el es hf hl i =
     time_lines_of_gates (told First c ss (all_stops ms) f firsts ef es hf i)
     (told Last c ss (all_stops ms) l lasts el es hl i) c.netlist.gates
+
+-- ---- stops as they are kept
+
+-- the stops of one module more
+pub stops_more : (c : Circuit) (ms : List StoredModule) (i : ℕ) (m : StoredModule) → i < length ms →
+    m ≡ get_or ms i m →
+    all_stops (map (module_lines c) (take (i + 1) ms))
+    ≡ all_stops (map (module_lines c) (take i ms)) ++ map (stop_line c) m.stops.items
+stops_more c ms i m lt is =
+    flat_map-map stops (module_lines c) (take (i + 1) ms)
+    ∙ flat_more (λ (m : StoredModule). stops (module_lines c m)) ms i m lt is
+    ∙ ap₂ (λ ss ts. ss ++ ts) (sym (flat_map-map stops (module_lines c) (take i ms))) (stops_with c m m.halos.items)
+
+pub stop_more : (c : Circuit) (ss : List StopLine) (stops : List StoredStop) (i : ℕ) (s : StoredStop) →
+    i < length stops → s ≡ get_or stops i s →
+    (ss ++ map (stop_line c) (take i stops)) ++ stop_line c s ∷ [] ≡ ss ++ map (stop_line c) (take (i + 1) stops)
+stop_more c ss stops i s lt is = grind (arith, common_steps, take_more, map-append, append_assoc)

@@ -1,10 +1,10 @@
 -- The fields of a certificate, and its view
 use Rattle.std.specs.Prelude.{◌≡◌, ◌&&◌, false, map}
 use Rattle.std.specs.List.{All}
-use Rattle.certificate_lines.specs.Entries.{modules_of, counts_of}
+use Rattle.circuit.specs.Bridge.{circuit_of}
 use Rattle.certificate.specs.Grammars.{CertView, version_number}
 use Rattle.certificate_lines.specs.Settings.{setting_of}
-use Rattle.certificate_lines.specs.ModuleParts.{BeginWithModule}
+use Rattle.certificate_lines.specs.StoredModules.{HasOwnWires, lines_of_modules, module_lines}
 use Rattle.certificate_lines.specs.Modules.{AreModules, IsWithinLineLimit}
 use Rattle.certificate_lines.specs.Versions.{is_haloless_version, lacks_edge_wire_beside}
 use Rattle.certificate.specs.declared.cert.Cert.TheInside.{Inside}
@@ -15,14 +15,15 @@ cert_view a = record {
   circuit = a.circuit.now;
   layout = a.layout.now;
   version = version_number a.version;
-  entries = a.entries.items;
+  entries = lines_of_modules (circuit_of a.circuit.now) a.modules.items;
 }
 
--- the fields of every certificate: its modules are counted and good, and no line comes before them
+-- the fields of every certificate: its wires are those of the circuit, and its modules are good
 pub record IsCert (a : Inside) : Type 0 where
-  pub counted : a.modules.items ≡ map counts_of (modules_of a.entries.items)
-  pub begun : BeginWithModule a.entries.items
-  pub good : AreModules (setting_of a.circuit.now a.layout.now) (modules_of a.entries.items)
-  pub few_lines : All IsWithinLineLimit (modules_of a.entries.items)
+  pub wires : All (HasOwnWires (circuit_of a.circuit.now)) a.modules.items
+  pub good : AreModules (setting_of a.circuit.now a.layout.now)
+      (map (module_lines (circuit_of a.circuit.now)) a.modules.items)
+  pub few_lines : All IsWithinLineLimit (map (module_lines (circuit_of a.circuit.now)) a.modules.items)
   pub complete : (is_haloless_version (version_number a.version)
-      && lacks_edge_wire_beside (setting_of a.circuit.now a.layout.now) (modules_of a.entries.items)) ≡ false
+      && lacks_edge_wire_beside (setting_of a.circuit.now a.layout.now)
+      (map (module_lines (circuit_of a.circuit.now)) a.modules.items)) ≡ false

@@ -12,8 +12,7 @@ use Rattle.certificate.specs.Jobs.{line_signals}
 use Rattle.certificate_lines.specs.Modules.{AreModules}
 use Rattle.certificate_lines.specs.Rules.{end_fault}
 use Rattle.certificate_lines.specs.Versions.{AreGoodLines, is_haloless_version, lacks_edge_wire_beside}
-use Rattle.certificate_lines.specs.Versions.{modules_by_version, with_halos}
-use Rattle.certificate_lines.specs.Versions.{without_halos}
+use Rattle.certificate_lines.specs.Versions.{modules_by_version, with_halos, without_halos}
 use Rattle.certificate_lines.specs.declared.certificate_line.CertificateLine.{CertificateLine}
 use Rattle.certificate.specs.Text.{certificate_text}
 use Rattle.certificate.specs.Arrivals.{AreOnTime, IsTimeLineTrue}

@@ -10,6 +10,4 @@ pub mod Arrivals
 pub mod SeenTimes
 pub mod Laws
 pub mod LayoutTablesView
-pub mod SliceLines
-pub mod LineKinds
 pub mod HaloPlaces

@@ -1,27 +1,43 @@
--- The signals of edge or halo lines over the wires of a module
-use Rattle.std.specs.Prelude.{◌≡◌, pos, ◌≤ℤ◌, List, map, IfSome, IsTrue}
-use Rattle.std.specs.List.{All}
+-- The signals of edge or halo lines, by the numbers of their wires
+use Rattle.std.specs.Prelude.{◌≡◌, ℕ, pos, ◌≤ℤ◌, List, map, None, Option, Some, IfSome, IsTrue}
+use Rattle.std.specs.List.{All, flat_map}
 use Rattle.bbm_rule.specs.declared.block.Cell.{Cell}
-use Rattle.circuit.specs.Meaning.{Circuit, wires}
-use Rattle.module_box.specs.Locals.{LocalNet, circuit_wire}
-use Rattle.certificate_lines.specs.Entries.{edge_in, halo_in}
-use Rattle.certificate.specs.Jobs.{line_signals}
-use Rattle.certificate_lines.specs.Rules.{is_local}
+use Rattle.circuit.specs.Meaning.{wires}
+use Rattle.module_box.specs.Locals.{LocalNet, circuit_wire, is_among}
+use Rattle.module_box.specs.Schedules.{IsRising, Signals}
+use Rattle.module_box.specs.declared.schedules.Signal.{Signal}
+use Rattle.module_box.specs.declared.schedules.Signal.TheVariants.{One, Wire}
+use Rattle.certificate_lines.specs.StoredModules.{cell_at}
+use Rattle.certificate_lines.specs.Versions.{border_line_cmp}
+use Rattle.certificate.specs.Jobs.{all_times_of_line, events_of_line}
 use Rattle.module_job.specs.Signals.{IsSignalWireBelow, renumber_all_times, renumber_event}
 use Rattle.certificate_lines.specs.declared.certificate_line.BorderLine.{BorderLine}
-use Rattle.certificate_lines.specs.declared.certificate_line.CertificateLine.{CertificateLine}
-use Rattle.certificate.specs.declared.signal_lists.RingOrHalo.{RingOrHalo}
-use Rattle.certificate.specs.declared.signal_lists.RingOrHalo.TheVariants.{Ring, Halo}
+use Rattle.certificate_lines.specs.declared.stored_module.StoredBorder.{StoredBorder}
 use Rattle.certificate.specs.declared.signal_lists.SignalLists.{SignalLists}
 
--- what a line says of cells of this side
-abbrev pub borders_in : RingOrHalo → CertificateLine → List BorderLine
-borders_in Ring i = edge_in i
-borders_in Halo i = halo_in i
+-- the time and the cell of a line
+abbrev pub unnamed_line : StoredBorder → BorderLine
+unnamed_line b = record { time = b.time; cell = cell_at b.column b.row; signal = None }
 
--- the wire that the line names, if it names one, is one of the module's
-abbrev pub HasLocalWire : Circuit → LocalNet → BorderLine → Type 0
-HasLocalWire c l e = IfSome e.signal (λ name. IsTrue (is_local c l.circuit_wires name))
+-- the signal of a wire, or the constant `1`
+abbrev pub one_or_wire : Option ℕ → Signal
+one_or_wire None = One
+one_or_wire (Some w) = Wire w
+
+-- what lines say, one after the other
+abbrev pub stored_signals : List StoredBorder → Signals
+stored_signals bs = record {
+  all_times = flat_map (λ b. all_times_of_line (unnamed_line b) b.time (one_or_wire b.wire)) bs;
+  events = flat_map (λ b. events_of_line (unnamed_line b) b.time (one_or_wire b.wire)) bs;
+}
+
+-- the lines are in the order of edge and halo lines
+abbrev pub AreRising : List StoredBorder → Type 0
+AreRising bs = IsRising border_line_cmp unnamed_line bs
+
+-- the wire of the line, if it has one, is one of the module's
+abbrev pub HasLocalWire : LocalNet → StoredBorder → Type 0
+HasLocalWire l b = IfSome b.wire (λ w. IsTrue (is_among l.circuit_wires w))
 
 -- the cell lies within 512 columns and rows
 pub record IsWithinMaxSize (c : Cell) : Type 0 where
@@ -29,8 +45,8 @@ pub record IsWithinMaxSize (c : Cell) : Type 0 where
   pub row : (pos 0 ≤ℤ c.y) × (c.y ≤ℤ pos 511)
 
 -- what is held and what happens is what the lines say, and each wire is one of the module's
-pub record AreSignalLists (c : Circuit) (l : LocalNet) (es : List BorderLine) (t : SignalLists) : Type 0 where
-  pub all_times : map (renumber_all_times (circuit_wire l)) t.all_times.items ≡ (line_signals c es).all_times
-  pub events : map (renumber_event (circuit_wire l)) t.events.items ≡ (line_signals c es).events
+pub record AreSignalLists (l : LocalNet) (bs : List StoredBorder) (t : SignalLists) : Type 0 where
+  pub all_times : map (renumber_all_times (circuit_wire l)) t.all_times.items ≡ (stored_signals bs).all_times
+  pub events : map (renumber_event (circuit_wire l)) t.events.items ≡ (stored_signals bs).events
   pub own_all_times : All (λ h. IsSignalWireBelow (wires l.netlist) h.signal) t.all_times.items
   pub own_events : All (λ e. IsSignalWireBelow (wires l.netlist) e.signal) t.events.items

@@ -13,7 +13,7 @@ ghost use Rattle.certificate_lines.specs.Modules.{AreModules, IsWithinLineLimit}
 ghost use Rattle.certificate_lines.specs.Versions.{is_haloless_version};
 
 use crate::version::Version;
-use certificate_lines::{Counts, StoredLine, boxes_of};
+use certificate_lines::{Counts, StoredModule, boxes_of};
 use circuit::Circuit;
 use module_box::Box2;
 use pattern::{Layout, LayoutHeader};
@@ -28,8 +28,7 @@ pub struct Cert<'a> {
     pub(crate) circuit: &'a Circuit,
     pub(crate) layout: &'a Layout,
     pub(crate) version: Version,
-    pub(crate) entries: Vec<StoredLine<'a>>,
-    pub(crate) modules: Vec<Counts>,
+    pub(crate) modules: Vec<StoredModule>,
 }
 
 impl<'a> Model for Cert<'a> {
@@ -72,13 +71,6 @@ impl<'a> Cert<'a> {
         ensures { result.now ≡ self.now.layout }
     {
         self.layout
-    }
-
-    // The lines between the header and the end.
-    pub(crate) fn entries(&self) -> &[StoredLine<'a>]
-        ensures { result.now ≡ self.now.entries }
-    {
-        self.entries.as_slice()
     }
 
     /// Returns the width, the height and the steps of the layout: even sides of 2 to 512, and at most 65,536 steps.
@@ -127,7 +119,7 @@ impl<'a> Cert<'a> {
         requires { number < length (modules_of self.now.entries) }
         ensures { slice_get (map counts_of (modules_of self.now.entries)) number ≡ Some result }
     {
-        self.modules[number]
+        self.modules[number].counts()
     }
 
     /// Returns the boxes of the modules.

@@ -1,56 +1,52 @@
 //! The digest of a certificate.
 ghost use Rattle.std.specs.Prelude.{ℕ, List, ◌≡◌, ◌++◌, IfOk, OnOk};
-ghost use Rattle.std.specs.List.{flat_map};
+ghost use Rattle.std.specs.List.{All, flat_map};
 ghost use Rattle.sha2.specs.Hashers.{Holds256};
 ghost use Rattle.sha2.specs.Sha256.{sha256};
+ghost use Rattle.circuit.specs.Bridge.{circuit_of};
 ghost use Rattle.certificate.specs.Text.{certificate_text, entry_text};
+ghost use Rattle.certificate_lines.specs.StoredModules.{HasOwnWires, lines_of_modules};
 
 use crate::cert::Cert;
-use crate::printing::{print_entry, print_header};
-use certificate_lines::StoredLine;
+use crate::printing::{print_header, print_module_lines};
+use certificate_lines::StoredModule;
+use circuit::Circuit;
 use sha2::{Digest, Sha256};
 use std::alloc::{AllocError, Global};
 
-// Hashes the text of a line, which is printed in place of the one before it.
-fn hash_line(hasher: &mut Sha256, line: &mut Vec<u8>, entry: &StoredLine) -> Result<(), AllocError>
-    ensures { OnOk result ((m : List ℕ) → Holds256 hasher.old m →
-        Holds256 hasher.new (m ++ entry_text entry.now)) }
-{
-    line.truncate(0);
-    print_entry(line, entry)?;
-    hasher.update(line.as_slice());
-    Ok(())
-}
-
-// Hashes the text of lines.
-fn hash_lines(
+// Hashes the text of modules. The text of each module is printed in place of the one before it.
+fn hash_modules(
     hasher: &mut Sha256,
-    line: &mut Vec<u8>,
-    entries: &[StoredLine],
+    text: &mut Vec<u8>,
+    circuit: &Circuit,
+    modules: &[StoredModule],
 ) -> Result<(), AllocError>
-    ensures { OnOk result ((m : List ℕ) → Holds256 hasher.old m →
-        Holds256 hasher.new (m ++ flat_map entry_text entries.now)) }
+    requires { All (HasOwnWires (circuit_of circuit.now)) modules.now }
+    ensures { OnOk result ((m : List ℕ) → Holds256 hasher.old m → Holds256 hasher.new
+        (m ++ flat_map entry_text (lines_of_modules (circuit_of circuit.now) modules.now))) }
 {
-    for entry in entries {
-        hash_line(hasher, line, entry)?;
+    'modules: for module in modules {
+        text.truncate(0);
+        print_module_lines(text, circuit, module, &module.halos)?;
+        hasher.update(text.as_slice());
     }
     Ok(())
 }
 
 impl<'a> Cert<'a> {
-    /// Returns the SHA-256 digest of the certificate's text. It takes no memory for the whole text.
+    /// Returns the SHA-256 digest of the certificate's text. It takes memory for the text of one module at a time.
     ///
-    /// The text is the bytes of its section, from its header line to its `end` line with the line feed. The lines are
-    /// printed and hashed one by one. The SHA-256 of the bytes that were read is the same.
+    /// The text is the bytes of its section, from its header line to its `end` line with the line feed. The modules
+    /// are printed and hashed one by one. The SHA-256 of the bytes that were read is the same.
     #[tactic(auto, unfolding(crate::specs::Text::certificate_text))]
     pub fn digest(&self, alloc: Global) -> Result<[u8; 32], AllocError>
         ensures { IfOk result (λ digest. digest ≡ sha256 (certificate_text self.now)) }
     {
         let mut hasher = Sha256::new();
-        let mut line = Vec::new(alloc);
-        print_header(&mut line, self.version)?;
-        hasher.update(line.as_slice());
-        hash_lines(&mut hasher, &mut line, self.entries())?;
+        let mut text = Vec::new(alloc);
+        print_header(&mut text, self.version)?;
+        hasher.update(text.as_slice());
+        hash_modules(&mut hasher, &mut text, self.circuit, &self.modules)?;
         hasher.update(b"end\n");
         Ok(hasher.finalize())
     }

@@ -1,56 +1,71 @@
-//! The inverse gates that no module keeps.
-ghost use Rattle.std.specs.Prelude.{◌≡◌, ◌<◌, ◌^◌, ◌&&◌, ◌||◌, ◌++◌, ◌∷◌, [], ℕ, not, if◌then◌else◌, map, IfOk, OnOk};
-ghost use Rattle.std.specs.List.{All, flat_map};
+//! The inverse gates that modules keep.
+ghost use Rattle.std.specs.Prelude.{◌≡◌, ◌<◌, ◌≤◌, ◌^◌, ◌&&◌, ◌||◌, ◌++◌, ◌∷◌, [], ℕ, not, if◌then◌else◌, length, map, slice_index, IfOk, IsTrue, OnOk};
+ghost use Rattle.std.specs.List.{All};
+ghost use Rattle.circuit.specs.Meaning.{Circuit as Meant};
 ghost use Rattle.module_box.specs.Locals.{is_among};
-ghost use Rattle.certificate_lines.specs.Entries.{kept_gate_in};
 ghost use Rattle.certificate.specs.Grammars.{modules_in};
 ghost use Rattle.certificate_lines.specs.Settings.{setting_of};
-ghost use Rattle.certificate_lines.specs.Orders.{AreInOrder};
+ghost use Rattle.certificate_lines.specs.StoredModules.{module_lines};
 ghost use Rattle.certificate.specs.Keeps.{is_kept, unkept};
-ghost use Rattle.certificate.specs.SliceLines.{slice_lines};
 
 use crate::cert::Cert;
-use crate::implied_halos::ModuleSlice;
-use crate::line_kinds::wiring_lines;
-use certificate_lines::{CertificateLine, StoredLine};
+use certificate_lines::StoredModule;
 use circuit::GateNo;
 use indexmap::IndexSet;
 use std::alloc::{AllocError, Global};
 
-// Notes the gate that a line keeps, if it is a keep line.
-fn note_keep(kept: &mut IndexSet<u32>, line: &StoredLine) -> Result<(), AllocError>
-    ensures { OnOk result ((n : ℕ) →
-        is_among kept.new.keys n
-        ≡ (is_among kept.old.keys n || is_among (kept_gate_in line.now) n)) }
+// The place of a gate among the used ones.
+fn gate_place(gates: &[GateNo], gate: GateNo) -> u16
+    requires at_most_64 { length gates.now ≤ 64 }
+    requires used { IsTrue (is_among gates.now gate) }
+    ensures within { result < length gates.now }
+    ensures gate { slice_index gates.now result ≡ gate }
 {
-    if let CertificateLine::Keep(number) = line.line() {
-        kept.insert(number)?;
+    for place in 0..gates.len() {
+        if gates[place].number() == gate.number() {
+            return place as u16;
+        }
     }
-    Ok(())
+    unreachable!()
 }
 
-// Notes the gates that the lines keep.
-fn note_keeps(kept: &mut IndexSet<u32>, lines: &[StoredLine]) -> Result<(), AllocError>
-    ensures { OnOk result ((n : ℕ) →
-        is_among kept.new.keys n
-        ≡ (is_among kept.old.keys n || is_among (flat_map kept_gate_in lines.now) n)) }
+/// Returns the gates that a module keeps, by their places among the used ones.
+pub(crate) fn kept_places(
+    alloc: Global,
+    gates: &[GateNo],
+    keeps: &[GateNo],
+) -> Result<Vec<u16>, AllocError>
+    requires at_most_64 { length gates.now ≤ 64 }
+    requires used { All (λ k. IsTrue (is_among gates.now k)) keeps.now }
+    ensures gates { IfOk result (λ places. map (slice_index gates.now) places.items ≡ keeps.now) }
+    ensures within { IfOk result (λ places. All (λ place. place < length gates.now) places.items) }
 {
-    for line in lines {
-        note_keep(kept, line)?;
+    let mut places = Vec::with_capacity(alloc, keeps.len())?;
+    'keeps: for keep in keeps {
+        places.push(gate_place(gates, *keep))?;
+    }
+    Ok(places)
+}
+
+// Notes the gates that a module keeps.
+fn note_keeps(kept: &mut IndexSet<u32>, keeps: &[GateNo]) -> Result<(), AllocError>
+    ensures { OnOk result ((n : ℕ) →
+        is_among kept.new.keys n ≡ (is_among kept.old.keys n || is_among keeps.now n)) }
+{
+    'keeps: for keep in keeps {
+        kept.insert(u32::from(keep.number()))?;
     }
     Ok(())
 }
 
 // The gates that some of these modules keeps.
-#[tactic(auto, using(crate::proofs::Imports::take_all, crate::proofs::SliceLemmas::any_mapped))]
-fn kept_gates(alloc: Global, parts: &[ModuleSlice]) -> Result<IndexSet<u32>, AllocError>
-    requires { All (λ p. AreInOrder p.lines.now) parts.now }
-    ensures { IfOk result (λ kept. (n : ℕ) →
-        is_among kept.keys n ≡ is_kept (map slice_lines parts.now) n) }
+fn kept_gates(alloc: Global, modules: &[StoredModule]) -> Result<IndexSet<u32>, AllocError>
+    ensures { IfOk result (λ kept. (c : Meant) (n : ℕ) →
+        is_among kept.keys n ≡ is_kept (map (module_lines c) modules.now) n) }
 {
     let mut kept = IndexSet::new(alloc);
-    'parts: for part in parts {
-        note_keeps(&mut kept, wiring_lines(part.lines))?;
+    'modules: for module in modules {
+        note_keeps(&mut kept, &module.keeps)?;
     }
     Ok(kept)
 }
@@ -86,8 +101,7 @@ impl<'a> Cert<'a> {
         ensures { IfOk result (λ gates. gates.items
             ≡ unkept (setting_of self.now.circuit self.now.layout) (modules_in self.now)) }
     {
-        let parts = self.slices(alloc)?;
-        let kept = kept_gates(alloc, &parts)?;
+        let kept = kept_gates(alloc, &self.modules)?;
         let mut gates = Vec::new(alloc);
         let count = self.circuit.gates();
         'gates: for number in 0..count {

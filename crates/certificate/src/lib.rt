@@ -13,7 +13,6 @@ mod jobs;
 mod keep_lines;
 pub mod laws;
 mod layout_tables;
-mod line_kinds;
 mod neighbour_edges;
 mod printing;
 mod reading;

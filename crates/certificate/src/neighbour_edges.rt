@@ -1,32 +1,43 @@
 //! The places of the edge lines beside each module.
-ghost use Rattle.std.specs.Prelude.{◌≡◌, ◌≢◌, ◌+◌, ◌<◌, ◌≤◌, ◌++◌, ◌∷◌, ◌&&◌, ◌≤ℤ◌, pos, [], ℕ, List, Some, not, length, map, slice_get, IfOk, OnOk, IsTrue};
+ghost use Rattle.std.specs.Prelude.{◌≡◌, ◌≢◌, ◌<◌, ◌≤◌, ◌++◌, ◌∷◌, ◌&&◌, ◌≤ℤ◌, pos, [], ℕ, List, Some, not, length, map, slice_get, IfOk, OnOk, IsTrue};
 ghost use Rattle.std.specs.List.{All, flat_map, list_any};
 ghost use Rattle.bbm_rule.specs.Plane.{partner};
 ghost use Rattle.bbm_rule.specs.Boxes.{in_box, in_halo};
+ghost use Rattle.circuit.specs.Bridge.{circuit_of};
 ghost use Rattle.module_box.specs.Tiling.{AreOwners, rectangle};
 ghost use Rattle.bbm_rule.specs.declared.block.Box2.{Box2};
-ghost use Rattle.certificate_lines.specs.Entries.{areas, edge_in, modules_of};
-ghost use Rattle.certificate_lines.specs.ModuleParts.{BeginWithModule};
-ghost use Rattle.certificate_lines.specs.Modules.{AreModules};
+ghost use Rattle.certificate_lines.specs.Entries.{ModuleLines, areas};
+ghost use Rattle.certificate_lines.specs.Modules.{AreModules, IsWithinLineLimit};
 ghost use Rattle.certificate_lines.specs.Rules.{whole};
 ghost use Rattle.certificate_lines.specs.Settings.{setting_of};
-ghost use Rattle.certificate_lines.specs.declared.certificate_line.CertificateLine.{CertificateLine};
-ghost use Rattle.certificate.specs.HaloPlaces.{AreNeighbourEdgePlaces, AreReady, AddsEdgePlaces, AddsPlaceWhere, IsInnerCell, list_at_or_empty};
-ghost use Rattle.certificate.specs.SliceLines.{slice_lines};
+ghost use Rattle.certificate_lines.specs.StoredModules.{module_lines};
+ghost use Rattle.certificate_lines.specs.declared.stored_module.StoredModule.{StoredModule};
+ghost use Rattle.certificate.specs.HaloPlaces.{AddsEdgePlaces, AddsPlaceWhere, AreReady, HaveListsFrom, IsInnerCell, line_cell, list_at_or_empty};
 
-use crate::implied_halos::ModuleSlice;
 use crate::layout_tables::LayoutTables;
 use bbm_rule::{Cell, odd_partner};
-use certificate_lines::{CertificateLine, StoredLine};
+use certificate_lines::{StoredBorder, StoredModule, boxes_of};
 use module_box::{Box2, Owners, owner_table};
 use std::alloc::{AllocError, Global};
-use std::mem::replace;
+use std::mem::{replace, size_of};
 
-// The most lines, so that their places fit.
-const MAX_LINES: usize = 4294967295;
+/// The place of an edge line: the number of its module, and its place among the edge lines there.
+///
+/// It takes 4 bytes, since the lists of all modules may hold millions of them.
+#[derive(Clone, Copy)]
+pub(crate) struct EdgePlace {
+    pub(crate) number: u16,
+    pub(crate) line: u16,
+}
+
+const _: () = prove!(size_of::<EdgePlace>() == 4);
 
 #[tactic(auto, using(crate::proofs::HaloLists::list_left, crate::proofs::HaloLists::list_read, crate::proofs::HaloLists::list_written))]
-fn push_place(lists: &mut Vec<Vec<u32>>, number: usize, place: u32) -> Result<(), AllocError>
+fn push_place(
+    lists: &mut Vec<Vec<EdgePlace>>,
+    number: usize,
+    place: EdgePlace,
+) -> Result<(), AllocError>
     requires { number < length lists.old.items }
     ensures count { OnOk result (length lists.new.items ≡ length lists.old.items) }
     ensures place_pushed { OnOk result (list_at_or_empty (map (λ l. l.items) lists.new.items) number
@@ -41,7 +52,11 @@ fn push_place(lists: &mut Vec<Vec<u32>>, number: usize, place: u32) -> Result<()
 
 /// Takes the list of this number out, and leaves an empty one in its place.
 #[tactic(auto, using(crate::proofs::HaloLists::list_left, crate::proofs::HaloLists::list_written))]
-pub(crate) fn take_list(alloc: Global, lists: &mut Vec<Vec<u32>>, number: usize) -> Vec<u32>
+pub(crate) fn take_list(
+    alloc: Global,
+    lists: &mut Vec<Vec<EdgePlace>>,
+    number: usize,
+) -> Vec<EdgePlace>
     requires { number < length lists.old.items }
     ensures count { length lists.new.items ≡ length lists.old.items }
     ensures list_taken { list_at_or_empty (map (λ l. l.items) lists.old.items) number
@@ -69,10 +84,10 @@ fn holds_any(area: Box2, cells: &[Cell]) -> bool
 
 // Adds the place to the list of the box that has the cell, if the box has none of the other cells.
 fn push_place_for_owner(
-    lists: &mut Vec<Vec<u32>>,
+    lists: &mut Vec<Vec<EdgePlace>>,
     owners: &Owners,
     boxes: &[Box2],
-    place: u32,
+    place: EdgePlace,
     cell: Cell,
     others: &[Cell],
 ) -> Result<(), AllocError>
@@ -111,10 +126,10 @@ fn odd_block_others(cell: Cell) -> (Cell, Cell, Cell)
 
 // Adds the place to the list of each box that has the cell in its halo.
 fn push_place_for_halo_boxes(
-    lists: &mut Vec<Vec<u32>>,
+    lists: &mut Vec<Vec<EdgePlace>>,
     owners: &Owners,
     boxes: &[Box2],
-    place: u32,
+    place: EdgePlace,
     cell: Cell,
 ) -> Result<(), AllocError>
     requires table { AreReady boxes.now owners.now (map (λ l. l.items) lists.old.items) }
@@ -130,51 +145,58 @@ fn push_place_for_halo_boxes(
     Ok(())
 }
 
-// Adds the place of an edge line to the list of each box that has its cell in its halo.
-fn push_edge_place(
-    lists: &mut Vec<Vec<u32>>,
+// Adds the places of the edge lines of the module of this number.
+fn push_module_places(
+    lists: &mut Vec<Vec<EdgePlace>>,
     owners: &Owners,
     boxes: &[Box2],
-    place: u32,
-    line: &StoredLine,
+    number: u16,
+    edges: &[StoredBorder],
 ) -> Result<(), AllocError>
     requires table { AreReady boxes.now owners.now (map (λ l. l.items) lists.old.items) }
-    requires inner { All (λ e. IsInnerCell (rectangle owners.now) e.cell) (edge_in line.now) }
+    requires inner { All (λ e. IsInnerCell (rectangle owners.now) (line_cell e)) edges.now }
+    requires few { length edges.now ≤ 65536 }
     ensures count { OnOk result (length lists.new.items ≡ length lists.old.items) }
-    ensures edges { OnOk result ((es : List CertificateLine) → slice_get es place ≡ Some line.now →
-        AddsEdgePlaces es boxes.now (edge_in line.now) (map (λ l. l.items) lists.old.items)
+    ensures places { OnOk result ((ms : List StoredModule) (m : StoredModule) →
+        slice_get ms number ≡ Some m → m.edges.items ≡ edges.now →
+        AddsEdgePlaces ms boxes.now edges.now (map (λ l. l.items) lists.old.items)
         (map (λ l. l.items) lists.new.items)) }
 {
-    if let CertificateLine::Edge(border) = line.line() {
-        push_place_for_halo_boxes(lists, owners, boxes, place, border.cell)?;
-        return Ok(());
+    'lines: for (line, edge) in edges.iter().enumerate() {
+        let place = EdgePlace {
+            number,
+            line: line as u16,
+        };
+        push_place_for_halo_boxes(lists, owners, boxes, place, edge.cell())?;
     }
     Ok(())
 }
 
 // Adds the places of all edge lines.
 fn push_edge_places(
-    lists: &mut Vec<Vec<u32>>,
+    lists: &mut Vec<Vec<EdgePlace>>,
     owners: &Owners,
     boxes: &[Box2],
-    entries: &[StoredLine],
+    modules: &[StoredModule],
 ) -> Result<(), AllocError>
     requires table { AreReady boxes.now owners.now (map (λ l. l.items) lists.old.items) }
-    requires inner { All (λ e. IsInnerCell (rectangle owners.now) e.cell)
-        (flat_map edge_in entries.now) }
-    requires few { length entries.now ≤ 4294967295 }
-    ensures { OnOk result (AddsEdgePlaces entries.now boxes.now (flat_map edge_in entries.now)
-        (map (λ l. l.items) lists.old.items) (map (λ l. l.items) lists.new.items)) }
+    requires inner { All (λ m. All (λ e. IsInnerCell (rectangle owners.now) (line_cell e))
+        m.edges.items) modules.now }
+    requires few_modules { length modules.now ≤ 1024 }
+    requires few_lines { All (λ m. length m.edges.items ≤ 65536) modules.now }
+    ensures { OnOk result (AddsEdgePlaces modules.now boxes.now
+        (flat_map (λ m. m.edges.items) modules.now) (map (λ l. l.items) lists.old.items)
+        (map (λ l. l.items) lists.new.items)) }
 {
-    'lines: for (place, line) in entries.iter().enumerate() {
-        push_edge_place(lists, owners, boxes, place as u32, line)?;
+    'modules: for (number, module) in modules.iter().enumerate() {
+        push_module_places(lists, owners, boxes, number as u16, &module.edges)?;
     }
     Ok(())
 }
 
 // An empty list for each of `count` boxes.
 #[tactic(auto, using(crate::proofs::HaloLists::list_pushed))]
-fn empty_place_lists(alloc: Global, count: usize) -> Result<Vec<Vec<u32>>, AllocError>
+fn empty_place_lists(alloc: Global, count: usize) -> Result<Vec<Vec<EdgePlace>>, AllocError>
     ensures count { IfOk result (λ lists. length lists.items ≡ count) }
     ensures empty { IfOk result (λ lists. (i : ℕ) →
         list_at_or_empty (map (λ l. l.items) lists.items) i ≡ []) }
@@ -186,26 +208,11 @@ fn empty_place_lists(alloc: Global, count: usize) -> Result<Vec<Vec<u32>>, Alloc
     Ok(lists)
 }
 
-fn boxes_of(alloc: Global, parts: &[ModuleSlice]) -> Result<Vec<Box2>, AllocError>
-    ensures { IfOk result (λ boxes. boxes.items ≡ areas (map slice_lines parts.now)) }
-{
-    let mut boxes = Vec::with_capacity(alloc, parts.len())?;
-    'parts: for part in parts {
-        boxes.push(part.area)?;
-    }
-    Ok(boxes)
-}
-
 // Which box has each cell of the layout's rectangle.
-fn owners_of(
-    alloc: Global,
-    tables: &LayoutTables,
-    boxes: &[Box2],
-    entries: &[StoredLine],
-) -> Result<Owners, AllocError>
-    requires modules { AreModules (setting_of tables.now.circuit tables.now.layout)
-        (modules_of entries.now) }
-    requires boxes { boxes.now ≡ areas (modules_of entries.now) }
+fn owners_of(alloc: Global, tables: &LayoutTables, boxes: &[Box2]) -> Result<Owners, AllocError>
+    requires { (ms : List ModuleLines)
+        × AreModules (setting_of tables.now.circuit tables.now.layout) ms
+        × (boxes.now ≡ areas ms) }
     ensures rectangle { IfOk result (λ o. rectangle o ≡ whole tables.now.layout.size) }
     ensures small { IfOk result (λ o. (o.width ≤ 512) × (o.height ≤ 512)) }
     ensures owners { IfOk result (λ o. AreOwners o boxes.now) }
@@ -218,33 +225,28 @@ fn owners_of(
     }
 }
 
-/// Returns for each module the places of the edge lines beside it.
+/// Returns for each module the places of the edge lines beside it, in the order of the modules and their lines.
 ///
-/// They are places among the lines of the certificate, in the order of these lines. It looks at each edge line once.
+/// It looks at each edge line once.
 pub(crate) fn neighbour_edge_places(
     alloc: Global,
     tables: &LayoutTables,
-    entries: &[StoredLine],
-    parts: &[ModuleSlice],
-) -> Result<Vec<Vec<u32>>, AllocError>
+    modules: &[StoredModule],
+) -> Result<Vec<Vec<EdgePlace>>, AllocError>
     requires modules { AreModules (setting_of tables.now.circuit tables.now.layout)
-        (modules_of entries.now) }
-    requires parts { map slice_lines parts.now ≡ modules_of entries.now }
-    requires begun { BeginWithModule entries.now }
-    ensures { IfOk result (λ lists. AreNeighbourEdgePlaces
-        (setting_of tables.now.circuit tables.now.layout) entries.now
+        (map (module_lines (circuit_of tables.now.circuit)) modules.now) }
+    requires few_lines { All IsWithinLineLimit
+        (map (module_lines (circuit_of tables.now.circuit)) modules.now) }
+    ensures { IfOk result (λ lists. HaveListsFrom
+        (setting_of tables.now.circuit tables.now.layout) modules.now 0
         (map (λ l. l.items) lists.items)) }
 {
-    let boxes = boxes_of(alloc, parts)?;
-    let mut lists = empty_place_lists(alloc, boxes.len())?;
-    let size = tables.layout().size();
-    if size.steps <= 1 {
+    let boxes = boxes_of(alloc, modules)?;
+    let mut lists = empty_place_lists(alloc, modules.len())?;
+    if tables.layout().size().steps <= 1 {
         return Ok(lists);
     }
-    if entries.len() > MAX_LINES {
-        return Err(AllocError);
-    }
-    let owners = owners_of(alloc, tables, boxes.as_slice(), entries)?;
-    push_edge_places(&mut lists, &owners, boxes.as_slice(), entries)?;
+    let owners = owners_of(alloc, tables, &boxes)?;
+    push_edge_places(&mut lists, &owners, &boxes, modules)?;
     Ok(lists)
 }

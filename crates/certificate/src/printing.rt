@@ -1,19 +1,23 @@
 //! The text of a certificate.
-ghost use Rattle.std.specs.Prelude.{◌≡◌, ◌++◌, [], ◌∷◌, OnOk, IfOk, codes};
-ghost use Rattle.std.specs.List.{flat_map};
+ghost use Rattle.std.specs.Prelude.{◌≡◌, ◌++◌, [], ◌∷◌, ℕ, List, OnOk, IfOk, IfSome, codes, if◌then◌else◌};
+ghost use Rattle.std.specs.List.{All, flat_map};
+ghost use Rattle.std.specs.Option.{option_map};
 ghost use Rattle.std.specs.Fmt.{decimal};
 ghost use Rattle.section_text.specs.Spelling.{space_and_word, line_text};
 ghost use Rattle.pattern.specs.Text.{box_words};
+ghost use Rattle.circuit.specs.Bridge.{circuit_of};
 ghost use Rattle.certificate.specs.Grammars.{migrated, version_number};
 ghost use Rattle.certificate.specs.Text.{star_or_time_word, one_or_name_word, border_words, entry_text, stop_words, certificate_text};
-ghost use Rattle.certificate_lines.specs.Versions.{without_halos};
+ghost use Rattle.certificate_lines.specs.StoredModules.{HasOwnWire, HasOwnWires, IsOwnWire, body_lines_with, border_line, stop_line, wire_name};
+ghost use Rattle.certificate_lines.specs.declared.certificate_line.CertificateLine.TheVariants.{Module};
 
 use crate::cert::Cert;
 use crate::version::Version;
-use certificate_lines::{BorderLine, CertificateLine, OneOrName, StopLine, StoredLine};
+use certificate_lines::{StoredBorder, StoredModule, StoredStop};
+use circuit::{Circuit, GateNo, WireNo};
 use module_box::Box2;
 use pattern::{print_box, print_cell};
-use section_text::{Name, print_number, print_word};
+use section_text::{print_number, print_word};
 use std::alloc::{AllocError, Global};
 
 /// Prints the header line.
@@ -38,32 +42,41 @@ fn print_module(out: &mut Vec<u8>, area: Box2) -> Result<(), AllocError>
     Ok(())
 }
 
-fn print_cut(out: &mut Vec<u8>, name: Name) -> Result<(), AllocError>
-    ensures { OnOk result (out.new.items ≡ out.old.items ++ line_text (codes "cut") (name ∷ [])) }
+// The name of a wire.
+fn print_wire(out: &mut Vec<u8>, circuit: &Circuit, wire: WireNo) -> Result<(), AllocError>
+    requires { IsOwnWire (circuit_of circuit.now) wire }
+    ensures { OnOk result (out.new.items
+        ≡ out.old.items ++ space_and_word (wire_name (circuit_of circuit.now) wire)) }
 {
-    out.extend_from_slice(b"cut")?;
-    print_word(out, name.bytes())?;
-    out.push(b'\n')?;
+    print_word(out, circuit.name(wire).bytes())?;
     Ok(())
 }
 
-fn print_use(out: &mut Vec<u8>, number: u32) -> Result<(), AllocError>
-    ensures { OnOk result (out.new.items
-        ≡ out.old.items ++ line_text (codes "use") (decimal number ∷ [])) }
+// The lines that cut wires.
+fn print_cuts(out: &mut Vec<u8>, circuit: &Circuit, cuts: &[WireNo]) -> Result<(), AllocError>
+    requires { All (IsOwnWire (circuit_of circuit.now)) cuts.now }
+    ensures { OnOk result (out.new.items ≡ out.old.items
+        ++ flat_map (λ w. line_text (codes "cut") (wire_name (circuit_of circuit.now) w ∷ []))
+        cuts.now) }
 {
-    out.extend_from_slice(b"use")?;
-    print_number(out, number)?;
-    out.push(b'\n')?;
+    'cuts: for wire in cuts {
+        out.extend_from_slice(b"cut")?;
+        print_wire(out, circuit, *wire)?;
+        out.push(b'\n')?;
+    }
     Ok(())
 }
 
-fn print_keep(out: &mut Vec<u8>, number: u32) -> Result<(), AllocError>
-    ensures { OnOk result (out.new.items
-        ≡ out.old.items ++ line_text (codes "keep") (decimal number ∷ [])) }
+// The lines that use or keep gates.
+fn print_gates(out: &mut Vec<u8>, word: &[u8], gates: &[GateNo]) -> Result<(), AllocError>
+    ensures { OnOk result (out.new.items ≡ out.old.items
+        ++ flat_map (λ k. line_text word.now (decimal k ∷ [])) gates.now) }
 {
-    out.extend_from_slice(b"keep")?;
-    print_number(out, number)?;
-    out.push(b'\n')?;
+    'gates: for gate in gates {
+        out.extend_from_slice(word)?;
+        print_number(out, u32::from(gate.number()))?;
+        out.push(b'\n')?;
+    }
     Ok(())
 }
 
@@ -79,84 +92,105 @@ fn print_star_or_time(out: &mut Vec<u8>, time: Option<u32>) -> Result<(), AllocE
 }
 
 // The name of a wire, or the constant `1`.
-fn print_one_or_name(out: &mut Vec<u8>, signal: OneOrName) -> Result<(), AllocError>
-    ensures { OnOk result (out.new.items
-        ≡ out.old.items ++ space_and_word (one_or_name_word signal)) }
+fn print_one_or_wire(
+    out: &mut Vec<u8>,
+    circuit: &Circuit,
+    wire: Option<u16>,
+) -> Result<(), AllocError>
+    requires { IfSome wire (IsOwnWire (circuit_of circuit.now)) }
+    ensures { OnOk result (out.new.items ≡ out.old.items
+        ++ space_and_word (one_or_name_word
+        (option_map (wire_name (circuit_of circuit.now)) wire))) }
 {
-    match signal {
+    match wire {
         None => print_word(out, b"1"),
-        Some(name) => print_word(out, name.bytes()),
+        Some(number) => print_wire(out, circuit, WireNo::of(number)),
     }
 }
 
-fn print_border(out: &mut Vec<u8>, word: &[u8], border: &BorderLine) -> Result<(), AllocError>
-    ensures { OnOk result (out.new.items
-        ≡ out.old.items ++ line_text word.now (border_words border.now)) }
+// Edge or halo lines.
+fn print_borders(
+    out: &mut Vec<u8>,
+    word: &[u8],
+    circuit: &Circuit,
+    borders: &[StoredBorder],
+) -> Result<(), AllocError>
+    requires { All (HasOwnWire (circuit_of circuit.now)) borders.now }
+    ensures { OnOk result (out.new.items ≡ out.old.items
+        ++ flat_map (λ b. line_text word.now
+        (border_words (border_line (circuit_of circuit.now) b))) borders.now) }
 {
-    out.extend_from_slice(word)?;
-    print_star_or_time(out, border.time)?;
-    print_cell(out, border.cell)?;
-    print_one_or_name(out, border.signal)?;
-    out.push(b'\n')?;
-    Ok(())
-}
-
-fn print_stop(out: &mut Vec<u8>, stop: &StopLine) -> Result<(), AllocError>
-    ensures { OnOk result (out.new.items
-        ≡ out.old.items ++ line_text (codes "stop") (stop_words stop.now)) }
-{
-    out.extend_from_slice(b"stop")?;
-    print_number(out, stop.time)?;
-    print_word(out, stop.wire.bytes())?;
-    print_cell(out, stop.cell)?;
-    out.push(b'\n')?;
-    Ok(())
-}
-
-/// Prints a line between the header and the end.
-pub(crate) fn print_entry(out: &mut Vec<u8>, entry: &StoredLine) -> Result<(), AllocError>
-    ensures { OnOk result (out.new.items ≡ out.old.items ++ entry_text entry.now) }
-{
-    match entry.line() {
-        CertificateLine::Module(area) => print_module(out, area),
-        CertificateLine::Cut(name) => print_cut(out, name),
-        CertificateLine::Use(number) => print_use(out, number),
-        CertificateLine::Keep(number) => print_keep(out, number),
-        CertificateLine::Edge(border) => print_border(out, b"edge", &border),
-        CertificateLine::Halo(border) => print_border(out, b"halo", &border),
-        CertificateLine::Stop(stop) => print_stop(out, &stop),
-    }
-}
-
-fn print_entries(out: &mut Vec<u8>, entries: &[StoredLine]) -> Result<(), AllocError>
-    ensures { OnOk result (out.new.items ≡ out.old.items ++ flat_map entry_text entries.now) }
-{
-    for entry in entries {
-        print_entry(out, entry)?;
+    'borders: for border in borders {
+        out.extend_from_slice(word)?;
+        print_star_or_time(out, border.time)?;
+        print_cell(out, border.cell())?;
+        print_one_or_wire(out, circuit, border.wire)?;
+        out.push(b'\n')?;
     }
     Ok(())
 }
 
-// A line, unless it is a halo line.
-#[tactic(auto, unfolding(certificate_lines::specs::Versions::without_halos))]
-fn print_unless_halo(out: &mut Vec<u8>, entry: &StoredLine) -> Result<(), AllocError>
-    ensures { OnOk result (out.new.items
-        ≡ out.old.items ++ flat_map entry_text (without_halos (entry.now ∷ []))) }
+fn print_stops(out: &mut Vec<u8>, circuit: &Circuit, stops: &[StoredStop]) -> Result<(), AllocError>
+    requires { All (λ s. IsOwnWire (circuit_of circuit.now) s.wire) stops.now }
+    ensures { OnOk result (out.new.items ≡ out.old.items
+        ++ flat_map (λ s. line_text (codes "stop")
+        (stop_words (stop_line (circuit_of circuit.now) s))) stops.now) }
 {
-    if entry.is_halo() {
-        return Ok(());
+    'stops: for stop in stops {
+        out.extend_from_slice(b"stop")?;
+        print_number(out, stop.time)?;
+        print_wire(out, circuit, WireNo::of(stop.wire))?;
+        print_cell(out, stop.cell())?;
+        out.push(b'\n')?;
     }
-    print_entry(out, entry)
+    Ok(())
 }
 
-// The lines other than halo lines.
-#[tactic(auto, using(crate::proofs::PrintedLines::none_printed, crate::proofs::PrintedLines::one_more_printed))]
-fn print_without_halos(out: &mut Vec<u8>, entries: &[StoredLine]) -> Result<(), AllocError>
-    ensures { OnOk result (out.new.items
-        ≡ out.old.items ++ flat_map entry_text (without_halos entries.now)) }
+/// Prints the lines of a module, with these halo lines in place of its own.
+pub(crate) fn print_module_lines(
+    out: &mut Vec<u8>,
+    circuit: &Circuit,
+    stored: &StoredModule,
+    halos: &[StoredBorder],
+) -> Result<(), AllocError>
+    requires wires { HasOwnWires (circuit_of circuit.now) stored.now }
+    requires halo_wires { All (HasOwnWire (circuit_of circuit.now)) halos.now }
+    ensures { OnOk result (out.new.items ≡ out.old.items
+        ++ flat_map entry_text (Module stored.now.area
+        ∷ body_lines_with (circuit_of circuit.now) stored.now halos.now)) }
 {
-    for entry in entries {
-        print_unless_halo(out, entry)?;
+    print_module(out, stored.area)?;
+    print_cuts(out, circuit, &stored.cuts)?;
+    print_gates(out, b"use", &stored.gates)?;
+    print_gates(out, b"keep", &stored.keeps)?;
+    print_borders(out, b"edge", circuit, &stored.edges)?;
+    print_borders(out, b"halo", circuit, halos)?;
+    print_stops(out, circuit, &stored.stops)?;
+    Ok(())
+}
+
+// The halo lines of a module that are printed, all or none.
+fn printed_halos(stored: &StoredModule, with_halos: bool) -> &[StoredBorder]
+    ensures { result.now ≡ (if with_halos then stored.now.halos.items else []) }
+{
+    if with_halos { &stored.halos } else { &[] }
+}
+
+// The lines of modules, with their halo lines or without them.
+fn print_modules(
+    out: &mut Vec<u8>,
+    circuit: &Circuit,
+    modules: &[StoredModule],
+    with_halos: bool,
+) -> Result<(), AllocError>
+    requires { All (HasOwnWires (circuit_of circuit.now)) modules.now }
+    ensures { OnOk result (out.new.items ≡ out.old.items
+        ++ flat_map entry_text (flat_map (λ m. Module m.area
+        ∷ body_lines_with (circuit_of circuit.now) m (if with_halos then m.halos.items else []))
+        modules.now)) }
+{
+    'modules: for module in modules {
+        print_module_lines(out, circuit, module, printed_halos(module, with_halos))?;
     }
     Ok(())
 }
@@ -171,7 +205,7 @@ pub fn print_certificate(alloc: Global, cert: &Cert) -> Result<Vec<u8>, AllocErr
 {
     let mut out = Vec::new(alloc);
     print_header(&mut out, cert.version)?;
-    print_entries(&mut out, cert.entries())?;
+    print_modules(&mut out, cert.circuit, &cert.modules, true)?;
     out.extend_from_slice(b"end\n")?;
     Ok(out)
 }
@@ -185,7 +219,7 @@ pub fn print_migrated(out: &mut Vec<u8>, cert: &Cert) -> Result<(), AllocError>
     ensures { OnOk result (out.new.items ≡ out.old.items ++ certificate_text (migrated cert.now)) }
 {
     print_header(out, Version::WithoutHalos)?;
-    print_without_halos(out, cert.entries())?;
+    print_modules(out, cert.circuit, &cert.modules, false)?;
     out.extend_from_slice(b"end\n")?;
     Ok(())
 }

@@ -1,27 +1,56 @@
 //! The reader of the certificate section.
 ghost use Rattle.std.specs.Prelude.{◌≡◌, ◌≤◌, [], true, drop, length, IfOk};
+ghost use Rattle.circuit.specs.Entries.{defined};
 ghost use Rattle.section_text.specs.Section.{Reads};
 ghost use Rattle.certificate.specs.Grammars.{certificate_grammar, certificate_section, version_number};
 ghost use Rattle.certificate_lines.specs.Settings.{setting_of};
+ghost use Rattle.certificate_lines.specs.Versions.{is_halo};
 
 use crate::cert::Cert;
-use crate::implied_halos::is_halo;
 use crate::version::Version;
 use certificate_lines::{Builder, CertificateLine, LineTables, line_form};
-use circuit::Circuit;
+use circuit::{Circuit, WireNo};
 use pattern::Layout;
 use section_text::{Feed, Form, Line, LineFault, ReadFault, RefusalCode, Section, read_section};
 use std::alloc::{AllocError, Global};
+use std::marker::{Brand, PhantomData};
+
+// The circuit and the layout that a section is read for. No line changes them.
+trait ReadFor {
+    ghost use Rattle.certificate_lines.specs.Entries.{Setting};
+
+    ghost setting: { Setting };
+}
+
+impl ReadFor for Brand {
+    ghost use Rattle.std.specs.Prelude.{[]};
+
+    ghost setting = { record {
+      circuit = record { netlist = record { given = 0; gates = [] }; names = [] };
+      size = record { w = 0; h = 0; steps = 0 };
+      ports = [];
+    } };
+}
 
 // A certificate that is read: its version, and its lines so far.
 #[derive(Drop)]
-struct Reading<'a> {
+struct Reading<'a, S: ReadFor> {
     alloc: Global,
     version: Version,
     builder: Builder<'a>,
+    read_for: PhantomData<S>,
+    ghost same_setting: { builder.setting ≡ S.setting },
 }
 
-impl<'a> Section for Reading<'a> {
+// Whether a line is a halo line.
+#[tactic(auto, unfolding(certificate_lines::specs::Versions::is_halo))]
+fn is_halo(line: &CertificateLine) -> bool
+    ensures { result ≡ is_halo line.now }
+{
+    matches!(line, CertificateLine::Halo(_))
+}
+
+impl<'a, S: ReadFor> Section for Reading<'a, S> {
     type Header = u32;
 
     type Item = CertificateLine;
@@ -63,21 +92,44 @@ impl<'a> Section for Reading<'a> {
     }
 }
 
-fn begin_reading<'a>(
+fn new_builder<'a>(
     alloc: Global,
     circuit: &'a Circuit,
     layout: &'a Layout,
-) -> Result<Reading<'a>, AllocError>
-    ensures setting { IfOk result (λ r. r.builder.setting ≡ setting_of circuit.now layout.now) }
-    ensures entries { IfOk result (λ r. r.builder.entries ≡ []) }
+) -> Result<Builder<'a>, AllocError>
+    ensures { IfOk result (λ b. b
+        ≡ record { setting = setting_of circuit.now layout.now; entries = [] }) }
 {
     let tables = LineTables::new(alloc, circuit, layout)?;
-    let builder = Builder::new(alloc, tables)?;
-    Ok(Reading {
+    Builder::new(alloc, tables)
+}
+
+// Reads the lines of a section into a builder without lines.
+fn read_lines<'a, S: ReadFor>(
+    alloc: Global,
+    feed: &mut Feed,
+    builder: Builder<'a>,
+) -> (Result<(), ReadFault>, Version, Builder<'a>)
+    requires text_closed { feed.old.closed ≡ true }
+    requires right_setting { builder.setting ≡ S.setting }
+    requires builder_empty { builder.entries ≡ [] }
+    ensures reads { Reads (certificate_grammar S.setting)
+        (λ _. (version_number result.1, result.2.entries)) feed.old feed.new result.0 }
+    ensures same_setting { result.2.setting ≡ S.setting }
+{
+    let mut reading: Reading<'a, S> = Reading {
         alloc,
         version: Version::WithHalos,
         builder,
-    })
+        read_for: PhantomData,
+    };
+    let read = read_section(feed, &mut reading);
+    let Reading {
+        version,
+        builder,
+        ..
+    } = reading;
+    (read, version, builder)
 }
 
 /// Reads a certificate section for a circuit and a layout.
@@ -113,22 +165,16 @@ pub fn read_certificate<'a>(
     ensures circuit { IfOk result (λ cert. cert.circuit ≡ circuit.now) }
     ensures layout { IfOk result (λ cert. cert.layout ≡ layout.now) }
 {
-    let Ok(mut reading) = begin_reading(alloc, circuit, layout) else {
+    let Ok(builder) = new_builder(alloc, circuit, layout) else {
         return Err(feed.starve());
     };
-    let read = read_section(feed, &mut reading);
-    let Reading {
-        version,
-        builder,
-        ..
-    } = reading;
-    let (entries, modules) = builder.into_parts();
+    let (read, version, builder) = read_lines::<Brand>(alloc, feed, builder);
+    let modules = builder.into_modules();
     match read {
         Ok(()) => Ok(Cert {
             circuit,
             layout,
             version,
-            entries,
             modules,
         }),
         Err(fault) => Err(fault),

@@ -1,21 +1,17 @@
 //! When wires are seen by stops, and what that says of delays and of gates whose inputs are to meet.
-ghost use Rattle.std.specs.Prelude.{◌≡◌, ◌==◌, ◌++◌, ◌∷◌, [], List, None, IfOk, OnOk, length, map};
-ghost use Rattle.std.specs.List.{All, flat_map, list_all};
+ghost use Rattle.std.specs.Prelude.{◌≡◌, ◌<◌, ◌==◌, ◌++◌, ◌∷◌, [], List, None, IfOk, OnOk, length, map};
+ghost use Rattle.std.specs.List.{All, list_all};
 ghost use Rattle.circuit.specs.Bridge.{circuit_of, netlist_of};
-ghost use Rattle.circuit.specs.Meaning.{wires};
+ghost use Rattle.circuit.specs.Meaning.{Circuit as Meant, wires};
 ghost use Rattle.circuit.specs.Wiring.{gate_of};
-ghost use Rattle.certificate_lines.specs.Entries.{stop_in};
-ghost use Rattle.certificate_lines.specs.Orders.{AreInOrder};
-ghost use Rattle.certificate.specs.SliceLines.{slice_lines};
+ghost use Rattle.certificate_lines.specs.StoredModules.{HasOwnWires, IsOwnWire, module_lines, stop_line};
 ghost use Rattle.certificate.specs.Grammars.{modules_in};
 ghost use Rattle.certificate.specs.Times.{common_time, all_stops, delay_line, gap_between, is_obeyed, last_times, time_lines_of_gates, meet_line, first_wire_time, delay_and_meet_lines};
 ghost use Rattle.certificate.specs.SeenTimes.{IsStopTimeTable, chosen_time, time_in_table};
 ghost use Rattle.certificate_lines.specs.declared.certificate_line.StopLine.{StopLine as Line};
 
 use crate::cert::Cert;
-use crate::implied_halos::ModuleSlice;
-use crate::line_kinds::stop_lines;
-use certificate_lines::{StoredLine, StoredStop};
+use certificate_lines::{StoredModule, StoredStop};
 use circuit::{Circuit, GateKind, GateNo, GateWires, WireNo};
 use std::alloc::{AllocError, Global};
 
@@ -82,71 +78,44 @@ fn chosen_time(choice: FirstOrLast, before: Option<u32>, time: u32) -> Option<u3
 }
 
 // Notes the time of a stop in a table of the wires.
-fn note_stop(table: &mut [Option<u32>], circuit: &Circuit, choice: FirstOrLast, stop: &StoredStop)
-    requires { length table.old ≡ wires (netlist_of circuit.now) }
-    ensures table { (ss : List Line) →
-        IsStopTimeTable choice (circuit_of circuit.now) ss table.old →
-        IsStopTimeTable choice (circuit_of circuit.now) (ss ++ stop.now ∷ []) table.new }
+fn note_stop(table: &mut [Option<u32>], choice: FirstOrLast, stop: &StoredStop)
+    requires { stop.now.wire < length table.old }
+    ensures table { (c : Meant) (ss : List Line) → IsOwnWire c stop.now.wire →
+        IsStopTimeTable choice c ss table.old →
+        IsStopTimeTable choice c (ss ++ stop_line c stop.now ∷ []) table.new }
     ensures long { length table.new ≡ length table.old }
 {
-    if let Some(wire) = stop.wire_in(circuit) {
-        let at = wire.number() as usize;
-        table[at] = chosen_time(choice, table[at], stop.time());
-    }
+    let at = stop.wire as usize;
+    table[at] = chosen_time(choice, table[at], stop.time);
 }
 
-// Notes the time of a line in a table of the wires, if the line is a stop.
-fn note_time_if_stop(
-    table: &mut [Option<u32>],
-    circuit: &Circuit,
-    choice: FirstOrLast,
-    line: &StoredLine,
-)
-    requires { length table.old ≡ wires (netlist_of circuit.now) }
-    ensures table { (ss : List Line) →
-        IsStopTimeTable choice (circuit_of circuit.now) ss table.old →
-        IsStopTimeTable choice (circuit_of circuit.now) (ss ++ stop_in line.now) table.new }
+// Notes the times of stops in a table of the wires.
+fn note_times_of_stops(table: &mut [Option<u32>], choice: FirstOrLast, stops: &[StoredStop])
+    requires { All (λ s. s.wire < length table.old) stops.now }
+    ensures table { (c : Meant) (ss : List Line) → All (λ s. IsOwnWire c s.wire) stops.now →
+        IsStopTimeTable choice c ss table.old →
+        IsStopTimeTable choice c (ss ++ map (stop_line c) stops.now) table.new }
     ensures long { length table.new ≡ length table.old }
 {
-    if let Some(stop) = line.stop() {
-        note_stop(table, circuit, choice, &stop);
-    }
-}
-
-// Notes the times of the stops among lines in a table of the wires.
-fn note_times_of_stops(
-    table: &mut [Option<u32>],
-    circuit: &Circuit,
-    choice: FirstOrLast,
-    lines: &[StoredLine],
-)
-    requires { length table.old ≡ wires (netlist_of circuit.now) }
-    ensures table { (ss : List Line) →
-        IsStopTimeTable choice (circuit_of circuit.now) ss table.old →
-        IsStopTimeTable choice (circuit_of circuit.now) (ss ++ flat_map stop_in lines.now)
-        table.new }
-    ensures long { length table.new ≡ length table.old }
-{
-    'lines: for line in lines {
-        note_time_if_stop(table, circuit, choice, line);
+    'stops: for stop in stops {
+        note_stop(table, choice, stop);
     }
 }
 
 // The first or the last time of each wire, by the stops of the modules.
-#[tactic(auto, using(crate::proofs::Imports::take_all, crate::proofs::SliceLemmas::flat_mapped))]
 fn stop_time_table(
     alloc: Global,
     circuit: &Circuit,
     choice: FirstOrLast,
-    parts: &[ModuleSlice],
+    modules: &[StoredModule],
 ) -> Result<Vec<Option<u32>>, AllocError>
-    requires { All (λ p. AreInOrder p.lines.now) parts.now }
+    requires { All (HasOwnWires (circuit_of circuit.now)) modules.now }
     ensures { IfOk result (λ table. IsStopTimeTable choice (circuit_of circuit.now)
-        (all_stops (map slice_lines parts.now)) table.items) }
+        (all_stops (map (module_lines (circuit_of circuit.now)) modules.now)) table.items) }
 {
     let mut table = vec![in alloc; None; circuit.wires()]?;
-    'parts: for part in parts {
-        note_times_of_stops(&mut table, circuit, choice, stop_lines(part.lines));
+    'modules: for module in modules {
+        note_times_of_stops(&mut table, choice, &module.stops);
     }
     Ok(table)
 }
@@ -284,14 +253,14 @@ fn time_lines_of_gates(
 fn timing_lines_of(
     alloc: Global,
     circuit: &Circuit,
-    parts: &[ModuleSlice],
+    modules: &[StoredModule],
 ) -> Result<Vec<TimeLine>, AllocError>
-    requires { All (λ p. AreInOrder p.lines.now) parts.now }
-    ensures { IfOk result (λ lines. lines.items
-        ≡ delay_and_meet_lines (circuit_of circuit.now) (map slice_lines parts.now)) }
+    requires { All (HasOwnWires (circuit_of circuit.now)) modules.now }
+    ensures { IfOk result (λ lines. lines.items ≡ delay_and_meet_lines (circuit_of circuit.now)
+        (map (module_lines (circuit_of circuit.now)) modules.now)) }
 {
-    let firsts = stop_time_table(alloc, circuit, FirstOrLast::First, parts)?;
-    let lasts = stop_time_table(alloc, circuit, FirstOrLast::Last, parts)?;
+    let firsts = stop_time_table(alloc, circuit, FirstOrLast::First, modules)?;
+    let lasts = stop_time_table(alloc, circuit, FirstOrLast::Last, modules)?;
     time_lines_of_gates(alloc, circuit, &firsts, &lasts)
 }
 
@@ -304,7 +273,6 @@ impl<'a> Cert<'a> {
         ensures { IfOk result (λ lines. lines.items
             ≡ delay_and_meet_lines (circuit_of self.now.circuit) (modules_in self.now)) }
     {
-        let parts = self.slices(alloc)?;
-        timing_lines_of(alloc, self.circuit, &parts)
+        timing_lines_of(alloc, self.circuit, &self.modules)
     }
 }

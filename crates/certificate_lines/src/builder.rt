@@ -1,5 +1,5 @@
 //! A certificate that is read, line by line.
-ghost use Rattle.std.specs.Prelude.{◌≡◌, ◌+◌, ◌≤◌, ◌<◌, ◌++◌, ◌∷◌, [], None, Option, Some, List, ℕ, length, OnOk, IfOk, IfErr, IfSome};
+ghost use Rattle.std.specs.Prelude.{◌≡◌, ◌+◌, ◌≤◌, ◌<◌, ◌++◌, ◌∷◌, [], None, Option, Some, List, ℕ, length, OnErr, OnOk, IfOk, IfErr, IfSome};
 ghost use Rattle.section_text.specs.Adding.{HasRefusalCode};
 ghost use Rattle.std.specs.List.{All};
 ghost use Rattle.std.specs.Option.{is_some, option_and_then, option_map};
@@ -210,6 +210,7 @@ impl<'a> Builder<'a> {
             ≡ record self.old { entries = self.old.entries ++ entry ∷ [] })) }
         ensures fault { IfErr result (λ e. HasRefusalCode e
             (body_line_code self.old.setting (last_module self.old.entries) entry)) }
+        ensures unchanged_on_error { OnErr result (self.new ≡ self.old) }
     {
         let wire = self.tables.wire_in(&entry);
         if let Some(code) = self.body_line_code(&entry, wire) {
@@ -234,6 +235,7 @@ impl<'a> Builder<'a> {
             ≡ record self.old { entries = self.old.entries ++ entry ∷ [] })) }
         ensures fault { IfErr result (λ e. HasRefusalCode e
             (body_line_code self.old.setting (last_module self.old.entries) entry)) }
+        ensures unchanged_on_error { OnErr result (self.new ≡ self.old) }
     {
         let wire = self.tables.wire_in(&entry);
         if let Some(code) = self.body_line_code(&entry, wire) {
@@ -313,6 +315,7 @@ impl<'a> Builder<'a> {
         ensures fault { IfErr result (λ e. HasRefusalCode e
             (module_line_code self.old.setting (modules_of self.old.entries)
             (last_module self.old.entries) area)) }
+        ensures unchanged_on_error { OnErr result (self.new ≡ self.old) }
     {
         if let Some(code) = self.module_code(area) {
             return Err(LineFault::Code(code));
@@ -346,6 +349,7 @@ impl<'a> Builder<'a> {
             × (self.new ≡ record self.old { entries = self.old.entries ++ entry ∷ [] })) }
         ensures fault { IfErr result (λ e. HasRefusalCode e
             (entry_fault self.old.setting self.old.entries entry)) }
+        ensures unchanged_on_error { OnErr result (self.new ≡ self.old) }
     {
         match entry {
             CertificateLine::Module(area) => self.add_module(alloc, area),

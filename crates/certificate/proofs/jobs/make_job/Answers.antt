@@ -1,111 +1,179 @@
-use Rattle.certificate.proofs.Imports.{All, Box2, Demand, HasLocalWire, IsInShiftRange, IsJobOf, List, ModuleLines}
-use Rattle.certificate.proofs.Imports.{Netlist, Signal, Signals, ap, arc_value, arith, circuit_of, common_steps, edges}
-use Rattle.certificate.proofs.Imports.{get_or, halos, in_box, is_local, keeps, line_signals, map, netlist_of, refl}
-use Rattle.certificate.proofs.Imports.{setting_of, stops, stops_in_plane, stops_of_lines, subst, sym, true, ℕ, ◌<◌, ◌∙◌}
-use Rattle.certificate.proofs.Imports.{◌≡◌, ◌≤◌}
+use Rattle.certificate.proofs.Imports.{All, AreStops, Box2, Demand, IsInShiftRange, IsJobOf, List, ModuleLines, Netlist}
+use Rattle.certificate.proofs.Imports.{Signal, Signals, StoredBorder, StoredStop, ap, arc_value, arith, cell_at}
+use Rattle.certificate.proofs.Imports.{circuit_of, common_steps, edges, get_or, halos, in_box, is_among, keeps, length}
+use Rattle.certificate.proofs.Imports.{map, module_lines_with, netlist_of, refl, setting_of, stops, stops_in_plane}
+use Rattle.certificate.proofs.Imports.{subst, sym, true, AreLocalLines, IsTrue, HasLocalWire, AreRising, gates}
+use Rattle.certificate.proofs.Imports.{stored_signals, stored_stop, IsWithinMaxSize, ℕ, ◌<◌, ◌∙◌, ◌≡◌, ◌≤◌}
 use Rattle.lemmas.proofs.Common.{slice_index}
 use Rattle.module_box.specs.Locals.{AreLocalsOf}
 use Rattle.module_job.specs.Jobs.{IsJob}
 use Rattle.module_job.specs.Shapes.{ShapeView, job_of_shape}
 use Rattle.module_job.specs.declared.job.Stop.{Stop}
-use Rattle.certificate.proofs.JobLemmas.{within_512, within_layout, edges_named, halos_named, lists_local}
-use Rattle.certificate.proofs.JobLemmas.{wires_known, cut_count}
+use Rattle.certificate_lines.proofs.StoredLemmas.{gates_with, keeps_with}
+use Rattle.certificate.proofs.JobLemmas.{within_512, within_corner, within_layout}
 use Rattle.certificate.proofs.JobPlaces.{start_found, demand_found}
 use Rattle.certificate.proofs.NearLines.{low_edges, low_halos, low_stops}
 use Rattle.certificate.proofs.LayoutTableLemmas.{locals_have_ports}
-use Rattle.certificate.proofs.StopLemmas.{stops_named, stops_rise, stops_stand}
+use Rattle.certificate.proofs.StopLemmas.{stops_rise, stops_stand}
+use Rattle.certificate.proofs.StoredSignals.{cut_count, edges_local, edges_rising, edges_say, halos_local, halos_rising}
+use Rattle.certificate.proofs.StoredSignals.{halos_say, keeps_used, known_wires, local_lines, of_edges, of_halos}
+use Rattle.certificate.proofs.StoredSignals.{of_stops, stops_local, stops_say}
 use Rattle.certificate.proofs.jobs.make_job.Goals as goal
 
-pub locals_and_kept_places-requires-clause-lines : goal.locals_and_kept_places-requires-clause-lines
-locals_and_kept_places-requires-clause-lines c =
-    let m : ModuleLines = record { area = c.args.area; lines = c.args.lines.now } in
-    lists_local _ c.args.tables.now.circuit c.args.tables.now.layout m _ _ c.circuit-circuit.ensures refl refl
-    c.requires.module
+pub kept_places-requires-clause-at_most_64 : goal.kept_places-requires-clause-at_most_64
+kept_places-requires-clause-at_most_64 c =
+    let p = c.args.tables.now in
+    subst (λ (us : List ℕ). length us ≤ 64) (sym c.deref.ensures.value)
+    (local_lines p.circuit p.layout c.args.stored.now c.args.halos.now c.requires.wires c.requires.halo_wires
+    c.requires.module).few_gates
+
+pub kept_places-requires-clause-used : goal.kept_places-requires-clause-used
+kept_places-requires-clause-used c =
+    let p = c.args.tables.now in
+    subst (λ (us : List ℕ). All (λ k. IsTrue (is_among us k)) c.deref-2.result.now) (sym c.deref.ensures.value)
+    (subst (All (λ k. IsTrue (is_among c.args.stored.now.gates.items k))) (sym c.deref-2.ensures.value)
+    (keeps_used p.circuit p.layout c.args.stored.now c.args.halos.now c.requires.wires c.requires.halo_wires
+    c.requires.module))
+
+pub new-requires : goal.new-requires
+new-requires c =
+    let p = c.args.tables.now in
+    subst (λ ls. AreLocalLines (netlist_of ls) c.deref-3.result.now c.deref-4.result.now) (sym c.circuit.ensures)
+    (subst (λ (ws : List ℕ). AreLocalLines (netlist_of p.circuit) ws c.deref-4.result.now) (sym c.deref-3.ensures.value)
+    (subst (AreLocalLines (netlist_of p.circuit) c.args.stored.now.cuts.items) (sym c.deref-4.ensures.value)
+    (local_lines p.circuit p.layout c.args.stored.now c.args.halos.now c.requires.wires c.requires.halo_wires
+    c.requires.module)))
 
 pub cell_lists-requires-clause-columns : goal.cell_lists-requires-clause-columns
 cell_lists-requires-clause-columns c =
-    (within_layout (setting_of c.args.tables.now.circuit c.args.tables.now.layout)
-    (record { area = c.args.area; lines = c.args.lines.now }) c.size-size.result
+    let p = c.args.tables.now in
+    (within_layout (setting_of p.circuit p.layout)
+    (module_lines_with (circuit_of p.circuit) c.args.stored.now c.args.halos.now) c.size-size.result
     (c.size-size.ensures.size ∙ ap (λ p. p.size) c.layout.ensures) c.size-size.ensures.limits c.requires.module).0
 
 pub cell_lists-requires-clause-rows : goal.cell_lists-requires-clause-rows
 cell_lists-requires-clause-rows c =
-    (within_layout (setting_of c.args.tables.now.circuit c.args.tables.now.layout)
-    (record { area = c.args.area; lines = c.args.lines.now }) c.size-size.result
+    let p = c.args.tables.now in
+    (within_layout (setting_of p.circuit p.layout)
+    (module_lines_with (circuit_of p.circuit) c.args.stored.now c.args.halos.now) c.size-size.result
     (c.size-size.ensures.size ∙ ap (λ p. p.size) c.layout.ensures) c.size-size.ensures.limits c.requires.module).1
 
 pub cell_lists-requires-clause-ins : goal.cell_lists-requires-clause-ins
 cell_lists-requires-clause-ins c =
-    let m : ModuleLines = record { area = c.args.area; lines = c.args.lines.now } in
-    (locals_have_ports c.args.tables.now.circuit c.args.tables.now.layout m c.requires.ports _
-    (grind (arith, common_steps, wires_known))).0
+    let p = c.args.tables.now in
+    (locals_have_ports p.circuit p.layout
+    (module_lines_with (circuit_of p.circuit) c.args.stored.now c.args.halos.now) c.requires.ports _
+    (known_wires p.circuit p.layout c.args.stored.now c.args.halos.now c.requires.wires c.requires.halo_wires
+    c.requires.module c.circuit.result.now c.in_ok-locals.locals.circuit_wires _ _ c.circuit.ensures
+    c.deref-3.ensures.value c.deref-4.ensures.value c.in_ok-locals.ensures.wires)).0
 
 pub cell_lists-requires-clause-outs : goal.cell_lists-requires-clause-outs
 cell_lists-requires-clause-outs c =
-    let m : ModuleLines = record { area = c.args.area; lines = c.args.lines.now } in
-    (locals_have_ports c.args.tables.now.circuit c.args.tables.now.layout m c.requires.ports _
-    (grind (arith, common_steps, wires_known))).1
+    let p = c.args.tables.now in
+    (locals_have_ports p.circuit p.layout
+    (module_lines_with (circuit_of p.circuit) c.args.stored.now c.args.halos.now) c.requires.ports _
+    (known_wires p.circuit p.layout c.args.stored.now c.args.halos.now c.requires.wires c.requires.halo_wires
+    c.requires.module c.circuit.result.now c.in_ok-locals.locals.circuit_wires _ _ c.circuit.ensures
+    c.deref-3.ensures.value c.deref-4.ensures.value c.in_ok-locals.ensures.wires)).1
 
-pub schedules-requires-clause-edges : goal.schedules-requires-clause-edges
-schedules-requires-clause-edges c =
-    let cs = c.args.tables.now.circuit in
-    let m : ModuleLines = record { area = c.args.area; lines = c.args.lines.now } in
-    let known_wires = wires_known _ cs m _ _ _ c.circuit-circuit.ensures refl refl c.in_ok-locals.ensures.wires in
-    subst (λ ls. All (HasLocalWire (circuit_of ls) c.in_ok-locals.locals) (edges m)) (sym c.circuit-circuit.ensures)
-    (edges_named (setting_of cs c.args.tables.now.layout) m c.in_ok-locals.locals known_wires c.requires.module)
+pub schedule_from_corner-requires-clause-order : goal.schedule_from_corner-requires-clause-order
+schedule_from_corner-requires-clause-order c =
+    let p = c.args.tables.now in
+    subst AreRising (sym c.deref-5.ensures.value)
+    (edges_rising p.circuit p.layout c.args.stored.now c.args.halos.now c.requires.wires c.requires.halo_wires
+    c.requires.module)
 
-pub schedules-requires-clause-halos : goal.schedules-requires-clause-halos
-schedules-requires-clause-halos c =
-    let cs = c.args.tables.now.circuit in
-    let m : ModuleLines = record { area = c.args.area; lines = c.args.lines.now } in
-    let known_wires = wires_known _ cs m _ _ _ c.circuit-circuit.ensures refl refl c.in_ok-locals.ensures.wires in
-    subst (λ ls. All (HasLocalWire (circuit_of ls) c.in_ok-locals.locals) (halos m)) (sym c.circuit-circuit.ensures)
-    (halos_named (setting_of cs c.args.tables.now.layout) m c.in_ok-locals.locals known_wires c.requires.module)
+pub schedule_from_corner-requires-clause-local : goal.schedule_from_corner-requires-clause-local
+schedule_from_corner-requires-clause-local c =
+    let p = c.args.tables.now in
+    subst (All (HasLocalWire c.in_ok-locals.locals)) (sym c.deref-5.ensures.value)
+    (edges_local p.circuit p.layout c.args.stored.now c.args.halos.now c.requires.wires c.requires.halo_wires
+    c.requires.module
+    c.in_ok-locals.locals (known_wires p.circuit p.layout c.args.stored.now c.args.halos.now c.requires.wires
+    c.requires.halo_wires
+    c.requires.module c.circuit.result.now c.in_ok-locals.locals.circuit_wires _ _ c.circuit.ensures
+    c.deref-3.ensures.value c.deref-4.ensures.value c.in_ok-locals.ensures.wires))
 
-pub schedules-requires-clause-low_edges : goal.schedules-requires-clause-low_edges
-schedules-requires-clause-low_edges c =
-    low_edges (setting_of c.args.tables.now.circuit c.args.tables.now.layout)
-    (record { area = c.args.area; lines = c.args.lines.now }) c.size-size.result
+pub schedule_from_corner-requires-clause-low : goal.schedule_from_corner-requires-clause-low
+schedule_from_corner-requires-clause-low c =
+    let p = c.args.tables.now in
+    subst (All (λ (e : StoredBorder). IsWithinMaxSize (cell_at e.column e.row))) (sym c.deref-5.ensures.value)
+    (of_edges p.circuit p.layout c.args.stored.now c.args.halos.now c.requires.wires c.requires.halo_wires
+    c.requires.module
+    (λ e. IsWithinMaxSize e.cell)
+    (low_edges (setting_of p.circuit p.layout)
+    (module_lines_with (circuit_of p.circuit) c.args.stored.now c.args.halos.now) c.size-size.result
+    (c.size-size.ensures.size ∙ ap (λ p. p.size) c.layout.ensures) c.size-size.ensures.limits c.requires.module))
+
+pub schedule_from_corner-requires-clause-corner : goal.schedule_from_corner-requires-clause-corner
+schedule_from_corner-requires-clause-corner c =
+    let p = c.args.tables.now in
+    within_corner (setting_of p.circuit p.layout)
+    (module_lines_with (circuit_of p.circuit) c.args.stored.now c.args.halos.now) c.size-size.result
     (c.size-size.ensures.size ∙ ap (λ p. p.size) c.layout.ensures) c.size-size.ensures.limits c.requires.module
 
-pub schedules-requires-clause-low_halos : goal.schedules-requires-clause-low_halos
-schedules-requires-clause-low_halos c =
-    low_halos (setting_of c.args.tables.now.circuit c.args.tables.now.layout)
-    (record { area = c.args.area; lines = c.args.lines.now }) c.size-size.result
-    (c.size-size.ensures.size ∙ ap (λ p. p.size) c.layout.ensures) c.size-size.ensures.limits c.requires.module
+pub schedule_from_corner-requires-2-clause-order : goal.schedule_from_corner-requires-2-clause-order
+schedule_from_corner-requires-2-clause-order c =
+    let p = c.args.tables.now in
+    halos_rising p.circuit p.layout c.args.stored.now c.args.halos.now c.requires.wires c.requires.halo_wires
+    c.requires.module
 
-pub schedules-requires-clause-corner : goal.schedules-requires-clause-corner
-schedules-requires-clause-corner c =
-    let w = within_512 (setting_of c.args.tables.now.circuit c.args.tables.now.layout)
-    (record { area = c.args.area; lines = c.args.lines.now }) c.size-size.result
-    (c.size-size.ensures.size ∙ ap (λ p. p.size) c.layout.ensures) c.size-size.ensures.limits c.requires.module in
-    let right = w.0 in
-    let bottom = w.1 in
-    (omega (arith, right), omega (arith, bottom))
+pub schedule_from_corner-requires-2-clause-local : goal.schedule_from_corner-requires-2-clause-local
+schedule_from_corner-requires-2-clause-local c =
+    let p = c.args.tables.now in
+    halos_local p.circuit p.layout c.args.stored.now c.args.halos.now c.requires.wires c.requires.halo_wires
+    c.requires.module
+    c.in_ok-locals.locals (known_wires p.circuit p.layout c.args.stored.now c.args.halos.now c.requires.wires
+    c.requires.halo_wires
+    c.requires.module c.circuit.result.now c.in_ok-locals.locals.circuit_wires _ _ c.circuit.ensures
+    c.deref-3.ensures.value c.deref-4.ensures.value c.in_ok-locals.ensures.wires)
+
+pub schedule_from_corner-requires-2-clause-low : goal.schedule_from_corner-requires-2-clause-low
+schedule_from_corner-requires-2-clause-low c =
+    let p = c.args.tables.now in
+    of_halos p.circuit p.layout c.args.stored.now c.args.halos.now c.requires.wires c.requires.halo_wires
+    c.requires.module
+    (λ e. IsWithinMaxSize e.cell)
+    (low_halos (setting_of p.circuit p.layout)
+    (module_lines_with (circuit_of p.circuit) c.args.stored.now c.args.halos.now) c.size-size.result
+    (c.size-size.ensures.size ∙ ap (λ p. p.size) c.layout.ensures) c.size-size.ensures.limits c.requires.module)
+
+pub schedule_from_corner-requires-2-clause-corner : goal.schedule_from_corner-requires-2-clause-corner
+schedule_from_corner-requires-2-clause-corner c =
+    let p = c.args.tables.now in
+    within_corner (setting_of p.circuit p.layout)
+    (module_lines_with (circuit_of p.circuit) c.args.stored.now c.args.halos.now) c.size-size.result
+    (c.size-size.ensures.size ∙ ap (λ p. p.size) c.layout.ensures) c.size-size.ensures.limits c.requires.module
 
 pub stops_from_corner-requires-clause-local : goal.stops_from_corner-requires-clause-local
 stops_from_corner-requires-clause-local c =
-    let cs = c.args.tables.now.circuit in
-    let m : ModuleLines = record { area = c.args.area; lines = c.args.lines.now } in
-    let known_wires = wires_known _ cs m _ _ _ c.circuit-circuit.ensures refl refl c.in_ok-locals.ensures.wires in
-    subst (λ ls. All (λ s. is_local (circuit_of ls) c.in_ok-locals.locals.circuit_wires s.wire ≡ true) (stops m))
-    (sym c.circuit-circuit.ensures)
-    (stops_named (setting_of cs c.args.tables.now.layout) m c.in_ok-locals.locals known_wires c.requires.module)
+    let p = c.args.tables.now in
+    subst (All (λ (s : StoredStop). IsTrue (is_among c.in_ok-locals.locals.circuit_wires s.wire)))
+    (sym c.deref-6.ensures.value)
+    (stops_local p.circuit p.layout c.args.stored.now c.args.halos.now c.requires.wires c.requires.halo_wires
+    c.requires.module
+    c.in_ok-locals.locals (known_wires p.circuit p.layout c.args.stored.now c.args.halos.now c.requires.wires
+    c.requires.halo_wires
+    c.requires.module c.circuit.result.now c.in_ok-locals.locals.circuit_wires _ _ c.circuit.ensures
+    c.deref-3.ensures.value c.deref-4.ensures.value c.in_ok-locals.ensures.wires))
 
 pub stops_from_corner-requires-clause-low : goal.stops_from_corner-requires-clause-low
 stops_from_corner-requires-clause-low c =
-    low_stops (setting_of c.args.tables.now.circuit c.args.tables.now.layout)
-    (record { area = c.args.area; lines = c.args.lines.now }) c.size-size.result
-    (c.size-size.ensures.size ∙ ap (λ p. p.size) c.layout.ensures) c.size-size.ensures.limits c.requires.module
+    let p = c.args.tables.now in
+    subst (All (λ (s : StoredStop). IsWithinMaxSize (cell_at s.column s.row))) (sym c.deref-6.ensures.value)
+    (of_stops p.circuit p.layout c.args.stored.now c.args.halos.now c.requires.wires c.requires.halo_wires
+    c.requires.module
+    (λ e. IsWithinMaxSize e.cell)
+    (low_stops (setting_of p.circuit p.layout)
+    (module_lines_with (circuit_of p.circuit) c.args.stored.now c.args.halos.now) c.size-size.result
+    (c.size-size.ensures.size ∙ ap (λ p. p.size) c.layout.ensures) c.size-size.ensures.limits c.requires.module))
 
 pub stops_from_corner-requires-clause-corner : goal.stops_from_corner-requires-clause-corner
 stops_from_corner-requires-clause-corner c =
-    let w = within_512 (setting_of c.args.tables.now.circuit c.args.tables.now.layout)
-    (record { area = c.args.area; lines = c.args.lines.now }) c.size-size.result
-    (c.size-size.ensures.size ∙ ap (λ p. p.size) c.layout.ensures) c.size-size.ensures.limits c.requires.module in
-    let right = w.0 in
-    let bottom = w.1 in
-    (omega (arith, right), omega (arith, bottom))
+    let p = c.args.tables.now in
+    within_corner (setting_of p.circuit p.layout)
+    (module_lines_with (circuit_of p.circuit) c.args.stored.now c.args.halos.now) c.size-size.result
+    (c.size-size.ensures.size ∙ ap (λ p. p.size) c.layout.ensures) c.size-size.ensures.limits c.requires.module
 
 -- the shape that is made
 abbrev shape_with : Box2 → ℕ → Netlist → List Signal → List Demand → Signals → Signals → List Stop → List ℕ → ShapeView
@@ -122,21 +190,27 @@ shape_with area steps netlist starts demands edges halos stops kept = record {
   kept = kept;
 }
 
-pub invariant_of-result : goal.invariant_of-result
-invariant_of-result c =
-    let area : Box2 = c.args.area in
-    let limits = within_512 (setting_of c.args.tables.now.circuit c.args.tables.now.layout)
-    (record { area = area; lines = c.args.lines.now }) c.size-size.result
+pub invariant_of-job : goal.invariant_of-job
+invariant_of-job c =
+    let p = c.args.tables.now in
+    let area : Box2 = c.args.stored.now.area in
+    let m : ModuleLines = module_lines_with (circuit_of p.circuit) c.args.stored.now c.args.halos.now in
+    let limits = within_512 (setting_of p.circuit p.layout) m c.size-size.result
     (c.size-size.ensures.size ∙ ap (λ p. p.size) c.layout.ensures) c.size-size.ensures.limits c.requires.module in
     let l = c.in_ok-locals.locals in
     let s = shape_with area c.size-size.result.steps l.netlist c.in_ok-starts.starts c.in_ok-starts.demands
-    c.in_ok-edges.edges c.in_ok-edges.halos c.in_ok-stops.stops.items c.in_ok-locals.kept.items in
+    c.in_ok-edges.edges c.in_ok-halos.halos c.in_ok-stops.stops.items c.in_ok-kept.kept.items in
     let shape_is : arc_value c.in_ok-new.field-0 ≡ s =
     c.in_ok-new.ensures.ok ∙ (λ i. record s { netlist = c.into_parts-wiring.ensures.wiring i }) in
     let wires_are = c.into_parts-wiring.ensures.wires in
     let gates_are = c.into_parts-wiring.ensures.gates in
-    let m : ModuleLines = record { area = area; lines = c.args.lines.now } in
     let placed_stops = stops_in_plane area c.in_ok-stops.stops.items in
+    let are_stops : AreStops (circuit_of p.circuit) l (stops m) placed_stops = record {
+      same = c.in_ok-stops.ensures.same_stops ∙ ap (map stored_stop) c.deref-6.ensures.value
+          ∙ stops_say p.circuit p.layout c.args.stored.now c.args.halos.now c.requires.wires c.requires.halo_wires
+          c.requires.module;
+      own = c.in_ok-stops.ensures.own_wires;
+    } in
     let job : IsJob (job_of_shape area.x area.y l.circuit_wires l.circuit_gates s) = record {
       even = c.requires.module.even;
       width = (c.requires.module.wide.0, c.requires.module.wide.1, limits.0);
@@ -144,61 +218,74 @@ invariant_of-result c =
       steps = limits.2;
       own = grind (arith, common_steps);
       stops = λ k d lt. record {
-        time = (stops_stand (λ q. q.time ≤ c.size-size.result.steps) _ l
-            (stops m) placed_stops c.in_ok-stops.ensures.are_stops
+        time = (stops_stand (λ q. q.time ≤ c.size-size.result.steps) _ l (stops m) placed_stops are_stops
             (λ i r below. subst (λ (n : ℕ). (get_or (stops m) i r).time ≤ n)
             (sym (ap (λ z. z.steps) (c.size-size.ensures.size ∙ ap (λ p. p.size) c.layout.ensures)))
             (c.requires.module.stop_lines i r below).time)) k d lt;
-        inside = (stops_stand (λ q. in_box area q.cell.x q.cell.y ≡ true) _ l
-            (stops m) placed_stops c.in_ok-stops.ensures.are_stops
+        inside = (stops_stand (λ q. in_box area q.cell.x q.cell.y ≡ true) _ l (stops m) placed_stops are_stops
             (λ i r below. (c.requires.module.stop_lines i r below).inside)) k d lt;
       };
-      stops_rise = stops_rise _ l c.args.lines.now placed_stops c.requires.module.order c.in_ok-stops.ensures.are_stops;
+      stops_rise = stops_rise _ l m.lines placed_stops c.requires.module.order are_stops;
     } in
     record {
       job = subst IsJob (sym (λ i. job_of_shape area.x area.y (wires_are i) (gates_are i) (shape_is i))) job;
       sized = grind (arith, common_steps);
       near_edges = subst (λ (t : ShapeView). All (λ e. IsInShiftRange e.at.cell) t.edges.events)
-          (sym shape_is) c.in_ok-edges.ensures.near_edges;
+          (sym shape_is) c.in_ok-edges.ensures.in_shift_range;
       near_halos = subst (λ (t : ShapeView). All (λ e. IsInShiftRange e.at.cell) t.halos.events)
-          (sym shape_is) c.in_ok-edges.ensures.near_halos;
+          (sym shape_is) c.in_ok-halos.ensures.in_shift_range;
       near_stops = subst (λ (t : ShapeView). All (λ e. IsInShiftRange e.at.cell) t.stops)
           (sym shape_is) c.in_ok-stops.ensures.in_shift_range;
     }
 
 pub returns : goal.returns
 returns c =
-    let cs = c.args.tables.now.circuit in
-    let p = c.args.tables.now.layout in
-    let area : Box2 = c.args.area in
-    let m : ModuleLines = record { area = area; lines = c.args.lines.now } in
+    let p = c.args.tables.now in
+    let area : Box2 = c.args.stored.now.area in
+    let m : ModuleLines = module_lines_with (circuit_of p.circuit) c.args.stored.now c.args.halos.now in
     let l = c.in_ok-locals.locals in
-    let circuit_is = c.circuit-circuit.ensures in
     let s = shape_with area c.size-size.result.steps l.netlist c.in_ok-starts.starts c.in_ok-starts.demands
-    c.in_ok-edges.edges c.in_ok-edges.halos c.in_ok-stops.stops.items c.in_ok-locals.kept.items in
+    c.in_ok-edges.edges c.in_ok-halos.halos c.in_ok-stops.stops.items c.in_ok-kept.kept.items in
     let shape_is : arc_value c.in_ok-new.field-0 ≡ s =
     c.in_ok-new.ensures.ok ∙ (λ i. record s { netlist = c.into_parts-wiring.ensures.wiring i }) in
     let wires_are = c.into_parts-wiring.ensures.wires in
     let gates_are = c.into_parts-wiring.ensures.gates in
+    let used : l.circuit_gates ≡ gates m =
+    c.in_ok-locals.ensures.gates ∙ c.deref-4.ensures.value
+    ∙ sym (gates_with (circuit_of p.circuit) c.args.stored.now c.args.halos.now) in
     let j = job_of_shape area.x area.y l.circuit_wires l.circuit_gates s in
-    let is_job : IsJobOf (circuit_of cs) p m j = record {
+    let is_job : IsJobOf (circuit_of p.circuit) p.layout m j = record {
       area = refl;
       steps = ap (λ s. s.steps) (c.size-size.ensures.size ∙ ap (λ q. q.size) c.layout.ensures);
-      locals = subst (λ ls. AreLocalsOf (netlist_of ls) l) circuit_is c.in_ok-locals.ensures.locals;
-      cut = cut_count _ cs p m _ _ circuit_is refl c.in_ok-locals.ensures.given c.requires.module;
-      wires = wires_known _ cs m _ _ _ circuit_is refl refl c.in_ok-locals.ensures.wires;
-      used = c.in_ok-locals.ensures.gates;
+      locals = subst (λ ls. AreLocalsOf (netlist_of ls) l) c.circuit.ensures c.in_ok-locals.ensures.locals;
+      cut = c.in_ok-locals.ensures.cuts_given ∙ ap length c.deref-3.ensures.value
+          ∙ cut_count p.circuit p.layout c.args.stored.now c.args.halos.now c.requires.wires c.requires.halo_wires
+          c.requires.module;
+      wires = (known_wires p.circuit p.layout c.args.stored.now c.args.halos.now c.requires.wires c.requires.halo_wires
+          c.requires.module c.circuit.result.now c.in_ok-locals.locals.circuit_wires _ _ c.circuit.ensures
+          c.deref-3.ensures.value c.deref-4.ensures.value c.in_ok-locals.ensures.wires);
+      used = used;
       start_count = c.in_ok-starts.ensures.starts_count;
       demand_count = c.in_ok-starts.ensures.demands_count;
-      start = start_found (circuit_of cs) p area j refl c.in_ok-starts.ensures.starts;
-      demand = demand_found (circuit_of cs) p area j refl c.in_ok-starts.ensures.demands;
-      edges = c.in_ok-edges.ensures.edges ∙ ap (λ ls. line_signals (circuit_of ls) (edges m)) circuit_is;
-      halos = c.in_ok-edges.ensures.halos ∙ ap (λ ls. line_signals (circuit_of ls) (halos m)) circuit_is;
+      start = start_found (circuit_of p.circuit) p.layout area j refl c.in_ok-starts.ensures.starts;
+      demand = demand_found (circuit_of p.circuit) p.layout area j refl c.in_ok-starts.ensures.demands;
+      edges = c.in_ok-edges.ensures.same_signals ∙ ap stored_signals c.deref-5.ensures.value
+          ∙ edges_say p.circuit p.layout c.args.stored.now c.args.halos.now c.requires.wires c.requires.halo_wires
+          c.requires.module;
+      halos = c.in_ok-halos.ensures.same_signals
+          ∙ halos_say p.circuit p.layout c.args.stored.now c.args.halos.now c.requires.wires c.requires.halo_wires
+          c.requires.module;
       own = grind (arith, common_steps);
-      stops = c.in_ok-stops.ensures.are_stops.same ∙ ap (λ ls. stops_of_lines (circuit_of ls) (stops m)) circuit_is;
-      kept = subst (λ (us : List ℕ). map (slice_index us) c.in_ok-locals.kept.items ≡ keeps m)
-          (sym c.in_ok-locals.ensures.gates) c.in_ok-locals.ensures.kept;
-      kept_are_used = subst (λ (u : ℕ). All (λ k. k < u) c.in_ok-locals.kept.items)
-          (sym c.in_ok-locals.ensures.count) c.in_ok-locals.ensures.within;
+      stops = c.in_ok-stops.ensures.same_stops ∙ ap (map stored_stop) c.deref-6.ensures.value
+          ∙ stops_say p.circuit p.layout c.args.stored.now c.args.halos.now c.requires.wires c.requires.halo_wires
+          c.requires.module;
+      kept = subst (λ (us : List ℕ). map (slice_index us) c.in_ok-kept.kept.items ≡ keeps m)
+          (c.deref.ensures.value ∙ sym c.deref-4.ensures.value ∙ sym c.in_ok-locals.ensures.gates)
+          (c.in_ok-kept.ensures.gates ∙ c.deref-2.ensures.value
+          ∙ sym (keeps_with (circuit_of p.circuit) c.args.stored.now c.args.halos.now));
+      kept_are_used = subst (λ (u : ℕ). All (λ k. k < u) c.in_ok-kept.kept.items)
+          (ap length c.deref.ensures.value ∙ sym (c.in_ok-locals.ensures.count ∙ ap length c.deref-4.ensures.value))
+          c.in_ok-kept.ensures.within;
     } in
-    grind (arith, common_steps)
+    subst (IsJobOf (circuit_of p.circuit) p.layout m)
+    (sym (c.in_ok-new-2.ensures.ok ∙ (λ i. job_of_shape area.x area.y (wires_are i) (gates_are i) (shape_is i)))) is_job

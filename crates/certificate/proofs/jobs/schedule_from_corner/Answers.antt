@@ -1,7 +1,6 @@
 use Rattle.certificate.proofs.Imports.{All, Box2, IsInShiftRange, IsSignalWireBelow, IsSmallShift, Signals, TimedSignal}
-use Rattle.certificate.proofs.Imports.{ap, ap₂, arith, borders_in, circuit_of, circuit_wire, common_steps, flat_map}
-use Rattle.certificate.proofs.Imports.{ints, line_signals, of_z, renumber_signals, shift_to_origin, subst, sym, to_z}
-use Rattle.certificate.proofs.Imports.{w32, wires, ℕ, ℤ, ◌∙◌, ◌≡◌}
+use Rattle.certificate.proofs.Imports.{ap, ap₂, arith, circuit_wire, common_steps, ints, of_z, renumber_signals}
+use Rattle.certificate.proofs.Imports.{shift_to_origin, subst, sym, to_z, w32, wires, ℕ, ℤ, ◌∙◌, ◌≡◌}
 use Rattle.module_box.specs.Moves.{moved_signals}
 use Rattle.module_job.specs.Shapes.{signals_in_plane}
 use Rattle.module_job.proofs.ShapeParts.{placed_again}
@@ -15,16 +14,14 @@ passed z r e small = omega (arith, ints, e, small)
 pub moved-requires-clause-all_times : goal.moved-requires-clause-all_times
 moved-requires-clause-all_times c =
     near_all_times c.in_ok-signals.signals.all_times
-    (low_all_times (circuit_wire c.args.locals.now) (circuit_of c.args.circuit.now)
-    (flat_map (borders_in c.args.side) c.args.lines.now) c.in_ok-signals.signals
-    (grind (arith, common_steps)) c.requires.low)
+    (low_all_times (circuit_wire c.args.locals.now) c.args.lines.now c.in_ok-signals.signals
+    c.in_ok-signals.ensures.same_signals c.requires.low)
 
 pub moved-requires-clause-events : goal.moved-requires-clause-events
 moved-requires-clause-events c =
     near_events c.in_ok-signals.signals.events
-    (low_events (circuit_wire c.args.locals.now) (circuit_of c.args.circuit.now)
-    (flat_map (borders_in c.args.side) c.args.lines.now) c.in_ok-signals.signals
-    (grind (arith, common_steps)) c.requires.low)
+    (low_events (circuit_wire c.args.locals.now) c.args.lines.now c.in_ok-signals.signals
+    c.in_ok-signals.ensures.same_signals c.requires.low)
 
 -- what is moved back by these numbers
 moved_back : (x y : ℕ) (dx dy : ℤ) (s own : Signals) → dx ≡ shift_to_origin x → IsSmallShift dx →
@@ -46,7 +43,6 @@ returns-clause-same_signals c =
     ap (renumber_signals (circuit_wire c.args.locals.now))
     (there c.args.area s c.moved.result (grind (arith, common_steps, moved_back)))
     ∙ c.in_ok-signals.ensures.same_signals
-    ∙ ap (line_signals (circuit_of c.args.circuit.now)) c.side_lines.ensures.borders
 
 pub returns-clause-all_times : goal.returns-clause-all_times
 returns-clause-all_times c =
@@ -67,9 +63,8 @@ returns-clause-in_shift_range c =
     let s = c.in_ok-signals.signals in
     let x = c.args.area.x in
     let y = c.args.area.y in
-    let low = low_events (circuit_wire c.args.locals.now) (circuit_of c.args.circuit.now)
-    (flat_map (borders_in c.args.side) c.args.lines.now) s
-    (grind (arith, common_steps)) c.requires.low in
+    let low = low_events (circuit_wire c.args.locals.now) c.args.lines.now s c.in_ok-signals.ensures.same_signals
+    c.requires.low in
     subst (λ (t : Signals). All (λ (e : TimedSignal). IsInShiftRange e.at.cell) t.events)
     (sym (moved_back x y _ _ s c.moved.result c.shift_to_origin.ensures.distance_is_exact
     c.shift_to_origin.ensures.shift_small c.shift_to_origin-2.ensures.distance_is_exact

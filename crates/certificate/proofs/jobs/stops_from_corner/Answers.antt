@@ -1,25 +1,18 @@
-use Rattle.certificate.proofs.Imports.{All, AreStops, Box2, Circuit, IfOk-weaker, IsInShiftRange, IsSmallShift}
-use Rattle.certificate.proofs.Imports.{IsWithinMaxSize, List, LocalNet, StopLine, ap, arith, circuit_of, common_steps}
-use Rattle.certificate.proofs.Imports.{flat_map, ints, map, moved_stop, of_z, pos, shift_to_origin, stop_in}
-use Rattle.certificate.proofs.Imports.{stops_in_plane, subst, sym, to_z, w32, ℕ, ℤ, ◌∙◌, ◌≡◌}
+use Rattle.certificate.proofs.Imports.{All, Box2, IfOk-weaker, IsInShiftRange, IsSmallShift, List, ap, arith}
+use Rattle.certificate.proofs.Imports.{circuit_wire, common_steps, ints, map, moved_stop, of_z, pos, shift_to_origin}
+use Rattle.certificate.proofs.Imports.{stops_in_plane, subst, sym, to_z, w32, wires, ℕ, ℤ, ◌<◌, ◌∙◌, ◌≡◌}
+use Rattle.module_job.specs.Signals.{renumber_stop}
 use Rattle.module_job.specs.declared.job.Stop.{Stop}
 use Rattle.module_job.proofs.ShapeParts.{back_forth, stops_back}
-use Rattle.certificate.proofs.NearLines.{near_stops, near_moved_stops}
-use Rattle.certificate.proofs.StopLemmas.{stops_stand}
+use Rattle.certificate.proofs.NearLines.{low_stops_of, near_stops, near_moved_stops}
 use Rattle.certificate.proofs.jobs.stops_from_corner.Goals as goal
-
--- what is said of the stops is said of all lines
-of_all : {c : Circuit} {l : LocalNet} {own all : List StopLine} {ss : List Stop} → AreStops c l own ss → own ≡ all →
-    AreStops c l all ss
-of_all {c} {l} {ss = ss} said are = subst (λ lines. AreStops c l lines ss) are said
 
 pub moved_stops-requires-clause-cells : goal.moved_stops-requires-clause-cells
 moved_stops-requires-clause-cells c =
-    subst (All (λ (s : Stop). IsInShiftRange s.at.cell)) (sym c.as_slice.ensures.value)
-    (near_stops c.in_ok-stops.stops.items
-    (stops_stand (λ q. IsWithinMaxSize q.cell) (circuit_of c.args.circuit.now) c.args.locals.now
-    (flat_map stop_in c.args.lines.now) c.in_ok-stops.stops.items
-    (of_all c.in_ok-stops.ensures c.stop_lines.ensures) c.requires.low))
+    subst (All (λ (s : Stop). IsInShiftRange s.at.cell)) (sym c.deref.ensures.value)
+    (near_stops c.in_ok-placed.placed.items
+    (low_stops_of (circuit_wire c.args.locals.now) c.args.stops.now c.in_ok-placed.placed.items
+    c.in_ok-placed.ensures.same_stops c.requires.low))
 
 -- a small number is passed as it is
 passed : (z r : ℤ) → r ≡ z → IsSmallShift r → to_z w32 (of_z w32 r) ≡ z
@@ -40,23 +33,28 @@ there : (b : Box2) (ss own : List Stop) → own ≡ map (moved_stop (shift_to_or
 there b ss own is = ap (stops_in_plane b) is
     ∙ stops_back (shift_to_origin b.x) (shift_to_origin b.y) (pos b.x) (pos b.y) ss (back_forth b.x) (back_forth b.y)
 
-pub returns-clause-are_stops : goal.returns-clause-are_stops
-returns-clause-are_stops c =
-    let ss = c.in_ok-stops.stops.items in
-    let area : Box2 = c.args.area in
+pub returns-clause-same_stops : goal.returns-clause-same_stops
+returns-clause-same_stops c =
+    let ss = c.in_ok-placed.placed.items in
     IfOk-weaker c.moved_stops.result _ _ (λ own is.
-    subst (AreStops (circuit_of c.args.circuit.now) c.args.locals.now (flat_map stop_in c.args.lines.now))
-    (sym (there area ss own.items
-    (grind (arith, common_steps, moved_back))))
-    (of_all c.in_ok-stops.ensures c.stop_lines.ensures)) c.moved_stops.ensures
+    ap (map (renumber_stop (circuit_wire c.args.locals.now)))
+    (there c.args.area ss own.items (grind (arith, common_steps, moved_back)))
+    ∙ c.in_ok-placed.ensures.same_stops) c.moved_stops.ensures
+
+pub returns-clause-own_wires : goal.returns-clause-own_wires
+returns-clause-own_wires c =
+    let ss = c.in_ok-placed.placed.items in
+    IfOk-weaker c.moved_stops.result _ _ (λ own is.
+    subst (All (λ (s : Stop). s.wire < wires c.args.locals.now.netlist))
+    (sym (there c.args.area ss own.items (grind (arith, common_steps, moved_back))))
+    c.in_ok-placed.ensures.own_wires) c.moved_stops.ensures
 
 pub returns-clause-in_shift_range : goal.returns-clause-in_shift_range
 returns-clause-in_shift_range c =
-    let ss = c.in_ok-stops.stops.items in
+    let ss = c.in_ok-placed.placed.items in
     let area : Box2 = c.args.area in
-    let low = stops_stand (λ q. IsWithinMaxSize q.cell) (circuit_of c.args.circuit.now) c.args.locals.now
-    (flat_map stop_in c.args.lines.now) ss (of_all c.in_ok-stops.ensures c.stop_lines.ensures)
-    c.requires.low in
+    let low = low_stops_of (circuit_wire c.args.locals.now) c.args.stops.now ss
+    c.in_ok-placed.ensures.same_stops c.requires.low in
     IfOk-weaker c.moved_stops.result _ _ (λ own is.
     subst (All (λ (s : Stop). IsInShiftRange s.at.cell))
     (grind (arith, common_steps, moved_back))

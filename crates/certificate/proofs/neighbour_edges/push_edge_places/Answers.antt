@@ -1,27 +1,40 @@
-use Rattle.certificate.proofs.Imports.{AddsEdgePlaces, BorderLine, IsInnerCell, Some, ap, arith, common_steps, edge_in}
-use Rattle.certificate.proofs.Imports.{flat_at, flat_map, length-map, map, rectangle, slice_get-get_or, subst, sym}
-use Rattle.certificate.proofs.Imports.{take, ◌∙◌}
+use Rattle.certificate.proofs.Imports.{AddsEdgePlaces, All, IsInnerCell, List, StoredBorder, StoredModule, flat_map}
+use Rattle.certificate.proofs.Imports.{length, line_cell, map, rectangle, subst, sym, take, ◌≤◌}
+use Rattle.certificate_lines.proofs.FlatParts.{flat_more}
 use Rattle.certificate.proofs.HaloLists.{edges_then, still_ready}
-use Rattle.certificate.proofs.TimetableLemmas.{next_line}
+use Rattle.certificate.proofs.JobsSoFar.{element_at}
+use Rattle.certificate.proofs.StoredSignals.{all_at}
 use Rattle.certificate.proofs.neighbour_edges.push_edge_places.Goals as goal
 
-pub push_edge_place-requires-clause-inner : goal.push_edge_place-requires-clause-inner
-push_edge_place-requires-clause-inner c =
-    flat_at (λ (e : BorderLine). IsInnerCell (rectangle c.args.owners.now) e.cell) edge_in c.args.entries.now
-    c.requires.inner c.lines.place c.index-entries-place.result c.lines-test.true c.index-entries-place.is
+pub push_module_places-requires-clause-inner : goal.push_module_places-requires-clause-inner
+push_module_places-requires-clause-inner c =
+    subst (All (λ (e : StoredBorder). IsInnerCell (rectangle c.args.owners.now) (line_cell e)))
+    (sym c.deref.ensures.value)
+    (all_at (λ (m : StoredModule). All (λ (e : StoredBorder). IsInnerCell (rectangle c.args.owners.now) (line_cell e))
+    m.edges.items) c.args.modules.now c.requires.inner c.modules.number c.index-modules-number.result
+    c.modules-test.true c.index-modules-number.is)
 
-pub lines-preserved : goal.lines-preserved
-lines-preserved c =
-    let lines = c.args.entries.now in let k = c.lines.place in let line = c.index-entries-place.result in
+pub push_module_places-requires-clause-few : goal.push_module_places-requires-clause-few
+push_module_places-requires-clause-few c =
+    subst (λ (es : List StoredBorder). length es ≤ 65536) (sym c.deref.ensures.value)
+    (all_at (λ (m : StoredModule). length m.edges.items ≤ 65536) c.args.modules.now c.requires.few_lines
+    c.modules.number c.index-modules-number.result c.modules-test.true c.index-modules-number.is)
+
+pub modules-preserved : goal.modules-preserved
+modules-preserved c =
+    let m = c.index-modules-number.result in
     let boxes = c.args.boxes.now in
+    let all = λ (n : StoredModule). n.edges.items in
     let old = map (λ l. l.items) c.args.lists.now.items in
-    let now = map (λ l. l.items) c.lines.lists.items in
-    let new = map (λ l. l.items) c.push_edge_place.new.lists.items in
-    let at = slice_get-get_or lines k line c.lines-test.true ∙ sym (ap Some c.index-entries-place.is) in
+    let now = map (λ l. l.items) c.modules.lists.items in
+    let new = map (λ l. l.items) c.push_module_places.new.lists.items in
+    let here = element_at c.args.modules.now c.modules.number m c.modules-test.true c.index-modules-number.is in
+    let added = c.in_ok-push_module_places.ensures.places c.args.modules.now m here (sym c.deref.ensures.value) in
     record {
-      table = grind (arith, common_steps, still_ready, length-map);
-      lists = subst (λ es'. AddsEdgePlaces lines boxes es' old new)
-          (next_line edge_in lines k line c.lines-test.true c.index-entries-place.is)
-          (edges_then lines boxes (flat_map edge_in (take k lines)) (edge_in line) old now new c.lines.invariant.lists
-          (c.in_ok-push_edge_place.ensures.edges lines at));
+      table = still_ready boxes c.args.owners.now now new c.modules.invariant.table added.count;
+      lists = subst (λ es. AddsEdgePlaces c.args.modules.now boxes es old new)
+          (sym (flat_more all c.args.modules.now c.modules.number m c.modules-test.true c.index-modules-number.is))
+          (edges_then c.args.modules.now boxes (flat_map all (take c.modules.number c.args.modules.now)) (all m) old now
+          new c.modules.invariant.lists
+          (subst (λ es. AddsEdgePlaces c.args.modules.now boxes es now new) c.deref.ensures.value added));
     }

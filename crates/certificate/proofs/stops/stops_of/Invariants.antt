@@ -1,6 +1,10 @@
-use Rattle.certificate.proofs.Imports.{AreStops, circuit_of, flat_map, stop_in, take}
+-- The stops so far.
+use Rattle.certificate.proofs.Imports.{All, circuit_wire, map, stored_stop, take, wires, ◌<◌, ◌≡◌}
+use Rattle.module_job.specs.Signals.{renumber_stop}
 use Rattle.certificate.proofs.stops.stops_of.Given as goal
 
-abbrev pub invariant-lines : goal.invariant-lines
-invariant-lines l = AreStops (circuit_of l.circuit) l.locals
-    (flat_map stop_in (take l.line-index l.lines)) l.stops.items
+abbrev pub invariant-stops : goal.invariant-stops
+invariant-stops l = record {
+  same : map (renumber_stop (circuit_wire l.locals)) l.local.items ≡ map stored_stop (take l.stop-index l.stops);
+  own : All (λ s. s.wire < wires l.locals.netlist) l.local.items;
+}

@@ -1,14 +1,26 @@
-use Rattle.certificate.proofs.Imports.{IsStopTimeTable, arith, circuit_of, common_steps, flat_map, stop_in, subst, take}
+use Rattle.certificate.proofs.Imports.{IsOwnWire, IsStopTimeTable, StoredStop, get_or, map, stop_line, subst, take}
+use Rattle.certificate.proofs.Imports.{take_all}
 use Rattle.certificate.proofs.Imports.{◌++◌, ◌∙◌}
-use Rattle.certificate_lines.proofs.FlatParts.{flat_more}
+use Rattle.certificate.proofs.StoredSignals.{all_at, item_is}
+use Rattle.certificate.proofs.TimeLemmas.{stop_more}
 use Rattle.certificate.proofs.times.note_times_of_stops.Goals as goal
 
-pub lines-preserved : goal.lines-preserved
-lines-preserved c = record {
-  table = λ ss h.
-      let before = flat_map stop_in (take c.lines.line-index c.args.lines.now) in
-      subst (λ all. IsStopTimeTable c.args.choice (circuit_of c.args.circuit.now) all c.note_time_if_stop.new.table)
-      (grind (arith, common_steps, flat_more))
-      (c.note_time_if_stop.ensures.table (ss ++ before) (c.lines.invariant.table ss h));
-  long = c.note_time_if_stop.ensures.long ∙ c.lines.invariant.long;
-}
+pub stops-preserved : goal.stops-preserved
+stops-preserved c =
+    let s = get_or c.args.stops.now c.stops.stop-index (record { time = 0; column = 0; row = 0; wire = 0 }) in
+    let is = item_is c.args.stops.now c.stops.stop-index _ c.stops-test.true in
+    record {
+      table = λ d ss own h.
+          let before = map (stop_line d) (take c.stops.stop-index c.args.stops.now) in
+          subst (λ all. IsStopTimeTable c.args.choice d all c.note_stop.new.table)
+          (stop_more d ss c.args.stops.now c.stops.stop-index s c.stops-test.true is)
+          (c.note_stop.ensures.table d (ss ++ before)
+          (all_at (λ (s : StoredStop). IsOwnWire d s.wire) c.args.stops.now own c.stops.stop-index s
+          c.stops-test.true is) (c.stops.invariant.table d ss own h));
+      long = c.note_stop.ensures.long ∙ c.stops.invariant.long;
+    }
+
+pub returns-clause-table : goal.returns-clause-table
+returns-clause-table c d ss own h =
+    subst (λ all. IsStopTimeTable c.args.choice d (ss ++ map (stop_line d) all) c.stops.table)
+    (take_all c.stops.stop-index c.args.stops.now c.stops-test.false) (c.stops.invariant.table d ss own h)

@@ -1,10 +1,12 @@
-use Rattle.certificate.proofs.Imports.{IsStopTimeTable, List, StopLine, circuit_of, flat_map, length, stop_in, take}
-use Rattle.certificate.proofs.Imports.{◌++◌, ◌≡◌}
+-- The stops so far are noted.
+use Rattle.certificate.proofs.Imports.{All, Circuit, IsOwnWire, IsStopTimeTable, List, StopLine, length, map, stop_line}
+use Rattle.certificate.proofs.Imports.{take, ◌++◌, ◌≡◌}
 use Rattle.certificate.proofs.times.note_times_of_stops.Given as goal
 
-abbrev pub invariant-lines : goal.invariant-lines
-invariant-lines l = record {
-  table : (ss : List StopLine) → IsStopTimeTable l.choice (circuit_of l.circuit) ss l.fn.table →
-      IsStopTimeTable l.choice (circuit_of l.circuit) (ss ++ flat_map stop_in (take l.line-index l.lines)) l.table;
+abbrev pub invariant-stops : goal.invariant-stops
+invariant-stops l = record {
+  table : (c : Circuit) (ss : List StopLine) → All (λ s. IsOwnWire c s.wire) l.stops →
+      IsStopTimeTable l.choice c ss l.fn.table →
+      IsStopTimeTable l.choice c (ss ++ map (stop_line c) (take l.stop-index l.stops)) l.table;
   long : length l.table ≡ length l.fn.table;
 }

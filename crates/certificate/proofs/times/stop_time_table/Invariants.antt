@@ -1,10 +1,10 @@
-use Rattle.certificate.proofs.Imports.{IsStopTimeTable, circuit_of, flat_map, length, netlist_of, stop_in, take, wires}
-use Rattle.certificate.proofs.Imports.{◌≡◌}
+-- The stops of the modules so far are noted.
+use Rattle.certificate.proofs.Imports.{IsStopTimeTable, all_stops, circuit_of, length, map, module_lines, take, ◌≡◌}
 use Rattle.certificate.proofs.times.stop_time_table.Given as goal
 
-abbrev pub invariant-parts : goal.invariant-parts
-invariant-parts l = record {
+abbrev pub invariant-modules : goal.invariant-modules
+invariant-modules l = record {
   table : IsStopTimeTable l.choice (circuit_of l.circuit)
-      (flat_map (λ p. flat_map stop_in p.lines.now) (take l.part-index l.parts)) l.table.items;
-  long : length l.table.items ≡ wires (netlist_of l.circuit);
+      (all_stops (map (module_lines (circuit_of l.circuit)) (take l.module-index l.modules))) l.table.items;
+  long : length l.table.items ≡ length (circuit_of l.circuit).names;
 }

@@ -1,10 +1,27 @@
-use Rattle.certificate.proofs.Imports.{CertView, circuit_of, map, subst}
-use Rattle.lemmas.proofs.Common.{IfOk, arc_value}
+use Rattle.certificate.proofs.Imports.{CertView, arc_value, circuit_of, map, modules_by_version, setting_of, subst, sym}
+use Rattle.lemmas.proofs.Common.{IfOk}
+use Rattle.certificate_lines.proofs.StoredLemmas.{modules_stored}
+use Rattle.certificate.specs.CertView.{cert_view}
 use Rattle.certificate.specs.Grammars.{modules_in}
 use Rattle.certificate.specs.Jobs.{AreJobsOf}
 use Rattle.certificate.proofs.cert.Cert.jobs.Goals as goal
 
+pub jobs_of_version-requires-clause-wires : goal.jobs_of_version-requires-clause-wires
+jobs_of_version-requires-clause-wires c = rw (c.in_ok-tables.ensures, c.deref.ensures.value) c.self.invariant.wires
+
+pub jobs_of_version-requires-clause-modules : goal.jobs_of_version-requires-clause-modules
+jobs_of_version-requires-clause-modules c = rw (c.in_ok-tables.ensures, c.deref.ensures.value) c.self.invariant.good
+
+pub jobs_of_version-requires-clause-few_lines : goal.jobs_of_version-requires-clause-few_lines
+jobs_of_version-requires-clause-few_lines c =
+    rw (c.in_ok-tables.ensures, c.deref.ensures.value) c.self.invariant.few_lines
+
 pub returns : goal.returns
-returns c = subst (λ (s : CertView). IfOk c.jobs_of_version.result (λ js. AreJobsOf (circuit_of s.circuit) s.layout
+returns c =
+    let s : CertView = cert_view c.self.inside in
+    subst (λ (s : CertView). IfOk c.jobs_of_version.result (λ js. AreJobsOf (circuit_of s.circuit) s.layout
     (modules_in s) (map arc_value js.items))) c.self.view_is
-    (rw (c.in_ok-tables.ensures, c.as_slice-entries.ensures.value) at c.jobs_of_version.ensures)
+    (subst (λ ms. IfOk c.jobs_of_version.result (λ js. AreJobsOf (circuit_of s.circuit) s.layout
+    (modules_by_version s.version (setting_of s.circuit s.layout) ms) (map arc_value js.items)))
+    (sym (modules_stored (circuit_of s.circuit) c.self.inside.modules.items))
+    (rw (c.in_ok-tables.ensures, c.deref.ensures.value) at c.jobs_of_version.ensures))

@@ -1,15 +1,25 @@
-use Rattle.certificate.proofs.Imports.{CertView, ap, ap₂, circuit_of, delay_and_meet_lines, map, modules_of, setting_of}
-use Rattle.certificate.proofs.Imports.{slice_lines, subst, sym, ◌∙◌, ◌≡◌}
+use Rattle.certificate.proofs.Imports.{All, CertView, HasOwnWires, ap, circuit_of, delay_and_meet_lines, map}
+use Rattle.certificate.proofs.Imports.{module_lines, modules_of}
+use Rattle.certificate.proofs.Imports.{setting_of, subst, sym, ◌∙◌, ◌≡◌}
 use Rattle.lemmas.proofs.Common.{IfOk}
+use Rattle.certificate_lines.proofs.StoredLemmas.{modules_stored}
+use Rattle.certificate.specs.CertView.{cert_view}
+use Rattle.certificate.specs.Grammars.{modules_in}
 use Rattle.certificate.proofs.MeantLines.{times_meant}
 use Rattle.certificate.proofs.cert.Cert.times.Goals as goal
 
+pub timing_lines_of-requires : goal.timing_lines_of-requires
+timing_lines_of-requires c =
+    subst (All (HasOwnWires (circuit_of c.self.inside.circuit.now))) (sym c.deref.ensures.value) c.self.invariant.wires
+
 pub returns : goal.returns
 returns c =
-    let s : CertView = c.args.self.now in
-    let modules_are = ap (map slice_lines) c.deref.ensures.value ∙ c.in_ok-parts.ensures.modules in
-    let circuit_is = ap (λ (t : CertView). t.circuit) c.self.view_is in
-    subst (λ ls. IfOk c.timing_lines_of.result (λ lines. lines.items ≡ ls))
-    (ap₂ (λ cs ms. delay_and_meet_lines (circuit_of cs) ms) circuit_is modules_are
-    ∙ sym (times_meant s.version (setting_of s.circuit s.layout) (circuit_of s.circuit) (modules_of s.entries)))
-    c.timing_lines_of.ensures
+    let s : CertView = cert_view c.self.inside in
+    let circuit = circuit_of s.circuit in
+    subst (λ (s : CertView). IfOk c.timing_lines_of.result (λ lines. lines.items
+    ≡ delay_and_meet_lines (circuit_of s.circuit) (modules_in s))) c.self.view_is
+    (subst (λ ls. IfOk c.timing_lines_of.result (λ lines. lines.items ≡ ls))
+    (ap (λ ms. delay_and_meet_lines circuit (map (module_lines circuit) ms)) c.deref.ensures.value
+    ∙ ap (delay_and_meet_lines circuit) (sym (modules_stored circuit c.self.inside.modules.items))
+    ∙ sym (times_meant s.version (setting_of s.circuit s.layout) circuit (modules_of s.entries)))
+    c.timing_lines_of.ensures)

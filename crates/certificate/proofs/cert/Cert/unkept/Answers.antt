@@ -1,6 +1,7 @@
-use Rattle.certificate.proofs.Imports.{CircuitLine, Gate, List, Some, ap, arith, common_steps, gate_of, is_inverse}
-use Rattle.certificate.proofs.Imports.{is_kept, length, modules_of, netlist_of, setting_of, slice_get, sym, unkept, ◌∙◌}
-use Rattle.certificate.proofs.Imports.{◌≡◌}
+use Rattle.certificate.proofs.Imports.{CircuitLine, Gate, List, Some, ap, arith, circuit_of, gate_of}
+use Rattle.certificate.proofs.Imports.{CertView, is_inverse, is_kept, length, map, module_lines, modules_of, netlist_of}
+use Rattle.certificate.proofs.Imports.{setting_of, slice_get, sym, unkept, ◌∙◌, ◌≡◌}
+use Rattle.certificate_lines.proofs.StoredLemmas.{modules_stored}
 use Rattle.certificate.proofs.KeepLemmas.{unkept_more, unkept_all}
 use Rattle.certificate.proofs.MeantLines.{unkept_gates_meant}
 use Rattle.certificate.proofs.cert.Cert.unkept.Goals as goal
@@ -8,14 +9,19 @@ use Rattle.certificate.proofs.cert.Cert.unkept.Goals as goal
 pub gates-preserved : goal.gates-preserved
 gates-preserved c =
     let s = c.args.self.now in
+    let circuit = circuit_of c.self.inside.circuit.now in
     let same = ap (λ s. s.circuit) c.self.view_is in
     let gs : List Gate = (netlist_of s.circuit).gates in
     let count : c.gates-count.result ≡ length gs =
     c.gates-count.ensures.count ∙ ap (λ (l : List CircuitLine). length (netlist_of l).gates) same in
     let at : slice_get gs c.gates.number ≡ Some (gate_of c.gate-gate.result) =
-    grind (arith, common_steps) in
+    ap (slice_get gs) (sym c.of.ensures)
+    ∙ ap (λ (l : List CircuitLine). slice_get (netlist_of l).gates c.of.result) (sym same) ∙ c.gate-gate.ensures in
     let kept : c.is_kept-keeps.result ≡ is_kept (modules_of s.entries) c.gates.number =
-    grind (arith, common_steps) in
+    c.is_kept-keeps.ensures ∙ c.in_ok-kept.ensures circuit c.gates.number
+    ∙ ap (λ ms. is_kept (map (module_lines circuit) ms) c.gates.number) c.deref.ensures.value
+    ∙ ap (λ ms. is_kept ms c.gates.number) (sym (modules_stored circuit c.self.inside.modules.items))
+    ∙ ap (λ (s : CertView). is_kept (modules_of s.entries) c.gates.number) c.self.view_is in
     unkept_more (unkept (setting_of s.circuit s.layout) (modules_of s.entries)) c.gates.gates.items
     c.push_if_unkept_inverse.new.gates.items (modules_of s.entries) gs c.gates.number
     (gate_of c.gate-gate.result) c.is_inverse.result c.is_kept-keeps.result

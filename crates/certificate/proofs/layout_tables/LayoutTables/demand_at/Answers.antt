@@ -1,6 +1,5 @@
 use Rattle.certificate.proofs.Imports.{CircuitAndPorts, Dead, IsPortWireLocalAt, LayoutTablesView, None, Option, Some}
-use Rattle.certificate.proofs.Imports.{ap}
-use Rattle.certificate.proofs.Imports.{arith, circuit_of, circuit_wire, common_steps, demand_outside_mirrors}
+use Rattle.certificate.proofs.Imports.{ap, arith, circuit_of, circuit_wire, common_steps, demand_outside_mirrors}
 use Rattle.certificate.proofs.Imports.{end_demand, option_map, port_at, refl, subst, sym, wire_of, ℕ, ℤ, ◌∙◌, ◌≡◌}
 use Rattle.module_job.specs.declared.job.Demand.TheVariants.{Wire, Any}
 use Rattle.certificate.proofs.LayoutTableLemmas.{demand_of_port, end_live, end_port, no_port_there, port_known}

@@ -1,7 +1,6 @@
 use Rattle.certificate.proofs.Imports.{CircuitAndPorts, IsPortWireLocalAt, LayoutTablesView, Option, Some, Zero, ap}
-use Rattle.certificate.proofs.Imports.{arith}
-use Rattle.certificate.proofs.Imports.{circuit_of, circuit_wire, common_steps, option_map, port_at, refl, start_signal}
-use Rattle.certificate.proofs.Imports.{subst, sym, wire_of, wire_or_zero, ℕ, ℤ, ◌∙◌, ◌≡◌}
+use Rattle.certificate.proofs.Imports.{arith, circuit_of, circuit_wire, common_steps, option_map, port_at, refl}
+use Rattle.certificate.proofs.Imports.{start_signal, subst, sym, wire_of, wire_or_zero, ℕ, ℤ, ◌∙◌, ◌≡◌}
 use Rattle.module_box.specs.declared.schedules.Signal.TheVariants.{Wire}
 use Rattle.certificate.proofs.LayoutTableLemmas.{no_port_there, port_known, port_wire, start_one, start_port}
 use Rattle.certificate.proofs.layout_tables.LayoutTables.start_at.Goals as goal

@@ -1,0 +1,169 @@
+-- What the lines of a module that is kept ask for, by the numbers of its wires
+use Rattle.certificate.proofs.Imports.{All, All-head, All-tail, AreLocalLines, AreRising, BorderLine, Circuit}
+use Rattle.certificate.proofs.Imports.{CircuitLine, HasLocalWire, HasOwnWire, HasOwnWires, IfSome, IsModule, IsOwnWire}
+use Rattle.certificate.proofs.Imports.{IsTrue, List, LocalNet, ModuleLines, None, Option, Pairs, Pattern, Setting}
+use Rattle.certificate.proofs.Imports.{Signal, Some, StopLine, StoredBorder, StoredModule, StoredStop, []}
+use Rattle.certificate.proofs.Imports.{all_times_of_line, ap, ap₂, arith, border_line, border_line_cmp, circuit_of}
+use Rattle.certificate.proofs.Imports.{cut_wires, cuts, edges, events_of_line, get_or, halos, is_among, is_local, keeps}
+use Rattle.certificate.proofs.Imports.{known, length, length-map, line_signals, local_wires, map, mapped_at}
+use Rattle.certificate.proofs.Imports.{module_lines_with, netlist_of, one_or_named_wire, one_or_wire, option_map, refl}
+use Rattle.certificate.proofs.Imports.{setting_of, stop_line, stops, stops_of_lines, stored_signals, stored_stop, subst}
+use Rattle.certificate.proofs.Imports.{sym, unnamed_line, wire_name, wire_or_zero, ℕ, ◌++◌, ◌<◌, ◌∙◌, ◌∷◌, ◌≡◌, suc}
+use Rattle.certificate.proofs.Imports.{zero}
+use Rattle.lemmas.proofs.Common.{all_unmapped}
+use Rattle.certificate_lines.specs.Modules.{IsEdge, IsHalo, IsKeep, IsStop}
+use Rattle.certificate_lines.specs.Rules.{is_local_wire}
+use Rattle.certificate_lines.proofs.Pairs.{pairs_at}
+use Rattle.certificate_lines.proofs.StoredLemmas.{cut_wires_with, cuts_with, edges_with, gates_with, halos_with}
+use Rattle.certificate_lines.proofs.StoredLemmas.{keeps_with, stops_with}
+use Rattle.certificate.specs.Jobs.{stop_with_wire_number}
+use Rattle.certificate.proofs.BorderOrder.{Before, edges_rise, halos_rise}
+
+pub all_at : {A : Type 0} (P : A → Type 0) (xs : List A) → All P xs → (i : ℕ) (x : A) → i < length xs →
+    x ≡ get_or xs i x → P x
+all_at P xs h i x lt is = subst P (sym is) (h i x lt)
+
+pub item_is : {A : Type 0} (xs : List A) (i : ℕ) (d : A) → i < length xs → get_or xs i d ≡ get_or xs i (get_or xs i d)
+item_is [] i d lt = absurd (omega (arith, lt))
+item_is (x ∷ xs) zero d lt = refl
+item_is (x ∷ xs) (suc i) d lt = item_is xs i d (omega (arith, lt))
+
+-- ---- signals and stops
+
+own_signal : (c : Circuit) (w : Option ℕ) → IfSome w (IsOwnWire c) →
+    one_or_wire w ≡ one_or_named_wire c (option_map (wire_name c) w)
+own_signal c None own = refl
+own_signal c (Some w) own = sym (ap wire_or_zero own)
+
+same_all_times : (d e : BorderLine) (t : Option ℕ) (s : Signal) → d.cell ≡ e.cell →
+    all_times_of_line d t s ≡ all_times_of_line e t s
+same_all_times d e None s same = ap (λ c. record { cell = c; signal = s } ∷ []) same
+same_all_times d e (Some t) s same = refl
+
+same_events : (d e : BorderLine) (t : Option ℕ) (s : Signal) → d.cell ≡ e.cell →
+    events_of_line d t s ≡ events_of_line e t s
+same_events d e None s same = refl
+same_events d e (Some t) s same = ap (λ c. record { at = record { time = t; cell = c }; signal = s } ∷ []) same
+
+module _ (c : Circuit) where
+  said_all_times : (bs : List StoredBorder) → All (HasOwnWire c) bs →
+      (stored_signals bs).all_times ≡ (line_signals c (map (border_line c) bs)).all_times
+  said_all_times [] own = refl
+  said_all_times (b ∷ bs) own =
+      ap₂ (λ xs ys. xs ++ ys)
+      (same_all_times (unnamed_line b) (border_line c b) b.time (one_or_wire b.wire) refl
+      ∙ ap (all_times_of_line (border_line c b) b.time) (own_signal c b.wire (All-head (HasOwnWire c) b bs own)))
+      (said_all_times bs (All-tail (HasOwnWire c) b bs own))
+
+  said_events : (bs : List StoredBorder) → All (HasOwnWire c) bs →
+      (stored_signals bs).events ≡ (line_signals c (map (border_line c) bs)).events
+  said_events [] own = refl
+  said_events (b ∷ bs) own =
+      ap₂ (λ xs ys. xs ++ ys)
+      (same_events (unnamed_line b) (border_line c b) b.time (one_or_wire b.wire) refl
+      ∙ ap (events_of_line (border_line c b) b.time) (own_signal c b.wire (All-head (HasOwnWire c) b bs own)))
+      (said_events bs (All-tail (HasOwnWire c) b bs own))
+
+  said_signals : (bs : List StoredBorder) → All (HasOwnWire c) bs →
+      stored_signals bs ≡ line_signals c (map (border_line c) bs)
+  said_signals bs own = λ i. record { all_times = said_all_times bs own i; events = said_events bs own i }
+
+  said_stops : (ss : List StoredStop) → All (λ s. IsOwnWire c s.wire) ss →
+      map stored_stop ss ≡ stops_of_lines c (map (stop_line c) ss)
+  said_stops [] own = refl
+  said_stops (s ∷ ss) own =
+      ap₂ (λ xs ys. xs ++ ys)
+      (sym (ap (stop_with_wire_number (stop_line c s)) (All-head (λ (q : StoredStop). IsOwnWire c q.wire) s ss own)))
+      (said_stops ss (All-tail (λ (q : StoredStop). IsOwnWire c q.wire) s ss own))
+
+  known_wire : (ws : List ℕ) (w : Option ℕ) → IfSome w (IsOwnWire c) →
+      IfSome (option_map (wire_name c) w) (λ name. IsTrue (is_local c ws name)) → IfSome w (λ v. IsTrue (is_among ws v))
+  known_wire ws None own h = tt
+  known_wire ws (Some w) own h = subst (λ o. IsTrue (is_local_wire ws o)) own h
+
+  rising : (bs : List StoredBorder) → Pairs Before (map (border_line c) bs) → AreRising bs
+  unfolding border_line_cmp
+  rising bs p = record {
+    rises = λ i j a b lt ea eb. pairs_at Before (map (border_line c) bs) p i j (border_line c a) (border_line c b) lt
+        (mapped_at (border_line c) bs i a ea) (mapped_at (border_line c) bs j b eb);
+  }
+
+-- ---- a good module with these halo lines
+
+module _ (cs : List CircuitLine) (p : Pattern) (m : StoredModule) (hs : List StoredBorder)
+    (own : HasOwnWires (circuit_of cs) m) (own_halos : All (HasOwnWire (circuit_of cs)) hs)
+    (good : IsModule (setting_of cs p) (module_lines_with (circuit_of cs) m hs)) where
+  abbrev c : Circuit
+  c = circuit_of cs
+
+  abbrev g : Setting
+  g = setting_of cs p
+
+  abbrev lines : ModuleLines
+  lines = module_lines_with (circuit_of cs) m hs
+
+  pub local_lines : AreLocalLines (netlist_of cs) m.cuts.items m.gates.items
+  local_lines =
+      subst (λ ws. AreLocalLines (netlist_of cs) ws m.gates.items) (cut_wires_with c m hs own.cuts)
+      (subst (AreLocalLines (netlist_of cs) (cut_wires c lines)) (gates_with c m hs) good.local)
+
+  pub known_wires : (ls : List CircuitLine) (ws cw us : List ℕ) → ls ≡ cs → cw ≡ m.cuts.items → us ≡ m.gates.items →
+      ws ≡ local_wires (netlist_of ls) cw us → ws ≡ known c lines
+  known_wires ls ws cw us circuit cuts uses are =
+      are ∙ (λ i. local_wires (netlist_of (circuit i)) (cuts i) (uses i))
+      ∙ sym (ap₂ (local_wires (netlist_of cs)) (cut_wires_with c m hs own.cuts) (gates_with c m hs))
+
+  pub cut_count : length m.cuts.items ≡ length (cuts lines)
+  cut_count = sym (ap length (cuts_with c m hs) ∙ length-map m.cuts.items (wire_name c))
+
+  pub keeps_used : All (λ k. IsTrue (is_among m.gates.items k)) m.keeps.items
+  keeps_used k d lt =
+      (subst (All (IsKeep g m.gates.items)) (keeps_with c m hs)
+      (subst (λ us. All (IsKeep g us) (keeps lines)) (gates_with c m hs) good.keep_lines) k d lt).among
+
+  pub edges_rising : AreRising m.edges.items
+  edges_rising = rising c m.edges.items (subst (Pairs Before) (edges_with c m hs) (edges_rise lines.lines good.order))
+
+  pub halos_rising : AreRising hs
+  halos_rising = rising c hs (subst (Pairs Before) (halos_with c m hs) (halos_rise lines.lines good.order))
+
+  pub edges_say : stored_signals m.edges.items ≡ line_signals c (edges lines)
+  edges_say = said_signals c m.edges.items own.edges ∙ ap (line_signals c) (sym (edges_with c m hs))
+
+  pub halos_say : stored_signals hs ≡ line_signals c (halos lines)
+  halos_say = said_signals c hs own_halos ∙ ap (line_signals c) (sym (halos_with c m hs))
+
+  pub stops_say : map stored_stop m.stops.items ≡ stops_of_lines c (stops lines)
+  stops_say = said_stops c m.stops.items own.stops ∙ ap (stops_of_lines c) (sym (stops_with c m hs))
+
+  -- what holds of all edge lines, halo lines or stops
+  pub of_edges : (P : BorderLine → Type 0) → All P (edges lines) → All (λ b. P (border_line c b)) m.edges.items
+  of_edges P h = all_unmapped P (border_line c) m.edges.items (subst (All P) (edges_with c m hs) h)
+
+  pub of_halos : (P : BorderLine → Type 0) → All P (halos lines) → All (λ b. P (border_line c b)) hs
+  of_halos P h = all_unmapped P (border_line c) hs (subst (All P) (halos_with c m hs) h)
+
+  pub of_stops : (P : StopLine → Type 0) → All P (stops lines) → All (λ s. P (stop_line c s)) m.stops.items
+  of_stops P h = all_unmapped P (stop_line c) m.stops.items (subst (All P) (stops_with c m hs) h)
+
+  module _ (l : LocalNet) (are : l.circuit_wires ≡ known c lines) where
+    abbrev Named : Option (List ℕ) → Type 0
+    Named signal = IfSome signal (λ name. IsTrue (is_local c l.circuit_wires name))
+
+    pub edges_local : All (HasLocalWire l) m.edges.items
+    edges_local k d lt =
+        known_wire c l.circuit_wires (get_or m.edges.items k d).wire (own.edges k d lt)
+        (subst (λ ws. IfSome (border_line c (get_or m.edges.items k d)).signal (λ name. IsTrue (is_local c ws name)))
+        (sym are) (of_edges (IsEdge g m.area (known c lines)) good.edge_lines k d lt).border.signal)
+
+    pub halos_local : All (HasLocalWire l) hs
+    halos_local k d lt =
+        known_wire c l.circuit_wires (get_or hs k d).wire (own_halos k d lt)
+        (subst (λ ws. IfSome (border_line c (get_or hs k d)).signal (λ name. IsTrue (is_local c ws name)))
+        (sym are) (of_halos (IsHalo g m.area (known c lines)) good.halo_lines k d lt).border.signal)
+
+    pub stops_local : All (λ s. IsTrue (is_among l.circuit_wires s.wire)) m.stops.items
+    stops_local k d lt =
+        known_wire c l.circuit_wires (Some (get_or m.stops.items k d).wire) (own.stops k d lt)
+        (subst (λ ws. IsTrue (is_local c ws (wire_name c (get_or m.stops.items k d).wire)))
+        (sym are) (of_stops (IsStop g m.area (known c lines)) good.stop_lines k d lt).wire)

@@ -1,0 +1,13 @@
+-- The lists have the places of the edge lines so far more.
+use Rattle.certificate.proofs.Imports.{AddsEdgePlaces, AreReady, List, Some, StoredModule, length, map, slice_get, take}
+use Rattle.certificate.proofs.Imports.{◌≡◌}
+use Rattle.certificate.proofs.neighbour_edges.push_module_places.Given as goal
+
+abbrev pub invariant-lines : goal.invariant-lines
+invariant-lines l = record {
+  table : AreReady l.boxes l.owners (map (λ l. l.items) l.lists.items);
+  count : length l.lists.items ≡ length l.fn.lists.items;
+  places : (ms : List StoredModule) (m : StoredModule) → slice_get ms l.number ≡ Some m → m.edges.items ≡ l.edges →
+      AddsEdgePlaces ms l.boxes (take l.line l.edges) (map (λ l. l.items) l.fn.lists.items)
+      (map (λ l. l.items) l.lists.items);
+}
