@@ -118,21 +118,13 @@ fourth_line c v = simp (fourth_by, clean_hex)
 -- the fourth line is the fourth part, and more parts follow it
 from_parts : (parts : List (List ℕ)) (w : List ℕ) → (slice_get parts 3 ≡ Some w) × (4 < length parts) →
     slice_get (ended_parts parts) 3 ≡ Some w
-from_parts [] w h = absurd (let e = h.1 in omega (arith, e))
-from_parts (a ∷ []) w h = absurd (let e = h.1 in omega (arith, e))
-from_parts (a ∷ b ∷ []) w h = absurd (let e = h.1 in omega (arith, e))
-from_parts (a ∷ b ∷ c ∷ []) w h = absurd (let e = h.1 in omega (arith, e))
-from_parts (a ∷ b ∷ c ∷ d ∷ []) w h = absurd (let e = h.1 in omega (arith, e))
 from_parts (a ∷ b ∷ c ∷ d ∷ e ∷ parts) w h = h.0
+from_parts _ w h = absurd (let e = h.1 in omega (arith, e))
 
 to_parts : (parts : List (List ℕ)) (w : List ℕ) → slice_get (ended_parts parts) 3 ≡ Some w →
     (slice_get parts 3 ≡ Some w) × (4 < length parts)
-to_parts [] w h = absurd cc
-to_parts (a ∷ []) w h = absurd cc
-to_parts (a ∷ b ∷ []) w h = absurd cc
-to_parts (a ∷ b ∷ c ∷ []) w h = absurd cc
-to_parts (a ∷ b ∷ c ∷ d ∷ []) w h = absurd cc
 to_parts (a ∷ b ∷ c ∷ d ∷ e ∷ parts) w h = (h, omega arith)
+to_parts _ w h = absurd cc
 
 -- the fourth line of an output
 abbrev HasYes : List ℕ → Type 0

@@ -147,12 +147,7 @@ in_module : (g : Setting) (before : List CertificateLine) (m : ModuleLines) (i :
     is_module i ≡ false → line_fault g m i ≡ None → entry_fault g before i ≡ None
 unfolding entry_fault
 in_module g before m (Module b) e h f = absurd cc
-in_module g before m (Cut n) e h f = ap (λ o. body_line_code g o (Cut n)) e ∙ f
-in_module g before m (Use k) e h f = ap (λ o. body_line_code g o (Use k)) e ∙ f
-in_module g before m (Keep k) e h f = ap (λ o. body_line_code g o (Keep k)) e ∙ f
-in_module g before m (Edge x) e h f = ap (λ o. body_line_code g o (Edge x)) e ∙ f
-in_module g before m (Halo x) e h f = ap (λ o. body_line_code g o (Halo x)) e ∙ f
-in_module g before m (Stop s) e h f = ap (λ o. body_line_code g o (Stop s)) e ∙ f
+in_module g before m x e h f = ap (λ o. body_line_code g o x) e ∙ f
 
 present_one : (b : Box2) (ms : List CertificateLine) → list_all (λ i. not (is_module i)) ms ≡ true →
     last_of (modules_of (Module b ∷ ms)) ≡ Some (record { area = b; lines = ms })

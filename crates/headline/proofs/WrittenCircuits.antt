@@ -100,14 +100,8 @@ kind_read : (k : GateKind) (rest : List (List ℕ)) → IsShort (Gate k) →
     gate_kind (gate_word k ∷ (gate_parameter_words k ++ rest)) ≡ Some k
 unfolding gate_kind bit_at is_word_at number_at
 kind_read (Source true) rest h = refl
-kind_read (Source false) rest h = refl
-kind_read Fredkin rest h = refl
-kind_read Cswap rest h = refl
-kind_read Interact rest h = refl
-kind_read Switch rest h = refl
 kind_read (Delay n) rest h = ap (λ o. o >>= λ m. Some (Delay m)) (number_written n (h n refl))
-kind_read Unswitch rest h = refl
-kind_read Uninteract rest h = refl
+kind_read _ rest h = refl
 
 head_length : (k : GateKind) → length (gate_word k ∷ gate_parameter_words k) ≡ words_before_names k
 head_length (Source b) = refl
