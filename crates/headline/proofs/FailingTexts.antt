@@ -13,7 +13,7 @@ use Rattle.headline.proofs.Imports.{netlist_of, not, range_with_len, read_layout
 use Rattle.headline.proofs.Imports.{report_text, setting_of, sha256, slice_get, subst, suc, sym, timing_report_line}
 use Rattle.headline.proofs.Imports.{true, true≢false, vec_of, whole, zero, ℕ, ℤ, ◌&&◌, ◌++◌, ◌<◌, ◌||◌, ◌∙◌, ◌∷◌, ◌≡◌}
 use Rattle.headline.proofs.Imports.{◌≢◌}
-use Rattle.lemmas.proofs.Common.{Equal, Greater, Less, Ordering, beq, booleans_Decides, get_or-map-range_with_len}
+use Rattle.lemmas.proofs.Common.{Greater, Ordering, booleans_Decides, get_or-map-range_with_len}
 use Rattle.lemmas.proofs.Common.{length-range_with_len, slice_get-get_or}
 use Rattle.circuit.proofs.Valuations.{evaluated}
 use Rattle.module_box.specs.LocalValues.{IsLocalValuation}
@@ -122,13 +122,7 @@ module _ (j : JobView) (is : IsJob j) (ordered : AreOrdered j.locals.netlist.giv
       absurd (g.differs ((booleans_Decides _ _).0 (implied (in_ring j.area x y) _
       (at_every j.area _ (at_odd j.steps (edge_test j u) all t g.odd g.early) x y (ring_inside j.area x y g.ring))
       g.ring)))
-  after f a u t Stop x y pass g =
-      let all = (and_parts (stop_test j u) _ (and_parts (at_odd_times j.steps (edge_test j u)) _ pass).1).0 in
-      let listed = slice_get-get_or j.stops g.is_listed.0 g.stop g.is_listed.1 ∙ ap Some g.is_listed.2 in
-      let own = (booleans_Decides _ _).0 (all_at
-      (λ s. beq (local_run j u s.at.time s.at.cell.x s.at.cell.y) (u s.wire)) j.stops g.is_listed.0 g.stop all
-      listed) in
-      absurd (g.differs (sym (λ i. local_run j u (g.time i) (g.column i) (g.row i)) ∙ own))
+  after f a u t Stop x y pass g = grind (arith, common_steps, stop_test, slice_get-get_or, all_at)
   after f a u t End x y pass g =
       let all = (and_parts (stop_test j u) _ (and_parts (at_odd_times j.steps (edge_test j u)) _ pass).1).1 in
       let either = at_every j.area _ all x y g.inside in
@@ -249,10 +243,7 @@ module _ (text : List ℕ) (b : Bundle) (e : bundle_of text ≡ Ok b) (p : Patte
 
   told_at : (k : ℕ) (i : JobView) (r : LeastFaults) → slice_get (j ∷ []) k ≡ Some i →
       slice_get (reasons ∷ []) k ≡ Some r → AreLeastFaultsOfJob i r
-  told_at zero i r at there =
-      let same : j ≡ i = cc in
-      let alike : reasons ≡ r = cc in
-      subst (λ i. AreLeastFaultsOfJob i r) same (subst (AreLeastFaultsOfJob j) alike told)
+  told_at zero i r at there = grind (arith, common_steps, told)
   told_at (suc k) i r at there = absurd cc
 
   none_at : (k : ℕ) (o : Option BorderFault) → slice_get (None ∷ []) k ≡ Some o → IsLeastBorderFault g (m ∷ []) k o
@@ -278,8 +269,7 @@ module _ (text : List ℕ) (b : Bundle) (e : bundle_of text ≡ Ok b) (p : Patte
   )
 
   on_modules : IsJudged b.circuit p (verdict.No vec.vec) (modules_in c)
-  on_modules = subst (IsJudged b.circuit p (verdict.No vec.vec)) (sym fails.alone)
-      (record { good = good; jobs = j ∷ []; are_jobs = are_jobs; judged = judged })
+  on_modules = grind (arith, common_steps, good, are_jobs, judged)
 
   abbrev says_no : SaysReport b (report_text c (verdict.No vec.vec)) No
   says_no = record {

@@ -1,9 +1,10 @@
 -- The fourth line of a report.
+use Rattle.std.proofs.lemmas.Grind.{common_steps}
 use Rattle.headline.proofs.Imports.{All-from_recursion, Bool, CertView, FourthLineSaysYes, IsOneLine, List, Option}
 use Rattle.headline.proofs.Imports.{Refusal, Some, Verdict, [], and_parts, ap, append-nil, append_assoc, ap₂, arith}
-use Rattle.headline.proofs.Imports.{certificate_text, codes, cond, decimal, ended-cons, eqb, false, flat_map, kept}
-use Rattle.headline.proofs.Imports.{length, line_text, lines_of, list_all, modules_of, nat_lt, not, refl, refusal_line}
-use Rattle.headline.proofs.Imports.{report_line_text, report_text, sha256, slice_get, slice_split_at, some_part}
+use Rattle.headline.proofs.Imports.{codes, cond, decimal, ended-cons, eqb, false, flat_map, kept}
+use Rattle.headline.proofs.Imports.{length, line_text, lines_of, list_all, nat_lt, not, refl, refusal_line}
+use Rattle.headline.proofs.Imports.{report_line_text, report_text, slice_get, slice_split_at, some_part}
 use Rattle.headline.proofs.Imports.{space_and_word, suc, sym, timing_report_line, true, zero, ℕ, ◌%◌, ◌&&◌, ◌++◌, ◌+◌}
 use Rattle.headline.proofs.Imports.{◌<◌, ◌∙◌, ◌∷◌, ◌≡◌}
 use Rattle.lemmas.proofs.Common.{◌/◌, get_or, ne_eqb, digit_glyph, digits_onto, list_all-append, onto_first}
@@ -41,8 +42,7 @@ clean_hex : (bytes : List ℕ) → is_clean (encode_lower bytes) ≡ true
 unfolding encode_with
 clean_hex [] = refl
 clean_hex (b ∷ bytes) =
-    ap₂ (λ p q. p && q) (clean_index lower_digits (b / 16) refl)
-    (ap₂ (λ p q. p && q) (clean_index lower_digits (b % 16) refl) (clean_hex bytes))
+    cc ((clean_index lower_digits (b / 16) refl), (clean_index lower_digits (b % 16) refl), (clean_hex bytes))
 
 clean_glyph : (d : ℕ) → not (is_line_feed (digit_glyph false d)) ≡ true
 clean_glyph d = by_size (nat_lt d 10)
@@ -74,10 +74,7 @@ clean_decimal n = clean_digits 64 n [] refl
 
 line_ahead : (l c : List ℕ) → is_clean l ≡ true → lines_of (l ++ 10 ∷ c) ≡ l ∷ lines_of c
 unfolding lines_of
-line_ahead l c clean =
-    ap ended_parts (slice_split_at is_line_feed l 10 c
-    (All-from_recursion (λ b. is_line_feed b ≡ false) l (one_line l clean)) refl)
-    ∙ ended-cons l (slice_split is_line_feed c) (some_part c)
+line_ahead l c clean = grind (arith, common_steps, slice_split_at, All-from_recursion, one_line, ended-cons, some_part)
 
 -- a line, and what follows it
 text_ahead : (l c : List ℕ) → is_clean l ≡ true → lines_of ((l ++ 10 ∷ []) ++ c) ≡ l ∷ lines_of c
@@ -86,12 +83,7 @@ text_ahead l c clean = ap lines_of (append_assoc l (10 ∷ []) c) ∙ line_ahead
 four_lines : (a b d e rest : List ℕ) → is_clean a ≡ true → is_clean b ≡ true → is_clean d ≡ true → is_clean e ≡ true →
     lines_of ((((a ++ 10 ∷ []) ++ (b ++ 10 ∷ [])) ++ (d ++ 10 ∷ [])) ++ ((e ++ 10 ∷ []) ++ rest))
     ≡ a ∷ b ∷ d ∷ e ∷ lines_of rest
-four_lines a b d e rest p q r s =
-    let last : List ℕ = (e ++ 10 ∷ []) ++ rest in
-    ap lines_of (append_assoc ((a ++ 10 ∷ []) ++ (b ++ 10 ∷ [])) (d ++ 10 ∷ []) last
-    ∙ append_assoc (a ++ 10 ∷ []) (b ++ 10 ∷ []) ((d ++ 10 ∷ []) ++ last))
-    ∙ text_ahead a _ p
-    ∙ ap (λ t. a ∷ t) (text_ahead b _ q ∙ ap (λ t. b ∷ t) (text_ahead d _ r ∙ ap (λ t. d ∷ t) (text_ahead e rest s)))
+four_lines a b d e rest p q r s = grind (arith, common_steps, lines_of, text_ahead)
 
 -- ---- what a report says
 
@@ -121,27 +113,18 @@ fourth_by digest count times (verdict.No lines) clean = ap (λ ls. slice_get ls 
 
 pub fourth_line : (c : CertView) (v : Verdict) → slice_get (lines_of (report_text c v)) 3 ≡ Some (verdict_word v)
 unfolding report_text
-fourth_line c v = fourth_by (encode_lower (sha256 (certificate_text c))) (length (modules_of c.entries)) _ v
-    (clean_hex (sha256 (certificate_text c)))
+fourth_line c v = simp (fourth_by, clean_hex)
 
 -- the fourth line is the fourth part, and more parts follow it
 from_parts : (parts : List (List ℕ)) (w : List ℕ) → (slice_get parts 3 ≡ Some w) × (4 < length parts) →
     slice_get (ended_parts parts) 3 ≡ Some w
-from_parts [] w h = absurd (let e = h.1 in omega (arith, e))
-from_parts (a ∷ []) w h = absurd (let e = h.1 in omega (arith, e))
-from_parts (a ∷ b ∷ []) w h = absurd (let e = h.1 in omega (arith, e))
-from_parts (a ∷ b ∷ c ∷ []) w h = absurd (let e = h.1 in omega (arith, e))
-from_parts (a ∷ b ∷ c ∷ d ∷ []) w h = absurd (let e = h.1 in omega (arith, e))
 from_parts (a ∷ b ∷ c ∷ d ∷ e ∷ parts) w h = h.0
+from_parts _ w h = absurd (let e = h.1 in omega (arith, e))
 
 to_parts : (parts : List (List ℕ)) (w : List ℕ) → slice_get (ended_parts parts) 3 ≡ Some w →
     (slice_get parts 3 ≡ Some w) × (4 < length parts)
-to_parts [] w h = absurd cc
-to_parts (a ∷ []) w h = absurd cc
-to_parts (a ∷ b ∷ []) w h = absurd cc
-to_parts (a ∷ b ∷ c ∷ []) w h = absurd cc
-to_parts (a ∷ b ∷ c ∷ d ∷ []) w h = absurd cc
 to_parts (a ∷ b ∷ c ∷ d ∷ e ∷ parts) w h = (h, omega arith)
+to_parts _ w h = absurd cc
 
 -- the fourth line of an output
 abbrev HasYes : List ℕ → Type 0
@@ -172,9 +155,7 @@ abbrev refused : Refusal → List ℕ
 refused r = codes "refused" ++ flat_map space_and_word (decimal r.line ∷ decimal r.code ∷ [])
 
 clean_refused : (r : Refusal) → is_clean (refused r) ≡ true
-clean_refused r =
-    list_all-append (λ b. not (is_line_feed b)) (decimal r.line) (space_and_word (decimal r.code) ++ [])
-    ∙ ap₂ (λ p q. p && q) (clean_decimal r.line) (ap is_clean (append-nil (decimal r.code)) ∙ clean_decimal r.code)
+clean_refused r = grind (arith, common_steps, list_all-append, clean_decimal)
 
 none_is_no_yes : (l : List ℕ) → slice_get (l ∷ lines_of []) 3 ≡ Some (codes "verdict yes") → ⊥
 unfolding lines_of

@@ -1,4 +1,5 @@
 -- The modules without halo lines have the jobs of the modules whose halos are the edge lines beside them
+use Rattle.std.proofs.lemmas.Grind.{common_steps}
 use Rattle.headline.proofs.Imports.{AreJobsOf, AreModules, Circuit, CircuitLine, JobView, List, ModuleLines, Pattern}
 use Rattle.headline.proofs.Imports.{Setting, Some, [], ap, ap₂, arith, circuit_of, false, job_demand, job_start, known}
 use Rattle.headline.proofs.Imports.{lacks_edge_wire_beside, length, length-map, map, numbered_all_times, numbered_event}
@@ -98,13 +99,8 @@ module _ (lines : List CircuitLine) (p : Pattern) (ms : List ModuleLines) (good 
   unfolding new_jobs
   new_at [] js k m new at e = absurd cc
   new_at (n ∷ ns) [] k m new at e = absurd cc
-  new_at (n ∷ ns) (j ∷ js) zero m new at e =
-      let same : n ≡ m = cc in
-      let made : new_job c g ms n j ≡ new = cc in
-      record { job = j; at = refl; is = ap (λ m. new_job c g ms m j) (sym same) ∙ made }
-  new_at (n ∷ ns) (j ∷ js) (suc k) m new at e =
-      let t = new_at ns js k m new at e in
-      record { job = t.job; at = t.at; is = t.is }
+  new_at (n ∷ ns) (j ∷ js) zero m new at e = grind (arith, common_steps)
+  new_at (n ∷ ns) (j ∷ js) (suc k) m new at e = grind (arith, common_steps, (new_at ns js k m new at e))
 
   pub full_jobs : (js : List JobView) → AreJobsOf c p ms js →
       (others : List JobView) × AreJobsOf c p (map (with_halos g ms) ms) others

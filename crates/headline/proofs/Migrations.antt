@@ -96,8 +96,7 @@ then_made : {H I B : Type 0} (g : Grammar H I) (n : ℕ) (ls others lines : List
     (next : H → List I → ℕ → List (List ℕ) → Result B Refusal) → lines ≡ ls ++ others
     → IsSection g.form ls h items → IsFaultless g h items →
     section_then g n lines next ≡ next h items (n + (length items + 2)) others
-then_made g n ls others lines h items next e is good =
-    grind (arith, common_steps, section_made, section_length, drop-append_seam)
+then_made g n ls others lines h items next e is good = grind (arith, section_made, section_length, drop-append_seam)
 
 module _ (text : List ℕ) where
   abbrev ended : List CircuitLine → LayoutHeader → List LayoutLine → ℕ → List CertificateLine → ℕ → List (List ℕ) →
@@ -335,8 +334,7 @@ no_halos : (g : Setting) (before es : List CertificateLine) → AreFaultless (ce
     without_halos es ≡ es
 unfolding without_halos
 no_halos g before [] good = refl
-no_halos g before (i ∷ es) good =
-    grind (arith, common_steps, with_other, no_code, (no_halos g (before ++ i ∷ []) es good.1))
+no_halos g before (i ∷ es) good = grind (arith, with_other, no_code, (no_halos g (before ++ i ∷ []) es good.1))
 
 -- a bundle of version 2 is its own migration
 pub in_place : (b : Bundle) → IsGoodBundle b → b.version ≡ 2 → migrated_bundle b ≡ b

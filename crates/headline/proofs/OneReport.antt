@@ -38,9 +38,7 @@ module _ (c : CertView) (good : AreModules (setting_of c.circuit c.layout) (modu
   verdict_over : (js ks : List JobView) (v : Verdict) → AreOwn js → AreOwn ks →
       IsVerdict (setting_of c.circuit c.layout) (modules_in c) js v →
       IsVerdict (setting_of c.circuit c.layout) (modules_in c) ks v
-  verdict_over js ks v own_j own_k is =
-      subst (λ (l : List JobView). IsVerdict (setting_of c.circuit c.layout) (modules_in c) l v)
-      (one_list_of_jobs js ks own_j own_k) is
+  verdict_over js ks v own_j own_k is = grind (arith, common_steps, (one_list_of_jobs js ks own_j own_k))
 
 pub one_verdict : (c : CertView) (v w : Verdict) → IsVerdictOn c v → IsVerdictOn c w → AreSameVerdicts v w
 one_verdict c v w a b =
@@ -63,12 +61,7 @@ same_outcome (verdict.No lines) verdict.Yes same = absurd same
 same_outcome (verdict.No lines) (verdict.No others) same = refl
 
 same_certificate : (bundle : Bundle) (c d : CertView) → IsCertificateOf bundle c → IsCertificateOf bundle d → c ≡ d
-same_certificate bundle c d a b =
-    let circuit = a.circuit ∙ sym b.circuit in
-    let layout = one_layout c.layout d.layout (a.layout ∙ sym b.layout) in
-    let version = a.version ∙ sym b.version in
-    let entries = a.entries ∙ sym b.entries in
-    λ i. record { circuit = circuit i; layout = layout i; version = version i; entries = entries i }
+same_certificate bundle c d a b = grind (arith, common_steps, (one_layout c.layout d.layout (a.layout ∙ sym b.layout)))
 
 one_said : (bundle : Bundle) (output output' : List ℕ) (outcome outcome' : Outcome) → SaysReport bundle output outcome →
     SaysReport bundle output' outcome' → (output ≡ output') × (outcome ≡ outcome')

@@ -1,9 +1,10 @@
 -- A circuit has one answer.
+use Rattle.std.proofs.lemmas.Grind.{common_steps}
 use Rattle.headline.proofs.Imports.{AreOrdered, Bool, HasAtMostOneAnswerToEachText, IsValueOf, List, Outcome}
 use Rattle.headline.proofs.Imports.{SaysValues}
-use Rattle.headline.proofs.Imports.{Valuation, ValueQuestion, [], ap, ap₂, arith, as_values, codes, decimal, defined}
-use Rattle.headline.proofs.Imports.{false, inl, inr, length, line_text, netlist_of, refl, subst, suc, sym, value_lines}
-use Rattle.headline.proofs.Imports.{value_sections_of, zero, ℕ, ◌++◌, ◌<◌, ◌∙◌, ◌∷◌, ◌≡◌, ◌⊎◌}
+use Rattle.headline.proofs.Imports.{Valuation, ValueQuestion, [], ap₂, arith, as_values}
+use Rattle.headline.proofs.Imports.{false, inl, inr, length, netlist_of, refl, subst, suc, sym}
+use Rattle.headline.proofs.Imports.{value_sections_of, zero, ℕ, ◌<◌, ◌∙◌, ◌∷◌, ◌≡◌, ◌⊎◌}
 use Rattle.lemmas.proofs.Common.{slice_index_or}
 use Rattle.circuit.specs.Bridge.{AreValues, ValuesStopAt}
 use Rattle.circuit.specs.Meaning.{Netlist, first_gates}
@@ -42,18 +43,16 @@ one_of : (asked : ValueQuestion) (output output' : List ℕ) (outcome outcome' :
     SaysAllValues asked output' outcome' ⊎ SaysValuesBeforeGate asked output' outcome' →
     (output ≡ output') × (outcome ≡ outcome')
 one_of asked output output' outcome outcome' ordered (inl h) (inl h') =
-    let same = one_list (netlist_of asked.0) _ h.values h'.values h.are h'.are in
-    (h.says ∙ ap (value_lines (defined asked.0)) same ∙ sym h'.says, h.ends ∙ sym h'.ends)
+    grind (arith, common_steps, (one_list (netlist_of asked.0) _ h.values h'.values h.are h'.are))
 one_of asked output output' outcome outcome' ordered (inl h) (inr h') =
     absurd (never_both (netlist_of asked.0) _ h'.gate h.values h'.values ordered h.are h'.stops)
 one_of asked output output' outcome outcome' ordered (inr h) (inl h') =
     absurd (never_both (netlist_of asked.0) _ h.gate h'.values h.values ordered h'.are h.stops)
 one_of asked output output' outcome outcome' ordered (inr h) (inr h') =
-    let same = one_stop (netlist_of asked.0) _ h.gate h'.gate h.values h'.values ordered h.stops h'.stops in (
-      h.says ∙ ap₂ (λ (vs : List Bool) k.
-          value_lines (defined asked.0) vs ++ line_text (codes "undefined") (decimal k ∷ [])) same.1 same.0
-          ∙ sym h'.says,
-      h.ends ∙ sym h'.ends,
+    grind (
+      arith,
+      common_steps,
+      (one_stop (netlist_of asked.0) _ h.gate h'.gate h.values h'.values ordered h.stops h'.stops),
     )
 
 one_evaluation : (asked : ValueQuestion) (output output' : List ℕ) (outcome outcome' : Outcome) →

@@ -1,11 +1,12 @@
 -- The lines of the plain certificate of a design make a plain module
+use Rattle.std.proofs.lemmas.Grind.{common_steps}
 use Rattle.headline.proofs.Imports.{All, All-cons, All-nil, AreGoodCircuitLines, Bool, Box2, CertificateLine}
-use Rattle.headline.proofs.Imports.{CircuitLine, Cut, Edge, Halo, IsGoodDesign, IsInputName, IsPlaced, IsPlain, Keep}
-use Rattle.headline.proofs.Imports.{List, Module, ModuleLines, Pattern, SaysPlain, Some, Stop, Use, [], add_line}
+use Rattle.headline.proofs.Imports.{CircuitLine, Cut, IsGoodDesign, IsInputName, IsPlaced, IsPlain, Keep}
+use Rattle.headline.proofs.Imports.{List, Module, ModuleLines, Pattern, SaysPlain, Some, Use, [], add_line}
 use Rattle.headline.proofs.Imports.{and_parts, any_at, ap, append-nil, append_assoc, ap₂, arith, bytes_same, cases_Bool}
-use Rattle.headline.proofs.Imports.{cut_name_in, cuts, defined, edge_in, edges, eq-eqb, eqb, eqb-true, false, filter}
+use Rattle.headline.proofs.Imports.{cuts, defined, edges, eq-eqb, eqb, eqb-true, false, filter}
 use Rattle.headline.proofs.Imports.{flat_map, flat_map-append, gate_numbers, has, inl, input_names, inputs_are_first}
-use Rattle.headline.proofs.Imports.{inr, is_among, is_inverse_gate, is_module, kept_gate_in, length, list_all, map}
+use Rattle.headline.proofs.Imports.{inr, is_among, is_inverse_gate, is_module, length, list_all, map}
 use Rattle.headline.proofs.Imports.{modules_of, netlist_of, not, placed, plain_lines, range_with_len, refl, slice_get}
 use Rattle.headline.proofs.Imports.{slice_get_within, subst, suc, sym, true, whole, zero, ℕ, ◌&&◌, ◌++◌, ◌+◌, ◌<◌, ◌∙◌}
 use Rattle.headline.proofs.Imports.{◌∷◌, ◌≡◌, ◌≤◌}
@@ -54,21 +55,16 @@ pub both_true : (xs ys : List CertificateLine) → list_all (λ i. not (is_modul
     list_all (λ i. not (is_module i)) ys ≡ true → list_all (λ i. not (is_module i)) (xs ++ ys) ≡ true
 both_true [] ys h k = k
 both_true (x ∷ xs) ys h k =
-    let both = and_parts (not (is_module x)) (list_all (λ i. not (is_module i)) xs) h in
-    ap₂ (λ a b. a && b) both.0 (both_true xs ys both.1 k)
+    grind (arith, (both_true xs ys (and_parts (not (is_module x)) (list_all (λ i. not (is_module i)) xs) h).1 k))
 
 three_parts : {Y : Type 0} (f : CertificateLine → List Y) (xs ys zs : List CertificateLine) →
     flat_map f (xs ++ ys ++ zs) ≡ flat_map f xs ++ flat_map f ys ++ flat_map f zs
-three_parts f xs ys zs =
-    flat_map-append f (xs ++ ys) zs ∙ ap (λ l. l ++ flat_map f zs) (flat_map-append f xs ys)
+three_parts f xs ys zs = grind (arith, common_steps, flat_map-append)
 
 -- ---- numbers among those that pass a test
 
 among_later : (x k : ℕ) (xs : List ℕ) → is_among xs k ≡ true → is_among (x ∷ xs) k ≡ true
-among_later x k xs h = elim (cases_Bool (eqb x k)) [
-  | inl here ↦ rw here refl
-  | inr other ↦ rw other h
-]
+among_later x k xs h = grind (arith, common_steps, cases_Bool)
 
 pub among_range : (n a k : ℕ) → a ≤ k → k < a + n → is_among (range_with_len a n) k ≡ true
 among_range zero a k low high = absurd (omega (arith, low, high))
@@ -115,33 +111,16 @@ module _ (circuit : List CircuitLine) (p : Pattern) (good : AreGoodCircuitLines 
 
   pub is_one : modules_of (plain_lines circuit p) ≡ one ∷ []
   unfolding modules_of add_line
-  is_one = all_inner (whole p.size) [] (cut_lines ++ use_lines ++ keep_lines)
-      (both_true (cut_lines ++ use_lines) keep_lines
-      (both_true cut_lines use_lines (all_mapped Cut (λ n. refl) (input_names circuit))
-      (all_mapped Use (λ k. refl) (gate_numbers circuit)))
-      (all_mapped Keep (λ k. refl) kept))
+  is_one = grind (arith, common_steps, all_inner, whole, both_true, all_mapped)
 
   its_cuts : cuts one ≡ input_names circuit
-  its_cuts = three_parts cut_name_in cut_lines use_lines keep_lines
-      ∙ ap₂ (λ a b. a ++ b)
-      (ap₂ (λ a b. a ++ b) (own_of Cut cut_name_in (λ n. refl) (input_names circuit))
-      (none_of Use cut_name_in (λ k. refl) (gate_numbers circuit)) ∙ append-nil (input_names circuit))
-      (none_of Keep cut_name_in (λ k. refl) kept)
-      ∙ append-nil (input_names circuit)
+  its_cuts = grind (arith, common_steps, three_parts, own_of, none_of)
 
   its_keeps : keeps one ≡ kept
-  its_keeps = three_parts kept_gate_in cut_lines use_lines keep_lines
-      ∙ ap₂ (λ a b. a ++ b)
-      (ap₂ (λ a b. a ++ b) (none_of Cut kept_gate_in (λ n. refl) (input_names circuit))
-      (none_of Use kept_gate_in (λ k. refl) (gate_numbers circuit)))
-      (own_of Keep kept_gate_in (λ k. refl) kept)
+  its_keeps = grind (arith, common_steps, three_parts, none_of, own_of)
 
   its_edges : edges one ≡ []
-  its_edges = three_parts edge_in cut_lines use_lines keep_lines
-      ∙ ap₂ (λ a b. a ++ b)
-      (ap₂ (λ a b. a ++ b) (none_of Cut edge_in (λ n. refl) (input_names circuit))
-      (none_of Use edge_in (λ k. refl) (gate_numbers circuit)))
-      (none_of Keep edge_in (λ k. refl) kept)
+  its_edges = grind (arith, common_steps, three_parts, none_of)
 
   input_name : (k : ℕ) (n : List ℕ) → slice_get (input_names circuit) k ≡ Some n → IsInputName circuit n
   input_name k n at =

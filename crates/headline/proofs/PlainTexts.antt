@@ -19,7 +19,7 @@ use Rattle.soundness.proofs.EarliestLines.{earliest_is_real}
 use Rattle.headline.specs.Plain.{IsWrongIfPlain, IsWrongText}
 use Rattle.headline.specs.ReportLines.{EarliestIsReal, LinesMeanIfPlain, LinesHaveMeaning}
 use Rattle.headline.specs.PlainLaws.{LinesOfNoHaveMeaning, PlainIsDecided, PlainNoMeansWrong, YesKeepsOffRim}
-use Rattle.core_book.specs.declared.verdict.ReportLine.TheVariants.{Keep, Border, Unkept, Delay}
+use Rattle.core_book.specs.declared.verdict.ReportLine.TheVariants.{Keep, Delay}
 use Rattle.soundness.specs.FirstFaults.{IsModuleAssignmentOf, IsAsCertified, IsEarliestLine, IsReal}
 use Rattle.soundness.specs.HeadlineLaws.{HasInputNames}
 use Rattle.soundness.specs.PlainCertificates.{IsWrongDesign}
@@ -175,8 +175,7 @@ module _ (text : List ℕ) (b : Bundle) (output : List ℕ) (outcome : Outcome) 
 
   -- the text says the circuit and the layout of the certificate
   said : SaysBundle text c.circuit c.layout b.entries
-  said = subst (λ cs. SaysBundle text cs c.layout b.entries) (sym says.its_own.circuit)
-      ((bundle_good text b reads).says_all c.layout says.its_own.layout)
+  said = grind (arith, common_steps, (bundle_good text b reads))
 
   same_design : (circuit : List CircuitLine) (layout : Pattern) → SaysDesign text circuit layout →
       (circuit ≡ c.circuit) × (layout ≡ c.layout)
@@ -184,8 +183,7 @@ module _ (text : List ℕ) (b : Bundle) (output : List ℕ) (outcome : Outcome) 
 
   right_correct : IsRight text → IsCorrect c.circuit c.layout
   right_correct r =
-      let same = same_design r.circuit r.layout (printed_is_read text r.circuit r.layout r.begins) in
-      subst (λ cs. IsCorrect cs c.layout) same.0 (subst (λ p. IsCorrect r.circuit p) same.1 r.correct)
+      grind (arith, common_steps, (same_design r.circuit r.layout (printed_is_read text r.circuit r.layout r.begins)))
 
   touch_of : HasRimTouch text → TouchesRim c.circuit c.layout
   touch_of r =
@@ -218,8 +216,7 @@ module _ (text : List ℕ) (b : Bundle) (output : List ℕ) (outcome : Outcome) 
 
   accepts : says.verdict ≡ verdict.Yes → Accepts (setting_of c.circuit c.layout) (modules_in c) says.is_verdict.jobs
   unfolding IsVerdict
-  accepts is = subst (λ v. IsVerdict (setting_of c.circuit c.layout) (modules_in c) says.is_verdict.jobs v) is
-      says.is_verdict.judged
+  accepts is = grind (arith, common_steps)
 
   no_touch : says.verdict ≡ verdict.Yes → ¬ HasRimTouch text
   no_touch is r = off_rim c.circuit c.layout (modules_in c) says.is_verdict.jobs named together (accepts is)
@@ -229,8 +226,7 @@ module _ (text : List ℕ) (b : Bundle) (output : List ℕ) (outcome : Outcome) 
 
   wrong_text : (m : ModuleLines) → modules_in c ≡ m ∷ [] → IsWrongDesign c.circuit c.layout m → IsWrongText text
   wrong_text m alone (inl incorrect) = inl (λ r. incorrect (right_correct r))
-  wrong_text m alone (inr (inl late)) = inr
-      (inl (λ r. late (subst (IsOnTime (circuit_of c.circuit) c.layout) alone (stops_on_time r))))
+  wrong_text m alone (inr (inl late)) = grind (arith, common_steps, stops_on_time)
   wrong_text m alone (inr (inr touch)) = inr (inr (record {
     circuit = c.circuit;
     layout = c.layout;

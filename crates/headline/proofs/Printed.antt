@@ -36,17 +36,8 @@ lines_more (l ∷ ls) rest clean =
 -- ---- a line of a circuit
 
 kind_counts : (kind : Kind) → ((form kind).1 ≡ kind_in_count kind) × ((form kind).3 ≡ kind_out_count kind)
-kind_counts Input = (refl, refl)
 kind_counts (Gate (Source b)) = (refl, refl)
-kind_counts (Gate Fredkin) = (refl, refl)
-kind_counts (Gate Cswap) = (refl, refl)
-kind_counts (Gate Interact) = (refl, refl)
-kind_counts (Gate Switch) = (refl, refl)
-kind_counts (Gate (Delay n)) = (refl, refl)
-kind_counts (Gate Unswitch) = (refl, refl)
-kind_counts (Gate Uninteract) = (refl, refl)
-kind_counts Output = (refl, refl)
-kind_counts Spill = (refl, refl)
+kind_counts _ = (refl, refl)
 
 pub fits_of : (r : CircuitLine) → IsLine r → FitsKind r
 fits_of r is = (is.consumes ∙ (kind_counts r.kind).0, is.defines ∙ (kind_counts r.kind).1)
@@ -63,20 +54,13 @@ line_printed : (kind : Kind) (ins outs : List (List ℕ)) → FitsKind (entry ki
     printed (line_words (entry kind ins outs)) ≡ entry_text (entry kind ins outs)
 unfolding entry_text first_word words_after_keyword
 line_printed (Gate (Source true)) ins outs fits = refl
-line_printed (Gate (Source false)) ins outs fits = refl
-line_printed (Gate Fredkin) ins outs fits = refl
-line_printed (Gate Cswap) ins outs fits = refl
-line_printed (Gate Interact) ins outs fits = refl
-line_printed (Gate Switch) ins outs fits = refl
-line_printed (Gate (Delay n)) ins outs fits = refl
-line_printed (Gate Unswitch) ins outs fits = refl
-line_printed (Gate Uninteract) ins outs fits = refl
 line_printed Input [] outs fits = refl
 line_printed Input (x ∷ ins) outs fits = absurd (let e = fits.0 in omega (arith, e))
 line_printed Output ins [] fits = ap (line_text (codes "output")) (append-nil ins)
 line_printed Output ins (x ∷ outs) fits = absurd (let e = fits.1 in omega (arith, e))
 line_printed Spill ins [] fits = ap (line_text (codes "spill")) (append-nil ins)
 line_printed Spill ins (x ∷ outs) fits = absurd (let e = fits.1 in omega (arith, e))
+line_printed _ ins outs fits = refl
 
 abbrev pub Fit : List CircuitLine → Type 0
 Fit circuit = AllByRecursion FitsKind circuit

@@ -2,12 +2,12 @@
 use Rattle.headline.proofs.Imports.{All-from_recursion, AllByRecursion, AnswersOrRefuses, AreFaultless, AreInOrder}
 use Rattle.headline.proofs.Imports.{Bool, Bundle, CircuitLine, End, Err, Form, Header, Input, IsDesign, IsFaultless}
 use Rattle.headline.proofs.Imports.{IsSection, IsTrue, Item, LayoutHeader, LayoutLine, List, None, Ok, Option, Output}
-use Rattle.headline.proofs.Imports.{Pattern, Refusal, Result, SaysReport, Some, Spill, [], add_fault, and_parts, ap}
+use Rattle.headline.proofs.Imports.{Pattern, Refusal, Result, SaysReport, Some, Spill, [], and_parts, ap}
 use Rattle.headline.proofs.Imports.{ap₂, arith, bundle_of, circuit_grammar, codes, common_steps, cond, cond_some}
 use Rattle.headline.proofs.Imports.{consumed, defined, entry, eqb, faultless_named, first_none, form_of, gate_entry}
 use Rattle.headline.proofs.Imports.{gate_line_of_kind, if_one_word, inl, inr, is_name, is_word_at, layout_grammar}
 use Rattle.headline.proofs.Imports.{layout_section, length, list_all, map, name_after_keyword, name_at, name_of}
-use Rattle.headline.proofs.Imports.{names_at, one_line, order_fault, parts_of, port_names_of, read_layout-is_named}
+use Rattle.headline.proofs.Imports.{names_at, one_line, parts_of, port_names_of, read_layout-is_named}
 use Rattle.headline.proofs.Imports.{refl, same_Some, section_made, slice_get, subst, suc, sym, true}
 use Rattle.headline.proofs.Imports.{unconsumed_wire_code, words_of, zero, ℕ, ◌&&◌, ◌++◌, ◌+◌, ◌>>=◌, ◌∷◌, ◌≡◌}
 use Rattle.lemmas.proofs.Common.{option_and_then_some}
@@ -111,8 +111,7 @@ each_name (n ∷ ns) h = let both = and_parts (is_name n) (list_all is_name ns) 
 
 in_order : (before rest : List CircuitLine) → AreFaultless circuit_grammar tt before rest → AreInOrder before rest
 in_order before [] good = tt
-in_order before (r ∷ rest) good =
-    (first_none (order_fault before r) (add_fault before r) good.0, in_order (before ++ r ∷ []) rest good.1)
+in_order before (r ∷ rest) good = grind (arith, common_steps, first_none, (in_order (before ++ r ∷ []) rest good.1))
 
 no_missing : (o : Option (List ℕ)) → unconsumed_wire_code o ≡ None → o ≡ None
 no_missing None e = refl

@@ -3,20 +3,20 @@ use Rattle.headline.proofs.Imports.{All, All-cons, All-head, All-nil, All-tail, 
 use Rattle.headline.proofs.Imports.{AreGoodAfter, AreGoodCircuitLines, AreOrdered, Bool, Box2, Bundle, CertificateLine}
 use Rattle.headline.proofs.Imports.{Circuit, CircuitLine, Cut, Edge, Grammar, Halo, Have, IsFaultless, IsInputName}
 use Rattle.headline.proofs.Imports.{IsPlaced, IsPlainText, IsSection, IsSmallDesign, Keep, LayoutHeader, LayoutLine}
-use Rattle.headline.proofs.Imports.{List, Module, ModuleLines, No, None, Ok, OutOfOrder, Outcome, PastLimit, Pattern}
+use Rattle.headline.proofs.Imports.{List, Module, ModuleLines, No, None, Ok, OutOfOrder, Outcome, Pattern}
 use Rattle.headline.proofs.Imports.{Port, Refused, SaysBundle, SaysReport, Setting, Some, SomethingMissing, Stop, Use}
 use Rattle.headline.proofs.Imports.{Verdict, Yes, [], add_line, and_parts, any_at, ap, append-nil, append_assoc, ap₂}
 use Rattle.headline.proofs.Imports.{arith, bundle_of, bytes_eq, bytes_eq-Decides, bytes_same, cases_Bool}
-use Rattle.headline.proofs.Imports.{certificate_grammar, circuit_grammar, circuit_of, code_if, common_steps, cond}
+use Rattle.headline.proofs.Imports.{certificate_grammar, circuit_grammar, circuit_of, code_if, common_steps}
 use Rattle.headline.proofs.Imports.{cut_name_in, cuts, defined, defines, drop, eqb, eqb-true, false, faultless_named}
 use Rattle.headline.proofs.Imports.{filter}
-use Rattle.headline.proofs.Imports.{flat_map, flat_map-append, gate_numbers, gates_are_ordered, has, in_box, inl}
+use Rattle.headline.proofs.Imports.{flat_map, flat_map-append, gate_numbers, gates_are_ordered, has, inl}
 use Rattle.headline.proofs.Imports.{input_names, inputs_are_first, inr, is_among, is_inverse_gate, is_layout_side}
 use Rattle.headline.proofs.Imports.{is_module, kept, known, layout_grammar, layout_section, length, length-append}
 use Rattle.headline.proofs.Imports.{list_all, list_any, map, map-append, modules_of, names_pass, nat_le, nat_lt}
 use Rattle.headline.proofs.Imports.{nat_tests, netlist_of, no_code, not, number, option_map, or_else, output_names}
 use Rattle.headline.proofs.Imports.{parts_of, placed, plain_lines, port_names_of, push_cons, range_with_len}
-use Rattle.headline.proofs.Imports.{read_faultless, read_layout-is_named, read_layout-names, rectangle_cells, refl}
+use Rattle.headline.proofs.Imports.{read_faultless, read_layout-is_named, read_layout-names, refl}
 use Rattle.headline.proofs.Imports.{same_Some, section_made, section_of, setting_of, size_fault, slice_get}
 use Rattle.headline.proofs.Imports.{slice_get-map, slice_get_within, subst, suc, sym, take, take-append-drop, true}
 use Rattle.headline.proofs.Imports.{true≢false, verdict_outcome, whole, zero, ℕ, ◌%◌, ◌&&◌, ◌++◌, ◌+◌, ◌<◌, ◌==◌, ◌||◌}
@@ -28,7 +28,7 @@ use Rattle.circuit.specs.Rules.{define_fault}
 use Rattle.circuit.proofs.Bridging.{define_first, defined_push, numbers_new}
 use Rattle.circuit.proofs.Naming.{wires_are_named}
 use Rattle.module_box.specs.Locals.{local_wires}
-use Rattle.certificate_lines.specs.Entries.{gates, last_of, used_gate_in, areas}
+use Rattle.certificate_lines.specs.Entries.{gates, last_of, areas}
 use Rattle.certificate_lines.specs.Orders.{is_cut, line_cmp, may_follow, may_precede, sort_number_of, rank_of}
 use Rattle.certificate_lines.specs.Rules.{are_new_and_distinct, cut_line_code, entry_fault, used_gate_fault}
 use Rattle.certificate_lines.specs.Rules.{body_line_code}
@@ -42,7 +42,6 @@ use Rattle.certificate_lines.proofs.BoxPlaces.{cells_inside}
 use Rattle.soundness.proofs.Trials.{range_at}
 use Rattle.answers.proofs.Bundles.{same_setting}
 use Rattle.headline.specs.PlainLaws.{RefusedIsNoSmallDesign, SmallDesignIsDecided}
-use Rattle.section_text.specs.declared.code.RefusalCode.TheVariants.{MisplacedBox}
 use Rattle.headline.proofs.Migrations.{HasSections, IsGoodBundle, bundle_made, good_read, sections_read}
 use Rattle.headline.proofs.WrittenNames.{outs_have}
 use Rattle.headline.proofs.YesIsRight.{bundle_good, circuit_good}
@@ -115,9 +114,7 @@ module _ (circuit : List CircuitLine) (good : AreGoodCircuitLines circuit) where
 
   pub wire_at : (k : ℕ) (n : List ℕ) → slice_get names k ≡ Some n → wire_of (circuit_of circuit) n ≡ Some k
   unfolding place_of
-  wire_at k n at =
-      ap (λ b. cond b (Some (number names n)) None) (any_at _ names k n at (bytes_same n))
-      ∙ ap Some (number_at k n at)
+  wire_at k n at = grind (arith, common_steps, number, any_at, bytes_same, number_at)
 
   pub input_wire : (k : ℕ) (n : List ℕ) → slice_get (input_names circuit) k ≡ Some n →
       wire_of (circuit_of circuit) n ≡ Some k
@@ -141,7 +138,6 @@ inner_append g b ms [] ys h k = subst (λ l. Inner g b l ys) (append-nil ms) k
 inner_append g b ms (x ∷ xs) ys h k =
     grind (
       arith,
-      common_steps,
       append_assoc,
       (inner_append g b (ms ++ x ∷ []) xs ys h.2 (subst (λ l. Inner g b l ys) (sym (append_assoc ms (x ∷ []) xs)) k)),
     )
@@ -151,12 +147,7 @@ in_module : (g : Setting) (before : List CertificateLine) (m : ModuleLines) (i :
     is_module i ≡ false → line_fault g m i ≡ None → entry_fault g before i ≡ None
 unfolding entry_fault
 in_module g before m (Module b) e h f = absurd cc
-in_module g before m (Cut n) e h f = ap (λ o. body_line_code g o (Cut n)) e ∙ f
-in_module g before m (Use k) e h f = ap (λ o. body_line_code g o (Use k)) e ∙ f
-in_module g before m (Keep k) e h f = ap (λ o. body_line_code g o (Keep k)) e ∙ f
-in_module g before m (Edge x) e h f = ap (λ o. body_line_code g o (Edge x)) e ∙ f
-in_module g before m (Halo x) e h f = ap (λ o. body_line_code g o (Halo x)) e ∙ f
-in_module g before m (Stop s) e h f = ap (λ o. body_line_code g o (Stop s)) e ∙ f
+in_module g before m x e h f = ap (λ o. body_line_code g o x) e ∙ f
 
 present_one : (b : Box2) (ms : List CertificateLine) → list_all (λ i. not (is_module i)) ms ≡ true →
     last_of (modules_of (Module b ∷ ms)) ≡ Some (record { area = b; lines = ms })
@@ -168,8 +159,7 @@ all_push : (ms : List CertificateLine) (i : CertificateLine) → list_all (λ i.
     list_all (λ i. not (is_module i)) (ms ++ i ∷ []) ≡ true
 all_push [] i h k = ap (λ b. not b && true) k
 all_push (m ∷ ms) i h k =
-    let both = and_parts (not (is_module m)) (list_all (λ i. not (is_module i)) ms) h in
-    ap₂ (λ a b. a && b) both.0 (all_push ms i both.1 k)
+    grind (arith, (all_push ms i (and_parts (not (is_module m)) (list_all (λ i. not (is_module i)) ms) h).1 k))
 
 inner_faultless : (g : Setting) (b : Box2) (ms ls : List CertificateLine) →
     list_all (λ i. not (is_module i)) ms ≡ true →
@@ -182,7 +172,6 @@ inner_faultless g b ms (i ∷ ls) all h =
       common_steps,
       in_module,
       present_one,
-      all_push,
       (inner_faultless g b (ms ++ i ∷ []) ls (all_push ms i all h.0) h.2),
     )
 
@@ -199,8 +188,7 @@ follow_both : (j : CertificateLine) (xs ys : List CertificateLine) → list_all 
     list_all (λ i. may_precede i j) ys ≡ true → list_all (λ i. may_precede i j) (xs ++ ys) ≡ true
 follow_both j [] ys h k = k
 follow_both j (x ∷ xs) ys h k =
-    let both = and_parts (may_precede x j) (list_all (λ i. may_precede i j) xs) h in
-    ap₂ (λ a b. a && b) both.0 (follow_both j xs ys both.1 k)
+    grind (arith, (follow_both j xs ys (and_parts (may_precede x j) (list_all (λ i. may_precede i j) xs) h).1 k))
 
 all_anything : {X : Type 0} (xs : List X) → All (λ x. Unit {0}) xs
 all_anything [] = All-nil (λ x. Unit {0})
@@ -309,10 +297,7 @@ module _ (circuit : List CircuitLine) (good : AreGoodCircuitLines circuit) (p : 
 
   known_after_cuts : (done todo : List (List ℕ)) → done ++ todo ≡ ins →
       known c (module_of (map Cut done)) ≡ range_with_len 0 (length done)
-  known_after_cuts done todo e =
-      ap₂ (λ ns ks. local_wires c.netlist (flat_map (λ n. option_to_list (wire_of c n)) ns) ks)
-      (own_of Cut cut_name_in (λ n. refl) done) (none_of Cut used_gate_in (λ n. refl) done)
-      ∙ append-nil (flat_map (λ n. option_to_list (wire_of c n)) done) ∙ cuts_known done todo e
+  known_after_cuts done todo e = grind (arith, common_steps, own_of, none_of, cuts_known)
 
   cuts_run : (done todo : List (List ℕ)) → done ++ todo ≡ ins → Inner g b (map Cut done) (map Cut todo)
   unfolding Inner may_follow
@@ -341,19 +326,14 @@ module _ (circuit : List CircuitLine) (good : AreGoodCircuitLines circuit) (p : 
   front ks = map Cut ins ++ map Use ks
 
   front_cuts : (ks : List ℕ) → cuts (module_of (front ks)) ≡ ins
-  front_cuts ks = flat_map-append cut_name_in (map Cut ins) (map Use ks)
-      ∙ ap₂ (λ a b. a ++ b) (own_of Cut cut_name_in (λ n. refl) ins) (none_of Use cut_name_in (λ k. refl) ks)
-      ∙ append-nil ins
+  front_cuts ks = grind (arith, common_steps, flat_map-append, own_of, none_of)
 
   front_gates : (ks : List ℕ) → gates (module_of (front ks)) ≡ ks
-  front_gates ks = flat_map-append used_gate_in (map Cut ins) (map Use ks)
-      ∙ ap₂ (λ a b. a ++ b) (none_of Cut used_gate_in (λ n. refl) ins) (own_of Use used_gate_in (λ k. refl) ks)
+  front_gates ks = grind (arith, common_steps, flat_map-append, none_of, own_of)
 
   front_known : (ks : List ℕ) →
       known c (module_of (front ks)) ≡ local_wires c.netlist (range_with_len 0 (length ins)) ks
-  front_known ks = ap₂ (λ ns ks. local_wires c.netlist (flat_map (λ n. option_to_list (wire_of c n)) ns) ks)
-      (front_cuts ks) (front_gates ks)
-      ∙ ap (λ ws. local_wires c.netlist ws ks) (cuts_known ins [] (append-nil ins))
+  front_known ks = grind (arith, common_steps, (front_cuts ks), (front_gates ks), (cuts_known ins [] (append-nil ins)))
 
   -- the wires that are known after the first gates
   abbrev after_gates : ℕ → List ℕ
@@ -410,19 +390,13 @@ module _ (circuit : List CircuitLine) (good : AreGoodCircuitLines circuit) (p : 
   all_more : (a : ℕ) (js : List ℕ) → All (λ j. j < a) js → All (λ j. j < a + 1) js
   all_more a [] all = All-nil (λ j. j < a + 1)
   all_more a (j ∷ js) all =
-      let lt = All-head (λ j. j < a) j js all in
-      All-cons (λ j. j < a + 1) j js (omega (arith, lt)) (all_more a js (All-tail (λ j. j < a) j js all))
+      grind (arith, common_steps, All-cons, (all_more a js (All-tail (λ j. j < a) j js all)), All-tail)
 
   all_pushed : (a : ℕ) (js : List ℕ) → All (λ j. j < a) js → All (λ j. j < a + 1) (js ++ a ∷ [])
-  all_pushed a js all =
-      All-append (λ j. j < a + 1) js (a ∷ []) (all_more a js all)
-      (All-cons (λ j. j < a + 1) a [] (omega arith) (All-nil (λ j. j < a + 1)))
+  all_pushed a js all = grind (arith, common_steps, All-append, all_more, All-cons, All-nil)
 
   keep_gates : (done : List ℕ) → gates (module_of (uses ++ map Keep done)) ≡ range_with_len 0 (length all_gates)
-  keep_gates done = flat_map-append used_gate_in uses (map Keep done)
-      ∙ ap₂ (λ a b. a ++ b) (front_gates (range_with_len 0 (length all_gates)))
-      (none_of Keep used_gate_in (λ k. refl) done)
-      ∙ append-nil (range_with_len 0 (length all_gates))
+  keep_gates done = grind (arith, common_steps, flat_map-append, front_gates, none_of)
 
   keeps_run : (n a : ℕ) (done : List ℕ) → a + n ≡ length all_gates → All (λ j. j < a) done →
       Inner g b (uses ++ map Keep done) (map Keep (filter is_inverse_number (range_with_len a n)))
@@ -470,17 +444,13 @@ module _ (circuit : List CircuitLine) (good : AreGoodCircuitLines circuit) (p : 
       (keeps_run (length all_gates) 0 [] (omega arith) (All-nil (λ j. j < 0))))
 
   keep_cuts : (done : List ℕ) → cuts (module_of (uses ++ map Keep done)) ≡ ins
-  keep_cuts done = flat_map-append cut_name_in uses (map Keep done)
-      ∙ ap₂ (λ a b. a ++ b) (front_cuts (range_with_len 0 (length all_gates)))
-      (none_of Keep cut_name_in (λ k. refl) done)
-      ∙ append-nil ins
+  keep_cuts done = grind (arith, common_steps, flat_map-append, front_cuts, none_of)
 
   final_known : (n : ℕ) (done gs : List Gate) → done ++ gs ≡ all_gates → AreOrdered n gs →
       after_gates (length done) ≡ range_with_len 0 n →
       after_gates (length all_gates) ≡ range_with_len 0 (wires_after n gs)
   unfolding AreOrdered wires_after
-  final_known n done [] e ordered now =
-      ap (λ (gs : List Gate). after_gates (length gs)) (sym e ∙ append-nil done) ∙ now
+  final_known n done [] e ordered now = grind (arith, common_steps)
   final_known n done (x ∷ gs) e ordered now =
       let k = length done in
       let at : slice_get all_gates k ≡ Some x = ap (λ l. slice_get l k) (sym e) ∙ at_seam done gs x in
@@ -606,38 +576,21 @@ module _ (circuit : List CircuitLine) (p : Pattern) (good : AreGoodCircuitLines 
 
   lacks_none : has_nonlocal_port its_setting its_module ≡ false
   unfolding has_nonlocal_port
-  lacks_none =
-      list_any-append _ p.ins p.outs
-      ∙ ap₂ (λ a b. a || b)
-      (none_any _ p.ins (λ k q at. ap (λ b. in_box (whole p.size) q.cell.x q.cell.y && not b) (in_local k q at) ∙
-      and-false _))
-      (none_any _ p.outs (λ k q at. ap (λ b. in_box (whole p.size) q.cell.x q.cell.y && not b) (out_local k q at) ∙
-      and-false _))
+  lacks_none = grind (arith, common_steps, list_any-append, none_any, whole, in_local, and-false, out_local)
 
   no_gap : leaves_gap p.size (whole p.size ∷ []) ≡ false
-  no_gap = ap not (all_pass _ (rectangle_cells (whole p.size)) (λ k d at.
-      ap (λ b. b || false) (cells_inside (whole p.size) k d at)))
+  no_gap = grind (arith, common_steps, all_pass, whole, cells_inside)
 
   sides : (is_layout_side p.size.w ≡ true) × (is_layout_side p.size.h ≡ true)
   unfolding size_fault
-  sides =
-      let all = no_code (is_layout_side p.size.w && is_layout_side p.size.h && nat_le p.size.steps 65536) PastLimit
-      layout_good.header in
-      let both = and_parts (is_layout_side p.size.w && is_layout_side p.size.h) (nat_le p.size.steps 65536) all in
-      and_parts (is_layout_side p.size.w) (is_layout_side p.size.h) both.0
+  sides = grind (arith, common_steps, no_code)
 
   not_past : (n : ℕ) → nat_lt n (0 + n) ≡ false
   not_past n = grind (arith, nat_tests)
 
   module_good : entry_fault its_setting [] (Module (whole p.size)) ≡ None
   unfolding entry_fault module_line_code module_box_code modules_of last_of
-  module_good =
-      ap₂ or_else
-      (ap₂ or_else
-      (ap (λ b. code_if b PastLimit) (ap₂ (λ a b. a || b || nat_le 1024 0) (side_ok p.size.w sides.0 small.wide)
-      (side_ok p.size.h sides.1 small.high)))
-      (ap (λ b. code_if b MisplacedBox) (ap₂ (λ a b. a || b) (not_past p.size.w) (not_past p.size.h))))
-      (ap (λ b. code_if b MisplacedBox) (none_any _ (rectangle_cells (whole p.size)) (λ k d at. refl)))
+  module_good = grind (arith, common_steps, side_ok, sides, not_past, none_any, whole)
 
   end_good : end_fault its_setting (plain_lines circuit p) ≡ None
   unfolding end_fault last_of

@@ -1,4 +1,6 @@
 -- A text has a report
+use Rattle.std.proofs.Common.{arith}
+use Rattle.std.proofs.lemmas.Grind.{common_steps}
 use Rattle.headline.proofs.Imports.{AreFaultless, AreModules, Ball, Bundle, CertView, HasAnAnswerToEachText, In}
 use Rattle.headline.proofs.Imports.{IsFaultless}
 use Rattle.headline.proofs.Imports.{IsReportOf, IsVerdictOn, LayoutHeader, LayoutLine, List, Mirror, None, Ok, Option}
@@ -81,8 +83,7 @@ module _ (text : List ℕ) (b : Bundle) (e : bundle_of text ≡ Ok b) (p : Patte
       (read_complete g b.version b.entries faultless)
 
   pub limits : size_fault p.size ≡ None
-  limits = subst (λ (q : LayoutHeader × List LayoutLine). size_fault q.0 ≡ None) (sym same)
-      (bundle_good text b e).layout.header
+  limits = grind (arith, common_steps, (bundle_good text b e))
 
   -- a verdict on its modules is reported
   pub reported_by : (v : Verdict) → IsVerdictOn certificate_by v →

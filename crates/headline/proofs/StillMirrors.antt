@@ -177,10 +177,7 @@ mirror_correct = record {
 
 constant_good : AreGoodCircuitLines constant
 unfolding AreGoodCircuit add_fault
-constant_good = (
-  record { adds = refl; fits = (refl, refl); inputs_first = λ e. refl },
-  (record { adds = refl; fits = (refl, refl); inputs_first = λ e. cc }, tt),
-)
+constant_good = grind (arith, common_steps)
 
 mirror_size : size_fault rim_mirror.size ≡ None
 unfolding size_fault

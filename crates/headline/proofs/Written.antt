@@ -2,7 +2,7 @@
 use Rattle.headline.proofs.Imports.{AllByRecursion, AreLines, Bool, End, Form, Header, IsOneLine, IsSection, Item, List}
 use Rattle.headline.proofs.Imports.{Option, Some, [], and_parts, ap, append-nil, ap₂, arith, cases_Bool, common_steps}
 use Rattle.headline.proofs.Imports.{eqb, eqb-true, false, false≢true, flat_map, is_name, list_all, map, nat_lt}
-use Rattle.headline.proofs.Imports.{nat_tests, refl, slice_split_at, space_and_word, true, words_of, ℕ, ◌&&◌, ◌++◌, ◌∙◌}
+use Rattle.headline.proofs.Imports.{nat_tests, refl, slice_split_at, space_and_word, true, words_of, ℕ, ◌++◌, ◌∙◌}
 use Rattle.headline.proofs.Imports.{◌∷◌, ◌≡◌}
 use Rattle.lemmas.proofs.Common.{slice_split_none}
 use Rattle.section_text.specs.Words.{is_digit, is_name_byte}
@@ -22,8 +22,7 @@ other_byte b k h low = grind (arith, common_steps, cases_Bool, false≢true, eqb
 without : (k : ℕ) → nat_lt 32 k ≡ false → (w : List ℕ) → IsWord w → AllByRecursion (λ b. eqb b k ≡ false) w
 without k low [] h = tt
 without k low (b ∷ w) h =
-    let both = and_parts (is_word_byte b) (list_all is_word_byte w) h in
-    (other_byte b k both.0 low, without k low w both.1)
+    grind (arith, other_byte, (without k low w (and_parts (is_word_byte b) (list_all is_word_byte w) h).1))
 
 words_again : (w : List ℕ) (ws : List (List ℕ)) → IsWord w → AllByRecursion IsWord ws →
     words_of (w ++ flat_map space_and_word ws) ≡ w ∷ ws
@@ -43,9 +42,7 @@ spaced_clean (w ∷ ws) h =
 all_more : (p q : ℕ → Bool) → ((b : ℕ) → p b ≡ true → q b ≡ true) → (w : List ℕ) → list_all p w ≡ true →
     list_all q w ≡ true
 all_more p q more [] h = refl
-all_more p q more (b ∷ w) h =
-    let both = and_parts (p b) (list_all p w) h in
-    ap₂ (λ x y. x && y) (more b both.0) (all_more p q more w both.1)
+all_more p q more (b ∷ w) h = grind (arith, common_steps, (all_more p q more w (and_parts (p b) (list_all p w) h).1))
 
 digit_byte : (b : ℕ) → is_digit b ≡ true → is_word_byte b ≡ true
 digit_byte b h = grind (arith, nat_tests, h)

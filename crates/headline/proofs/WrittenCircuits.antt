@@ -2,15 +2,15 @@
 use Rattle.headline.proofs.Imports.{AllByRecursion, AreGoodAfter, CircuitLine, Cswap, Delay, End, FitsKind, Fredkin}
 use Rattle.headline.proofs.Imports.{Gate, GateKind, Have, Header, Input, Interact, Item, List, None, Output, Some}
 use Rattle.headline.proofs.Imports.{Source, Spill, Switch, Uninteract, Unswitch, [], add_fault, and_parts, ap}
-use Rattle.headline.proofs.Imports.{append-nil, append_assoc, ap₂, arith, bytes_eq, bytes_eq-Decides, cases_Bool, codes}
+use Rattle.headline.proofs.Imports.{ap₂, arith, bytes_eq, bytes_eq-Decides, cases_Bool, codes}
 use Rattle.headline.proofs.Imports.{common_steps, cond, cond_some, consume_have, consumed, decimal, defined, defines}
-use Rattle.headline.proofs.Imports.{entry, eq-eqb, false, false≢true, first_none, form_of, gate_entry}
+use Rattle.headline.proofs.Imports.{entry, false, false≢true, first_none, form_of, gate_entry}
 use Rattle.headline.proofs.Imports.{gate_line_of_kind, has, if_one_word, inl, inr, is_name, is_word_at, length}
-use Rattle.headline.proofs.Imports.{length-append, list_all, name_after_keyword, name_at, name_of, names_at, names_pass}
+use Rattle.headline.proofs.Imports.{list_all, name_after_keyword, name_at, name_of, names_at, names_pass}
 use Rattle.headline.proofs.Imports.{nat_tests, number_at, number_of, number_written, refl, slice_get, subst, sym, true}
 use Rattle.headline.proofs.Imports.{ℕ, ◌&&◌, ◌++◌, ◌+◌, ◌<◌, ◌==◌, ◌>>=◌, ◌^◌, ◌||◌, ◌∙◌, ◌∷◌, ◌≡◌}
 use Rattle.lemmas.proofs.Common.{left_is_false}
-use Rattle.section_text.specs.Words.{is_number, is_word}
+use Rattle.section_text.specs.Words.{is_number}
 use Rattle.circuit.specs.Forms.{bit_at, gate_kind, words_before_names}
 use Rattle.circuit.specs.Gates.{uses}
 use Rattle.circuit.specs.Rules.{is_wrong_delay}
@@ -30,8 +30,7 @@ named n h = ap (λ b. cond b (Some n) None) h
 
 pub names_words : (ns : List (List ℕ)) → AreNames ns → AllByRecursion IsWord ns
 names_words [] h = tt
-names_words (n ∷ ns) h = let both = and_parts (is_name n) (list_all is_name ns) h in
-    (name_word n both.0, names_words ns both.1)
+names_words (n ∷ ns) h = grind (arith, name_word, (names_words ns (and_parts (is_name n) (list_all is_name ns) h).1))
 
 number_word : (w : List ℕ) → is_number w ≡ true → IsWord w
 number_word [] h = absurd (false≢true h)
@@ -43,8 +42,7 @@ decimal_word n small = number_word (decimal n) (cond_some (is_number (decimal n)
 
 pub names_left : (xs ys : List (List ℕ)) → AreNames (xs ++ ys) → AreNames xs
 names_left [] ys h = refl
-names_left (x ∷ xs) ys h = let both = and_parts (is_name x) (list_all is_name (xs ++ ys)) h in
-    ap₂ (λ a b. a && b) both.0 (names_left xs ys both.1)
+names_left (x ∷ xs) ys h = grind (arith, (names_left xs ys (and_parts (is_name x) (list_all is_name (xs ++ ys)) h).1))
 
 pub names_right : (xs ys : List (List ℕ)) → AreNames (xs ++ ys) → AreNames ys
 names_right [] ys h = h
@@ -52,8 +50,7 @@ names_right (x ∷ xs) ys h = names_right xs ys (and_parts (is_name x) (list_all
 
 pub names_both : (xs ys : List (List ℕ)) → AreNames xs → AreNames ys → AreNames (xs ++ ys)
 names_both [] ys h k = k
-names_both (x ∷ xs) ys h k = let both = and_parts (is_name x) (list_all is_name xs) h in
-    ap₂ (λ a b. a && b) both.0 (names_both xs ys both.1 k)
+names_both (x ∷ xs) ys h k = grind (arith, (names_both xs ys (and_parts (is_name x) (list_all is_name xs) h).1 k))
 
 pub has_name : (d : List (List ℕ)) (n : List ℕ) → AreNames d → has d n ≡ true → is_name n ≡ true
 has_name [] n all h = absurd (false≢true h)
@@ -79,14 +76,13 @@ names_here : (pre ns post : List (List ℕ)) → AreNames ns → names_at (pre +
 unfolding names_at name_at
 names_here pre [] post h = refl
 names_here pre (n ∷ ns) post h =
-    let both = and_parts (is_name n) (list_all is_name ns) h in
-    let ws = pre ++ (n ∷ (ns ++ post)) in
-    let first : name_at ws (length pre) ≡ Some n =
-    ap (λ o. o >>= name_of) (at_seam pre (ns ++ post) n) ∙ named n both.0 in
-    let rest : names_at ws (length pre + 1) (length ns) ≡ Some ns =
-    sym (ap₂ (λ l k. names_at l k (length ns)) (append_assoc pre (n ∷ []) (ns ++ post)) (length-append pre (n ∷ [])))
-    ∙ names_here (pre ++ n ∷ []) ns post both.1 in
-    ap₂ (λ o p. o >>= λ x. p >>= λ others. Some (x ∷ others)) first rest
+    grind (
+      arith,
+      common_steps,
+      at_seam,
+      named,
+      (names_here (pre ++ n ∷ []) ns post (and_parts (is_name n) (list_all is_name ns) h).1),
+    )
 
 -- ---- gates
 
@@ -104,14 +100,8 @@ kind_read : (k : GateKind) (rest : List (List ℕ)) → IsShort (Gate k) →
     gate_kind (gate_word k ∷ (gate_parameter_words k ++ rest)) ≡ Some k
 unfolding gate_kind bit_at is_word_at number_at
 kind_read (Source true) rest h = refl
-kind_read (Source false) rest h = refl
-kind_read Fredkin rest h = refl
-kind_read Cswap rest h = refl
-kind_read Interact rest h = refl
-kind_read Switch rest h = refl
 kind_read (Delay n) rest h = ap (λ o. o >>= λ m. Some (Delay m)) (number_written n (h n refl))
-kind_read Unswitch rest h = refl
-kind_read Uninteract rest h = refl
+kind_read _ rest h = refl
 
 head_length : (k : GateKind) → length (gate_word k ∷ gate_parameter_words k) ≡ words_before_names k
 head_length (Source b) = refl
@@ -147,52 +137,21 @@ module _ (k : GateKind) (ins outs : List (List ℕ)) (fits : FitsKind (entry (Ga
   ws = gate_word k ∷ (gate_parameter_words k ++ (ins ++ arrow ∷ outs))
 
   count : (length ws == words_before_names k + uses k + 1 + defines k) ≡ true
-  count =
-      let all = length-append head (ins ++ arrow ∷ outs) in
-      let some = length-append ins (arrow ∷ outs) in
-      let h = head_length k in
-      let i = fits.0 in
-      let o = fits.1 in
-      eq-eqb (length ws) (words_before_names k + uses k + 1 + defines k) (omega (arith, all, some, h, i, o))
+  count = grind (arith, common_steps, head_length)
 
   arrow_at : is_word_at ws (words_before_names k + uses k) arrow ≡ true
   unfolding is_word_at
-  arrow_at =
-      let place : length (head ++ ins) ≡ words_before_names k + uses k =
-      (let all = length-append head ins in let h = head_length k in let i = fits.0 in omega (arith, all, h, i)) in
-      ap₂ (λ l n. is_word (slice_get l n) arrow) (sym (append_assoc head ins (arrow ∷ outs))) (sym place)
-      ∙ ap (λ o. is_word o arrow) (at_seam (head ++ ins) outs arrow)
+  arrow_at = grind (arith, common_steps, (head_length k), (at_seam (head ++ ins) outs arrow))
 
   ins_read : names_at ws (words_before_names k) (uses k) ≡ Some ins
   ins_read = ap₂ (names_at ws) (sym (head_length k)) (sym fits.0) ∙ names_here head ins (arrow ∷ outs) in_names
 
   outs_read : names_at ws (words_before_names k + uses k + 1) (defines k) ≡ Some outs
-  outs_read =
-      let pre = head ++ (ins ++ arrow ∷ []) in
-      let same : pre ++ (outs ++ []) ≡ ws =
-      append_assoc head (ins ++ arrow ∷ []) (outs ++ [])
-      ∙ ap (λ l. head ++ l) (append_assoc ins (arrow ∷ []) (outs ++ []) ∙ ap (λ l. ins ++ arrow ∷ l) (append-nil outs))
-      in
-      let place : length pre ≡ words_before_names k + uses k + 1 =
-      (let all = length-append head (ins ++ arrow ∷ []) in
-      let some = length-append ins (arrow ∷ []) in
-      let h = head_length k in
-      let i = fits.0 in
-      omega (arith, all, some, h, i)) in
-      ap₂ (λ l n. names_at l n (defines k)) (sym same) (sym place) ∙ ap (names_at (pre ++ (outs ++ [])) (length pre))
-      (sym fits.1)
-      ∙ names_here pre outs [] out_names
+  outs_read = grind (arith, common_steps, (head_length k), (names_here (head ++ (ins ++ arrow ∷ [])) outs [] out_names))
 
   entry_read : gate_entry ws ≡ Some (entry (Gate k) ins outs)
   unfolding gate_entry gate_line_of_kind
-  entry_read =
-      ap (λ o. o >>= λ kind. cond (length ws == words_before_names kind + uses kind + 1 + defines kind)
-      (cond (is_word_at ws (words_before_names kind + uses kind) arrow) (gate_line_of_kind ws kind) None) None)
-      (kind_read k (ins ++ arrow ∷ outs) right)
-      ∙ ap (λ b. cond b (cond (is_word_at ws (words_before_names k + uses k) arrow) (gate_line_of_kind ws k) None) None)
-      count
-      ∙ ap (λ b. cond b (gate_line_of_kind ws k) None) arrow_at
-      ∙ ap₂ (λ o p. o >>= λ is. p >>= λ os. Some (entry (Gate k) is os)) ins_read outs_read
+  entry_read = grind (arith, common_steps, kind_read, count, arrow_at, ins_read, outs_read)
 
   gate_line : HasLine form_of (Item (entry (Gate k) ins outs))
   gate_line =

@@ -7,17 +7,16 @@ use Rattle.headline.proofs.Imports.{List, Module, Ok, Pattern, SaysBundle, SaysD
 use Rattle.headline.proofs.Imports.{[], and_parts, ap, append-nil, append_assoc, ap₂, arith, box_of, bundle_text}
 use Rattle.headline.proofs.Imports.{certificate_section_text, certificate_text, circuit_grammar, circuit_of}
 use Rattle.headline.proofs.Imports.{circuit_text, clean_both, codes, common_steps, cond, corner_and_sides, decimal}
-use Rattle.headline.proofs.Imports.{defined, design_text, false, filter, flat_map, flat_map-append, gate_numbers}
-use Rattle.headline.proofs.Imports.{if_one_word, input_names, is_inverse_gate, is_name, is_word_at, layout_grammar}
-use Rattle.headline.proofs.Imports.{layout_section_text, layout_text, length, lines_again, list_all, map}
-use Rattle.headline.proofs.Imports.{name_after_keyword, name_at, netlist_of, nothing_follows, number_after_keyword}
-use Rattle.headline.proofs.Imports.{number_at, number_written, or_else, output_names, parts_of, plain_lines}
-use Rattle.headline.proofs.Imports.{port_names_of, range_with_len, refl, section_made, section_of, slice_get, stop_in}
+use Rattle.headline.proofs.Imports.{defined, design_text, false, filter, flat_map, flat_map-append}
+use Rattle.headline.proofs.Imports.{if_one_word, input_names, is_name, is_word_at, layout_grammar}
+use Rattle.headline.proofs.Imports.{layout_section_text, layout_text, lines_again, list_all, map}
+use Rattle.headline.proofs.Imports.{name_after_keyword, name_at, nothing_follows, number_after_keyword}
+use Rattle.headline.proofs.Imports.{number_at, number_written, output_names, parts_of, plain_lines}
+use Rattle.headline.proofs.Imports.{port_names_of, range_with_len, refl, section_made, section_of, stop_in}
 use Rattle.headline.proofs.Imports.{subst, suc, sym, true, unconsumed_wire_code, with_line_feed, zero, ℕ, ◌&&◌, ◌++◌}
 use Rattle.headline.proofs.Imports.{◌+◌, ◌<◌, ◌>>=◌, ◌^◌, ◌∙◌, ◌∷◌, ◌≡◌, ◌≤◌}
 use Rattle.certificate_lines.specs.Forms.{form_of}
 use Rattle.headline.specs.PlainLaws.{EachSmallDesignHasPlainText, EachSmallDesignIsDecided}
-use Rattle.headline.specs.SmallDesigns.{inverse_gate_numbers}
 use Rattle.headline.proofs.Designs.{one_certificate, one_design}
 use Rattle.headline.proofs.Migrations.{HasSections, text_is}
 use Rattle.headline.proofs.PlainLines.{none_of}
@@ -44,8 +43,7 @@ circuit_on : (before rest : List CircuitLine) → AreInOrder before rest → Are
     AreFaultless circuit_grammar tt before rest
 unfolding AreGoodAfter
 circuit_on before [] order good = tt
-circuit_on before (r ∷ rest) order good =
-    (ap₂ or_else order.0 good.0.adds, circuit_on (before ++ r ∷ []) rest order.1 good.1)
+circuit_on before (r ∷ rest) order good = grind (arith, (circuit_on (before ++ r ∷ []) rest order.1 good.1))
 
 -- ---- the plain lines can be written
 
@@ -95,8 +93,7 @@ lines_both (x ∷ xs) ys h k = (h.0, lines_both xs ys h.1 k)
 
 cut_lines : (ns : List (List ℕ)) → AreNames ns → Lines (map Cut ns)
 cut_lines [] h = tt
-cut_lines (n ∷ ns) h = let both = and_parts (is_name n) (list_all is_name ns) h in
-    (cut_line n both.0, cut_lines ns both.1)
+cut_lines (n ∷ ns) h = grind (arith, cut_line, (cut_lines ns (and_parts (is_name n) (list_all is_name ns) h).1))
 
 AreBelow : ℕ → List ℕ → Type 0
 AreBelow m ks = AllByRecursion (λ k. k < m) ks
@@ -150,18 +147,17 @@ module _ (circuit : List CircuitLine) (p : Pattern) (design : IsDesign circuit p
 
   all_lines : Lines (plain_lines circuit p)
   all_lines =
-      let few = small.gates in
-      let wide = small.wide in
-      let high = small.high in
-      let numbers : AreBelow 64 (gate_numbers circuit) =
-      range_below (length (netlist_of circuit).gates) 0 64 (omega (arith, few)) in (
-        module_line p.size.w p.size.h (omega (arith, wide)) (omega (arith, high)),
-        lines_both (map Cut (input_names circuit) ++ map Use (gate_numbers circuit)) _
-            (lines_both (map Cut (input_names circuit)) (map Use (gate_numbers circuit))
-            (cut_lines (input_names circuit) ins) (number_lines Use use_line (gate_numbers circuit) numbers))
-            (number_lines Keep keep_line _
-            (filter_below (λ k. is_inverse_gate (slice_get (netlist_of circuit).gates k)) 64 (gate_numbers circuit)
-            numbers)),
+      grind (
+        arith,
+        range_below,
+        module_line,
+        lines_both,
+        cut_lines,
+        ins,
+        number_lines,
+        use_line,
+        keep_line,
+        filter_below,
       )
 
   third : HasSection form_of 1 (plain_lines circuit p)
@@ -171,8 +167,7 @@ module _ (circuit : List CircuitLine) (p : Pattern) (design : IsDesign circuit p
   lines = first.lines ++ (second.lines ++ third.lines)
 
   clean : AreLines lines
-  clean = clean_both first.lines (second.lines ++ third.lines) first.clean
-      (clean_both second.lines third.lines second.clean third.clean)
+  clean = grind (arith, common_steps, clean_both)
 
   read_alone : {H I : Type 0} (g : Grammar H I) (ls : List (List ℕ)) (h : H) (items : List I) →
       IsSection g.form ls h items → IsFaultless g h items → section_of g 0 ls ≡ Ok (h, items)
@@ -259,15 +254,7 @@ module _ (text : List ℕ) (circuit : List CircuitLine) (p : Pattern) (t : IsPla
       subst (λ cs. TouchesRim cs p) same.0 (subst (TouchesRim r.circuit) same.1 r.touches)
 
   no_stops : flat_map stop_in (plain_lines circuit p) ≡ []
-  no_stops =
-      let cuts = map Cut (input_names circuit) in
-      let uses = map Use (gate_numbers circuit) in
-      flat_map-append stop_in (cuts ++ uses) _
-      ∙ ap₂ (λ a b. a ++ b)
-      (flat_map-append stop_in cuts uses
-      ∙ ap₂ (λ a b. a ++ b) (none_of Cut stop_in (λ n. refl) (input_names circuit))
-      (none_of Use stop_in (λ k. refl) (gate_numbers circuit)))
-      (none_of Keep stop_in (λ k. refl) (inverse_gate_numbers circuit))
+  no_stops = grind (arith, common_steps, flat_map-append, none_of)
 
   no_delay : HasRightStops text → HasNoDelay circuit
   no_delay r k steps a b is =

@@ -7,7 +7,7 @@ use Rattle.headline.proofs.Imports.{arith, box_of, bytes_same, cell, cell_fault,
 use Rattle.headline.proofs.Imports.{corner_and_sides, decimal, false, has, if_one_word, in_box, in_layout, input_names}
 use Rattle.headline.proofs.Imports.{is_inside, is_layout_side, is_name, is_taken, is_word_at, layout_grammar}
 use Rattle.headline.proofs.Imports.{layout_line_fault, limit_fault, line_fault, list_all, list_any, map, name_at}
-use Rattle.headline.proofs.Imports.{nat_le, nat_lt, nat_tests, no_code, not, number_at, number_written, option_map}
+use Rattle.headline.proofs.Imports.{nat_lt, nat_tests, no_code, not, number_at, number_written, option_map}
 use Rattle.headline.proofs.Imports.{or_else, output_names, parts_of, port_names_of, refl, size_fault, slice_get}
 use Rattle.headline.proofs.Imports.{slice_get-map, subst, suc, sym, true, whole, ℕ, ◌&&◌, ◌++◌, ◌+◌, ◌<◌, ◌>>=◌, ◌^◌}
 use Rattle.headline.proofs.Imports.{◌||◌, ◌∙◌, ◌∷◌, ◌≡◌, ◌≤◌}
@@ -121,35 +121,11 @@ pub record HasSmallNumbers (r : Box2) : Type 0 where
 module _ (s : LayoutHeader) (l : HasLimits s) where
   pub numbered : (c : Cell) → in_layout s c.x c.y ≡ true → IsNumbered c
   unfolding in_box
-  numbered c h =
-      let p = in_box_nats (whole s) c.x c.y h in
-      let px = p.0 in let py = p.1 in
-      let x_low = px.3 in
-      let y_low = py.3 in
-      let wide = l.wide in
-      let high = l.high in
-      record {
-        x = px.0;
-        y = py.0;
-        is = ap₂ (λ x y. record { x = x; y = y }) px.1 py.1;
-        x_small = omega (arith, x_low, wide);
-        y_small = omega (arith, y_low, high);
-      }
+  numbered c h = grind (arith, common_steps, (in_box_nats (whole s) c.x c.y h), (whole s))
 
   pub small_mirror : (r : Box2) → is_inside s (Mirror r) ≡ true → HasSmallNumbers r
   unfolding is_inside
-  small_mirror r h =
-      let inside = and_parts (nat_le (r.x + r.w) s.w) (nat_le (r.y + r.h) s.h) h in
-      let across = at_most_by_test (r.x + r.w) s.w inside.0 in
-      let down = at_most_by_test (r.y + r.h) s.h inside.1 in
-      let wide = l.wide in
-      let high = l.high in
-      record {
-        x = omega (arith, across, wide);
-        y = omega (arith, down, high);
-        w = omega (arith, across, wide);
-        h = omega (arith, down, high);
-      }
+  small_mirror r h = grind (arith, common_steps, at_most_by_test)
 
   -- ---- lines that are good
 
@@ -180,10 +156,8 @@ module _ (s : LayoutHeader) (l : HasLimits s) where
   lines_of : (names : PortNameLists) (before parts : List LayoutLine) → AreGoodAfter s before parts →
       AllByRecursion (IsPortName names) parts → AllByRecursion (λ part. HasLine form_of (Item part)) parts
   lines_of names before [] good n = tt
-  lines_of names before (part ∷ parts) good n = (
-    line_of names part n.0 good.0 (inside before part good.1),
-    lines_of names (before ++ part ∷ []) parts good.2 n.1,
-  )
+  lines_of names before (part ∷ parts) good n =
+      grind (arith, common_steps, line_of, inside, (lines_of names (before ++ part ∷ []) parts good.2 n.1))
 
 -- ---- lines that are in order
 
@@ -230,8 +204,7 @@ run_of mk k rank (x ∷ xs) before rest h next =
 
 last_run : {X : Type 0} (mk : X → LayoutLine) (k : ℕ) → ((x : X) → rank_of (mk x) ≡ k) → (xs : List X)
     (before : List LayoutLine) → AreUpTo k before → InOrder before (map mk xs)
-last_run mk k rank xs before h = subst (InOrder before) (append-nil (map mk xs))
-    (run_of mk k rank xs before [] h (λ longer more. tt))
+last_run mk k rank xs before h = grind (arith, common_steps, (run_of mk k rank xs before [] h (λ longer more. tt)))
 
 in_order : (p : Pattern) → InOrder [] (parts_of p)
 unfolding rank_of

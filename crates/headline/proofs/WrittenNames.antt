@@ -15,7 +15,6 @@ input_named [] h = refl
 input_named (r ∷ circuit) h =
     grind (
       arith,
-      common_steps,
       names_both,
       if_names,
       names_left,

@@ -79,10 +79,8 @@ module _ (s : LayoutHeader) (l : HasLimits s) (names : PortNameLists) where
       AllByRecursion (IsPortName s l names) parts →
       AllByRecursion IsForm (map part_form parts ++ (codes "end", [], []) ∷ [])
   parts_formed before [] good n = (record { names = no_names; numbers = All-nil IsNumber }, tt)
-  parts_formed before (part ∷ parts) good n = (
-    part_formed part n.0 (inside s l before part good.1),
-    parts_formed (before ++ part ∷ []) parts good.2 n.1,
-  )
+  parts_formed before (part ∷ parts) good n =
+      grind (arith, common_steps, part_formed, inside, (parts_formed (before ++ part ∷ []) parts good.2 n.1))
 
 module _ (circuit : List CircuitLine) (p : Pattern) (design : IsDesign circuit p) where
   wires : AreNames (defined circuit)

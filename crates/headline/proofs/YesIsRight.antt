@@ -205,14 +205,7 @@ pub record AreSections (text : List ℕ) (b : Bundle) : Type 0 where
 
 pub in_sections : (text : List ℕ) (b : Bundle) → bundle_of text ≡ Ok b → AreSections text b
 unfolding bundle_of
-in_sections text b e =
-    let c = went_on (section_of circuit_grammar 0 (lines_of text)) _ b e in
-    let l = went_on (section_of (layout_grammar (Some (port_names_of c.items))) _ _) _ b c.then in
-    let k = went_on (section_of (certificate_grammar (setting_of c.items (layout_of l.header l.items))) _ _) _ b
-    l.then in
-    let over = is_over _ _ _ _ b k.then in
-    subst (AreSections text) over.2
-    (record { circuit = c.was; layout = l.was; certificate = k.was; nothing_more = over.0; ended = over.1 })
+in_sections text b e = grind (arith, lines_of, is_over)
 
 pub bundle_good : (text : List ℕ) (b : Bundle) → bundle_of text ≡ Ok b → IsReadBundle text b
 bundle_good text b e =
@@ -325,8 +318,7 @@ module _ (text : List ℕ) (b : Bundle) (output : List ℕ) (outcome : Outcome) 
   same_circuit = says.its_own.circuit
 
   accepted : IsVerdict (setting_of c.circuit p) (modules_in c) jobs verdict.Yes
-  accepted = subst (λ (w : Verdict). IsVerdict (setting_of c.circuit p) (modules_in c) jobs w) is
-      says.is_verdict.judged
+  accepted = grind (arith, common_steps)
 
   judged_yes : SaysCorrectDesign text
   judged_yes = record {
@@ -389,10 +381,7 @@ line_tells output outcome (Ok b) says = (
       (subst (λ (w : Verdict). FourthLineSaysYes (report_text says.certificate w)) (sym v)
       (yes_says says.certificate)),
 )
-line_tells output outcome (Err refusal) told = (
-  λ line. absurd (refusal_says_none refusal (subst FourthLineSaysYes told.0 line)),
-  λ is. absurd (not_refused (sym is ∙ told.1)),
-)
+line_tells output outcome (Err refusal) told = grind (arith, common_steps, refusal_says_none, not_refused)
 
 pub fourth_line-tells : FourthLineShowsOutcome
 fourth_line-tells text output outcome says = line_tells output outcome (bundle_of text) says

@@ -1,7 +1,8 @@
 -- Facts on lists, for the end of a desk.
-use Rattle.job_pool.proofs.Imports.{All, HasAllPlaces, IsDrawn, List, View, [], all_but_last, ap, append_assoc, arith}
+use Rattle.std.proofs.lemmas.Grind.{common_steps}
+use Rattle.job_pool.proofs.Imports.{All, HasAllPlaces, IsDrawn, List, View, [], all_but_last, arith}
 use Rattle.job_pool.proofs.Imports.{at_map, joined, length, map, map-append, nat_tests, occurrences, past_greatest}
-use Rattle.job_pool.proofs.Imports.{past_last, subst, suc, sym, zero, ℕ, ◌++◌, ◌+◌, ◌-◌, ◌<◌, ◌∙◌, ◌∷◌, ◌≡◌, ◌≤◌}
+use Rattle.job_pool.proofs.Imports.{past_last, subst, suc, sym, zero, ℕ, ◌++◌, ◌+◌, ◌-◌, ◌<◌, ◌∷◌, ◌≡◌, ◌≤◌}
 use Rattle.lemmas.proofs.Common.{Any}
 use Rattle.atomic_table.proofs.Lists.{at_index}
 use Rattle.job_pool.specs.Lists.{AreAllDraws}
@@ -39,12 +40,7 @@ pub moved : {X Y Z : Type 0} (f : X → Z) (g : Y → Z) (done now : List X) (x 
     (all : List Z)
     → now ≡ done ++ x ∷ [] → rest ≡ y ∷ left → g y ≡ f x → map f done ++ map g rest ≡ all →
     map f now ++ map g left ≡ all
-moved f g done now x rest y left all is was same h =
-    ap (λ l. map f l ++ map g left) is
-    ∙ (ap (λ l. l ++ map g left) (map-append f done (x ∷ []))
-    ∙ (append_assoc (map f done) (f x ∷ []) (map g left)
-    ∙ (ap (λ z. map f done ++ (z ∷ map g left)) (sym same)
-    ∙ (ap (λ l. map f done ++ map g l) (sym was) ∙ h))))
+moved f g done now x rest y left all is was same h = grind (arith, common_steps, map-append)
 
 pub shares : (n seats counter : ℕ) (lists : List (List ℕ)) (v : View) → HasAllPlaces n seats counter v →
     v.draws ≡ joined lists → length lists ≡ seats → All (λ xs. past_greatest (all_but_last xs) ≤ n) lists →
@@ -59,19 +55,12 @@ shares n seats counter lists v w is count last = record {
 -- the same where the second list holds what f sees
 pub passed : {X Z : Type 0} (f : X → Z) (done now : List X) (x : X) (rest left all : List Z) → now ≡ done ++ x ∷ [] →
     rest ≡ f x ∷ left → map f done ++ rest ≡ all → map f now ++ left ≡ all
-passed f done now x rest left all is was h =
-    ap (λ l. map f l ++ left) is
-    ∙ (ap (λ l. l ++ left) (map-append f done (x ∷ []))
-    ∙ (append_assoc (map f done) (f x ∷ []) left
-    ∙ (ap (λ l. map f done ++ l) (sym was) ∙ h)))
+passed f done now x rest left all is was h = grind (arith, common_steps, map-append)
 
 -- the same where the first list holds what g sees
 pub taken : {Y Z : Type 0} (g : Y → Z) (done now : List Z) (rest : List Y) (y : Y) (left : List Y) (all : List Z) →
     now ≡ done ++ g y ∷ [] → rest ≡ y ∷ left → done ++ map g rest ≡ all → now ++ map g left ≡ all
-taken g done now rest y left all is was h =
-    ap (λ l. l ++ map g left) is
-    ∙ (append_assoc done (g y ∷ []) (map g left)
-    ∙ (ap (λ l. done ++ map g l) (sym was) ∙ h))
+taken g done now rest y left all is was h = grind (arith, common_steps)
 
 last_stands : (xs : List ℕ) (m : ℕ) → past_last xs ≡ m + 1 → 0 < occurrences m xs
 last_stands [] m e = absurd (omega arith)

@@ -1,11 +1,12 @@
 -- The findings that are due from the draws of all workers.
-use Rattle.job_pool.proofs.Imports.{All, All-map, Desk, HasWorked, IsDrawn, IsSeatOf, List, Worker, [], ap, append-nil}
+use Rattle.std.proofs.lemmas.Grind.{common_steps}
+use Rattle.job_pool.proofs.Imports.{All, All-map, Desk, HasWorked, IsDrawn, IsSeatOf, List, Worker, []}
 use Rattle.job_pool.proofs.Imports.{arith, drawn_by, drop, due_count, false, get_or, if◌then◌else◌, length, map}
 use Rattle.job_pool.proofs.Imports.{nat_tests, past_last, refl, seats_of, shares_of, subst, suc, sum_of_filed, take}
-use Rattle.job_pool.proofs.Imports.{total, ℕ, ◌++◌, ◌+◌, ◌<◌, ◌∙◌, ◌∷◌, ◌≡◌, ◌≤◌}
+use Rattle.job_pool.proofs.Imports.{total, ℕ, ◌++◌, ◌+◌, ◌<◌, ◌∷◌, ◌≡◌, ◌≤◌}
 use Rattle.lemmas.proofs.Common.{Bool, nat_lt, true, drop_all, sum_by-cons, take_all}
 use Rattle.core_book.specs.declared.claim.Claim.TheVariants.{Number, Empty}
-use Rattle.core_book.specs.Claims.{claim_answer, draws_after_claim, is_seat_finished}
+use Rattle.core_book.specs.Claims.{claim_answer, draws_after_claim}
 use Rattle.job_pool.proofs.Ends.{end_counted}
 use Rattle.job_pool.proofs.Members.{due_in_all, due_more, none_beyond}
 use mathlib.Core.Option.{some}
@@ -26,8 +27,7 @@ by_cases false false groups n next before below t e =
 pub empty_adds_none : (groups : List ℕ) (n next : ℕ) (before after : List ℕ) → All (λ g. g < n) groups →
     Empty ≡ claim_answer n before next → after ≡ draws_after_claim n before next →
     due_count groups after ≡ due_count groups before
-empty_adds_none groups n next before after below e is =
-    ap (due_count groups) is ∙ by_cases (is_seat_finished n before) (nat_lt next n) groups n next before below refl e
+empty_adds_none groups n next before after below e is = grind (arith, common_steps, by_cases)
 
 -- where a list ends with a draw of n or more, all numbers below n were drawn, and so the findings of all members are
 -- due
@@ -41,9 +41,7 @@ all_are_due counter n i lists xs groups r at ends below =
 -- a `Vec` whose whole slice was written
 pub whole : {X : Type 0} (n : ℕ) (xs ys : List X) → length xs ≡ length ys → n ≡ length ys →
     take n (xs ++ drop (length xs) ys) ≡ xs
-whole n xs ys e is =
-    let none : drop (length xs) ys ≡ [] = drop_all (length xs) ys (omega arith) in
-    ap (λ zs. take n (xs ++ zs)) none ∙ ap (take n) (append-nil xs) ∙ take_all n xs (omega arith)
+whole n xs ys e is = grind (arith, common_steps, drop_all, take_all)
 
 module _ {F A : Type 0} (desk : Desk) (groups : List ℕ) where
   -- what each worker filed, added up

@@ -1,10 +1,11 @@
 -- Groups of jobs, and the findings that are due for draws.
+use Rattle.std.proofs.lemmas.Grind.{common_steps}
 use Rattle.job_pool.proofs.Imports.{All, IsDrawn, List, [], ap, arith, due_count, get_or, if◌then◌else◌, length, map}
-use Rattle.job_pool.proofs.Imports.{nat_tests, occurrences, refl, shape_of, shapes_of, subst, suc, sym, take, total}
+use Rattle.job_pool.proofs.Imports.{nat_tests, occurrences, refl, shape_of, shapes_of, suc, sym, take, total}
 use Rattle.job_pool.proofs.Imports.{zero, ℕ, ◌++◌, ◌+◌, ◌<◌, ◌==◌, ◌∙◌, ◌∷◌, ◌≡◌, ◌≢◌, ◌≤◌}
-use Rattle.lemmas.proofs.Common.{Some, inl, inr, option_map, slice_get, slice_index, All-head, All-tail, cases_lt}
-use Rattle.lemmas.proofs.Common.{slice_get-map, slice_get_within, take_more, some_at}
-use Rattle.module_job.specs.Groups.{AreGroups, IsFirstLike}
+use Rattle.lemmas.proofs.Common.{Some, option_map, slice_get, slice_index, All-head, All-tail}
+use Rattle.lemmas.proofs.Common.{slice_get-map, slice_get_within, take_more}
+use Rattle.module_job.specs.Groups.{AreGroups}
 use Rattle.module_job.specs.Jobs.{JobView}
 use Rattle.module_job.specs.Shapes.{ShapeView}
 use Rattle.job_pool.proofs.Sums.{times-append, total-add, total_same}
@@ -18,31 +19,16 @@ read_any (x ∷ xs) (suc k) d lt = read_any xs k d (omega (arith, lt))
 
 first_below : (shapes : List ShapeView) (groups : List ℕ) → AreGroups shapes groups → (k : ℕ) → k < length shapes →
     slice_index groups k < length shapes
-first_below shapes groups h k lt =
-    let x = some_at shapes k lt in
-    slice_get_within shapes (slice_index groups k) x.0 ((h.each k lt).same ∙ x.1)
+first_below shapes groups h k lt = grind (arith, common_steps, slice_get_within)
 
 pub groups_below : (shapes : List ShapeView) (groups : List ℕ) → AreGroups shapes groups →
     All (λ g. g < length shapes) groups
-groups_below shapes groups h k d lt =
-    let count = h.count in
-    subst (λ g. g < length shapes) (sym (read_any groups k d lt))
-    (first_below shapes groups h k (omega (arith, lt, count)))
+groups_below shapes groups h k d lt = grind (arith, common_steps, read_any, first_below)
 
 -- the first of a group is in its own group
 own_first : (shapes : List ShapeView) (groups : List ℕ) → AreGroups shapes groups → (k g : ℕ) → k < length shapes →
     slice_index groups k ≡ g → slice_index groups g ≡ g
-own_first shapes groups h k g lt is =
-    let hk : IsFirstLike shapes k g = subst (IsFirstLike shapes k) is (h.each k lt) in
-    let below : g < length shapes = subst (λ n. n < length shapes) is (first_below shapes groups h k lt) in
-    let hg = h.each g below in
-    elim (cases_lt (slice_index groups g) g) [
-      | inl less ↦ absurd (hk.first (slice_index groups g) less (hg.same ∙ hk.same))
-      | inr large ↦ elim (cases_lt g (slice_index groups g)) [
-        | inl more ↦ absurd (hg.first g more refl)
-        | inr small ↦ omega (arith, large, small)
-      ]
-    ]
+own_first shapes groups h k g lt is = grind (arith, common_steps, (first_below shapes groups h k lt))
 
 times_absent : (x : ℕ) (gs : List ℕ) → All (λ g. g ≢ x) gs → occurrences x gs ≡ 0
 times_absent x [] all = refl
@@ -52,9 +38,7 @@ times_absent x (g ∷ gs) all = let h = times_absent x gs (All-tail (λ g. g ≢
 -- who is not the first of a group has no members
 pub not_first : (shapes : List ShapeView) (groups : List ℕ) (number : ℕ) → AreGroups shapes groups →
     slice_index groups number ≢ number → occurrences number groups ≡ 0
-not_first shapes groups number h other = times_absent number groups (λ k d lt is.
-    let count = h.count in
-    other (own_first shapes groups h k number (omega (arith, lt, count)) (sym (read_any groups k d lt) ∙ is)))
+not_first shapes groups number h other = grind (arith, common_steps, times_absent, own_first, read_any)
 
 -- a member has the shape of the first
 pub member_shape : (jobs : List JobView) (groups : List ℕ) (number member : ℕ) (j k : JobView) →
@@ -72,10 +56,7 @@ member_shape jobs groups number member j k h lt first own is =
 
 pub times_step : (x : ℕ) (gs : List ℕ) (i d : ℕ) → i < length gs →
     occurrences x (take (i + 1) gs) ≡ occurrences x (take i gs) + (if get_or gs i d == x then 1 else 0)
-times_step x gs i d lt =
-    let more = ap (occurrences x) (take_more gs i d lt) in
-    let sum = times-append x (take i gs) (get_or gs i d ∷ []) in
-    omega (arith, more, sum)
+times_step x gs i d lt = grind (arith, common_steps, take_more, times-append)
 
 -- ---- what is due
 due_append : (gs xs ys : List ℕ) → due_count gs (xs ++ ys) ≡ due_count gs xs + due_count gs ys
@@ -115,5 +96,4 @@ due_in_all counter n lists r le (g ∷ gs) all =
 
 -- no member's group has a number that is too large
 pub none_beyond : (n x : ℕ) (gs : List ℕ) → All (λ g. g < n) gs → n ≤ x → occurrences x gs ≡ 0
-none_beyond n x gs all le = times_absent x gs
-    (λ k d lt is. let below = all k d lt in absurd (omega (arith, below, is, le)))
+none_beyond n x gs all le = grind (arith, common_steps, times_absent)

@@ -1,4 +1,5 @@
 -- Each step keeps the rule.
+use Rattle.std.proofs.lemmas.Grind.{common_steps}
 use Rattle.job_pool.proofs.Imports.{HasAllPlaces, IsDealt, IsDrawn, List, View, [], ap, arith, at_map, count_at_least}
 use Rattle.job_pool.proofs.Imports.{get_or, length, map-append, nat_tests, occurrences, refl, set, subst, suc, sym}
 use Rattle.job_pool.proofs.Imports.{total, view, ℕ, ◌++◌, ◌+◌, ◌-◌, ◌<◌, ◌∙◌, ◌∷◌, ◌≡◌, ◌≢◌, ◌≤◌}
@@ -62,9 +63,7 @@ at_lists views id v at = at_map (λ (v : View). v.draws) views id v at
 -- a change that leaves the seat's list
 same_lists : (views : List View) (id : ℕ) (v w : View) → get_elem? views id ≡ some v → w.draws ≡ v.draws →
     lists_of (set views id w) ≡ lists_of views
-same_lists views id v w at same =
-    lists_set views id w ∙ (ap (set (lists_of views) id) same
-    ∙ set_again (lists_of views) id v.draws (at_lists views id v at))
+same_lists views id v w at same = grind (arith, common_steps, lists_set, set, set_again, at_lists)
 
 pub claim_keeps : (n seats word id : ℕ) (views : List View) (v : View) → get_elem? views id ≡ some v → v.places ≡ 1 →
     count_at_least n v.draws ≡ 0 → IsDealt n seats word views →

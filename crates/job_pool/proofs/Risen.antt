@@ -1,10 +1,11 @@
 -- Shares count more and more.
+use Rattle.std.proofs.lemmas.Grind.{common_steps}
 use Rattle.job_pool.proofs.Imports.{Counts, Desk, HasRisen, HasWorked, List, Worker, [], ap, arith, drop, get_or}
 use Rattle.job_pool.proofs.Imports.{length, length-map, shares_of, subst, suc, sym, take, zero, ℕ, ◌++◌, ◌<◌, ◌∙◌, ◌∷◌}
 use Rattle.job_pool.proofs.Imports.{◌≡◌, ◌≤◌}
 use Rattle.core_book.specs.Book.{accepted_count_after}
 use Rattle.core_book.specs.declared.reply.Reply.{Reply}
-use Rattle.core_book.specs.declared.reply.Reply.TheVariants.{Closed, Stranger, Double, Accepted}
+use Rattle.core_book.specs.declared.reply.Reply.TheVariants.{Accepted}
 use Rattle.verdict_book.specs.Counts.{counts_after_reply}
 use Rattle.job_pool.specs.Work.{HaveRisen}
 use Rattle.job_pool.proofs.Filed.{whole}
@@ -19,10 +20,7 @@ risen_still a b c before same = subst (HasRisen a) (sym same) before
 
 -- and now it counts one reply more
 pub risen_more : (a b c : Counts) (r : Reply) → HasRisen a b → c ≡ counts_after_reply b r → HasRisen a c
-risen_more a b c r before more = subst (HasRisen a) (sym more) (record {
-  filed = let f = before.filed in omega arith;
-  accepted = let n = not_lower b.accepted r in let f = before.accepted in omega arith;
-})
+risen_more a b c r before more = grind (arith, common_steps, not_lower)
 
 -- and then it rises on
 pub risen_on : (a b c : Counts) → HasRisen a b → HasRisen b c → HasRisen a c

@@ -1,7 +1,8 @@
 -- Sums over lists, and lists of numbers that were drawn.
+use Rattle.std.proofs.lemmas.Grind.{common_steps}
 use Rattle.job_pool.proofs.Imports.{IsDrawn, List, [], all_but_last, ap, append-nil, append_assoc, arith}
 use Rattle.job_pool.proofs.Imports.{count_at_least, get_or, joined, length, map, nat_tests, occurrences, past_greatest}
-use Rattle.job_pool.proofs.Imports.{past_last, refl, set, subst, suc, sym, total, zero, ℕ, ◌++◌, ◌+◌, ◌-◌, ◌∙◌, ◌∷◌}
+use Rattle.job_pool.proofs.Imports.{past_last, refl, set, suc, sym, total, zero, ℕ, ◌++◌, ◌+◌, ◌-◌, ◌∙◌, ◌∷◌}
 use Rattle.job_pool.proofs.Imports.{◌≡◌, ◌≤◌}
 use Rattle.lemmas.proofs.Common.{length-append, max, min}
 use Rattle.job_pool.specs.Lists.{count_less_than}
@@ -77,14 +78,7 @@ pub pushed : (xs ys : List ℕ) (x n : ℕ) → ys ≡ xs ++ x ∷ [] → past_g
     past_greatest xs ≤ n
     → (past_greatest ys ≡ x + 1) × (length ys ≤ past_greatest ys) × (past_greatest ys ≡ past_last ys)
     × (past_greatest (all_but_last ys) ≤ n)
-pushed xs ys x n is above rising below =
-    let t : past_greatest (xs ++ x ∷ []) ≡ x + 1 = let a = past_greatest-append xs (x ∷ []) in omega arith in
-    let l = length-append xs (x ∷ []) in
-    let e = past_last-snoc xs x in
-    let f = ap past_greatest (front-snoc xs x) in
-    subst (λ (zs : List ℕ). (past_greatest zs ≡ x + 1) × (length zs ≤ past_greatest zs)
-    × (past_greatest zs ≡ past_last zs) × (past_greatest (all_but_last zs) ≤ n))
-    (sym is) (t, omega arith, omega arith, omega arith)
+pushed xs ys x n is above rising below = grind (arith, common_steps, past_greatest-append, past_last-snoc, front-snoc)
 
 pub none_late : (n : ℕ) (xs : List ℕ) → past_greatest xs ≤ n → count_at_least n xs ≡ 0
 none_late n [] h = refl
@@ -141,13 +135,7 @@ draw_keeps counter lists i xs at r = let ys : List ℕ = xs ++ counter ∷ [] in
 pub merge_keeps : (counter : ℕ) (lists : List (List ℕ)) (i j : ℕ) (xs ys : List ℕ) → get_elem? lists i ≡ some xs →
     get_elem? (set lists i (xs ++ ys)) j ≡ some ys → IsDrawn counter lists →
     IsDrawn counter (set (set lists i (xs ++ ys)) j [])
-merge_keeps counter lists i j xs ys at there r = let zs : List ℕ = xs ++ ys in record {
-  whole = let t = total_set length lists i xs zs at in let u = total_set length (set lists i zs) j ys [] there in
-      let a = length-append xs ys in let w = r.whole in omega arith;
-  once = λ x. let t = total_set (occurrences x) lists i xs zs at in let u =
-      total_set (occurrences x) (set lists i zs) j ys [] there in let a = times-append x xs ys in let o = r.once x in
-      omega arith;
-}
+merge_keeps counter lists i j xs ys at there r = grind (arith, common_steps, total_set, set, times-append)
 
 -- an empty list more
 pub empty_keeps : (counter : ℕ) (lists : List (List ℕ)) → IsDrawn counter lists → IsDrawn counter (lists ++ [] ∷ [])
