@@ -11,9 +11,8 @@ use Rattle.circuit.specs.Grammars.{circuit_grammar}
 use Rattle.circuit.specs.Bridge.{AreValues, ValuesStopAt, input_names, netlist_of, as_values}
 use Rattle.circuit.specs.Meaning.{AreOrdered, Valuation}
 use Rattle.circuit.specs.Text.{value_lines}
-use Rattle.answers.specs.declared.outcome.Outcome.TheVariants.{No}
+use Rattle.answers.specs.declared.outcome.Outcome.TheVariants.{No, Yes}
 use Rattle.answers.specs.declared.outcome.Outcome.{Outcome}
-use Rattle.answers.specs.declared.outcome.Outcome.TheVariants.{Yes}
 use Rattle.answers.specs.Answers.{AnswersOrRefuses, value_and_names_on}
 
 -- the lines of a circuit, and the names that are on

@@ -87,8 +87,8 @@ same_test boxes p q place old new same h = grind (arith, common_steps)
 
 -- ---- a place more for each box that has a cell in its halo
 
-at_most_one : (r s t : Bool) (p : EdgePlace) (l : List EdgePlace) → (r && s) ≡ false → (r && t) ≡ false →
-    (s && t) ≡ false →
+at_most_one : (r s t : Bool) (p : EdgePlace) (l : List EdgePlace) → (r && s) ≡ false →
+    (r && t) ≡ false → (s && t) ≡ false →
     ((l ++ (if r then p ∷ [] else [])) ++ (if s then p ∷ [] else [])) ++ (if t then p ∷ [] else [])
     ≡ l ++ (if r || s || t then p ∷ [] else [])
 at_most_one true true t p l e f g = absurd cc

@@ -106,8 +106,7 @@ module _ (g : Setting) (ms : List StoredModule) where
         ap (map (border_line g.circuit))
         (h.each i m.area (ap (λ bs. slice_get bs i) are ∙ mapped_at (λ (m : StoredModule). m.area) ms i m at)
         ∙ ap (λ l. edge_lines_at ms l
-        ++ filter (λ (e : StoredBorder). in_halo m.area (line_cell e).x (line_cell e).y) all)
-        (empty i))
+        ++ filter (λ (e : StoredBorder). in_halo m.area (line_cell e).x (line_cell e).y) all) (empty i))
         ∙ filter_stored g.circuit m.area all
         ∙ ap (filter (λ (e : BorderLine). in_halo m.area e.cell.x e.cell.y)) (sym (edges_stored g.circuit ms))
         ∙ sym (cond-true _ _ _ (long g.size.steps many));

@@ -3,6 +3,7 @@ pub use Rattle.bbm_rule.specs.Boxes.{Tile}
 pub use Rattle.bbm_rule.specs.declared.block.Box2.{Box2}
 pub use Rattle.bbm_rule.specs.declared.block.Cell.{Cell}
 pub use Rattle.certificate.specs.Grammars.{CertView, certificate_grammar}
+pub use Rattle.certificate.specs.GoodModules.{AreGoodModules, IsGoodModule, with_lines}
 pub use Rattle.certificate.specs.HaloPlaces.{AddsEdgePlaces, AreReady, HaveListsFrom, IsInnerCell, edge_lines_at}
 pub use Rattle.certificate.specs.HaloPlaces.{edge_lines_at_place, line_cell, list_at_or_empty}
 pub use Rattle.certificate.specs.Jobs.{IsJobOf, all_times_of_line, demand_outside_mirrors, events_of_line, line_signals}
@@ -22,7 +23,7 @@ pub use Rattle.certificate.specs.Timetables.{AreRising, AreSignalLists, HasLocal
 pub use Rattle.certificate.specs.Timetables.{stored_signals, unnamed_line}
 pub use Rattle.certificate.specs.declared.neighbour_edges.EdgePlace.{EdgePlace}
 pub use Rattle.certificate.specs.declared.times.TimeLine.{TimeLine}
-pub use Rattle.certificate_lines.proofs.FlatParts.{flat_all, flat_at}
+pub use Rattle.certificate_lines.proofs.FlatParts.{flat_all}
 pub use Rattle.certificate_lines.proofs.Imports.{All, All-append, All-nil, All-tail, AreLocalLines, Bool, Circuit}
 pub use Rattle.certificate_lines.proofs.Imports.{CircuitAndPorts, Equal, Gate, Greater, IfSome, IsEven, IsModule}
 pub use Rattle.certificate_lines.proofs.Imports.{IsTrue, Less, List, ModuleLines, Netlist, None, Option, Ordering}
@@ -80,7 +81,7 @@ pub use Rattle.certificate_lines.specs.declared.stored_module.StoredModule.{Stor
 pub use Rattle.certificate_lines.specs.declared.stored_module.StoredStop.{StoredStop}
 pub use Rattle.circuit.proofs.Imports.{gate_of, is_inverse}
 pub use Rattle.circuit.specs.declared.circuit_line.CircuitLine.{CircuitLine}
-pub use Rattle.lemmas.proofs.Common.{All-cons, Contains, IfOk-weaker, IsPermutation, fold, ltb, max, min, nat_cmp}
+pub use Rattle.lemmas.proofs.Common.{All-cons, Contains, IfOk-weaker, IsPermutation, fold, max, min, nat_cmp}
 pub use Rattle.lemmas.proofs.Common.{nat_le, of_z, or_parts, ordering_then, ranks_by}
 pub use Rattle.module_box.proofs.Imports.{IsRising, LocalNet, circuit_wire, eqb, netlist_of, same_Some, wires, ◌+ℤ◌}
 unfoldable pub use Rattle.module_box.proofs.Imports.{all_times_at, event_at, in_ring, in_span, moment_cmp}

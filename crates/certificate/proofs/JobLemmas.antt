@@ -21,11 +21,3 @@ pub within_layout : (g : Setting) (m : ModuleLines) (s : LayoutHeader) → s ≡
     ((m.area.x + m.area.w ≤ g.size.w) × (m.area.x + m.area.w ≤ 512))
     × ((m.area.y + m.area.h ≤ g.size.h) × (m.area.y + m.area.h ≤ 512))
 within_layout g m s is limits h = grind (arith, common_steps, within_512)
-
-pub within_corner : (g : Setting) (m : ModuleLines) (s : LayoutHeader) → s ≡ g.size → size_fault s ≡ None →
-    IsModule g m → (m.area.x ≤ 512) × (m.area.y ≤ 512)
-within_corner g m s is limits h =
-    let w = within_512 g m s is limits h in
-    let right = w.0 in
-    let bottom = w.1 in
-    (omega (arith, right), omega (arith, bottom))

@@ -9,10 +9,14 @@ use Rattle.certificate.proofs.Imports.{mapped_from, module_lines, module_lines_w
 use Rattle.certificate.proofs.Imports.{slice_get_within, some_is, sorted_border_lines, stop_line, subst, sym, true}
 use Rattle.certificate.proofs.Imports.{wire_name, with_halos, ℕ, ◌++◌, ◌+◌, ◌<◌, ◌∙◌, ◌∷◌, ◌≡◌, ◌≤◌}
 use Rattle.lemmas.proofs.Common.{filter-append, length_push, slice_get_read}
+use Rattle.certificate.proofs.Imports.{All, AreGoodModules, CircuitLine, HasOwnWire, HasOwnWires, IsGoodModule}
+use Rattle.certificate.proofs.Imports.{circuit_of}
+use Rattle.certificate.proofs.Imports.{get_or_from_slice_get, setting_of, slice_get_within, with_lines}
 use Rattle.module_box.proofs.Rising.{pushed}
 use Rattle.certificate.specs.Jobs.{AreJobsOf}
 use Rattle.certificate_lines.proofs.StoredLemmas.{stops_with}
 use Rattle.certificate.proofs.FullModules.{full_modules}
+use Rattle.certificate.proofs.StoredSignals.{all_at}
 
 -- ---- the halo lines of a module
 
@@ -72,40 +76,53 @@ module _ (g : Setting) (ms : List StoredModule) where
       HaveListsFrom g ms done (map f old) → HaveListsFrom g ms (done + 1) (map f new)
   one_list_less f done old new count others h = grind (arith, common_steps, length-map)
 
+-- a module as it is written is good
+pub good_at : {cs : List CircuitLine} {p : Pattern} {ms : List StoredModule} {m : StoredModule} (k : ℕ) →
+    AreGoodModules cs p ms → slice_get ms k ≡ Some m → IsGoodModule cs p m m.halos.items
+good_at {cs} {p} {ms} {m} k good at =
+    let own = all_at (HasOwnWires (circuit_of cs)) ms good.wires k m (slice_get_within ms k m at)
+    (sym (get_or_from_slice_get ms k m m at)) in
+    let there = mapped_at (module_lines (circuit_of cs)) ms k m at in
+    record {
+      wires = own;
+      halo_wires = own.halos;
+      lines = good.modules.each k _ there;
+      ports = good.modules.ports k _ there;
+    }
+
 -- the module of this number with these halo lines is what version 2 means by it, and it is good
-pub record IsFullModule (g : Setting) (ms : List StoredModule) (number : ℕ) (m : StoredModule)
+pub record IsFullModule (cs : List CircuitLine) (p : Pattern) (ms : List StoredModule) (m : StoredModule)
     (hs : List StoredBorder) : Type 0 where
-  pub at : slice_get (map (module_lines g.circuit) ms) number ≡ Some (module_lines g.circuit m)
-  pub full : module_lines_with g.circuit m hs
-      ≡ with_halos g (map (module_lines g.circuit) ms) (module_lines g.circuit m)
-  pub good : IsModule g (module_lines_with g.circuit m hs)
-  pub ports : HasLocalPorts g (module_lines_with g.circuit m hs)
+  pub full : module_lines_with (circuit_of cs) m hs
+      ≡ with_halos (setting_of cs p) (with_lines cs ms) (module_lines (circuit_of cs) m)
+  pub good : IsGoodModule cs p m hs
 
 -- by the places of these lines
-pub full_module : {lists : List (List EdgePlace)} {number : ℕ} {m : StoredModule} {places : List EdgePlace}
-    {hs : List StoredBorder} (g : Setting) (ms : List StoredModule) →
-    AreModules g (map (module_lines g.circuit) ms) →
-    lacks_edge_wire_beside g (map (module_lines g.circuit) ms) ≡ false → HaveListsFrom g ms number lists →
-    slice_get ms number ≡ Some m → list_at_or_empty lists number ≡ places →
-    ((h : Setting) (area : Box2) → AreModules h (map (module_lines h.circuit) ms) →
-    map (border_line h.circuit) (edge_lines_at ms places)
-    ≡ edge_lines_beside h (map (module_lines h.circuit) ms) area →
-    map (border_line h.circuit) hs
-    ≡ sorted_border_lines (edge_lines_beside h (map (module_lines h.circuit) ms) area)) →
-    IsFullModule g ms number m hs
-full_module {lists} {number} {m} {places} {hs} g ms good complete left is taken sorted =
-    let all = map (module_lines g.circuit) ms in
-    let at = mapped_at (module_lines g.circuit) ms number m is in
-    let there = mapped_at (with_halos g all) all number (module_lines g.circuit m) at in
-    let each = full_modules g all good complete in
-    let full = with_halos_stored g all m hs (sorted g m.area good
-    (ap (λ ps. map (border_line g.circuit) (edge_lines_at ms ps)) (sym taken)
-    ∙ left.each number m (omega arith) is)) in
+pub full_module : {cs : List CircuitLine} {p : Pattern} {ms : List StoredModule} {lists : List (List EdgePlace)}
+    {k : ℕ} {m : StoredModule} {places : List EdgePlace} {hs : List StoredBorder} →
+    AreGoodModules cs p ms → lacks_edge_wire_beside (setting_of cs p) (with_lines cs ms) ≡ false →
+    HaveListsFrom (setting_of cs p) ms k lists → slice_get ms k ≡ Some m → list_at_or_empty lists k ≡ places →
+    ((g : Setting) (area : Box2) → AreModules g (map (module_lines g.circuit) ms) →
+    map (border_line g.circuit) (edge_lines_at ms places)
+    ≡ edge_lines_beside g (map (module_lines g.circuit) ms) area →
+    map (border_line g.circuit) hs
+    ≡ sorted_border_lines (edge_lines_beside g (map (module_lines g.circuit) ms) area)) →
+    All (HasOwnWire (circuit_of cs)) hs → IsFullModule cs p ms m hs
+full_module {cs} {p} {ms} {lists} {k} {m} {places} {hs} good complete left at taken sorted own =
+    let g = setting_of cs p in
+    let all = with_lines cs ms in
+    let there = mapped_at (with_halos g all) all k _ (mapped_at (module_lines (circuit_of cs)) ms k m at) in
+    let each = full_modules g all good.modules complete in
+    let full = with_halos_stored g all m hs (sorted g m.area good.modules
+    (ap (λ ps. map (border_line g.circuit) (edge_lines_at ms ps)) (sym taken) ∙ left.each k m (omega arith) at)) in
     record {
-      at = at;
       full = full;
-      good = subst (IsModule g) (sym full) (each.each number _ there);
-      ports = subst (HasLocalPorts g) (sym full) (each.ports number _ there);
+      good = record {
+        wires = (good_at k good at).wires;
+        halo_wires = own;
+        lines = subst (IsModule g) (sym full) (each.each k _ there);
+        ports = subst (HasLocalPorts g) (sym full) (each.ports k _ there);
+      };
     }
 
 -- ---- the jobs of the modules before a module

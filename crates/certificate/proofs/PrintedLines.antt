@@ -1,12 +1,11 @@
 -- The text of a certificate without its halo lines
 use Rattle.certificate.proofs.Imports.{Bool, CertificateLine, Circuit, Cut, Edge, Halo, Keep, List, Module, Some, Stop}
 use Rattle.certificate.proofs.Imports.{StoredBorder, StoredModule, Use, [], ap, ap₂, arith, body_lines_with}
-use Rattle.certificate.proofs.Imports.{border_line, common_steps, flat_map, get_or, get_or_from_slice_get}
-use Rattle.certificate.proofs.Imports.{is_halo, lines_of_modules, map, not, refl, slice_get, stop_line, true}
-use Rattle.certificate.proofs.Imports.{wire_name, without_halos, ℕ, ◌++◌, ◌∙◌, ◌∷◌, ◌≡◌}
-use Rattle.certificate.proofs.Imports.{All, All-nil, HasOwnWire, HasOwnWires, append_assoc, codes, entry_text, false}
-use Rattle.certificate.proofs.Imports.{CertView, StoredStop, certificate_text, flat_map-append, if◌then◌else◌, length}
-use Rattle.certificate.proofs.Imports.{take, ◌+◌, ◌<◌}
+use Rattle.certificate.proofs.Imports.{border_line, common_steps, flat_map, get_or, get_or_from_slice_get, is_halo}
+use Rattle.certificate.proofs.Imports.{lines_of_modules, map, not, refl, slice_get, stop_line, true, wire_name}
+use Rattle.certificate.proofs.Imports.{without_halos, ℕ, ◌++◌, ◌∙◌, ◌∷◌, ◌≡◌, All, All-nil, HasOwnWire, HasOwnWires}
+use Rattle.certificate.proofs.Imports.{append_assoc, codes, entry_text, false, CertView, StoredStop, certificate_text}
+use Rattle.certificate.proofs.Imports.{flat_map-append, if◌then◌else◌, length, take, ◌+◌, ◌<◌}
 use Rattle.std.proofs.lemmas.List.Folds.{flat_map-map}
 use Rattle.std.specs.Fmt.{decimal}
 use Rattle.section_text.specs.Spelling.{line_text}

@@ -1,7 +1,5 @@
 -- The modules of a certificate that is read
-use Rattle.certificate.proofs.Imports.{List, ap, subst}
-use Rattle.certificate.proofs.Imports.{◌∙◌, ◌≡◌, length}
-use Rattle.certificate.proofs.Imports.{◌+◌}
+use Rattle.certificate.proofs.Imports.{List, ap, subst, ◌∙◌, ◌≡◌, length, ◌+◌}
 use Rattle.std.specs.declared.result.Result.TheVariants.{Err, Ok}
 use Rattle.section_text.specs.declared.fault.ReadFault.{ReadFault}
 use Rattle.section_text.specs.Feeds.{FeedView, feed_after_lines}

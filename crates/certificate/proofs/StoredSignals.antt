@@ -1,15 +1,15 @@
 -- What the lines of a module that is kept ask for, by the numbers of its wires
 use Rattle.certificate.proofs.Imports.{All, All-head, All-tail, AreLocalLines, AreRising, BorderLine, Circuit}
-use Rattle.certificate.proofs.Imports.{CircuitLine, HasLocalWire, HasOwnWire, HasOwnWires, IfSome, IsModule, IsOwnWire}
-use Rattle.certificate.proofs.Imports.{IsTrue, List, LocalNet, ModuleLines, None, Option, Pairs, Pattern, Setting}
-use Rattle.certificate.proofs.Imports.{Signal, Some, StopLine, StoredBorder, StoredModule, StoredStop, []}
-use Rattle.certificate.proofs.Imports.{all_times_of_line, ap, ap₂, arith, border_line, border_line_cmp, circuit_of}
-use Rattle.certificate.proofs.Imports.{cut_wires, cuts, edges, events_of_line, get_or, halos, is_among, is_local, keeps}
-use Rattle.certificate.proofs.Imports.{known, length, length-map, line_signals, local_wires, map, mapped_at}
-use Rattle.certificate.proofs.Imports.{module_lines_with, netlist_of, one_or_named_wire, one_or_wire, option_map, refl}
-use Rattle.certificate.proofs.Imports.{setting_of, stop_line, stops, stops_of_lines, stored_signals, stored_stop, subst}
-use Rattle.certificate.proofs.Imports.{sym, unnamed_line, wire_name, wire_or_zero, ℕ, ◌++◌, ◌<◌, ◌∙◌, ◌∷◌, ◌≡◌, suc}
-use Rattle.certificate.proofs.Imports.{zero}
+use Rattle.certificate.proofs.Imports.{CircuitLine, HasLocalWire, HasOwnWire, IfSome, IsOwnWire, IsTrue, List, LocalNet}
+use Rattle.certificate.proofs.Imports.{ModuleLines, None, Option, Pairs, Pattern, Setting, Signal, Some, StopLine}
+use Rattle.certificate.proofs.Imports.{StoredBorder, StoredModule, StoredStop, [], all_times_of_line, ap, ap₂, arith}
+use Rattle.certificate.proofs.Imports.{border_line, border_line_cmp, circuit_of, cut_wires, cuts, edges, events_of_line}
+use Rattle.certificate.proofs.Imports.{get_or, halos, is_among, is_local, keeps, known, length, length-map}
+use Rattle.certificate.proofs.Imports.{line_signals, local_wires, map, mapped_at, module_lines_with, netlist_of}
+use Rattle.certificate.proofs.Imports.{one_or_named_wire, one_or_wire, option_map, refl, setting_of, stop_line, stops}
+use Rattle.certificate.proofs.Imports.{stops_of_lines, stored_signals, stored_stop, subst, sym, unnamed_line, wire_name}
+use Rattle.certificate.proofs.Imports.{wire_or_zero, ℕ, ◌++◌, ◌<◌, ◌∙◌, ◌∷◌, ◌≡◌, IsGoodModule, IsWithinMaxSize}
+use Rattle.certificate.proofs.Imports.{LayoutHeader, cell_at, size_fault, suc, zero, ◌+◌, ◌≤◌}
 use Rattle.lemmas.proofs.Common.{all_unmapped}
 use Rattle.certificate_lines.specs.Modules.{IsEdge, IsHalo, IsKeep, IsStop}
 use Rattle.certificate_lines.specs.Rules.{is_local_wire}
@@ -17,6 +17,8 @@ use Rattle.certificate_lines.proofs.Pairs.{pairs_at}
 use Rattle.certificate_lines.proofs.StoredLemmas.{cut_wires_with, cuts_with, edges_with, gates_with, halos_with}
 use Rattle.certificate_lines.proofs.StoredLemmas.{keeps_with, stops_with}
 use Rattle.certificate.specs.Jobs.{stop_with_wire_number}
+use Rattle.certificate.proofs.JobLemmas.{within_512, within_layout}
+use Rattle.certificate.proofs.NearLines.{low_edges, low_halos, low_stops}
 use Rattle.certificate.proofs.BorderOrder.{Before, edges_rise, halos_rise}
 
 pub all_at : {A : Type 0} (P : A → Type 0) (xs : List A) → All P xs → (i : ℕ) (x : A) → i < length xs →
@@ -90,9 +92,8 @@ module _ (c : Circuit) where
 
 -- ---- a good module with these halo lines
 
-module _ (cs : List CircuitLine) (p : Pattern) (m : StoredModule) (hs : List StoredBorder)
-    (own : HasOwnWires (circuit_of cs) m) (own_halos : All (HasOwnWire (circuit_of cs)) hs)
-    (good : IsModule (setting_of cs p) (module_lines_with (circuit_of cs) m hs)) where
+module _ {cs : List CircuitLine} {p : Pattern} {m : StoredModule} {hs : List StoredBorder}
+    (good : IsGoodModule cs p m hs) where
   abbrev c : Circuit
   c = circuit_of cs
 
@@ -104,14 +105,14 @@ module _ (cs : List CircuitLine) (p : Pattern) (m : StoredModule) (hs : List Sto
 
   pub local_lines : AreLocalLines (netlist_of cs) m.cuts.items m.gates.items
   local_lines =
-      subst (λ ws. AreLocalLines (netlist_of cs) ws m.gates.items) (cut_wires_with c m hs own.cuts)
-      (subst (AreLocalLines (netlist_of cs) (cut_wires c lines)) (gates_with c m hs) good.local)
+      subst (λ ws. AreLocalLines (netlist_of cs) ws m.gates.items) (cut_wires_with c m hs good.wires.cuts)
+      (subst (AreLocalLines (netlist_of cs) (cut_wires c lines)) (gates_with c m hs) good.lines.local)
 
-  pub known_wires : (ls : List CircuitLine) (ws cw us : List ℕ) → ls ≡ cs → cw ≡ m.cuts.items → us ≡ m.gates.items →
+  pub known_wires : {ls : List CircuitLine} {ws cw us : List ℕ} → ls ≡ cs → cw ≡ m.cuts.items → us ≡ m.gates.items →
       ws ≡ local_wires (netlist_of ls) cw us → ws ≡ known c lines
-  known_wires ls ws cw us circuit cuts uses are =
+  known_wires circuit cuts uses are =
       are ∙ (λ i. local_wires (netlist_of (circuit i)) (cuts i) (uses i))
-      ∙ sym (ap₂ (local_wires (netlist_of cs)) (cut_wires_with c m hs own.cuts) (gates_with c m hs))
+      ∙ sym (ap₂ (local_wires (netlist_of cs)) (cut_wires_with c m hs good.wires.cuts) (gates_with c m hs))
 
   pub cut_count : length m.cuts.items ≡ length (cuts lines)
   cut_count = sym (ap length (cuts_with c m hs) ∙ length-map m.cuts.items (wire_name c))
@@ -119,51 +120,74 @@ module _ (cs : List CircuitLine) (p : Pattern) (m : StoredModule) (hs : List Sto
   pub keeps_used : All (λ k. IsTrue (is_among m.gates.items k)) m.keeps.items
   keeps_used k d lt =
       (subst (All (IsKeep g m.gates.items)) (keeps_with c m hs)
-      (subst (λ us. All (IsKeep g us) (keeps lines)) (gates_with c m hs) good.keep_lines) k d lt).among
+      (subst (λ us. All (IsKeep g us) (keeps lines)) (gates_with c m hs) good.lines.keep_lines) k d lt).among
 
   pub edges_rising : AreRising m.edges.items
-  edges_rising = rising c m.edges.items (subst (Pairs Before) (edges_with c m hs) (edges_rise lines.lines good.order))
+  edges_rising = rising c m.edges.items
+      (subst (Pairs Before) (edges_with c m hs) (edges_rise lines.lines good.lines.order))
 
   pub halos_rising : AreRising hs
-  halos_rising = rising c hs (subst (Pairs Before) (halos_with c m hs) (halos_rise lines.lines good.order))
+  halos_rising = rising c hs (subst (Pairs Before) (halos_with c m hs) (halos_rise lines.lines good.lines.order))
 
   pub edges_say : stored_signals m.edges.items ≡ line_signals c (edges lines)
-  edges_say = said_signals c m.edges.items own.edges ∙ ap (line_signals c) (sym (edges_with c m hs))
+  edges_say = said_signals c m.edges.items good.wires.edges ∙ ap (line_signals c) (sym (edges_with c m hs))
 
   pub halos_say : stored_signals hs ≡ line_signals c (halos lines)
-  halos_say = said_signals c hs own_halos ∙ ap (line_signals c) (sym (halos_with c m hs))
+  halos_say = said_signals c hs good.halo_wires ∙ ap (line_signals c) (sym (halos_with c m hs))
 
   pub stops_say : map stored_stop m.stops.items ≡ stops_of_lines c (stops lines)
-  stops_say = said_stops c m.stops.items own.stops ∙ ap (stops_of_lines c) (sym (stops_with c m hs))
+  stops_say = said_stops c m.stops.items good.wires.stops ∙ ap (stops_of_lines c) (sym (stops_with c m hs))
 
   -- what holds of all edge lines, halo lines or stops
-  pub of_edges : (P : BorderLine → Type 0) → All P (edges lines) → All (λ b. P (border_line c b)) m.edges.items
+  of_edges : (P : BorderLine → Type 0) → All P (edges lines) → All (λ b. P (border_line c b)) m.edges.items
   of_edges P h = all_unmapped P (border_line c) m.edges.items (subst (All P) (edges_with c m hs) h)
 
-  pub of_halos : (P : BorderLine → Type 0) → All P (halos lines) → All (λ b. P (border_line c b)) hs
+  of_halos : (P : BorderLine → Type 0) → All P (halos lines) → All (λ b. P (border_line c b)) hs
   of_halos P h = all_unmapped P (border_line c) hs (subst (All P) (halos_with c m hs) h)
 
-  pub of_stops : (P : StopLine → Type 0) → All P (stops lines) → All (λ s. P (stop_line c s)) m.stops.items
+  of_stops : (P : StopLine → Type 0) → All P (stops lines) → All (λ s. P (stop_line c s)) m.stops.items
   of_stops P h = all_unmapped P (stop_line c) m.stops.items (subst (All P) (stops_with c m hs) h)
 
+  -- they name wires that the module knows
   module _ (l : LocalNet) (are : l.circuit_wires ≡ known c lines) where
-    abbrev Named : Option (List ℕ) → Type 0
-    Named signal = IfSome signal (λ name. IsTrue (is_local c l.circuit_wires name))
+    named : (s : Option (List ℕ)) → IfSome s (λ name. IsTrue (is_local c (known c lines) name)) →
+        IfSome s (λ name. IsTrue (is_local c l.circuit_wires name))
+    named s h = subst (λ ws. IfSome s (λ name. IsTrue (is_local c ws name))) (sym are) h
 
     pub edges_local : All (HasLocalWire l) m.edges.items
     edges_local k d lt =
-        known_wire c l.circuit_wires (get_or m.edges.items k d).wire (own.edges k d lt)
-        (subst (λ ws. IfSome (border_line c (get_or m.edges.items k d)).signal (λ name. IsTrue (is_local c ws name)))
-        (sym are) (of_edges (IsEdge g m.area (known c lines)) good.edge_lines k d lt).border.signal)
+        known_wire c l.circuit_wires (get_or m.edges.items k d).wire (good.wires.edges k d lt)
+        (named _ (of_edges (IsEdge g m.area (known c lines)) good.lines.edge_lines k d lt).border.signal)
 
     pub halos_local : All (HasLocalWire l) hs
     halos_local k d lt =
-        known_wire c l.circuit_wires (get_or hs k d).wire (own_halos k d lt)
-        (subst (λ ws. IfSome (border_line c (get_or hs k d)).signal (λ name. IsTrue (is_local c ws name)))
-        (sym are) (of_halos (IsHalo g m.area (known c lines)) good.halo_lines k d lt).border.signal)
+        known_wire c l.circuit_wires (get_or hs k d).wire (good.halo_wires k d lt)
+        (named _ (of_halos (IsHalo g m.area (known c lines)) good.lines.halo_lines k d lt).border.signal)
 
     pub stops_local : All (λ s. IsTrue (is_among l.circuit_wires s.wire)) m.stops.items
     stops_local k d lt =
-        known_wire c l.circuit_wires (Some (get_or m.stops.items k d).wire) (own.stops k d lt)
-        (subst (λ ws. IsTrue (is_local c ws (wire_name c (get_or m.stops.items k d).wire)))
-        (sym are) (of_stops (IsStop g m.area (known c lines)) good.stop_lines k d lt).wire)
+        known_wire c l.circuit_wires (Some (get_or m.stops.items k d).wire) (good.wires.stops k d lt)
+        (named (Some (wire_name c (get_or m.stops.items k d).wire))
+        (of_stops (IsStop g m.area (known c lines)) good.lines.stop_lines k d lt).wire)
+
+  -- and their cells lie within 512 columns and rows
+  module _ {s : LayoutHeader} (is : s ≡ p.size) (limits : size_fault s ≡ None) where
+    pub low_edge_cells : All (λ b. IsWithinMaxSize (cell_at b.column b.row)) m.edges.items
+    low_edge_cells = of_edges (λ e. IsWithinMaxSize e.cell) (low_edges g lines s is limits good.lines)
+
+    pub low_halo_cells : All (λ b. IsWithinMaxSize (cell_at b.column b.row)) hs
+    low_halo_cells = of_halos (λ e. IsWithinMaxSize e.cell) (low_halos g lines s is limits good.lines)
+
+    pub low_stop_cells : All (λ t. IsWithinMaxSize (cell_at t.column t.row)) m.stops.items
+    low_stop_cells = of_stops (λ e. IsWithinMaxSize e.cell) (low_stops g lines s is limits good.lines)
+
+    pub corner_within : (m.area.x ≤ 512) × (m.area.y ≤ 512)
+    corner_within =
+        let w = within_512 g lines s is limits good.lines in
+        let right = w.0 in
+        let bottom = w.1 in
+        (omega (arith, right), omega (arith, bottom))
+
+    pub inside_layout : ((m.area.x + m.area.w ≤ p.size.w) × (m.area.x + m.area.w ≤ 512))
+        × ((m.area.y + m.area.h ≤ p.size.h) × (m.area.y + m.area.h ≤ 512))
+    inside_layout = within_layout g lines s is limits good.lines

@@ -1,11 +1,10 @@
 -- The fields of a certificate, and its view
-use Rattle.std.specs.Prelude.{◌≡◌, ◌&&◌, false, map}
-use Rattle.std.specs.List.{All}
+use Rattle.std.specs.Prelude.{◌≡◌, ◌&&◌, false}
 use Rattle.circuit.specs.Bridge.{circuit_of}
+use Rattle.certificate.specs.GoodModules.{AreGoodModules, with_lines}
 use Rattle.certificate.specs.Grammars.{CertView, version_number}
 use Rattle.certificate_lines.specs.Settings.{setting_of}
-use Rattle.certificate_lines.specs.StoredModules.{HasOwnWires, lines_of_modules, module_lines}
-use Rattle.certificate_lines.specs.Modules.{AreModules, IsWithinLineLimit}
+use Rattle.certificate_lines.specs.StoredModules.{lines_of_modules}
 use Rattle.certificate_lines.specs.Versions.{is_haloless_version, lacks_edge_wire_beside}
 use Rattle.certificate.specs.declared.cert.Cert.TheInside.{Inside}
 
@@ -18,12 +17,9 @@ cert_view a = record {
   entries = lines_of_modules (circuit_of a.circuit.now) a.modules.items;
 }
 
--- the fields of every certificate: its wires are those of the circuit, and its modules are good
+-- the fields of every certificate: its modules are good
 pub record IsCert (a : Inside) : Type 0 where
-  pub wires : All (HasOwnWires (circuit_of a.circuit.now)) a.modules.items
-  pub good : AreModules (setting_of a.circuit.now a.layout.now)
-      (map (module_lines (circuit_of a.circuit.now)) a.modules.items)
-  pub few_lines : All IsWithinLineLimit (map (module_lines (circuit_of a.circuit.now)) a.modules.items)
+  pub good : AreGoodModules a.circuit.now a.layout.now a.modules.items
   pub complete : (is_haloless_version (version_number a.version)
-      && lacks_edge_wire_beside (setting_of a.circuit.now a.layout.now)
-      (map (module_lines (circuit_of a.circuit.now)) a.modules.items)) ≡ false
+      && lacks_edge_wire_beside (setting_of a.circuit.now a.layout.now) (with_lines a.circuit.now a.modules.items))
+      ≡ false

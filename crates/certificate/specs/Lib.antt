@@ -1,5 +1,6 @@
 pub mod Keeps
 pub mod Grammars
+pub mod GoodModules
 pub mod CertView
 pub mod Text
 pub mod Jobs

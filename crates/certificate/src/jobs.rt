@@ -8,9 +8,9 @@ ghost use Rattle.module_box.specs.Locals.{circuit_wire, is_among};
 ghost use Rattle.module_box.specs.Moves.{IsInShiftRange};
 ghost use Rattle.certificate.specs.Grammars.{modules_in, version_number};
 ghost use Rattle.certificate_lines.specs.Settings.{setting_of};
+ghost use Rattle.certificate.specs.GoodModules.{AreGoodModules, IsGoodModule, with_lines};
 ghost use Rattle.certificate.specs.Jobs.{AreJobsOf, IsJobOf};
-ghost use Rattle.certificate_lines.specs.Modules.{AreModules, HasLocalPorts, IsModule, IsWithinLineLimit};
-ghost use Rattle.certificate_lines.specs.StoredModules.{HasOwnWire, HasOwnWires, cell_at, module_lines, module_lines_with};
+ghost use Rattle.certificate_lines.specs.StoredModules.{cell_at, module_lines_with};
 ghost use Rattle.module_job.specs.Shapes.{signals_in_plane, stops_in_plane};
 ghost use Rattle.module_job.specs.Signals.{IsSignalWireBelow, renumber_signals, renumber_stop};
 ghost use Rattle.certificate.specs.StopLists.{stored_stop};
@@ -89,12 +89,7 @@ fn make_job(
     stored: &StoredModule,
     halos: &[StoredBorder],
 ) -> Result<Arc<Job>, AllocError>
-    requires wires { HasOwnWires (circuit_of tables.now.circuit) stored.now }
-    requires halo_wires { All (HasOwnWire (circuit_of tables.now.circuit)) halos.now }
-    requires module { IsModule (setting_of tables.now.circuit tables.now.layout)
-        (module_lines_with (circuit_of tables.now.circuit) stored.now halos.now) }
-    requires ports { HasLocalPorts (setting_of tables.now.circuit tables.now.layout)
-        (module_lines_with (circuit_of tables.now.circuit) stored.now halos.now) }
+    requires { IsGoodModule tables.now.circuit tables.now.layout stored.now halos.now }
     ensures { IfOk result (λ j. IsJobOf (circuit_of tables.now.circuit) tables.now.layout
         (module_lines_with (circuit_of tables.now.circuit) stored.now halos.now)
         (arc_value j)) }
@@ -136,12 +131,9 @@ fn jobs_as_written(
     tables: &LayoutTables,
     modules: &[StoredModule],
 ) -> Result<Vec<Arc<Job>>, AllocError>
-    requires wires { All (HasOwnWires (circuit_of tables.now.circuit)) modules.now }
-    requires modules { AreModules (setting_of tables.now.circuit tables.now.layout)
-        (map (module_lines (circuit_of tables.now.circuit)) modules.now) }
+    requires { AreGoodModules tables.now.circuit tables.now.layout modules.now }
     ensures { IfOk result (λ js. AreJobsOf (circuit_of tables.now.circuit) tables.now.layout
-        (map (module_lines (circuit_of tables.now.circuit)) modules.now)
-        (map arc_value js.items)) }
+        (with_lines tables.now.circuit modules.now) (map arc_value js.items)) }
 {
     let mut jobs = Vec::with_capacity(alloc, modules.len())?;
     'modules: for module in modules {
@@ -157,17 +149,13 @@ fn jobs_with_implied_halos(
     tables: &LayoutTables,
     modules: &[StoredModule],
 ) -> Result<Vec<Arc<Job>>, AllocError>
-    requires wires { All (HasOwnWires (circuit_of tables.now.circuit)) modules.now }
-    requires modules { AreModules (setting_of tables.now.circuit tables.now.layout)
-        (map (module_lines (circuit_of tables.now.circuit)) modules.now) }
-    requires few_lines { All IsWithinLineLimit
-        (map (module_lines (circuit_of tables.now.circuit)) modules.now) }
+    requires good { AreGoodModules tables.now.circuit tables.now.layout modules.now }
     requires complete { lacks_edge_wire_beside (setting_of tables.now.circuit tables.now.layout)
-        (map (module_lines (circuit_of tables.now.circuit)) modules.now) ≡ false }
+        (with_lines tables.now.circuit modules.now) ≡ false }
     ensures { IfOk result (λ js. AreJobsOf (circuit_of tables.now.circuit) tables.now.layout
         (map (with_halos (setting_of tables.now.circuit tables.now.layout)
-        (map (module_lines (circuit_of tables.now.circuit)) modules.now))
-        (map (module_lines (circuit_of tables.now.circuit)) modules.now))
+        (with_lines tables.now.circuit modules.now))
+        (with_lines tables.now.circuit modules.now))
         (map arc_value js.items)) }
 {
     let mut places = neighbour_edge_places(alloc, tables, modules)?;
@@ -192,18 +180,14 @@ fn jobs_of_version(
     version: Version,
     modules: &[StoredModule],
 ) -> Result<Vec<Arc<Job>>, AllocError>
-    requires wires { All (HasOwnWires (circuit_of tables.now.circuit)) modules.now }
-    requires modules { AreModules (setting_of tables.now.circuit tables.now.layout)
-        (map (module_lines (circuit_of tables.now.circuit)) modules.now) }
-    requires few_lines { All IsWithinLineLimit
-        (map (module_lines (circuit_of tables.now.circuit)) modules.now) }
+    requires good { AreGoodModules tables.now.circuit tables.now.layout modules.now }
     requires complete { (is_haloless_version (version_number version)
         && lacks_edge_wire_beside (setting_of tables.now.circuit tables.now.layout)
-        (map (module_lines (circuit_of tables.now.circuit)) modules.now)) ≡ false }
+        (with_lines tables.now.circuit modules.now)) ≡ false }
     ensures { IfOk result (λ js. AreJobsOf (circuit_of tables.now.circuit) tables.now.layout
         (modules_by_version (version_number version)
         (setting_of tables.now.circuit tables.now.layout)
-        (map (module_lines (circuit_of tables.now.circuit)) modules.now))
+        (with_lines tables.now.circuit modules.now))
         (map arc_value js.items)) }
 {
     if version.is_haloless() {

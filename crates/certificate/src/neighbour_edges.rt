@@ -3,15 +3,14 @@ ghost use Rattle.std.specs.Prelude.{◌≡◌, ◌≢◌, ◌<◌, ◌≤◌, �
 ghost use Rattle.std.specs.List.{All, flat_map, list_any};
 ghost use Rattle.bbm_rule.specs.Plane.{partner};
 ghost use Rattle.bbm_rule.specs.Boxes.{in_box, in_halo};
-ghost use Rattle.circuit.specs.Bridge.{circuit_of};
 ghost use Rattle.module_box.specs.Tiling.{AreOwners, rectangle};
 ghost use Rattle.bbm_rule.specs.declared.block.Box2.{Box2};
 ghost use Rattle.certificate_lines.specs.Entries.{ModuleLines, areas};
-ghost use Rattle.certificate_lines.specs.Modules.{AreModules, IsWithinLineLimit};
+ghost use Rattle.certificate_lines.specs.Modules.{AreModules};
 ghost use Rattle.certificate_lines.specs.Rules.{whole};
 ghost use Rattle.certificate_lines.specs.Settings.{setting_of};
-ghost use Rattle.certificate_lines.specs.StoredModules.{module_lines};
 ghost use Rattle.certificate_lines.specs.declared.stored_module.StoredModule.{StoredModule};
+ghost use Rattle.certificate.specs.GoodModules.{AreGoodModules};
 ghost use Rattle.certificate.specs.HaloPlaces.{AddsEdgePlaces, AddsPlaceWhere, AreReady, HaveListsFrom, IsInnerCell, line_cell, list_at_or_empty};
 
 use crate::layout_tables::LayoutTables;
@@ -233,10 +232,7 @@ pub(crate) fn neighbour_edge_places(
     tables: &LayoutTables,
     modules: &[StoredModule],
 ) -> Result<Vec<Vec<EdgePlace>>, AllocError>
-    requires modules { AreModules (setting_of tables.now.circuit tables.now.layout)
-        (map (module_lines (circuit_of tables.now.circuit)) modules.now) }
-    requires few_lines { All IsWithinLineLimit
-        (map (module_lines (circuit_of tables.now.circuit)) modules.now) }
+    requires { AreGoodModules tables.now.circuit tables.now.layout modules.now }
     ensures { IfOk result (λ lists. HaveListsFrom
         (setting_of tables.now.circuit tables.now.layout) modules.now 0
         (map (λ l. l.items) lists.items)) }

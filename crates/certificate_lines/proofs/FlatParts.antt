@@ -20,10 +20,6 @@ flat_part P f [] h i x e = absurd cc
 flat_part P f (y ∷ xs) h zero x e = subst (λ z. All P (f z)) (some_is y x e) (all_left P (f y) (flat_map f xs) h)
 flat_part P f (y ∷ xs) h (suc i) x e = flat_part P f xs (all_right P (f y) (flat_map f xs) h) i x e
 
-pub flat_at : {X A : Type 0} (P : A → Type 0) (f : X → List A) (xs : List X) → All P (flat_map f xs) → (i : ℕ) (x : X) →
-    i < length xs → x ≡ get_or xs i x → All P (f x)
-flat_at P f xs h i x lt e = flat_part P f xs h i x (slice_get-get_or xs i x lt ∙ sym (ap Some e))
-
 -- what the first i elements make, and the next one
 pub flat_more : {X Y : Type 0} (f : X → List Y) (xs : List X) (i : ℕ) (x : X) → i < length xs → x ≡ get_or xs i x →
     flat_map f (take (i + 1) xs) ≡ flat_map f (take i xs) ++ f x

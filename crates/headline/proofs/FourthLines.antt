@@ -2,11 +2,10 @@
 use Rattle.std.proofs.lemmas.Grind.{common_steps}
 use Rattle.headline.proofs.Imports.{All-from_recursion, Bool, CertView, FourthLineSaysYes, IsOneLine, List, Option}
 use Rattle.headline.proofs.Imports.{Refusal, Some, Verdict, [], and_parts, ap, append-nil, append_assoc, ap₂, arith}
-use Rattle.headline.proofs.Imports.{codes, cond, decimal, ended-cons, eqb, false, flat_map, kept}
-use Rattle.headline.proofs.Imports.{length, line_text, lines_of, list_all, nat_lt, not, refl, refusal_line}
-use Rattle.headline.proofs.Imports.{report_line_text, report_text, slice_get, slice_split_at, some_part}
-use Rattle.headline.proofs.Imports.{space_and_word, suc, sym, timing_report_line, true, zero, ℕ, ◌%◌, ◌&&◌, ◌++◌, ◌+◌}
-use Rattle.headline.proofs.Imports.{◌<◌, ◌∙◌, ◌∷◌, ◌≡◌}
+use Rattle.headline.proofs.Imports.{codes, cond, decimal, ended-cons, eqb, false, flat_map, kept, length, line_text}
+use Rattle.headline.proofs.Imports.{lines_of, list_all, nat_lt, not, refl, refusal_line, report_line_text, report_text}
+use Rattle.headline.proofs.Imports.{slice_get, slice_split_at, some_part, space_and_word, suc, sym, timing_report_line}
+use Rattle.headline.proofs.Imports.{true, zero, ℕ, ◌%◌, ◌&&◌, ◌++◌, ◌+◌, ◌<◌, ◌∙◌, ◌∷◌, ◌≡◌}
 use Rattle.lemmas.proofs.Common.{◌/◌, get_or, ne_eqb, digit_glyph, digits_onto, list_all-append, onto_first}
 use Rattle.lemmas.proofs.Common.{slice_split}
 use Rattle.std.specs.Fmt.{digits}

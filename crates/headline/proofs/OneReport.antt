@@ -1,10 +1,9 @@
 -- A text has one report.
 use Rattle.headline.proofs.Imports.{AreJobsOf, AreModules, Bundle, CertView, HasAtMostOneAnswerToEachText, IsReportOf}
-use Rattle.headline.proofs.Imports.{IsVerdict}
-use Rattle.headline.proofs.Imports.{IsVerdictOn, JobView, List, ModuleLines, None, Option, Outcome, SaysReport, Some}
-use Rattle.headline.proofs.Imports.{Verdict, ap, arith, circuit_of, common_steps, length, modules_in, refl, report_text}
-use Rattle.headline.proofs.Imports.{setting_of, slice_get, slice_get_within, subst, sym, verdict_outcome, ℕ, ◌<◌, ◌∙◌}
-use Rattle.headline.proofs.Imports.{◌≡◌}
+use Rattle.headline.proofs.Imports.{IsVerdict, IsVerdictOn, JobView, List, ModuleLines, None, Option, Outcome}
+use Rattle.headline.proofs.Imports.{SaysReport, Some, Verdict, ap, arith, circuit_of, common_steps, length, modules_in}
+use Rattle.headline.proofs.Imports.{refl, report_text, setting_of, slice_get, slice_get_within, subst, sym}
+use Rattle.headline.proofs.Imports.{verdict_outcome, ℕ, ◌<◌, ◌∙◌, ◌≡◌}
 use Rattle.soundness.proofs.ModuleJobs.{one_job}
 use Rattle.core_book.specs.CoreLaws.{AreSameVerdicts}
 use Rattle.core_book.proofs.OneVerdict.{none-past, same-elements, verdict-is-one}

@@ -1,15 +1,14 @@
 -- The lines of the plain certificate of a design make a plain module
 use Rattle.std.proofs.lemmas.Grind.{common_steps}
 use Rattle.headline.proofs.Imports.{All, All-cons, All-nil, AreGoodCircuitLines, Bool, Box2, CertificateLine}
-use Rattle.headline.proofs.Imports.{CircuitLine, Cut, IsGoodDesign, IsInputName, IsPlaced, IsPlain, Keep}
-use Rattle.headline.proofs.Imports.{List, Module, ModuleLines, Pattern, SaysPlain, Some, Use, [], add_line}
-use Rattle.headline.proofs.Imports.{and_parts, any_at, ap, append-nil, append_assoc, ap₂, arith, bytes_same, cases_Bool}
-use Rattle.headline.proofs.Imports.{cuts, defined, edges, eq-eqb, eqb, eqb-true, false, filter}
-use Rattle.headline.proofs.Imports.{flat_map, flat_map-append, gate_numbers, has, inl, input_names, inputs_are_first}
-use Rattle.headline.proofs.Imports.{inr, is_among, is_inverse_gate, is_module, length, list_all, map}
-use Rattle.headline.proofs.Imports.{modules_of, netlist_of, not, placed, plain_lines, range_with_len, refl, slice_get}
-use Rattle.headline.proofs.Imports.{slice_get_within, subst, suc, sym, true, whole, zero, ℕ, ◌&&◌, ◌++◌, ◌+◌, ◌<◌, ◌∙◌}
-use Rattle.headline.proofs.Imports.{◌∷◌, ◌≡◌, ◌≤◌}
+use Rattle.headline.proofs.Imports.{CircuitLine, Cut, IsGoodDesign, IsInputName, IsPlaced, IsPlain, Keep, List, Module}
+use Rattle.headline.proofs.Imports.{ModuleLines, Pattern, SaysPlain, Some, Use, [], add_line, and_parts, any_at, ap}
+use Rattle.headline.proofs.Imports.{append-nil, append_assoc, ap₂, arith, bytes_same, cases_Bool, cuts, defined, edges}
+use Rattle.headline.proofs.Imports.{eq-eqb, eqb, eqb-true, false, filter, flat_map, flat_map-append, gate_numbers, has}
+use Rattle.headline.proofs.Imports.{inl, input_names, inputs_are_first, inr, is_among, is_inverse_gate, is_module}
+use Rattle.headline.proofs.Imports.{length, list_all, map, modules_of, netlist_of, not, placed, plain_lines}
+use Rattle.headline.proofs.Imports.{range_with_len, refl, slice_get, slice_get_within, subst, suc, sym, true, whole}
+use Rattle.headline.proofs.Imports.{zero, ℕ, ◌&&◌, ◌++◌, ◌+◌, ◌<◌, ◌∙◌, ◌∷◌, ◌≡◌, ◌≤◌}
 use Rattle.lemmas.proofs.Common.{fold, false_from_not}
 use Rattle.certificate_lines.specs.Entries.{change_last, keeps}
 use Rattle.headline.specs.PlainLaws.{PlainLinesTextIsDecided}

@@ -3,24 +3,23 @@ use Rattle.headline.proofs.Imports.{All, All-cons, All-head, All-nil, All-tail, 
 use Rattle.headline.proofs.Imports.{AreGoodAfter, AreGoodCircuitLines, AreOrdered, Bool, Box2, Bundle, CertificateLine}
 use Rattle.headline.proofs.Imports.{Circuit, CircuitLine, Cut, Edge, Grammar, Halo, Have, IsFaultless, IsInputName}
 use Rattle.headline.proofs.Imports.{IsPlaced, IsPlainText, IsSection, IsSmallDesign, Keep, LayoutHeader, LayoutLine}
-use Rattle.headline.proofs.Imports.{List, Module, ModuleLines, No, None, Ok, OutOfOrder, Outcome, Pattern}
-use Rattle.headline.proofs.Imports.{Port, Refused, SaysBundle, SaysReport, Setting, Some, SomethingMissing, Stop, Use}
+use Rattle.headline.proofs.Imports.{List, Module, ModuleLines, No, None, Ok, OutOfOrder, Outcome, Pattern, Port}
+use Rattle.headline.proofs.Imports.{Refused, SaysBundle, SaysReport, Setting, Some, SomethingMissing, Stop, Use}
 use Rattle.headline.proofs.Imports.{Verdict, Yes, [], add_line, and_parts, any_at, ap, append-nil, append_assoc, ap₂}
 use Rattle.headline.proofs.Imports.{arith, bundle_of, bytes_eq, bytes_eq-Decides, bytes_same, cases_Bool}
 use Rattle.headline.proofs.Imports.{certificate_grammar, circuit_grammar, circuit_of, code_if, common_steps}
 use Rattle.headline.proofs.Imports.{cut_name_in, cuts, defined, defines, drop, eqb, eqb-true, false, faultless_named}
-use Rattle.headline.proofs.Imports.{filter}
-use Rattle.headline.proofs.Imports.{flat_map, flat_map-append, gate_numbers, gates_are_ordered, has, inl}
+use Rattle.headline.proofs.Imports.{filter, flat_map, flat_map-append, gate_numbers, gates_are_ordered, has, inl}
 use Rattle.headline.proofs.Imports.{input_names, inputs_are_first, inr, is_among, is_inverse_gate, is_layout_side}
 use Rattle.headline.proofs.Imports.{is_module, kept, known, layout_grammar, layout_section, length, length-append}
 use Rattle.headline.proofs.Imports.{list_all, list_any, map, map-append, modules_of, names_pass, nat_le, nat_lt}
 use Rattle.headline.proofs.Imports.{nat_tests, netlist_of, no_code, not, number, option_map, or_else, output_names}
 use Rattle.headline.proofs.Imports.{parts_of, placed, plain_lines, port_names_of, push_cons, range_with_len}
-use Rattle.headline.proofs.Imports.{read_faultless, read_layout-is_named, read_layout-names, refl}
-use Rattle.headline.proofs.Imports.{same_Some, section_made, section_of, setting_of, size_fault, slice_get}
-use Rattle.headline.proofs.Imports.{slice_get-map, slice_get_within, subst, suc, sym, take, take-append-drop, true}
-use Rattle.headline.proofs.Imports.{true≢false, verdict_outcome, whole, zero, ℕ, ◌%◌, ◌&&◌, ◌++◌, ◌+◌, ◌<◌, ◌==◌, ◌||◌}
-use Rattle.headline.proofs.Imports.{◌∙◌, ◌∷◌, ◌≡◌, ◌≢◌, ◌≤◌}
+use Rattle.headline.proofs.Imports.{read_faultless, read_layout-is_named, read_layout-names, refl, same_Some}
+use Rattle.headline.proofs.Imports.{section_made, section_of, setting_of, size_fault, slice_get, slice_get-map}
+use Rattle.headline.proofs.Imports.{slice_get_within, subst, suc, sym, take, take-append-drop, true, true≢false}
+use Rattle.headline.proofs.Imports.{verdict_outcome, whole, zero, ℕ, ◌%◌, ◌&&◌, ◌++◌, ◌+◌, ◌<◌, ◌==◌, ◌||◌, ◌∙◌, ◌∷◌}
+use Rattle.headline.proofs.Imports.{◌≡◌, ◌≢◌, ◌≤◌}
 use Rattle.lemmas.proofs.Common.{is_lt, option_to_list, All-append, and-false, list_any-append, or-true, ordering_then}
 use Rattle.lemmas.proofs.Common.{take-length, less_nat, not_le_test}
 use Rattle.circuit.specs.Meaning.{Gate, place_of, wire_of, wires, wires_after}
@@ -31,11 +30,10 @@ use Rattle.module_box.specs.Locals.{local_wires}
 use Rattle.certificate_lines.specs.Entries.{gates, last_of, areas}
 use Rattle.certificate_lines.specs.Orders.{is_cut, line_cmp, may_follow, may_precede, sort_number_of, rank_of}
 use Rattle.certificate_lines.specs.Rules.{are_new_and_distinct, cut_line_code, entry_fault, used_gate_fault}
-use Rattle.certificate_lines.specs.Rules.{body_line_code}
-use Rattle.certificate_lines.specs.Rules.{keep_line_code, line_fault, use_line_code, content_code, module_box_code}
-use Rattle.certificate_lines.specs.Rules.{end_fault}
-use Rattle.certificate_lines.specs.Rules.{is_last_module_incomplete, is_local, is_local_wire, is_odd, is_bad_box_side}
-use Rattle.certificate_lines.specs.Rules.{has_nonlocal_port, leaves_gap, module_line_code}
+use Rattle.certificate_lines.specs.Rules.{body_line_code, keep_line_code, line_fault, use_line_code, content_code}
+use Rattle.certificate_lines.specs.Rules.{module_box_code, end_fault, is_last_module_incomplete, is_local}
+use Rattle.certificate_lines.specs.Rules.{is_local_wire, is_odd, is_bad_box_side, has_nonlocal_port, leaves_gap}
+use Rattle.certificate_lines.specs.Rules.{module_line_code}
 use Rattle.certificate_lines.proofs.LocalLemmas.{local_more}
 use Rattle.pattern.specs.Lines.{AreNamed}
 use Rattle.certificate_lines.proofs.BoxPlaces.{cells_inside}

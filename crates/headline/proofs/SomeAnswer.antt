@@ -1,8 +1,7 @@
 -- `modules`, `migrate` and `value` have an answer to each text
 use Rattle.headline.proofs.Imports.{AnswersOrRefuses, AreOrdered, CircuitLine, Err, HasAnAnswerToEachText}
-use Rattle.headline.proofs.Imports.{IsMigrationOf}
-use Rattle.headline.proofs.Imports.{IsModulesOf, IsValueOf, List, No, Ok, Outcome, Refusal, Refused, Result}
-use Rattle.headline.proofs.Imports.{SaysMigration, SaysModules, SaysValues, ValueQuestion, Yes, [], bundle_of}
+use Rattle.headline.proofs.Imports.{IsMigrationOf, IsModulesOf, IsValueOf, List, No, Ok, Outcome, Refusal, Refused}
+use Rattle.headline.proofs.Imports.{Result, SaysMigration, SaysModules, SaysValues, ValueQuestion, Yes, [], bundle_of}
 use Rattle.headline.proofs.Imports.{circuit_grammar, codes, decimal, defined, gates_are_ordered, inl, inr, line_text}
 use Rattle.headline.proofs.Imports.{lines_of, netlist_of, pair_with_result, refl, refusal_line, section_of, subst}
 use Rattle.headline.proofs.Imports.{value_lines, value_sections_of, ℕ, ◌++◌, ◌∷◌, ◌≡◌, ◌⊎◌}

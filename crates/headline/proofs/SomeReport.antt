@@ -2,10 +2,9 @@
 use Rattle.std.proofs.Common.{arith}
 use Rattle.std.proofs.lemmas.Grind.{common_steps}
 use Rattle.headline.proofs.Imports.{AreFaultless, AreModules, Ball, Bundle, CertView, HasAnAnswerToEachText, In}
-use Rattle.headline.proofs.Imports.{IsFaultless}
-use Rattle.headline.proofs.Imports.{IsReportOf, IsVerdictOn, LayoutHeader, LayoutLine, List, Mirror, None, Ok, Option}
-use Rattle.headline.proofs.Imports.{Out, Pattern, PortNameLists, SaysReport, Setting, Some, Verdict, Waste, [], ap}
-use Rattle.headline.proofs.Imports.{append-nil, append_assoc, bundle_of, certificate_grammar, faultless_modules}
+use Rattle.headline.proofs.Imports.{IsFaultless, IsReportOf, IsVerdictOn, LayoutHeader, LayoutLine, List, Mirror, None}
+use Rattle.headline.proofs.Imports.{Ok, Option, Out, Pattern, PortNameLists, SaysReport, Setting, Some, Verdict, Waste}
+use Rattle.headline.proofs.Imports.{[], ap, append-nil, append_assoc, bundle_of, certificate_grammar, faultless_modules}
 use Rattle.headline.proofs.Imports.{first_none, layout_grammar, layout_line_fault, layout_section, line_fault}
 use Rattle.headline.proofs.Imports.{meant_modules, modules_in, modules_of, parts_of, port_names_of, read_complete, refl}
 use Rattle.headline.proofs.Imports.{report_text, setting_of, size_fault, subst, sym, verdict_outcome, ℕ, ◌++◌, ◌∙◌, ◌∷◌}

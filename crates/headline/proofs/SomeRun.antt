@@ -1,13 +1,12 @@
 -- `run` has an answer to each text
 use Rattle.headline.proofs.Imports.{Bool, Cell, Cells, Err, HasAnAnswerToEachText, IsDeadOutside, IsFaultless}
-use Rattle.headline.proofs.Imports.{IsLiveOutside}
-use Rattle.headline.proofs.Imports.{IsRunEnd, IsRunOf, LayoutHeader, LayoutLine, LeftAt, List, None, Ok, Pattern}
-use Rattle.headline.proofs.Imports.{Refusal, Result, RunEnd, RunQuestion, SaysRunEnd, State, [], arith, cases_Bool}
-use Rattle.headline.proofs.Imports.{cond, false, filter, flat_map, has, in_box, in_layout, inl, inr, layout_grammar}
-use Rattle.headline.proofs.Imports.{length, lines_of, pair_with_result, partner, parts_of, plane_at, read_faultless}
-use Rattle.headline.proofs.Imports.{rectangle_cells, refl, run, run_end_outcome, run_end_text, section_of, size_fault}
-use Rattle.headline.proofs.Imports.{start, step, subst, suc, sym, true, true≢false, vec_of, whole, zero, ℕ, ℤ, ◌<◌, ◌^◌}
-use Rattle.headline.proofs.Imports.{◌∙◌, ◌∷◌, ◌≡◌, ◌≤◌, ◌⊎◌}
+use Rattle.headline.proofs.Imports.{IsLiveOutside, IsRunEnd, IsRunOf, LayoutHeader, LayoutLine, LeftAt, List, None, Ok}
+use Rattle.headline.proofs.Imports.{Pattern, Refusal, Result, RunEnd, RunQuestion, SaysRunEnd, State, [], arith}
+use Rattle.headline.proofs.Imports.{cases_Bool, cond, false, filter, flat_map, has, in_box, in_layout, inl, inr}
+use Rattle.headline.proofs.Imports.{layout_grammar, length, lines_of, pair_with_result, partner, parts_of, plane_at}
+use Rattle.headline.proofs.Imports.{read_faultless, rectangle_cells, refl, run, run_end_outcome, run_end_text}
+use Rattle.headline.proofs.Imports.{section_of, size_fault, start, step, subst, suc, sym, true, true≢false, vec_of}
+use Rattle.headline.proofs.Imports.{whole, zero, ℕ, ℤ, ◌<◌, ◌^◌, ◌∙◌, ◌∷◌, ◌≡◌, ◌≤◌, ◌⊎◌}
 use Rattle.lemmas.proofs.Common.{◌*◌, cases_lt, mul-le-mul_right}
 use Rattle.bbm_rule.proofs.PlaneLemmas.{partner_twice}
 use Rattle.bbm_rule.proofs.Steps.{step_dead}

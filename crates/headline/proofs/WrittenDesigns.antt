@@ -7,12 +7,11 @@ use Rattle.headline.proofs.Imports.{List, Module, Ok, Pattern, SaysBundle, SaysD
 use Rattle.headline.proofs.Imports.{[], and_parts, ap, append-nil, append_assoc, ap₂, arith, box_of, bundle_text}
 use Rattle.headline.proofs.Imports.{certificate_section_text, certificate_text, circuit_grammar, circuit_of}
 use Rattle.headline.proofs.Imports.{circuit_text, clean_both, codes, common_steps, cond, corner_and_sides, decimal}
-use Rattle.headline.proofs.Imports.{defined, design_text, false, filter, flat_map, flat_map-append}
-use Rattle.headline.proofs.Imports.{if_one_word, input_names, is_name, is_word_at, layout_grammar}
-use Rattle.headline.proofs.Imports.{layout_section_text, layout_text, lines_again, list_all, map}
-use Rattle.headline.proofs.Imports.{name_after_keyword, name_at, nothing_follows, number_after_keyword}
-use Rattle.headline.proofs.Imports.{number_at, number_written, output_names, parts_of, plain_lines}
-use Rattle.headline.proofs.Imports.{port_names_of, range_with_len, refl, section_made, section_of, stop_in}
+use Rattle.headline.proofs.Imports.{defined, design_text, false, filter, flat_map, flat_map-append, if_one_word}
+use Rattle.headline.proofs.Imports.{input_names, is_name, is_word_at, layout_grammar, layout_section_text, layout_text}
+use Rattle.headline.proofs.Imports.{lines_again, list_all, map, name_after_keyword, name_at, nothing_follows}
+use Rattle.headline.proofs.Imports.{number_after_keyword, number_at, number_written, output_names, parts_of}
+use Rattle.headline.proofs.Imports.{plain_lines, port_names_of, range_with_len, refl, section_made, section_of, stop_in}
 use Rattle.headline.proofs.Imports.{subst, suc, sym, true, unconsumed_wire_code, with_line_feed, zero, ℕ, ◌&&◌, ◌++◌}
 use Rattle.headline.proofs.Imports.{◌+◌, ◌<◌, ◌>>=◌, ◌^◌, ◌∙◌, ◌∷◌, ◌≡◌, ◌≤◌}
 use Rattle.certificate_lines.specs.Forms.{form_of}

@@ -3,8 +3,7 @@
 -- Read before: Plain.antt; the rules of a design (RightInFull.antt names them); the grammars of sections
 -- (section_text/specs/Section.antt, circuit/specs/Grammars.antt and pattern/specs/Grammars.antt), and how their lines
 -- are spelled (circuit/specs/Text.antt, pattern/specs/Text.antt and certificate/specs/Text.antt).
-use Rattle.std.specs.Prelude.{◌≡◌, ℕ, List, [], ◌∷◌, ◌++◌, ◌≤◌, length, map, filter, slice_get, Ok, Some, None}
-use Rattle.std.specs.Prelude.{IsTrue}
+use Rattle.std.specs.Prelude.{◌≡◌, ℕ, List, [], ◌∷◌, ◌++◌, ◌≤◌, length, map, filter, slice_get, Ok, Some, None, IsTrue}
 use Rattle.std.specs.List.{All, range_with_len}
 use Rattle.section_text.specs.SaidSection.{IsSection}
 use Rattle.section_text.specs.Section.{section_of}

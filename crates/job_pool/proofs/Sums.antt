@@ -2,8 +2,7 @@
 use Rattle.std.proofs.lemmas.Grind.{common_steps}
 use Rattle.job_pool.proofs.Imports.{IsDrawn, List, [], all_but_last, ap, append-nil, append_assoc, arith}
 use Rattle.job_pool.proofs.Imports.{count_at_least, get_or, joined, length, map, nat_tests, occurrences, past_greatest}
-use Rattle.job_pool.proofs.Imports.{past_last, refl, set, suc, sym, total, zero, ℕ, ◌++◌, ◌+◌, ◌-◌, ◌∙◌, ◌∷◌}
-use Rattle.job_pool.proofs.Imports.{◌≡◌, ◌≤◌}
+use Rattle.job_pool.proofs.Imports.{past_last, refl, set, suc, sym, total, zero, ℕ, ◌++◌, ◌+◌, ◌-◌, ◌∙◌, ◌∷◌, ◌≡◌, ◌≤◌}
 use Rattle.lemmas.proofs.Common.{length-append, max, min}
 use Rattle.job_pool.specs.Lists.{count_less_than}
 use mathlib.Core.Option.{some, some-injective, some-ne-none}

@@ -39,8 +39,8 @@ push_edge_places-requires-clause-table c =
 pub push_edge_places-requires-clause-inner : goal.push_edge_places-requires-clause-inner
 push_edge_places-requires-clause-inner c =
     let p = c.args.tables.now in let g = setting_of p.circuit p.layout in
-    subst (λ (b : Box2). All (λ (m : StoredModule).
-    All (λ (e : StoredBorder). IsInnerCell b (line_cell e)) m.edges.items)
+    subst (λ (b : Box2). All
+    (λ (m : StoredModule). All (λ (e : StoredBorder). IsInnerCell b (line_cell e)) m.edges.items)
     c.args.modules.now) (sym c.in_ok-owners.ensures.rectangle) (inner_edges g c.args.modules.now c.requires.modules)
 
 pub push_edge_places-requires-clause-few_modules : goal.push_edge_places-requires-clause-few_modules

@@ -29,9 +29,11 @@ invariant_of-result c =
     ∙ ap (λ (s : Setting). lines_of_modules s.circuit ms) same)
     ∙ modules_stored g.circuit ms in
     record {
-      wires = subst (λ (s : Setting). All (HasOwnWires s.circuit) ms) same c.into_modules-modules.ensures.wires;
-      good = subst (AreModules g) are (faultless_modules g _ _ faultless);
-      few_lines = subst (All IsWithinLineLimit) are (faultless_lines g _ _ faultless);
+      good = record {
+        wires = subst (λ (s : Setting). All (HasOwnWires s.circuit) ms) same c.into_modules-modules.ensures.wires;
+        modules = subst (AreModules g) are (faultless_modules g _ _ faultless);
+        few_lines = subst (All IsWithinLineLimit) are (faultless_lines g _ _ faultless);
+      };
       complete = subst (λ ns. (is_haloless_version version && lacks_edge_wire_beside g ns) ≡ false) are
           (read_complete g version _ faultless);
     }

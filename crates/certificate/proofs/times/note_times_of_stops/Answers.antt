@@ -1,6 +1,5 @@
 use Rattle.certificate.proofs.Imports.{IsOwnWire, IsStopTimeTable, StoredStop, get_or, map, stop_line, subst, take}
-use Rattle.certificate.proofs.Imports.{take_all}
-use Rattle.certificate.proofs.Imports.{◌++◌, ◌∙◌}
+use Rattle.certificate.proofs.Imports.{take_all, ◌++◌, ◌∙◌}
 use Rattle.certificate.proofs.StoredSignals.{all_at, item_is}
 use Rattle.certificate.proofs.TimeLemmas.{stop_more}
 use Rattle.certificate.proofs.times.note_times_of_stops.Goals as goal

@@ -1,6 +1,5 @@
 use Rattle.certificate.proofs.Imports.{CertView, Some, ap, arith, circuit_of, length, length-map, map, mapped_at}
-use Rattle.certificate.proofs.Imports.{module_lines}
-use Rattle.certificate.proofs.Imports.{modules_of, slice_get, subst, sym, ◌∙◌, ◌≡◌}
+use Rattle.certificate.proofs.Imports.{module_lines, modules_of, slice_get, subst, sym, ◌∙◌, ◌≡◌}
 use Rattle.certificate_lines.specs.Entries.{counts_of}
 use Rattle.certificate_lines.proofs.StoredLemmas.{modules_stored}
 use Rattle.certificate.proofs.JobsSoFar.{element_at}

@@ -6,15 +6,8 @@ use Rattle.certificate.specs.Grammars.{modules_in}
 use Rattle.certificate.specs.Jobs.{AreJobsOf}
 use Rattle.certificate.proofs.cert.Cert.jobs.Goals as goal
 
-pub jobs_of_version-requires-clause-wires : goal.jobs_of_version-requires-clause-wires
-jobs_of_version-requires-clause-wires c = rw (c.in_ok-tables.ensures, c.deref.ensures.value) c.self.invariant.wires
-
-pub jobs_of_version-requires-clause-modules : goal.jobs_of_version-requires-clause-modules
-jobs_of_version-requires-clause-modules c = rw (c.in_ok-tables.ensures, c.deref.ensures.value) c.self.invariant.good
-
-pub jobs_of_version-requires-clause-few_lines : goal.jobs_of_version-requires-clause-few_lines
-jobs_of_version-requires-clause-few_lines c =
-    rw (c.in_ok-tables.ensures, c.deref.ensures.value) c.self.invariant.few_lines
+pub jobs_of_version-requires-clause-good : goal.jobs_of_version-requires-clause-good
+jobs_of_version-requires-clause-good c = rw (c.in_ok-tables.ensures, c.deref.ensures.value) c.self.invariant.good
 
 pub returns : goal.returns
 returns c =

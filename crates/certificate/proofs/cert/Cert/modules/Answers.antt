@@ -24,18 +24,18 @@ returns-clause-good c =
     (subst (AreModules g) (sym (meant_of (version_number c.self.inside.version) g
     (modules_stored circuit c.self.inside.modules.items)))
     (meant_modules (version_number c.self.inside.version) g
-    (map (module_lines circuit) c.self.inside.modules.items) c.self.invariant.good c.self.invariant.complete))
+    (map (module_lines circuit) c.self.inside.modules.items) c.self.invariant.good.modules c.self.invariant.complete))
 
 pub returns-clause-written : goal.returns-clause-written
 returns-clause-written c =
     let g = setting_of c.self.inside.circuit.now c.self.inside.layout.now in
     subst (λ (s : CertView). AreModules (setting_of s.circuit s.layout) (modules_of s.entries)) c.self.view_is
     (subst (AreModules g) (sym (modules_stored (circuit_of c.self.inside.circuit.now) c.self.inside.modules.items))
-    c.self.invariant.good)
+    c.self.invariant.good.modules)
 
 pub returns-clause-lines : goal.returns-clause-lines
 returns-clause-lines c =
     subst (λ (s : CertView). All IsWithinLineLimit (modules_of s.entries)) c.self.view_is
     (subst (All IsWithinLineLimit)
     (sym (modules_stored (circuit_of c.self.inside.circuit.now) c.self.inside.modules.items))
-    c.self.invariant.few_lines)
+    c.self.invariant.good.few_lines)
