@@ -1,4 +1,4 @@
--- What is known of the modules of a certificate as they are kept
+-- The modules of a certificate as they are kept, and the properties that they have
 use Rattle.std.specs.Prelude.{List, map}
 use Rattle.std.specs.List.{All}
 use Rattle.circuit.specs.Bridge.{circuit_of}
