@@ -77,8 +77,7 @@ fn answer(alloc: Global, circuit: &Circuit, on: &[Name]) -> Result<Answered, All
 {
     let ins = input_name_list(alloc, circuit)?;
     let bits = are_on(alloc, &ins, on)?;
-    // each gate uses wires that are defined before it
-    let _gates = circuit.gates();
+    circuit.prove_valid();
     match circuit.values(alloc, &bits) {
         Ok(values) => {
             let output = print_values(alloc, circuit, &values)?;

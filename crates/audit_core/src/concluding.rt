@@ -110,9 +110,7 @@ fn verdict_of(
         AreNamed (Some (port_names_of cert.now.circuit)) (parts_of cert.now.layout) →
         IsOnTime (circuit_of cert.now.circuit) cert.now.layout (modules cert.now) }
 {
-    // What is known of the layout, the circuit and the modules.
-    let _size = cert.size();
-    let _count = cert.modules();
+    cert.prove_valid();
     let unkept = cert.unkept(alloc)?;
     let times = cert.times(alloc)?;
     let mut lines = report_lines(alloc, faults, borders, &unkept)?;

@@ -1,6 +1,7 @@
 -- Pairs of rows that stay, while others are turned
-use Rattle.bbm_rule.proofs.Imports.{AreRowPairsStable, AreSameBits, AreSameCells, Bool, FillsRowPart, HasNoSetBit}
-use Rattle.bbm_rule.proofs.Imports.{HasWordAt, IsUnmarked, List, MarksOne, SetsPlace, SetsWordAt, TurnsRowPart}
+use Rattle.bbm_rule.proofs.Imports.{AreRowPairsStable, AreSameBits, AreSameCells, HasNoSetBit}
+use Rattle.bbm_rule.proofs.Imports.{HasWordAt, IsUnmarked, List, MarksOne, SetsPlace, SetsWordAt, TurnsRowPart, inl}
+use Rattle.bbm_rule.proofs.Imports.{inr, ◌⊎◌}
 use Rattle.bbm_rule.proofs.Imports.{TurnsRows, arith, bit, bit_or, cell_at, common_steps, false, get_or, length}
 use Rattle.bbm_rule.proofs.Imports.{length-set, mate, mul-le-mul_right, nat_eq, nat_tests, not, set, suc, sym, zero, ℕ}
 use Rattle.bbm_rule.proofs.Imports.{◌%◌, ◌*◌, ◌+◌, ◌-◌, ◌/◌, ◌<◌, ◌∙◌, ◌≡◌, ◌≢◌, ◌≤◌}
@@ -98,37 +99,47 @@ pub calm_same : (p s r : ℕ) (marks old new : List ℕ) → s % 2 ≡ 0 → Are
     AreRowPairsStable p s r marks new
 calm_same p s r marks old new whole same calm i l free = grind (arith, common_steps, pair_kept)
 
+-- Pairs stay, but for those that reach the cells that change. `second` has the marks then.
+but_marked : (p s r from to : ℕ) (first second old new : List ℕ) → s % 2 ≡ 0 →
+    ((q : ℕ) → q < from → cell_at new q ≡ cell_at old q) → ((q : ℕ) → to ≤ q → cell_at new q ≡ cell_at old q) →
+    ((i : ℕ) → IsUnmarked second i →
+    IsUnmarked first i × ((p + 2 * (i * s) + 2 * s ≤ from) ⊎ (to ≤ p + 2 * (i * s)))) →
+    AreRowPairsStable p s r first old → AreRowPairsStable p s r second new
+but_marked p s r from to first second old new whole before after apart calm i l free =
+    pair_kept (p + 2 * (i * s)) s old new whole (λ q low high. elim (apart i free).1 [
+      | inl h ↦ before q (omega arith)
+      | inr h ↦ after q (omega arith)
+    ]) (calm i l (apart i free).0)
+
 -- the pairs of the odd partition stay, while pair k of the even partition is turned, but for the two that share its
 -- rows
 pub odd_kept : (s r k : ℕ) (first second third old new : List ℕ) → s % 2 ≡ 0 → 0 < s →
     TurnsRowPart (s + 1 + 2 * (k * s)) s s old new → MarksOne k first second → MarksOne (k + 1) second third →
     AreRowPairsStable 0 s r first old → AreRowPairsStable 0 s r third new
-odd_kept s r k first second third old new whole positive run one two calm i l free =
+odd_kept s r k first second third old new whole positive run one two =
+    but_marked 0 s r (s + 1 + 2 * (k * s)) (s + 1 + 2 * (k * s) + s + s) first third old new whole run.before run.after
+    (λ i free.
     let later = two i free in
-    let was = one i later.0 in
-    pair_kept (0 + 2 * (i * s)) s old new whole (same later.1 was.1) (calm i l was.0)
-  where
-    same : i ≢ k + 1 → i ≢ k → (q : ℕ) → 0 + 2 * (i * s) ≤ q → q < 0 + 2 * (i * s) + 2 * s →
-        cell_at new q ≡ cell_at old q
-    same next own q low high = by_lt_or_le i k
-        (λ before. let h = after_pair i k s before in run.before q (omega arith))
-        (λ le. let h = after_pair (k + 1) i s (omega (arith, next, own)) in run.after q (omega arith))
+    let was = one i later.0 in (
+      was.0,
+      by_lt_or_le i k (λ before. let h = after_pair i k s before in inl (omega arith))
+          (λ le. let h = after_pair (k + 1) i s (omega (arith, later.1, was.1)) in inr (omega arith)),
+    ))
 
 -- and those of the even partition, while pair k of the odd partition is turned
 pub even_kept : (s r k : ℕ) (first second third old new : List ℕ) → s % 2 ≡ 0 → 0 < s →
     TurnsRowPart (0 + 2 * (k * s)) s s old new → MarksOne k first second →
     ((i : ℕ) → IsUnmarked third i → IsUnmarked second i × (i + 1 ≢ k)) → AreRowPairsStable (s + 1) s r first old →
     AreRowPairsStable (s + 1) s r third new
-even_kept s r k first second third old new whole positive run one two calm i l free =
+even_kept s r k first second third old new whole positive run one two =
+    but_marked (s + 1) s r (0 + 2 * (k * s)) (0 + 2 * (k * s) + s + s) first third old new whole run.before run.after
+    (λ i free.
     let later = two i free in
-    let was = one i later.0 in
-    pair_kept (s + 1 + 2 * (i * s)) s old new whole (same later.1 was.1) (calm i l was.0)
-  where
-    same : i + 1 ≢ k → i ≢ k → (q : ℕ) → s + 1 + 2 * (i * s) ≤ q → q < s + 1 + 2 * (i * s) + 2 * s →
-        cell_at new q ≡ cell_at old q
-    same next own q low high = by_lt_or_le i k
-        (λ before. let h = after_pair (i + 1) k s (omega (arith, next)) in run.before q (omega arith))
-        (λ le. let h = after_pair k i s (omega (arith, own)) in run.after q (omega arith))
+    let was = one i later.0 in (
+      was.0,
+      by_lt_or_le i k (λ before. let h = after_pair (i + 1) k s (omega (arith, later.1)) in inl (omega arith))
+          (λ le. let h = after_pair k i s (omega (arith, was.1)) in inr (omega arith)),
+    ))
 
 -- pairs that stay may be passed over
 pub rows_passed : (p s a d : ℕ) (old new : List ℕ) → s % 2 ≡ 0 → TurnsRows p s a old new →
@@ -181,75 +192,28 @@ pair_same p s r i old new whole within rows calm q low high = by_lt_or_le q (at 
         let opposite = rw (mate_twice j) at opposite in
         calm.lower j l ∙ rw (own, across, down, opposite) (turned_twice _ _ _ _)
 
--- ---- a cell that is set
+-- ---- cells of a row that change
 place_after : (s i v : ℕ) → 2 * i + 2 ≤ v → 2 * (i * s) + 2 * s ≤ v * s
 place_after s i v l = let h : (2 * i + 2) * s ≤ v * s = mul-le-mul_right s l in omega arith
 
 place_before : (s i v : ℕ) → v ≤ 2 * i → v * s ≤ 2 * (i * s)
 place_before s i v l = let h : v * s ≤ 2 * i * s = mul-le-mul_right s l in omega arith
 
--- the pairs of the even partition stay, but for that of the cell's row
-pub even_set : (s r u v : ℕ) (value : Bool) (first second old new : List ℕ) → s % 2 ≡ 0 → u + 1 < s →
-    SetsPlace (s * (v + 1) + (u + 1)) value old new → MarksOne (v / 2) first second →
-    AreRowPairsStable (s + 1) s r first old →
-    AreRowPairsStable (s + 1) s r second new
-even_set s r u v value first second old new whole wide sets marked calm i l free =
-    let was = marked i free in
-    pair_kept (s + 1 + 2 * (i * s)) s old new whole (λ q low high. sets.elsewhere q (apart was.1 q low high))
-    (calm i l was.0)
-  where
-    apart : i ≢ v / 2 → (q : ℕ) → s + 1 + 2 * (i * s) ≤ q → q < s + 1 + 2 * (i * s) + 2 * s → q ≢ s * (v + 1) + (u + 1)
-    apart other q low high e = by_lt_or_le i (v / 2)
-        (λ before. let h = place_after s i v (omega arith) in absurd (omega arith))
-        (λ le. let h = place_before s i (v + 1) (omega (arith, other)) in absurd (omega arith))
+-- The pairs stay, but for that of the row in which n cells from a place on change. It is row y of those that begin at
+-- place p, and the cells begin in its column x.
+pub row_changed : (p s r x y n place : ℕ) (first second old new : List ℕ) → s % 2 ≡ 0 → x + n ≤ s →
+    place ≡ p + s * y + x → ((q : ℕ) → q < place → cell_at new q ≡ cell_at old q) →
+    ((q : ℕ) → place + n ≤ q → cell_at new q ≡ cell_at old q) → MarksOne (y / 2) first second →
+    AreRowPairsStable p s r first old → AreRowPairsStable p s r second new
+row_changed p s r x y n place first second old new whole wide at before after marked =
+    but_marked p s r place (place + n) first second old new whole before after (λ i free.
+    let was = marked i free in (
+      was.0,
+      by_lt_or_le i (y / 2) (λ less. let h = place_after s i y (omega arith) in inl (omega arith))
+          (λ le. let h = place_before s i (y + 1) (omega (arith, was.1)) in inr (omega arith)),
+    ))
 
--- the pairs of the odd partition stay, but for that of the row
-pub odd_set : (s r u v : ℕ) (value : Bool) (first second old new : List ℕ) → s % 2 ≡ 0 → u + 1 < s →
-    SetsPlace (s * (v + 1) + (u + 1)) value old new → MarksOne ((v + 1) / 2) first second →
-    AreRowPairsStable 0 s r first old →
-    AreRowPairsStable 0 s r second new
-odd_set s r u v value first second old new whole wide sets marked calm i l free =
-    let was = marked i free in
-    pair_kept (0 + 2 * (i * s)) s old new whole (λ q low high. sets.elsewhere q (apart was.1 q low high))
-    (calm i l was.0)
-  where
-    apart : i ≢ (v + 1) / 2 → (q : ℕ) → 0 + 2 * (i * s) ≤ q → q < 0 + 2 * (i * s) + 2 * s → q ≢ s * (v + 1) + (u + 1)
-    apart other q low high e = by_lt_or_le i ((v + 1) / 2)
-        (λ before. let h = place_after s i (v + 1) (omega arith) in absurd (omega arith))
-        (λ le. let h = place_before s i (v + 2) (omega (arith, other)) in absurd (omega arith))
-
--- ---- cells of a row that are filled
-
--- the pairs of the even partition stay, but for that of the row
-pub even_fill : (s r u v n : ℕ) (first second old new : List ℕ) → s % 2 ≡ 0 → u + 1 + n < s →
-    FillsRowPart (s * (v + 1) + (u + 1)) n old new → MarksOne (v / 2) first second →
-    AreRowPairsStable (s + 1) s r first old →
-    AreRowPairsStable (s + 1) s r second new
-even_fill s r u v n first second old new whole wide fills marked calm i l free =
-    let was = marked i free in
-    pair_kept (s + 1 + 2 * (i * s)) s old new whole (same was.1) (calm i l was.0)
-  where
-    same : i ≢ v / 2 → (q : ℕ) → s + 1 + 2 * (i * s) ≤ q → q < s + 1 + 2 * (i * s) + 2 * s →
-        cell_at new q ≡ cell_at old q
-    same other q low high = by_lt_or_le i (v / 2)
-        (λ before. let h = place_after s i v (omega arith) in fills.before q (omega arith))
-        (λ le. let h = place_before s i (v + 1) (omega (arith, other)) in fills.after q (omega arith))
-
--- the pairs of the odd partition stay, but for that of the row
-pub odd_fill : (s r u v n : ℕ) (first second old new : List ℕ) → s % 2 ≡ 0 → u + 1 + n < s →
-    FillsRowPart (s * (v + 1) + (u + 1)) n old new → MarksOne ((v + 1) / 2) first second →
-    AreRowPairsStable 0 s r first old →
-    AreRowPairsStable 0 s r second new
-odd_fill s r u v n first second old new whole wide fills marked calm i l free =
-    let was = marked i free in
-    pair_kept (0 + 2 * (i * s)) s old new whole (same was.1) (calm i l was.0)
-  where
-    same : i ≢ (v + 1) / 2 → (q : ℕ) → 0 + 2 * (i * s) ≤ q → q < 0 + 2 * (i * s) + 2 * s → cell_at new q ≡ cell_at old q
-    same other q low high = by_lt_or_le i ((v + 1) / 2)
-        (λ before. let h = place_after s i (v + 1) (omega arith) in fills.before q (omega arith))
-        (λ le. let h = place_before s i (v + 2) (omega (arith, other)) in fills.after q (omega arith))
-
--- ---- no live cell
+-- ---- where nothing is live, every pair stays
 pub none_calm : (p s r : ℕ) (marks words : List ℕ) → ((q : ℕ) → cell_at words q ≡ false) →
     AreRowPairsStable p s r marks words
 none_calm p s r marks words none i l free = grind (arith, common_steps, dead_block)

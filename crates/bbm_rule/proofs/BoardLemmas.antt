@@ -49,41 +49,40 @@ pub live_ext : (w h s : ℕ) (words : List ℕ) → IsPlane w h s words → (x y
 live_ext w h s words plane zero y l = sym (plane.margin zero y l refl)
 live_ext w h s words plane (suc x) zero l = sym (plane.margin (suc x) zero l (not_inner_first_row w h (suc x)))
 live_ext w h s words plane (suc x) (suc y) l =
-    by_lt_or_le x w
-    (λ lx. by_lt_or_le y h
-    (λ ly. let place : s * (suc y) + suc x ≡ s * (y + 1) + (x + 1) = omega arith in
-    rw place (live_inner w h s words x y lx ly))
-    (λ gy. row_dead (board w h s words) (pos x) (pos y) (rw (not_lt_test y h gy) refl)
-    ∙ sym (plane.margin (suc x) (suc y) l (not_inner_row w h (suc x) (suc y) (omega arith)))))
-    (λ gx. column_dead (board w h s words) (pos x) (pos y) (rw (not_lt_test x w gx) refl)
-    ∙ sym (plane.margin (suc x) (suc y) l (not_inner_column w h (suc x) (suc y) (omega arith))))
+    grind (arith, common_steps, by_lt_or_le, live_inner, not_inner_row, column_dead, not_inner_column)
 
--- ---- the odd step
--- one cell of the rows after the blocks from the first place on are turned
-aligned_cell : (s r : ℕ) (old new : List ℕ) → TurnsRows 0 s r old new → (x y : ℕ) → x < s → y < 2 * r →
-    cell_at new (s * y + x) ≡ turned (cell_at old (s * y + x)) (cell_at old (s * mate y + mate x))
-    (cell_at old (s * y + mate x)) (cell_at old (s * mate y + x))
-aligned_cell s r old new rows x y lx ly =
+-- one cell of the rows after the blocks from place p on are turned, where cells stand `at` their column and row
+turned_cell : (p s r : ℕ) (at : ℕ → ℕ → ℕ) (old new : List ℕ) → ((x y : ℕ) → at x y ≡ p + s * y + x) →
+    TurnsRows p s r old new → (x y : ℕ) → x < s → y < 2 * r →
+    cell_at new (at x y) ≡ turned (cell_at old (at x y)) (cell_at old (at (mate x) (mate y)))
+    (cell_at old (at (mate x) y)) (cell_at old (at x (mate y)))
+turned_cell p s r at old new is rows x y lx ly =
     by_eq_or_not (y % 2) 0 (λ even. at_even (y / 2) (omega arith) (omega arith))
     (λ odd. at_odd (y / 2) (omega arith) (omega arith))
   where
-    first : (i j : ℕ) → s * (2 * i) + j ≡ 0 + 2 * (i * s) + j
-    first i j = omega arith
+    first : (i j : ℕ) → at j (2 * i) ≡ p + 2 * (i * s) + j
+    first i j = is j (2 * i) ∙ omega arith
 
-    second : (i j : ℕ) → s * (1 + 2 * i) + j ≡ 0 + 2 * (i * s) + s + j
-    second i j = omega arith
+    second : (i j : ℕ) → at j (1 + 2 * i) ≡ p + 2 * (i * s) + s + j
+    second i j = is j (1 + 2 * i) ∙ omega arith
 
-    at_even : (i : ℕ) → y ≡ 2 * i → i < r →
-        cell_at new (s * y + x) ≡ turned (cell_at old (s * y + x)) (cell_at old (s * mate y + mate x))
-        (cell_at old (s * y + mate x)) (cell_at old (s * mate y + x))
+    IsTurned : ℕ → Type 0
+    IsTurned y = cell_at new (at x y) ≡ turned (cell_at old (at x y)) (cell_at old (at (mate x) (mate y)))
+        (cell_at old (at (mate x) y)) (cell_at old (at x (mate y)))
+
+    at_even : (i : ℕ) → y ≡ 2 * i → i < r → IsTurned y
     at_even i e l = rw (e, mate_even (2 * i) (omega arith), first i x, first i (mate x), second i x, second i (mate x))
         (rows.upper i x l lx)
 
-    at_odd : (i : ℕ) → y ≡ 1 + 2 * i → i < r →
-        cell_at new (s * y + x) ≡ turned (cell_at old (s * y + x)) (cell_at old (s * mate y + mate x))
-        (cell_at old (s * y + mate x)) (cell_at old (s * mate y + x))
+    at_odd : (i : ℕ) → y ≡ 1 + 2 * i → i < r → IsTurned y
     at_odd i e l = rw (e, mate_odd (2 * i) (omega arith), first i x, first i (mate x), second i x, second i (mate x))
         (rows.lower i x l lx)
+
+-- ---- the odd step
+aligned_cell : (s r : ℕ) (old new : List ℕ) → TurnsRows 0 s r old new → (x y : ℕ) → x < s → y < 2 * r →
+    cell_at new (s * y + x) ≡ turned (cell_at old (s * y + x)) (cell_at old (s * mate y + mate x))
+    (cell_at old (s * y + mate x)) (cell_at old (s * mate y + x))
+aligned_cell s r old new = turned_cell 0 s r (λ x y. s * y + x) old new (λ x y. omega arith)
 
 pub odd_cell : (t w h s r : ℕ) (old new : List ℕ) → t % 2 ≡ 1 → IsPlane w h s old → TurnsRows 0 s r old new →
     2 * r ≡ h + 2 → (x y : ℕ) → x < w + 2 → y < h + 2 →
@@ -203,29 +202,7 @@ shifted_cell : (s r : ℕ) (old new : List ℕ) → TurnsRows (s + 1) s r old ne
     cell_at new (s * (y + 1) + (x + 1))
     ≡ turned (cell_at old (s * (y + 1) + (x + 1))) (cell_at old (s * (mate y + 1) + (mate x + 1)))
     (cell_at old (s * (y + 1) + (mate x + 1))) (cell_at old (s * (mate y + 1) + (x + 1)))
-shifted_cell s r old new rows x y lx ly =
-    by_eq_or_not (y % 2) 0 (λ even. at_even (y / 2) (omega arith) (omega arith))
-    (λ odd. at_odd (y / 2) (omega arith) (omega arith))
-  where
-    first : (i j : ℕ) → s * (2 * i + 1) + (j + 1) ≡ s + 1 + 2 * (i * s) + j
-    first i j = omega arith
-
-    second : (i j : ℕ) → s * (1 + 2 * i + 1) + (j + 1) ≡ s + 1 + 2 * (i * s) + s + j
-    second i j = omega arith
-
-    at_even : (i : ℕ) → y ≡ 2 * i → i < r →
-        cell_at new (s * (y + 1) + (x + 1))
-        ≡ turned (cell_at old (s * (y + 1) + (x + 1))) (cell_at old (s * (mate y + 1) + (mate x + 1)))
-        (cell_at old (s * (y + 1) + (mate x + 1))) (cell_at old (s * (mate y + 1) + (x + 1)))
-    at_even i e l = rw (e, mate_even (2 * i) (omega arith), first i x, first i (mate x), second i x, second i (mate x))
-        (rows.upper i x l lx)
-
-    at_odd : (i : ℕ) → y ≡ 1 + 2 * i → i < r →
-        cell_at new (s * (y + 1) + (x + 1))
-        ≡ turned (cell_at old (s * (y + 1) + (x + 1))) (cell_at old (s * (mate y + 1) + (mate x + 1)))
-        (cell_at old (s * (y + 1) + (mate x + 1))) (cell_at old (s * (mate y + 1) + (x + 1)))
-    at_odd i e l = rw (e, mate_odd (2 * i) (omega arith), first i x, first i (mate x), second i x, second i (mate x))
-        (rows.lower i x l lx)
+shifted_cell s r old new = turned_cell (s + 1) s r (λ x y. s * (y + 1) + (x + 1)) old new (λ x y. omega arith)
 
 even_cell : (t w h s r : ℕ) (old new : List ℕ) → t % 2 ≡ 0 → IsPlane w h s old → TurnsRows (s + 1) s r old new →
     2 * r ≡ h → (x y : ℕ) → x < w → y < h →

@@ -1,9 +1,10 @@
 -- A run of cells in one word.
+use Rattle.lemmas.proofs.Common.{common_steps}
 use Rattle.bbm_rule.proofs.Imports.{FillsRowPart, List, ap, arith, bit, bit_or, cell_at, false, get_or}
-use Rattle.bbm_rule.proofs.Imports.{get_or-set_other, get_or-set_same, length, refl, set, true, ℕ, ◌%◌, ◌*◌, ◌+◌, ◌-◌}
+use Rattle.bbm_rule.proofs.Imports.{get_or-set_other, length, refl, set, true, ℕ, ◌%◌, ◌*◌, ◌+◌, ◌-◌}
 use Rattle.bbm_rule.proofs.Imports.{◌/◌, ◌<◌, ◌^◌, ◌||◌, ◌∙◌, ◌≡◌, ◌≤◌}
 use Rattle.lemmas.proofs.Common.{pow_pos}
-use Rattle.bbm_rule.proofs.BitLemmas.{by_eq_or_not, bit-or, bit-shr, bit-mod, bit-shl_low, bit-shl_high, bit_above}
+use Rattle.bbm_rule.proofs.BitLemmas.{bit-or, bit-shr, bit-mod, bit-shl_low, bit-shl_high, bit_above}
 use Rattle.bbm_rule.proofs.MarkLemmas.{bit_ones}
 
 -- n ones from bit k on
@@ -43,22 +44,5 @@ or_false false b e = e
 pub cells_filled : (words : List ℕ) (p n : ℕ) → p / 64 < length words → 0 < n → p % 64 + n ≤ 64 →
     FillsRowPart p n words (set words (p / 64) (bit_or (get_or words (p / 64) 0) (ones_from n (p % 64))))
 unfolding cell_at
-cells_filled words p n room some within = record {
-  there = λ q low high.
-      let same : q / 64 ≡ p / 64 = omega arith in
-      rw (same, get_or-set_same words (p / 64) (bit_or (get_or words (p / 64) 0) (ones_from n (p % 64))) 0 room)
-      (bit-or (get_or words (p / 64) 0) (ones_from n (p % 64)) (q % 64)
-      ∙ or_true _ _ (one_inside n (p % 64) (q % 64) (omega arith) (omega arith) within));
-  before = λ q low. by_eq_or_not (q / 64) (p / 64)
-      (λ same.
-      rw (same, get_or-set_same words (p / 64) (bit_or (get_or words (p / 64) 0) (ones_from n (p % 64))) 0 room)
-      (bit-or (get_or words (p / 64) 0) (ones_from n (p % 64)) (q % 64)
-      ∙ or_false _ _ (zero_before n (p % 64) (q % 64) (omega arith) (omega arith))))
-      (λ differs. rw (get_or-set_other words (p / 64) (q / 64) _ 0 differs) refl);
-  after = λ q low. by_eq_or_not (q / 64) (p / 64)
-      (λ same.
-      rw (same, get_or-set_same words (p / 64) (bit_or (get_or words (p / 64) 0) (ones_from n (p % 64))) 0 room)
-      (bit-or (get_or words (p / 64) 0) (ones_from n (p % 64)) (q % 64)
-      ∙ or_false _ _ (zero_after n (p % 64) (q % 64) (omega arith) (omega arith) some (omega arith))))
-      (λ differs. rw (get_or-set_other words (p / 64) (q / 64) _ 0 differs) refl);
-}
+cells_filled words p n room some within =
+    grind (arith, common_steps, bit-or, one_inside, or_false, zero_before, get_or-set_other, zero_after)

@@ -9,7 +9,7 @@ use Rattle.bbm_rule.proofs.BitLemmas.{by_lt_or_le, by_eq_or_not, bit-is, bit-zer
 pub one_marked : (p : ℕ) (old new : List ℕ) → SetsPlace p true old new → MarksOne p old new
 one_marked p old new sets u free = grind (arith, common_steps, by_eq_or_not, false≢true)
 
-bit_none : (n j : ℕ) → bit_at n j ≡ 0 → bit n j ≡ false
+pub bit_none : (n j : ℕ) → bit_at n j ≡ 0 → bit n j ≡ false
 bit_none n j e = rw (bit-is n j, e) refl
 
 cell_in : (marks : List ℕ) (q r u : ℕ) → r < 64 → u ≡ 64 * q + r → cell_at marks u ≡ bit (get_or marks q 0) r
@@ -26,7 +26,7 @@ pub none_in_word : (marks : List ℕ) (at u : ℕ) → get_or marks (at / 64) 0 
     u < 64 * (at / 64 + 1) → IsUnmarked marks u
 none_in_word marks at u e l h = rest_bit marks at u l h ∙ ap (λ n. bit n (u - at)) e ∙ bit-zero (u - at)
 
-bit_one : (n j : ℕ) → bit_at n j ≡ 1 → bit n j ≡ true
+pub bit_one : (n j : ℕ) → bit_at n j ≡ 1 → bit n j ≡ true
 bit_one n j e = rw (bit-is n j, e) refl
 
 -- the first set bit of a word that is not zero, from a bit on

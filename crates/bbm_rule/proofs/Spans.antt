@@ -1,6 +1,6 @@
 -- Numbers in a span, and the two coordinates of a block
-use Rattle.bbm_rule.proofs.Imports.{and_parts, ap, arith, cases_Bool, common_steps, cond-false, cond-true, eqb-true}
-use Rattle.bbm_rule.proofs.Imports.{false, in_span, inl, inr, ints, le-leb, ltb-true, nat_tests, negsuc, next_neg}
+use Rattle.bbm_rule.proofs.Imports.{and_parts, arith, cases_Bool, common_steps, cond-false, cond-true, eqb-true}
+use Rattle.bbm_rule.proofs.Imports.{false, in_span, ints, le-leb, ltb-true, nat_tests, negsuc, next_neg}
 use Rattle.bbm_rule.proofs.Imports.{parity, partner, pos, pred_pos, refl, suc, sym, true, zero, ℕ, ℤ, ◌%◌, ◌&&◌, ◌+ℤ◌}
 use Rattle.bbm_rule.proofs.Imports.{◌+◌, ◌-ℤ◌, ◌<◌, ◌∙◌, ◌≡◌, ◌≤◌, ◌⊎◌}
 use Rattle.lemmas.proofs.Common.{eqb, leb, ltb, ne_eqb, and_from, eqb-false, leb-true, lt-ltb}
@@ -57,11 +57,8 @@ even_down f n t (suc m) pf pn pt e = grind (arith, common_steps, eqb-false, part
 
 negative_partner : (f n t k : ℕ) → t % 2 ≡ 0 → in_span f n (partner t (negsuc k)) ≡ false
 negative_partner f n t zero pt = grind (arith, common_steps, partner_down, ne_eqb, less_one_negative, in_span-negsuc)
-negative_partner f n t (suc k) pt = elim (cases_Bool (eqb (parity (negsuc (suc k))) (t % 2))) [
-  | inl e ↦ ap (in_span f n) (partner_up t (negsuc (suc k)) e ∙ next_neg k) ∙ in_span-negsuc f n k
-  | inr e ↦ ap (in_span f n) (partner_down t (negsuc (suc k)) e ∙ less_one_negative (suc k))
-      ∙ in_span-negsuc f n (suc (suc k))
-]
+negative_partner f n t (suc k) pt =
+    grind (arith, common_steps, partner_up, next_neg, in_span-negsuc, partner_down, less_one_negative)
 
 -- an even step keeps a coordinate in an even span, or outside it
 pub even_span : (f n t : ℕ) (z : ℤ) → f % 2 ≡ 0 → n % 2 ≡ 0 → t % 2 ≡ 0 → in_span f n (partner t z) ≡ in_span f n z

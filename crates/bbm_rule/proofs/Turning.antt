@@ -113,20 +113,20 @@ no_flips changed main anti none = (λ j. flip_none changed anti j (none j), λ j
 pub flips_found : (f a n b m : ℕ) → let changed = bit_and (changed_of a n b m) f in
     AreFlips f a n b m (bit_xor changed (bit_and changed (bit_xor n b)))
     (bit_xor changed (bit_and changed (bit_xor a m)))
-flips_found f a n b m = record {
-  upper_first = λ j on.
-      simp (bit-xor, bit-or, bit-and, on, and-true) (by_cases_ul (bit a j) (bit n j) (bit b j) (bit m j));
-  upper_second = λ j on.
-      simp (bit-xor, bit-or, bit-and, on, and-true) (by_cases_ur (bit a j) (bit n j) (bit b j) (bit m j));
-  lower_first = λ j on.
-      simp (bit-xor, bit-or, bit-and, on, and-true) (by_cases_ll (bit a j) (bit n j) (bit b j) (bit m j));
-  lower_second = λ j on.
-      simp (bit-xor, bit-or, bit-and, on, and-true) (by_cases_lr (bit a j) (bit n j) (bit b j) (bit m j));
-  elsewhere = λ j off.
-      let none : bit (bit_and (changed_of a n b m) f) j ≡ false =
-      rw (bit-and (changed_of a n b m) f j, off) (and-false (bit (changed_of a n b m) j)) in
-      (flip_none _ _ j none, flip_none _ _ j none);
-}
+flips_found f a n b m =
+    grind (
+      arith,
+      common_steps,
+      bit-xor,
+      bit-or,
+      bit-and,
+      and-true,
+      by_cases_ul,
+      by_cases_ur,
+      by_cases_ll,
+      by_cases_lr,
+      and-false,
+    )
 
 abbrev pub turns : List ℕ
 turns = 0 ∷ 8 ∷ 4 ∷ 3 ∷ 2 ∷ 5 ∷ 9 ∷ 7 ∷ 1 ∷ 6 ∷ 10 ∷ 11 ∷ 12 ∷ 13 ∷ 14 ∷ 15 ∷ []

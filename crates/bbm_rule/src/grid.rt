@@ -157,6 +157,7 @@ impl Grid {
     ///
     /// [`Left`] if a cell outside the grid would become live. The grid is then unchanged. No block lies across the
     /// border at an even time, so a step at an even time makes no error.
+    #[tactic(auto, using(crate::proofs::GridLemmas::aligned_room, crate::proofs::GridLemmas::shifted_room))]
     pub fn step(&mut self, t: u32) -> Result<(), Left>
         ensures stepped { OnOk result (IsStep t self.old self.new) }
         ensures cell_leaves_on_error { OnErr result (Leaves t self.old) }

@@ -26,7 +26,6 @@ pub use block::{Box2, Cell, odd_partner, turn};
 pub use cell_order::compare_cells;
 pub use grid::{Grid, Left};
 pub use rectangles::{
-    are_all_cells_live, fill_rectangle, is_any_live, is_any_live_in, is_live, make_live,
-    push_rectangle,
+    fill_rectangle, is_any_live, is_any_live_in, is_live, make_live, push_rectangle,
 };
 pub use words::{turn_lanes, turn_words};

@@ -5,6 +5,7 @@ ghost use Rattle.bbm_rule.specs.Marks.{IsUnmarked, MarksOne};
 ghost use Rattle.bbm_rule.specs.Rows.{cell_at, SetsPlace};
 
 /// Returns the first number from `from` on that has a mark, or `end` if there is none below it.
+#[tactic(auto, using(crate::proofs::MarkLemmas::none_before, crate::proofs::MarkLemmas::whole_before, crate::proofs::MarkLemmas::whole_zero, crate::proofs::BitLemmas::by_lt_or_le))]
 pub fn next_marked(marks: &[u64], from: usize, end: usize) -> usize
     requires range_within_marks { (from ≤ end) × (end ≤ 64 * length marks.now) × (end < 2 ^ 32) }
     ensures range { (from ≤ result) × (result ≤ end) }

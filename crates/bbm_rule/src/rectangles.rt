@@ -1,6 +1,6 @@
 //! Cells of lists, rows and rectangles, and whether they are live on a grid.
 ghost use Rattle.std.specs.Prelude.{◌≡◌, ◌+◌, ◌≤◌, ◌<◌, ◌++◌, ◌||◌, ℤ, All, OnOk, true};
-ghost use Rattle.std.specs.List.{list_all, list_any};
+ghost use Rattle.std.specs.List.{list_any};
 ghost use Rattle.bbm_rule.specs.Board.{live, is_inside, HasSameSize};
 ghost use Rattle.bbm_rule.specs.Boxes.{in_box};
 ghost use Rattle.bbm_rule.specs.CellLists.{in_cells, rectangle_cells, row_cells};
@@ -9,6 +9,7 @@ use crate::block::{Box2, Cell};
 use crate::grid::Grid;
 use std::alloc::AllocError;
 
+#[tactic(auto, using(crate::proofs::CellLists::row_pushed))]
 fn push_row_cells(out: &mut Vec<Cell>, x: u32, w: u32, y: u32) -> Result<(), AllocError>
     requires columns { x + w ≤ 512 }
     requires row { y < 512 }
@@ -44,30 +45,6 @@ pub fn is_live(grid: &Grid, cell: Cell) -> bool
     ensures { result ≡ live grid.now cell.x cell.y }
 {
     grid.holds(cell) && grid.get(cell)
-}
-
-// Whether the first w cells of row y are live.
-fn is_row_all_live(grid: &Grid, w: u32, y: u32) -> bool
-    requires columns { (w ≤ grid.now.width) × (w ≤ 512) }
-    requires row { (y < grid.now.height) × (y < 512) }
-    ensures { result ≡ list_all (λ c. live grid.now c.x c.y) (row_cells 0 w y) }
-{
-    grid.next_dead(y, 0, w) == w
-}
-
-/// Returns whether all cells of a rectangle from the cell (0, 0) on, as wide and as high as the grid, are live.
-pub fn are_all_cells_live(grid: &Grid, w: u32, h: u32) -> bool
-    requires same_size { (grid.now.width ≡ w) × (grid.now.height ≡ h) }
-    requires sides_at_most_512 { (w ≤ 512) × (h ≤ 512) }
-    ensures { result
-        ≡ list_all (λ c. live grid.now c.x c.y)
-        (rectangle_cells (record { x = 0; y = 0; w = w; h = h })) }
-{
-    let mut full = true;
-    for y in 0..h {
-        full &= is_row_all_live(grid, w, y);
-    }
-    full
 }
 
 /// Returns whether one of the cells is live. All of them are on the grid.

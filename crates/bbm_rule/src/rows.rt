@@ -147,6 +147,7 @@ fn turn_shifted(words: &mut [u64], upper: usize, stride: usize) -> bool
 
 /// Turns the blocks of all pairs of rows, the first of which begins at word 0. A pair without a mark stays, and is
 /// passed over. `own` has the marks of these pairs, and `others` those of the pairs of the other partition.
+#[tactic(auto, using(crate::proofs::BandLemmas::rows_until, crate::proofs::BlockRuns::no_rows, crate::proofs::BlockRuns::rows_room))]
 pub(crate) fn turn_all_aligned(
     words: &mut [u64],
     own: &mut [u64],
@@ -180,6 +181,7 @@ pub(crate) fn turn_all_aligned(
 }
 
 /// Turns the blocks of all pairs of rows but the first row, from the second cell on, in the same way.
+#[tactic(auto, using(crate::proofs::BandLemmas::rows_until, crate::proofs::BlockRuns::no_rows, crate::proofs::BlockRuns::rows_room))]
 pub(crate) fn turn_all_shifted(
     words: &mut [u64],
     own: &mut [u64],

@@ -19,7 +19,7 @@ use Rattle.certificate_lines.proofs.FlatParts.{flat_all}
 use Rattle.certificate.specs.Jobs.{AreJobsOf, IsJobOf, one_or_named_wire}
 use Rattle.certificate_lines.specs.Modules.{IsModule}
 use Rattle.border_match.specs.Boards.{job_signal, HasNoEventAtStart}
-use Rattle.border_match.proofs.Modules.{area_at}
+use Rattle.certificate_lines.proofs.OddBlocks.{area_of}
 use Rattle.border_match.proofs.Renumbered.{signal_renumbered, no_event_back, lines_quiet}
 
 in_ring_box : (b : Box2) (x y : ℤ) → in_ring b x y ≡ true → in_box b x y ≡ true
@@ -98,8 +98,8 @@ module _ (cs : List CircuitLine) (p : Pattern) where
         let n = holder x y inside in
         let m = lines_of k j got in
         let is = made.each k m.0 j m.1 got in
-        owners.tile.once x y (owner_of o x y) k n.lines.area m.0.area (area_at ms _ n.lines n.numbered)
-        (area_at ms k m.0 m.1) n.has (ap (λ (b : Box2). in_box b x y) (sym is.area) ∙ has)
+        owners.tile.once x y (owner_of o x y) k n.lines.area m.0.area (area_of ms _ n.lines n.numbered)
+        (area_of ms k m.0 m.1) n.has (ap (λ (b : Box2). in_box b x y) (sym is.area) ∙ has)
 
     edge_owned : (k : ℕ) (j : JobView) (e : TimedSignal) → slice_get js k ≡ Some j → IsListed j.edges.events e →
         (in_box (whole p.size) e.at.cell.x e.at.cell.y ≡ true) × (owner_of o e.at.cell.x e.at.cell.y ≡ k)
@@ -109,7 +109,7 @@ module _ (cs : List CircuitLine) (p : Pattern) where
         let P : Cell → Type 0 = λ c. in_box m.0.area c.x c.y ≡ true in
         let has : P e.at.cell = listed_cell P j j.edges (edges m.0) e is.edges
         (λ i d lt. in_ring_box m.0.area _ _ ((good.each k m.0 m.1).edge_lines i d lt).ring) at in
-        let inside = good.tile.inside _ _ k m.0.area (area_at ms k m.0 m.1) has in
+        let inside = good.tile.inside _ _ k m.0.area (area_of ms k m.0 m.1) has in
         (inside, only _ _ k j inside got (ap (λ (b : Box2). in_box b e.at.cell.x e.at.cell.y) is.area ∙ has))
 
     pub board : AreJobOwners (whole p.size) o js
@@ -158,8 +158,8 @@ module _ (cs : List CircuitLine) (p : Pattern) where
         let n = holder x y g.inside in
         let k = owner_of o x y in
         let number : k ≡ g.owner_number =
-        owners.tile.once x y k g.owner_number n.lines.area g.owner.area (area_at ms k n.lines n.numbered)
-        (area_at ms g.owner_number g.owner g.owner_numbered) n.has g.owned in
+        owners.tile.once x y k g.owner_number n.lines.area g.owner.area (area_of ms k n.lines n.numbered)
+        (area_of ms g.owner_number g.owner g.owner_numbered) n.has g.owned in
         let own = job_of k n.lines n.numbered in
         let by = made.each k n.lines own.0 n.numbered own.1 in
         let same : n.lines ≡ g.owner =

@@ -1,7 +1,7 @@
 -- The signal of the cell and time of an event
 use Rattle.border_match.proofs.Imports.{IsListed, IsRising, List, Signals, TimedSignal, [], all_times_at, ap, arith}
 use Rattle.border_match.proofs.Imports.{common_steps, ints, moment_cmp, moment_of, moment_total, moved_signals, pos}
-use Rattle.border_match.proofs.Imports.{shift_to_origin, signal_at, signals_back, subst, ℕ, ℤ, ◌+ℤ◌, ◌∙◌, ◌≡◌}
+use Rattle.border_match.proofs.Imports.{shift_to_origin, signal_at, signals_back, subst, ℕ, ℤ, ◌+ℤ◌, ◌≡◌}
 use Rattle.module_box.proofs.MovedBoxes.{events_rising}
 use Rattle.module_box.proofs.Rising.{event_some, is_first}
 
@@ -18,13 +18,12 @@ unfolding signal_at all_times_at
 signal_at_event s e none rising at = grind (arith, common_steps, event_some, is_first, moment_total)
 
 -- if no line with a star is among the signals, the event alone says it
-pub own_signal : (x y : ℕ) (s moved : Signals) (es : List TimedSignal) (e : TimedSignal) → s.all_times ≡ [] →
-    es ≡ moved.events →
-    moved ≡ moved_signals (shift_to_origin x) (shift_to_origin y) s → IsRising moment_cmp moment_of es →
+pub own_signal : (x y : ℕ) (s moved : Signals) (e : TimedSignal) → s.all_times ≡ [] →
+    moved ≡ moved_signals (shift_to_origin x) (shift_to_origin y) s → IsRising moment_cmp moment_of moved.events →
     IsListed s.events e → signal_at s e.at.time e.at.cell.x e.at.cell.y ≡ e.signal
-own_signal x y s moved es e none same are rising at =
+own_signal x y s moved e none are rising at =
     let R : List TimedSignal → Type 0 = IsRising moment_cmp moment_of in
     signal_at_event s e none
     (events_unmoved (shift_to_origin x) (shift_to_origin y) (pos x) (pos y) s (omega (arith, ints))
     (omega (arith, ints))
-    (subst R (same ∙ ap (λ (m : Signals). m.events) are) rising)) at
+    (subst R (ap (λ (m : Signals). m.events) are) rising)) at

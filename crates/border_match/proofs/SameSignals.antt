@@ -6,7 +6,7 @@ use Rattle.circuit.specs.Meaning.{Valuation}
 use Rattle.module_box.proofs.EqualTests.{signal_decides}
 use Rattle.module_job.specs.Signals.{is_live}
 use Rattle.border_match.specs.Laws.{AreBeside, NoFaultMeansSameSignals}
-use Rattle.border_match.proofs.Modules.{area_at}
+use Rattle.certificate_lines.proofs.OddBlocks.{area_of}
 
 -- signals that do not differ are the same
 pub not_different : (a b : Signal) → (a ≢ b → ⊥) → a ≡ b
@@ -22,7 +22,7 @@ same_at g ms i k m owner t x y v none beside =
     none (record { time = t; cell = record { x = x; y = y } }) refl (record {
       odd = beside.odd;
       early = beside.early;
-      inside = beside.tile.inside x y k owner.area (area_at ms k owner beside.owner_numbered) beside.owned;
+      inside = beside.tile.inside x y k owner.area (area_of ms k owner beside.owner_numbered) beside.owned;
       lines = m;
       numbered = beside.numbered;
       halo = beside.halo;

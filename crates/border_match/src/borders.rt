@@ -79,7 +79,7 @@ impl<'a> Borders<'a> {
     {
         let owner = self.owner(cell);
         // The cell lies in the owner's box, and so not far away.
-        let _area = owner.area();
+        owner.prove_valid();
         signal_at(self.job, RingOrHalo::Halo, time, cell)
             != signal_at(owner, RingOrHalo::Ring, time, cell)
     }
@@ -94,7 +94,7 @@ impl<'a> Borders<'a> {
             ↔ SignalsDifferAt self.now event.at.time event.at.cell.x event.at.cell.y }
     {
         let owner = self.owner(event.at.cell);
-        let _area = owner.area();
+        owner.prove_valid();
         signal_at_event(self.job, RingOrHalo::Halo, event)
             != signal_at(owner, RingOrHalo::Ring, event.at.time, event.at.cell)
     }
@@ -112,7 +112,7 @@ impl<'a> Borders<'a> {
         ensures { IsTrue result
             ↔ SignalsDifferAt self.now event.at.time event.at.cell.x event.at.cell.y }
     {
-        let _area = owner.area();
+        owner.prove_valid();
         own != signal_at_event(owner, RingOrHalo::Ring, event)
     }
 
@@ -209,7 +209,7 @@ impl<'a> Borders<'a> {
         ensures better { IsNextBest (IsFaultOfSearchedJob self.now) (IsAtEvent event) best result }
         ensures marked { AreHaloMarks self.now seen.new }
     {
-        let _area = owner.area();
+        owner.prove_valid();
         let own = self.read_and_mark_halo(event.at, seen, walk);
         if !self.edge_event_differs(owner, event, own) {
             return best;

@@ -2,39 +2,18 @@
 ghost use Rattle.std.specs.Prelude.{◌≡◌, IfOk, None, map, replicate};
 ghost use Rattle.std.specs.Arc.{arc_value};
 ghost use Rattle.circuit.specs.Bridge.{circuit_of};
-ghost use Rattle.certificate_lines.specs.Entries.{areas, modules_of};
 ghost use Rattle.certificate.specs.Grammars.{modules_in};
 ghost use Rattle.certificate_lines.specs.Settings.{setting_of};
 ghost use Rattle.certificate.specs.Jobs.{AreJobsOf};
-ghost use Rattle.module_box.specs.Tiling.{AreOwners};
 ghost use Rattle.border_match.specs.BorderFaults.{AreBorderFaultsOf};
 
 use crate::borders::Borders;
 use crate::extents::edge_event_extents;
 use crate::fault::BorderFault;
 use certificate::{Cert, Job};
-use module_box::{Box2, Owners, TileFault, owner_table};
+use module_box::Box2;
 use std::alloc::{AllocError, Global};
 use std::sync::Arc;
-
-// Which module has each cell of the layout's rectangle, where `boxes` are those of the modules.
-fn owners_of(alloc: Global, cert: &Cert, boxes: &[Box2]) -> Result<Owners, AllocError>
-    requires { boxes.now ≡ areas (modules_of cert.now.entries) }
-    ensures width { IfOk result (λ o. o.width ≡ cert.now.layout.size.w) }
-    ensures height { IfOk result (λ o. o.height ≡ cert.now.layout.size.h) }
-    ensures owners { IfOk result (λ o. AreOwners o (areas (modules_in cert.now))) }
-{
-    let _count = cert.modules();
-    let size = cert.size();
-    match owner_table(alloc, size.w, size.h, boxes) {
-        Ok(owners) => Ok(owners),
-        Err(fault) => {
-            // The boxes of a certificate tile the rectangle.
-            prove!(matches!(&fault, TileFault::Memory));
-            Err(AllocError)
-        }
-    }
-}
 
 // No fault for each of `count` modules.
 fn no_fault_for_each(alloc: Global, count: usize) -> Result<Vec<Option<BorderFault>>, AllocError>
@@ -48,9 +27,8 @@ fn no_fault_for_each(alloc: Global, count: usize) -> Result<Vec<Option<BorderFau
 /// There is one entry for each module, in their order. `specs/BorderFaults.antt` defines border faults. In version 2 no
 /// module has one. The jobs are the certificate's, as [`Cert::jobs`](certificate::Cert::jobs) makes them.
 ///
-/// It takes memory for the modules' boxes, a table of the rectangle's blocks of two by two cells, the columns and rows
-/// of each module's edge lines, and the answer. For one module at a time it takes memory for the numbers of the modules
-/// near it, and for a mark for each halo line.
+/// It takes memory for the columns and rows of each module's edge lines, and the answer. For one module at a time it
+/// takes memory for the numbers of the modules near it, and for a mark for each halo line.
 pub fn match_borders(
     alloc: Global,
     cert: &Cert,
@@ -72,14 +50,13 @@ pub fn match_borders(
         w: size.w,
         h: size.h,
     };
-    let boxes = cert.boxes(alloc)?;
-    let owners = owners_of(alloc, cert, &boxes)?;
+    let owners = cert.owners();
     let extents = edge_event_extents(alloc, jobs)?;
     let mut faults = Vec::new(alloc);
     'jobs: for job in jobs {
         let borders = Borders {
             whole,
-            owners: &owners,
+            owners,
             jobs,
             job,
         };

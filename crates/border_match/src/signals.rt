@@ -53,8 +53,8 @@ pub(crate) fn signal_at(job: &Job, border: RingOrHalo, time: u32, cell: Cell) ->
     requires { IsInShiftRange cell }
     ensures { result ≡ job_signal border job.now time cell.x cell.y }
 {
-    // A job names no wires but its own, as its box tells with it.
-    let _area = job.area();
+    // A job names no wires but its own.
+    job.prove_valid();
     match border {
         RingOrHalo::Ring => circuit_signal(job, job.edge(time, cell)),
         RingOrHalo::Halo => circuit_signal(job, job.halo(time, cell)),
@@ -80,7 +80,7 @@ pub(crate) fn signal_at_event(job: &Job, border: RingOrHalo, event: TimedSignal)
     if has_starred_line(job, border) {
         return signal_at(job, border, event.at.time, event.at.cell);
     }
-    let _area = job.area();
-    let _events = schedule(job, border).events();
+    job.prove_valid();
+    schedule(job, border).prove_rising();
     circuit_signal(job, event.signal)
 }

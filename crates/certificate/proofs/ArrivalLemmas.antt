@@ -5,8 +5,9 @@ use Rattle.certificate.proofs.Imports.{arith, common_steps, delay_line, earlier,
 use Rattle.certificate.proofs.Imports.{last_times, later, length, lines_by_number, list_all, max, meet_line, min}
 use Rattle.certificate.proofs.Imports.{nat_le, nat_lt, nat_tests, option_to_list, refl, same_Some, slice_get}
 use Rattle.certificate.proofs.Imports.{stop_times_of_wire, subst, suc, sym, true, zero, ℕ, ◌+◌, ◌-◌, ◌<◌, ◌==◌, ◌∙◌}
-use Rattle.certificate.proofs.Imports.{◌∷◌, ◌≡◌, ◌≤◌}
-use Rattle.lemmas.proofs.Common.{All-contains, Contains-append_left, Contains-append_right, list_all-append, eq_test}
+use Rattle.certificate.proofs.Imports.{◌∷◌, ◌≡◌, ◌≤◌, ◌++◌}
+use Rattle.lemmas.proofs.Common.{All-contains, below_by_test, Contains-append_left, Contains-append_right}
+use Rattle.lemmas.proofs.Common.{list_all-append, eq_test}
 use Rattle.circuit.specs.declared.circuit_line.GateKind.{GateKind}
 use Rattle.circuit.specs.declared.circuit_line.GateKind.TheVariants.{Delay}
 use Rattle.certificate.specs.Arrivals.{IsFirstTime, IsLastTime, LastStopsMeetAt, TakesSteps, IsTimeLineTrue}
@@ -95,12 +96,9 @@ gap_before None first e = absurd cc
 gap_before (Some k) None e = absurd cc
 gap_before (Some k) (Some g) e = by_case (nat_lt g k) refl e
   where
-    less_than : (g k : ℕ) → nat_lt g k ≡ true → g < k
-    less_than g k less = grind (arith, nat_tests)
-
     by_case : (b : Bool) → nat_lt g k ≡ b → (if b then Before else Steps (g - k)) ≡ Before →
         (l : ℕ) × (f : ℕ) × (Some k ≡ Some l) × (Some g ≡ Some f) × (f < l)
-    by_case true less e = (k, g, refl, refl, less_than g k less)
+    by_case true less e = (k, g, refl, refl, below_by_test g k less)
     by_case false less e = absurd cc
 
 -- the gap of a gate with one wire on each side
@@ -155,10 +153,7 @@ none_agreed [] t lt e h = omega (arith, lt)
 none_agreed (a ∷ ts) t lt e h =
     let here : a ≡ t = All-head (λ u. u ≡ t) a ts h in
     let all = equal_all a ts (subst (λ (r : ℕ). All (λ u. u ≡ r) ts) (sym here) (All-tail (λ u. u ≡ t) a ts h)) in
-    some_none a (sym (ap (λ b. if b then Some a else None) all) ∙ e)
-  where
-    some_none : (a : ℕ) → Some a ≡ None → ⊥
-    some_none a e = cc
+    let none : Some a ≡ None = sym (ap (λ b. if b then Some a else None) all) ∙ e in cc
 
 -- what holds of the last times of all wires that have one
 each_time : (P : ℕ → Type 0) (o : Option ℕ) → ((s : ℕ) → o ≡ Some s → P s) → All P (option_to_list o)
@@ -233,19 +228,21 @@ lines_tell c ms =
 
 -- ---- where all are kept
 
+obeyed_parts : (xs ys : List TimeLine) → list_all is_obeyed (xs ++ ys) ≡ true →
+    (list_all is_obeyed xs ≡ true) × (list_all is_obeyed ys ≡ true)
+obeyed_parts xs ys e = and_parts _ _ (sym (list_all-append is_obeyed xs ys) ∙ e)
+
 kept_at : (f : ℕ → Gate → List TimeLine) (j : ℕ) (gates : List Gate) (i : ℕ) (g : Gate) →
     list_all is_obeyed (lines_by_number f j gates) ≡ true → slice_get gates i ≡ Some g →
     list_all is_obeyed (f (j + i) g) ≡ true
 unfolding lines_by_number
 kept_at f j [] i g e at = absurd cc
 kept_at f j (h ∷ gates) zero g e at =
-    let p = and_parts (list_all is_obeyed (f j h)) (list_all is_obeyed (lines_by_number f (j + 1) gates))
-    (sym (list_all-append is_obeyed (f j h) (lines_by_number f (j + 1) gates)) ∙ e) in
+    let p = obeyed_parts (f j h) (lines_by_number f (j + 1) gates) e in
     let same : h ≡ g = same_Some h g at in
     grind (arith, common_steps)
 kept_at f j (h ∷ gates) (suc i) g e at =
-    let p = and_parts (list_all is_obeyed (f j h)) (list_all is_obeyed (lines_by_number f (j + 1) gates))
-    (sym (list_all-append is_obeyed (f j h) (lines_by_number f (j + 1) gates)) ∙ e) in
+    let p = obeyed_parts (f j h) (lines_by_number f (j + 1) gates) e in
     subst (λ n. list_all is_obeyed (f n g) ≡ true) (omega arith) (kept_at f (j + 1) gates i g p.1 at)
 
 kept_gap : (k n : ℕ) (gap : StopGap) → list_all is_obeyed (line.Delay k n gap ∷ []) ≡ true → gap ≡ Steps n
@@ -272,8 +269,7 @@ kept_is_on_time c ms kept =
     let ss = all_stops ms in
     let delays = lines_by_number (delay_line (first_seen c ss) (last_seen c ss)) 0 c.netlist.gates in
     let meetings = lines_by_number (meet_line (last_seen c ss)) 0 c.netlist.gates in
-    let p = and_parts (list_all is_obeyed delays) (list_all is_obeyed meetings)
-    (sym (list_all-append is_obeyed delays meetings) ∙ kept) in
+    let p = obeyed_parts delays meetings kept in
     record {
       delays = λ k n a b is. takes c ss n a b
           (kept_gap (0 + k) n _ (kept_at (delay_line (first_seen c ss) (last_seen c ss)) 0 c.netlist.gates k _ p.0 is));

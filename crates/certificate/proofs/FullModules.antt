@@ -1,32 +1,32 @@
 -- The modules of version 2 as modules of version 1
-use Rattle.certificate.proofs.Imports.{All, All-cons, All-nil, AreDistinct, AreInOrder, AreModules, Bool, BorderLine}
-use Rattle.certificate.proofs.Imports.{Box2, Cell, CertificateLine, Cut, Each, Edge, Equal, Halo, HasLocalPorts, IfSome}
-use Rattle.certificate.proofs.Imports.{In, IsModule, IsTrue, Keep, Less, List, Module, ModuleLines, None, Option}
-use Rattle.certificate.proofs.Imports.{Ordering, Pairs, Rises, Setting, Some, StarsExcludeLaterTimes, Stop, StopLine}
-use Rattle.certificate.proofs.Imports.{Tile, Use, [], all_in, and_parts, any_at, ap, ap₂, areas, arith, border_line_cmp}
-use Rattle.certificate.proofs.Imports.{cases_Bool, cell_of, common_steps, cond-false, cond-true, cut_wires, cuts}
-use Rattle.certificate.proofs.Imports.{each_in, edge_in, edge_lines_beside, edges, false, filter, filter_in, flat_map}
-use Rattle.certificate.proofs.Imports.{flat_map-append, gates, halo_in, halos, in_box, in_each, in_filter, in_flat}
-use Rattle.certificate.proofs.Imports.{in_halo, in_ordered, in_ring, inl, inr, is_halo, is_haloless_version, is_local}
-use Rattle.certificate.proofs.Imports.{is_lt, is_nonlocal_signal, keeps, known, lacks_edge_wire_beside, length}
-use Rattle.certificate.proofs.Imports.{length-map, line_cmp, list_all, list_any, local_wires, map, mapped_at}
-use Rattle.certificate.proofs.Imports.{mapped_from, may_precede, modules_by_version, nat_lt, option_to_list}
+use Rattle.certificate.proofs.Imports.{All, AreDistinct, AreInOrder, AreModules, Bool, BorderLine, Box2, Cell}
+use Rattle.certificate.proofs.Imports.{CertificateLine, Each, Equal, Halo, HasLocalPorts, IfSome, In, IsModule, IsTrue}
+use Rattle.certificate.proofs.Imports.{Less, List, ModuleLines, None, Option, Ordering, Pairs, Rises, Setting, Some}
+use Rattle.certificate.proofs.Imports.{StarsExcludeLaterTimes, Stop, StopLine, Tile, [], all_in, any_at, ap, ap₂, areas}
+use Rattle.certificate.proofs.Imports.{arith, border_line_cmp, cases_Bool, cell_of, common_steps, cond-false, cond-true}
+use Rattle.certificate.proofs.Imports.{cut_wires, cuts, each_in, edge_in, edge_lines_beside, edges, false, filter}
+use Rattle.certificate.proofs.Imports.{filter_in, flat_map, flat_map-append, gates, halo_in, halos, in_box, in_each}
+use Rattle.certificate.proofs.Imports.{in_filter, in_flat, in_halo, in_ordered, inl, inr, is_halo, is_haloless_version}
+use Rattle.certificate.proofs.Imports.{is_local, is_lt, is_nonlocal_signal, keeps, known, lacks_edge_wire_beside}
+use Rattle.certificate.proofs.Imports.{length, append-nil, length-map, line_cmp, list_all, list_any, local_wires, map}
+use Rattle.certificate.proofs.Imports.{mapped_at, mapped_from, may_precede, modules_by_version, nat_lt, option_to_list}
 use Rattle.certificate.proofs.Imports.{ordered_rises, ordering_then, pairs_filter, placed, precedes_halos, rank_of}
 use Rattle.certificate.proofs.Imports.{refl, slice_get, some_is, sort_number_of, sorted_border_lines, stop_in, stops}
 use Rattle.certificate.proofs.Imports.{subst, suc, sym, true, true≢false, whole, wire_of, with_halos, without_halos}
-use Rattle.certificate.proofs.Imports.{zero, ℕ, ℤ, ◌&&◌, ◌++◌, ◌<◌, ◌||◌, ◌∙◌, ◌∷◌, ◌≡◌, ◌≢◌, ◌≤◌}
+use Rattle.certificate.proofs.Imports.{zero, ℕ, ℤ, ◌&&◌, ◌++◌, ◌<◌, ◌||◌, ◌∙◌, ◌∷◌, ◌≡◌, ◌≢◌, ◌≤◌, get_or}
+use Rattle.certificate.proofs.Imports.{slice_get-get_or}
+use Rattle.std.proofs.lemmas.Simd.{map-map}
 use Rattle.bbm_rule.proofs.CellOrder.{cell_exact}
 use Rattle.certificate_lines.specs.Modules.{IsEdge, IsHalo, IsStop}
 use Rattle.certificate_lines.proofs.LineOrder.{pairs_each, rising_distinct}
-use Rattle.certificate_lines.proofs.Pairs.{each_append, pairs_append}
+use Rattle.certificate_lines.proofs.Pairs.{each_append, each_at, pairs_append}
+use Rattle.certificate_lines.proofs.StoredLines.{ring_in_box}
 use Rattle.certificate.proofs.BorderOrder.{edges_rise, pairs_of_order}
 
 -- ---- lists
 
 pub all_of_each : {A : Type 0} (P : A → Type 0) (xs : List A) → Each P xs → All P xs
-unfolding Each
-all_of_each P [] e = All-nil P
-all_of_each P (x ∷ xs) e = All-cons P x xs e.0 (all_of_each P xs e.1)
+all_of_each P xs e = λ i d lt. each_at P xs e i (get_or xs i d) (slice_get-get_or xs i d lt)
 
 pub in_all : {A : Type 0} (P : A → Type 0) (xs : List A) → ((x : A) → In x xs → P x) → All P xs
 in_all P xs h = all_of_each P xs (in_each P xs h)
@@ -55,24 +55,14 @@ pub without_same : {X : Type 0} (f : CertificateLine → List X) → ((e : Borde
     flat_map f (without_halos lines) ≡ flat_map f lines
 unfolding without_halos is_halo
 without_same f none [] = refl
-without_same f none (Module b ∷ lines) = ap (λ xs. f (Module b) ++ xs) (without_same f none lines)
-without_same f none (Cut n ∷ lines) = ap (λ xs. f (Cut n) ++ xs) (without_same f none lines)
-without_same f none (Use k ∷ lines) = ap (λ xs. f (Use k) ++ xs) (without_same f none lines)
-without_same f none (Keep k ∷ lines) = ap (λ xs. f (Keep k) ++ xs) (without_same f none lines)
-without_same f none (Edge e ∷ lines) = ap (λ xs. f (Edge e) ++ xs) (without_same f none lines)
 without_same f none (Halo e ∷ lines) = without_same f none lines ∙ ap (λ xs. xs ++ flat_map f lines) (sym (none e))
-without_same f none (Stop s ∷ lines) = ap (λ xs. f (Stop s) ++ xs) (without_same f none lines)
+without_same f none (i ∷ lines) = ap (λ xs. f i ++ xs) (without_same f none lines)
 
 pub no_halo_left : (lines : List CertificateLine) → flat_map halo_in (without_halos lines) ≡ []
 unfolding without_halos is_halo
 no_halo_left [] = refl
-no_halo_left (Module b ∷ lines) = no_halo_left lines
-no_halo_left (Cut n ∷ lines) = no_halo_left lines
-no_halo_left (Use k ∷ lines) = no_halo_left lines
-no_halo_left (Keep k ∷ lines) = no_halo_left lines
-no_halo_left (Edge e ∷ lines) = no_halo_left lines
 no_halo_left (Halo e ∷ lines) = no_halo_left lines
-no_halo_left (Stop s ∷ lines) = no_halo_left lines
+no_halo_left (i ∷ lines) = no_halo_left lines
 
 -- a function of lines that finds nothing in halo lines and stops
 pub record IsOfEarly {X : Type 0} (f : CertificateLine → List X) : Type 0 where
@@ -84,36 +74,22 @@ early_same : {X : Type 0} (f : CertificateLine → List X) → IsOfEarly f → (
     flat_map f (filter precedes_halos lines) ≡ flat_map f lines
 unfolding precedes_halos
 early_same f none [] = refl
-early_same f none (Module b ∷ lines) = ap (λ xs. f (Module b) ++ xs) (early_same f none lines)
-early_same f none (Cut n ∷ lines) = ap (λ xs. f (Cut n) ++ xs) (early_same f none lines)
-early_same f none (Use k ∷ lines) = ap (λ xs. f (Use k) ++ xs) (early_same f none lines)
-early_same f none (Keep k ∷ lines) = ap (λ xs. f (Keep k) ++ xs) (early_same f none lines)
-early_same f none (Edge e ∷ lines) = ap (λ xs. f (Edge e) ++ xs) (early_same f none lines)
 early_same f none (Halo e ∷ lines) = early_same f none lines ∙ ap (λ xs. xs ++ flat_map f lines) (sym (none.halo e))
 early_same f none (Stop s ∷ lines) = early_same f none lines ∙ ap (λ xs. xs ++ flat_map f lines) (sym (none.stop s))
+early_same f none (i ∷ lines) = ap (λ xs. f i ++ xs) (early_same f none lines)
 
 -- the early lines have neither halo lines nor stops
 early_halos : (lines : List CertificateLine) → flat_map halo_in (filter precedes_halos lines) ≡ []
 unfolding precedes_halos
 early_halos [] = refl
-early_halos (Module b ∷ lines) = early_halos lines
-early_halos (Cut n ∷ lines) = early_halos lines
-early_halos (Use k ∷ lines) = early_halos lines
-early_halos (Keep k ∷ lines) = early_halos lines
-early_halos (Edge e ∷ lines) = early_halos lines
 early_halos (Halo e ∷ lines) = early_halos lines
-early_halos (Stop s ∷ lines) = early_halos lines
+early_halos (i ∷ lines) = early_halos lines
 
 early_stops : (lines : List CertificateLine) → flat_map stop_in (filter precedes_halos lines) ≡ []
 unfolding precedes_halos
 early_stops [] = refl
-early_stops (Module b ∷ lines) = early_stops lines
-early_stops (Cut n ∷ lines) = early_stops lines
-early_stops (Use k ∷ lines) = early_stops lines
-early_stops (Keep k ∷ lines) = early_stops lines
-early_stops (Edge e ∷ lines) = early_stops lines
-early_stops (Halo e ∷ lines) = early_stops lines
 early_stops (Stop s ∷ lines) = early_stops lines
+early_stops (i ∷ lines) = early_stops lines
 
 nothing_in : {X Z Y : Type 0} (f : Y → List Z) (to : X → Y) → ((x : X) → f (to x) ≡ []) → (xs : List X) →
     flat_map f (map to xs) ≡ []
@@ -124,10 +100,6 @@ one_each : {X Y : Type 0} (f : Y → List X) (to : X → Y) → ((x : X) → f (
     flat_map f (map to xs) ≡ xs
 one_each f to one [] = refl
 one_each f to one (x ∷ xs) = ap (λ l. l ++ flat_map f (map to xs)) (one x) ∙ ap (λ l. x ∷ l) (one_each f to one xs)
-
-append_none : {X : Type 0} (xs : List X) → xs ++ [] ≡ xs
-append_none [] = refl
-append_none (x ∷ xs) = ap (λ l. x ∷ l) (append_none xs)
 
 -- the lines of a module with these halo lines
 abbrev pub lines_with_halos : List CertificateLine → List BorderLine → List CertificateLine
@@ -142,11 +114,11 @@ full_parts f lines hs = grind (arith, common_steps, flat_map-append)
 pub other_lines : {X : Type 0} (f : CertificateLine → List X) → IsOfEarly f →
     (lines : List CertificateLine) (hs : List BorderLine) →
     flat_map f (lines_with_halos lines hs) ≡ flat_map f lines
-other_lines f none lines hs = grind (arith, common_steps, full_parts, nothing_in, append_none, early_same)
+other_lines f none lines hs = grind (arith, common_steps, full_parts, nothing_in, append-nil, early_same)
 
 pub halo_lines : (lines : List CertificateLine) (hs : List BorderLine) →
     flat_map halo_in (lines_with_halos lines hs) ≡ hs
-halo_lines lines hs = grind (arith, common_steps, full_parts, early_halos, nothing_in, append_none, one_each)
+halo_lines lines hs = grind (arith, common_steps, full_parts, early_halos, nothing_in, append-nil, one_each)
 
 pub stop_lines : (lines : List CertificateLine) (hs : List BorderLine) →
     flat_map stop_in (lines_with_halos lines hs) ≡ flat_map stop_in lines
@@ -209,13 +181,8 @@ is_stop _ = false
 stops_among : (lines : List CertificateLine) → filter is_stop lines ≡ map Stop (flat_map stop_in lines)
 unfolding is_stop
 stops_among [] = refl
-stops_among (Module b ∷ lines) = stops_among lines
-stops_among (Cut n ∷ lines) = stops_among lines
-stops_among (Use k ∷ lines) = stops_among lines
-stops_among (Keep k ∷ lines) = stops_among lines
-stops_among (Edge e ∷ lines) = stops_among lines
-stops_among (Halo e ∷ lines) = stops_among lines
 stops_among (Stop s ∷ lines) = ap (λ l. Stop s ∷ l) (stops_among lines)
+stops_among (i ∷ lines) = stops_among lines
 
 pub full_order : (lines : List CertificateLine) (hs : List BorderLine) → AreInOrder lines → Rises hs →
     AreInOrder (lines_with_halos lines hs)
@@ -237,9 +204,6 @@ full_order lines hs o p =
 abbrev Apart : ModuleLines → ModuleLines → Type 0
 Apart m n = (x y : ℤ) → in_box m.area x y ≡ true → in_box n.area x y ≡ true → ⊥
 
-lower_not : (i j : ℕ) → i < j → i ≡ j → ⊥
-lower_not i j lt e = absurd (omega (arith, lt, e))
-
 equal_parts : (a b : Ordering) → ordering_then a b ≡ Equal → b ≡ Equal
 equal_parts Equal b h = h
 equal_parts _ b h = absurd cc
@@ -253,9 +217,9 @@ pub edges_rising : (lines : List CertificateLine) → AreInOrder lines → Rises
 unfolding border_line_cmp
 edges_rising lines o = grind (arith, common_steps, pairs_each, edges_rise)
 
-ring_inside : (b : Box2) (x y : ℤ) → in_ring b x y ≡ true → in_box b x y ≡ true
-unfolding in_ring
-ring_inside b x y h = (and_parts (in_box b x y) _ h).0
+pub full_areas : (g : Setting) (ms ns : List ModuleLines) → areas (map (with_halos g ms) ns) ≡ areas ns
+unfolding with_halos
+full_areas g ms ns = simp map-map
 
 module _ (g : Setting) (ms : List ModuleLines) (good : AreModules g ms) where
   module_of : (m : ModuleLines) → In m ms → IsModule g m
@@ -265,12 +229,12 @@ module _ (g : Setting) (ms : List ModuleLines) (good : AreModules g ms) where
   edge_of m e i j = all_in (IsEdge g m.area (known g.circuit m)) (edges m) (module_of m i).edge_lines e j
 
   pub edge_cell : (m : ModuleLines) (e : BorderLine) → In m ms → In e (edges m) → in_box m.area e.cell.x e.cell.y ≡ true
-  edge_cell m e i j = ring_inside m.area e.cell.x e.cell.y (edge_of m e i j).ring
+  edge_cell m e i j = ring_in_box m.area e.cell.x e.cell.y (edge_of m e i j).ring
 
   all_apart : Pairs Apart ms
   all_apart = pairs_by_place Apart ms (λ i j m n lt e f x y h k.
-      lower_not i j lt (good.tile.once x y i j m.area n.area (mapped_at (λ (m : ModuleLines). m.area) ms i m e)
-      (mapped_at (λ (m : ModuleLines). m.area) ms j n f) h k))
+      let same = good.tile.once x y i j m.area n.area (mapped_at (λ (m : ModuleLines). m.area) ms i m e)
+      (mapped_at (λ (m : ModuleLines). m.area) ms j n f) h k in omega (arith, lt, same))
 
   distinct_over : (ns : List ModuleLines) → Pairs Apart ns → ((n : ModuleLines) → In n ns → In n ms) →
       AreDistinct (flat_map edges ns)
@@ -401,14 +365,6 @@ module _ (g : Setting) (ms : List ModuleLines) (good : AreModules g ms) where
 
   -- ---- all modules
 
-  full_areas_of : (ns : List ModuleLines) → areas (map (with_halos g ms) ns) ≡ areas ns
-  unfolding with_halos
-  full_areas_of [] = refl
-  full_areas_of (n ∷ ns) = ap (λ bs. n.area ∷ bs) (full_areas_of ns)
-
-  pub full_areas : areas (map (with_halos g ms) ms) ≡ areas ms
-  full_areas = full_areas_of ms
-
   none_passes : {A : Type 0} (test : A → Bool) (xs : List A) → list_any test xs ≡ false → (x : A) → In x xs →
       test x ≡ false
   none_passes test xs none x i = grind (arith, common_steps, cases_Bool, placed, true≢false, any_at)
@@ -429,19 +385,14 @@ module _ (g : Setting) (ms : List ModuleLines) (good : AreModules g ms) where
     ports = λ k m e.
         let n = mapped_from (with_halos g ms) ms k m e in
         subst (HasLocalPorts g) n.2 (full_ports n.0 (good.ports k n.0 n.1));
-    tile = subst (Tile (whole g.size)) (sym full_areas) good.tile;
+    tile = subst (Tile (whole g.size)) (sym (full_areas g ms ms)) good.tile;
   }
-
-full_areas_of_all : (g : Setting) (ms ns : List ModuleLines) → areas (map (with_halos g ms) ns) ≡ areas ns
-unfolding with_halos
-full_areas_of_all g ms [] = refl
-full_areas_of_all g ms (n ∷ ns) = ap (λ bs. n.area ∷ bs) (full_areas_of_all g ms ns)
 
 -- the modules of either version have the boxes that the lines say
 pub meant_areas : (version : ℕ) (g : Setting) (ms : List ModuleLines) →
     areas (modules_by_version version g ms) ≡ areas ms
 unfolding modules_by_version
-meant_areas version g ms = grind (arith, common_steps, cases_Bool, cond-true, full_areas_of_all, cond-false)
+meant_areas version g ms = grind (arith, common_steps, cases_Bool, cond-true, full_areas, cond-false)
 
 pub meant_old : (version : ℕ) (g : Setting) (ms : List ModuleLines) → is_haloless_version version ≡ false →
     modules_by_version version g ms ≡ ms

@@ -8,7 +8,7 @@ use Rattle.certificate.proofs.Imports.{flat_map-append}
 use Rattle.certificate.proofs.Imports.{get_or, option_to_list, take, take_more, ◌+◌}
 use Rattle.certificate.proofs.Imports.{if◌then◌else◌, in_box, in_halo, in_span, inl, inr, length, line_cell}
 use Rattle.certificate.proofs.Imports.{list_at_or_empty, map}
-use Rattle.certificate.proofs.Imports.{not, pos, rectangle, refl, slice_get, slice_get_within, some_is, suc, sym, true}
+use Rattle.certificate.proofs.Imports.{not, pos, rectangle, refl, slice_get, some_is, suc, sym, true}
 use Rattle.certificate.proofs.Imports.{true_from_not, zero, ℕ, ℤ, ◌&&◌, ◌++◌, ◌+ℤ◌, ◌<◌, ◌||◌, ◌∙◌, ◌∷◌, ◌≡◌}
 use Rattle.lemmas.proofs.Common.{◌-ℤ◌, slice_set, eqb-false, filter-append}
 use Rattle.bbm_rule.specs.Plane.{partner}
@@ -49,10 +49,6 @@ module _ {X : Type 0} (f : X → List EdgePlace) where
   list_pushed (x ∷ xs) y h e (suc i) = list_pushed xs y (λ j. h (suc j)) e i
 
 -- ---- a place more for the box that has a cell
-
-pub owner_within : (boxes : List Box2) (o : OwnersView) (x y : ℤ) → AreOwners o boxes →
-    in_box (rectangle o) x y ≡ true → owner_of o x y < length boxes
-owner_within boxes o x y good inside = grind (arith, common_steps, slice_get_within)
 
 module _ (boxes : List Box2) (o : OwnersView) (good : AreOwners o boxes) (x y : ℤ)
     (inside : in_box (rectangle o) x y ≡ true) where
@@ -99,9 +95,6 @@ at_most_one false true false p l e f g = append-nil ((l ++ []) ++ p ∷ []) ∙ 
 at_most_one false false true p l e f g =
     ap (λ k. k ++ p ∷ []) (append-nil (l ++ []) ∙ append-nil l)
 at_most_one false false false p l e f g = append-nil ((l ++ []) ++ []) ∙ append-nil (l ++ [])
-
-first_bit : Bool → Bool → Bool → Bool → Bool
-first_bit a a' b b' = (a' && b) && not ((a && b) || false)
 
 first_second : (a a' b b' : Bool) →
     (((a' && b) && not ((a && b) || false)) && ((a && b') && not ((a && b) || ((a' && b) || false)))) ≡ false

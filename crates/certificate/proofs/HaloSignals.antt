@@ -48,39 +48,28 @@ event_on e None s rest other t x y h = h
 event_on e (Some u) s rest other t x y h =
     ap (λ o. if is_moment_at (record { time = u; cell = e.cell }) t x y then Some s else o) h
 
+-- in a list that is read from its front
+module _ {X : Type 0} (line : BorderLine → List X) (look : List X → Option Signal) (x y : ℤ)
+    (past : (e : BorderLine) (rest : List X) → is_at e.cell x y ≡ false → look (line e ++ rest) ≡ look rest)
+    (on : (e : BorderLine) (rest other : List X) → look rest ≡ look other →
+    look (line e ++ rest) ≡ look (line e ++ other)) where
+  there : (es : List BorderLine) → look (flat_map line es) ≡ look (flat_map line (at_cell x y es))
+  unfolding at_cell
+  there [] = refl
+  there (e ∷ es) = elim (cases_Bool (is_at e.cell x y)) [
+    | inl here ↦ on e _ _ (there es) ∙ ap (λ l. look (flat_map line l)) (sym (cond-true _ _ _ here))
+    | inr other ↦ past e _ other ∙ there es ∙ ap (λ l. look (flat_map line l)) (sym (cond-false _ _ _ other))
+  ]
+
 module _ (c : Circuit) (x y : ℤ) where
-  abbrev all_times_of : List BorderLine → List AllTimesSignal
-  all_times_of es = flat_map (λ e. all_times_of_line e e.time (one_or_named_wire c e.signal)) es
-
-  abbrev events_of : List BorderLine → List TimedSignal
-  events_of es = flat_map (λ e. events_of_line e e.time (one_or_named_wire c e.signal)) es
-
-  all_times_there : (es : List BorderLine) →
-      all_times_at (all_times_of es) x y ≡ all_times_at (all_times_of (at_cell x y es)) x y
-  unfolding at_cell
-  all_times_there [] = refl
-  all_times_there (e ∷ es) = elim (cases_Bool (is_at e.cell x y)) [
-    | inl here ↦
-        grind (arith, common_steps, all_times_there es, all_times_on, all_times_of, at_cell, cond-true, here)
-    | inr other ↦
-        grind (arith, common_steps, all_times_there es, all_times_past, all_times_of, cond-false, at_cell)
-  ]
-
-  events_there : (t : ℕ) (es : List BorderLine) →
-      event_at (events_of es) t x y ≡ event_at (events_of (at_cell x y es)) t x y
-  unfolding at_cell
-  events_there t [] = refl
-  events_there t (e ∷ es) = elim (cases_Bool (is_at e.cell x y)) [
-    | inl here ↦
-        grind (arith, common_steps, events_there t es, event_on, events_of, at_cell, cond-true, here)
-    | inr other ↦
-        grind (arith, common_steps, events_there t es, event_past, events_of, cond-false, at_cell)
-  ]
-
   signal_there : (t : ℕ) (es : List BorderLine) →
       signal_at (line_signals c es) t x y ≡ signal_at (line_signals c (at_cell x y es)) t x y
   unfolding signal_at
-  signal_there t es = ap₂ (λ h e. unwrap_or h (unwrap_or e Zero)) (all_times_there es) (events_there t es)
+  signal_there t es = ap₂ (λ h e. unwrap_or h (unwrap_or e Zero))
+      (there (λ e. all_times_of_line e e.time (one_or_named_wire c e.signal)) (λ l. all_times_at l x y) x y
+      (λ e rest. all_times_past e e.time _ rest x y) (λ e rest other. all_times_on e e.time _ rest other x y) es)
+      (there (λ e. events_of_line e e.time (one_or_named_wire c e.signal)) (λ l. event_at l t x y) x y
+      (λ e rest. event_past e e.time _ rest t x y) (λ e rest other. event_on e e.time _ rest other t x y) es)
 
   same_there : (t : ℕ) (es ds : List BorderLine) → at_cell x y es ≡ at_cell x y ds →
       signal_at (line_signals c es) t x y ≡ signal_at (line_signals c ds) t x y

@@ -11,7 +11,7 @@ use Rattle.certificate.proofs.Imports.{◌≡◌, ◌≤◌, ap₂, All-append, 
 use Rattle.certificate.proofs.Imports.{edge_lines_at_place, get_or_from_slice_get, option_to_list, slice_get_within}
 use Rattle.lemmas.proofs.Common.{all_unmapped}
 use Rattle.certificate_lines.specs.Modules.{IsWithinLineLimit}
-use Rattle.certificate_lines.proofs.LackedWires.{in_rectangle}
+use Rattle.module_box.proofs.BoxCells.{in_rectangle}
 use Rattle.certificate_lines.proofs.StoredLemmas.{edges_with}
 
 -- ---- modules that are good

@@ -19,7 +19,8 @@ unfoldable pub use Rattle.certificate.specs.Text.{certificate_text}
 pub use Rattle.certificate.specs.Times.{all_stops, delay_and_meet_lines, delay_line, earlier, last_times, later}
 pub use Rattle.certificate.specs.Times.{meet_line, stop_times_of_wire, time_lines_of_gates}
 unfoldable pub use Rattle.certificate.specs.Times.{lines_by_number}
-pub use Rattle.certificate.specs.Timetables.{AreRising, AreSignalLists, HasLocalWire, IsWithinMaxSize, one_or_wire}
+pub use Rattle.certificate.specs.Timetables.{AreRising, AreSignalLists, HasLocalWire, one_or_wire}
+pub use Rattle.certificate_lines.specs.BuilderView.{IsWithinMaxSize}
 pub use Rattle.certificate.specs.Timetables.{stored_signals, unnamed_line}
 pub use Rattle.certificate.specs.declared.neighbour_edges.EdgePlace.{EdgePlace}
 pub use Rattle.certificate.specs.declared.times.TimeLine.{TimeLine}

@@ -1,19 +1,14 @@
 -- The parts of a job by its module's lines.
 use Rattle.certificate.proofs.Imports.{IsModule, LayoutHeader, ModuleLines, None, Setting, arith, common_steps}
-use Rattle.certificate.proofs.Imports.{is_sized, size_fault, subst, sym, ◌+◌, ◌≡◌, ◌≤◌}
+use Rattle.certificate.proofs.Imports.{is_sized, size_fault, ◌+◌, ◌≡◌, ◌≤◌}
 
 -- a box inside a layout lies within 512 cells, and a layout has at most 65,536 steps
 pub within_512 : (g : Setting) (m : ModuleLines) (s : LayoutHeader) → s ≡ g.size → size_fault s ≡ None → IsModule g m →
     (m.area.x + m.area.w ≤ 512) × (m.area.y + m.area.h ≤ 512) × (s.steps ≤ 65536)
 within_512 g m s is limits h =
     let sized = is_sized s limits in
-    let inside = subst (λ (t : LayoutHeader). (m.area.x + m.area.w ≤ t.w) × (m.area.y + m.area.h ≤ t.h)) (sym is)
-    (h.inside.right, h.inside.bottom) in
-    let wide = sized.width.1 in
-    let high = sized.height.1 in
-    let right = inside.0 in
-    let bottom = inside.1 in
-    (omega (arith, wide, right), omega (arith, high, bottom), sized.steps)
+    let inside = h.inside in
+    grind (arith, common_steps)
 
 -- where the box is, within the layout and within 512 cells
 pub within_layout : (g : Setting) (m : ModuleLines) (s : LayoutHeader) → s ≡ g.size → size_fault s ≡ None →

@@ -1,38 +1,25 @@
 -- The halo lines of modules of version 2, and the jobs of the modules before a module
-use Rattle.certificate.proofs.Imports.{AreModules, Bool, Box2, CertificateLine, Circuit, Cut, Edge, EdgePlace}
-use Rattle.certificate.proofs.Imports.{Halo, HasLocalPorts, HaveListsFrom, IsJobOf, IsModule, JobView, Keep, List}
-use Rattle.certificate.proofs.Imports.{ModuleLines, Pattern, Setting, Some, Stop, StoredBorder, StoredModule}
-use Rattle.certificate.proofs.Imports.{Use, [], ap, append-nil, append_assoc, ap₂, arith, body_lines_with, border_line}
-use Rattle.certificate.proofs.Imports.{common_steps, edge_lines_at, edge_lines_beside, false, filter, get_or, inl, inr}
+use Rattle.certificate.proofs.Imports.{AreModules, Box2, Circuit, Cut, Edge, EdgePlace, Halo, HasLocalPorts}
+use Rattle.certificate.proofs.Imports.{HaveListsFrom, IsJobOf, IsModule, JobView, Keep, List, ModuleLines, Pattern}
+use Rattle.certificate.proofs.Imports.{Setting, Some, Stop, StoredBorder, StoredModule, Use, [], ap, append-nil}
+use Rattle.certificate.proofs.Imports.{append_assoc, ap₂, arith, body_lines_with, border_line, common_steps}
+use Rattle.certificate.proofs.Imports.{edge_lines_at, edge_lines_beside, false, filter, get_or, inl, inr}
 use Rattle.certificate.proofs.Imports.{lacks_edge_wire_beside, length, length-map, list_at_or_empty, map, mapped_at}
 use Rattle.certificate.proofs.Imports.{mapped_from, module_lines, module_lines_with, precedes_halos, refl, slice_get}
-use Rattle.certificate.proofs.Imports.{slice_get_within, some_is, sorted_border_lines, stop_line, subst, sym, true}
-use Rattle.certificate.proofs.Imports.{wire_name, with_halos, ℕ, ◌++◌, ◌+◌, ◌<◌, ◌∙◌, ◌∷◌, ◌≡◌, ◌≤◌}
+use Rattle.certificate.proofs.Imports.{slice_get_within, some_is, sorted_border_lines, stop_line, subst, sym, wire_name}
+use Rattle.certificate.proofs.Imports.{with_halos, ℕ, ◌++◌, ◌+◌, ◌<◌, ◌∙◌, ◌∷◌, ◌≡◌, ◌≤◌, All, AreGoodModules}
+use Rattle.certificate.proofs.Imports.{CircuitLine, HasOwnWire, HasOwnWires, IsGoodModule, circuit_of}
+use Rattle.certificate.proofs.Imports.{get_or_from_slice_get, setting_of, with_lines}
 use Rattle.lemmas.proofs.Common.{filter-append, length_push, slice_get_read}
-use Rattle.certificate.proofs.Imports.{All, AreGoodModules, CircuitLine, HasOwnWire, HasOwnWires, IsGoodModule}
-use Rattle.certificate.proofs.Imports.{circuit_of}
-use Rattle.certificate.proofs.Imports.{get_or_from_slice_get, setting_of, slice_get_within, with_lines}
 use Rattle.module_box.proofs.Rising.{pushed}
 use Rattle.certificate.specs.Jobs.{AreJobsOf}
 use Rattle.certificate_lines.proofs.StoredLemmas.{stops_with}
 use Rattle.certificate.proofs.FullModules.{full_modules}
+use Rattle.certificate.proofs.PrintedLines.{filter_all, filter_none}
+use Rattle.std.proofs.lemmas.Simd.{map-map}
 use Rattle.certificate.proofs.StoredSignals.{all_at}
 
 -- ---- the halo lines of a module
-
-filter_all : {X : Type 0} (p : CertificateLine → Bool) (f : X → CertificateLine) → ((x : X) → p (f x) ≡ true) →
-    (xs : List X) → filter p (map f xs) ≡ map f xs
-filter_all p f passes [] = refl
-filter_all p f passes (x ∷ xs) = grind (arith, common_steps, filter_all p f passes xs)
-
-filter_none : {X : Type 0} (p : CertificateLine → Bool) (f : X → CertificateLine) → ((x : X) → p (f x) ≡ false) →
-    (xs : List X) → filter p (map f xs) ≡ []
-filter_none p f fails [] = refl
-filter_none p f fails (x ∷ xs) = grind (arith, common_steps, filter_none p f fails xs)
-
-map_twice : {X Y Z : Type 0} (g : Y → Z) (f : X → Y) (xs : List X) → map g (map f xs) ≡ map (λ x. g (f x)) xs
-map_twice g f [] = refl
-map_twice g f (x ∷ xs) = ap (λ l. g (f x) ∷ l) (map_twice g f xs)
 
 -- the lines before the halo lines
 early_lines : (c : Circuit) (m : StoredModule) → filter precedes_halos (body_lines_with c m m.halos.items)
@@ -60,8 +47,8 @@ with_halos_stored g ms m hs are =
     ap (λ ls. record { area = m.area; lines = ls })
     (sym (ap₂ (λ early ends. early ++ ends)
     (ap₂ (λ early halos. early ++ halos) (early_lines c m)
-    (ap (map Halo) (sym are) ∙ map_twice Halo (border_line c) hs))
-    (ap (map Stop) (stops_with c m m.halos.items) ∙ map_twice Stop (stop_line c) m.stops.items)
+    (ap (map Halo) (sym are) ∙ map-map Halo (border_line c) hs))
+    (ap (map Stop) (stops_with c m m.halos.items) ∙ map-map Stop (stop_line c) m.stops.items)
     ∙ (simp append_assoc)))
 
 pub element_at : {X : Type 0} (xs : List X) (i : ℕ) (x : X) → i < length xs → x ≡ get_or xs i x →

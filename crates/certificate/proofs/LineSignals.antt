@@ -1,15 +1,17 @@
 -- The signal of one line for its cell at its time
 use Rattle.certificate.proofs.Imports.{AllTimesSignal, Bool, BorderLine, Cell, Circuit, Each, Greater, In, Less, List}
 use Rattle.certificate.proofs.Imports.{None, Option, Ordering, Pairs, Rises, Signal, Some, StarsExcludeLaterTimes}
-use Rattle.certificate.proofs.Imports.{TimedSignal, Zero, [], all_times_at, all_times_of_line, and_parts, ap, ap₂}
+use Rattle.certificate.proofs.Imports.{TimedSignal, Zero, [], all_times_at, all_times_of_line, ap, ap₂}
 use Rattle.certificate.proofs.Imports.{arith, border_line_cmp, cases_Bool, cell_cmp, cell_same, common_steps}
 use Rattle.certificate.proofs.Imports.{cond-false, cond-true, each_in, eqb-true, event_at, events_of_line, false}
-use Rattle.certificate.proofs.Imports.{flat_map, inl, inr, is_at, line_signals, list_all, nat_cmp, not}
+use Rattle.certificate.proofs.Imports.{flat_map, inl, inr, is_at, line_signals, nat_cmp, not}
 use Rattle.certificate.proofs.Imports.{one_or_named_wire, ordering_then, refl, signal_at, subst, sym, time_rank, true}
-use Rattle.certificate.proofs.Imports.{true≢false, unwrap_or, ℕ, ◌&&◌, ◌++◌, ◌+◌, ◌||◌, ◌∙◌, ◌∷◌, ◌≡◌}
+use Rattle.certificate.proofs.Imports.{unwrap_or, ℕ, ◌&&◌, ◌++◌, ◌+◌, ◌||◌, ◌∙◌, ◌∷◌, ◌≡◌}
 use Rattle.certificate_lines.specs.Rules.{is_star, is_starred_line_at, same_cell}
 use Rattle.certificate_lines.proofs.LineOrder.{not_itself}
 use Rattle.bbm_rule.proofs.SameCells.{cell_itself}
+use Rattle.lemmas.proofs.Common.{same_truth}
+use Rattle.certificate.proofs.BorderOrder.{each_of_test}
 use Rattle.certificate.proofs.HaloSignals.{event_past, all_times_past}
 
 -- the line says something at the time
@@ -60,19 +62,18 @@ module _ (c : Circuit) where
       all_times_past d None s rest e.cell.x e.cell.y (other_cell d e (dt ∙ sym et) less)
   all_times_skips d e (Some t) dt et less s rest = refl
 
-  all_times_there : (e : BorderLine) (es : List BorderLine) → Rises es → In e es → e.time ≡ None →
-      all_times_at (all_times_of es) e.cell.x e.cell.y ≡ Some (one_or_named_wire c e.signal)
+  -- a list that is read from its front says what a line says, if the lines before it say nothing
+  found : {X : Type 0} (line : BorderLine → List X) (look : List X → Option Signal) (e : BorderLine) (s : Signal) →
+      ((rest : List X) → look (line e ++ rest) ≡ Some s) →
+      ((d : BorderLine) (rest : List X) → border_line_cmp d e ≡ Less → look (line d ++ rest) ≡ look rest) →
+      (es : List BorderLine) → Rises es → In e es → look (flat_map line es) ≡ Some s
   unfolding Pairs In
-  all_times_there e [] r i none = absurd i
-  all_times_there e (d ∷ es) r (inl same) none =
-      subst (λ x. all_times_at (all_times_of_line x x.time (one_or_named_wire c x.signal) ++ all_times_of es) e.cell.x
-      e.cell.y
-      ≡ Some (one_or_named_wire c e.signal)) (sym same)
-      (all_times_first e e.time (one_or_named_wire c e.signal) (all_times_of es) none)
-  all_times_there e (d ∷ es) r (inr later) none =
-      all_times_skips d e d.time refl none (each_in (λ x. border_line_cmp d x ≡ Less) es r.0 e later)
-      (one_or_named_wire c d.signal)
-      (all_times_of es) ∙ all_times_there e es r.1 later none
+  found line look e s hit skip [] r i = absurd i
+  found line look e s hit skip (d ∷ es) r (inl same) =
+      subst (λ x. look (line x ++ flat_map line es) ≡ Some s) (sym same) (hit (flat_map line es))
+  found line look e s hit skip (d ∷ es) r (inr later) =
+      skip d (flat_map line es) (each_in (λ x. border_line_cmp d x ≡ Less) es r.0 e later)
+      ∙ found line look e s hit skip es r.1 later
 
   -- ---- a line with a time
 
@@ -84,29 +85,12 @@ module _ (c : Circuit) where
       (sym (turned_cell d.cell e.cell) ∙ ap (λ t. is_star t && same_cell e.cell d.cell) (sym dt) ∙ other)
     where
       turned_cell : (a b : Cell) → same_cell b a ≡ is_at a b.x b.y
-      turned_cell a b = elim (cases_Bool (same_cell b a)) [
-        | inl h ↦ let e = cell_same b a h in h ∙ sym (ap (λ (c : Cell). is_at a c.x c.y) e ∙ cell_itself a)
-        | inr h ↦ elim (cases_Bool (is_at a b.x b.y)) [
-          | inl k ↦ absurd (true≢false (sym (ap (λ (c : Cell). same_cell b c) (cell_same a b k) ∙ cell_itself b) ∙ h))
-          | inr k ↦ h ∙ sym k
-        ]
-      ]
+      turned_cell a b = same_truth _ _ (λ h. ap (λ (c : Cell). is_at a c.x c.y) (cell_same b a h) ∙ cell_itself a)
+          (λ h. ap (λ (c : Cell). same_cell b c) (cell_same a b h) ∙ cell_itself b)
   not_starred e d (Some t) dt other s rest = refl
 
   free_head : (star here : Bool) → star ≡ false → (star || not here) ≡ true → here ≡ false
-  free_head star true e h = absurd (true≢false (sym h ∙ ap (λ s. s || false) e))
-  free_head star false e h = refl
-
-  star_of : (t : Option ℕ) (u : ℕ) → t ≡ Some u → is_star t ≡ false
-  star_of None u e = absurd cc
-  star_of (Some v) u e = refl
-
-  all_test : (test : BorderLine → Bool) (es : List BorderLine) → list_all test es ≡ true → (e : BorderLine) → In e es →
-      test e ≡ true
-  unfolding In
-  all_test test [] h e i = absurd i
-  all_test test (d ∷ es) h e (inl same) = subst (λ x. test x ≡ true) same (and_parts (test d) (list_all test es) h).0
-  all_test test (d ∷ es) h e (inr later) = all_test test es (and_parts (test d) (list_all test es) h).1 e later
+  free_head star here e h = grind arith
 
   after_timed : (e d : BorderLine) (t : ℕ) → e.time ≡ Some t → border_line_cmp e d ≡ Less →
       is_starred_line_at e.cell d ≡ false
@@ -135,8 +119,8 @@ module _ (c : Circuit) where
       (one_or_named_wire c d.signal) (all_times_of es)
       ∙ none_after e t es et (subst (λ x. Each (λ f. border_line_cmp x f ≡ Less) es) same r.0)
   none_all_times e t (d ∷ es) et r u (inr later) =
-      not_starred e d d.time refl (free_head (is_star e.time) (is_starred_line_at e.cell d) (star_of e.time t et)
-      (all_test (λ e. is_star e.time || not (is_starred_line_at e.cell d)) es u.0 e later))
+      not_starred e d d.time refl (free_head (is_star e.time) (is_starred_line_at e.cell d) (ap is_star et)
+      (each_in _ es (each_of_test _ es u.0) e later))
       (one_or_named_wire c d.signal)
       (all_times_of es)
       ∙ none_all_times e t es et r.1 u.1 later
@@ -156,19 +140,6 @@ module _ (c : Circuit) where
   event_skips d e (Some u) t dt et less s rest =
       grind (arith, common_steps, cases_Bool, event_past, other_cell, eqb-true, cond-false)
 
-  event_there : (e : BorderLine) (t : ℕ) (es : List BorderLine) → Rises es → In e es → e.time ≡ Some t →
-      event_at (events_of es) t e.cell.x e.cell.y ≡ Some (one_or_named_wire c e.signal)
-  unfolding Pairs In
-  event_there e t [] r i et = absurd i
-  event_there e t (d ∷ es) r (inl same) et =
-      subst (λ x. event_at (events_of_line x x.time (one_or_named_wire c x.signal) ++ events_of es) t e.cell.x e.cell.y
-      ≡ Some (one_or_named_wire c e.signal)) (sym same)
-      (event_first e e.time t (one_or_named_wire c e.signal) (events_of es) et)
-  event_there e t (d ∷ es) r (inr later) et =
-      event_skips d e d.time t refl et (each_in (λ x. border_line_cmp d x ≡ Less) es r.0 e later)
-      (one_or_named_wire c d.signal)
-      (events_of es) ∙ event_there e t es r.1 later et
-
   -- ---- either
 
   said_by : (e : BorderLine) (time : Option ℕ) (t : ℕ) (es : List BorderLine) → e.time ≡ time → SaysAt t time →
@@ -177,12 +148,18 @@ module _ (c : Circuit) where
       signal_at (line_signals c es) t e.cell.x e.cell.y ≡ one_or_named_wire c e.signal
   unfolding signal_at
   said_by e None t es et says r u i =
-      ap (λ o. unwrap_or o (unwrap_or (event_at (events_of es) t e.cell.x e.cell.y) Zero)) (all_times_there e es r i et)
+      ap (λ o. unwrap_or o (unwrap_or (event_at (events_of es) t e.cell.x e.cell.y) Zero))
+      (found (λ d. all_times_of_line d d.time (one_or_named_wire c d.signal)) (λ l. all_times_at l e.cell.x e.cell.y) e
+      (one_or_named_wire c e.signal) (λ rest. all_times_first e e.time _ rest et)
+      (λ d rest less. all_times_skips d e d.time refl et less _ rest) es r i)
   said_by e (Some v) t es et says r u i =
       let time : e.time ≡ Some t = et ∙ ap Some says in
       ap (λ o. unwrap_or o (unwrap_or (event_at (events_of es) t e.cell.x e.cell.y) Zero))
       (none_all_times e t es time r u i)
-      ∙ ap (λ (o : Option Signal). unwrap_or o Zero) (event_there e t es r i time)
+      ∙ ap (λ (o : Option Signal). unwrap_or o Zero)
+      (found (λ d. events_of_line d d.time (one_or_named_wire c d.signal)) (λ l. event_at l t e.cell.x e.cell.y) e
+      (one_or_named_wire c e.signal) (λ rest. event_first e e.time t _ rest time)
+      (λ d rest less. event_skips d e d.time t refl time less _ rest) es r i)
 
   -- a line of lines in order says the signal of its cell
   pub line_said : (e : BorderLine) (t : ℕ) (es : List BorderLine) → SaysAt t e.time → Rises es →

@@ -1,39 +1,33 @@
 -- Lines that are good are good without the halo lines
 use Rattle.certificate.proofs.Imports.{AreFaultless, AreModules, Bool, BorderLine, Box2, CertificateLine, Circuit, Cut}
-use Rattle.certificate.proofs.Imports.{Edge, Halo, Keep, List, Module, ModuleLines, None, Option, PastLimit, Setting}
-use Rattle.certificate.proofs.Imports.{Some, SomethingMissing, Stop, Use, [], add_line, and_parts, ap, append-nil, ap₂}
-use Rattle.certificate.proofs.Imports.{areas, arith, both_none, certificate_grammar, change_last, common_steps}
-use Rattle.certificate.proofs.Imports.{cut_name_in, cuts, edge_in, edge_lines_beside, edges, end_fault, entry_fault}
-use Rattle.certificate.proofs.Imports.{false, filter, flat_map, fold, gates, halos, has_nonlocal_port, is_halo}
-use Rattle.certificate.proofs.Imports.{is_haloless_version, is_last_module_incomplete, is_nonlocal_signal, known}
-use Rattle.certificate.proofs.Imports.{lacks_edge_wire_beside, last_module, last_of, leaves_gap, length, length-map}
-use Rattle.certificate.proofs.Imports.{list_all, list_any, map, map-append, may_precede, module_with_line}
-use Rattle.certificate.proofs.Imports.{modules_by_version, modules_of, nat_le, nat_tests, no_code, option_map}
-use Rattle.certificate.proofs.Imports.{precedes_halos, refl, stop_in, stops, sym, true, true_from_not, used_gate_in}
-use Rattle.certificate.proofs.Imports.{with_halos, without_halos, ℕ, ◌&&◌, ◌++◌, ◌||◌, ◌∙◌, ◌∷◌, ◌≡◌, ◌≤◌}
+use Rattle.certificate.proofs.Imports.{Edge, Halo, Keep, List, Module, ModuleLines, None, Option, Setting, Some}
+use Rattle.certificate.proofs.Imports.{SomethingMissing, Stop, Use, [], add_line, and_parts, ap, append-nil, ap₂, areas}
+use Rattle.certificate.proofs.Imports.{arith, both_none, certificate_grammar, change_last, common_steps, cut_name_in}
+use Rattle.certificate.proofs.Imports.{cuts, edge_in, edge_lines_beside, edges, end_fault, entry_fault, false, filter}
+use Rattle.certificate.proofs.Imports.{flat_map, fold, gates, halos, has_nonlocal_port, is_halo, is_haloless_version}
+use Rattle.certificate.proofs.Imports.{is_last_module_incomplete, is_nonlocal_signal, known, lacks_edge_wire_beside}
+use Rattle.certificate.proofs.Imports.{last_module, last_of, length, length-map, list_all, list_any, map, map-append}
+use Rattle.certificate.proofs.Imports.{may_precede, module_with_line, modules_by_version, modules_of, nat_le, nat_tests}
+use Rattle.certificate.proofs.Imports.{no_code, option_map, precedes_halos, refl, stop_in, stops, sym, true}
+use Rattle.certificate.proofs.Imports.{true_from_not, used_gate_in, with_halos, without_halos, ℕ, ◌&&◌, ◌++◌, ◌||◌, ◌∙◌}
+use Rattle.certificate.proofs.Imports.{◌∷◌, ◌≡◌, ◌≤◌, not}
+use Rattle.lemmas.proofs.Common.{filter-append}
+use Rattle.std.proofs.lemmas.Simd.{map-map}
 use Rattle.section_text.specs.Codes.{or_else, code_if}
 use Rattle.certificate.specs.Laws.{AreFaultlessLines, GoodWithoutHalos, IsSectionOf, SectionWithoutHalos}
 use Rattle.certificate_lines.specs.Orders.{may_follow}
 use Rattle.certificate_lines.specs.Rules.{cut_line_code, use_line_code, keep_line_code, timed_line_count}
 use Rattle.certificate_lines.specs.Rules.{border_line_code, body_line_code, line_fault, module_line_code}
-use Rattle.certificate_lines.specs.Rules.{module_box_code, is_misplaced, is_bad_box_side, overlaps, content_code}
+use Rattle.certificate_lines.specs.Rules.{module_box_code, content_code}
 use Rattle.certificate_lines.specs.Versions.{AreGoodLines, haloless_module}
-use Rattle.certificate_lines.proofs.Growing.{map_changed, unchanged}
+use Rattle.certificate_lines.proofs.Growing.{last_mapped, map_changed, unchanged}
 use Rattle.section_text.specs.declared.code.RefusalCode.{RefusalCode}
-use Rattle.section_text.specs.declared.code.RefusalCode.TheVariants.{MisplacedBox}
 use Rattle.certificate.proofs.FullModules.{meant_new, no_halo_left, without_same}
 use Rattle.certificate.proofs.Soundness.{faultless_modules}
 
 pub without_append : (xs ys : List CertificateLine) → without_halos (xs ++ ys) ≡ without_halos xs ++ without_halos ys
-unfolding without_halos is_halo
-without_append [] ys = refl
-without_append (Module b ∷ xs) ys = ap (λ l. Module b ∷ l) (without_append xs ys)
-without_append (Cut n ∷ xs) ys = ap (λ l. Cut n ∷ l) (without_append xs ys)
-without_append (Use k ∷ xs) ys = ap (λ l. Use k ∷ l) (without_append xs ys)
-without_append (Keep k ∷ xs) ys = ap (λ l. Keep k ∷ l) (without_append xs ys)
-without_append (Edge e ∷ xs) ys = ap (λ l. Edge e ∷ l) (without_append xs ys)
-without_append (Halo e ∷ xs) ys = without_append xs ys
-without_append (Stop s ∷ xs) ys = ap (λ l. Stop s ∷ l) (without_append xs ys)
+unfolding without_halos
+without_append xs ys = filter-append (λ i. not (is_halo i)) xs ys
 
 -- ---- the modules of lines without halo lines
 
@@ -73,33 +67,19 @@ unfolding without_halos is_halo add_line
 modules_on [] ms = refl
 modules_on (Module b ∷ es) ms =
     grind (arith, common_steps, modules_on es (ms ++ record { area = b; lines = [] } ∷ []), module_step)
-modules_on (Cut n ∷ es) ms = ap (λ l. fold add_line l (without_halos es)) (sym (inner_step (Cut n) refl ms))
-    ∙ modules_on es (change_last (module_with_line (Cut n)) ms)
-modules_on (Use k ∷ es) ms = ap (λ l. fold add_line l (without_halos es)) (sym (inner_step (Use k) refl ms))
-    ∙ modules_on es (change_last (module_with_line (Use k)) ms)
-modules_on (Keep k ∷ es) ms =
-    grind (arith, common_steps, modules_on es (change_last (module_with_line (Keep k)) ms), inner_step)
-modules_on (Edge e ∷ es) ms =
-    grind (arith, common_steps, modules_on es (change_last (module_with_line (Edge e)) ms), inner_step)
 modules_on (Halo e ∷ es) ms =
     grind (arith, common_steps, modules_on es (change_last (module_with_line (Halo e)) ms), halo_step)
-modules_on (Stop s ∷ es) ms =
-    grind (arith, common_steps, modules_on es (change_last (module_with_line (Stop s)) ms), inner_step)
+modules_on (i ∷ es) ms =
+    ap (λ l. fold add_line l (without_halos es)) (sym (inner_step i refl ms))
+    ∙ modules_on es (change_last (module_with_line i) ms)
 
 pub modules_without : (es : List CertificateLine) → modules_of (without_halos es) ≡ map haloless_module (modules_of es)
 unfolding modules_of
 modules_without es = modules_on es []
 
-last_stripped : (ms : List ModuleLines) → last_of (map haloless_module ms) ≡ option_map haloless_module (last_of ms)
-unfolding last_of
-last_stripped [] = refl
-last_stripped (m ∷ []) = refl
-last_stripped (m ∷ n ∷ ms) = last_stripped (n ∷ ms)
-
 areas_stripped : (ms : List ModuleLines) → areas (map haloless_module ms) ≡ areas ms
 unfolding haloless_module
-areas_stripped [] = refl
-areas_stripped (m ∷ ms) = ap (λ l. m.area ∷ l) (areas_stripped ms)
+areas_stripped ms = simp map-map
 
 -- ---- what is said of a module is said of it without halo lines
 
@@ -149,25 +129,10 @@ follow_less : (lines : List CertificateLine) (i : CertificateLine) → may_follo
     may_follow (without_halos lines) i ≡ true
 unfolding may_follow without_halos is_halo
 follow_less [] i h = refl
-follow_less (Module b ∷ lines) i h = let both =
-    and_parts (may_precede (Module b) i) (list_all (λ j. may_precede j i) lines) h in
-    rw (both.0, follow_less lines i both.1) refl
-follow_less (Cut n ∷ lines) i h = let both =
-    and_parts (may_precede (Cut n) i) (list_all (λ j. may_precede j i) lines) h in
-    rw (both.0, follow_less lines i both.1) refl
-follow_less (Use k ∷ lines) i h = let both =
-    and_parts (may_precede (Use k) i) (list_all (λ j. may_precede j i) lines) h in
-    rw (both.0, follow_less lines i both.1) refl
-follow_less (Keep k ∷ lines) i h = let both =
-    and_parts (may_precede (Keep k) i) (list_all (λ j. may_precede j i) lines) h in
-    rw (both.0, follow_less lines i both.1) refl
-follow_less (Edge e ∷ lines) i h = let both =
-    and_parts (may_precede (Edge e) i) (list_all (λ j. may_precede j i) lines) h in
-    rw (both.0, follow_less lines i both.1) refl
 follow_less (Halo e ∷ lines) i h =
     follow_less lines i (and_parts (may_precede (Halo e) i) (list_all (λ j. may_precede j i) lines) h).1
-follow_less (Stop s ∷ lines) i h = let both =
-    and_parts (may_precede (Stop s) i) (list_all (λ j. may_precede j i) lines) h in
+follow_less (k ∷ lines) i h =
+    let both = and_parts (may_precede k i) (list_all (λ j. may_precede j i) lines) h in
     rw (both.0, follow_less lines i both.1) refl
 
 none_both : (a b : Option RefusalCode) → a ≡ None → b ≡ None → or_else a b ≡ None
@@ -212,24 +177,18 @@ inner_kept g (Some m) i o h = line_kept g m i o h
 
 module _ (g : Setting) (before : List CertificateLine) where
   present_without : last_module (without_halos before) ≡ option_map haloless_module (last_module before)
-  present_without = ap last_of (modules_without before) ∙ last_stripped (modules_of before)
+  present_without = ap last_of (modules_without before) ∙ last_mapped haloless_module (modules_of before)
 
   module_kept : (b : Box2) → module_line_code g (modules_of before) (last_module before) b ≡ None →
       module_line_code g (modules_of (without_halos before)) (last_module (without_halos before)) b ≡ None
   unfolding module_line_code module_box_code
-  module_kept b h =
-      ap (λ a. or_else (or_else (code_if a SomethingMissing)
-      (or_else (code_if (is_bad_box_side b.w || is_bad_box_side b.h
-      || nat_le 1024 (length (modules_of (without_halos before)))) PastLimit)
-      (code_if (is_misplaced g.size b) MisplacedBox)))
-      (code_if (overlaps (areas (modules_of (without_halos before))) b) MisplacedBox))
-      (ap (is_last_module_incomplete g) present_without ∙ incomplete_kept g (last_module before))
-      ∙ ap₂ (λ n bs. or_else (or_else (code_if (is_last_module_incomplete g (last_module before)) SomethingMissing)
-      (or_else (code_if (is_bad_box_side b.w || is_bad_box_side b.h || nat_le 1024 n) PastLimit)
-      (code_if (is_misplaced g.size b) MisplacedBox))) (code_if (overlaps bs b) MisplacedBox))
-      (ap length (modules_without before) ∙ length-map (modules_of before) haloless_module)
-      (ap areas (modules_without before) ∙ areas_stripped (modules_of before))
-      ∙ h
+  module_kept b h = rw (
+    modules_without before,
+    last_mapped haloless_module (modules_of before),
+    incomplete_kept g (last_module before),
+    length-map (modules_of before) haloless_module,
+    areas_stripped (modules_of before),
+  ) h
 
   inner_line : (i : CertificateLine) → is_halo i ≡ false → body_line_code g (last_module before) i ≡ None →
       body_line_code g (last_module (without_halos before)) i ≡ None
@@ -239,32 +198,25 @@ module _ (g : Setting) (before : List CertificateLine) where
       entry_fault g (without_halos before) i ≡ None
   unfolding entry_fault is_halo
   entry_kept (Module b) o h = module_kept b h
-  entry_kept (Cut n) o h = inner_line (Cut n) refl h
-  entry_kept (Use k) o h = inner_line (Use k) refl h
-  entry_kept (Keep k) o h = inner_line (Keep k) refl h
-  entry_kept (Edge e) o h = inner_line (Edge e) refl h
   entry_kept (Halo e) o h = absurd cc
-  entry_kept (Stop s) o h = inner_line (Stop s) refl h
+  entry_kept i o h = inner_line i refl h
 
   pub end_kept : end_fault g before ≡ None → end_fault g (without_halos before) ≡ None
   unfolding end_fault
-  end_kept h =
-      ap₂ (λ a bs. code_if (a || leaves_gap g.size bs) SomethingMissing)
-      (ap (is_last_module_incomplete g) present_without ∙ incomplete_kept g (last_module before))
-      (ap areas (modules_without before) ∙ areas_stripped (modules_of before)) ∙ h
+  end_kept h = rw (
+    modules_without before,
+    last_mapped haloless_module (modules_of before),
+    incomplete_kept g (last_module before),
+    areas_stripped (modules_of before),
+  ) h
 
 -- ---- all lines
 
 without_one : (before : List CertificateLine) (i : CertificateLine) → is_halo i ≡ false →
     without_halos (before ++ i ∷ []) ≡ without_halos before ++ i ∷ []
 unfolding is_halo without_halos
-without_one before (Module b) o = without_append before (Module b ∷ [])
-without_one before (Cut n) o = without_append before (Cut n ∷ [])
-without_one before (Use k) o = without_append before (Use k ∷ [])
-without_one before (Keep k) o = without_append before (Keep k ∷ [])
-without_one before (Edge e) o = without_append before (Edge e ∷ [])
 without_one before (Halo e) o = absurd cc
-without_one before (Stop s) o = without_append before (Stop s ∷ [])
+without_one before i o = without_append before (i ∷ [])
 
 without_last : (before : List CertificateLine) (e : BorderLine) →
     without_halos (before ++ Halo e ∷ []) ≡ without_halos before
@@ -281,20 +233,9 @@ pub good_on : (g : Setting) (es before : List CertificateLine) → AreGoodLines 
     AreGoodLines g (without_halos before) (without_halos es)
 unfolding without_halos is_halo
 good_on g [] before good = tt
-good_on g (Module b ∷ es) before good =
-    good_more g (Module b) es before refl good.0 (good_on g es (before ++ Module b ∷ []) good.1)
-good_on g (Cut n ∷ es) before good =
-    good_more g (Cut n) es before refl good.0 (good_on g es (before ++ Cut n ∷ []) good.1)
-good_on g (Use k ∷ es) before good =
-    good_more g (Use k) es before refl good.0 (good_on g es (before ++ Use k ∷ []) good.1)
-good_on g (Keep k ∷ es) before good =
-    good_more g (Keep k) es before refl good.0 (good_on g es (before ++ Keep k ∷ []) good.1)
-good_on g (Edge e ∷ es) before good =
-    good_more g (Edge e) es before refl good.0 (good_on g es (before ++ Edge e ∷ []) good.1)
 good_on g (Halo e ∷ es) before good =
     grind (arith, common_steps, good_on g es (before ++ Halo e ∷ []) good.1, without_last)
-good_on g (Stop s ∷ es) before good =
-    good_more g (Stop s) es before refl good.0 (good_on g es (before ++ Stop s ∷ []) good.1)
+good_on g (i ∷ es) before good = good_more g i es before refl good.0 (good_on g es (before ++ i ∷ []) good.1)
 
 pub good_without_halos : GoodWithoutHalos
 unfolding without_halos
@@ -318,13 +259,9 @@ early_without : (lines : List CertificateLine) →
     filter precedes_halos (without_halos lines) ≡ filter precedes_halos lines
 unfolding without_halos is_halo precedes_halos
 early_without [] = refl
-early_without (Module b ∷ lines) = ap (λ l. Module b ∷ l) (early_without lines)
-early_without (Cut n ∷ lines) = ap (λ l. Cut n ∷ l) (early_without lines)
-early_without (Use k ∷ lines) = ap (λ l. Use k ∷ l) (early_without lines)
-early_without (Keep k ∷ lines) = ap (λ l. Keep k ∷ l) (early_without lines)
-early_without (Edge e ∷ lines) = ap (λ l. Edge e ∷ l) (early_without lines)
 early_without (Halo e ∷ lines) = early_without lines
 early_without (Stop s ∷ lines) = early_without lines
+early_without (i ∷ lines) = ap (λ l. i ∷ l) (early_without lines)
 
 full_same : (g : Setting) (ms : List ModuleLines) (m : ModuleLines) →
     with_halos g (map haloless_module ms) (haloless_module m) ≡ with_halos g ms m
@@ -372,13 +309,8 @@ faultless_two : (g : Setting) (es before : List CertificateLine) → AreGoodLine
     AreFaultlessLines g 2 before (without_halos es)
 unfolding without_halos is_halo
 faultless_two g [] before h = tt
-faultless_two g (Module b ∷ es) before h = (h.0, faultless_two g es (before ++ Module b ∷ []) h.1)
-faultless_two g (Cut n ∷ es) before h = (h.0, faultless_two g es (before ++ Cut n ∷ []) h.1)
-faultless_two g (Use k ∷ es) before h = (h.0, faultless_two g es (before ++ Use k ∷ []) h.1)
-faultless_two g (Keep k ∷ es) before h = (h.0, faultless_two g es (before ++ Keep k ∷ []) h.1)
-faultless_two g (Edge e ∷ es) before h = (h.0, faultless_two g es (before ++ Edge e ∷ []) h.1)
 faultless_two g (Halo e ∷ es) before h = faultless_two g es before h
-faultless_two g (Stop s ∷ es) before h = (h.0, faultless_two g es (before ++ Stop s ∷ []) h.1)
+faultless_two g (i ∷ es) before h = (h.0, faultless_two g es (before ++ i ∷ []) h.1)
 
 pub section_without_halos : SectionWithoutHalos
 section_without_halos g es is knows =

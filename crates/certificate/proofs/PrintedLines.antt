@@ -5,9 +5,10 @@ use Rattle.certificate.proofs.Imports.{border_line, common_steps, flat_map, get_
 use Rattle.certificate.proofs.Imports.{lines_of_modules, map, not, refl, slice_get, stop_line, true, wire_name}
 use Rattle.certificate.proofs.Imports.{without_halos, ℕ, ◌++◌, ◌∙◌, ◌∷◌, ◌≡◌, All, All-nil, HasOwnWire, HasOwnWires}
 use Rattle.certificate.proofs.Imports.{append_assoc, codes, entry_text, false, CertView, StoredStop, certificate_text}
-use Rattle.certificate.proofs.Imports.{flat_map-append, if◌then◌else◌, length, take, ◌+◌, ◌<◌}
-use Rattle.std.proofs.lemmas.List.Folds.{flat_map-map}
+use Rattle.certificate.proofs.Imports.{flat_map-append, if◌then◌else◌, length, take, ◌+◌, ◌<◌, filter}
+use Rattle.certificate_lines.proofs.StoredLemmas.{kinds}
 use Rattle.std.specs.Fmt.{decimal}
+use Rattle.lemmas.proofs.Common.{filter-append}
 use Rattle.section_text.specs.Spelling.{line_text}
 use Rattle.pattern.specs.Text.{box_words}
 use Rattle.certificate_lines.proofs.FlatParts.{flat_more}
@@ -18,29 +19,29 @@ use Rattle.certificate.proofs.Migrated.{without_append}
 pub name_found : (c : Circuit) (w : ℕ) (name : List ℕ) → slice_get c.names w ≡ Some name → wire_name c w ≡ name
 name_found c w name at = get_or_from_slice_get c.names w name [] at
 
-others_stay : {X : Type 0} (f : X → CertificateLine) → ((x : X) → not (is_halo (f x)) ≡ true) → (xs : List X) →
-    without_halos (map f xs) ≡ map f xs
-unfolding without_halos
-others_stay f other [] = refl
-others_stay f other (x ∷ xs) = grind (arith, common_steps, others_stay f other xs)
+pub filter_all : {X : Type 0} (p : CertificateLine → Bool) (f : X → CertificateLine) → ((x : X) → p (f x) ≡ true) →
+    (xs : List X) → filter p (map f xs) ≡ map f xs
+filter_all p f passes [] = refl
+filter_all p f passes (x ∷ xs) = grind (arith, common_steps, filter_all p f passes xs)
 
-halos_go : (c : Circuit) (hs : List StoredBorder) → without_halos (map (λ b. Halo (border_line c b)) hs) ≡ []
-unfolding without_halos is_halo
-halos_go c [] = refl
-halos_go c (b ∷ hs) = halos_go c hs
+pub filter_none : {X : Type 0} (p : CertificateLine → Bool) (f : X → CertificateLine) → ((x : X) → p (f x) ≡ false) →
+    (xs : List X) → filter p (map f xs) ≡ []
+filter_none p f fails [] = refl
+filter_none p f fails (x ∷ xs) = grind (arith, common_steps, filter_none p f fails xs)
 
 body_without : (c : Circuit) (m : StoredModule) → without_halos (body_lines_with c m m.halos.items)
     ≡ body_lines_with c m []
-unfolding is_halo
+unfolding is_halo without_halos
 body_without c m =
+    let other = λ (i : CertificateLine). not (is_halo i) in
     simp (
-      without_append,
-      others_stay (λ w. Cut (wire_name c w)) (λ w. refl),
-      others_stay Use (λ k. refl),
-      others_stay Keep (λ k. refl),
-      others_stay (λ b. Edge (border_line c b)) (λ b. refl),
-      halos_go c,
-      others_stay (λ s. Stop (stop_line c s)) (λ s. refl),
+      filter-append other,
+      filter_all other (λ w. Cut (wire_name c w)) (λ w. refl),
+      filter_all other Use (λ k. refl),
+      filter_all other Keep (λ k. refl),
+      filter_all other (λ b. Edge (border_line c b)) (λ b. refl),
+      filter_none other (λ b. Halo (border_line c b)) (λ b. refl),
+      filter_all other (λ s. Stop (stop_line c s)) (λ s. refl),
     )
 
 module_stays : (m : StoredModule) (es : List CertificateLine) →
@@ -71,15 +72,7 @@ module_text : (c : Circuit) (m : StoredModule) (hs : List StoredBorder) →
     ++ (flat_map (λ b. line_text (codes "edge") (border_words (border_line c b))) m.edges.items
     ++ (flat_map (λ b. line_text (codes "halo") (border_words (border_line c b))) hs
     ++ flat_map (λ s. line_text (codes "stop") (stop_words (stop_line c s))) m.stops.items)))))
-module_text c m hs = ap (λ l. line_text (codes "module") (box_words m.area) ++ l) (simp (
-  flat_map-append,
-  flat_map-map entry_text (λ w. Cut (wire_name c w)),
-  flat_map-map entry_text Use,
-  flat_map-map entry_text Keep,
-  flat_map-map entry_text (λ b. Edge (border_line c b)),
-  flat_map-map entry_text (λ b. Halo (border_line c b)),
-  flat_map-map entry_text (λ s. Stop (stop_line c s)),
-))
+module_text c m hs = ap (λ l. line_text (codes "module") (box_words m.area) ++ l) (kinds c m hs entry_text)
 
 eight_parts : (o a b c d e f g : List ℕ) → ((((((o ++ a) ++ b) ++ c) ++ d) ++ e) ++ f) ++ g
     ≡ o ++ (a ++ (b ++ (c ++ (d ++ (e ++ (f ++ g))))))
@@ -97,13 +90,7 @@ pub module_printed : {a b d e f g new cs us ks : List ℕ} {es : List StoredBord
     new ≡ old ++ flat_map entry_text (Module m.area ∷ body_lines_with c m hs)
 module_printed c m hs old ia ib cuts id uses ie keeps ie' edges ig inew stops =
     rw (inew, ig, ie', ie, id, ib, ia, cuts, uses, keeps, edges, stops, module_text c m hs)
-    (eight_parts old (line_text (codes "module") (box_words m.area))
-    (flat_map (λ w. line_text (codes "cut") (wire_name c w ∷ [])) m.cuts.items)
-    (flat_map (λ k. line_text (codes "use") (decimal k ∷ [])) m.gates.items)
-    (flat_map (λ k. line_text (codes "keep") (decimal k ∷ [])) m.keeps.items)
-    (flat_map (λ b. line_text (codes "edge") (border_words (border_line c b))) m.edges.items)
-    (flat_map (λ b. line_text (codes "halo") (border_words (border_line c b))) hs)
-    (flat_map (λ s. line_text (codes "stop") (stop_words (stop_line c s))) m.stops.items))
+    (eight_parts old _ _ _ _ _ _ _)
 
 -- one module more
 pub module_more : (c : Circuit) (h : StoredModule → List StoredBorder) (ms : List StoredModule) (i : ℕ)

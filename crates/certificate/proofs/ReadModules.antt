@@ -1,5 +1,10 @@
 -- The modules of a certificate that is read
 use Rattle.certificate.proofs.Imports.{List, ap, subst, ◌∙◌, ◌≡◌, length, ◌+◌}
+use Rattle.certificate.proofs.Imports.{CircuitLine, ModuleLines, Pattern, Tile, areas, setting_of, whole}
+use Rattle.module_box.proofs.PartOwners.{owners_by_tile}
+use Rattle.module_box.specs.Tiling.{OwnersView, no_owner}
+use Rattle.certificate_lines.specs.BuilderView.{AreModuleOwners}
+use Rattle.certificate.specs.GoodModules.{AreOwnersOf}
 use Rattle.std.specs.declared.result.Result.TheVariants.{Err, Ok}
 use Rattle.section_text.specs.declared.fault.ReadFault.{ReadFault}
 use Rattle.section_text.specs.Feeds.{FeedView, feed_after_lines}
@@ -25,4 +30,15 @@ pub fails_as : {H I A B : Type 0} (g : Grammar H I) (view : A → H × List I) (
 fails_as g view other old new fault h = record {
   stopped = h.stopped;
   reads = λ going. let s = h.reads going in record { gives = s.gives; after = tt; halts = s.halts };
+}
+
+-- ---- the owners of modules whose boxes tile the layout
+
+pub owners_read : (cs : List CircuitLine) (p : Pattern) (ms : List ModuleLines) (o : OwnersView) →
+    AreModuleOwners (setting_of cs p) ms o → Tile (whole p.size) (areas ms) → AreOwnersOf p (areas ms) o
+owners_read cs p ms o built tile = record {
+  width = built.width;
+  height = built.height;
+  owners = owners_by_tile o built.boxes.table (areas ms) built.boxes.each no_owner built.boxes.taken
+      (rw (built.width, built.height) tile);
 }

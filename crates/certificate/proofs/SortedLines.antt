@@ -1,82 +1,38 @@
 -- Lines that are sorted are in order
-use Rattle.certificate.proofs.Imports.{AreDistinct, BorderLine, Each, Equal, Greater, In, IsPermutation, Less, List}
-use Rattle.certificate.proofs.Imports.{Ordering, Pairs, Rises, [], all_in, ap, arith, border_line_cmp, common_steps}
-use Rattle.certificate.proofs.Imports.{each_in, false, get_or, get_or_from_slice_get, if◌then◌else◌, in_each}
-use Rattle.certificate.proofs.Imports.{in_ordered, is_lt, line_total, ordered_in, ordered_rises, ranks_by, refl}
-use Rattle.certificate.proofs.Imports.{rising_same, slice_get_within, sorted_border_lines, ℕ, ◌+◌, ◌∷◌, ◌≡◌, ◌≢◌, ◌≤◌}
-use Rattle.lemmas.proofs.Common.{is_eq, sum_by, All-permutation, IsPermutation-sym, IsSortedBy, sorted_far}
-use Rattle.lemmas.proofs.Common.{sum_by-IsPermutation, sum_by-cons, get_or-map}
-use Rattle.certificate.proofs.Imports.{Circuit, None, StoredBorder, ap₂, border_line, length-map, map, ◌∙◌}
+use Rattle.certificate.proofs.Imports.{AreDistinct, BorderLine, Equal, In, IsPermutation, Less, List, Ordering, Rises}
+use Rattle.certificate.proofs.Imports.{all_in, ap, arith, border_line_cmp, common_steps, false, get_or}
+use Rattle.certificate.proofs.Imports.{get_or_from_slice_get, in_ordered, is_lt, line_total, ordered_in, ordered_rises}
+use Rattle.certificate.proofs.Imports.{ranks_by, refl, rising_same, slice_get_within, sorted_border_lines, ◌+◌, ◌≡◌}
+use Rattle.certificate.proofs.Imports.{◌≢◌, Bool, slice_get-get_or, sym, true≢false, Circuit, None, StoredBorder, ap₂}
+use Rattle.certificate.proofs.Imports.{border_line, length-map, map, ◌∙◌}
+use Rattle.lemmas.proofs.Common.{is_eq, All-permutation, IsPermutation-sym, IsSortedBy, sorted_far, get_or-map}
+use Rattle.std.proofs.lemmas.Cmp.{eq_by_cmp_equiv}
+use Rattle.std.proofs.lemmas.Map.Keys.{IsDistinct-IsPermutation, IsDistinct-from_apart, apart_from_distinct}
 use Rattle.certificate_lines.proofs.Pairs.{pairs_at}
 use Rattle.certificate.proofs.FullModules.{in_all, pairs_by_place}
 
--- how many lines stand nowhere apart from the line
-beat : BorderLine → BorderLine → ℕ
-beat e y = if is_eq (border_line_cmp e y) then 1 else 0
+-- ---- lines in another order are distinct too
 
-abbrev count_at : BorderLine → List BorderLine → ℕ
-count_at e ys = sum_by (beat e) ys
+-- neither line comes before the other
+abbrev same : BorderLine → BorderLine → Bool
+same d e = is_eq (border_line_cmp d e)
 
 not_eq : (o : Ordering) → o ≢ Equal → is_eq o ≡ false
 not_eq Equal h = absurd (h refl)
 not_eq _ h = refl
 
-cons_at : (e y : BorderLine) (ys : List BorderLine) → count_at e (y ∷ ys) ≡ beat e y + count_at e ys
-cons_at e y ys = sum_by-cons (beat e) y ys
-
-beat_of : (e y : BorderLine) (o : Ordering) → border_line_cmp e y ≡ o → beat e y ≡ (if is_eq o then 1 else 0)
-unfolding beat
-beat_of e y o h = ap (λ o. if is_eq o then 1 else 0) h
-
-beat_none : (e y : BorderLine) → border_line_cmp e y ≢ Equal → beat e y ≡ 0
-unfolding beat
-beat_none e y h = ap (λ b. if b then 1 else 0) (not_eq (border_line_cmp e y) h)
-
-beat_one : (e y : BorderLine) → border_line_cmp e y ≡ Equal → beat e y ≡ 1
-beat_one e y h = beat_of e y Equal h
-
-none_at : (e : BorderLine) (ys : List BorderLine) → Each (λ y. border_line_cmp e y ≢ Equal) ys → count_at e ys ≡ 0
-unfolding Each
-none_at e [] h = refl
-none_at e (y ∷ ys) h = let c = cons_at e y ys in let n = beat_none e y h.0 in let m = none_at e ys h.1 in
-    omega (arith, c, n, m)
-
-first_or_later : (e y : BorderLine) (ys : List BorderLine) → Each (λ z. border_line_cmp y z ≢ Equal) ys →
-    count_at e ys ≤ 1 →
-    (o : Ordering) → border_line_cmp e y ≡ o → count_at e (y ∷ ys) ≤ 1
-first_or_later e y ys d later Less h = let c = cons_at e y ys in let n = beat_of e y Less h in
-    omega (arith, c, n, later)
-first_or_later e y ys d later Greater h = let c = cons_at e y ys in let n = beat_of e y Greater h in
-    omega (arith, c, n, later)
-first_or_later e y ys d later Equal h =
-    grind (arith, common_steps, cons_at, beat_one, none_at, in_each, each_in, line_total)
-
-one_at : (e : BorderLine) (ys : List BorderLine) → AreDistinct ys → count_at e ys ≤ 1
-unfolding Pairs
-one_at e [] p = omega arith
-one_at e (y ∷ ys) p = first_or_later e y ys p.0 (one_at e ys p.1) (border_line_cmp e y) refl
-
-itself : (y : BorderLine) → border_line_cmp y y ≡ Equal
-itself y = grind (arith, common_steps, line_total)
-
-all_other : (e : BorderLine) (ys : List BorderLine) → count_at e ys ≡ 0 → Each (λ y. border_line_cmp e y ≢ Equal) ys
-unfolding Each
-all_other e [] n = tt
-all_other e (y ∷ ys) n =
-    let c = cons_at e y ys in grind (arith, common_steps, all_other e ys (omega (arith, c, n)), beat_one)
-
-distinct_by : (ys : List BorderLine) → ((e : BorderLine) → count_at e ys ≤ 1) → AreDistinct ys
-unfolding Pairs
-distinct_by [] h = tt
-distinct_by (y ∷ ys) h = (
-  all_other y ys (let at = h y in let c = cons_at y y ys in let one = beat_one y y (itself y) in
-      omega (arith, at, c, one)),
-  distinct_by ys (λ e. let n = h e in let c = cons_at e y ys in omega (arith, n, c)),
-)
+apart : (o : Ordering) → is_eq o ≡ false → o ≢ Equal
+apart o h e = true≢false (sym (ap is_eq e) ∙ h)
 
 kept_distinct : (xs ys : List BorderLine) → IsPermutation xs ys → AreDistinct xs → AreDistinct ys
-kept_distinct xs ys p d = distinct_by ys
-    (λ e. let same = sum_by-IsPermutation (beat e) xs ys p in let one = one_at e xs d in omega (arith, same, one))
+kept_distinct xs ys p d =
+    let before = IsDistinct-from_apart same xs (λ i j k lt within.
+    not_eq _ (pairs_at (λ d e. border_line_cmp d e ≢ Equal) xs d i j (get_or xs i k) (get_or xs j k) lt
+    (slice_get-get_or xs i k (omega (arith, lt, within))) (slice_get-get_or xs j k within))) in
+    let after = IsDistinct-IsPermutation same (eq_by_cmp_equiv line_total).symm xs ys p before in
+    pairs_by_place (λ d e. border_line_cmp d e ≢ Equal) ys (λ i j a b lt ea eb.
+    apart _ (ap₂ same (sym (get_or_from_slice_get ys i a a ea)) (sym (get_or_from_slice_get ys j b a eb))
+    ∙ apart_from_distinct same ys i j a after lt (slice_get_within ys j b eb)))
 
 kept_in : (xs ys : List BorderLine) → IsPermutation xs ys → (x : BorderLine) → In x ys → In x xs
 kept_in xs ys p x i = all_in (λ y. In y xs) ys

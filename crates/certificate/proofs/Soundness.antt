@@ -1,67 +1,44 @@
 -- Lines that are good one after the other make good modules.
-use Rattle.certificate.proofs.Imports.{All, AreFaultless, AreModules, Bool, Box2, Cell, CertificateLine, Cut, Edge}
-use Rattle.certificate.proofs.Imports.{Halo, HasLocalPorts, IsFaultless, Keep, LayoutHeader, List, Module, ModuleLines}
-use Rattle.certificate.proofs.Imports.{None, PastLimit, Setting, Some, SomethingMissing, Stop, Tile, Use, [], add_line}
-use Rattle.certificate.proofs.Imports.{and_parts, any_at, ap, append-nil, append_assoc, areas, arith, both_none}
-use Rattle.certificate.proofs.Imports.{cell_same, certificate_grammar, change_last, common_steps, end_fault}
-use Rattle.certificate.proofs.Imports.{entry_fault, eqb-true, false, has_nonlocal_port, in_box, in_cells, in_span, inl}
-use Rattle.certificate.proofs.Imports.{inr, is_at, is_haloless_version, is_last_module_incomplete}
-use Rattle.certificate.proofs.Imports.{lacks_edge_wire_beside, last_module, last_of, leaves_gap, list_all}
-use Rattle.certificate.proofs.Imports.{module_with_line, modules_of, nat_tests, no_code, or_parts, pos, rectangle_cells}
-use Rattle.certificate.proofs.Imports.{refl, slice_get, slice_get-get_or, slice_get_within, some_is, subst, suc, sym}
-use Rattle.certificate.proofs.Imports.{true, true_from_not, true≢false, whole, zero, ℕ, ℤ, ◌&&◌, ◌++◌, ◌+◌, ◌<◌, ◌==◌}
-use Rattle.certificate.proofs.Imports.{◌||◌, ◌∙◌, ◌∷◌, ◌≡◌, ◌≤◌, ◌⊎◌}
-use Rattle.lemmas.proofs.Common.{negsuc, or_cases}
+use Rattle.certificate.proofs.Imports.{All, AreFaultless, AreModules, Box2, CertificateLine, HasLocalPorts}
+use Rattle.certificate.proofs.Imports.{IsFaultless, List, Module, ModuleLines, None, PastLimit, Setting, Some}
+use Rattle.certificate.proofs.Imports.{SomethingMissing, Tile, [], add_line, any_at, append-nil}
+use Rattle.certificate.proofs.Imports.{append_assoc, areas, arith, both_none, certificate_grammar}
+use Rattle.certificate.proofs.Imports.{common_steps, end_fault, entry_fault, eqb-true, false, has_nonlocal_port, in_box}
+use Rattle.certificate.proofs.Imports.{is_haloless_version, is_last_module_incomplete}
+use Rattle.certificate.proofs.Imports.{lacks_edge_wire_beside, last_module, last_of, leaves_gap, modules_of}
+use Rattle.certificate.proofs.Imports.{no_code, or_parts, rectangle_cells, slice_get, slice_get-get_or}
+use Rattle.certificate.proofs.Imports.{slice_get_within, some_is, subst, sym, true, true_from_not, true≢false, whole, ℕ}
+use Rattle.certificate.proofs.Imports.{◌&&◌, ◌++◌, ◌+◌, ◌<◌, ◌==◌, ◌||◌, ◌∙◌, ◌∷◌, ◌≡◌, ◌≤◌, ◌⊎◌, mapped_from}
+use Rattle.lemmas.proofs.Common.{or_cases}
 use Rattle.module_box.specs.Tiling.{IsInside}
 use Rattle.certificate_lines.specs.Rules.{in_boxes}
 use Rattle.certificate_lines.specs.Modules.{IsWithinLineLimit}
-use Rattle.certificate_lines.specs.BuilderView.{AreGoodModulesSoFar, IsModuleInLimits}
+use Rattle.certificate_lines.specs.BuilderView.{AreGoodModulesSoFar, IsBodyLine, IsModuleInLimits}
 use Rattle.certificate_lines.proofs.BuiltLemmas.{good_module, line_sound, module_sound, sound_none, last_is}
-use Rattle.certificate_lines.proofs.Growing.{modules_push}
+use Rattle.certificate_lines.proofs.Growing.{body_step, modules_push}
 use Rattle.certificate_lines.proofs.Keeping.{good_line, IsGoodLine}
+use Rattle.module_box.proofs.BoxCells.{in_rectangle}
 use Rattle.certificate_lines.proofs.Lists.{passed}
-use Rattle.certificate_lines.proofs.ModulePushes.{new_wire, good_use, cut_pushed, use_pushed, keep_pushed, edge_pushed}
-use Rattle.certificate_lines.proofs.ModulePushes.{halo_pushed, stop_pushed}
+use Rattle.certificate_lines.proofs.ModulePushes.{pushed}
+use Rattle.certificate_lines.proofs.PortLemmas.{cell_passes}
 use Rattle.bbm_rule.proofs.RectangleLemmas.{in_box_cells}
 
 module _ (g : Setting) (es : List CertificateLine) (sound : AreGoodModulesSoFar g (modules_of es)) where
   -- one more line of the last module
-  inner_sound : (i : CertificateLine) → add_line (modules_of es) i ≡ change_last (module_with_line i) (modules_of es) →
-      (good : IsGoodLine g es i) → (IsModuleInLimits g good.module_lines →
-      IsModuleInLimits g (module_with_line i good.module_lines))
-      →
+  inner_sound : (i : CertificateLine) → IsBodyLine i → IsGoodLine g es i →
       AreGoodModulesSoFar g (modules_of (es ++ i ∷ []))
-  inner_sound i step good grows =
-      subst (AreGoodModulesSoFar g) (sym (modules_push es i ∙ step))
-      (line_sound g (modules_of es) i sound
-      (λ m some. grind (arith, common_steps, some_is)))
+  inner_sound i body good =
+      let grows = λ (is : IsModuleInLimits g good.module_lines).
+      pushed g good.module_lines is i body good.follows good.words in
+      subst (AreGoodModulesSoFar g) (sym (modules_push es i ∙ body_step i body (modules_of es)))
+      (line_sound g (modules_of es) i sound (λ m some. grind (arith, common_steps, some_is)))
 
   sound_push : (i : CertificateLine) → entry_fault g es i ≡ None → AreGoodModulesSoFar g (modules_of (es ++ i ∷ []))
   unfolding entry_fault add_line
   sound_push (Module b) e =
       subst (AreGoodModulesSoFar g) (sym (modules_push es (Module b)))
       (module_sound g (modules_of es) b sound (good_module g (modules_of es) (last_module es) b e))
-  sound_push (Cut n) e =
-      let good = good_line g es (Cut n) e in
-      let words = new_wire g.circuit _ _ n good.words in
-      inner_sound (Cut n) refl good
-      (λ is. cut_pushed g good.module_lines is.good n good.follows words.1.wire words.1.named words.0 words.1.new)
-  sound_push (Use k) e =
-      let good = good_line g es (Use k) e in
-      let words = good_use g.circuit _ _ k good.words in
-      inner_sound (Use k) refl good (λ is. use_pushed g good.module_lines k is.good good.follows words.0 words.1)
-  sound_push (Keep k) e =
-      let good = good_line g es (Keep k) e in
-      inner_sound (Keep k) refl good (λ is. keep_pushed g good.module_lines is k good.follows good.words)
-  sound_push (Edge d) e =
-      let good = good_line g es (Edge d) e in
-      inner_sound (Edge d) refl good (λ is. edge_pushed g good.module_lines is.good d good.follows good.words)
-  sound_push (Halo d) e =
-      let good = good_line g es (Halo d) e in
-      inner_sound (Halo d) refl good (λ is. halo_pushed g good.module_lines is.good d good.follows good.words)
-  sound_push (Stop s) e =
-      let good = good_line g es (Stop s) e in
-      inner_sound (Stop s) refl good (λ is. stop_pushed g good.module_lines is.good s good.follows good.words)
+  sound_push i e = inner_sound i tt (good_line g es i e)
 
 sound_all : (g : Setting) (v : ℕ) (more before : List CertificateLine) → AreGoodModulesSoFar g (modules_of before) →
     AreFaultless (certificate_grammar g) v before more → AreGoodModulesSoFar g (modules_of (before ++ more))
@@ -77,51 +54,21 @@ none_sound g = sound_none g []
 
 -- ---- the end
 
--- a test that all cells of a list pass
-cell_passes : (test : Cell → Bool) (cells : List Cell) (d : Cell) → list_all test cells ≡ true →
-    in_cells cells d.x d.y ≡ true → test d ≡ true
-cell_passes test [] d all there = absurd cc
-cell_passes test (c ∷ cells) d all there =
-    let both = and_parts (test c) (list_all test cells) all in
-    elim (or_cases (is_at c d.x d.y) (in_cells cells d.x d.y) there) [
-      | inl here ↦ sym (ap test (cell_same c d here)) ∙ both.0
-      | inr more ↦ cell_passes test cells d both.1 more
-    ]
-
-span_inside : (a n m : ℕ) (x : ℤ) → a + n ≤ m → in_span a n x ≡ true → in_span 0 m x ≡ true
-unfolding in_span
-span_inside a n m (pos x) fits e = grind (arith, nat_tests)
-span_inside a n m (negsuc x) fits e = cc
-
-box_inside : (s : LayoutHeader) (b : Box2) (x y : ℤ) → IsInside s.w s.h b → in_box b x y ≡ true →
-    in_box (whole s) x y ≡ true
-unfolding in_box
-box_inside s b x y fits h = grind (arith, common_steps, and_parts, span_inside)
-
-area_at : (ms : List ModuleLines) (i : ℕ) (b : Box2) → slice_get (areas ms) i ≡ Some b →
-    (m : ModuleLines) × (slice_get ms i ≡ Some m) × (m.area ≡ b)
-area_at [] i b e = absurd cc
-area_at (m ∷ ms) zero b e = (m, refl, some_is m.area b e)
-area_at (m ∷ ms) (suc i) b e = area_at ms i b e
-
-at_cell : ℤ → ℤ → Cell
-at_cell x y = record { x = x; y = y }
-
 module _ (g : Setting) (ms : List ModuleLines) (sound : AreGoodModulesSoFar g ms) where
   tiles : leaves_gap g.size (areas ms) ≡ false → Tile (whole g.size) (areas ms)
-  unfolding at_cell
   tiles full = record {
     covered = λ x y h.
         let there : in_boxes (areas ms) x y ≡ true =
-        cell_passes (λ c. in_boxes (areas ms) c.x c.y) (rectangle_cells (whole g.size)) (at_cell x y)
+        cell_passes (λ c. in_boxes (areas ms) c.x c.y) (rectangle_cells (whole g.size)) (record { x = x; y = y })
         (true_from_not _ full)
         (in_box_cells (whole g.size) x y ∙ h) in
         let p = passed (λ (b : Box2). in_box b x y) (areas ms) there in
         (p.place, p.element, p.stands, p.passes);
     once = sound.apart.once;
     inside = λ x y i b e h.
-        let m = area_at ms i b e in
-        box_inside g.size b x y (subst (IsInside g.size.w g.size.h) m.2 (sound.each i m.0 m.1).good.inside) h;
+        let m = mapped_from (λ (m : ModuleLines). m.area) ms i b e in
+        in_rectangle g.size.w g.size.h b x y
+        (subst (IsInside g.size.w g.size.h) m.2 (sound.each i m.0 m.1).good.inside) h;
   }
 
   has_ports : (m : ModuleLines) → has_nonlocal_port g m ≡ false → HasLocalPorts g m

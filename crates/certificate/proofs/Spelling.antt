@@ -1,8 +1,8 @@
 -- Each line of the certificate section is the spelling of its form.
 use Rattle.certificate.proofs.Imports.{BorderLine, Cut, Edge, End, Halo, Header, Item, Keep, List, Module, Option, Some}
 use Rattle.certificate.proofs.Imports.{Stop, StopLine, Use, [], ap, arith, codes, common_steps, eqb, eqb-true}
-use Rattle.certificate.proofs.Imports.{form_text, inl, inr, length, refl, same_Some, slice_get, subst, true, ℕ, ◌∷◌}
-use Rattle.certificate.proofs.Imports.{◌≡◌}
+use Rattle.certificate.proofs.Imports.{form_text, length, refl, same_Some, slice_get, subst, true, ℕ, ◌∷◌}
+use Rattle.certificate.proofs.Imports.{Bool, false, if◌then◌else◌, ◌≡◌}
 use Rattle.pattern.specs.Forms.{cell_of_words_from}
 use Rattle.lemmas.proofs.Common.{decimal, option_and_then_some}
 use Rattle.section_text.specs.Words.{◌>>=◌, words_of, is_word_at, if_one_word, number_after_keyword, name_after_keyword}
@@ -73,73 +73,60 @@ unfolding name_after_keyword
 name_spelled ws v n at e = grind (arith, common_steps, passed, two_words, eqb-true, is_at_is, name_at_is)
 
 -- the first word of a form, and the others
-first_of : Line → List ℕ
-first_of (Header version) = codes "certificate"
-first_of (Item (Module b)) = codes "module"
-first_of (Item (Cut n)) = codes "cut"
-first_of (Item (Use k)) = codes "use"
-first_of (Item (Keep k)) = codes "keep"
-first_of (Item (Edge b)) = codes "edge"
-first_of (Item (Halo b)) = codes "halo"
-first_of (Item (Stop s)) = codes "stop"
-first_of End = codes "end"
-
-others_of : Line → List (List ℕ)
-others_of (Header version) = decimal version ∷ []
-others_of (Item (Module b)) = box_words b
-others_of (Item (Cut n)) = n ∷ []
-others_of (Item (Use k)) = decimal k ∷ []
-others_of (Item (Keep k)) = decimal k ∷ []
-others_of (Item (Edge b)) = border_words b
-others_of (Item (Halo b)) = border_words b
-others_of (Item (Stop s)) = stop_words s
-others_of End = []
+spelled : Line → List ℕ × List (List ℕ)
+spelled (Header version) = (codes "certificate", decimal version ∷ [])
+spelled (Item (Module b)) = (codes "module", box_words b)
+spelled (Item (Cut n)) = (codes "cut", n ∷ [])
+spelled (Item (Use k)) = (codes "use", decimal k ∷ [])
+spelled (Item (Keep k)) = (codes "keep", decimal k ∷ [])
+spelled (Item (Edge b)) = (codes "edge", border_words b)
+spelled (Item (Halo b)) = (codes "halo", border_words b)
+spelled (Item (Stop s)) = (codes "stop", stop_words s)
+spelled End = (codes "end", [])
 
 abbrev SpelledAs : List (List ℕ) → Line → Type 0
-SpelledAs ws f = ws ≡ first_of f ∷ others_of f
+SpelledAs ws f = ws ≡ (spelled f).0 ∷ (spelled f).1
+
+by_test : {Q : Type 0} (b : Bool) (x y : Option Line) (f : Line) → (if b then x else y) ≡ Some f →
+    (b ≡ true → x ≡ Some f → Q) → (y ≡ Some f → Q) → Q
+by_test true x y f e here later = here refl e
+by_test false x y f e here later = later e
 
 form_words : (ws : List (List ℕ)) (f : Line) → form_of ws ≡ Some f → SpelledAs ws f
-unfolding form_of if_one_word first_of others_of
+unfolding form_of if_one_word spelled
 form_words ws f e =
-    elim (chosen (is_word_at ws 0 (codes "edge")) _ _ (Some f) e) [
-      | inl p ↦ grind (arith, common_steps, option_and_then_some, same_Some, border_spelled)
-      | inr p ↦ elim (chosen (is_word_at ws 0 (codes "halo")) _ _ (Some f) p.1) [
-        | inl q ↦ grind (arith, common_steps, option_and_then_some, same_Some, border_spelled)
-        | inr q ↦ elim (chosen (is_word_at ws 0 (codes "stop")) _ _ (Some f) q.1) [
-          | inl z ↦ grind (arith, common_steps, option_and_then_some, same_Some, stop_spelled)
-          | inr z ↦ elim (chosen (is_word_at ws 0 (codes "cut")) _ _ (Some f) z.1) [
-            | inl r ↦ grind (arith, common_steps, option_and_then_some, same_Some, name_spelled)
-            | inr r ↦ elim (chosen (is_word_at ws 0 (codes "use")) _ _ (Some f) r.1) [
-              | inl s ↦ grind (arith, common_steps, option_and_then_some, same_Some, number_spelled)
-              | inr s ↦ elim (chosen (is_word_at ws 0 (codes "keep")) _ _ (Some f) s.1) [
-                | inl k ↦ grind (arith, common_steps, option_and_then_some, same_Some, number_spelled)
-                | inr k ↦ elim (chosen (is_word_at ws 0 (codes "module")) _ _ (Some f) k.1) [
-                  | inl t ↦ grind (arith, common_steps, option_and_then_some, same_Some, box_spelled)
-                  | inr t ↦ grind (
-                    arith,
-                    common_steps,
-                    chosen,
-                    option_and_then_some,
-                    same_Some,
-                    number_spelled,
-                    passed,
-                    one_word,
-                    eqb-true,
-                    is_at_is,
-                  )
-                ]
-              ]
-            ]
-          ]
-        ]
-      ]
-    ]
+    by_test (is_word_at ws 0 (codes "edge")) _ _ f e
+    (λ p is. grind (arith, common_steps, option_and_then_some, same_Some, border_spelled)) (λ e.
+    by_test (is_word_at ws 0 (codes "halo")) _ _ f e
+    (λ p is. grind (arith, common_steps, option_and_then_some, same_Some, border_spelled)) (λ e.
+    by_test (is_word_at ws 0 (codes "stop")) _ _ f e
+    (λ p is. grind (arith, common_steps, option_and_then_some, same_Some, stop_spelled)) (λ e.
+    by_test (is_word_at ws 0 (codes "cut")) _ _ f e
+    (λ p is. grind (arith, common_steps, option_and_then_some, same_Some, name_spelled)) (λ e.
+    by_test (is_word_at ws 0 (codes "use")) _ _ f e
+    (λ p is. grind (arith, common_steps, option_and_then_some, same_Some, number_spelled)) (λ e.
+    by_test (is_word_at ws 0 (codes "keep")) _ _ f e
+    (λ p is. grind (arith, common_steps, option_and_then_some, same_Some, number_spelled)) (λ e.
+    by_test (is_word_at ws 0 (codes "module")) _ _ f e
+    (λ p is. grind (arith, common_steps, option_and_then_some, same_Some, box_spelled)) (λ e.
+    grind (
+      arith,
+      common_steps,
+      chosen,
+      option_and_then_some,
+      same_Some,
+      number_spelled,
+      passed,
+      one_word,
+      eqb-true,
+      is_at_is,
+    ))))))))
 
-text_of : (f : Line) → form_text f ≡ line_text (first_of f) (others_of f)
-unfolding first_of others_of
+text_of : (f : Line) → form_text f ≡ line_text (spelled f).0 (spelled f).1
+unfolding spelled
 text_of (Item (Module b)) = refl
 text_of _ = refl
 
 pub form_line : (l : List ℕ) (f : Line) → form_of (words_of l) ≡ Some f → with_line_feed l ≡ form_text f
 form_line l f e =
-    rw (text_of f) (ap with_line_feed (line_from_words l (first_of f) (others_of f) (form_words (words_of l) f e)))
+    rw (text_of f) (ap with_line_feed (line_from_words l (spelled f).0 (spelled f).1 (form_words (words_of l) f e)))

@@ -9,7 +9,7 @@ use Rattle.certificate.proofs.Imports.{line_signals, local_wires, map, mapped_at
 use Rattle.certificate.proofs.Imports.{one_or_named_wire, one_or_wire, option_map, refl, setting_of, stop_line, stops}
 use Rattle.certificate.proofs.Imports.{stops_of_lines, stored_signals, stored_stop, subst, sym, unnamed_line, wire_name}
 use Rattle.certificate.proofs.Imports.{wire_or_zero, ℕ, ◌++◌, ◌<◌, ◌∙◌, ◌∷◌, ◌≡◌, IsGoodModule, IsWithinMaxSize}
-use Rattle.certificate.proofs.Imports.{LayoutHeader, cell_at, size_fault, suc, zero, ◌+◌, ◌≤◌}
+use Rattle.certificate.proofs.Imports.{LayoutHeader, cell_at, size_fault, suc, zero, ◌+◌, ◌≤◌, flat_map}
 use Rattle.lemmas.proofs.Common.{all_unmapped}
 use Rattle.certificate_lines.specs.Modules.{IsEdge, IsHalo, IsKeep, IsStop}
 use Rattle.certificate_lines.specs.Rules.{is_local_wire}
@@ -48,27 +48,23 @@ same_events d e None s same = refl
 same_events d e (Some t) s same = ap (λ c. record { at = record { time = t; cell = c }; signal = s } ∷ []) same
 
 module _ (c : Circuit) where
-  said_all_times : (bs : List StoredBorder) → All (HasOwnWire c) bs →
-      (stored_signals bs).all_times ≡ (line_signals c (map (border_line c) bs)).all_times
-  said_all_times [] own = refl
-  said_all_times (b ∷ bs) own =
+  said_flat : {X : Type 0} (f : BorderLine → Option ℕ → Signal → List X) → ((d e : BorderLine) (t : Option ℕ)
+      (s : Signal) → d.cell ≡ e.cell → f d t s ≡ f e t s) → (bs : List StoredBorder) → All (HasOwnWire c) bs →
+      flat_map (λ b. f (unnamed_line b) b.time (one_or_wire b.wire)) bs
+      ≡ flat_map (λ e. f e e.time (one_or_named_wire c e.signal)) (map (border_line c) bs)
+  said_flat f same [] own = refl
+  said_flat f same (b ∷ bs) own =
       ap₂ (λ xs ys. xs ++ ys)
-      (same_all_times (unnamed_line b) (border_line c b) b.time (one_or_wire b.wire) refl
-      ∙ ap (all_times_of_line (border_line c b) b.time) (own_signal c b.wire (All-head (HasOwnWire c) b bs own)))
-      (said_all_times bs (All-tail (HasOwnWire c) b bs own))
-
-  said_events : (bs : List StoredBorder) → All (HasOwnWire c) bs →
-      (stored_signals bs).events ≡ (line_signals c (map (border_line c) bs)).events
-  said_events [] own = refl
-  said_events (b ∷ bs) own =
-      ap₂ (λ xs ys. xs ++ ys)
-      (same_events (unnamed_line b) (border_line c b) b.time (one_or_wire b.wire) refl
-      ∙ ap (events_of_line (border_line c b) b.time) (own_signal c b.wire (All-head (HasOwnWire c) b bs own)))
-      (said_events bs (All-tail (HasOwnWire c) b bs own))
+      (same (unnamed_line b) (border_line c b) b.time (one_or_wire b.wire) refl
+      ∙ ap (f (border_line c b) b.time) (own_signal c b.wire (All-head (HasOwnWire c) b bs own)))
+      (said_flat f same bs (All-tail (HasOwnWire c) b bs own))
 
   said_signals : (bs : List StoredBorder) → All (HasOwnWire c) bs →
       stored_signals bs ≡ line_signals c (map (border_line c) bs)
-  said_signals bs own = λ i. record { all_times = said_all_times bs own i; events = said_events bs own i }
+  said_signals bs own = λ i. record {
+    all_times = said_flat all_times_of_line same_all_times bs own i;
+    events = said_flat events_of_line same_events bs own i;
+  }
 
   said_stops : (ss : List StoredStop) → All (λ s. IsOwnWire c s.wire) ss →
       map stored_stop ss ≡ stops_of_lines c (map (stop_line c) ss)

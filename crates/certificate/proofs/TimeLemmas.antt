@@ -1,14 +1,13 @@
 -- Tables of times, line by line, and the lines of gates one after the other.
-use Rattle.certificate.proofs.Imports.{AreFaultless, CertificateLine, Circuit, Cut, Edge, Gate, Halo, IsFaultless}
-use Rattle.certificate.proofs.Imports.{IsStopTimeTable, Keep, List, Module, ModuleLines, Option, Setting, Some, Stop}
-use Rattle.certificate.proofs.Imports.{StopLine, TimeLine, Use, [], all_stops, ap, arith, body_lines, both_none}
-use Rattle.certificate.proofs.Imports.{certificate_grammar, common_steps, delay_and_meet_lines, drop, drop_all}
-use Rattle.certificate.proofs.Imports.{entry_fault, false, flat_map, get_or, is_module, last_of, length}
-use Rattle.certificate.proofs.Imports.{lines_by_number, modules_of, refl, same_Some, slice_get, slice_get-get_or}
-use Rattle.certificate.proofs.Imports.{slice_get_within, split_module, split_other, stop_in, sym, time_in_table}
-use Rattle.certificate.proofs.Imports.{time_lines_of_gates, ℕ, ◌++◌, ◌+◌, ◌<◌, ◌∙◌, ◌∷◌, ◌≡◌, ◌≤◌}
-use Rattle.certificate.proofs.Imports.{StoredModule, StoredStop, append_assoc, ap₂, map, map-append, module_lines}
-use Rattle.certificate.proofs.Imports.{stop_line, stops, take, take_more}
+use Rattle.certificate.proofs.Imports.{AreFaultless, CertificateLine, Circuit, Gate, IsFaultless, IsStopTimeTable, List}
+use Rattle.certificate.proofs.Imports.{Module, ModuleLines, Option, Setting, Some, StopLine, TimeLine, [], all_stops}
+use Rattle.certificate.proofs.Imports.{ap, arith, body_lines, both_none, certificate_grammar, common_steps}
+use Rattle.certificate.proofs.Imports.{delay_and_meet_lines, drop, drop_all, entry_fault, false, flat_map, get_or}
+use Rattle.certificate.proofs.Imports.{is_module, last_of, length, lines_by_number, modules_of, refl, same_Some}
+use Rattle.certificate.proofs.Imports.{slice_get, slice_get-get_or, slice_get_within, split_module, split_other}
+use Rattle.certificate.proofs.Imports.{stop_in, sym, time_in_table, time_lines_of_gates, ℕ, ◌++◌, ◌+◌, ◌<◌, ◌∙◌, ◌∷◌}
+use Rattle.certificate.proofs.Imports.{◌≡◌, ◌≤◌, StoredModule, StoredStop, append_assoc, ap₂, map, map-append}
+use Rattle.certificate.proofs.Imports.{module_lines, stop_line, stops, take, take_more}
 use Rattle.std.proofs.lemmas.List.Folds.{flat_map-map}
 use Rattle.certificate_lines.proofs.FlatParts.{flat_more}
 use Rattle.certificate_lines.proofs.StoredLemmas.{stops_with}
@@ -27,12 +26,7 @@ splits_other e es o h = grind (arith, common_steps, inner_other, split_other)
 
 splits_step : (e : CertificateLine) (es : List CertificateLine) → Splits es → Splits (e ∷ es)
 splits_step (Module b) es h = grind (arith, common_steps, split_module, inner_module)
-splits_step (Cut n) es h = splits_other (Cut n) es refl h
-splits_step (Use k) es h = splits_other (Use k) es refl h
-splits_step (Keep k) es h = splits_other (Keep k) es refl h
-splits_step (Edge e) es h = splits_other (Edge e) es refl h
-splits_step (Halo e) es h = splits_other (Halo e) es refl h
-splits_step (Stop s) es h = splits_other (Stop s) es refl h
+splits_step i es h = splits_other i es refl h
 
 splits_none : Splits []
 unfolding body_lines modules_of
@@ -48,16 +42,7 @@ starts_with_module : (g : Setting) (v : ℕ) (es : List CertificateLine) → Are
 unfolding body_lines entry_fault modules_of last_of
 starts_with_module g v [] good = refl
 starts_with_module g v (Module b ∷ es) good = refl
-starts_with_module g v (Cut n ∷ es) good = absurd (let first = (both_none _ (entry_fault g [] (Cut n)) good.0).1 in cc)
-starts_with_module g v (Use k ∷ es) good = absurd (let first = (both_none _ (entry_fault g [] (Use k)) good.0).1 in cc)
-starts_with_module g v (Keep k ∷ es) good =
-    absurd (let first = (both_none _ (entry_fault g [] (Keep k)) good.0).1 in cc)
-starts_with_module g v (Edge e ∷ es) good =
-    absurd (let first = (both_none _ (entry_fault g [] (Edge e)) good.0).1 in cc)
-starts_with_module g v (Halo e ∷ es) good =
-    absurd (let first = (both_none _ (entry_fault g [] (Halo e)) good.0).1 in cc)
-starts_with_module g v (Stop s ∷ es) good =
-    absurd (let first = (both_none _ (entry_fault g [] (Stop s)) good.0).1 in cc)
+starts_with_module g v (i ∷ es) good = absurd (let first = (both_none _ (entry_fault g [] i) good.0).1 in cc)
 
 pub all_in_modules : (g : Setting) (v : ℕ) (es : List CertificateLine) → IsFaultless (certificate_grammar g) v es →
     all_stops (modules_of es) ≡ flat_map stop_in es

@@ -1,18 +1,17 @@
 -- The signals of a module after one more line.
-use Rattle.certificate.proofs.Imports.{All, All-cons, All-nil, AllTimesSignal, AreRising, AreSignalLists, BorderLine}
-use Rattle.certificate.proofs.Imports.{IsRising, IsSignalWireBelow, List, LocalNet, None, Option, Pairs, Signal, Some}
+use Rattle.certificate.proofs.Imports.{All, All-nil, AllTimesSignal, AreRising, AreSignalLists, BorderLine, IsRising}
+use Rattle.certificate.proofs.Imports.{IsSignalWireBelow, List, LocalNet, None, Option, Pairs, Signal, Some}
 use Rattle.certificate.proofs.Imports.{StoredBorder, TimedSignal, [], all_times_of_line, append-nil, arith}
-use Rattle.certificate.proofs.Imports.{border_line_cmp, cell_cmp, circuit_wire, common_steps, events_of_line, flat_map}
+use Rattle.certificate.proofs.Imports.{border_line_cmp, cell_cmp, circuit_wire, common_steps, events_of_line}
 use Rattle.certificate.proofs.Imports.{flat_map-append, map, map-append, moment_cmp, one_or_wire, refl}
 use Rattle.certificate.proofs.Imports.{renumber_all_times, renumber_event, renumber_signal, stored_signals}
-use Rattle.certificate.proofs.Imports.{unnamed_line, wires, ℕ, ◌++◌, ◌∷◌, ◌≡◌}
+use Rattle.certificate.proofs.Imports.{unnamed_line, wires, ℕ, ◌++◌, ◌∷◌, ◌≡◌, pairs_flat, rising_of}
 use Rattle.module_box.specs.Schedules.{moment_of, cell_of}
+use Rattle.certificate_lines.proofs.ModulePushes.{all_one}
 use Rattle.certificate.specs.declared.signal_lists.SignalLists.{SignalLists}
-use Rattle.certificate.proofs.BorderOrder.{Before, all_times_rises, events_rise}
+use Rattle.certificate.proofs.BorderOrder.{Before, EventBefore, HeldBefore, all_times_alone, all_times_first}
+use Rattle.certificate.proofs.BorderOrder.{event_alone, event_first}
 use Rattle.certificate.proofs.FullModules.{pairs_by_place}
-
-one_flat : {A X : Type 0} (f : X → List A) (x : X) → flat_map f (x ∷ []) ≡ f x
-one_flat f x = append-nil (f x)
 
 -- ---- one line
 
@@ -28,15 +27,13 @@ renumbered_event f e (Some t) s = refl
 
 own_all_times : (n : ℕ) (e : BorderLine) (t : Option ℕ) (s : Signal) → IsSignalWireBelow n s →
     All (λ h. IsSignalWireBelow n h.signal) (all_times_of_line e t s)
-own_all_times n e None s b = All-cons (λ h. IsSignalWireBelow n h.signal) _ [] b
-    (All-nil (λ h. IsSignalWireBelow n h.signal))
+own_all_times n e None s b = all_one (λ h. IsSignalWireBelow n h.signal) _ b
 own_all_times n e (Some t) s b = All-nil (λ h. IsSignalWireBelow n h.signal)
 
 own_event : (n : ℕ) (e : BorderLine) (t : Option ℕ) (s : Signal) → IsSignalWireBelow n s →
     All (λ h. IsSignalWireBelow n h.signal) (events_of_line e t s)
 own_event n e None s b = All-nil (λ h. IsSignalWireBelow n h.signal)
-own_event n e (Some t) s b = All-cons (λ h. IsSignalWireBelow n h.signal) _ [] b
-    (All-nil (λ h. IsSignalWireBelow n h.signal))
+own_event n e (Some t) s b = all_one (λ h. IsSignalWireBelow n h.signal) _ b
 
 module _ (l : LocalNet) where
   more_all_times : (bs : List StoredBorder) (b : StoredBorder) (s : Signal) (hs ns : List AllTimesSignal) →
@@ -45,7 +42,7 @@ module _ (l : LocalNet) where
       map (renumber_all_times (circuit_wire l)) hs ≡ (stored_signals bs).all_times →
       map (renumber_all_times (circuit_wire l)) ns ≡ (stored_signals (bs ++ b ∷ [])).all_times
   more_all_times bs b s hs ns same grown h =
-      grind (arith, common_steps, map-append, renumbered_all_times, one_flat, flat_map-append)
+      grind (arith, common_steps, map-append, renumbered_all_times, append-nil, flat_map-append)
 
   more_events : (bs : List StoredBorder) (b : StoredBorder) (s : Signal) (hs ns : List TimedSignal) →
       renumber_signal (circuit_wire l) s ≡ one_or_wire b.wire →
@@ -53,7 +50,7 @@ module _ (l : LocalNet) where
       map (renumber_event (circuit_wire l)) hs ≡ (stored_signals bs).events →
       map (renumber_event (circuit_wire l)) ns ≡ (stored_signals (bs ++ b ∷ [])).events
   more_events bs b s hs ns same grown h =
-      grind (arith, common_steps, map-append, renumbered_event, one_flat, flat_map-append)
+      grind (arith, common_steps, map-append, renumbered_event, append-nil, flat_map-append)
 
   pub with_border : (bs : List StoredBorder) (b : StoredBorder) (s : Signal) (old new : SignalLists) →
       renumber_signal (circuit_wire l) s ≡ one_or_wire b.wire → IsSignalWireBelow (wires l.netlist) s →
@@ -72,11 +69,17 @@ pairs_of_rising bs o = pairs_by_place (λ d e. Before (unnamed_line d) (unnamed_
 pub table_all_times_rises : (l : LocalNet) (bs : List StoredBorder) (t : SignalLists) → AreRising bs →
     AreSignalLists l bs t → IsRising cell_cmp cell_of t.all_times.items
 table_all_times_rises l bs t o h =
-    all_times_rises unnamed_line (λ b. one_or_wire b.wire) (circuit_wire l) bs (pairs_of_rising bs o)
-    t.all_times.items h.all_times
+    rising_of cell_cmp cell_of (renumber_all_times (circuit_wire l)) (λ a. refl) t.all_times.items _ h.all_times
+    (pairs_flat (λ d e. Before (unnamed_line d) (unnamed_line e)) HeldBefore
+    (λ b. all_times_of_line (unnamed_line b) b.time (one_or_wire b.wire))
+    (λ d e. all_times_first (one_or_wire d.wire) (one_or_wire e.wire) (unnamed_line d) (unnamed_line e) d.time e.time)
+    (λ d. all_times_alone (one_or_wire d.wire) (unnamed_line d) d.time) bs (pairs_of_rising bs o))
 
 pub table_events_rise : (l : LocalNet) (bs : List StoredBorder) (t : SignalLists) → AreRising bs →
     AreSignalLists l bs t → IsRising moment_cmp moment_of t.events.items
 table_events_rise l bs t o h =
-    events_rise unnamed_line (λ b. one_or_wire b.wire) (circuit_wire l) bs (pairs_of_rising bs o)
-    t.events.items h.events
+    rising_of moment_cmp moment_of (renumber_event (circuit_wire l)) (λ a. refl) t.events.items _ h.events
+    (pairs_flat (λ d e. Before (unnamed_line d) (unnamed_line e)) EventBefore
+    (λ b. events_of_line (unnamed_line b) b.time (one_or_wire b.wire))
+    (λ d e. event_first (one_or_wire d.wire) (one_or_wire e.wire) (unnamed_line d) (unnamed_line e) d.time e.time)
+    (λ d. event_alone (one_or_wire d.wire) (unnamed_line d) d.time) bs (pairs_of_rising bs o))

@@ -3,7 +3,6 @@ use Rattle.std.specs.Prelude.{◌≡◌, ◌+◌, ◌≤◌, ◌++◌, ℕ, ℤ,
 use Rattle.std.specs.List.{All}
 use Rattle.bbm_rule.specs.Board.{Board, live}
 use Rattle.bbm_rule.specs.declared.block.Cell.{Cell}
-use Rattle.circuit.specs.Bridge.{circuit_of}
 use Rattle.circuit.specs.Meaning.{Circuit, wires}
 use Rattle.circuit.specs.declared.circuit_line.CircuitLine.{CircuitLine}
 use Rattle.bbm_rule.specs.CellLists.{in_cells}
@@ -13,7 +12,7 @@ use Rattle.bbm_rule.specs.declared.block.Box2.{Box2}
 use Rattle.bbm_rule.specs.Boxes.{in_box}
 use Rattle.module_box.specs.Locals.{LocalNet, circuit_wire}
 use Rattle.module_job.specs.Signals.{IsSignalWireBelow, IsDemandWireBelow, renumber_demand, renumber_signal}
-use Rattle.certificate_lines.specs.PortTables.{port_at}
+use Rattle.certificate_lines.specs.PortTables.{ArePortTables, port_at}
 use Rattle.certificate_lines.specs.Rules.{is_local}
 use Rattle.certificate.specs.Jobs.{end_demand, start_signal}
 use Rattle.certificate.specs.declared.layout_tables.CellLists.{CellLists}
@@ -50,7 +49,7 @@ IsOnGrid b r =
     ((r.x + r.w ≤ b.width) × (r.x + r.w ≤ 512)) × ((r.y + r.h ≤ b.height) × (r.y + r.h ≤ 512))
 
 -- The live cells of each grid are those of the mirrors, balls or wastes. If `named` is dead at a cell, the cell has
--- nothing. Each table is of the layout's ports.
+-- nothing. The tables are of the layout's ports.
 pub record AreLayoutTables (a : Inside) : Type 0 where
   pub mirrors_size : HasLayoutSize a.layout.now a.mirrors
   pub named_size : HasLayoutSize a.layout.now a.named
@@ -58,8 +57,7 @@ pub record AreLayoutTables (a : Inside) : Type 0 where
   pub balls : (x y : ℤ) → live a.balls x y ≡ in_cells a.layout.now.balls x y
   pub wastes : (x y : ℤ) → live a.wastes x y ≡ in_cells a.layout.now.wastes x y
   pub named : (x y : ℤ) → live a.named x y ≡ false → HasNothing a.layout.now x y
-  pub ins : a.ins ≡ record { circuit = circuit_of a.circuit.now; ports = a.layout.now.ins }
-  pub outs : a.outs ≡ record { circuit = circuit_of a.circuit.now; ports = a.layout.now.outs }
+  pub ports : ArePortTables a.circuit.now a.layout.now a.ports.now.ins a.ports.now.outs
 
 -- the wire of the port at the cell (x, y) is local, if there is a port
 abbrev pub IsPortWireLocalAt : Circuit → List ℕ → List Port → ℤ → ℤ → Type 0

@@ -1,7 +1,6 @@
 -- The signals of edge or halo lines, by the numbers of their wires
-use Rattle.std.specs.Prelude.{◌≡◌, ℕ, pos, ◌≤ℤ◌, List, map, None, Option, Some, IfSome, IsTrue}
+use Rattle.std.specs.Prelude.{◌≡◌, ℕ, List, map, None, Option, Some, IfSome, IsTrue}
 use Rattle.std.specs.List.{All, flat_map}
-use Rattle.bbm_rule.specs.declared.block.Cell.{Cell}
 use Rattle.circuit.specs.Meaning.{wires}
 use Rattle.module_box.specs.Locals.{LocalNet, circuit_wire, is_among}
 use Rattle.module_box.specs.Schedules.{IsRising, Signals}
@@ -38,11 +37,6 @@ AreRising bs = IsRising border_line_cmp unnamed_line bs
 -- the wire of the line, if it has one, is one of the module's
 abbrev pub HasLocalWire : LocalNet → StoredBorder → Type 0
 HasLocalWire l b = IfSome b.wire (λ w. IsTrue (is_among l.circuit_wires w))
-
--- the cell lies within 512 columns and rows
-pub record IsWithinMaxSize (c : Cell) : Type 0 where
-  pub column : (pos 0 ≤ℤ c.x) × (c.x ≤ℤ pos 511)
-  pub row : (pos 0 ≤ℤ c.y) × (c.y ≤ℤ pos 511)
 
 -- what is held and what happens is what the lines say, and each wire is one of the module's
 pub record AreSignalLists (l : LocalNet) (bs : List StoredBorder) (t : SignalLists) : Type 0 where

@@ -1,5 +1,5 @@
 //! Certificates.
-ghost use Rattle.std.specs.Prelude.{◌≡◌, ◌<◌, ◌≤◌, [], length, map, slice_get, take, IfOk, Some, None};
+ghost use Rattle.std.specs.Prelude.{◌≡◌, ◌<◌, ◌≤◌, [], length, map, slice_get, take, Some, None};
 ghost use Rattle.std.specs.List.{All};
 ghost use Rattle.circuit.specs.Entries.{defined};
 ghost use Rattle.pattern.specs.Layout.{parts_of};
@@ -7,17 +7,17 @@ ghost use Rattle.circuit.specs.Bridge.{input_names, netlist_of};
 ghost use Rattle.circuit.specs.Meaning.{AreOrdered};
 ghost use Rattle.pattern.specs.Lines.{AreGoodAfter, size_fault};
 ghost use Rattle.certificate_lines.specs.Entries.{areas, counts_of, modules_of};
+ghost use Rattle.certificate.specs.GoodModules.{AreOwnersOf};
 ghost use Rattle.certificate.specs.Grammars.{modules_in};
 ghost use Rattle.certificate_lines.specs.Settings.{setting_of};
 ghost use Rattle.certificate_lines.specs.Modules.{AreModules, IsWithinLineLimit};
 ghost use Rattle.certificate_lines.specs.Versions.{is_haloless_version};
 
 use crate::version::Version;
-use certificate_lines::{Counts, StoredModule, boxes_of};
+use certificate_lines::{Counts, PortTablePair, StoredModule};
 use circuit::Circuit;
-use module_box::Box2;
+use module_box::Owners;
 use pattern::{Layout, LayoutHeader};
-use std::alloc::{AllocError, Global};
 use std::marker::Model;
 
 /// A certificate, which cuts a layout of a circuit into modules.
@@ -29,6 +29,9 @@ pub struct Cert<'a> {
     pub(crate) layout: &'a Layout,
     pub(crate) version: Version,
     pub(crate) modules: Vec<StoredModule>,
+    // which module has each cell of the layout
+    pub(crate) owners: Owners,
+    pub(crate) ports: PortTablePair<'a>,
 }
 
 impl<'a> Model for Cert<'a> {
@@ -109,9 +112,27 @@ impl<'a> Cert<'a> {
         ensures inputs { take (netlist_of self.now.circuit).given (defined self.now.circuit)
             ≡ input_names self.now.circuit }
     {
-        let _gates = self.circuit.gates();
-        let _inputs = self.circuit.inputs();
+        self.circuit.prove_valid();
         self.modules.len()
+    }
+
+    /// Shows what `size` and `modules` say of each certificate. It does nothing.
+    #[inline(always)]
+    pub fn prove_valid(&self)
+        ensures limits { size_fault self.now.layout.size ≡ None }
+        ensures parts { AreGoodAfter self.now.layout.size [] (parts_of self.now.layout) }
+        ensures good { AreModules (setting_of self.now.circuit self.now.layout)
+            (modules_in self.now) }
+        ensures written { AreModules (setting_of self.now.circuit self.now.layout)
+            (modules_of self.now.entries) }
+        ensures lines { All IsWithinLineLimit (modules_of self.now.entries) }
+        ensures ordered { AreOrdered (netlist_of self.now.circuit).given
+            (netlist_of self.now.circuit).gates }
+        ensures inputs { take (netlist_of self.now.circuit).given (defined self.now.circuit)
+            ≡ input_names self.now.circuit }
+    {
+        self.layout.prove_valid();
+        self.modules();
     }
 
     /// Returns the box of a module, and how many lines of each kind it has, for a number below `modules()`.
@@ -122,10 +143,11 @@ impl<'a> Cert<'a> {
         self.modules[number].counts()
     }
 
-    /// Returns the boxes of the modules.
-    pub fn boxes(&self, alloc: Global) -> Result<Vec<Box2>, AllocError>
-        ensures { IfOk result (λ boxes. boxes.items ≡ areas (modules_of self.now.entries)) }
+    /// Returns the module that has each cell of the layout's rectangle.
+    #[tactic(auto, using(certificate_lines::proofs::StoredLemmas::modules_stored))]
+    pub fn owners(&self) -> &Owners
+        ensures { AreOwnersOf self.now.layout (areas (modules_of self.now.entries)) result.now }
     {
-        boxes_of(alloc, &self.modules)
+        &self.owners
     }
 }

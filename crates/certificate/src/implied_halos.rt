@@ -29,6 +29,7 @@ fn push_line_at(
 }
 
 // Adds the edge line at a place, if there is one.
+#[tactic(auto, using(crate::proofs::HaloLists::place_found, crate::proofs::JobsSoFar::element_at))]
 fn push_edge_at(
     lines: &mut Vec<StoredBorder>,
     modules: &[StoredModule],

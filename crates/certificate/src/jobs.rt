@@ -7,14 +7,16 @@ ghost use Rattle.circuit.specs.Meaning.{wires};
 ghost use Rattle.module_box.specs.Locals.{circuit_wire, is_among};
 ghost use Rattle.module_box.specs.Moves.{IsInShiftRange};
 ghost use Rattle.certificate.specs.Grammars.{modules_in, version_number};
+ghost use Rattle.certificate_lines.specs.Entries.{areas};
 ghost use Rattle.certificate_lines.specs.Settings.{setting_of};
-ghost use Rattle.certificate.specs.GoodModules.{AreGoodModules, IsGoodModule, with_lines};
+ghost use Rattle.certificate.specs.GoodModules.{AreGoodModules, AreOwnersOf, IsGoodModule, with_lines};
 ghost use Rattle.certificate.specs.Jobs.{AreJobsOf, IsJobOf};
+ghost use Rattle.certificate_lines.specs.BuilderView.{IsWithinMaxSize};
 ghost use Rattle.certificate_lines.specs.StoredModules.{cell_at, module_lines_with};
 ghost use Rattle.module_job.specs.Shapes.{signals_in_plane, stops_in_plane};
 ghost use Rattle.module_job.specs.Signals.{IsSignalWireBelow, renumber_signals, renumber_stop};
 ghost use Rattle.certificate.specs.StopLists.{stored_stop};
-ghost use Rattle.certificate.specs.Timetables.{AreRising, HasLocalWire, IsWithinMaxSize, stored_signals};
+ghost use Rattle.certificate.specs.Timetables.{AreRising, HasLocalWire, stored_signals};
 ghost use Rattle.certificate_lines.specs.Versions.{is_haloless_version, lacks_edge_wire_beside, modules_by_version, with_halos};
 
 use crate::cert::Cert;
@@ -26,7 +28,7 @@ use crate::signal_lists::signals_of;
 use crate::stops::stops_of;
 use crate::version::Version;
 use certificate_lines::{StoredBorder, StoredModule, StoredStop};
-use module_box::{Box2, Locals, Schedule};
+use module_box::{Box2, Locals, Owners, Schedule};
 use module_job::{Job, Shape, Stop, moved_stops, shift_to_origin};
 use std::alloc::{AllocError, Global};
 use std::sync::Arc;
@@ -147,9 +149,12 @@ fn jobs_as_written(
 fn jobs_with_implied_halos(
     alloc: Global,
     tables: &LayoutTables,
+    owners: &Owners,
     modules: &[StoredModule],
 ) -> Result<Vec<Arc<Job>>, AllocError>
     requires good { AreGoodModules tables.now.circuit tables.now.layout modules.now }
+    requires owners { AreOwnersOf tables.now.layout
+        (areas (with_lines tables.now.circuit modules.now)) owners.now }
     requires complete { lacks_edge_wire_beside (setting_of tables.now.circuit tables.now.layout)
         (with_lines tables.now.circuit modules.now) ≡ false }
     ensures { IfOk result (λ js. AreJobsOf (circuit_of tables.now.circuit) tables.now.layout
@@ -158,7 +163,7 @@ fn jobs_with_implied_halos(
         (with_lines tables.now.circuit modules.now))
         (map arc_value js.items)) }
 {
-    let mut places = neighbour_edge_places(alloc, tables, modules)?;
+    let mut places = neighbour_edge_places(alloc, tables, owners, modules)?;
     let mut jobs = Vec::with_capacity(alloc, modules.len())?;
     'modules: for (number, module) in modules.iter().enumerate() {
         // The lists of all modules take much memory, so each is freed once its module has its halo lines.
@@ -178,9 +183,12 @@ fn jobs_of_version(
     alloc: Global,
     tables: &LayoutTables,
     version: Version,
+    owners: &Owners,
     modules: &[StoredModule],
 ) -> Result<Vec<Arc<Job>>, AllocError>
     requires good { AreGoodModules tables.now.circuit tables.now.layout modules.now }
+    requires owners { AreOwnersOf tables.now.layout
+        (areas (with_lines tables.now.circuit modules.now)) owners.now }
     requires complete { (is_haloless_version (version_number version)
         && lacks_edge_wire_beside (setting_of tables.now.circuit tables.now.layout)
         (with_lines tables.now.circuit modules.now)) ≡ false }
@@ -191,7 +199,7 @@ fn jobs_of_version(
         (map arc_value js.items)) }
 {
     if version.is_haloless() {
-        return jobs_with_implied_halos(alloc, tables, modules);
+        return jobs_with_implied_halos(alloc, tables, owners, modules);
     }
     jobs_as_written(alloc, tables, modules)
 }
@@ -205,7 +213,7 @@ impl<'a> Cert<'a> {
         ensures { IfOk result (λ js. AreJobsOf (circuit_of self.now.circuit) self.now.layout
             (modules_in self.now) (map arc_value js.items)) }
     {
-        let tables = LayoutTables::new(alloc, self.circuit, self.layout)?;
-        jobs_of_version(alloc, &tables, self.version, &self.modules)
+        let tables = LayoutTables::new(alloc, self.circuit, self.layout, &self.ports)?;
+        jobs_of_version(alloc, &tables, self.version, &self.owners, &self.modules)
     }
 }

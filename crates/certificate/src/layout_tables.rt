@@ -8,13 +8,14 @@ ghost use Rattle.pattern.specs.Layout.{in_layout, in_rectangles};
 ghost use Rattle.pattern.specs.Lines.{size_fault};
 ghost use Rattle.bbm_rule.specs.Boxes.{in_box};
 ghost use Rattle.module_box.specs.Locals.{circuit_wire, is_among};
+ghost use Rattle.certificate_lines.specs.PortTables.{ArePortTables};
 ghost use Rattle.certificate.specs.Jobs.{end_demand, start_signal};
 ghost use Rattle.module_box.specs.Places.{place_in};
 ghost use Rattle.certificate.specs.LayoutTablesView.{AddsCells, HasLayoutSize, HasNothing, IsOnGrid, IsPortWireLocalAt, ArePortWiresLocalIn, non_mirror_cells};
 ghost use Rattle.module_job.specs.Signals.{IsSignalWireBelow, IsDemandWireBelow, renumber_demand, renumber_signal};
 
 use bbm_rule::{Cell, Grid, fill_rectangle, is_live, make_live};
-use certificate_lines::{PortTable, port_tables};
+use certificate_lines::PortTablePair;
 use circuit::{Circuit, WireNo};
 use module_box::{Box2, Locals, Signal};
 use module_job::{Demand, EndDemands, StartSignals};
@@ -34,8 +35,7 @@ pub(crate) struct LayoutTables<'a> {
     balls: Grid,
     wastes: Grid,
     named: Grid,
-    ins: PortTable<'a>,
-    outs: PortTable<'a>,
+    ports: &'a PortTablePair<'a>,
 }
 
 impl<'a> Model for LayoutTables<'a> {
@@ -171,7 +171,7 @@ fn occupied_grid(alloc: Global, layout: &Layout) -> Result<Grid, AllocError>
         live grid x y ≡ false → HasNothing layout.now x y) }
     ensures size { IfOk result (HasLayoutSize layout.now) }
 {
-    let _size = layout.size();
+    layout.prove_valid();
     let cells = non_mirror_cells(alloc, layout)?;
     let grid = grid_with_mirrors(alloc, layout, &cells)?;
     Ok(grid)
@@ -217,11 +217,12 @@ impl<'a> LayoutTables<'a> {
         alloc: Global,
         circuit: &'a Circuit,
         layout: &'a Layout,
+        ports: &'a PortTablePair<'a>,
     ) -> Result<LayoutTables<'a>, AllocError>
+        requires { ArePortTables circuit.now layout.now ports.now.ins ports.now.outs }
         ensures { IfOk result (λ tables. tables
             ≡ record { circuit = circuit.now; layout = layout.now }) }
     {
-        let (ins, outs) = port_tables(alloc, circuit, layout)?;
         let (mirrors, balls, wastes) = mirror_ball_waste_grids(alloc, layout)?;
         let named = occupied_grid(alloc, layout)?;
         Ok(LayoutTables {
@@ -231,8 +232,7 @@ impl<'a> LayoutTables<'a> {
             balls,
             wastes,
             named,
-            ins,
-            outs,
+            ports,
         })
     }
 
@@ -263,7 +263,7 @@ impl<'a> LayoutTables<'a> {
         if mirror | ball {
             return Signal::One;
         }
-        match self.ins.get(cell) {
+        match self.ports.ins.get(cell) {
             Some(Some(wire)) => Signal::Wire(local_wire(locals, wire)),
             Some(None) => Signal::Zero,
             None => Signal::Zero,
@@ -281,7 +281,7 @@ impl<'a> LayoutTables<'a> {
         if is_live(&self.mirrors, cell) {
             return Demand::Live;
         }
-        if let Some(port) = self.outs.get(cell) {
+        if let Some(port) = self.ports.outs.get(cell) {
             return match port {
                 Some(wire) => Demand::Wire(local_wire(locals, wire)),
                 None => Demand::Dead,

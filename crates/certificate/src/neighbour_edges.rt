@@ -3,20 +3,18 @@ ghost use Rattle.std.specs.Prelude.{◌≡◌, ◌≢◌, ◌<◌, ◌≤◌, �
 ghost use Rattle.std.specs.List.{All, flat_map, list_any};
 ghost use Rattle.bbm_rule.specs.Plane.{partner};
 ghost use Rattle.bbm_rule.specs.Boxes.{in_box, in_halo};
-ghost use Rattle.module_box.specs.Tiling.{AreOwners, rectangle};
+ghost use Rattle.module_box.specs.Tiling.{rectangle};
 ghost use Rattle.bbm_rule.specs.declared.block.Box2.{Box2};
-ghost use Rattle.certificate_lines.specs.Entries.{ModuleLines, areas};
-ghost use Rattle.certificate_lines.specs.Modules.{AreModules};
-ghost use Rattle.certificate_lines.specs.Rules.{whole};
+ghost use Rattle.certificate_lines.specs.Entries.{areas};
 ghost use Rattle.certificate_lines.specs.Settings.{setting_of};
 ghost use Rattle.certificate_lines.specs.declared.stored_module.StoredModule.{StoredModule};
-ghost use Rattle.certificate.specs.GoodModules.{AreGoodModules};
+ghost use Rattle.certificate.specs.GoodModules.{AreGoodModules, AreOwnersOf, with_lines};
 ghost use Rattle.certificate.specs.HaloPlaces.{AddsEdgePlaces, AddsPlaceWhere, AreReady, HaveListsFrom, IsInnerCell, line_cell, list_at_or_empty};
 
 use crate::layout_tables::LayoutTables;
 use bbm_rule::{Cell, odd_partner};
 use certificate_lines::{StoredBorder, StoredModule, boxes_of};
-use module_box::{Box2, Owners, owner_table};
+use module_box::{Box2, Owners};
 use std::alloc::{AllocError, Global};
 use std::mem::{replace, size_of};
 
@@ -207,42 +205,28 @@ fn empty_place_lists(alloc: Global, count: usize) -> Result<Vec<Vec<EdgePlace>>,
     Ok(lists)
 }
 
-// Which box has each cell of the layout's rectangle.
-fn owners_of(alloc: Global, tables: &LayoutTables, boxes: &[Box2]) -> Result<Owners, AllocError>
-    requires { (ms : List ModuleLines)
-        × AreModules (setting_of tables.now.circuit tables.now.layout) ms
-        × (boxes.now ≡ areas ms) }
-    ensures rectangle { IfOk result (λ o. rectangle o ≡ whole tables.now.layout.size) }
-    ensures small { IfOk result (λ o. (o.width ≤ 512) × (o.height ≤ 512)) }
-    ensures owners { IfOk result (λ o. AreOwners o boxes.now) }
-{
-    let size = tables.layout().size();
-    match owner_table(alloc, size.w, size.h, boxes) {
-        Ok(owners) => Ok(owners),
-        // Boxes that tile the rectangle have no other fault.
-        Err(_) => Err(AllocError),
-    }
-}
-
 /// Returns for each module the places of the edge lines beside it, in the order of the modules and their lines.
 ///
 /// It looks at each edge line once.
 pub(crate) fn neighbour_edge_places(
     alloc: Global,
     tables: &LayoutTables,
+    owners: &Owners,
     modules: &[StoredModule],
 ) -> Result<Vec<Vec<EdgePlace>>, AllocError>
-    requires { AreGoodModules tables.now.circuit tables.now.layout modules.now }
+    requires good { AreGoodModules tables.now.circuit tables.now.layout modules.now }
+    requires owners { AreOwnersOf tables.now.layout
+        (areas (with_lines tables.now.circuit modules.now)) owners.now }
     ensures { IfOk result (λ lists. HaveListsFrom
         (setting_of tables.now.circuit tables.now.layout) modules.now 0
         (map (λ l. l.items) lists.items)) }
 {
     let boxes = boxes_of(alloc, modules)?;
     let mut lists = empty_place_lists(alloc, modules.len())?;
-    if tables.layout().size().steps <= 1 {
+    let size = tables.layout().size();
+    if size.steps <= 1 {
         return Ok(lists);
     }
-    let owners = owners_of(alloc, tables, &boxes)?;
-    push_edge_places(&mut lists, &owners, &boxes, modules)?;
+    push_edge_places(&mut lists, owners, &boxes, modules)?;
     Ok(lists)
 }

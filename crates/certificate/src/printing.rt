@@ -177,6 +177,7 @@ fn printed_halos(stored: &StoredModule, with_halos: bool) -> &[StoredBorder]
 }
 
 // The lines of modules, with their halo lines or without them.
+#[tactic(auto, using(crate::proofs::PrintedLines::module_more, crate::proofs::StoredSignals::all_at))]
 fn print_modules(
     out: &mut Vec<u8>,
     circuit: &Circuit,

@@ -8,11 +8,11 @@ ghost use Rattle.certificate_lines.specs.Versions.{is_halo};
 
 use crate::cert::Cert;
 use crate::version::Version;
-use certificate_lines::{Builder, CertificateLine, LineTables, line_form};
+use certificate_lines::{Builder, BuiltParts, CertificateLine, LineTables, line_form, port_tables};
 use circuit::{Circuit, WireNo};
 use pattern::Layout;
 use section_text::{Feed, Form, Line, LineFault, ReadFault, RefusalCode, Section, read_section};
-use std::alloc::{AllocError, Global};
+use std::alloc::Global;
 use std::marker::{Brand, PhantomData};
 
 // The circuit and the layout that a section is read for. No line changes them.
@@ -85,23 +85,11 @@ impl<'a, S: ReadFor> Section for Reading<'a, S> {
         if let Some(code) = self.builder.missing() {
             return Some(code);
         }
-        if self.version.is_haloless() && self.builder.lacks_edge_wire_beside(self.alloc) {
+        if self.version.is_haloless() && self.builder.lacks_edge_wire_beside() {
             return Some(RefusalCode::SomethingMissing);
         }
         None
     }
-}
-
-fn new_builder<'a>(
-    alloc: Global,
-    circuit: &'a Circuit,
-    layout: &'a Layout,
-) -> Result<Builder<'a>, AllocError>
-    ensures { IfOk result (λ b. b
-        ≡ record { setting = setting_of circuit.now layout.now; entries = [] }) }
-{
-    let tables = LineTables::new(alloc, circuit, layout)?;
-    Builder::new(alloc, tables)
 }
 
 // Reads the lines of a section into a builder without lines.
@@ -165,17 +153,22 @@ pub fn read_certificate<'a>(
     ensures circuit { IfOk result (λ cert. cert.circuit ≡ circuit.now) }
     ensures layout { IfOk result (λ cert. cert.layout ≡ layout.now) }
 {
-    let Ok(builder) = new_builder(alloc, circuit, layout) else {
+    let Ok(ports) = port_tables(alloc, circuit, layout) else {
+        return Err(feed.starve());
+    };
+    let Ok(builder) = Builder::new(alloc, LineTables::new(circuit, layout, &ports)) else {
         return Err(feed.starve());
     };
     let (read, version, builder) = read_lines::<Brand>(alloc, feed, builder);
-    let modules = builder.into_modules();
+    let BuiltParts { modules, owners } = builder.into_parts();
     match read {
         Ok(()) => Ok(Cert {
             circuit,
             layout,
             version,
             modules,
+            owners,
+            ports,
         }),
         Err(fault) => Err(fault),
     }

@@ -21,26 +21,6 @@ use Rattle.certificate_lines.proofs.BorderLines.{edge_form, halo_form, stop_form
 begins_with : (m l : List ℕ) (n : ℕ) → bytes_eq (take n l) m ≡ true → l ≡ m ++ drop n l
 begins_with m l n e = sym (take-append-drop n l) ∙ ap (λ t. t ++ drop n l) ((bytes_eq-Decides (take n l) m).0 e)
 
-edge_words : (l : List ℕ) → bytes_eq (take 5 l) (codes "edge ") ≡ true →
-    words_of l ≡ codes "edge" ∷ words_of (drop 5 l)
-edge_words l e = ap words_of (begins_with (codes "edge ") l 5 e)
-
-halo_words : (l : List ℕ) → bytes_eq (take 5 l) (codes "halo ") ≡ true →
-    words_of l ≡ codes "halo" ∷ words_of (drop 5 l)
-halo_words l e = ap words_of (begins_with (codes "halo ") l 5 e)
-
-cut_words : (l : List ℕ) → bytes_eq (take 4 l) (codes "cut ") ≡ true →
-    words_of l ≡ codes "cut" ∷ words_of (drop 4 l)
-cut_words l e = ap words_of (begins_with (codes "cut ") l 4 e)
-
-use_words : (l : List ℕ) → bytes_eq (take 4 l) (codes "use ") ≡ true →
-    words_of l ≡ codes "use" ∷ words_of (drop 4 l)
-use_words l e = ap words_of (begins_with (codes "use ") l 4 e)
-
-stop_words : (l : List ℕ) → bytes_eq (take 5 l) (codes "stop ") ≡ true →
-    words_of l ≡ codes "stop" ∷ words_of (drop 5 l)
-stop_words l e = ap words_of (begins_with (codes "stop ") l 5 e)
-
 joined : (l w v : List ℕ) (vs : List (List ℕ)) → words_of l ≡ w ∷ v ∷ vs → l ≡ w ++ 32 ∷ join_with_byte 32 (v ∷ vs)
 joined l w v vs e = sym (join_with_byte-slice_split 32 l) ∙ ap (join_with_byte 32) e
 
@@ -206,7 +186,7 @@ unfolding is_word_at
 edge_line l o edge is =
     edge_form (codes "edge" ∷ words_of (drop 5 l)) o refl
     (is (codes "edge") ∙ ap (λ t. border_of (codes "edge" ∷ words_of t)) (take_rest l 5))
-    ∙ ap form_of (sym (edge_words l edge))
+    ∙ ap (λ t. form_of (words_of t)) (sym (begins_with (codes "edge ") l 5 edge))
 
 pub halo_line : (l : List ℕ) (o : Option BorderLine) → bytes_eq (take 5 l) (codes "halo ") ≡ true →
     ((k : List ℕ) → o ≡ border_of (k ∷ words_of (take (length l - 5) (drop 5 l)))) →
@@ -215,12 +195,14 @@ unfolding is_word_at
 halo_line l o halo is =
     halo_form (codes "halo" ∷ words_of (drop 5 l)) o refl refl
     (is (codes "halo") ∙ ap (λ t. border_of (codes "halo" ∷ words_of t)) (take_rest l 5))
-    ∙ ap form_of (sym (halo_words l halo))
+    ∙ ap (λ t. form_of (words_of t)) (sym (begins_with (codes "halo ") l 5 halo))
 
 pub stop_line : (l : List ℕ) (o : Option StopLine) → bytes_eq (take 5 l) (codes "stop ") ≡ true →
     o ≡ stop_of (words_of l) → (o >>= λ s. Some (Item (Stop s))) ≡ form_of (words_of l)
 unfolding is_word_at
-stop_line l o stop is = grind (arith, common_steps, stop_form, stop_words)
+stop_line l o stop is =
+    let words : words_of l ≡ codes "stop" ∷ words_of (drop 5 l) = ap words_of (begins_with (codes "stop ") l 5 stop) in
+    grind (arith, common_steps, stop_form)
 
 pub cut_line : (l : List ℕ) (o : Option (List ℕ)) → bytes_eq (take 4 l) (codes "cut ") ≡ true →
     o ≡ name_of (take (length l - 4) (drop 4 l)) → (o >>= λ n. Some (Item (Cut n))) ≡ form_of (words_of l)
@@ -228,7 +210,7 @@ unfolding form_of is_word_at
 cut_line l o cut is =
     ap (λ r. r >>= λ n. Some (Item (Cut n)))
     (is ∙ ap name_of (take_rest l 4) ∙ sym (lone_name_is (codes "cut") (drop 4 l)))
-    ∙ ap form_of (sym (cut_words l cut))
+    ∙ ap (λ t. form_of (words_of t)) (sym (begins_with (codes "cut ") l 4 cut))
 
 pub use_line : (l : List ℕ) (o : Option ℕ) → bytes_eq (take 4 l) (codes "use ") ≡ true →
     o ≡ number_of (take (length l - 4) (drop 4 l)) → (o >>= λ n. Some (Item (Use n))) ≡ form_of (words_of l)
@@ -236,4 +218,4 @@ unfolding form_of is_word_at
 use_line l o use_ is =
     ap (λ r. r >>= λ n. Some (Item (Use n)))
     (is ∙ ap number_of (take_rest l 4) ∙ sym (lone_number_is (codes "use") (drop 4 l)))
-    ∙ ap form_of (sym (use_words l use_))
+    ∙ ap (λ t. form_of (words_of t)) (sym (begins_with (codes "use ") l 4 use_))

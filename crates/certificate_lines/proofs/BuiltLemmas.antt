@@ -1,23 +1,24 @@
 -- The modules so far, after one more module and after one more line.
-use Rattle.certificate_lines.proofs.Imports.{AreApart, AreBuilt, AreGoodModulesSoFar, AreInOrder, Board, Bool, Box2}
-use Rattle.certificate_lines.proofs.Imports.{Cell, CertificateLine, HasSameSize, IsEven, IsInside, IsModule}
+use Rattle.certificate_lines.proofs.Imports.{AreApart, AreBuilt, AreGoodModulesSoFar, AreInOrder, Box2}
+use Rattle.certificate_lines.proofs.Imports.{Cell, CertificateLine, IsEven, IsInside, IsModule}
 use Rattle.certificate_lines.proofs.Imports.{IsModuleInLimits, LayoutHeader, List, ModuleLines, None, Option}
-use Rattle.certificate_lines.proofs.Imports.{RefusalCode, Setting, Some, SomethingMissing, StarsExcludeLaterTimes, []}
-use Rattle.certificate_lines.proofs.Imports.{ap, ap₂, areas, arith, module_box_code, change_last, code_if, common_steps}
-use Rattle.certificate_lines.proofs.Imports.{end_fault, false, has_nonlocal_port, in_box, inl, inr}
-use Rattle.certificate_lines.proofs.Imports.{is_last_module_incomplete, is_odd, last_of, length, length_push, list_all}
-use Rattle.certificate_lines.proofs.Imports.{list_any, list_any-append, live, map-append, module_line_code}
-use Rattle.certificate_lines.proofs.Imports.{module_with_line, modules_of, nat_lt, nat_tests, none_at, not, pushed}
-use Rattle.certificate_lines.proofs.Imports.{rectangle_cells, refl, size_fault, size_sides, slice_get, slice_get_within}
-use Rattle.certificate_lines.proofs.Imports.{subst, sym, true, true≢false, whole, ℕ, ℤ, ◌%◌, ◌&&◌, ◌++◌, ◌+◌, ◌-◌, ◌<◌}
-use Rattle.certificate_lines.proofs.Imports.{◌||◌, ◌∙◌, ◌∷◌, ◌≡◌, ◌≤◌}
+use Rattle.certificate_lines.proofs.Imports.{RefusalCode, Setting, Some, StarsExcludeLaterTimes, []}
+use Rattle.certificate_lines.proofs.Imports.{ap, areas, arith, module_box_code, change_last, common_steps}
+use Rattle.certificate_lines.proofs.Imports.{false, has_nonlocal_port, in_box, inl, inr}
+use Rattle.certificate_lines.proofs.Imports.{is_last_module_incomplete, is_odd, last_of, length, length-map}
+use Rattle.certificate_lines.proofs.Imports.{length_push}
+use Rattle.certificate_lines.proofs.Imports.{map-append, module_line_code}
+use Rattle.certificate_lines.proofs.Imports.{module_with_line, nat_tests, none_at, pushed}
+use Rattle.certificate_lines.proofs.Imports.{rectangle_cells, refl, slice_get, slice_get_within}
+use Rattle.certificate_lines.proofs.Imports.{subst, sym, true, true≢false, ℕ, ℤ, ◌%◌, ◌++◌, ◌+◌, ◌-◌, ◌<◌}
+use Rattle.certificate_lines.proofs.Imports.{◌∙◌, ◌∷◌, ◌≡◌, ◌≤◌}
 use Rattle.lemmas.proofs.Common.{not_below_by_test, or_parts}
-use Rattle.certificate_lines.specs.Rules.{is_bad_box_side, is_misplaced, leaves_gap, overlaps, in_boxes}
-use Rattle.section_text.specs.declared.code.RefusalCode.TheVariants.{MisplacedBox}
+use Rattle.certificate_lines.specs.Rules.{is_bad_box_side, is_misplaced, overlaps, in_boxes}
 use Rattle.certificate_lines.proofs.Growing.{areas_changed, length_changed, changed_at, last_at, last_by_place}
 use Rattle.certificate_lines.proofs.Lists.{any_at}
 use Rattle.certificate_lines.proofs.ModulePushes.{no_code, both_none, less}
 use Rattle.certificate_lines.proofs.PortLemmas.{has_cell}
+use Rattle.module_box.specs.Tiling.{ArePartOwners, OwnersView, PutsBox}
 use Rattle.bbm_rule.proofs.RectangleLemmas.{in_box_cells}
 
 -- ---- a box that is good
@@ -47,12 +48,12 @@ pub record IsGoodModule (g : Setting) (ms : List ModuleLines) (before : Option M
   pub free : overlaps (areas ms) b ≡ false
 
 -- what the tests of a box by itself say
-record PassesAlone (g : Setting) (count : ℕ) (before : Option ModuleLines) (b : Box2) : Type 0 where
-  complete : is_last_module_incomplete g before ≡ false
-  few : count < 1024
-  box : IsGoodBox g.size b
+pub record PassesAlone (g : Setting) (count : ℕ) (before : Option ModuleLines) (b : Box2) : Type 0 where
+  pub complete : is_last_module_incomplete g before ≡ false
+  pub few : count < 1024
+  pub box : IsGoodBox g.size b
 
-passes_alone : (g : Setting) (count : ℕ) (before : Option ModuleLines) (b : Box2) →
+pub passes_alone : (g : Setting) (count : ℕ) (before : Option ModuleLines) (b : Box2) →
     module_box_code g count before b ≡ None →
     PassesAlone g count before b
 unfolding module_box_code
@@ -63,62 +64,12 @@ pub good_module : (g : Setting) (ms : List ModuleLines) (before : Option ModuleL
 unfolding module_line_code
 good_module g ms before b e = grind (arith, common_steps, both_none, passes_alone, no_code)
 
--- ---- the cells of a box
-
--- where its cells are
-pub record IsNear (s : LayoutHeader) (b : Box2) : Type 0 where
-  pub columns : (b.x + b.w ≤ s.w) × (b.x + b.w ≤ 512)
-  pub rows : (b.y + b.h ≤ s.h) × (b.y + b.h ≤ 512)
-
-any_same : (p q : Cell → Bool) → ((c : Cell) → p c ≡ q c) → (cells : List Cell) → list_any p cells ≡ list_any q cells
-any_same p q same [] = refl
-any_same p q same (c ∷ cells) = ap₂ (λ a b. a || b) (same c) (any_same p q same cells)
-
-pub live_overlaps : (boxes : List Box2) (b : Box2) (covered : Board) →
-    ((x y : ℤ) → live covered x y ≡ in_boxes boxes x y) →
-    list_any (λ c. live covered c.x c.y) (rectangle_cells b) ≡ overlaps boxes b
-live_overlaps boxes b covered same = any_same _ _ (λ c. same c.x c.y) (rectangle_cells b)
-
-all_same : (p q : Cell → Bool) → ((c : Cell) → p c ≡ q c) → (cells : List Cell) → list_all p cells ≡ list_all q cells
-all_same p q same [] = refl
-all_same p q same (c ∷ cells) = ap₂ (λ a b. a && b) (same c) (all_same p q same cells)
-
-pub live_gap : (s : LayoutHeader) (boxes : List Box2) (covered : Board) →
-    ((x y : ℤ) → live covered x y ≡ in_boxes boxes x y) →
-    not (list_all (λ c. live covered c.x c.y) (rectangle_cells (whole s))) ≡ leaves_gap s boxes
-live_gap s boxes covered same = ap not (all_same _ _ (λ c. same c.x c.y) (rectangle_cells (whole s)))
-
--- the fault of a `module` line, from that of its box and the overlap
-pub overlap_fault : (g : Setting) (ms : List ModuleLines) (before : Option ModuleLines) (b : Box2) →
-    module_box_code g (length ms) before b ≡ None → overlaps (areas ms) b ≡ true →
-    module_line_code g ms before b ≡ Some MisplacedBox
-unfolding module_line_code
-overlap_fault g ms before b e over = rw (e, over) refl
-
-pub no_fault : (g : Setting) (ms : List ModuleLines) (before : Option ModuleLines) (b : Box2) →
-    module_box_code g (length ms) before b ≡ None → overlaps (areas ms) b ≡ false →
-    module_line_code g ms before b ≡ None
-unfolding module_line_code
-no_fault g ms before b e over = rw (e, over) refl
+-- ---- the code of a `module` line
 
 pub early_fault : (g : Setting) (ms : List ModuleLines) (before : Option ModuleLines) (b : Box2) (code : RefusalCode) →
     module_box_code g (length ms) before b ≡ Some code → module_line_code g ms before b ≡ Some code
 unfolding module_line_code
 early_fault g ms before b code e = rw e refl
-
-pub missing_some : (g : Setting) (entries : List CertificateLine) (lacks full : Bool) →
-    lacks ≡ is_last_module_incomplete g (last_of (modules_of entries)) →
-    not full ≡ leaves_gap g.size (areas (modules_of entries)) →
-    (lacks || not full) ≡ true → Some SomethingMissing ≡ end_fault g entries
-unfolding end_fault
-missing_some g entries lacks full p q h = ap (λ b. code_if b SomethingMissing) (sym h ∙ ap₂ (λ a b. a || b) p q)
-
-pub missing_none : (g : Setting) (entries : List CertificateLine) (lacks full : Bool) →
-    lacks ≡ is_last_module_incomplete g (last_of (modules_of entries)) →
-    not full ≡ leaves_gap g.size (areas (modules_of entries)) →
-    (lacks || not full) ≡ false → None ≡ end_fault g entries
-unfolding end_fault
-missing_none g entries lacks full p q h = ap (λ b. code_if b SomethingMissing) (sym h ∙ ap₂ (λ a b. a || b) p q)
 
 -- a module without lines
 begun_module : (g : Setting) (b : Box2) → IsGoodBox g.size b → IsModule g (record { area = b; lines = [] })
@@ -132,15 +83,6 @@ begun g b good = record { good = begun_module g b good; few_borders = omega arit
 
 areas_push : (ms : List ModuleLines) (m : ModuleLines) → areas (ms ++ m ∷ []) ≡ areas ms ++ m.area ∷ []
 areas_push ms m = map-append (λ (k : ModuleLines). k.area) ms (m ∷ [])
-
-or_swap : (a b : Bool) → (a || b) ≡ (a || (b || false))
-or_swap true b = refl
-or_swap false true = refl
-or_swap false false = refl
-
-cells_pushed : (boxes : List Box2) (b : Box2) (x y : ℤ) →
-    in_boxes (boxes ++ b ∷ []) x y ≡ (in_boxes boxes x y || in_box b x y)
-cells_pushed boxes b x y = grind (arith, common_steps, list_any-append, or_swap)
 
 at_cell : ℤ → ℤ → Cell
 at_cell x y = record { x = x; y = y }
@@ -167,9 +109,8 @@ module _ (g : Setting) (ms : List ModuleLines) where
   pub sound_none : AreGoodModulesSoFar g []
   sound_none = grind (arith, common_steps, none_at)
 
-  pub built_none : (covered : Board) → covered.width ≡ g.size.w → covered.height ≡ g.size.h →
-      ((x y : ℤ) → live covered x y ≡ false) → AreBuilt g [] covered
-  built_none covered w h dead = record { sound = sound_none; width = w; height = h; cells = dead }
+  pub built_none : (o : OwnersView) → o.width ≡ g.size.w → o.height ≡ g.size.h → ArePartOwners o [] → AreBuilt g [] o
+  built_none o w h none = record { sound = sound_none; owners = record { width = w; height = h; boxes = none } }
 
   abbrev new_module : Box2 → ModuleLines
   new_module b = record { area = b; lines = [] }
@@ -193,11 +134,17 @@ module _ (g : Setting) (ms : List ModuleLines) where
     ported = ported_push b sound.ported good.complete;
   }
 
-  pub module_built : (b : Box2) (old new : Board) → AreBuilt g ms old → IsGoodModule g ms (last_of ms) b
-      → ((x y : ℤ) → live new x y ≡ (live old x y || in_box b x y)) → HasSameSize old new →
-      AreBuilt g (ms ++ new_module b ∷ []) new
-  module_built b old new built good after size =
-      grind (arith, common_steps, module_sound, cells_pushed, areas_push, new_module)
+  pub module_built : (b : Box2) (old new : OwnersView) → AreBuilt g ms old → IsGoodModule g ms (last_of ms) b →
+      (number : ℕ) → number ≡ length ms → PutsBox b number old new → AreBuilt g (ms ++ new_module b ∷ []) new
+  module_built b old new built good number is puts = record {
+    sound = module_sound b built.sound good;
+    owners = record {
+      width = puts.width ∙ built.owners.width;
+      height = puts.height ∙ built.owners.height;
+      boxes = subst (ArePartOwners new) (sym (areas_push ms (new_module b))) (puts.boxes (areas ms) built.owners.boxes
+          (is ∙ sym (length-map ms (λ (m : ModuleLines). m.area))) (let few = good.few in omega (arith, is, few)));
+    };
+  }
 
   -- one more line of the last module
   pub line_sound : (i : CertificateLine) → AreGoodModulesSoFar g ms →
@@ -214,21 +161,14 @@ module _ (g : Setting) (ms : List ModuleLines) where
     ported = grind (arith, common_steps, changed_at, length_changed);
   }
 
-  pub line_built : (i : CertificateLine) (covered : Board) → AreBuilt g ms covered →
+  pub line_built : (i : CertificateLine) (o : OwnersView) → AreBuilt g ms o →
       ((m : ModuleLines) → last_of ms ≡ Some m → IsModuleInLimits g m → IsModuleInLimits g (module_with_line i m)) →
-      AreBuilt g (change_last (module_with_line i) ms) covered
-  line_built i covered built grows = record {
+      AreBuilt g (change_last (module_with_line i) ms) o
+  line_built i o built grows = record {
     sound = line_sound i built.sound grows;
-    width = built.width;
-    height = built.height;
-    cells = λ x y. built.cells x y ∙ ap (λ l. in_boxes l x y) (sym (areas_changed i ms));
+    owners = record {
+      width = built.owners.width;
+      height = built.owners.height;
+      boxes = subst (ArePartOwners o) (sym (areas_changed i ms)) built.owners.boxes;
+    };
   }
-
-pub near_by : (s : LayoutHeader) (b : Box2) → size_fault s ≡ None → is_misplaced s b ≡ false → IsNear s b
-near_by s b sized placed =
-    let sides = size_sides s sized in
-    let bottom = or_parts _ (nat_lt s.h (b.y + b.h)) placed in
-    let right = or_parts _ (nat_lt s.w (b.x + b.w)) bottom.0 in
-    let r = not_below_by_test s.w (b.x + b.w) right.1 in
-    let d = not_below_by_test s.h (b.y + b.h) bottom.1 in
-    grind (arith, common_steps)

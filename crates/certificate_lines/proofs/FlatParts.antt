@@ -1,8 +1,7 @@
 -- If all elements of a joined list have a property, those of each of its parts have it.
-use Rattle.certificate_lines.proofs.Imports.{All, All-append, All-nil, All-tail, List, Some, [], ap, append-nil, arith}
-use Rattle.certificate_lines.proofs.Imports.{common_steps, flat_map, flat_map-append, get_or, length, slice_get}
-use Rattle.certificate_lines.proofs.Imports.{slice_get-get_or, subst, suc, sym, take, take_more, zero, ℕ, ◌++◌, ◌+◌}
-use Rattle.certificate_lines.proofs.Imports.{◌<◌, ◌∙◌, ◌∷◌, ◌≡◌}
+use Rattle.certificate_lines.proofs.Imports.{All, All-append, All-nil, All-tail, List, Some, [], append-nil, arith}
+use Rattle.certificate_lines.proofs.Imports.{common_steps, flat_map, flat_map-append, get_or, length, slice_get, subst}
+use Rattle.certificate_lines.proofs.Imports.{suc, take, take_more, zero, ℕ, ◌++◌, ◌+◌, ◌<◌, ◌∷◌, ◌≡◌}
 use Rattle.lemmas.proofs.Common.{All-cons, All-head}
 use Rattle.certificate_lines.proofs.Lists.{some_is}
 

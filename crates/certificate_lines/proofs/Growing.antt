@@ -1,5 +1,6 @@
 -- The modules of lines after one more line.
-use Rattle.certificate_lines.proofs.Imports.{CertificateLine, List, ModuleLines, Some, [], add_line, ap, append-nil}
+use Rattle.certificate_lines.proofs.Imports.{CertificateLine, IsBodyLine, List, Module, ModuleLines, Some, [], add_line}
+use Rattle.certificate_lines.proofs.Imports.{ap, append-nil}
 use Rattle.certificate_lines.proofs.Imports.{areas, arith, change_last, common_steps, flat_map, flat_map-append, inl}
 use Rattle.certificate_lines.proofs.Imports.{inr, last_of, length, map, module_with_line, modules_of, option_map, refl}
 use Rattle.certificate_lines.proofs.Imports.{slice_get, suc, sym, zero, ℕ, ◌++◌, ◌+◌, ◌-◌, ◌<◌, ◌∙◌, ◌∷◌, ◌≡◌, ◌⊎◌}
@@ -10,6 +11,13 @@ pub modules_push : (es : List CertificateLine) (i : CertificateLine) →
     modules_of (es ++ i ∷ []) ≡ add_line (modules_of es) i
 unfolding modules_of
 modules_push es i = fold_push add_line [] es i
+
+-- a line that is no module line is one more of the last module
+pub body_step : (i : CertificateLine) → IsBodyLine i → (ms : List ModuleLines) →
+    add_line ms i ≡ change_last (module_with_line i) ms
+unfolding add_line
+body_step (Module b) body ms = absurd body
+body_step _ body ms = refl
 
 pub flat_push : {X A : Type 0} (f : X → List A) (xs : List X) (x : X) → flat_map f (xs ++ x ∷ []) ≡ flat_map f xs ++ f x
 flat_push f xs x = flat_map-append f xs (x ∷ []) ∙ ap (λ l. flat_map f xs ++ l) (append-nil (f x))

@@ -13,7 +13,7 @@ pub use Rattle.certificate_lines.specs.Entries.{module_with_line, stop_in, used_
 unfoldable pub use Rattle.certificate_lines.specs.Entries.{add_line, change_last, last_of, modules_of}
 unfoldable pub use Rattle.certificate_lines.specs.Forms.{border_of, form_of, stop_of}
 pub use Rattle.certificate_lines.specs.LineKeys.{key_of, key_or_first}
-pub use Rattle.certificate_lines.specs.ModuleParts.{AreInBox, BeginWithModule, is_module}
+pub use Rattle.certificate_lines.specs.ModuleParts.{AreInBox, is_module}
 unfoldable pub use Rattle.certificate_lines.specs.ModuleParts.{body_lines}
 pub use Rattle.certificate_lines.specs.Modules.{IsModule}
 unfoldable pub use Rattle.certificate_lines.specs.Modules.{StarsExcludeLaterTimes}
@@ -59,7 +59,7 @@ pub use Rattle.bbm_rule.proofs.CellOrder.{cell_total}
 pub use Rattle.module_box.proofs.Rising.{pushed}
 pub use Rattle.module_box.specs.Locals.{AreLocalLines, local_wires}
 pub use Rattle.module_box.specs.Places.{place_in}
-pub use Rattle.module_box.specs.Tiling.{AreOwners, IsInside, rectangle_of}
+pub use Rattle.module_box.specs.Tiling.{IsInside, rectangle_of}
 pub use Rattle.pattern.proofs.Imports.{HasSameSize, HaveDistinctCells, append-nil, code_if, codes, flat_map-append}
 pub use Rattle.pattern.proofs.Imports.{list_all, list_any, list_any-append, live, nat_lt, nat_tests, row_cells}
 unfoldable pub use Rattle.pattern.proofs.Imports.{rectangle_cells, size_fault}
@@ -71,4 +71,3 @@ pub use Rattle.section_text.proofs.Imports.{if◌then◌else◌, line_bytes, lis
 pub use Rattle.section_text.specs.declared.code.RefusalCode.{RefusalCode}
 pub use Rattle.section_text.specs.declared.code.RefusalCode.TheVariants.{OutOfOrder, SomethingMissing}
 pub use Rattle.section_text.specs.declared.section.Form.TheVariants.{Item}
-pub use Rattle.std.proofs.Math.Seq.{drop-cons}

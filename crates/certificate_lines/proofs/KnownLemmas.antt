@@ -3,18 +3,14 @@ use Rattle.certificate_lines.proofs.Imports.{Bool, List, [], ap, append-nil, ap�
 use Rattle.certificate_lines.proofs.Imports.{common_steps, drop, false, get_or, is_among, length, list_any}
 use Rattle.certificate_lines.proofs.Imports.{list_any-append, nat_eq, not, refl, suc, sym, take, take-suc, true, zero}
 use Rattle.certificate_lines.proofs.Imports.{ℕ, ◌&&◌, ◌++◌, ◌+◌, ◌<◌, ◌==◌, ◌||◌, ◌∙◌, ◌∷◌, ◌≡◌}
-use Rattle.lemmas.proofs.Common.{eq_sym}
+use Rattle.lemmas.proofs.Common.{add-one, eq_sym}
 
 pub among : (ws : List ℕ) (w : ℕ) → list_any (nat_eq w) ws ≡ is_among ws w
 among [] w = refl
 among (v ∷ ws) w = ap₂ (λ a b. a || b) (eq_sym v w) (among ws w)
 
-one_more : (i : ℕ) → i + 1 ≡ suc i
-one_more i = omega arith
-
 and_again : (a b c : Bool) → (a && (b && c)) ≡ ((a && b) && c)
-and_again true b c = refl
-and_again false b c = refl
+and_again a b c = grind arith
 
 among_append : (xs ys : List ℕ) (w : ℕ) → is_among (xs ++ ys) w ≡ (is_among xs w || is_among ys w)
 among_append xs ys w = list_any-append (λ v. v == w) xs ys
@@ -37,9 +33,6 @@ split_at [] i w h e = absurd (omega arith)
 split_at (x ∷ xs) zero w h e = ap (λ (v : ℕ). v ∷ xs) (sym e)
 split_at (x ∷ xs) (suc i) w h e = ap (λ (l : List ℕ). x ∷ l) (split_at xs i w (omega arith) e)
 
-false_and : (b : Bool) → (not true && b) ≡ false
-false_and b = refl
-
 module _ (local xs : List ℕ) (i w : ℕ) (within : i < length xs) (is : w ≡ get_or xs i w)
     (so_far : are_new_and_distinct local (take i xs) ≡ true) where
   whole : are_new_and_distinct local xs ≡ (not (is_among (local ++ take i xs) w)
@@ -53,7 +46,7 @@ module _ (local xs : List ℕ) (i w : ℕ) (within : i < length xs) (is : w ≡ 
   pub new_wire : (is_among local w || is_among (take i xs) w) ≡ false →
       are_new_and_distinct local (take (i + 1) xs) ≡ true
   unfolding are_new_and_distinct
-  new_wire h = grind (arith, common_steps, one_more, take-suc, first_new, among_append)
+  new_wire h = grind (arith, common_steps, add-one, take-suc, first_new, among_append)
 
 pub none_new : (local : List ℕ) → are_new_and_distinct local [] ≡ true
 unfolding are_new_and_distinct

@@ -1,15 +1,17 @@
 -- The wires that modules lack of the edge lines beside them, and the local wires of each module
 use Rattle.certificate_lines.proofs.Imports.{AreInBox, AreLocalWiresOfModules, Bool, BorderLine, Box2, Circuit}
-use Rattle.certificate_lines.proofs.Imports.{IsInside, IsModule, List, ModuleLines, Setting, Some, [], and_from}
+use Rattle.certificate_lines.proofs.Imports.{IsModule, List, ModuleLines, Setting, Some, []}
 use Rattle.certificate_lines.proofs.Imports.{and_parts, ap, ap₂, arith, change_last, common_steps, cond-false}
-use Rattle.certificate_lines.proofs.Imports.{cond-true, edges, false, filter, flat_map, in_box, in_box_nats, in_halo}
+use Rattle.certificate_lines.proofs.Imports.{cond-true, edges, false, filter, flat_map, in_halo}
 use Rattle.certificate_lines.proofs.Imports.{is_nonlocal_signal, known, lacks_edge_wire, last_of, length, length-map}
-use Rattle.certificate_lines.proofs.Imports.{length_push, list_any, map, map-append, nat_lt, rectangle_of, refl}
-use Rattle.certificate_lines.proofs.Imports.{slice_get, span_from, suc, sym, true, whole, zero, ℕ, ℤ, ◌++◌, ◌+◌, ◌<◌}
+use Rattle.certificate_lines.proofs.Imports.{length_push, list_any, map, map-append, nat_lt, refl}
+use Rattle.certificate_lines.proofs.Imports.{slice_get, suc, sym, true, whole, zero, ℕ, ◌++◌, ◌+◌, ◌<◌}
 use Rattle.certificate_lines.proofs.Imports.{◌||◌, ◌∙◌, ◌∷◌, ◌≡◌, ◌≤◌}
 use Rattle.lemmas.proofs.Common.{same_from_push}
 use Rattle.bbm_rule.specs.Boxes.{in_ring}
 use Rattle.certificate_lines.specs.Versions.{edge_lines_beside, lacks_edge_wire_beside}
+use Rattle.module_box.proofs.BoxCells.{in_rectangle}
+use Rattle.module_box.proofs.Rising.{at_end}
 use Rattle.certificate_lines.proofs.Lists.{some_is}
 
 -- ---- tests of two lists
@@ -107,10 +109,6 @@ left [] ys k lt = absurd (omega (arith, lt))
 left (x ∷ xs) ys zero lt = refl
 left (x ∷ xs) ys (suc k) lt = left xs ys k (omega (arith, lt))
 
-at_end : {X : Type 0} (xs : List X) (y : X) → slice_get (xs ++ y ∷ []) (length xs) ≡ Some y
-at_end [] y = refl
-at_end (x ∷ xs) y = at_end xs y
-
 module _ (c : Circuit) (ms : List ModuleLines) (earlier : List (List ℕ)) (local : List ℕ)
     (h : AreLocalWiresOfModules c ms earlier local) (k : ℕ) where
   wires_at : slice_get (map (known c) ms) k ≡ slice_get (earlier ++ local ∷ []) (k + 1)
@@ -126,14 +124,6 @@ module _ (c : Circuit) (ms : List ModuleLines) (earlier : List (List ℕ)) (loca
       let same = length-map ms (known c) in
       let n : k + 1 ≡ length earlier = omega (arith, one, both, same, lt, le) in
       wires_at ∙ ap (slice_get (earlier ++ local ∷ [])) n ∙ at_end earlier local
-
--- ---- boxes in the rectangle
-
--- a cell of a box is a cell of the rectangle that has the box
-pub in_rectangle : (w h : ℕ) (b : Box2) (x y : ℤ) → IsInside w h b → in_box b x y ≡ true →
-    in_box (rectangle_of w h) x y ≡ true
-unfolding in_box
-in_rectangle w h b x y inside here = grind (arith, common_steps, in_box_nats, and_from, span_from)
 
 -- ---- the edge lines of all modules
 

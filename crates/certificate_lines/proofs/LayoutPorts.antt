@@ -1,13 +1,13 @@
 -- The ports of a layout by their cells, and its parts, which lie inside it
 use Rattle.certificate_lines.proofs.Imports.{AreOnBoard, Bool, Cell, LayoutHeader, List, None, Option, Port, Some, []}
-use Rattle.certificate_lines.proofs.Imports.{and_parts, ap, arith, code_if, common_steps, false, get_or, if◌then◌else◌}
-use Rattle.certificate_lines.proofs.Imports.{is_at, length, list_all, list_all-append, not, port_at, refl, slice_get}
-use Rattle.certificate_lines.proofs.Imports.{subst, suc, sym, true, zero, ℕ, ℤ, ◌++◌, ◌<◌, ◌||◌, ◌∙◌, ◌∷◌, ◌≡◌}
+use Rattle.certificate_lines.proofs.Imports.{and_parts, ap, arith, common_steps, false, get_or, if◌then◌else◌}
+use Rattle.certificate_lines.proofs.Imports.{is_at, length, list_all, list_all-append, port_at, refl, slice_get}
+use Rattle.certificate_lines.proofs.Imports.{subst, suc, sym, true, zero, ℕ, ℤ, ◌++◌, ◌<◌, ◌∙◌, ◌∷◌, ◌≡◌}
 use Rattle.lemmas.proofs.Common.{list_all-map}
 use Rattle.pattern.specs.Layout.{Pattern, in_layout, parts_of}
-use Rattle.pattern.specs.Lines.{AreGoodAfter, cell_fault, is_inside, is_taken}
+use Rattle.pattern.specs.Lines.{AreGoodAfter, is_inside}
 use Rattle.pattern.specs.declared.layout_line.LayoutLine.{LayoutLine}
-use Rattle.section_text.specs.declared.code.RefusalCode.TheVariants.{TakenCell}
+use Rattle.pattern.proofs.TakenLemmas.{faultless_is_inside}
 use Rattle.certificate_lines.proofs.Lists.{some_is}
 
 -- ---- ports by their cells
@@ -25,14 +25,11 @@ stands_later : (p : Port) (ports : List Port) (x y : ℤ) (name : List ℕ) → 
 stands_later p ports x y name s =
     record { number = suc s.number; port = s.port; numbered = s.numbered; stands = s.stands; named = s.named }
 
-some_name : (a b : List ℕ) → ◌≡◌ {A = Option (List ℕ)} (Some a) (Some b) → a ≡ b
-some_name a b e = cc
-
 first_stands : (b : Bool) (p : Port) (ports : List Port) (x y : ℤ) (name : List ℕ) → is_at p.cell x y ≡ b →
     (port_at ports x y ≡ Some name → StandsAt ports x y name)
     → (if b then Some p.name else port_at ports x y) ≡ Some name → StandsAt (p ∷ ports) x y name
 first_stands true p ports x y name h more e =
-    record { number = 0; port = p; numbered = refl; stands = h; named = some_name p.name name e }
+    record { number = 0; port = p; numbered = refl; stands = h; named = some_is p.name name e }
 first_stands false p ports x y name h more e = stands_later p ports x y name (more e)
 
 pub port_stands : (ports : List Port) (x y : ℤ) (name : List ℕ) → port_at ports x y ≡ Some name →
@@ -61,20 +58,11 @@ none_stands (q ∷ ports) x y e zero p at h =
 none_stands (q ∷ ports) x y e (suc i) p at h =
     none_stands ports x y (absent_here (is_at q.cell x y) q.name (port_at ports x y) e).1 i p at h
 
-no_code : (a b : Bool) → code_if (not a || b) TakenCell ≡ None → a ≡ true
-no_code true b e = refl
-no_code false b e = cc
-
-part_inside : (s : LayoutHeader) (before : List LayoutLine) (part : LayoutLine) → cell_fault s before part ≡ None →
-    is_inside s part ≡ true
-unfolding cell_fault
-part_inside s before part e = no_code (is_inside s part) (is_taken before part) e
-
 parts_inside : (s : LayoutHeader) (before parts : List LayoutLine) → AreGoodAfter s before parts →
     list_all (is_inside s) parts ≡ true
 parts_inside s before [] h = refl
 parts_inside s before (part ∷ parts) h =
-    rw (part_inside s before part h.1, parts_inside s (before ++ part ∷ []) parts h.2) refl
+    rw (faultless_is_inside s before part h.1, parts_inside s (before ++ part ∷ []) parts h.2) refl
 
 -- those that are not rectangles
 pub record LieInside (p : Pattern) : Type 0 where

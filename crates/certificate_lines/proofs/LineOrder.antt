@@ -69,31 +69,23 @@ head_or_later x y ys i = i
 
 -- ---- the elements that pass a test
 
-filter_yes : {A : Type 0} (test : A → Bool) (y : A) (ys : List A) → test y ≡ true →
-    filter test (y ∷ ys) ≡ y ∷ filter test ys
-filter_yes test y ys h = cond-true _ _ _ h
-
-filter_no : {A : Type 0} (test : A → Bool) (y : A) (ys : List A) → test y ≡ false →
-    filter test (y ∷ ys) ≡ filter test ys
-filter_no test y ys h = cond-false _ _ _ h
-
 pub in_filter : {A : Type 0} (test : A → Bool) (x : A) (xs : List A) → In x (filter test xs) → In x xs × (test x ≡ true)
 unfolding In
 in_filter test x [] i = absurd i
 in_filter test x (y ∷ ys) i = elim (cases_Bool (test y)) [
-  | inl holds ↦ elim (head_or_later x y (filter test ys) (subst (In x) (filter_yes test y ys holds) i)) [
+  | inl holds ↦ elim (head_or_later x y (filter test ys) (subst (In x) (cond-true _ _ _ holds) i)) [
     | inl same ↦ (inl same, sym (ap test same) ∙ holds)
     | inr later ↦ let r = in_filter test x ys later in (inr r.0, r.1)
   ]
-  | inr fails ↦ let r = in_filter test x ys (subst (In x) (filter_no test y ys fails) i) in (inr r.0, r.1)
+  | inr fails ↦ let r = in_filter test x ys (subst (In x) (cond-false _ _ _ fails) i) in (inr r.0, r.1)
 ]
 
 pub filter_in : {A : Type 0} (test : A → Bool) (x : A) (xs : List A) → In x xs → test x ≡ true → In x (filter test xs)
 unfolding In
 filter_in test x [] i h = absurd i
-filter_in test x (y ∷ ys) (inl same) h = subst (In x) (sym (filter_yes test y ys (ap test same ∙ h))) (inl same)
+filter_in test x (y ∷ ys) (inl same) h = subst (In x) (sym (cond-true _ _ _ (ap test same ∙ h))) (inl same)
 filter_in test x (y ∷ ys) (inr later) h =
-    grind (arith, common_steps, filter_in test x ys later h, cases_Bool, filter_yes, filter_no)
+    grind (arith, common_steps, filter_in test x ys later h, cases_Bool, cond-true, cond-false)
 
 pub each_filter : {A : Type 0} (P : A → Type 0) (test : A → Bool) (xs : List A) → Each P xs → Each P (filter test xs)
 each_filter P test xs e = in_each P (filter test xs) (λ x i. each_in P xs e x (in_filter test x xs i).0)
@@ -103,7 +95,7 @@ pub pairs_filter : {A : Type 0} (R : A → A → Type 0) (test : A → Bool) (xs
 unfolding Pairs
 pairs_filter R test [] p = p
 pairs_filter R test (x ∷ xs) p =
-    grind (arith, common_steps, pairs_filter R test xs p.1, cases_Bool, filter_yes, each_filter, filter_no)
+    grind (arith, common_steps, pairs_filter R test xs p.1, cases_Bool, cond-true, each_filter, cond-false)
 
 -- ---- the order
 
@@ -138,7 +130,7 @@ after_line Less n h = absurd cc
 after_line Equal n h = absurd (n refl)
 after_line Greater n h = refl
 
-is_before : (o : Ordering) → is_lt o ≡ true → o ≡ Less
+pub is_before : (o : Ordering) → is_lt o ≡ true → o ≡ Less
 is_before Less h = refl
 is_before _ h = absurd cc
 

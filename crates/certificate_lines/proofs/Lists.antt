@@ -1,6 +1,7 @@
 -- Elements of lists, by their places.
 use Rattle.certificate_lines.proofs.Imports.{Bool, List, Option, Some, [], inl, inr, list_any, or_cases, or_right, refl}
-use Rattle.certificate_lines.proofs.Imports.{slice_get, suc, true, zero, ℕ, ◌++◌, ◌∷◌, ◌≡◌}
+use Rattle.certificate_lines.proofs.Imports.{slice_get, suc, true, zero, ℕ, ◌∷◌, ◌≡◌}
+pub use Rattle.module_box.proofs.Rising.{kept}
 
 pub some_is : {A : Type 0} (a b : A) → ◌≡◌ {A = Option A} (Some a) (Some b) → a ≡ b
 some_is a b e = cc
@@ -29,9 +30,3 @@ pub any_at : {A : Type 0} (test : A → Bool) (xs : List A) (i : ℕ) (a : A) �
 any_at test [] i a e h = absurd cc
 any_at test (x ∷ xs) zero a e h = rw (some_is x a e, h) refl
 any_at test (x ∷ xs) (suc i) a e h = or_right (test x) (list_any test xs) (any_at test xs i a e h)
-
--- an element keeps its place when others come behind it
-pub kept : {A : Type 0} (xs ys : List A) (i : ℕ) (a : A) → slice_get xs i ≡ Some a → slice_get (xs ++ ys) i ≡ Some a
-kept [] ys i a e = absurd cc
-kept (x ∷ xs) ys zero a e = e
-kept (x ∷ xs) ys (suc i) a e = kept xs ys i a e

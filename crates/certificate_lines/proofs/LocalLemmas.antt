@@ -2,25 +2,16 @@
 use Rattle.certificate_lines.proofs.Imports.{AreLocalLines, Gate, List, Netlist, Option, Some, [], and_parts, ap}
 use Rattle.certificate_lines.proofs.Imports.{append-nil, append_assoc, are_new_and_distinct, arith, common_steps, false}
 use Rattle.certificate_lines.proofs.Imports.{false_from_not, get_or_from_slice_get, inl, inr, is_among, length}
-use Rattle.certificate_lines.proofs.Imports.{length_push, list_all, local_wires, none_at, not, pushed, refl, slice_get}
-use Rattle.certificate_lines.proofs.Imports.{slice_get_within, subst, suc, sym, take, true, true≢false, zero, ℕ, ◌++◌}
-use Rattle.certificate_lines.proofs.Imports.{◌<◌, ◌==◌, ◌∙◌, ◌∷◌, ◌≡◌}
-use Rattle.lemmas.proofs.Common.{All-get_or, option_map_or, take-append_seam, eq_itself}
+use Rattle.certificate_lines.proofs.Imports.{length_push, list_all, local_wires, none_at, not, pushed, slice_get}
+use Rattle.certificate_lines.proofs.Imports.{slice_get_within, subst, sym, take, true, ℕ, ◌++◌, ◌<◌, ◌∷◌, ◌≡◌}
+use Rattle.lemmas.proofs.Common.{All-get_or, option_map_or, take-append_seam}
 use Rattle.std.specs.List.{All}
 use Rattle.module_box.specs.Locals.{AreDistinct, UsesOnlyKnownWires, outs_of}
+use Rattle.std.proofs.lemmas.List.{take-append-le}
+use Rattle.module_box.proofs.WireLists.{different_push}
 use Rattle.certificate_lines.proofs.Growing.{flat_push}
-use Rattle.certificate_lines.proofs.Lists.{any_at}
 
 -- ---- no wire twice
-
-among_at : (ws : List ℕ) (i w : ℕ) → slice_get ws i ≡ Some w → is_among ws w ≡ true
-among_at ws i w e = any_at (λ v. v == w) ws i w e (eq_itself w)
-
-not_there : (ws : List ℕ) (i w : ℕ) → is_among ws w ≡ false → slice_get ws i ≡ Some w → ⊥
-not_there ws i w none e = true≢false (sym (among_at ws i w e) ∙ none)
-
-pub different_push : (ws : List ℕ) (w : ℕ) → AreDistinct ws → is_among ws w ≡ false → AreDistinct (ws ++ w ∷ [])
-different_push ws w different none i j v e f = grind (arith, common_steps, pushed, not_there)
 
 pub different_append : (ys xs : List ℕ) → AreDistinct xs → are_new_and_distinct xs ys ≡ true → AreDistinct (xs ++ ys)
 unfolding are_new_and_distinct
@@ -45,11 +36,6 @@ pub local_more : (n : Netlist) (cw gs : List ℕ) (k : ℕ) (g : Gate) → slice
     local_wires n cw (gs ++ k ∷ []) ≡ local_wires n cw gs ++ g.outs
 local_more n cw gs k g e = grind (arith, common_steps, flat_push, outs_is)
 
-take_within : (xs ys : List ℕ) (i : ℕ) → i < length xs → take i (xs ++ ys) ≡ take i xs
-take_within [] ys i h = absurd (omega arith)
-take_within (x ∷ xs) ys zero h = refl
-take_within (x ∷ xs) ys (suc i) h = ap (λ (l : List ℕ). x ∷ l) (take_within xs ys i (omega arith))
-
 at_all : (P : ℕ → Type 0) (xs : List ℕ) (i x : ℕ) → All P xs → slice_get xs i ≡ Some x → P x
 at_all P xs i x all e = subst P (get_or_from_slice_get xs i x x e) (All-get_or P xs i x (slice_get_within xs i x e) all)
 
@@ -71,7 +57,7 @@ module _ (n : Netlist) (cw gs : List ℕ) (k : ℕ) (g : Gate) (l : AreLocalLine
 
   knows : (i a : ℕ) → slice_get (gs ++ k ∷ []) i ≡ Some a →
       UsesOnlyKnownWires n (local_wires n cw (take i (gs ++ k ∷ []))) a
-  knows i a e = grind (arith, common_steps, pushed, take_within, slice_get_within, take-append_seam, last_known)
+  knows i a e = grind (arith, common_steps, pushed, take-append-le, slice_get_within, take-append_seam, last_known)
 
   pub local_use : length gs < 64 → AreLocalLines n cw (gs ++ k ∷ [])
   local_use few = grind (arith, common_steps, length_push, rises, knows, local_more, different_append)

@@ -1,33 +1,97 @@
--- The boxes of modules, for a table of their owners
-use Rattle.certificate_lines.proofs.Imports.{AreGoodModulesSoFar, Box2, IsEven, IsModule, LayoutHeader, List}
-use Rattle.certificate_lines.proofs.Imports.{ModuleLines, None, Setting, Some, areas, mapped_from, size_fault}
-use Rattle.certificate_lines.proofs.Imports.{slice_get, subst, sym, ℕ, ◌≡◌, ◌≤◌}
-use Rattle.pattern.proofs.TakenLemmas.{is_sized}
-use Rattle.module_box.specs.Tiling.{MayHaveOwnerTable}
+-- The boxes of modules in a table of their owners
+use Rattle.certificate_lines.proofs.Imports.{Bool, Box2, Cell, CertificateLine, IsEven, List}
+use Rattle.certificate_lines.proofs.Imports.{ModuleLines, None, Option, Setting, SomethingMissing, ap, ap₂, areas}
+use Rattle.certificate_lines.proofs.Imports.{arith, cases_Bool, code_if, end_fault, eqb-true, false, false≢true, in_box}
+use Rattle.certificate_lines.proofs.Imports.{inl, inr, is_last_module_incomplete, last_module, length, list_all}
+use Rattle.certificate_lines.proofs.Imports.{module_box_code, module_line_code, modules_of, nat_eq, not, rectangle}
+use Rattle.certificate_lines.proofs.Imports.{rectangle_cells, rectangle_of, slice_get_within, sym, true}
+use Rattle.certificate_lines.proofs.Imports.{whole, ℕ, ℤ, ◌||◌, ◌∙◌, ◌≡◌}
+use Rattle.lemmas.proofs.Common.{eq-eqb, false_from_ne_true, same_truth, slice_index}
+use Rattle.std.specs.Prelude.{◌/◌, ◌↔◌}
+use Rattle.bbm_rule.proofs.RectangleLemmas.{in_box_cells}
+use Rattle.module_box.proofs.BoxCells.{owner_in_table}
+use Rattle.module_box.proofs.PartOwners.{corner_inside, has_block, named_cell, none_by_number, place_of, stays}
+use Rattle.module_box.specs.Tiling.{AreAllTaken, ArePartOwners, Holds, IsFreeBox, MayPut, OwnersView, block_corner_x}
+use Rattle.module_box.specs.Tiling.{block_corner_y}
+use Rattle.module_box.specs.Tiling.{no_owner, owner_of}
+use Rattle.section_text.specs.declared.code.RefusalCode.TheVariants.{MisplacedBox}
+use Rattle.certificate_lines.specs.BuilderView.{AreModuleOwners}
+use Rattle.certificate_lines.specs.Rules.{in_boxes, overlaps}
+use Rattle.certificate_lines.proofs.BuiltLemmas.{IsGoodModule, passes_alone}
+use Rattle.certificate_lines.proofs.Lists.{any_at, passed}
+use Rattle.certificate_lines.proofs.PortLemmas.{cell_passed, cell_passes, cells_pass, has_cell}
 
-pub is_task : (g : Setting) (ms : List ModuleLines) (s : LayoutHeader) (boxes : List Box2) → s ≡ g.size →
-    size_fault s ≡ None → ((k : ℕ) (m : ModuleLines) → slice_get ms k ≡ Some m → IsModule g m) → boxes ≡ areas ms →
-    MayHaveOwnerTable s.w s.h boxes
-is_task g ms s boxes same limits good are =
-    let sized = is_sized s limits in
-    subst (λ bs. MayHaveOwnerTable s.w s.h bs) (sym are) (record {
-      width = sized.width;
-      height = sized.height;
-      even = λ k b e.
-          let m = mapped_from (λ (m : ModuleLines). m.area) ms k b e in
-          let is = (good k m.0 m.1).even in
-          let P : Box2 → Type 0 = IsEven in
-          subst P m.2 is;
-      sides = λ k b e.
-          let m = mapped_from (λ (m : ModuleLines). m.area) ms k b e in
-          let is = good k m.0 m.1 in
-          let P : Box2 → Type 0 = λ b. (2 ≤ b.w) × (2 ≤ b.h) in
-          subst P m.2 (is.wide.0, is.high.0);
-    })
+-- the number of a box that has the cell
+holder : (boxes : List Box2) (x y : ℤ) → in_boxes boxes x y ≡ true → (i : ℕ) × Holds boxes x y i
+holder boxes x y h =
+    let p = passed (λ (b : Box2). in_box b x y) boxes h in
+    (p.place, record { area = p.element; numbered = p.stands; has = p.passes })
 
--- corners and sides are even
-abbrev pub EvenBoxes : List ModuleLines → Type 0
-EvenBoxes ms = (k : ℕ) (m : ModuleLines) → slice_get ms k ≡ Some m → IsEven m.area
+module _ (o : OwnersView) (boxes : List Box2) (part : ArePartOwners o boxes) where
+  pub free_box : (b : Box2) → overlaps boxes b ≡ false → IsFreeBox o b
+  free_box b over k lt here = elim (cases_Bool (nat_eq (slice_index o.numbers k) no_owner)) [
+    | inl e ↦ eqb-true (slice_index o.numbers k) no_owner e
+    | inr e ↦ (
+        let h = part.taken.named k lt (λ is. false≢true (sym e ∙ eq-eqb (slice_index o.numbers k) no_owner is)) in
+        absurd (false≢true (sym over ∙ has_cell (λ c. in_boxes boxes c.x c.y) (rectangle_cells b) _
+        (in_box_cells b _ _ ∙ here) (any_at _ boxes _ h.area h.numbered h.has))))
+  ]
 
-pub even_boxes : (g : Setting) (ms : List ModuleLines) → AreGoodModulesSoFar g ms → EvenBoxes ms
-even_boxes g ms sound k m at = (sound.each k m at).good.even
+  pub free_test : (b : Box2) → IsEven b → (r : Bool) → ((r ≡ true) ↔ IsFreeBox o b) → overlaps boxes b ≡ not r
+  unfolding owner_of
+  free_test b even r is = elim (cases_Bool (overlaps boxes b)) [
+    | inl over ↦ over ∙ ap not (sym (false_from_ne_true r (λ e.
+        let p = cell_passed (λ c. in_boxes boxes c.x c.y) (rectangle_cells b) over in
+        let x = p.0.x in let y = p.0.y in
+        let h = holder boxes x y p.2 in
+        let w = stays o part.table boxes part.each no_owner part.taken x y h.0 h.1 in
+        none_by_number o part.table boxes part.each no_owner part.taken x y
+        (is.0 e (place_of o x y) (owner_in_table o x y part.table w)
+        (has_block o part.table b x y even w (sym (in_box_cells b x y) ∙ p.1))) h.0 h.1)))
+    | inr apart ↦ apart ∙ ap not (sym (is.1 (free_box b apart)))
+  ]
+
+  pub full_test : (r : Bool) → ((r ≡ true) ↔ AreAllTaken o) →
+      list_all (λ c. in_boxes boxes c.x c.y) (rectangle_cells (rectangle o)) ≡ r
+  unfolding owner_of
+  full_test r is = same_truth _ _
+      (λ all. is.1 (λ k lt e.
+      let c : Cell = record { x = block_corner_x (o.width / 2) k; y = block_corner_y (o.width / 2) k } in
+      let h = holder boxes c.x c.y (cell_passes (λ d. in_boxes boxes d.x d.y) _ c all
+      (in_box_cells (rectangle o) c.x c.y ∙ corner_inside o part.table k lt)) in
+      let own = part.taken.owned k h.0 lt h.1 in let few = part.taken.few in
+      let lt = slice_get_within boxes h.0 h.1.area h.1.numbered in
+      omega (arith, own, e, lt, few)))
+      (λ e. cells_pass _ _ (λ c there.
+      let w = sym (in_box_cells (rectangle o) c.x c.y) ∙ there in
+      let h = named_cell o part.table boxes part.each no_owner part.taken c.x c.y w
+      (is.0 e (place_of o c.x c.y) (owner_in_table o c.x c.y part.table w)) in
+      any_at _ boxes _ h.area h.numbered h.has))
+
+-- ---- the codes by the table
+
+module _ (g : Setting) (ms : List ModuleLines) (o : OwnersView) (owners : AreModuleOwners g ms o) where
+  pub module_code_by : (before : Option ModuleLines) (b : Box2) → module_box_code g (length ms) before b ≡ None →
+      (r : Bool) → ((r ≡ true) ↔ IsFreeBox o b) → module_line_code g ms before b ≡ code_if (not r) MisplacedBox
+  unfolding module_line_code
+  module_code_by before b e r is =
+      rw (e) (ap (λ t. code_if t MisplacedBox) (free_test o (areas ms) owners.boxes b
+      (passes_alone g (length ms) before b e).box.even r is))
+
+  pub may_put : (before : Option ModuleLines) (b : Box2) → IsGoodModule g ms before b → MayPut o b
+  may_put before b good = record {
+    even = good.box.even;
+    inside = rw (owners.width, owners.height) good.box.inside;
+    free = free_box o (areas ms) owners.boxes b good.free;
+  }
+
+pub end_by : (g : Setting) (entries : List CertificateLine) (o : OwnersView) →
+    AreModuleOwners g (modules_of entries) o → (lacks r : Bool) →
+    lacks ≡ is_last_module_incomplete g (last_module entries) → ((r ≡ true) ↔ AreAllTaken o) →
+    end_fault g entries ≡ code_if (lacks || not r) SomethingMissing
+unfolding end_fault
+end_by g entries o owners lacks r is full =
+    let same : whole g.size ≡ rectangle o = ap₂ rectangle_of (sym owners.width) (sym owners.height) in
+    ap₂ (λ a b. code_if (a || not b) SomethingMissing) (sym is)
+    (ap (λ b. list_all (λ c. in_boxes (areas (modules_of entries)) c.x c.y) (rectangle_cells b)) same
+    ∙ full_test o (areas (modules_of entries)) owners.boxes r full)

@@ -39,8 +39,7 @@ less_by Less h = refl
 less_by _ h = cc
 
 or_false : (a : Bool) → (a || false) ≡ true → a ≡ true
-or_false true h = refl
-or_false false h = h
+or_false a h = grind arith
 
 use_then_use : (g k : ℕ) → may_precede (Use g) (Use k) ≡ true → g < k
 unfolding may_precede line_cmp rank_of sort_number_of cell_of is_cut cell_cmp
@@ -52,10 +51,9 @@ lower_uses k _ h = All-nil (λ (g : ℕ). g < k)
 
 -- ---- order
 
-list_all_push : (i j : CertificateLine) (lines : List CertificateLine) → list_all (may_precede i) lines ≡ true →
-    may_precede i j ≡ true →
-    list_all (may_precede i) (lines ++ j ∷ []) ≡ true
-list_all_push i j lines h k = list_all-append (may_precede i) lines (j ∷ []) ∙ rw (h, k) refl
+pub list_all_push : {A : Type 0} (test : A → Bool) (xs : List A) (x : A) → list_all test xs ≡ true → test x ≡ true →
+    list_all test (xs ++ x ∷ []) ≡ true
+list_all_push test xs x h k = list_all-append test xs (x ∷ []) ∙ rw (h, k) refl
 
 pub order_push : (lines : List CertificateLine) (j : CertificateLine) → AreInOrder lines → may_follow lines j ≡ true →
     AreInOrder (lines ++ j ∷ [])
@@ -63,4 +61,4 @@ unfolding AreInOrder may_follow
 order_push [] j order h = (refl, tt)
 order_push (i ∷ lines) j order h =
     let both = and_parts (may_precede i j) (list_all (λ k. may_precede k j) lines) h in
-    (list_all_push i j lines order.0 both.0, order_push lines j order.1 both.1)
+    (list_all_push (may_precede i) lines j order.0 both.0, order_push lines j order.1 both.1)

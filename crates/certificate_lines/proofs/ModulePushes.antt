@@ -3,15 +3,15 @@ use Rattle.certificate_lines.proofs.Imports.{All, All-nil, AreLocalLines, Bool, 
 use Rattle.certificate_lines.proofs.Imports.{Circuit, Cut, Edge, Gate, Halo, IfSome, IsModule, IsModuleInLimits, IsTrue}
 use Rattle.certificate_lines.proofs.Imports.{Keep, List, ModuleLines, None, Option, RefusalCode, Setting, Some}
 use Rattle.certificate_lines.proofs.Imports.{StarsExcludeLaterTimes, Stop, StopLine, Use, [], and_parts, ap, ap₂}
-use Rattle.certificate_lines.proofs.Imports.{are_new_and_distinct, arith, code_if, common_steps, cut_name_in, cuts}
-use Rattle.certificate_lines.proofs.Imports.{edge_in, edges, eqb-true, false, false_from_not, flat_map, gates, halo_in}
-use Rattle.certificate_lines.proofs.Imports.{in_box, is_among, is_local, is_odd, is_star, is_starred_line_at}
-use Rattle.certificate_lines.proofs.Imports.{kept_gate_in, known, length, length_push, list_all, list_any, local_wires}
-use Rattle.certificate_lines.proofs.Imports.{may_follow, module_with_line, rank_of, nat_lt, nat_tests, not}
-use Rattle.certificate_lines.proofs.Imports.{option_to_list, or_else, refl, slice_get, stop_in, subst, sym, true}
-use Rattle.certificate_lines.proofs.Imports.{true_from_not, used_gate_in, wire_of, ℕ, ◌%◌, ◌&&◌, ◌++◌, ◌<◌, ◌||◌, ◌∙◌}
-use Rattle.certificate_lines.proofs.Imports.{◌∷◌, ◌≡◌}
-use Rattle.lemmas.proofs.Common.{nat_le, at_most_by_test, below_by_test}
+use Rattle.certificate_lines.proofs.Imports.{are_new_and_distinct, arith, common_steps, cut_name_in, cuts, edge_in}
+use Rattle.certificate_lines.proofs.Imports.{edges, eqb-true, false, false_from_not, flat_map, gates, halo_in, in_box}
+use Rattle.certificate_lines.proofs.Imports.{is_among, is_local, is_odd, is_star, is_starred_line_at, kept_gate_in}
+use Rattle.certificate_lines.proofs.Imports.{known, length, length_push, list_all, list_any, local_wires, may_follow}
+use Rattle.certificate_lines.proofs.Imports.{module_with_line, rank_of, nat_lt, nat_tests, not, option_to_list, or_else}
+use Rattle.certificate_lines.proofs.Imports.{refl, slice_get, stop_in, subst, sym, true, true_from_not, used_gate_in}
+use Rattle.certificate_lines.proofs.Imports.{wire_of, ℕ, ◌%◌, ◌&&◌, ◌++◌, ◌<◌, ◌||◌, ◌∙◌, ◌∷◌, ◌≡◌, IsBodyLine, Module}
+use Rattle.certificate_lines.proofs.Imports.{append-nil, content_code, ◌+◌, ◌≤◌}
+use Rattle.lemmas.proofs.Common.{nat_le, at_most_by_test, below_by_test, All-append, All-cons, ◌≢◌}
 use Rattle.certificate_lines.specs.Entries.{keeps, halos, stops, cut_wires}
 use Rattle.certificate_lines.specs.Rules.{cut_line_code, cut_wire_fault, used_gate_fault, use_line_code, keep_line_code}
 use Rattle.certificate_lines.specs.Rules.{is_line_time_allowed, is_edge_place_and_time, is_halo_place_and_time}
@@ -19,17 +19,15 @@ use Rattle.certificate_lines.specs.Rules.{is_stop_place_and_time, signal_fault, 
 use Rattle.certificate_lines.specs.Rules.{timed_line_count, timed_line_limit, edge_line_code, halo_line_code}
 use Rattle.certificate_lines.specs.Rules.{stop_line_code}
 use Rattle.certificate_lines.specs.Modules.{IsEdge, IsHalo, IsKeep, IsStop}
+use Rattle.std.proofs.Common.{length-append}
 use Rattle.section_text.specs.declared.code.RefusalCode.TheVariants.{DefinedTwice, NotLocal}
+pub use Rattle.pattern.proofs.Added.{no_code}
 use Rattle.certificate_lines.proofs.Growing.{flat_push, flat_same}
 use Rattle.certificate_lines.proofs.LineRanks.{only_uses, only_keeps, only_edges, only_halos, only_stops}
-use Rattle.certificate_lines.proofs.ModuleLemmas.{none_before, all_before, lower_uses, order_push}
+use Rattle.certificate_lines.proofs.ModuleLemmas.{all_before, list_all_push, lower_uses, none_before, order_push}
 use Rattle.certificate_lines.proofs.LocalLemmas.{local_cut, local_use, local_more}
 
 -- ---- tests that a line passed
-
-pub no_code : (b : Bool) (n : RefusalCode) → code_if b n ≡ None → b ≡ false
-no_code true n e = absurd cc
-no_code false n e = refl
 
 pub both_none : (a b : Option RefusalCode) → or_else a b ≡ None → (a ≡ None) × (b ≡ None)
 both_none None b e = (refl, e)
@@ -40,6 +38,9 @@ less a b e = grind (arith, nat_tests)
 
 at_nil : {A : Type 0} (P : A → Type 0) (xs : List A) → xs ≡ [] → All P xs
 at_nil P xs none = subst (All P) (sym none) (All-nil P)
+
+pub all_one : {A : Type 0} (P : A → Type 0) (x : A) → P x → All P (x ∷ [])
+all_one P x h = All-cons P x [] h (All-nil P)
 
 -- ---- a cut
 
@@ -59,44 +60,24 @@ pub new_wire : (c : Circuit) (count : ℕ) (local : List ℕ) (name : List ℕ) 
 unfolding cut_line_code
 new_wire c count local name e = grind (arith, common_steps, both_none, new_by, less, no_code)
 
-pub cuts_cut : (m : ModuleLines) (n : List ℕ) → cuts (module_with_line (Cut n) m) ≡ cuts m ++ n ∷ []
-cuts_cut m n = flat_push cut_name_in m.lines (Cut n)
-
 pub cut_wires_cut : (c : Circuit) (m : ModuleLines) (n : List ℕ) (w : ℕ) → wire_of c n ≡ Some w →
     cut_wires c (module_with_line (Cut n) m) ≡ cut_wires c m ++ w ∷ []
-cut_wires_cut c m n w e = grind (arith, common_steps, cuts_cut, flat_push)
+cut_wires_cut c m n w e = grind (arith, common_steps, flat_push)
 
 -- ---- lines with a time beside those with a `*`
 
-unstarred_nil : (es : List BorderLine) → es ≡ [] → StarsExcludeLaterTimes es
-unfolding StarsExcludeLaterTimes
-unstarred_nil [] e = tt
-unstarred_nil (d ∷ es) e = absurd cc
-
 kept_free : (star here more : Bool) → (star || not (here || more)) ≡ true → (star || not more) ≡ true
-kept_free true here more h = refl
-kept_free false true more h = absurd cc
-kept_free false false more h = h
+kept_free star here more h = grind arith
 
 first_free : (star here more : Bool) → (star || not (here || more)) ≡ true → (star || not here) ≡ true
-first_free true here more h = refl
-first_free false true more h = absurd cc
-first_free false false more h = refl
-
-all_pushed : (test : BorderLine → Bool) (es : List BorderLine) (e : BorderLine) → list_all test es ≡ true →
-    test e ≡ true →
-    list_all test (es ++ e ∷ []) ≡ true
-all_pushed test [] e h k = rw k refl
-all_pushed test (d ∷ es) e h k =
-    let both = and_parts (test d) (list_all test es) h in
-    rw (both.0, all_pushed test es e both.1 k) refl
+first_free star here more h = grind arith
 
 unstarred_push : (es : List BorderLine) (e : BorderLine) → StarsExcludeLaterTimes es →
     (is_star e.time || not (list_any (is_starred_line_at e.cell) es)) ≡ true → StarsExcludeLaterTimes (es ++ e ∷ [])
 unfolding StarsExcludeLaterTimes
 unstarred_push [] e u h = (refl, tt)
 unstarred_push (d ∷ es) e u h = (
-  all_pushed (λ e. is_star e.time || not (is_starred_line_at e.cell d)) es e u.0
+  list_all_push (λ e. is_star e.time || not (is_starred_line_at e.cell d)) es e u.0
       (first_free (is_star e.time) (is_starred_line_at e.cell d) (list_any (is_starred_line_at e.cell) es) h),
   unstarred_push es e u.1 (grind (arith, common_steps, kept_free)),
 )
@@ -113,79 +94,76 @@ free_of_star : (g : Setting) (area : Box2) (starred : Bool) (e : BorderLine) →
 unfolding is_edge_place_and_time
 free_of_star g area starred e place = grind (arith, common_steps, free_time, and_parts)
 
+-- ---- a cut or a used gate
+
+-- such a line comes before the lines of the other kinds
+module _ (g : Setting) (m : ModuleLines) (is : IsModule g m) (i : CertificateLine)
+    (follows : may_follow m.lines i ≡ true) where
+  abbrev more : ModuleLines
+  more = module_with_line i m
+
+  none_yet : {A : Type 0} (f : CertificateLine → List A) (rank : ℕ) →
+      ((j : CertificateLine) → rank_of j ≢ rank → f j ≡ []) → rank_of i < rank → flat_map f more.lines ≡ []
+  none_yet f rank only low =
+      flat_same f m.lines i (only i (λ e. absurd (omega (arith, low, e))))
+      ∙ none_before f rank only i low m.lines follows
+
+  early_pushed : rank_of i < 3 → length (cut_wires g.circuit more) ≡ length (cuts more) →
+      AreLocalLines g.circuit.netlist (cut_wires g.circuit more) (gates more) → IsModuleInLimits g more
+  unfolding StarsExcludeLaterTimes
+  early_pushed low named local =
+      let edges_are = none_yet edge_in 4 only_edges (omega arith) in
+      let halos_are = none_yet halo_in 5 only_halos (omega arith) in
+      let stops_are = none_yet stop_in 6 only_stops (omega arith) in
+      record {
+        good = record {
+          even = is.even;
+          wide = is.wide;
+          high = is.high;
+          inside = is.inside;
+          named = named;
+          local = local;
+          order = order_push m.lines i is.order follows;
+          keep_lines = at_nil (IsKeep g (gates more)) (keeps more) (none_yet kept_gate_in 3 only_keeps low);
+          unstarred = subst StarsExcludeLaterTimes (sym edges_are) tt;
+          edge_lines = at_nil (IsEdge g m.area (known g.circuit more)) (edges more) edges_are;
+          halo_lines = at_nil (IsHalo g m.area (known g.circuit more)) (halos more) halos_are;
+          stop_lines = at_nil (IsStop g m.area (known g.circuit more)) (stops more) stops_are;
+        };
+        few_borders = grind (arith, common_steps, edges_are, halos_are, stops_are);
+      }
+
 module _ (g : Setting) (m : ModuleLines) (is : IsModule g m) (n : List ℕ)
     (follows : may_follow m.lines (Cut n) ≡ true) where
   no_gates : gates m ≡ []
   unfolding rank_of
   no_gates = none_before used_gate_in 2 only_uses (Cut n) (omega arith) m.lines follows
 
-  no_edges : edges m ≡ []
-  unfolding rank_of
-  no_edges = none_before edge_in 4 only_edges (Cut n) (omega arith) m.lines follows
+  abbrev cut : ModuleLines
+  cut = module_with_line (Cut n) m
 
-  no_halos : halos m ≡ []
-  unfolding rank_of
-  no_halos = none_before halo_in 5 only_halos (Cut n) (omega arith) m.lines follows
-
-  no_stops : stops m ≡ []
-  unfolding rank_of
-  no_stops = none_before stop_in 6 only_stops (Cut n) (omega arith) m.lines follows
-
-  no_keeps : keeps m ≡ []
-  unfolding rank_of
-  no_keeps = none_before kept_gate_in 3 only_keeps (Cut n) (omega arith) m.lines follows
-
-  abbrev more : ModuleLines
-  more = module_with_line (Cut n) m
-
-  gates_are : gates more ≡ []
+  gates_are : gates cut ≡ []
   gates_are = flat_same used_gate_in m.lines (Cut n) refl ∙ no_gates
-
-  keeps_are : keeps more ≡ []
-  keeps_are = flat_same kept_gate_in m.lines (Cut n) refl ∙ no_keeps
-
-  edges_are : edges more ≡ []
-  edges_are = flat_same edge_in m.lines (Cut n) refl ∙ no_edges
-
-  halos_are : halos more ≡ []
-  halos_are = flat_same halo_in m.lines (Cut n) refl ∙ no_halos
-
-  stops_are : stops more ≡ []
-  stops_are = flat_same stop_in m.lines (Cut n) refl ∙ no_stops
 
   module _ (w : ℕ) (named : wire_of g.circuit n ≡ Some w) where
     -- the local wires of a module that has no used gate
     known_none : known g.circuit m ≡ local_wires g.circuit.netlist (cut_wires g.circuit m) []
     known_none = ap (local_wires g.circuit.netlist (cut_wires g.circuit m)) no_gates
 
-    pub known_cut : known g.circuit more ≡ known g.circuit m ++ w ∷ []
+    pub known_cut : known g.circuit cut ≡ known g.circuit m ++ w ∷ []
     known_cut = grind (arith, common_steps, cut_wires_cut, gates_are, known_none)
 
-    pub cut_pushed : length (cuts m) < 12 → is_among (known g.circuit m) w ≡ false → IsModuleInLimits g more
+    cut_pushed : length (cuts m) < 12 → is_among (known g.circuit m) w ≡ false → IsModuleInLimits g cut
+    unfolding rank_of
     cut_pushed few new =
         let before : AreLocalLines g.circuit.netlist (cut_wires g.circuit m) [] =
         subst (AreLocalLines g.circuit.netlist (cut_wires g.circuit m)) no_gates is.local in
         let room : length (cut_wires g.circuit m) < 12 = let e = is.named in omega (arith, e) in
-        let fresh : is_among (local_wires g.circuit.netlist (cut_wires g.circuit m) []) w ≡ false =
-        ap (λ l. is_among l w) (sym known_none) ∙ new in
-        let after = local_cut g.circuit.netlist (cut_wires g.circuit m) w before room fresh in
-        record {
-          good = record {
-            even = is.even;
-            wide = is.wide;
-            high = is.high;
-            inside = is.inside;
-            named = grind (arith, common_steps, cut_wires_cut, length_push, cuts_cut);
-            local = grind (arith, common_steps, more, gates_are, cut_wires_cut);
-            order = order_push m.lines (Cut n) is.order follows;
-            keep_lines = at_nil (IsKeep g (gates more)) (keeps more) keeps_are;
-            unstarred = unstarred_nil (edges more) edges_are;
-            edge_lines = at_nil (IsEdge g m.area (known g.circuit more)) (edges more) edges_are;
-            halo_lines = at_nil (IsHalo g m.area (known g.circuit more)) (halos more) halos_are;
-            stop_lines = at_nil (IsStop g m.area (known g.circuit more)) (stops more) stops_are;
-          };
-          few_borders = grind (arith, common_steps, edges_are, halos_are, stops_are);
-        }
+        let after = local_cut g.circuit.netlist (cut_wires g.circuit m) w before room
+        (ap (λ l. is_among l w) (sym known_none) ∙ new) in
+        early_pushed g m is (Cut n) follows (omega arith)
+        (grind (arith, common_steps, cut_wires_cut, length_push, flat_push))
+        (grind (arith, common_steps, cut, gates_are, cut_wires_cut))
 
 -- ---- a used gate
 
@@ -207,9 +185,6 @@ pub good_use : (c : Circuit) (count : ℕ) (local : List ℕ) (k : ℕ) → use_
 unfolding use_line_code
 good_use c count local k e = grind (arith, common_steps, both_none, gate_by, less, no_code)
 
-pub gates_use : (m : ModuleLines) (k : ℕ) → gates (module_with_line (Use k) m) ≡ gates m ++ k ∷ []
-gates_use m k = flat_push used_gate_in m.lines (Use k)
-
 module _ (g : Setting) (m : ModuleLines) (k : ℕ) where
   abbrev used : ModuleLines
   used = module_with_line (Use k) m
@@ -219,41 +194,18 @@ module _ (g : Setting) (m : ModuleLines) (k : ℕ) where
 
   pub known_use : (gate : Gate) → slice_get g.circuit.netlist.gates k ≡ Some gate →
       known g.circuit used ≡ known g.circuit m ++ gate.outs
-  known_use gate at = grind (arith, common_steps, cut_wires_use, gates_use, local_more)
+  known_use gate at = grind (arith, common_steps, cut_wires_use, flat_push, local_more)
 
-  pub use_pushed : IsModule g m → may_follow m.lines (Use k) ≡ true → length (gates m) < 64 →
+  use_pushed : IsModule g m → may_follow m.lines (Use k) ≡ true → length (gates m) < 64 →
       IsGoodUse g.circuit (known g.circuit m) k → IsModuleInLimits g used
   unfolding rank_of
   use_pushed is follows few good =
-      let edges_are : edges used ≡ [] =
-      flat_same edge_in m.lines (Use k) refl ∙ none_before edge_in 4 only_edges (Use k) (omega arith) m.lines follows in
-      let halos_are : halos used ≡ [] =
-      flat_same halo_in m.lines (Use k) refl ∙ none_before halo_in 5 only_halos (Use k) (omega arith) m.lines follows in
-      let stops_are : stops used ≡ [] =
-      flat_same stop_in m.lines (Use k) refl ∙ none_before stop_in 6 only_stops (Use k) (omega arith) m.lines follows in
-      let keeps_are : keeps used ≡ [] =
-      flat_same kept_gate_in m.lines (Use k) refl
-      ∙ none_before kept_gate_in 3 only_keeps (Use k) (omega arith) m.lines follows in
       let lower = all_before used_gate_in (Use k) (λ j. j < k) (lower_uses k) m.lines follows in
       let after = local_use g.circuit.netlist (cut_wires g.circuit m)
       (gates m) k good.gate is.local good.numbered lower good.ins good.outs few in
-      record {
-        good = record {
-          even = is.even;
-          wide = is.wide;
-          high = is.high;
-          inside = is.inside;
-          named = ap length cut_wires_use ∙ is.named ∙ sym (ap length (flat_same cut_name_in m.lines (Use k) refl));
-          local = grind (arith, common_steps, used, cut_wires_use, gates_use);
-          order = order_push m.lines (Use k) is.order follows;
-          keep_lines = at_nil (IsKeep g (gates used)) (keeps used) keeps_are;
-          unstarred = unstarred_nil (edges used) edges_are;
-          edge_lines = at_nil (IsEdge g m.area (known g.circuit used)) (edges used) edges_are;
-          halo_lines = at_nil (IsHalo g m.area (known g.circuit used)) (halos used) halos_are;
-          stop_lines = at_nil (IsStop g m.area (known g.circuit used)) (stops used) stops_are;
-        };
-        few_borders = grind (arith, common_steps, edges_are, halos_are, stops_are);
-      }
+      early_pushed g m is (Use k) follows (omega arith)
+      (ap length cut_wires_use ∙ is.named ∙ sym (ap length (flat_same cut_name_in m.lines (Use k) refl)))
+      (grind (arith, common_steps, used, cut_wires_use, flat_push))
 
 -- ---- edge and halo lines
 
@@ -290,18 +242,18 @@ pub good_border : (c : Circuit) (count : ℕ) (local : List ℕ) (placed : Bool)
 unfolding border_line_code
 good_border c count local placed signal e = grind (arith, common_steps, both_none, less, no_code, true_from_not)
 
-pub edge_good : (g : Setting) (area : Box2) (local : List ℕ) (count : ℕ) (starred : Bool) (e : BorderLine) →
+edge_good : (g : Setting) (area : Box2) (local : List ℕ) (count : ℕ) (starred : Bool) (e : BorderLine) →
     IsGoodBorder g.circuit count local (is_edge_place_and_time g.size area starred e) e.signal → IsEdge g area local e
 unfolding is_edge_place_and_time
 edge_good g area local count starred e good =
     grind (arith, common_steps, and_parts, false_from_not, time_good, signal_good)
 
-pub halo_good : (g : Setting) (area : Box2) (local : List ℕ) (count : ℕ) (starred : Bool) (e : BorderLine) →
+halo_good : (g : Setting) (area : Box2) (local : List ℕ) (count : ℕ) (starred : Bool) (e : BorderLine) →
     IsGoodBorder g.circuit count local (is_halo_place_and_time g.size area starred e) e.signal → IsHalo g area local e
 unfolding is_halo_place_and_time
 halo_good g area local count starred e good = grind (arith, common_steps, and_parts, time_good, signal_good)
 
-pub stop_good : (g : Setting) (area : Box2) (local : List ℕ) (count : ℕ) (s : StopLine) →
+stop_good : (g : Setting) (area : Box2) (local : List ℕ) (count : ℕ) (s : StopLine) →
     IsGoodBorder g.circuit count local (is_stop_place_and_time g.size area s) (Some s.wire) → IsStop g area local s
 unfolding is_stop_place_and_time
 stop_good g area local count s good =
@@ -312,16 +264,56 @@ stop_good g area local count s good =
       wire = signal_good g.circuit local (Some s.wire) good.names;
     }
 
-pub edges_edge : (m : ModuleLines) (e : BorderLine) → edges (module_with_line (Edge e) m) ≡ edges m ++ e ∷ []
-edges_edge m e = flat_push edge_in m.lines (Edge e)
+module _ (g : Setting) (m : ModuleLines) where
+  pub good_edge : (e : BorderLine) → edge_line_code g m e ≡ None → IsEdge g m.area (known g.circuit m) e
+  good_edge e code = edge_good g m.area _ _ _ e (good_border _ _ _ _ _ code)
 
-pub halos_halo : (m : ModuleLines) (e : BorderLine) → halos (module_with_line (Halo e) m) ≡ halos m ++ e ∷ []
-halos_halo m e = flat_push halo_in m.lines (Halo e)
+  pub good_halo : (e : BorderLine) → halo_line_code g m e ≡ None → IsHalo g m.area (known g.circuit m) e
+  good_halo e code = halo_good g m.area _ _ _ e (good_border _ _ _ _ _ code)
 
-pub stops_stop : (m : ModuleLines) (s : StopLine) → stops (module_with_line (Stop s) m) ≡ stops m ++ s ∷ []
-stops_stop m s = flat_push stop_in m.lines (Stop s)
+  pub good_stop : (s : StopLine) → stop_line_code g m s ≡ None → IsStop g m.area (known g.circuit m) s
+  good_stop s code = stop_good g m.area _ _ s (good_border _ _ _ _ _ code)
 
--- a line that cuts and uses nothing leaves the local wires
+-- ---- a kept gate
+
+pub keep_good : (g : Setting) (used : List ℕ) (k : ℕ) → keep_line_code g.circuit used k ≡ None → IsKeep g used k
+unfolding keep_line_code
+keep_good g mine k e = grind (arith, common_steps, both_none, true_from_not, no_code)
+
+-- ---- a line that cuts and uses nothing
+
+-- what such a line adds is good
+module _ (g : Setting) (m : ModuleLines) where
+  keeps_in : (i : CertificateLine) → content_code g m i ≡ None → All (IsKeep g (gates m)) (kept_gate_in i)
+  keeps_in (Keep k) good = all_one (IsKeep g (gates m)) k (keep_good g (gates m) k good)
+  keeps_in i good = All-nil (IsKeep g (gates m))
+
+  edges_in : (i : CertificateLine) → content_code g m i ≡ None → All (IsEdge g m.area (known g.circuit m)) (edge_in i)
+  edges_in (Edge e) good = all_one (IsEdge g m.area (known g.circuit m)) e (good_edge g m e good)
+  edges_in i good = All-nil (IsEdge g m.area (known g.circuit m))
+
+  halos_in : (i : CertificateLine) → content_code g m i ≡ None → All (IsHalo g m.area (known g.circuit m)) (halo_in i)
+  halos_in (Halo e) good = all_one (IsHalo g m.area (known g.circuit m)) e (good_halo g m e good)
+  halos_in i good = All-nil (IsHalo g m.area (known g.circuit m))
+
+  stops_in : (i : CertificateLine) → content_code g m i ≡ None → All (IsStop g m.area (known g.circuit m)) (stop_in i)
+  stops_in (Stop s) good = all_one (IsStop g m.area (known g.circuit m)) s (good_stop g m s good)
+  stops_in i good = All-nil (IsStop g m.area (known g.circuit m))
+
+  stars_in : (i : CertificateLine) → content_code g m i ≡ None → StarsExcludeLaterTimes (edges m) →
+      StarsExcludeLaterTimes (edges m ++ edge_in i)
+  stars_in (Edge e) good free =
+      unstarred_push (edges m) e free (free_of_star g m.area _ e (good_border _ _ _ _ _ good).place)
+  stars_in i good free = subst StarsExcludeLaterTimes (sym (append-nil (edges m))) free
+
+  few_in : (i : CertificateLine) → content_code g m i ≡ None → timed_line_count m ≤ timed_line_limit →
+      timed_line_count m + length (edge_in i) + length (halo_in i) + length (stop_in i) ≤ timed_line_limit
+  few_in (Edge e) good few = let less = (good_border _ _ _ _ _ good).few in omega (arith, less)
+  few_in (Halo e) good few = let less = (good_border _ _ _ _ _ good).few in omega (arith, less)
+  few_in (Stop s) good few = let less = (good_border _ _ _ _ _ good).few in omega (arith, less)
+  few_in i good few = omega (arith, few)
+
+-- it leaves the local wires
 module _ (g : Setting) (m : ModuleLines) (i : CertificateLine) (no_cut : cut_name_in i ≡ [])
     (no_use : used_gate_in i ≡ []) where
   cuts_same : cuts (module_with_line i m) ≡ cuts m
@@ -336,72 +328,16 @@ module _ (g : Setting) (m : ModuleLines) (i : CertificateLine) (no_cut : cut_nam
   pub known_same : known g.circuit (module_with_line i m) ≡ known g.circuit m
   known_same = ap₂ (λ cs gs. local_wires g.circuit.netlist cs gs) cut_wires_same gates_same
 
-  local_same : AreLocalLines g.circuit.netlist (cut_wires g.circuit m) (gates m) →
-      AreLocalLines g.circuit.netlist (cut_wires g.circuit (module_with_line i m)) (gates (module_with_line i m))
-  local_same l = grind (arith, common_steps, cut_wires_same, gates_same)
+  all_more : {A : Type 0} (f : CertificateLine → List A) (P : A → Type 0) → All P (flat_map f m.lines) → All P (f i) →
+      All P (flat_map f (m.lines ++ i ∷ []))
+  all_more f P before new =
+      subst (All P) (sym (flat_push f m.lines i)) (All-append P (flat_map f m.lines) (f i) before new)
 
-  -- and the kept gates, where it keeps nothing
-  keeps_same : kept_gate_in i ≡ [] → All (IsKeep g (gates m)) (keeps m) →
-      All (IsKeep g (gates (module_with_line i m))) (keeps (module_with_line i m))
-  keeps_same no_keep all = grind (arith, common_steps, flat_same, gates_same)
-
--- ---- a kept gate
-
-pub keep_good : (g : Setting) (used : List ℕ) (k : ℕ) → keep_line_code g.circuit used k ≡ None → IsKeep g used k
-unfolding keep_line_code
-keep_good g mine k e = grind (arith, common_steps, both_none, true_from_not, no_code)
-
-keeps_keep : (m : ModuleLines) (k : ℕ) → keeps (module_with_line (Keep k) m) ≡ keeps m ++ k ∷ []
-keeps_keep m k = flat_push kept_gate_in m.lines (Keep k)
-
-pub keep_pushed : (g : Setting) (m : ModuleLines) → IsModuleInLimits g m → (k : ℕ) →
-    may_follow m.lines (Keep k) ≡ true →
-    keep_line_code g.circuit (gates m) k ≡ None → IsModuleInLimits g (module_with_line (Keep k) m)
-keep_pushed g m written k follows good =
-    let is = written.good in
-    let more = module_with_line (Keep k) m in
-    let here : IsKeep g (gates m) k = keep_good g (gates m) k good in
-    let edges_are : edges more ≡ edges m = flat_same edge_in m.lines (Keep k) refl in
-    let halos_are : halos more ≡ halos m = flat_same halo_in m.lines (Keep k) refl in
-    let stops_are : stops more ≡ stops m = flat_same stop_in m.lines (Keep k) refl in
-    let same = known_same g m (Keep k) refl refl in
-    record {
-      good = record {
-        even = is.even;
-        wide = is.wide;
-        high = is.high;
-        inside = is.inside;
-        named = grind (arith, common_steps, cut_wires_same, cuts_same);
-        local = local_same g m (Keep k) refl refl is.local;
-        order = order_push m.lines (Keep k) is.order follows;
-        keep_lines = grind (arith, common_steps, more, gates_same, keeps_keep);
-        unstarred = subst StarsExcludeLaterTimes (sym edges_are) is.unstarred;
-        edge_lines = grind (arith, common_steps, more, edges_are);
-        halo_lines = grind (arith, common_steps, more, halos_are);
-        stop_lines = grind (arith, common_steps, more, stops_are);
-      };
-      few_borders = grind (arith, common_steps, edges_are, halos_are, stops_are);
-    }
-
-module _ (g : Setting) (m : ModuleLines) (is : IsModule g m) (e : BorderLine) where
-  pub edge_pushed : may_follow m.lines (Edge e) ≡ true → edge_line_code g m e ≡ None →
-      IsModuleInLimits g (module_with_line (Edge e) m)
-  unfolding rank_of
-  edge_pushed follows good =
-      let more = module_with_line (Edge e) m in
-      let b = good_border g.circuit (timed_line_count m) (known g.circuit m)
-      (is_edge_place_and_time g.size m.area (list_any (is_starred_line_at e.cell) (edges m)) e) e.signal good in
-      let here : IsEdge g m.area (known g.circuit m) e =
-      edge_good g m.area (known g.circuit m) (timed_line_count m)
-      (list_any (is_starred_line_at e.cell) (edges m)) e b in
-      let halos_are : halos more ≡ [] =
-      flat_same halo_in m.lines (Edge e) refl
-      ∙ none_before halo_in 5 only_halos (Edge e) (omega arith) m.lines follows in
-      let same = known_same g m (Edge e) refl refl in
-      let n = ap length (edges_edge m e) ∙ length_push (edges m) e in
-      let k = ap length halos_are in
-      let stops_are : stops more ≡ stops m = flat_same stop_in m.lines (Edge e) refl in
-      let q = ap length stops_are in
+  late_pushed : IsModuleInLimits g m → may_follow m.lines i ≡ true → content_code g m i ≡ None →
+      IsModuleInLimits g (module_with_line i m)
+  late_pushed written follows good =
+      let is = written.good in
+      let more = module_with_line i m in
       record {
         good = record {
           even = is.even;
@@ -409,79 +345,32 @@ module _ (g : Setting) (m : ModuleLines) (is : IsModule g m) (e : BorderLine) wh
           high = is.high;
           inside = is.inside;
           named = grind (arith, common_steps, cut_wires_same, cuts_same);
-          local = local_same g m (Edge e) refl refl is.local;
-          order = order_push m.lines (Edge e) is.order follows;
-          keep_lines = keeps_same g m (Edge e) refl refl refl is.keep_lines;
-          unstarred = grind (arith, common_steps, edges_edge, unstarred_push, free_of_star);
-          edge_lines = grind (arith, common_steps, more, edges_edge);
-          halo_lines = at_nil (IsHalo g m.area (known g.circuit more)) (halos more) halos_are;
-          stop_lines = grind (arith, common_steps, more, stops_are);
+          local = grind (arith, common_steps, cut_wires_same, gates_same);
+          order = order_push m.lines i is.order follows;
+          keep_lines = subst (λ gs. All (IsKeep g gs) (keeps more)) (sym gates_same)
+              (all_more kept_gate_in (IsKeep g (gates m)) is.keep_lines (keeps_in g m i good));
+          unstarred = subst StarsExcludeLaterTimes (sym (flat_push edge_in m.lines i))
+              (stars_in g m i good is.unstarred);
+          edge_lines = subst (λ ws. All (IsEdge g m.area ws) (edges more)) (sym known_same)
+              (all_more edge_in (IsEdge g m.area (known g.circuit m)) is.edge_lines (edges_in g m i good));
+          halo_lines = subst (λ ws. All (IsHalo g m.area ws) (halos more)) (sym known_same)
+              (all_more halo_in (IsHalo g m.area (known g.circuit m)) is.halo_lines (halos_in g m i good));
+          stop_lines = subst (λ ws. All (IsStop g m.area ws) (stops more)) (sym known_same)
+              (all_more stop_in (IsStop g m.area (known g.circuit m)) is.stop_lines (stops_in g m i good));
         };
-        few_borders = let f = b.few in omega (arith, n, k, q, f);
+        few_borders = simp (flat_push, length-append)
+            (let few = few_in g m i good written.few_borders in omega (arith, few));
       }
 
-  pub halo_pushed : may_follow m.lines (Halo e) ≡ true → halo_line_code g m e ≡ None →
-      IsModuleInLimits g (module_with_line (Halo e) m)
-  halo_pushed follows good =
-      let more = module_with_line (Halo e) m in
-      let b = good_border g.circuit (timed_line_count m) (known g.circuit m)
-      (is_halo_place_and_time g.size m.area (list_any (is_starred_line_at e.cell) (halos m)) e) e.signal good in
-      let here : IsHalo g m.area (known g.circuit m) e =
-      halo_good g m.area (known g.circuit m) (timed_line_count m)
-      (list_any (is_starred_line_at e.cell) (halos m)) e b in
-      let edges_are : edges more ≡ edges m = flat_same edge_in m.lines (Halo e) refl in
-      let same = known_same g m (Halo e) refl refl in
-      let n = ap length (halos_halo m e) ∙ length_push (halos m) e in
-      let k = ap length edges_are in
-      let stops_are : stops more ≡ stops m = flat_same stop_in m.lines (Halo e) refl in
-      let q = ap length stops_are in
-      record {
-        good = record {
-          even = is.even;
-          wide = is.wide;
-          high = is.high;
-          inside = is.inside;
-          named = grind (arith, common_steps, cut_wires_same, cuts_same);
-          local = local_same g m (Halo e) refl refl is.local;
-          order = order_push m.lines (Halo e) is.order follows;
-          keep_lines = keeps_same g m (Halo e) refl refl refl is.keep_lines;
-          unstarred = subst StarsExcludeLaterTimes (sym edges_are) is.unstarred;
-          edge_lines = grind (arith, common_steps, more, edges_are);
-          halo_lines = grind (arith, common_steps, more, halos_halo);
-          stop_lines = grind (arith, common_steps, more, stops_are);
-        };
-        few_borders = let f = b.few in omega (arith, n, k, q, f);
-      }
+-- ---- any line of a module
 
-module _ (g : Setting) (m : ModuleLines) (is : IsModule g m) (s : StopLine) where
-  pub stop_pushed : may_follow m.lines (Stop s) ≡ true → stop_line_code g m s ≡ None →
-      IsModuleInLimits g (module_with_line (Stop s) m)
-  stop_pushed follows good =
-      let more = module_with_line (Stop s) m in
-      let b = good_border g.circuit (timed_line_count m) (known g.circuit m) (is_stop_place_and_time g.size m.area s)
-      (Some s.wire) good in
-      let here : IsStop g m.area (known g.circuit m) s =
-      stop_good g m.area (known g.circuit m) (timed_line_count m) s b in
-      let edges_are : edges more ≡ edges m = flat_same edge_in m.lines (Stop s) refl in
-      let halos_are : halos more ≡ halos m = flat_same halo_in m.lines (Stop s) refl in
-      let same = known_same g m (Stop s) refl refl in
-      let n = ap length (stops_stop m s) ∙ length_push (stops m) s in
-      let k = ap length edges_are in
-      let q = ap length halos_are in
-      record {
-        good = record {
-          even = is.even;
-          wide = is.wide;
-          high = is.high;
-          inside = is.inside;
-          named = grind (arith, common_steps, cut_wires_same, cuts_same);
-          local = local_same g m (Stop s) refl refl is.local;
-          order = order_push m.lines (Stop s) is.order follows;
-          keep_lines = keeps_same g m (Stop s) refl refl refl is.keep_lines;
-          unstarred = subst StarsExcludeLaterTimes (sym edges_are) is.unstarred;
-          edge_lines = grind (arith, common_steps, more, edges_are);
-          halo_lines = grind (arith, common_steps, more, halos_are);
-          stop_lines = grind (arith, common_steps, more, stops_stop);
-        };
-        few_borders = let f = b.few in omega (arith, n, k, q, f);
-      }
+pub pushed : (g : Setting) (m : ModuleLines) → IsModuleInLimits g m → (i : CertificateLine) → IsBodyLine i →
+    may_follow m.lines i ≡ true → content_code g m i ≡ None → IsModuleInLimits g (module_with_line i m)
+pushed g m is (Module b) body follows good = absurd body
+pushed g m is (Cut n) body follows good =
+    let words = new_wire g.circuit _ _ n good in
+    cut_pushed g m is.good n follows words.1.wire words.1.named words.0 words.1.new
+pushed g m is (Use k) body follows good =
+    let words = good_use g.circuit _ _ k good in
+    use_pushed g m k is.good follows words.0 words.1
+pushed g m is i body follows good = late_pushed g m i refl refl is follows good

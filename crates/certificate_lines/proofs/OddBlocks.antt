@@ -1,24 +1,24 @@
 -- The modules beside the cell of an edge line, by the cells of its block at odd times
-use Rattle.certificate_lines.proofs.Imports.{subst, AreApart, AreOwners, Bool, BorderLine, Box2, Cell, Circuit, IsEven}
+use Rattle.certificate_lines.proofs.Imports.{AreApart, Bool, BorderLine, Box2, Cell, Circuit, IsEven}
 use Rattle.certificate_lines.proofs.Imports.{List, ModuleLines, None, Option, Some, [], and-false, ap, ap₂, areas}
 use Rattle.certificate_lines.proofs.Imports.{arith, cases_Bool, common_steps, cond-false, cond-true}
-use Rattle.certificate_lines.proofs.Imports.{does_neighbour_lack_wire, eqb-true, false, false≢true, in_box, in_box_nats}
+use Rattle.certificate_lines.proofs.Imports.{does_neighbour_lack_wire, eqb-true, false, in_box, in_box_nats}
 use Rattle.certificate_lines.proofs.Imports.{in_halo, inl, inr, ints, is_local_wire, is_nonlocal_signal}
-use Rattle.certificate_lines.proofs.Imports.{is_outside_and_nonlocal, known, lacks_edge_wire, list_any, map}
-use Rattle.certificate_lines.proofs.Imports.{mapped_from, ne_eqb, not, option_map, or-false, partner, pos, rectangle}
-use Rattle.certificate_lines.proofs.Imports.{rectangle_of, refl, slice_get, slice_get-map, suc, sym, true, zero, ℕ, ℤ}
+use Rattle.certificate_lines.proofs.Imports.{is_outside_and_nonlocal, known, lacks_edge_wire, list_any}
+use Rattle.certificate_lines.proofs.Imports.{mapped_from, ne_eqb, not, or-false, partner, pos}
+use Rattle.certificate_lines.proofs.Imports.{rectangle_of, refl, slice_get, slice_get_within, length, suc, sym, true}
+use Rattle.certificate_lines.proofs.Imports.{zero, ℕ, ℤ}
 use Rattle.certificate_lines.proofs.Imports.{◌%◌, ◌&&◌, ◌<◌, ◌||◌, ◌∙◌, ◌∷◌, ◌≡◌, ◌≤◌, ◌⊎◌}
-use Rattle.certificate_lines.specs.StoredModules.{module_lines}
-use Rattle.certificate_lines.specs.declared.stored_module.StoredModule.{StoredModule}
 use Rattle.lemmas.proofs.Common.{◌+ℤ◌, ◌-ℤ◌, ◌≤ℤ◌, eq-eqb, negsuc, eqb-false}
 use Rattle.bbm_rule.specs.Plane.{parity}
 use Rattle.bbm_rule.specs.Spans.{in_span}
 use Rattle.bbm_rule.proofs.Spans.{even_span}
-use Rattle.module_box.specs.Tiling.{OwnersView, owner_of}
+use Rattle.module_box.specs.Tiling.{Holds}
 use Rattle.bbm_rule.proofs.RingTests.{halo_read}
-use Rattle.certificate_lines.specs.BuilderView.{IsModuleWithCell, is_nonlocal_in_neighbour}
+use Rattle.certificate_lines.specs.BuilderView.{is_nonlocal_in_neighbour}
 use Rattle.certificate_lines.proofs.AnyLines.{any_filter}
 use Rattle.certificate_lines.proofs.LackedWires.{any_either, any_same, any_swap, none_any}
+use Rattle.lemmas.proofs.Common.{mapped_at}
 use Rattle.certificate_lines.proofs.Lists.{some_is}
 
 -- ---- columns and rows
@@ -127,47 +127,29 @@ same_at f g (x ∷ xs) h = ap₂ (λ a b. a || b) (h 0 x refl) (same_at f g xs (
 
 pub area_of : (ms : List ModuleLines) (k : ℕ) (m : ModuleLines) → slice_get ms k ≡ Some m →
     slice_get (areas ms) k ≡ Some m.area
-area_of [] k m at = absurd cc
-area_of (n ∷ ms) zero m at = ap (λ (z : ModuleLines). Some z.area) (some_is n m at)
-area_of (n ∷ ms) (suc k) m at = area_of ms k m at
-
--- by a table
-module _ (ms : List ModuleLines) (o : OwnersView) (good : AreOwners o (areas ms)) (c : Cell) where
-  pub cell_owned : in_box (rectangle o) c.x c.y ≡ true → IsModuleWithCell ms c (Some (owner_of o c.x c.y))
-  cell_owned inside = grind (arith, common_steps, mapped_from)
-
-  pub cell_outside : in_box (rectangle o) c.x c.y ≡ false → IsModuleWithCell ms c None
-  cell_outside outside k m at = elim (cases_Bool (in_box m.area c.x c.y)) [
-    | inl here ↦ absurd (false≢true (sym outside ∙ good.tile.inside c.x c.y k m.area (area_of ms k m at) here))
-    | inr there ↦ there
-  ]
-
--- by the modules that are kept
-module _ (d : Circuit) (ms : List StoredModule) (c : Cell) where
-  pub cell_found : (k : ℕ) (of : StoredModule) → slice_get ms k ≡ Some of → in_box of.area c.x c.y ≡ true →
-      IsModuleWithCell (map (module_lines d) ms) c (Some k)
-  cell_found k of at here =
-      (module_lines d of, slice_get-map (module_lines d) ms k ∙ ap (option_map (module_lines d)) at, here)
-
-  pub cell_missing : ((k : ℕ) (of : StoredModule) → slice_get ms k ≡ Some of → in_box of.area c.x c.y ≡ false) →
-      IsModuleWithCell (map (module_lines d) ms) c None
-  cell_missing none k m at =
-      let from = mapped_from (module_lines d) ms k m at in
-      subst (λ (n : ModuleLines). in_box n.area c.x c.y ≡ false) from.2 (none k from.0 from.1)
+area_of ms k m at = mapped_at (λ (n : ModuleLines). n.area) ms k m at
 
 module _ (ms : List ModuleLines) (apart : AreApart (areas ms)) (c : Cell) (q : ModuleLines → Bool) where
-  pub asked_owner : (k : ℕ) (r : Bool) → IsModuleWithCell ms c (Some k) →
+  pub asked_owner : (k : ℕ) (r : Bool) → Holds (areas ms) c.x c.y k →
       ((m : ModuleLines) → slice_get ms k ≡ Some m → r ≡ q m) →
       r ≡ list_any (λ (m : ModuleLines). in_box m.area c.x c.y && q m) ms
-  asked_owner k r m answer =
+  asked_owner k r h answer =
+      let m = mapped_from (λ (m : ModuleLines). m.area) ms k h.area h.numbered in
+      let here : in_box m.0.area c.x c.y ≡ true = ap (λ (b : Box2). in_box b c.x c.y) m.2 ∙ h.has in
       answer m.0 m.1
-      ∙ sym (one_passes (λ (n : ModuleLines). in_box n.area c.x c.y) q ms k m.0 m.1 m.2
-      (λ i n at here. apart.once c.x c.y i k n.area m.0.area (area_of ms i n at) (area_of ms k m.0 m.1) here m.2))
+      ∙ sym (one_passes (λ (n : ModuleLines). in_box n.area c.x c.y) q ms k m.0 m.1 here
+      (λ i n at there. apart.once c.x c.y i k n.area h.area (area_of ms i n at) h.numbered there h.has))
 
-  pub asked_none : IsModuleWithCell ms c None → false ≡ list_any (λ (m : ModuleLines). in_box m.area c.x c.y && q m) ms
+  pub asked_none : ((i : ℕ) → ¬ Holds (areas ms) c.x c.y i) →
+      false ≡ list_any (λ (m : ModuleLines). in_box m.area c.x c.y && q m) ms
   asked_none none =
       sym (none_passes (λ (n : ModuleLines). in_box n.area c.x c.y) q ms
-      (λ i n at here. false≢true (sym (none i n at) ∙ here)))
+      (λ i n at here. none i (record { area = n.area; numbered = area_of ms i n at; has = here })))
+
+-- the number of a box is that of a module
+pub owner_within : (ms : List ModuleLines) (x y : ℤ) (k : ℕ) → Holds (areas ms) x y k → k < length ms
+owner_within ms x y k h =
+    let m = mapped_from (λ (m : ModuleLines). m.area) ms k h.area h.numbered in slice_get_within ms k m.0 m.1
 
 -- ---- the modules that lack the wire of an edge line
 

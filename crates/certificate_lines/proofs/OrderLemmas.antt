@@ -1,45 +1,22 @@
 -- Lines in order: what comes after the last comes after all.
-use Rattle.certificate_lines.proofs.Imports.{AreInOrder, Bool, Box2, CertificateLine, Cut, Edge, Equal, Halo}
-use Rattle.certificate_lines.proofs.Imports.{IsBodyLine, IsTotalOrder, Keep, Less, LineKey, List, Module, None, Option}
-use Rattle.certificate_lines.proofs.Imports.{Ordering, Some, Stop, Use, [], and_parts, ap, arith, cell_cmp, cell_of}
-use Rattle.certificate_lines.proofs.Imports.{cell_total, common_steps, false, inl, inr, is_cut, is_lt, key_of}
-use Rattle.certificate_lines.proofs.Imports.{key_or_first, last_body_line, last_of, line_cmp, list_all, may_follow}
-use Rattle.certificate_lines.proofs.Imports.{may_precede, nat_cmp_total, ne_eqb, on_total, or-false, or_cases, or_right}
-use Rattle.certificate_lines.proofs.Imports.{rank_of, refl, sort_number_of, sym, then_total, true, ℕ, ◌&&◌, ◌++◌}
-use Rattle.certificate_lines.proofs.Imports.{◌∙◌, ◌∷◌, ◌≡◌, ◌⊎◌}
+use Rattle.certificate_lines.proofs.Imports.{AreInOrder, Bool, Box2, CertificateLine, Cut, Equal, IsBodyLine}
+use Rattle.certificate_lines.proofs.Imports.{IsTotalOrder, Less, LineKey, List, Module, None, Option, Some, []}
+use Rattle.certificate_lines.proofs.Imports.{and_parts, ap, arith, cell_cmp, cell_of, cell_total, common_steps, false}
+use Rattle.certificate_lines.proofs.Imports.{inl, inr, is_cut, is_lt, key_of, key_or_first, last_body_line, last_of}
+use Rattle.certificate_lines.proofs.Imports.{line_cmp, list_all, may_follow, may_precede, nat_cmp_total, ne_eqb}
+use Rattle.certificate_lines.proofs.Imports.{on_total, or-false, or_cases, or_right, rank_of, refl, sort_number_of, sym}
+use Rattle.certificate_lines.proofs.Imports.{then_total, true, ◌&&◌, ◌++◌, ◌∙◌, ◌∷◌, ◌≡◌, ◌⊎◌}
 use Rattle.lemmas.proofs.Common.{nat_cmp, and-true}
 use Rattle.std.specs.Cmp.{nat_cmp_is}
 use Rattle.certificate_lines.specs.BuilderView.{body_line_or_none}
 use Rattle.certificate_lines.proofs.Growing.{last_pushed}
+use Rattle.certificate_lines.proofs.LineOrder.{is_before}
 use Rattle.certificate_lines.proofs.LineRanks.{cut_rank}
 
 line_total : IsTotalOrder line_cmp
 unfolding line_cmp
 line_total = then_total (on_total rank_of nat_cmp_total)
     (then_total (on_total sort_number_of nat_cmp_total) (on_total cell_of cell_total))
-
-is_less : (o : Ordering) → is_lt o ≡ true → o ≡ Less
-is_less Less h = refl
-is_less _ h = cc
-
--- what a cut is
-record IsCut (i : CertificateLine) : Type 0 where
-  name : List ℕ
-  same : i ≡ Cut name
-
-cut_is : (i : CertificateLine) → is_cut i ≡ true → IsCut i
-unfolding is_cut
-cut_is (Cut n) h = record { name = n; same = refl }
-cut_is _ h = absurd cc
-
--- a cut stands where any other stands
-after_cut : (m n : List ℕ) (i : CertificateLine) → line_cmp (Cut m) i ≡ line_cmp (Cut n) i
-unfolding line_cmp rank_of sort_number_of cell_of
-after_cut m n i = refl
-
-before_cut : (m n : List ℕ) (i : CertificateLine) → line_cmp i (Cut m) ≡ line_cmp i (Cut n)
-unfolding line_cmp rank_of sort_number_of cell_of
-before_cut m n i = refl
 
 by_less : (i j : CertificateLine) → line_cmp i j ≡ Less → may_precede i j ≡ true
 unfolding may_precede
@@ -64,21 +41,21 @@ cells_precede i j ranks uncut numbers =
 precede_parts : (i j : CertificateLine) → may_precede i j ≡ true →
     (line_cmp i j ≡ Less) ⊎ ((is_cut i ≡ true) × (is_cut j ≡ true))
 unfolding may_precede
-precede_parts i j h = grind (arith, common_steps, or_cases, is_less, and_parts)
+precede_parts i j h = grind (arith, common_steps, or_cases, is_before, and_parts)
 
 less_then_cut : (i j k : CertificateLine) → line_cmp i j ≡ Less → is_cut j ≡ true → is_cut k ≡ true →
     line_cmp i k ≡ Less
-less_then_cut i j k less cj ck =
-    let p = cut_is j cj in
-    let q = cut_is k ck in
-    ap (line_cmp i) q.same ∙ before_cut q.name p.name i ∙ ap (line_cmp i) (sym p.same) ∙ less
+unfolding line_cmp rank_of sort_number_of cell_of is_cut
+less_then_cut i (Cut m) (Cut n) less cj ck = less
+less_then_cut i (Cut m) k less cj ck = absurd cc
+less_then_cut i j k less cj ck = absurd cc
 
 cut_then_less : (i j k : CertificateLine) → line_cmp j k ≡ Less → is_cut i ≡ true → is_cut j ≡ true →
     line_cmp i k ≡ Less
-cut_then_less i j k less ci cj =
-    let p = cut_is i ci in
-    let q = cut_is j cj in
-    grind (arith, common_steps, after_cut)
+unfolding line_cmp rank_of sort_number_of cell_of is_cut
+cut_then_less (Cut m) (Cut n) k less ci cj = less
+cut_then_less (Cut m) j k less ci cj = absurd cc
+cut_then_less i j k less ci cj = absurd cc
 
 precede_trans : (i j k : CertificateLine) → may_precede i j ≡ true → may_precede j k ≡ true → may_precede i k ≡ true
 precede_trans i j k h h' = elim (precede_parts i j h) [
@@ -100,9 +77,7 @@ last_passes p i [] l all last = grind (arith, common_steps, and_parts)
 last_passes p i (j ∷ lines) l all last = last_passes p j lines l (and_parts (p i) (list_all p (j ∷ lines)) all).1 last
 
 and_same : (a b : Bool) → (b ≡ true → a ≡ true) → (a && b) ≡ b
-and_same a true h = rw (h refl) refl
-and_same true false h = refl
-and_same false false h = refl
+and_same a b h = grind arith
 
 follows : (x : CertificateLine) (lines : List CertificateLine) (l i : CertificateLine) → AreInOrder (x ∷ lines) →
     last_of (x ∷ lines) ≡ Some l →
@@ -145,12 +120,7 @@ module_first b _ inner = refl
 pub follows_inner : (lines : List CertificateLine) (l i : CertificateLine) → IsBodyLine i → AreInOrder lines →
     last_of lines ≡ body_line_or_none (Some l) → may_precede l i ≡ may_follow lines i
 follows_inner lines (Module b) i inner order last = module_first b i inner ∙ follows_none lines i last
-follows_inner lines (Cut n) i inner order last = follows_last lines (Cut n) i order last
-follows_inner lines (Use k) i inner order last = follows_last lines (Use k) i order last
-follows_inner lines (Keep k) i inner order last = follows_last lines (Keep k) i order last
-follows_inner lines (Edge e) i inner order last = follows_last lines (Edge e) i order last
-follows_inner lines (Halo e) i inner order last = follows_last lines (Halo e) i order last
-follows_inner lines (Stop s) i inner order last = follows_last lines (Stop s) i order last
+follows_inner lines l i inner order last = follows_last lines l i order last
 
 -- whether a line may come after the others, by the key of the last
 pub follows_key : (o : Option CertificateLine) (k : LineKey) (i : CertificateLine) (b : Bool) → IsBodyLine i →

@@ -43,12 +43,19 @@ unfolding Each Pairs
 pairs_append R [] ys p q h = q
 pairs_append R (x ∷ xs) ys p q h = (each_append (R x) xs ys p.0 h.0, pairs_append R xs ys p.1 q h.1)
 
+each_swap : {A B : Type 0} (P : A → Type 0) (Q : A → B → Type 0) (bs : List B) →
+    ((a : A) → P a → Each (Q a) bs) → Each (λ b. (a : A) → P a → Q a b) bs
+unfolding Each
+each_swap P Q [] h = tt
+each_swap P Q (b ∷ bs) h = ((λ a p. (h a p).0), each_swap P Q bs (λ a p. (h a p).1))
+
 pub pairs_flat : {A B : Type 0} (R : A → A → Type 0) (S : B → B → Type 0) (f : A → List B) →
-    ((x : A) → Each (λ b. (y : A) → R x y → Each (S b) (f y)) (f x)) → ((x : A) → Pairs S (f x)) →
+    ((x y : A) → R x y → Each (λ b. Each (S b) (f y)) (f x)) → ((x : A) → Pairs S (f x)) →
     (xs : List A) → Pairs R xs → Pairs S (flat_map f xs)
 unfolding Pairs
 pairs_flat R S f between alone [] p = p
 pairs_flat R S f between alone (x ∷ xs) p =
+    let beside = each_swap (R x) (λ y b. Each (S b) (f y)) (f x) (between x) in
     grind (arith, common_steps, pairs_flat R S f between alone xs p.1, pairs_append, each_map, each_flat)
 
 pub pairs_at : {A : Type 0} (R : A → A → Type 0) (xs : List A) → Pairs R xs → (i j : ℕ) (a b : A) → i < j →

@@ -5,8 +5,7 @@ use Rattle.certificate_lines.proofs.Imports.{length, list_any, list_any-append, 
 use Rattle.certificate_lines.proofs.Imports.{◌&&◌, ◌++◌, ◌||◌, ◌∙◌, ◌∷◌, ◌≡◌}
 
 by_true : (a : Bool) → a ≡ true → a ≡ (a || true)
-by_true true h = refl
-by_true false h = h
+by_true a h = grind arith
 
 starred : (t : Option ℕ) (b : Bool) → is_some t ≡ false → b ≡ (is_star t && b)
 starred None b h = refl

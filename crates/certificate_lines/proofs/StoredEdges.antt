@@ -3,19 +3,14 @@ use Rattle.certificate_lines.proofs.Imports.{All, AreGoodModulesSoFar, AreInBox,
 use Rattle.certificate_lines.proofs.Imports.{List, Setting, Some, [], ap, does_neighbour_lack_wire, edges, flat_map}
 use Rattle.certificate_lines.proofs.Imports.{get_or, in_box, lacks_edge_wire, length, list_any, map, modules_of}
 use Rattle.certificate_lines.proofs.Imports.{option_map, refl, slice_get, slice_get-get_or, slice_get-map, subst, sym}
-use Rattle.certificate_lines.proofs.Imports.{whole, ℕ, ◌<◌, All-tail, ◌||◌, ◌∙◌, ◌∷◌, ◌≡◌}
-use Rattle.lemmas.proofs.Common.{All-head, All-cons, All-nil}
+use Rattle.certificate_lines.proofs.Imports.{whole, ℕ, ◌<◌, ◌||◌, ◌∙◌, ◌∷◌, ◌≡◌}
+use Rattle.lemmas.proofs.Common.{all_unmapped}
 use Rattle.certificate_lines.specs.StoredModules.{IsWithin, border_line, lines_of_modules, module_lines}
 use Rattle.certificate_lines.specs.declared.stored_module.StoredModule.{StoredModule}
 use Rattle.certificate_lines.proofs.AnyLines.{any_flat}
 use Rattle.certificate_lines.proofs.LackedWires.{any_same, edge_inside}
 use Rattle.certificate_lines.proofs.OddBlocks.{lacked_by_lines}
 use Rattle.certificate_lines.proofs.StoredLemmas.{edges_with, modules_stored}
-
-all_mapped : {X Y : Type 0} (P : Y → Type 0) (f : X → Y) (xs : List X) → All P (map f xs) → All (λ x. P (f x)) xs
-all_mapped P f [] h = All-nil (λ x. P (f x))
-all_mapped P f (x ∷ xs) h = All-cons (λ y. P (f y)) x xs (All-head P (f x) (map f xs) h)
-    (all_mapped P f xs (All-tail P (f x) (map f xs) h))
 
 -- they are for cells of the rectangle
 pub lines_on_layout : (g : Setting) (ms : List StoredModule) →
@@ -27,7 +22,8 @@ lines_on_layout g ms sound k n within is i b lt =
     ∙ slice_get-map (module_lines c) ms k ∙ ap (option_map (module_lines c)) (slice_get-get_or ms k n within
     ∙ ap Some (sym is)))).good in
     let all = subst (AreInBox (whole g.size)) (edges_with c n n.halos.items) (edge_inside g (module_lines c n) good) in
-    all_mapped (λ (e : BorderLine). IsTrue (in_box (whole g.size) e.cell.x e.cell.y)) (border_line c) n.edges.items all
+    all_unmapped (λ (e : BorderLine). IsTrue (in_box (whole g.size) e.cell.x e.cell.y))
+    (border_line c) n.edges.items all
     i b lt
 
 -- ---- the edge lines that are kept

@@ -1,15 +1,15 @@
 -- The lines of stored modules, and the modules of these lines
-use Rattle.certificate_lines.proofs.Imports.{Circuit, CertificateLine, List, ModuleLines, Option, Some, None, []}
-use Rattle.certificate_lines.proofs.Imports.{add_line, ap, append-nil, append_assoc, arith, common_steps, cut_name_in}
-use Rattle.certificate_lines.proofs.Imports.{cuts, edge_in, edges, flat_map, flat_map-append, gates, halo_in}
-use Rattle.certificate_lines.proofs.Imports.{kept_gate_in, map, module_with_line, modules_of, refl, stop_in, sym}
-use Rattle.certificate_lines.proofs.Imports.{used_gate_in, Cut, Use, Keep, Edge, Halo, Stop, Module, IsBodyLine, All}
-use Rattle.certificate_lines.proofs.Imports.{All-tail, map-append, BorderLine, StopLine, get_or, last_of, slice_get}
-use Rattle.certificate_lines.proofs.Imports.{slice_get-get_or, slice_get_within, subst, suc, ◌-◌, IfSome, areas}
-use Rattle.certificate_lines.proofs.Imports.{last_module, mapped_from, option_map, ◌+◌, Box2, Counts, counts_of}
-use Rattle.certificate_lines.proofs.Imports.{length-map, ◌++◌, ◌∙◌, ◌∷◌, ◌≡◌, ◌<◌, ℕ, length, option_to_list, wire_of}
-use Rattle.certificate_lines.proofs.Imports.{may_follow, rank_of, true}
-use Rattle.lemmas.proofs.Common.{slice_set, fold, All-head}
+use Rattle.certificate_lines.proofs.Imports.{Circuit, CertificateLine, List, ModuleLines, Option, Some, None, [], ap}
+use Rattle.certificate_lines.proofs.Imports.{append-nil, append_assoc, arith, common_steps, cut_name_in, cuts, edge_in}
+use Rattle.certificate_lines.proofs.Imports.{edges, flat_map, flat_map-append, gates, halo_in, kept_gate_in, map}
+use Rattle.certificate_lines.proofs.Imports.{module_with_line, modules_of, refl, stop_in, sym, used_gate_in, Cut, Use}
+use Rattle.certificate_lines.proofs.Imports.{Keep, Edge, Halo, Stop, Module, All, All-tail, map-append, BorderLine}
+use Rattle.certificate_lines.proofs.Imports.{StopLine, get_or, last_of, slice_get, slice_get-get_or, slice_get_within}
+use Rattle.certificate_lines.proofs.Imports.{subst, suc, ◌-◌, IfSome, areas, last_module, mapped_from, option_map, ◌+◌}
+use Rattle.certificate_lines.proofs.Imports.{Counts, counts_of, length-map, ◌++◌, ◌∙◌, ◌∷◌, ◌≡◌, ◌<◌, ℕ, length}
+use Rattle.certificate_lines.proofs.Imports.{option_to_list, wire_of, may_follow, rank_of, true, and_parts, ap₂}
+use Rattle.certificate_lines.proofs.Imports.{body_lines, false_from_not, is_module, list_all, list_all-append, not}
+use Rattle.lemmas.proofs.Common.{Global, Vec, slice_set, All-head, list_all-map}
 use Rattle.std.proofs.Common.{Bor}
 use Rattle.std.specs.Option.{option_copied}
 use Rattle.certificate_lines.specs.Modules.{IsWithinLineLimit}
@@ -18,128 +18,60 @@ use Rattle.certificate_lines.proofs.Growing.{last_by_place, last_mapped}
 use Rattle.certificate_lines.proofs.Lists.{some_is}
 use Rattle.certificate_lines.proofs.LineRanks.{only_uses, only_keeps, only_edges, only_halos, only_stops}
 use Rattle.certificate_lines.proofs.ModuleLemmas.{none_before}
-use Rattle.certificate_lines.proofs.ModuleSplit.{last_changed}
+use Rattle.certificate_lines.proofs.ModuleSplit.{inner_other, split_module, split_other}
 use Rattle.circuit.proofs.Naming.{place_position}
 use Rattle.std.proofs.lemmas.List.Quantifiers.{position-Some}
 use Rattle.std.proofs.lemmas.List.Elements.{All-set}
-use Rattle.std.proofs.lemmas.List.Sums.{fold-append}
+use Rattle.std.proofs.lemmas.List.Folds.{flat_map-map}
+use Rattle.std.proofs.lemmas.Simd.{map-map}
 use Rattle.certificate_lines.specs.Entries.{cut_wires, halos, keeps, stops}
 use Rattle.certificate_lines.specs.StoredModules.{HasOwnWires, IsOwnWire, border_line, body_lines_with}
-use Rattle.certificate_lines.specs.StoredModules.{lines_of_modules}
-use Rattle.certificate_lines.specs.StoredModules.{module_lines, module_lines_with, stop_line, wire_name}
+use Rattle.certificate_lines.specs.StoredModules.{lines_of_modules, module_lines, module_lines_with, stop_line}
+use Rattle.certificate_lines.specs.StoredModules.{wire_name}
 use Rattle.certificate_lines.specs.declared.stored_module.StoredBorder.{StoredBorder}
 use Rattle.certificate_lines.specs.declared.stored_module.StoredModule.{StoredModule}
 use Rattle.certificate_lines.specs.declared.stored_module.StoredStop.{StoredStop}
 
 -- ---- the lines of each kind
 
-none_of : {A X : Type 0} (f : CertificateLine → List A) (g : X → CertificateLine) → ((x : X) → f (g x) ≡ []) →
-    (xs : List X) → flat_map f (map g xs) ≡ []
-none_of f g none [] = refl
-none_of f g none (x ∷ xs) = grind (arith, common_steps, none_of f g none xs)
+none_in : {X A : Type 0} (xs : List X) → ◌≡◌ {A = List A} (flat_map (λ x. []) xs) []
+none_in [] = refl
+none_in (x ∷ xs) = none_in xs
 
-ones_of : {A X : Type 0} (f : CertificateLine → List A) (g : X → CertificateLine) (h : X → A) →
-    ((x : X) → f (g x) ≡ h x ∷ []) → (xs : List X) → flat_map f (map g xs) ≡ map h xs
-ones_of f g h one [] = refl
-ones_of f g h one (x ∷ xs) = grind (arith, common_steps, ones_of f g h one xs)
+ones_in : {X A : Type 0} (h : X → A) (xs : List X) → flat_map (λ x. h x ∷ []) xs ≡ map h xs
+ones_in h [] = refl
+ones_in h (x ∷ xs) = ap (λ l. h x ∷ l) (ones_in h xs)
 
-map_same : {X : Type 0} (xs : List X) → map (λ x. x) xs ≡ xs
-map_same [] = refl
-map_same (x ∷ xs) = ap (λ l. x ∷ l) (map_same xs)
-
--- the lines of six lists
-six_parts : {A : Type 0} (f : CertificateLine → List A) (s t u v w x : List CertificateLine) →
-    flat_map f (s ++ (t ++ (u ++ (v ++ (w ++ x)))))
-    ≡ flat_map f s ++ (flat_map f t ++ (flat_map f u ++ (flat_map f v ++ (flat_map f w ++ flat_map f x))))
-six_parts f s t u v w x = grind (arith, common_steps, flat_map-append)
+all_in : {X : Type 0} (xs : List X) → flat_map (λ x. x ∷ []) xs ≡ xs
+all_in [] = refl
+all_in (x ∷ xs) = ap (λ l. x ∷ l) (all_in xs)
 
 module _ (c : Circuit) (m : StoredModule) (hs : List StoredBorder) where
-  abbrev cut_part : List CertificateLine
-  cut_part = map (λ w. Cut (wire_name c w)) m.cuts.items
-
-  abbrev edge_part : List CertificateLine
-  edge_part = map (λ b. Edge (border_line c b)) m.edges.items
-
-  abbrev halo_part : List CertificateLine
-  halo_part = map (λ b. Halo (border_line c b)) hs
-
-  abbrev stop_part : List CertificateLine
-  stop_part = map (λ s. Stop (stop_line c s)) m.stops.items
-
-  parts : {A : Type 0} (f : CertificateLine → List A) → flat_map f (body_lines_with c m hs)
-      ≡ flat_map f cut_part ++ (flat_map f (map Use m.gates.items) ++ (flat_map f (map Keep m.keeps.items)
-      ++ (flat_map f edge_part ++ (flat_map f halo_part ++ flat_map f stop_part))))
-  parts f = six_parts f cut_part (map Use m.gates.items) (map Keep m.keeps.items) edge_part halo_part stop_part
+  pub kinds : {A : Type 0} (f : CertificateLine → List A) → flat_map f (body_lines_with c m hs)
+      ≡ flat_map (λ w. f (Cut (wire_name c w))) m.cuts.items ++ (flat_map (λ k. f (Use k)) m.gates.items
+      ++ (flat_map (λ k. f (Keep k)) m.keeps.items ++ (flat_map (λ b. f (Edge (border_line c b))) m.edges.items
+      ++ (flat_map (λ b. f (Halo (border_line c b))) hs ++ flat_map (λ s. f (Stop (stop_line c s))) m.stops.items))))
+  kinds f = simp (flat_map-append, flat_map-map)
 
   pub cuts_with : cuts (module_lines_with c m hs) ≡ map (wire_name c) m.cuts.items
-  cuts_with = parts cut_name_in ∙ rw (
-    ones_of cut_name_in (λ w. Cut (wire_name c w)) (wire_name c) (λ x. refl) m.cuts.items,
-    none_of cut_name_in Use (λ x. refl) m.gates.items,
-    none_of cut_name_in Keep (λ x. refl) m.keeps.items,
-    none_of cut_name_in (λ b. Edge (border_line c b)) (λ x. refl) m.edges.items,
-    none_of cut_name_in (λ b. Halo (border_line c b)) (λ x. refl) hs,
-    none_of cut_name_in (λ s. Stop (stop_line c s)) (λ x. refl) m.stops.items,
-  ) (append-nil (map (wire_name c) m.cuts.items))
+  cuts_with = kinds cut_name_in ∙ simp (none_in, ones_in, append-nil)
 
   pub gates_with : gates (module_lines_with c m hs) ≡ m.gates.items
-  gates_with = parts used_gate_in ∙ rw (
-    none_of used_gate_in (λ w. Cut (wire_name c w)) (λ x. refl) m.cuts.items,
-    ones_of used_gate_in Use (λ k. k) (λ x. refl) m.gates.items,
-    none_of used_gate_in Keep (λ x. refl) m.keeps.items,
-    none_of used_gate_in (λ b. Edge (border_line c b)) (λ x. refl) m.edges.items,
-    none_of used_gate_in (λ b. Halo (border_line c b)) (λ x. refl) hs,
-    none_of used_gate_in (λ s. Stop (stop_line c s)) (λ x. refl) m.stops.items,
-  ) (append-nil (map (λ k. k) m.gates.items) ∙ map_same m.gates.items)
+  gates_with = kinds used_gate_in ∙ simp (none_in, all_in, append-nil)
 
   pub keeps_with : keeps (module_lines_with c m hs) ≡ m.keeps.items
-  keeps_with = parts kept_gate_in ∙ rw (
-    none_of kept_gate_in (λ w. Cut (wire_name c w)) (λ x. refl) m.cuts.items,
-    none_of kept_gate_in Use (λ x. refl) m.gates.items,
-    ones_of kept_gate_in Keep (λ k. k) (λ x. refl) m.keeps.items,
-    none_of kept_gate_in (λ b. Edge (border_line c b)) (λ x. refl) m.edges.items,
-    none_of kept_gate_in (λ b. Halo (border_line c b)) (λ x. refl) hs,
-    none_of kept_gate_in (λ s. Stop (stop_line c s)) (λ x. refl) m.stops.items,
-  ) (append-nil (map (λ k. k) m.keeps.items) ∙ map_same m.keeps.items)
+  keeps_with = kinds kept_gate_in ∙ simp (none_in, all_in, append-nil)
 
   pub edges_with : edges (module_lines_with c m hs) ≡ map (border_line c) m.edges.items
-  edges_with = parts edge_in ∙ rw (
-    none_of edge_in (λ w. Cut (wire_name c w)) (λ x. refl) m.cuts.items,
-    none_of edge_in Use (λ x. refl) m.gates.items,
-    none_of edge_in Keep (λ x. refl) m.keeps.items,
-    ones_of edge_in (λ b. Edge (border_line c b)) (border_line c) (λ x. refl) m.edges.items,
-    none_of edge_in (λ b. Halo (border_line c b)) (λ x. refl) hs,
-    none_of edge_in (λ s. Stop (stop_line c s)) (λ x. refl) m.stops.items,
-  ) (append-nil (map (border_line c) m.edges.items))
+  edges_with = kinds edge_in ∙ simp (none_in, ones_in, append-nil)
 
   pub halos_with : halos (module_lines_with c m hs) ≡ map (border_line c) hs
-  halos_with = parts halo_in ∙ rw (
-    none_of halo_in (λ w. Cut (wire_name c w)) (λ x. refl) m.cuts.items,
-    none_of halo_in Use (λ x. refl) m.gates.items,
-    none_of halo_in Keep (λ x. refl) m.keeps.items,
-    none_of halo_in (λ b. Edge (border_line c b)) (λ x. refl) m.edges.items,
-    ones_of halo_in (λ b. Halo (border_line c b)) (border_line c) (λ x. refl) hs,
-    none_of halo_in (λ s. Stop (stop_line c s)) (λ x. refl) m.stops.items,
-  ) (append-nil (map (border_line c) hs))
+  halos_with = kinds halo_in ∙ simp (none_in, ones_in, append-nil)
 
   pub stops_with : stops (module_lines_with c m hs) ≡ map (stop_line c) m.stops.items
-  stops_with = parts stop_in ∙ rw (
-    none_of stop_in (λ w. Cut (wire_name c w)) (λ x. refl) m.cuts.items,
-    none_of stop_in Use (λ x. refl) m.gates.items,
-    none_of stop_in Keep (λ x. refl) m.keeps.items,
-    none_of stop_in (λ b. Edge (border_line c b)) (λ x. refl) m.edges.items,
-    none_of stop_in (λ b. Halo (border_line c b)) (λ x. refl) hs,
-    ones_of stop_in (λ s. Stop (stop_line c s)) (stop_line c) (λ x. refl) m.stops.items,
-  ) refl
+  stops_with = kinds stop_in ∙ simp (none_in, ones_in)
 
 -- ---- how many lines there are
-
-same_counts : (area : Box2) (c c' u u' e e' h h' s s' : ℕ) → c ≡ c' → u ≡ u' → e ≡ e' → h ≡ h' → s ≡ s'
-    → ◌≡◌ {A = Counts} (record { area = area; cuts = c; gates = u; edges = e; halos = h; stops = s })
-    (record { area = area; cuts = c'; gates = u'; edges = e'; halos = h'; stops = s' })
-same_counts area c c' u u' e e' h h' s s' p q r t v = grind (arith, common_steps)
-
-mapped_count : {X Y : Type 0} (f : X → Y) (xs : List X) (ys : List Y) → ys ≡ map f xs → length xs ≡ length ys
-mapped_count f xs ys e = sym (ap length e ∙ length-map xs f)
 
 pub counts_stored : (c : Circuit) (m : StoredModule) → ◌≡◌ {A = Counts} (record {
   area = m.area;
@@ -149,11 +81,7 @@ pub counts_stored : (c : Circuit) (m : StoredModule) → ◌≡◌ {A = Counts} 
   halos = length m.halos.items;
   stops = length m.stops.items;
 }) (counts_of (module_lines c m))
-counts_stored c m =
-    let hs = m.halos.items in
-    same_counts m.area _ _ _ _ _ _ _ _ _ _ (mapped_count (wire_name c) _ _ (cuts_with c m hs))
-    (ap length (sym (gates_with c m hs))) (mapped_count (border_line c) _ _ (edges_with c m hs))
-    (mapped_count (border_line c) _ _ (halos_with c m hs)) (mapped_count (stop_line c) _ _ (stops_with c m hs))
+counts_stored c m = simp (cuts_with, gates_with, edges_with, halos_with, stops_with, length-map)
 
 -- ---- the wires of the circuit
 
@@ -175,64 +103,40 @@ wire_within c w own = grind (arith, common_steps, position-Some, place_position)
 
 -- ---- the modules of the lines of modules
 
-body_line : (i : CertificateLine) → IsBodyLine i → (ms : List ModuleLines) (m : ModuleLines) →
-    add_line (ms ++ m ∷ []) i ≡ ms ++ module_with_line i m ∷ []
-unfolding add_line
-body_line (Module b) body ms m = absurd body
-body_line (Cut n) body ms m = last_changed (module_with_line (Cut n)) ms m
-body_line (Use k) body ms m = last_changed (module_with_line (Use k)) ms m
-body_line (Keep k) body ms m = last_changed (module_with_line (Keep k)) ms m
-body_line (Edge b) body ms m = last_changed (module_with_line (Edge b)) ms m
-body_line (Halo b) body ms m = last_changed (module_with_line (Halo b)) ms m
-body_line (Stop t) body ms m = last_changed (module_with_line (Stop t)) ms m
+-- lines that begin no module are lines of the module before them
+no_modules : (es rest : List CertificateLine) → list_all (λ i. not (is_module i)) es ≡ true →
+    (body_lines (es ++ rest) ≡ es ++ body_lines rest) × (modules_of (es ++ rest) ≡ modules_of rest)
+no_modules [] rest h = (refl, refl)
+no_modules (i ∷ es) rest h =
+    let both = and_parts (not (is_module i)) _ h in
+    let other = false_from_not (is_module i) both.0 in
+    let more = no_modules es rest both.1 in (
+      inner_other i (es ++ rest) other ∙ ap (λ l. i ∷ l) more.0,
+      split_other i (es ++ rest) other ∙ more.1,
+    )
 
--- the last module after lines of a module
-abbrev Extends : List CertificateLine → Type 0
-Extends es = (ms : List ModuleLines) (m : ModuleLines) →
-    fold add_line (ms ++ m ∷ []) es ≡ ms ++ record m { lines = m.lines ++ es } ∷ []
+all_true : {X : Type 0} (xs : List X) → list_all (λ x. true) xs ≡ true
+all_true [] = refl
+all_true (x ∷ xs) = all_true xs
 
-extends_part : {X : Type 0} (g : X → CertificateLine) → ((x : X) → IsBodyLine (g x)) → (xs : List X) →
-    Extends (map g xs)
-extends_part g body [] ms m = ap (λ l. ms ++ record m { lines = l } ∷ []) (sym (append-nil m.lines))
-extends_part g body (x ∷ xs) ms m =
-    ap (λ ns. fold add_line ns (map g xs)) (body_line (g x) (body x) ms m)
-    ∙ extends_part g body xs ms (module_with_line (g x) m)
-    ∙ ap (λ l. ms ++ record m { lines = l } ∷ []) (append_assoc m.lines (g x ∷ []) (map g xs))
+are_body_lines : (c : Circuit) (m : StoredModule) → list_all (λ i. not (is_module i)) (module_lines c m).lines ≡ true
+are_body_lines c m = simp (list_all-append, list_all-map, all_true)
 
-extends_both : (es fs : List CertificateLine) → Extends es → Extends fs → Extends (es ++ fs)
-extends_both es fs h k ms m =
-    fold-append add_line (ms ++ m ∷ []) es fs
-    ∙ ap (λ ns. fold add_line ns fs) (h ms m)
-    ∙ k ms (record m { lines = m.lines ++ es })
-    ∙ ap (λ l. ms ++ record m { lines = l } ∷ []) (append_assoc m.lines es fs)
-
-extends_lines : (c : Circuit) (m : StoredModule) → Extends (module_lines c m).lines
-extends_lines c m =
-    extends_both _ _ (extends_part (λ w. Cut (wire_name c w)) (λ w. tt) m.cuts.items)
-    (extends_both _ _ (extends_part Use (λ k. tt) m.gates.items)
-    (extends_both _ _ (extends_part Keep (λ k. tt) m.keeps.items)
-    (extends_both _ _ (extends_part (λ b. Edge (border_line c b)) (λ b. tt) m.edges.items)
-    (extends_both _ _ (extends_part (λ b. Halo (border_line c b)) (λ b. tt) m.halos.items)
-    (extends_part (λ t. Stop (stop_line c t)) (λ t. tt) m.stops.items)))))
-
-module_added : (ms : List ModuleLines) (c : Circuit) (m : StoredModule) →
-    fold add_line ms (Module m.area ∷ (module_lines c m).lines) ≡ ms ++ module_lines c m ∷ []
-unfolding add_line
-module_added ms c m = extends_lines c m ms (record { area = m.area; lines = [] })
-
-modules_added : (c : Circuit) (ns : List ModuleLines) (ms : List StoredModule) →
-    fold add_line ns (lines_of_modules c ms) ≡ ns ++ map (module_lines c) ms
-modules_added c ns [] = sym (append-nil ns)
-modules_added c ns (m ∷ ms) =
-    fold-append add_line ns (Module m.area ∷ (module_lines c m).lines) (lines_of_modules c ms)
-    ∙ ap (λ ks. fold add_line ks (lines_of_modules c ms)) (module_added ns c m)
-    ∙ modules_added c (ns ++ module_lines c m ∷ []) ms
-    ∙ append_assoc ns (module_lines c m ∷ []) (map (module_lines c) ms)
+module_first : (c : Circuit) (ms : List StoredModule) → body_lines (lines_of_modules c ms) ≡ []
+unfolding body_lines
+module_first c [] = refl
+module_first c (m ∷ ms) = refl
 
 pub modules_stored : (c : Circuit) (ms : List StoredModule) →
     modules_of (lines_of_modules c ms) ≡ map (module_lines c) ms
 unfolding modules_of
-modules_stored c ms = modules_added c [] ms
+modules_stored c [] = refl
+modules_stored c (m ∷ ms) =
+    let body = (module_lines c m).lines in
+    let over = no_modules body (lines_of_modules c ms) (are_body_lines c m) in
+    split_module m.area (body ++ lines_of_modules c ms)
+    ∙ ap₂ (λ lines ns. record { area = m.area; lines = lines } ∷ ns)
+    (over.0 ∙ ap (λ l. body ++ l) (module_first c ms) ∙ append-nil body) (over.1 ∙ modules_stored c ms)
 
 -- ---- one more line of a module
 
@@ -241,96 +145,74 @@ nothing_mapped f [] e = refl
 nothing_mapped f (x ∷ xs) e = absurd cc
 
 -- no lines of a later kind come before a line
-module _ (c : Circuit) (m : StoredModule) (i : CertificateLine)
-    (follows : may_follow (module_lines c m).lines i ≡ true) where
-  pub no_gates : rank_of i < 2 → m.gates.items ≡ []
-  no_gates low = sym (gates_with c m m.halos.items) ∙ none_before used_gate_in 2 only_uses i low _ follows
+record HasNoLater (m : StoredModule) (rank : ℕ) : Type 0 where
+  gates : rank < 2 → m.gates.items ≡ []
+  keeps : rank < 3 → m.keeps.items ≡ []
+  edges : rank < 4 → m.edges.items ≡ []
+  halos : rank < 5 → m.halos.items ≡ []
+  stops : rank < 6 → m.stops.items ≡ []
 
-  pub no_keeps : rank_of i < 3 → m.keeps.items ≡ []
-  no_keeps low = sym (keeps_with c m m.halos.items) ∙ none_before kept_gate_in 3 only_keeps i low _ follows
-
-  pub no_edges : rank_of i < 4 → m.edges.items ≡ []
-  no_edges low = nothing_mapped (border_line c) _
-      (sym (edges_with c m m.halos.items) ∙ none_before edge_in 4 only_edges i low _ follows)
-
-  pub no_halos : rank_of i < 5 → m.halos.items ≡ []
-  no_halos low = nothing_mapped (border_line c) _
-      (sym (halos_with c m m.halos.items) ∙ none_before halo_in 5 only_halos i low _ follows)
-
-  pub no_stops : rank_of i < 6 → m.stops.items ≡ []
-  no_stops low = nothing_mapped (stop_line c) _
-      (sym (stops_with c m m.halos.items) ∙ none_before stop_in 6 only_stops i low _ follows)
+no_later : (c : Circuit) (m : StoredModule) (i : CertificateLine) → may_follow (module_lines c m).lines i ≡ true →
+    HasNoLater m (rank_of i)
+no_later c m i follows =
+    let hs = m.halos.items in
+    record {
+      gates = λ low. sym (gates_with c m hs) ∙ none_before used_gate_in 2 only_uses i low _ follows;
+      keeps = λ low. sym (keeps_with c m hs) ∙ none_before kept_gate_in 3 only_keeps i low _ follows;
+      edges = λ low. nothing_mapped (border_line c) _
+          (sym (edges_with c m hs) ∙ none_before edge_in 4 only_edges i low _ follows);
+      halos = λ low. nothing_mapped (border_line c) _
+          (sym (halos_with c m hs) ∙ none_before halo_in 5 only_halos i low _ follows);
+      stops = λ low. nothing_mapped (stop_line c) _
+          (sym (stops_with c m hs) ∙ none_before stop_in 6 only_stops i low _ follows);
+    }
 
 -- each kind of line behind the others of its kind
-module _ (c : Circuit) (m n : StoredModule) (area : n.area ≡ m.area) where
-  pub cut_added : (name : List ℕ) (w : ℕ) → wire_name c w ≡ name → n.cuts.items ≡ m.cuts.items ++ w ∷ [] →
-      n.gates.items ≡ m.gates.items → n.keeps.items ≡ m.keeps.items → n.edges.items ≡ m.edges.items →
-      n.halos.items ≡ m.halos.items → n.stops.items ≡ m.stops.items →
-      may_follow (module_lines c m).lines (Cut name) ≡ true →
-      module_lines c n ≡ module_with_line (Cut name) (module_lines c m)
+module _ (c : Circuit) (m : StoredModule) where
+  pub cut_added : (ws : Vec ℕ Global) (name : List ℕ) (w : ℕ) → wire_name c w ≡ name →
+      ws.items ≡ m.cuts.items ++ w ∷ [] → may_follow (module_lines c m).lines (Cut name) ≡ true →
+      module_lines c (record m { cuts = ws }) ≡ module_with_line (Cut name) (module_lines c m)
   unfolding rank_of
-  cut_added name w is added p q r u v follows =
-      let none_g = no_gates c m (Cut name) follows (omega arith) in
-      let none_k = no_keeps c m (Cut name) follows (omega arith) in
-      let none_e = no_edges c m (Cut name) follows (omega arith) in
-      let none_h = no_halos c m (Cut name) follows (omega arith) in
-      let none_s = no_stops c m (Cut name) follows (omega arith) in
+  cut_added ws name w is added follows =
+      let none = no_later c m (Cut name) follows in
       grind (arith, common_steps, map-append)
 
-  pub gate_added : (k : ℕ) → n.gates.items ≡ m.gates.items ++ k ∷ [] →
-      n.cuts.items ≡ m.cuts.items → n.keeps.items ≡ m.keeps.items → n.edges.items ≡ m.edges.items →
-      n.halos.items ≡ m.halos.items → n.stops.items ≡ m.stops.items →
+  pub gate_added : (ks : Vec ℕ Global) (k : ℕ) → ks.items ≡ m.gates.items ++ k ∷ [] →
       may_follow (module_lines c m).lines (Use k) ≡ true →
-      module_lines c n ≡ module_with_line (Use k) (module_lines c m)
+      module_lines c (record m { gates = ks }) ≡ module_with_line (Use k) (module_lines c m)
   unfolding rank_of
-  gate_added k added p q r u v follows =
-      let none_k = no_keeps c m (Use k) follows (omega arith) in
-      let none_e = no_edges c m (Use k) follows (omega arith) in
-      let none_h = no_halos c m (Use k) follows (omega arith) in
-      let none_s = no_stops c m (Use k) follows (omega arith) in
+  gate_added ks k added follows =
+      let none = no_later c m (Use k) follows in
       grind (arith, common_steps, map-append)
 
-  pub keep_added : (k : ℕ) → n.keeps.items ≡ m.keeps.items ++ k ∷ [] →
-      n.cuts.items ≡ m.cuts.items → n.gates.items ≡ m.gates.items → n.edges.items ≡ m.edges.items →
-      n.halos.items ≡ m.halos.items → n.stops.items ≡ m.stops.items →
+  pub keep_added : (ks : Vec ℕ Global) (k : ℕ) → ks.items ≡ m.keeps.items ++ k ∷ [] →
       may_follow (module_lines c m).lines (Keep k) ≡ true →
-      module_lines c n ≡ module_with_line (Keep k) (module_lines c m)
+      module_lines c (record m { keeps = ks }) ≡ module_with_line (Keep k) (module_lines c m)
   unfolding rank_of
-  keep_added k added p q r u v follows =
-      let none_e = no_edges c m (Keep k) follows (omega arith) in
-      let none_h = no_halos c m (Keep k) follows (omega arith) in
-      let none_s = no_stops c m (Keep k) follows (omega arith) in
+  keep_added ks k added follows =
+      let none = no_later c m (Keep k) follows in
       grind (arith, common_steps, map-append)
 
-  pub edge_added : (d : BorderLine) (b : StoredBorder) → border_line c b ≡ d → n.edges.items ≡ m.edges.items ++ b ∷ [] →
-      n.cuts.items ≡ m.cuts.items → n.gates.items ≡ m.gates.items → n.keeps.items ≡ m.keeps.items →
-      n.halos.items ≡ m.halos.items → n.stops.items ≡ m.stops.items →
-      may_follow (module_lines c m).lines (Edge d) ≡ true →
-      module_lines c n ≡ module_with_line (Edge d) (module_lines c m)
+  pub edge_added : (bs : Vec StoredBorder Global) (d : BorderLine) (b : StoredBorder) → border_line c b ≡ d →
+      bs.items ≡ m.edges.items ++ b ∷ [] → may_follow (module_lines c m).lines (Edge d) ≡ true →
+      module_lines c (record m { edges = bs }) ≡ module_with_line (Edge d) (module_lines c m)
   unfolding rank_of
-  edge_added d b is added p q r u v follows =
-      let none_h = no_halos c m (Edge d) follows (omega arith) in
-      let none_s = no_stops c m (Edge d) follows (omega arith) in
+  edge_added bs d b is added follows =
+      let none = no_later c m (Edge d) follows in
       grind (arith, common_steps, map-append)
 
-  pub halo_added : (d : BorderLine) (b : StoredBorder) → border_line c b ≡ d → n.halos.items ≡ m.halos.items ++ b ∷ [] →
-      n.cuts.items ≡ m.cuts.items → n.gates.items ≡ m.gates.items → n.keeps.items ≡ m.keeps.items →
-      n.edges.items ≡ m.edges.items → n.stops.items ≡ m.stops.items →
-      may_follow (module_lines c m).lines (Halo d) ≡ true →
-      module_lines c n ≡ module_with_line (Halo d) (module_lines c m)
+  pub halo_added : (bs : Vec StoredBorder Global) (d : BorderLine) (b : StoredBorder) → border_line c b ≡ d →
+      bs.items ≡ m.halos.items ++ b ∷ [] → may_follow (module_lines c m).lines (Halo d) ≡ true →
+      module_lines c (record m { halos = bs }) ≡ module_with_line (Halo d) (module_lines c m)
   unfolding rank_of
-  halo_added d b is added p q r u v follows =
-      let none_s = no_stops c m (Halo d) follows (omega arith) in
+  halo_added bs d b is added follows =
+      let none = no_later c m (Halo d) follows in
       grind (arith, common_steps, map-append)
 
-  pub stop_added : (d : StopLine) (b : StoredStop) → stop_line c b ≡ d → n.stops.items ≡ m.stops.items ++ b ∷ [] →
-      n.cuts.items ≡ m.cuts.items → n.gates.items ≡ m.gates.items → n.keeps.items ≡ m.keeps.items →
-      n.edges.items ≡ m.edges.items → n.halos.items ≡ m.halos.items →
-      may_follow (module_lines c m).lines (Stop d) ≡ true →
-      module_lines c n ≡ module_with_line (Stop d) (module_lines c m)
-  unfolding rank_of
-  stop_added d b is added p q r u v follows =
-      grind (arith, common_steps, map-append)
+  pub stop_added : (ss : Vec StoredStop Global) (d : StopLine) (b : StoredStop) → stop_line c b ≡ d →
+      ss.items ≡ m.stops.items ++ b ∷ [] →
+      module_lines c (record m { stops = ss }) ≡ module_with_line (Stop d) (module_lines c m)
+  stop_added ss d b is added = grind (arith, common_steps, map-append)
 
 -- ---- one more line of the last module
 
@@ -390,32 +272,24 @@ wires_kept c ms at m n within is keeps own =
 
 module _ (c : Circuit) (m : StoredModule) where
   pub cut_count : length m.cuts.items ≡ length (cuts (module_lines c m))
-  cut_count = mapped_count (wire_name c) _ _ (cuts_with c m m.halos.items)
+  cut_count = simp (cuts_with, length-map)
 
   pub used_gates : m.gates.items ≡ gates (module_lines c m)
   used_gates = sym (gates_with c m m.halos.items)
 
   pub timed_count : length m.edges.items + length m.halos.items + length m.stops.items
       ≡ timed_line_count (module_lines c m)
-  timed_count =
-      let e = mapped_count (border_line c) _ _ (edges_with c m m.halos.items) in
-      let h = mapped_count (border_line c) _ _ (halos_with c m m.halos.items) in
-      let s = mapped_count (stop_line c) _ _ (stops_with c m m.halos.items) in
-      omega (arith, e, h, s)
+  timed_count = simp (edges_with, halos_with, stops_with, length-map)
 
 module _ (c : Circuit) (ms : List StoredModule) where
   pub last_stored : option_map (module_lines c) (last_of ms) ≡ last_module (lines_of_modules c ms)
   last_stored = sym (ap last_of (modules_stored c ms) ∙ last_mapped (module_lines c) ms)
 
   pub count_stored : length ms ≡ length (modules_of (lines_of_modules c ms))
-  count_stored = mapped_count (module_lines c) _ _ (modules_stored c ms)
+  count_stored = simp (modules_stored, length-map)
 
   pub areas_stored : map (λ m. m.area) ms ≡ areas (modules_of (lines_of_modules c ms))
-  areas_stored = same ms ∙ ap areas (sym (modules_stored c ms))
-    where
-      same : (ns : List StoredModule) → map (λ m. m.area) ns ≡ areas (map (module_lines c) ns)
-      same [] = refl
-      same (n ∷ ns) = ap (λ l. n.area ∷ l) (same ns)
+  areas_stored = simp (modules_stored, map-map)
 
 pub copied_lines : (c : Circuit) (r : Option (Bor StoredModule)) →
     option_map (λ m. module_lines c m.now) r ≡ option_map (module_lines c) (option_copied r)

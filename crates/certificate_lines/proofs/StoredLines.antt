@@ -3,13 +3,12 @@ use Rattle.certificate_lines.proofs.Imports.{Box2, Cell, CertificateLine, Circui
 use Rattle.certificate_lines.proofs.Imports.{IsBodyLine, IsModule, IsTrue, Keep, LayoutHeader, List, Module}
 use Rattle.certificate_lines.proofs.Imports.{ModuleLines, None, Option, Setting, Some, Stop, Use, [], ap, arith}
 use Rattle.certificate_lines.proofs.Imports.{bytes_eq-Decides, common_steps, content_code, false≢true, gates, in_box}
-use Rattle.certificate_lines.proofs.Imports.{in_box_nats, ints, is_local, is_local_wire, is_some, is_starred_line_at}
-use Rattle.certificate_lines.proofs.Imports.{known, last_module, last_of, length, list_any, may_follow, option_map, pos}
-use Rattle.certificate_lines.proofs.Imports.{refl, size_fault, size_sides, slice_get, slice_get_within, subst, sym}
-use Rattle.certificate_lines.proofs.Imports.{true, whole, wire_of, edges, and_parts, ℕ, ℤ, ◌<◌, ◌∙◌, ◌∷◌, ◌≡◌, ◌≤◌, All}
-use Rattle.certificate_lines.proofs.Imports.{Board, LineKey, edge_in, halo_in, key_of, last_body_line, same_cell}
-use Rattle.certificate_lines.proofs.Imports.{HasSameSize, flat_map-append, key_or_first, live, module_line_code}
-use Rattle.certificate_lines.proofs.Imports.{modules_of, ◌++◌, ◌||◌}
+use Rattle.certificate_lines.proofs.Imports.{in_box_nats, ints, is_local, is_local_wire, is_some, known, last_module}
+use Rattle.certificate_lines.proofs.Imports.{last_of, length, may_follow, option_map, pos, refl, size_fault, size_sides}
+use Rattle.certificate_lines.proofs.Imports.{slice_get, slice_get_within, subst, sym, true, whole, wire_of, and_parts}
+use Rattle.certificate_lines.proofs.Imports.{ℕ, ℤ, ◌<◌, ◌∙◌, ◌∷◌, ◌≡◌, ◌≤◌, All, LineKey, edge_in, halo_in}
+use Rattle.certificate_lines.proofs.Imports.{key_of, last_body_line, flat_map-append, key_or_first}
+use Rattle.certificate_lines.proofs.Imports.{module_line_code, modules_of, ◌++◌}
 use Rattle.lemmas.proofs.Common.{All-push}
 use Rattle.std.specs.Prelude.{◌≤ℤ◌}
 use Rattle.std.specs.Option.{option_and_then}
@@ -18,16 +17,15 @@ use Rattle.circuit.proofs.Naming.{place_position}
 use Rattle.bbm_rule.specs.Boxes.{in_ring}
 use Rattle.certificate_lines.specs.BuilderView.{IsEdgeHaloOrStopLine, IsTrackedWith, wires_made_local}
 use Rattle.certificate_lines.specs.BuilderView.{AreTrackedModules, IsWireOfLine, IsWithinMaxSize, MayBeStored}
-use Rattle.certificate_lines.specs.Entries.{halos, name_in}
-use Rattle.certificate_lines.specs.Rules.{is_edge_place_and_time, is_halo_place_and_time, is_inverse_gate}
-use Rattle.certificate_lines.specs.Rules.{is_stop_place_and_time, timed_line_count}
+use Rattle.certificate_lines.specs.Entries.{name_in}
+use Rattle.certificate_lines.specs.Rules.{is_inverse_gate}
 use Rattle.certificate_lines.specs.StoredModules.{HasOwnWires, IsOwnWire, lines_of_modules, module_lines, wire_name}
 use Rattle.certificate_lines.specs.declared.stored_module.StoredModule.{StoredModule}
-use Rattle.certificate_lines.proofs.Keeping.{IsGoodLine, with_border, with_inner, with_module}
-use Rattle.certificate_lines.proofs.LackedWires.{in_rectangle}
-use Rattle.certificate_lines.proofs.ModulePushes.{edge_good, good_border, good_use, halo_good, keep_good, new_wire}
-use Rattle.certificate_lines.proofs.ModulePushes.{signal_good, stop_good}
-use Rattle.certificate_lines.proofs.StoredLemmas.{last_stored}
+use Rattle.certificate_lines.proofs.Keeping.{AreStarsWith, IsGoodLine, with_border, with_inner, with_module}
+use Rattle.module_box.proofs.BoxCells.{in_rectangle}
+use Rattle.certificate_lines.proofs.ModulePushes.{good_edge, good_halo, good_stop, good_use, keep_good, new_wire}
+use Rattle.certificate_lines.proofs.StoredLemmas.{count_stored, last_stored}
+use Rattle.module_box.specs.Tiling.{OwnersView, PutsBox}
 
 -- ---- the wire of a name
 
@@ -47,12 +45,9 @@ signal_named c local (Some n) h = local_is_some local (wire_of c n) h
 named_words : (g : Setting) (m : ModuleLines) (i : CertificateLine) → content_code g m i ≡ None →
     IfSome (name_in i) (λ n. IsTrue (is_some (wire_of g.circuit n)))
 named_words g m (Cut n) e = subst (λ o. IsTrue (is_some o)) (sym (new_wire _ _ _ n e).1.named) refl
-named_words g m (Edge b) e = signal_named g.circuit (known g.circuit m) b.signal
-    (signal_good _ _ b.signal (good_border _ _ _ _ _ e).names)
-named_words g m (Halo b) e = signal_named g.circuit (known g.circuit m) b.signal
-    (signal_good _ _ b.signal (good_border _ _ _ _ _ e).names)
-named_words g m (Stop s) e = signal_named g.circuit (known g.circuit m) (Some s.wire)
-    (signal_good _ _ (Some s.wire) (good_border _ _ _ _ _ e).names)
+named_words g m (Edge b) e = signal_named g.circuit (known g.circuit m) b.signal (good_edge g m b e).border.signal
+named_words g m (Halo b) e = signal_named g.circuit (known g.circuit m) b.signal (good_halo g m b e).border.signal
+named_words g m (Stop s) e = local_is_some (known g.circuit m) (wire_of g.circuit s.wire) (good_stop g m s e).wire
 named_words g m _ e = tt
 
 found_by : (c : Circuit) (n : List ℕ) (found : Option ℕ) → wire_of c n ≡ found → IsTrue (is_some found) →
@@ -84,7 +79,7 @@ max_size s x y sized inside =
     let sides = size_sides s sized in
     grind (arith, common_steps, in_box_nats, low_number)
 
-ring_in_box : (b : Box2) (x y : ℤ) → in_ring b x y ≡ true → in_box b x y ≡ true
+pub ring_in_box : (b : Box2) (x y : ℤ) → in_ring b x y ≡ true → in_box b x y ≡ true
 unfolding in_ring
 ring_in_box b x y h = (and_parts (in_box b x y) _ h).0
 
@@ -110,26 +105,15 @@ may_store g m (Keep k) wire is sized few body good own =
     let within = gate_there g.circuit.netlist.gates k _ refl (keep_good g (gates m) k good).inverse in
     omega (arith, within, few)
 may_store g m (Edge e) wire is sized few body good own =
-    let b = good_border g.circuit (timed_line_count m) (known g.circuit m)
-    (is_edge_place_and_time g.size m.area (list_any (is_starred_line_at e.cell) (edges m)) e) e.signal good in
-    let here = edge_good g m.area (known g.circuit m) (timed_line_count m)
-    (list_any (is_starred_line_at e.cell) (edges m)) e b in
     max_size g.size e.cell.x e.cell.y sized (in_rectangle g.size.w g.size.h m.area e.cell.x e.cell.y is.inside
-    (ring_in_box m.area e.cell.x e.cell.y here.ring))
+    (ring_in_box m.area e.cell.x e.cell.y (good_edge g m e good).ring))
 may_store g m (Halo e) wire is sized few body good own =
-    let b = good_border g.circuit (timed_line_count m) (known g.circuit m)
-    (is_halo_place_and_time g.size m.area (list_any (is_starred_line_at e.cell) (halos m)) e) e.signal good in
-    let here = halo_good g m.area (known g.circuit m) (timed_line_count m)
-    (list_any (is_starred_line_at e.cell) (halos m)) e b in
-    max_size g.size e.cell.x e.cell.y sized here.inside
-may_store g m (Stop s) wire is sized few body good own =
-    let b = good_border g.circuit (timed_line_count m) (known g.circuit m) (is_stop_place_and_time g.size m.area s)
-    (Some s.wire) good in
-    let here = stop_good g m.area (known g.circuit m) (timed_line_count m) s b in (
-      max_size g.size s.cell.x s.cell.y sized (in_rectangle g.size.w g.size.h m.area s.cell.x s.cell.y is.inside
-          here.inside),
-      wire_there (wire_name g.circuit) wire s.wire own.name,
-    )
+    max_size g.size e.cell.x e.cell.y sized (good_halo g m e good).inside
+may_store g m (Stop s) wire is sized few body good own = (
+  max_size g.size s.cell.x s.cell.y sized
+      (in_rectangle g.size.w g.size.h m.area s.cell.x s.cell.y is.inside (good_stop g m s good).inside),
+  wire_there (wire_name g.circuit) wire s.wire own.name,
+)
 
 -- ---- the last of the modules that are kept
 
@@ -156,35 +140,33 @@ follows_last c ms m i last h = follows_by c (last_of ms) m i (last_stored c ms �
 
 -- ---- what is kept of modules, after one more line or none
 
-module _ (g : Setting) (ms new : List StoredModule) (covered : Board) (key : LineKey) (earlier : List (List ℕ))
-    (local : List ℕ) (e h : List Cell) (was : AreTrackedModules g ms covered key earlier local e h)
+module _ (g : Setting) (ms new : List StoredModule) (owners : OwnersView) (key : LineKey) (earlier : List (List ℕ))
+    (local : List ℕ) (e h : List Cell) (was : AreTrackedModules g ms owners key earlier local e h)
     (own : All (HasOwnWires g.circuit) new) where
   pub kept_left : lines_of_modules g.circuit new ≡ lines_of_modules g.circuit ms →
-      AreTrackedModules g new covered key earlier local e h
+      AreTrackedModules g new owners key earlier local e h
   kept_left same = record {
-    tracked = subst (λ es. IsTrackedWith g es covered (last_body_line es) key earlier local e h) (sym same) was.tracked;
+    tracked = subst (λ es. IsTrackedWith g es owners (last_body_line es) key earlier local e h) (sym same) was.tracked;
     wires = own;
   }
 
   module _ (i : CertificateLine) (good : IsGoodLine g (lines_of_modules g.circuit ms) i)
       (more : lines_of_modules g.circuit new ≡ lines_of_modules g.circuit ms ++ i ∷ []) (e' h' : List Cell)
-      (stars : (c : Cell) → list_any (same_cell c) e'
-      ≡ (list_any (same_cell c) e || list_any (is_starred_line_at c) (edge_in i)))
-      (halo_stars : (c : Cell) → list_any (same_cell c) h'
-      ≡ (list_any (same_cell c) h || list_any (is_starred_line_at c) (halo_in i))) where
-    pub kept_border : IsEdgeHaloOrStopLine i → AreTrackedModules g new covered (key_of i) earlier local e' h'
+      (stars : AreStarsWith edge_in i e e')
+      (halo_stars : AreStarsWith halo_in i h h') where
+    pub kept_border : IsEdgeHaloOrStopLine i → AreTrackedModules g new owners (key_of i) earlier local e' h'
     kept_border border = record {
-      tracked = subst (λ es. IsTrackedWith g es covered (last_body_line es) (key_of i) earlier local e' h') (sym more)
-          (with_border g _ covered _ key earlier local e h was.tracked i border good e' h' stars halo_stars);
+      tracked = subst (λ es. IsTrackedWith g es owners (last_body_line es) (key_of i) earlier local e' h') (sym more)
+          (with_border g _ owners _ key earlier local e h was.tracked i border good e' h' stars halo_stars);
       wires = own;
     }
 
     pub kept_body : IsBodyLine i →
-        AreTrackedModules g new covered (key_of i) earlier (local ++ wires_made_local g.circuit i) e' h'
+        AreTrackedModules g new owners (key_of i) earlier (local ++ wires_made_local g.circuit i) e' h'
     kept_body body = record {
-      tracked = subst (λ es. IsTrackedWith g es covered (last_body_line es) (key_of i) earlier
+      tracked = subst (λ es. IsTrackedWith g es owners (last_body_line es) (key_of i) earlier
           (local ++ wires_made_local g.circuit i) e' h') (sym more)
-          (with_inner g _ covered _ key earlier local e h was.tracked i body good e' h' stars halo_stars);
+          (with_inner g _ owners _ key earlier local e h was.tracked i body good e' h' stars halo_stars);
       wires = own;
     }
 
@@ -195,20 +177,20 @@ begun_lines : (c : Circuit) (ms : List StoredModule) (n : StoredModule) (b : Box
     lines_of_modules c (ms ++ n ∷ []) ≡ lines_of_modules c ms ++ Module b ∷ []
 begun_lines c ms n b empty = grind (arith, common_steps, flat_map-append)
 
-pub kept_module : (g : Setting) (ms new : List StoredModule) (covered : Board) (key : LineKey)
+pub kept_module : (g : Setting) (ms new : List StoredModule) (owners : OwnersView) (key : LineKey)
     (earlier : List (List ℕ)) (local : List ℕ) (e h : List Cell) →
-    AreTrackedModules g ms covered key earlier local e h →
+    AreTrackedModules g ms owners key earlier local e h →
     (n : StoredModule) → new ≡ ms ++ n ∷ [] → (b : Box2) → module_lines g.circuit n ≡ record { area = b; lines = [] } →
-    HasOwnWires g.circuit n → (new_covered : Board) →
+    HasOwnWires g.circuit n → (new_owners : OwnersView) →
     module_line_code g (modules_of (lines_of_modules g.circuit ms)) (last_module (lines_of_modules g.circuit ms)) b
-    ≡ None → ((x y : ℤ) → live new_covered x y ≡ (live covered x y || in_box b x y)) →
-    HasSameSize covered new_covered →
-    AreTrackedModules g new new_covered (key_or_first None) (earlier ++ local ∷ []) [] [] []
-kept_module g ms new covered key earlier local e h was n are b empty own new_covered good after size =
-    subst (λ l. AreTrackedModules g l new_covered (key_or_first None) (earlier ++ local ∷ []) [] [] []) (sym are)
+    ≡ None → (number : ℕ) → number ≡ length ms → PutsBox b number owners new_owners →
+    AreTrackedModules g new new_owners (key_or_first None) (earlier ++ local ∷ []) [] [] []
+kept_module g ms new owners key earlier local e h was n are b empty own new_owners good number is puts =
+    subst (λ l. AreTrackedModules g l new_owners (key_or_first None) (earlier ++ local ∷ []) [] [] []) (sym are)
     (record {
-      tracked = subst (λ es. IsTrackedWith g es new_covered (last_body_line es) (key_or_first None)
+      tracked = subst (λ es. IsTrackedWith g es new_owners (last_body_line es) (key_or_first None)
           (earlier ++ local ∷ []) [] [] []) (sym (begun_lines g.circuit ms n b empty))
-          (with_module g _ covered _ key earlier local e h was.tracked new_covered b good after size);
+          (with_module g _ owners _ key earlier local e h was.tracked new_owners b good number
+          (is ∙ count_stored g.circuit ms) puts);
       wires = All-push (HasOwnWires g.circuit) ms n was.wires own;
     })

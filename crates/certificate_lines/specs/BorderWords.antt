@@ -2,9 +2,6 @@
 use Rattle.std.specs.Prelude.{ℕ, List, [], ◌∷◌, codes, Option, Some, None, if◌then◌else◌}
 use Rattle.std.specs.Str.{bytes_eq}
 use Rattle.section_text.specs.Words.{number_of, name_of, ◌>>=◌}
-use Rattle.pattern.specs.PortWords.{cell_from_words}
-use Rattle.certificate_lines.specs.declared.certificate_line.BorderLine.{BorderLine}
-use Rattle.certificate_lines.specs.declared.certificate_line.StopLine.{StopLine}
 
 -- the time that a word is, with `*` for every odd time
 unfoldable pub star_or_time_from_word : List ℕ → Option (Option ℕ)
@@ -25,19 +22,3 @@ unfoldable pub one_or_name_of_one_word : List (List ℕ) → Option (Option (Lis
 one_or_name_of_one_word [] = None
 one_or_name_of_one_word (word ∷ []) = one_or_name_from_word word
 one_or_name_of_one_word (word ∷ next ∷ others) = None
-
--- the edge or halo line of four words
-unfoldable pub border_from_words : List ℕ → List ℕ → List ℕ → List ℕ → Option BorderLine
-border_from_words time column row signal = do
-  t ← star_or_time_from_word time
-  c ← cell_from_words column row
-  s ← one_or_name_from_word signal
-  Some (record { time = t; cell = c; signal = s })
-
--- the stop of four words
-unfoldable pub stop_from_time_wire_cell : List ℕ → List ℕ → List ℕ → List ℕ → Option StopLine
-stop_from_time_wire_cell time wire column row = do
-  t ← number_of time
-  n ← name_of wire
-  c ← cell_from_words column row
-  Some (record { time = t; wire = n; cell = c })

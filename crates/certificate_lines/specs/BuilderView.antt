@@ -4,14 +4,13 @@ use Rattle.std.specs.Prelude.{map, length, IfSome, Option, Some, None, slice_get
 use Rattle.std.specs.Option.{is_some, option_map, option_to_list}
 use Rattle.circuit.specs.Meaning.{Circuit, Gate, wire_of}
 use Rattle.std.specs.List.{All, filter, list_any}
-use Rattle.bbm_rule.specs.Board.{Board, live}
 use Rattle.bbm_rule.specs.declared.block.Cell.{Cell}
 use Rattle.bbm_rule.specs.Boxes.{in_box, in_halo}
-use Rattle.module_box.specs.Tiling.{AreOwners, OwnersView}
+use Rattle.module_box.specs.Tiling.{ArePartOwners, OwnersView}
 use Rattle.bbm_rule.specs.declared.block.Box2.{Box2}
 use Rattle.certificate_lines.specs.Entries.{Setting, ModuleLines, modules_of, last_of, areas, known, edges, name_in}
 use Rattle.certificate_lines.specs.Entries.{halos}
-use Rattle.certificate_lines.specs.Rules.{in_boxes, is_local_wire, is_star, is_starred_line_at, same_cell}
+use Rattle.certificate_lines.specs.Rules.{is_local_wire, is_star, is_starred_line_at, same_cell}
 use Rattle.certificate_lines.specs.Rules.{has_nonlocal_port}
 use Rattle.certificate_lines.specs.LineKeys.{key_or_first}
 use Rattle.certificate_lines.specs.declared.order.LineKey.{LineKey}
@@ -65,17 +64,21 @@ pub record AreGoodModulesSoFar (g : Setting) (ms : List ModuleLines) : Type 0 wh
   -- the ports' wires are local in all modules but the last
   pub ported : (i : ℕ) (m : ModuleLines) → i + 1 < length ms → slice_get ms i ≡ Some m → has_nonlocal_port g m ≡ false
 
+-- the table is of the whole rectangle, and of the boxes of these modules
+pub record AreModuleOwners (g : Setting) (ms : List ModuleLines) (o : OwnersView) : Type 0 where
+  pub width : o.width ≡ g.size.w
+  pub height : o.height ≡ g.size.h
+  pub boxes : ArePartOwners o (areas ms)
+
 -- the modules so far, and what is kept of all of them
-pub record AreBuilt (g : Setting) (ms : List ModuleLines) (covered : Board) : Type 0 where
+pub record AreBuilt (g : Setting) (ms : List ModuleLines) (o : OwnersView) : Type 0 where
   pub sound : AreGoodModulesSoFar g ms
-  pub width : covered.width ≡ g.size.w
-  pub height : covered.height ≡ g.size.h
-  pub cells : (x y : ℤ) → live covered x y ≡ in_boxes (areas ms) x y
+  pub owners : AreModuleOwners g ms o
 
 -- what is kept of the lines is what they say
-pub record IsTracked (g : Setting) (es : List CertificateLine) (covered : Board) (last : Option CertificateLine)
+pub record IsTracked (g : Setting) (es : List CertificateLine) (o : OwnersView) (last : Option CertificateLine)
     (local : List ℕ) (e h : List Cell) : Type 0 where
-  pub built : AreBuilt g (modules_of es) covered
+  pub built : AreBuilt g (modules_of es) o
   pub last_module : (m : ModuleLines) → last_of (modules_of es) ≡ Some m → IsLastModule g m last local e h
 
 -- one of these edge lines is for a cell in the halo of the module, and names a wire that is not local there
@@ -97,26 +100,14 @@ abbrev pub does_neighbour_lack_wire : Circuit → List ModuleLines → BorderLin
 does_neighbour_lack_wire c ms e =
     list_any (λ m. in_halo m.area e.cell.x e.cell.y && is_nonlocal_signal c (known c m) e.signal) ms
 
--- the table is of the whole rectangle, and its numbers are those of the modules that have the cells
-pub record AreModuleOwners (b : BuilderView) (o : OwnersView) : Type 0 where
-  pub width : o.width ≡ b.setting.size.w
-  pub height : o.height ≡ b.setting.size.h
-  pub owners : AreOwners o (areas (modules_of b.entries))
-
--- the module of this number has the cell, or no module has it
-abbrev pub IsModuleWithCell : List ModuleLines → Cell → Option ℕ → Type 0
-IsModuleWithCell ms cell None = (k : ℕ) (m : ModuleLines) → slice_get ms k ≡ Some m →
-    in_box m.area cell.x cell.y ≡ false
-IsModuleWithCell ms cell (Some k) = (m : ModuleLines) × (slice_get ms k ≡ Some m) × IsTrue (in_box m.area cell.x cell.y)
-
 -- The local wires of each module, behind none: `earlier` has those of all modules but the last, and `local` has its.
 abbrev pub AreLocalWiresOfModules : Circuit → List ModuleLines → List (List ℕ) → List ℕ → Type 0
 AreLocalWiresOfModules c ms earlier local = earlier ++ local ∷ [] ≡ [] ∷ map (known c) ms
 
 -- what is kept of the lines, and of the wires of all modules
-pub record IsTrackedWith (g : Setting) (es : List CertificateLine) (covered : Board) (last : Option CertificateLine)
+pub record IsTrackedWith (g : Setting) (es : List CertificateLine) (o : OwnersView) (last : Option CertificateLine)
     (key : LineKey) (earlier : List (List ℕ)) (local : List ℕ) (e h : List Cell) : Type 0 where
-  pub kept : IsTracked g es covered last local e h
+  pub kept : IsTracked g es o last local e h
   pub wires : AreLocalWiresOfModules g.circuit (modules_of es) earlier local
   pub key_is : key ≡ key_or_first (last_of es)
 
@@ -124,28 +115,23 @@ pub record IsTrackedWith (g : Setting) (es : List CertificateLine) (covered : Bo
 abbrev pub body_line_or_none : Option CertificateLine → Option CertificateLine
 body_line_or_none None = None
 body_line_or_none (Some (Module b)) = None
-body_line_or_none (Some (Cut n)) = Some (Cut n)
-body_line_or_none (Some (Use k)) = Some (Use k)
-body_line_or_none (Some (Keep k)) = Some (Keep k)
-body_line_or_none (Some (Edge e)) = Some (Edge e)
-body_line_or_none (Some (Halo e)) = Some (Halo e)
-body_line_or_none (Some (Stop s)) = Some (Stop s)
+body_line_or_none last = last
 
 -- the last line of the last module, if it has one, by all lines
 abbrev pub last_body_line : List CertificateLine → Option CertificateLine
 last_body_line entries = body_line_or_none (last_of entries)
 
 -- what is kept of modules, and of their lines
-pub record AreTrackedModules (g : Setting) (ms : List StoredModule) (covered : Board) (key : LineKey)
+pub record AreTrackedModules (g : Setting) (ms : List StoredModule) (o : OwnersView) (key : LineKey)
     (earlier : List (List ℕ))
     (local : List ℕ) (e h : List Cell) : Type 0 where
-  pub tracked : IsTrackedWith g (lines_of_modules g.circuit ms) covered (last_body_line (lines_of_modules g.circuit ms))
+  pub tracked : IsTrackedWith g (lines_of_modules g.circuit ms) o (last_body_line (lines_of_modules g.circuit ms))
       key earlier local e h
   pub wires : All (HasOwnWires g.circuit) ms
 
 -- the fields of every builder: its tables are those of its lines, and the wires of its modules are the circuit's
 abbrev pub AreBuilderFields : Inside → Type 0
-AreBuilderFields a = AreTrackedModules a.tables a.modules.items a.covered a.last
+AreBuilderFields a = AreTrackedModules a.tables a.modules.items a.owners a.last
     (map (λ s. s.wires) a.earlier.items) a.known.wires
     a.edges.keys a.halos.keys
 

@@ -46,12 +46,7 @@ last_of (x ∷ y ∷ xs) = last_of (y ∷ xs)
 -- a `module` line begins a module, and every other line is one of the last module
 unfoldable pub add_line : List ModuleLines → CertificateLine → List ModuleLines
 add_line ms (Module b) = ms ++ record { area = b; lines = [] } ∷ []
-add_line ms (Cut n) = change_last (module_with_line (Cut n)) ms
-add_line ms (Use k) = change_last (module_with_line (Use k)) ms
-add_line ms (Keep k) = change_last (module_with_line (Keep k)) ms
-add_line ms (Edge e) = change_last (module_with_line (Edge e)) ms
-add_line ms (Halo e) = change_last (module_with_line (Halo e)) ms
-add_line ms (Stop s) = change_last (module_with_line (Stop s)) ms
+add_line ms i = change_last (module_with_line i) ms
 
 -- the modules of lines
 unfoldable pub modules_of : List CertificateLine → List ModuleLines

@@ -1,5 +1,5 @@
 -- The lines of one module
-use Rattle.std.specs.Prelude.{◌≡◌, Bool, true, false, if◌then◌else◌, IsTrue, List, [], ◌∷◌}
+use Rattle.std.specs.Prelude.{Bool, true, false, if◌then◌else◌, IsTrue, List, [], ◌∷◌}
 use Rattle.std.specs.List.{All}
 use Rattle.bbm_rule.specs.Boxes.{in_box}
 use Rattle.bbm_rule.specs.declared.block.Box2.{Box2}
@@ -16,10 +16,6 @@ is_module _ = false
 unfoldable pub body_lines : List CertificateLine → List CertificateLine
 body_lines [] = []
 body_lines (i ∷ entries) = if is_module i then [] else i ∷ body_lines entries
-
--- no line comes before the first `module` line
-abbrev pub BeginWithModule : List CertificateLine → Type 0
-BeginWithModule entries = body_lines entries ≡ []
 
 -- each of these lines is for a cell of the box
 abbrev pub AreInBox : Box2 → List BorderLine → Type 0

@@ -5,7 +5,8 @@ use Rattle.std.specs.Int.RustNames.{unsigned_abs}
 use Rattle.bbm_rule.specs.Plane.{is_at}
 use Rattle.circuit.specs.Bridge.{circuit_of}
 use Rattle.circuit.specs.Meaning.{Circuit, wire_of}
-use Rattle.pattern.specs.Layout.{in_layout}
+use Rattle.circuit.specs.declared.circuit_line.CircuitLine.{CircuitLine}
+use Rattle.pattern.specs.Layout.{HaveDistinctCells, Pattern, in_layout}
 use Rattle.pattern.specs.declared.layout_line.LayoutHeader.{LayoutHeader}
 use Rattle.pattern.specs.declared.layout_line.Port.{Port}
 use Rattle.bbm_rule.specs.Boxes.{in_box}
@@ -78,3 +79,10 @@ pub record IsPortTable (a : Inside) : Type 0 where
       entry_or_zero a.numbers.items (entry_place a.area a.rows.items x y) ≡ number_at a.ports.now x y
   pub wires : a.wires.items ≡ map (λ p. wire_of (circuit_of a.circuit.now) p.name) a.ports.now
   pub elsewhere : (x y : ℤ) → in_box a.area x y ≡ false → port_at a.ports.now x y ≡ None
+
+-- the tables are those of the inputs and of the outputs of the layout, of which no two are at one cell
+pub record ArePortTables (cs : List CircuitLine) (p : Pattern) (ins outs : CircuitAndPorts) : Type 0 where
+  pub inputs : ins ≡ record { circuit = circuit_of cs; ports = p.ins }
+  pub outputs : outs ≡ record { circuit = circuit_of cs; ports = p.outs }
+  pub ins_apart : HaveDistinctCells p.ins
+  pub outs_apart : HaveDistinctCells p.outs

@@ -229,12 +229,7 @@ body_line_code g (Some m) i = line_fault g m i
 -- the code of the first test that a line fails
 unfoldable pub entry_fault : Setting → List CertificateLine → CertificateLine → Option RefusalCode
 entry_fault g before (Module b) = module_line_code g (modules_of before) (last_module before) b
-entry_fault g before (Cut n) = body_line_code g (last_module before) (Cut n)
-entry_fault g before (Use k) = body_line_code g (last_module before) (Use k)
-entry_fault g before (Keep k) = body_line_code g (last_module before) (Keep k)
-entry_fault g before (Edge e) = body_line_code g (last_module before) (Edge e)
-entry_fault g before (Halo e) = body_line_code g (last_module before) (Halo e)
-entry_fault g before (Stop s) = body_line_code g (last_module before) (Stop s)
+entry_fault g before i = body_line_code g (last_module before) i
 
 -- ---- the end
 

@@ -1,5 +1,5 @@
 //! A certificate that is read, line by line.
-ghost use Rattle.std.specs.Prelude.{◌≡◌, ◌+◌, ◌≤◌, ◌<◌, ◌++◌, ◌∷◌, [], None, Option, Some, List, ℕ, length, OnErr, OnOk, IfOk, IfErr, IfSome};
+ghost use Rattle.std.specs.Prelude.{◌≡◌, ◌++◌, ◌∷◌, [], None, Option, Some, List, ℕ, length, OnErr, OnOk, IfOk, IfErr, IfSome};
 ghost use Rattle.section_text.specs.Adding.{HasRefusalCode};
 ghost use Rattle.std.specs.List.{All};
 ghost use Rattle.std.specs.Option.{is_some, option_and_then, option_map};
@@ -8,7 +8,7 @@ ghost use Rattle.certificate_lines.specs.Entries.{ModuleLines, known, modules_of
 ghost use Rattle.certificate_lines.specs.Modules.{IsWithinLineLimit};
 ghost use Rattle.certificate_lines.specs.StoredModules.{HasOwnWires, lines_of_modules, module_lines};
 ghost use Rattle.certificate_lines.specs.Rules.{timed_line_count, border_line_code, entry_fault, end_fault, module_box_code, module_line_code, body_line_code, content_code, is_last_module_incomplete};
-ghost use Rattle.certificate_lines.specs.BuilderView.{BuilderView, IsEdgeHaloOrStopLine, IsBodyLine};
+ghost use Rattle.certificate_lines.specs.BuilderView.{AreModuleOwners, BuilderView, IsEdgeHaloOrStopLine, IsBodyLine};
 ghost use Rattle.certificate_lines.specs.declared.certificate_line.CertificateLine.TheVariants.{Module};
 
 use crate::certificate_line::CertificateLine;
@@ -22,9 +22,9 @@ use crate::rules::{
 use crate::stars::{has_star, make_room_for_stars, note_stars};
 use crate::stored_module::{StoredModule, push_in_last};
 use crate::wire_list::WireList;
-use bbm_rule::{Cell, Grid, are_all_cells_live, fill_rectangle, is_any_live_in};
+use bbm_rule::Cell;
 use indexmap::IndexSet;
-use module_box::Box2;
+use module_box::{Box2, Owners};
 use section_text::{LineFault, RefusalCode};
 use std::alloc::{AllocError, Global};
 use std::marker::Model;
@@ -40,8 +40,8 @@ const MAX_MODULES: usize = 1024;
 pub struct Builder<'a> {
     pub(crate) tables: LineTables<'a>,
     pub(crate) modules: Vec<StoredModule>,
-    // the cells of all boxes
-    covered: Grid,
+    // which module so far has each cell
+    pub(crate) owners: Owners,
     // the wires that are local in each module before the last, behind none
     pub(crate) earlier: Vec<WireList>,
     // the key of the last line
@@ -50,6 +50,13 @@ pub struct Builder<'a> {
     pub(crate) known: WireList,
     edges: IndexSet<Cell>,
     halos: IndexSet<Cell>,
+}
+
+/// The modules of a certificate that was read, and which of them has each cell of the layout.
+#[derive(Drop)]
+pub struct BuiltParts {
+    pub modules: Vec<StoredModule>,
+    pub owners: Owners,
 }
 
 impl<'a> Model for Builder<'a> {
@@ -70,11 +77,11 @@ impl<'a> Builder<'a> {
         ensures { IfOk result (λ b. b ≡ record { setting = tables.entry; entries = [] }) }
     {
         let size = tables.size();
-        let covered = Grid::new(alloc, size.w, size.h)?;
+        let owners = Owners::new(alloc, size.w, size.h)?;
         Ok(Builder {
             tables,
             modules: Vec::new(alloc),
-            covered,
+            owners,
             earlier: Vec::new(alloc),
             last: first_key(),
             known: WireList::new(alloc),
@@ -99,7 +106,7 @@ impl<'a> Builder<'a> {
         ensures { result
             ≡ is_last_module_incomplete self.now.setting (last_module self.now.entries) }
     {
-        let _size = self.tables.size();
+        self.tables.prove_valid();
         match self.last_module() {
             Some(last) => self.tables.has_nonlocal_port(&self.known, last.area),
             None => false,
@@ -203,25 +210,25 @@ impl<'a> Builder<'a> {
     // It is inlined where the kind of line is known, so that no test asks for the kind.
     #[inline(always)]
     #[tactic(auto, using(crate::proofs::Keeping::good_line, crate::proofs::Keeping::with_border))]
-    fn add_border_or_stop(&mut self, entry: CertificateLine) -> Result<(), LineFault>
-        requires { IsEdgeHaloOrStopLine entry }
+    fn add_border_or_stop(&mut self, entry: &CertificateLine) -> Result<(), LineFault>
+        requires { IsEdgeHaloOrStopLine entry.now }
         ensures ok { OnOk result ((body_line_code self.old.setting (last_module self.old.entries)
-            entry ≡ None) × (self.new
-            ≡ record self.old { entries = self.old.entries ++ entry ∷ [] })) }
+            entry.now ≡ None) × (self.new
+            ≡ record self.old { entries = self.old.entries ++ entry.now ∷ [] })) }
         ensures fault { IfErr result (λ e. HasRefusalCode e
-            (body_line_code self.old.setting (last_module self.old.entries) entry)) }
+            (body_line_code self.old.setting (last_module self.old.entries) entry.now)) }
         ensures unchanged_on_error { OnErr result (self.new ≡ self.old) }
     {
-        let wire = self.tables.wire_in(&entry);
-        if let Some(code) = self.body_line_code(&entry, wire) {
+        let wire = self.tables.wire_in(entry);
+        if let Some(code) = self.body_line_code(entry, wire) {
             return Err(LineFault::Code(code));
         }
-        if make_room_for_stars(&mut self.edges, &mut self.halos, &entry).is_err() {
+        if make_room_for_stars(&mut self.edges, &mut self.halos, entry).is_err() {
             return Err(LineFault::Memory);
         }
-        push_in_last(&mut self.modules, &entry, wire)?;
-        note_stars(&mut self.edges, &mut self.halos, &entry);
-        self.last = key_of(&entry);
+        push_in_last(&mut self.modules, entry, wire)?;
+        note_stars(&mut self.edges, &mut self.halos, entry);
+        self.last = key_of(entry);
         Ok(())
     }
 
@@ -265,15 +272,11 @@ impl<'a> Builder<'a> {
     }
 
     // The code of the tests of a box by itself.
-    #[tactic(auto, using(crate::proofs::BuiltLemmas::near_by), unfolding(crate::specs::Rules::module_box_code))]
+    #[tactic(auto, unfolding(crate::specs::Rules::module_box_code))]
     fn box_code(&self, area: Box2) -> Option<RefusalCode>
-        ensures code { result
+        ensures { result
             ≡ module_box_code self.now.setting (length (modules_of self.now.entries))
             (last_module self.now.entries) area }
-        ensures columns { result ≡ None → (area.x + area.w ≤ self.now.setting.size.w)
-            × (area.x + area.w ≤ 512) }
-        ensures rows { result ≡ None → (area.y + area.h ≤ self.now.setting.size.h)
-            × (area.y + area.h ≤ 512) }
     {
         let size = self.tables.size();
         if self.has_nonlocal_port() {
@@ -291,18 +294,15 @@ impl<'a> Builder<'a> {
     }
 
     // The code of the first test that the box of a module fails, by itself and among the earlier ones.
+    #[tactic(auto, using(crate::proofs::BuiltLemmas::passes_alone))]
     fn module_code(&self, area: Box2) -> Option<RefusalCode>
-        ensures code { result ≡ module_line_code self.now.setting (modules_of self.now.entries)
+        ensures { result ≡ module_line_code self.now.setting (modules_of self.now.entries)
             (last_module self.now.entries) area }
-        ensures columns { result ≡ None → (area.x + area.w ≤ self.now.setting.size.w)
-            × (area.x + area.w ≤ 512) }
-        ensures rows { result ≡ None → (area.y + area.h ≤ self.now.setting.size.h)
-            × (area.y + area.h ≤ 512) }
     {
         if let Some(code) = self.box_code(area) {
             return Some(code);
         }
-        if is_any_live_in(&self.covered, area) {
+        if !self.owners.is_box_free(area) {
             return Some(RefusalCode::MisplacedBox);
         }
         None
@@ -328,7 +328,7 @@ impl<'a> Builder<'a> {
             self.modules.truncate(before);
             return Err(LineFault::Memory);
         };
-        fill_rectangle(&mut self.covered, area);
+        self.owners.put(area, before);
         self.last = first_key();
         self.edges.truncate(0);
         self.halos.truncate(0);
@@ -353,9 +353,9 @@ impl<'a> Builder<'a> {
     {
         match entry {
             CertificateLine::Module(area) => self.add_module(alloc, area),
-            CertificateLine::Edge(_) => self.add_border_or_stop(entry),
-            CertificateLine::Halo(_) => self.add_border_or_stop(entry),
-            CertificateLine::Stop(_) => self.add_border_or_stop(entry),
+            CertificateLine::Edge(_) => self.add_border_or_stop(&entry),
+            CertificateLine::Halo(_) => self.add_border_or_stop(&entry),
+            CertificateLine::Stop(_) => self.add_border_or_stop(&entry),
             _ => self.add_body_line(entry),
         }
     }
@@ -364,9 +364,8 @@ impl<'a> Builder<'a> {
     pub fn missing(&self) -> Option<RefusalCode>
         ensures { result ≡ end_fault self.now.setting self.now.entries }
     {
-        let size = self.tables.size();
         let lacks = self.has_nonlocal_port();
-        let full = are_all_cells_live(&self.covered, size.w, size.h);
+        let full = self.owners.are_all_taken();
         if lacks | !full {
             Some(RefusalCode::SomethingMissing)
         } else {
@@ -374,13 +373,19 @@ impl<'a> Builder<'a> {
         }
     }
 
-    /// Returns the modules.
-    pub fn into_modules(self) -> Vec<StoredModule>
-        ensures entries { lines_of_modules self.entry.setting.circuit result.items
+    /// Returns the modules, and which of them has each cell.
+    pub fn into_parts(self) -> BuiltParts
+        ensures entries { lines_of_modules self.entry.setting.circuit result.modules.items
             ≡ self.entry.entries }
-        ensures wires { All (HasOwnWires self.entry.setting.circuit) result.items }
+        ensures wires { All (HasOwnWires self.entry.setting.circuit) result.modules.items }
+        ensures owners { AreModuleOwners self.entry.setting (modules_of self.entry.entries)
+            result.owners }
     {
-        let Builder { modules, .. } = self;
-        modules
+        let Builder {
+            modules,
+            owners,
+            ..
+        } = self;
+        BuiltParts { modules, owners }
     }
 }

@@ -48,6 +48,7 @@ fn read_one_or_name(word: &[u8]) -> Option<OneOrName>
 
 // The content of an edge or halo line, by what stands behind its keyword and a space.
 #[inline(always)]
+#[tactic(auto, using(crate::proofs::BorderText::no_time, crate::proofs::BorderText::no_column, crate::proofs::BorderText::no_row))]
 fn border_after_keyword(line: &[u8]) -> Option<BorderLine>
     ensures { (keyword : List ℕ) → result ≡ border_of (keyword ∷ words_of line.now) }
 {
@@ -154,6 +155,7 @@ fn not_five_words_line_form(feed: &Feed, line: &Line) -> Option<Form<u32, Certif
 
 // The form of a line that begins with no `edge `, no `halo ` and no `stop `, by its words.
 #[inline(never)]
+#[tactic(auto, using(crate::proofs::BorderLines::long_form_is, crate::proofs::BorderLines::short_form_is))]
 fn line_form_by_words(feed: &Feed, line: &Line) -> Option<Form<u32, CertificateLine>>
     requires line { IsLine feed.now line.now }
     requires no_edge { bytes_eq (take 5 (line_bytes feed.now line.now)) (codes "edge ") ≡ false }

@@ -17,10 +17,10 @@ mod stars;
 mod stored_module;
 mod wire_list;
 
-pub use builder::Builder;
+pub use builder::{Builder, BuiltParts};
 pub use certificate_line::{BorderLine, CertificateLine, Counts, OneOrName, StopLine};
 pub use form::line_form;
 pub use line_tables::LineTables;
 pub use order::compare_borders;
-pub use ports::{PortTable, PortWire, port_tables};
+pub use ports::{PortTable, PortTablePair, PortWire, port_tables};
 pub use stored_module::{StoredBorder, StoredModule, StoredStop, boxes_of};

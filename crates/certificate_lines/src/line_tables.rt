@@ -1,6 +1,6 @@
 //! The circuit and the layout that a certificate is for, with tables of the layout's ports by their cells.
 ghost use Rattle.bbm_rule.specs.CellLists.{rectangle_cells};
-ghost use Rattle.std.specs.Prelude.{◌≡◌, ◌+◌, ◌<◌, ◌≤◌, ◌&&◌, not, length, slice_get, IfOk, IfSome};
+ghost use Rattle.std.specs.Prelude.{◌≡◌, ◌+◌, ◌<◌, ◌≤◌, ◌&&◌, not, length, slice_get, IfSome};
 ghost use Rattle.std.specs.List.{All, list_any};
 ghost use Rattle.std.specs.Option.{option_and_then, option_map};
 ghost use Rattle.circuit.specs.Meaning.{wire_of};
@@ -11,18 +11,17 @@ ghost use Rattle.bbm_rule.specs.Boxes.{in_box};
 ghost use Rattle.certificate_lines.specs.Entries.{name_in};
 ghost use Rattle.certificate_lines.specs.Rules.{is_inverse_gate, is_local};
 ghost use Rattle.certificate_lines.specs.Versions.{is_nonlocal_signal};
-ghost use Rattle.certificate_lines.specs.PortTables.{port_at};
+ghost use Rattle.certificate_lines.specs.PortTables.{port_at, ArePortTables};
 ghost use Rattle.certificate_lines.specs.Settings.{setting_of};
 
 use crate::certificate_line::CertificateLine;
-use crate::ports::{PortTable, port_tables};
+use crate::ports::{PortTable, PortTablePair};
 use crate::wire_list::WireList;
 use bbm_rule::Cell;
 use circuit::{Circuit, GateNo, GateWires};
 use module_box::Box2;
 use pattern::{Layout, LayoutHeader};
 use section_text::Name;
-use std::alloc::{AllocError, Global};
 use std::marker::Model;
 
 /// A circuit and a layout, by which the names and numbers of lines are looked up. Contracts see a `Setting`.
@@ -30,8 +29,7 @@ use std::marker::Model;
 pub struct LineTables<'a> {
     circuit: &'a Circuit,
     layout: &'a Layout,
-    ins: PortTable<'a>,
-    outs: PortTable<'a>,
+    ports: &'a PortTablePair<'a>,
     // the wire that was named last by a name of this slot
     likely: [u16; SLOT_COUNT],
 }
@@ -115,6 +113,7 @@ fn has_row_nonlocal_port(ports: &PortTable, known: &WireList, x: u32, y: u32, wi
 }
 
 // Whether a port in a box has a wire that is not local.
+#[tactic(auto, unfolding(bbm_rule::specs::CellLists::rectangle_cells))]
 fn has_box_nonlocal_port(ports: &PortTable, known: &WireList, area: Box2) -> bool
     requires { (area.x + area.w ≤ 512) × (area.y + area.h ≤ 512) }
     ensures { result
@@ -129,26 +128,23 @@ fn has_box_nonlocal_port(ports: &PortTable, known: &WireList, area: Box2) -> boo
 }
 
 impl<'a> LineTables<'a> {
-    /// Creates the tables of the layout's ports.
+    /// Creates the tables of a circuit and a layout, by the tables of the layout's ports.
     pub fn new(
-        alloc: Global,
         circuit: &'a Circuit,
         layout: &'a Layout,
-    ) -> Result<LineTables<'a>, AllocError>
-        ensures { IfOk result (λ tables. tables ≡ setting_of circuit.now layout.now) }
+        ports: &'a PortTablePair<'a>,
+    ) -> LineTables<'a>
+        requires { ArePortTables circuit.now layout.now ports.now.ins ports.now.outs }
+        ensures { result ≡ setting_of circuit.now layout.now }
     {
-        // The limits of a circuit and of a layout.
-        let _wires = circuit.wires();
-        let _gates = circuit.gates();
-        let _size = layout.size();
-        let (ins, outs) = port_tables(alloc, circuit, layout)?;
-        Ok(LineTables {
+        circuit.prove_valid();
+        layout.prove_valid();
+        LineTables {
             circuit,
             layout,
-            ins,
-            outs,
+            ports,
             likely: [0; SLOT_COUNT],
-        })
+        }
     }
 
     /// Returns the width, the height and the steps of the layout.
@@ -157,6 +153,14 @@ impl<'a> LineTables<'a> {
         ensures limits { size_fault result ≡ None }
     {
         self.layout.size()
+    }
+
+    /// Shows the limits of the layout. It does nothing.
+    #[inline(always)]
+    pub(crate) fn prove_valid(&self)
+        ensures { size_fault self.now.size ≡ None }
+    {
+        self.layout.prove_valid();
     }
 
     /// Returns the circuit's wire that a line names, if it names one and the circuit has it.
@@ -185,8 +189,7 @@ impl<'a> LineTables<'a> {
             ≡ slice_get self.now.circuit.netlist.gates number }
         ensures below_4096 { IfSome result (λ g. All (λ w. w < 4096) (gate_of g).outs) }
     {
-        // A circuit has at most 4096 wires.
-        let _wire_count = self.circuit.wires();
+        self.circuit.prove_valid();
         if number as usize >= self.circuit.gates() {
             return None;
         }
@@ -209,8 +212,8 @@ impl<'a> LineTables<'a> {
         ensures { result ≡ list_any (λ p. in_box area p.cell.x p.cell.y
             && not (is_local self.now.circuit known.now.wires p.name)) self.now.ports }
     {
-        let lacks_input = has_box_nonlocal_port(&self.ins, known, area);
-        let lacks_output = has_box_nonlocal_port(&self.outs, known, area);
+        let lacks_input = has_box_nonlocal_port(&self.ports.ins, known, area);
+        let lacks_output = has_box_nonlocal_port(&self.ports.outs, known, area);
         lacks_input | lacks_output
     }
 }

@@ -1,33 +1,18 @@
 //! Whether an edge line names a wire that is not local in a module beside it.
-ghost use Rattle.std.specs.Prelude.{◌≡◌, ◌<◌, List, map, ◌&&◌, Some, length, slice_get, IfSome, IsTrue};
+ghost use Rattle.std.specs.Prelude.{◌≡◌, ◌<◌, List, map, ◌&&◌, Some, length, slice_get, IsTrue};
 ghost use Rattle.std.specs.List.{All, flat_map, list_any};
-ghost use Rattle.circuit.specs.Meaning.{Circuit};
-ghost use Rattle.certificate_lines.specs.Entries.{ModuleLines, areas, edges, known, modules_of};
-ghost use Rattle.certificate_lines.specs.StoredModules.{HasOwnWire, IsWithin, border_line, module_lines};
+ghost use Rattle.certificate_lines.specs.Entries.{ModuleLines, edges, known, modules_of};
+ghost use Rattle.certificate_lines.specs.StoredModules.{HasOwnWire, IsWithin, border_line};
 ghost use Rattle.certificate_lines.specs.Rules.{whole};
 ghost use Rattle.bbm_rule.specs.Boxes.{in_box};
-ghost use Rattle.certificate_lines.specs.BuilderView.{AreApart, AreModuleOwners, IsModuleWithCell, does_neighbour_lack_wire, is_outside_and_nonlocal, is_nonlocal_in_neighbour, lacks_edge_wire};
+ghost use Rattle.certificate_lines.specs.BuilderView.{does_neighbour_lack_wire, is_outside_and_nonlocal, is_nonlocal_in_neighbour, lacks_edge_wire};
 ghost use Rattle.certificate_lines.specs.Versions.{lacks_edge_wire_beside};
 
 use crate::builder::Builder;
 use crate::rules::{is_local_wire, whole_of};
-use crate::stored_module::{StoredBorder, StoredModule, boxes_of};
+use crate::stored_module::StoredBorder;
 use crate::wire_list::WireList;
 use bbm_rule::{Cell, odd_partner};
-use module_box::{Owners, owner_table};
-use std::alloc::Global;
-
-// The number of the first module that has the cell.
-fn first_with_cell(modules: &[StoredModule], cell: Cell) -> Option<usize>
-    ensures { (c : Circuit) → IsModuleWithCell (map (module_lines c) modules.now) cell result }
-{
-    'modules: for number in 0..modules.len() {
-        if modules[number].area.holds(cell) {
-            return Some(number);
-        }
-    }
-    None
-}
 
 impl<'a> Builder<'a> {
     // The wires that are local in the module of this number.
@@ -46,21 +31,6 @@ impl<'a> Builder<'a> {
 }
 
 impl<'a> Builder<'a> {
-    // Which module has each cell, or `None` if there is no memory or the boxes leave a gap.
-    #[tactic(auto, using(crate::proofs::StoredLemmas::areas_stored))]
-    fn owners(&self, alloc: Global) -> Option<Owners>
-        ensures { IfSome result (AreModuleOwners self.now) }
-    {
-        let Ok(boxes) = boxes_of(alloc, &self.modules) else {
-            return None;
-        };
-        let size = self.tables.size();
-        match owner_table(alloc, size.w, size.h, boxes.as_slice()) {
-            Ok(owners) => Some(owners),
-            Err(_) => None,
-        }
-    }
-
     // Whether the cell is outside the module of this number, and the wire is unknown or not local there.
     #[tactic(auto, using(crate::proofs::StoredLemmas::count_stored))]
     fn is_outside_and_nonlocal(&self, number: usize, cell: Cell, wire: Option<u16>) -> bool
@@ -74,76 +44,42 @@ impl<'a> Builder<'a> {
         !is_local_wire(self.local_wires_of_module(number), wire)
     }
 
-    // The number of the module that has the cell, if one has it. Without a table it asks each module.
-    #[inline(always)]
-    fn owner(&self, owners: &Option<Owners>, cell: Cell) -> Option<usize>
-        requires { IfSome owners.now (AreModuleOwners self.now) }
-        ensures owner { IsModuleWithCell (modules_of self.now.entries) cell result }
-        ensures apart { AreApart (areas (modules_of self.now.entries)) }
-    {
-        let Some(owners) = owners else {
-            return first_with_cell(&self.modules, cell);
-        };
-        if !whole_of(self.tables.size()).holds(cell) {
-            return None;
-        }
-        Some(owners.owner(cell))
-    }
-
     // Whether some module has the cell `beside` and not the cell, and the wire is unknown or not local in it.
     // Inlined, since it runs three times for each edge line.
     #[inline(always)]
-    fn is_nonlocal_at_other_owner(
-        &self,
-        owners: &Option<Owners>,
-        cell: Cell,
-        wire: Option<u16>,
-        beside: Cell,
-    ) -> bool
-        requires { IfSome owners.now (AreModuleOwners self.now) }
+    #[tactic(auto, using(crate::proofs::OddBlocks::owner_within))]
+    fn is_nonlocal_at_other_owner(&self, cell: Cell, wire: Option<u16>, beside: Cell) -> bool
         ensures { result
             ≡ list_any (λ m. in_box m.area beside.x beside.y
             && is_outside_and_nonlocal self.now.setting.circuit cell wire m)
             (modules_of self.now.entries) }
     {
-        match self.owner(owners, beside) {
+        match self.owners.owner_if_any(beside) {
             Some(number) => self.is_outside_and_nonlocal(number, cell, wire),
             None => false,
         }
     }
 
     // Whether some module has the cell in its halo, and the wire is unknown or not local there.
-    fn is_nonlocal_in_neighbour(
-        &self,
-        owners: &Option<Owners>,
-        cell: Cell,
-        wire: Option<u16>,
-    ) -> bool
-        requires owners { IfSome owners.now (AreModuleOwners self.now) }
-        requires inside { IsTrue (in_box (whole self.now.setting.size) cell.x cell.y) }
+    fn is_nonlocal_in_neighbour(&self, cell: Cell, wire: Option<u16>) -> bool
+        requires { IsTrue (in_box (whole self.now.setting.size) cell.x cell.y) }
         ensures { result
             ≡ is_nonlocal_in_neighbour self.now.setting.circuit (modules_of self.now.entries) cell
             wire }
     {
-        let _size = self.tables.size();
+        self.tables.prove_valid();
         let Cell { x, y } = cell;
         // Corners and sides are even, so a box with a neighbour of the cell has it or one of these.
         let column = odd_partner(x);
         let row = odd_partner(y);
-        let beside = self.is_nonlocal_at_other_owner(owners, cell, wire, Cell { x: column, y });
-        let above = self.is_nonlocal_at_other_owner(owners, cell, wire, Cell { x, y: row });
-        let corner = self.is_nonlocal_at_other_owner(
-            owners,
-            cell,
-            wire,
-            Cell { x: column, y: row },
-        );
+        let beside = self.is_nonlocal_at_other_owner(cell, wire, Cell { x: column, y });
+        let above = self.is_nonlocal_at_other_owner(cell, wire, Cell { x, y: row });
+        let corner = self.is_nonlocal_at_other_owner(cell, wire, Cell { x: column, y: row });
         beside | above | corner
     }
 
     // Whether some module has the cell of an edge line in its halo, and lacks its wire.
-    fn does_neighbour_lack_wire(&self, owners: &Option<Owners>, border: &StoredBorder) -> bool
-        requires owners { IfSome owners.now (AreModuleOwners self.now) }
+    fn does_neighbour_lack_wire(&self, border: &StoredBorder) -> bool
         requires own { HasOwnWire self.now.setting.circuit border.now }
         requires inside { IsWithin self.now.setting.size border.now }
         ensures { result
@@ -152,14 +88,13 @@ impl<'a> Builder<'a> {
     {
         match border.wire {
             None => false,
-            Some(_) => self.is_nonlocal_in_neighbour(owners, border.cell(), border.wire),
+            Some(_) => self.is_nonlocal_in_neighbour(border.cell(), border.wire),
         }
     }
 
     // Whether some module lacks the wire of one of these edge lines, by the modules beside each of them.
     #[tactic(auto, using(lemmas::proofs::Common::list_any_at))]
-    fn do_neighbours_lack_a_wire(&self, owners: &Option<Owners>, lines: &[StoredBorder]) -> bool
-        requires owners { IfSome owners.now (AreModuleOwners self.now) }
+    fn do_neighbours_lack_a_wire(&self, lines: &[StoredBorder]) -> bool
         requires own { All (HasOwnWire self.now.setting.circuit) lines.now }
         requires inside { All (IsWithin self.now.setting.size) lines.now }
         ensures { result
@@ -167,7 +102,7 @@ impl<'a> Builder<'a> {
             (modules_of self.now.entries) (border_line self.now.setting.circuit b)) lines.now }
     {
         'lines: for line in lines {
-            if self.does_neighbour_lack_wire(owners, line) {
+            if self.does_neighbour_lack_wire(line) {
                 return true;
             }
         }
@@ -175,14 +110,13 @@ impl<'a> Builder<'a> {
     }
 
     // Whether some module lacks the wire of an edge line beside it, by the modules beside each edge line.
-    fn does_any_neighbour_lack_a_wire(&self, owners: &Option<Owners>) -> bool
-        requires { IfSome owners.now (AreModuleOwners self.now) }
+    fn does_any_neighbour_lack_a_wire(&self) -> bool
         ensures { result
             ≡ list_any (lacks_edge_wire self.now.setting.circuit
             (flat_map edges (modules_of self.now.entries))) (modules_of self.now.entries) }
     {
         'modules: for module in &self.modules {
-            if self.do_neighbours_lack_a_wire(owners, module.edges.as_slice()) {
+            if self.do_neighbours_lack_a_wire(module.edges.as_slice()) {
                 return true;
             }
         }
@@ -193,16 +127,14 @@ impl<'a> Builder<'a> {
 impl<'a> Builder<'a> {
     /// Returns whether some module lacks the wire of an edge line beside it.
     ///
-    /// It takes memory for a table of the modules that have the cells. With the table it asks at most three modules for
-    /// each edge line. If there is no memory for the table, it asks each module.
-    pub fn lacks_edge_wire_beside(&self, alloc: Global) -> bool
+    /// It asks at most three modules for each edge line.
+    pub fn lacks_edge_wire_beside(&self) -> bool
         ensures { result ≡ lacks_edge_wire_beside self.now.setting (modules_of self.now.entries) }
     {
         let size = self.tables.size();
         if size.steps <= 1 {
             return false;
         }
-        let owners = self.owners(alloc);
-        self.does_any_neighbour_lack_a_wire(&owners)
+        self.does_any_neighbour_lack_a_wire()
     }
 }

@@ -45,6 +45,7 @@ fn rank_of_time(time: Option<u32>) -> u64
 }
 
 // The number of a gate, the place of a border line's time, or the time of a stop.
+#[inline(always)]
 #[tactic(auto, unfolding(crate::specs::Orders::sort_number_of))]
 fn sort_number(entry: &CertificateLine) -> u64
     ensures { result ≡ sort_number_of entry.now }

@@ -1,5 +1,5 @@
 //! The ports of a layout by their cells.
-ghost use Rattle.std.specs.Prelude.{◌≡◌, ◌+◌, ◌<◌, ◌≤◌, ℕ, ℤ, length, map, nat_eq, pos, true, None, OnOk, IfOk};
+ghost use Rattle.std.specs.Prelude.{◌≡◌, ◌+◌, ◌<◌, ◌≤◌, ℕ, ℤ, length, map, nat_eq, pos, true, None, IfOk};
 ghost use Rattle.std.specs.List.{list_all};
 ghost use Rattle.std.specs.Option.{option_map};
 ghost use Rattle.circuit.specs.Bridge.{circuit_of};
@@ -7,7 +7,7 @@ ghost use Rattle.circuit.specs.Meaning.{wire_of};
 ghost use Rattle.pattern.specs.Layout.{HaveDistinctCells};
 ghost use Rattle.pattern.specs.Lines.{size_fault};
 ghost use Rattle.bbm_rule.specs.Boxes.{in_box};
-ghost use Rattle.certificate_lines.specs.PortTables.{port_at, entry_place, AreInBox, AreNumberedRows, AreOnBoard};
+ghost use Rattle.certificate_lines.specs.PortTables.{port_at, entry_place, AreInBox, ArePortTables, AreNumberedRows, AreOnBoard};
 
 use crate::rules::whole_of;
 use bbm_rule::Cell;
@@ -127,24 +127,26 @@ fn index_ports<'a>(
     })
 }
 
-/// Creates the tables of the inputs and of the outputs of a layout, by their cells.
+/// The tables of the inputs and of the outputs of a layout, by their cells.
+#[derive(Drop)]
+pub struct PortTablePair<'a> {
+    pub ins: PortTable<'a>,
+    pub outs: PortTable<'a>,
+}
+
+/// Creates the tables of the ports of a layout.
 #[tactic(auto, using(crate::proofs::LayoutPorts::ports_on_layout))]
 pub fn port_tables<'a>(
     alloc: Global,
     circuit: &'a Circuit,
     layout: &'a Layout,
-) -> Result<(PortTable<'a>, PortTable<'a>), AllocError>
-    ensures ins { IfOk result (λ tables. tables.0
-        ≡ record { circuit = circuit_of circuit.now; ports = layout.now.ins }) }
-    ensures outs { IfOk result (λ tables. tables.1
-        ≡ record { circuit = circuit_of circuit.now; ports = layout.now.outs }) }
-    ensures ins_apart { OnOk result (HaveDistinctCells layout.now.ins) }
-    ensures outs_apart { OnOk result (HaveDistinctCells layout.now.outs) }
+) -> Result<PortTablePair<'a>, AllocError>
+    ensures { IfOk result (λ pair. ArePortTables circuit.now layout.now pair.ins pair.outs) }
 {
     let size = layout.size();
     let ins = index_ports(alloc, circuit, size, layout.ins())?;
     let outs = index_ports(alloc, circuit, size, layout.outs())?;
-    Ok((ins, outs))
+    Ok(PortTablePair { ins, outs })
 }
 
 fn are_all_zero(numbers: &[u32]) -> bool

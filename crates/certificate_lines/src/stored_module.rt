@@ -79,6 +79,17 @@ impl StoredStop {
     }
 }
 
+// Adds an edge or halo line. Room is made first: a push without it hands the line back, which costs more.
+#[inline(always)]
+fn push_border(lines: &mut Vec<StoredBorder>, line: StoredBorder) -> Result<(), AllocError>
+    ensures ok { OnOk result (lines.new.items ≡ lines.old.items ++ line ∷ []) }
+    ensures err { OnErr result (lines.new.items ≡ lines.old.items) }
+{
+    lines.reserve(1)?;
+    lines.push_reserved(line);
+    Ok(())
+}
+
 // The edge or halo line of this wire.
 #[inline(always)]
 fn stored_border(border: &BorderLine, wire: Option<u16>) -> StoredBorder
@@ -159,8 +170,12 @@ impl StoredModule {
             (CertificateLine::Cut(_), Some(wire)) => self.cuts.push(WireNo::of(wire))?,
             (CertificateLine::Use(number), _) => self.gates.push(GateNo::of(*number as u16))?,
             (CertificateLine::Keep(number), _) => self.keeps.push(GateNo::of(*number as u16))?,
-            (CertificateLine::Edge(border), _) => self.edges.push(stored_border(border, wire))?,
-            (CertificateLine::Halo(border), _) => self.halos.push(stored_border(border, wire))?,
+            (CertificateLine::Edge(border), _) => {
+                push_border(&mut self.edges, stored_border(border, wire))?;
+            }
+            (CertificateLine::Halo(border), _) => {
+                push_border(&mut self.halos, stored_border(border, wire))?;
+            }
             (CertificateLine::Stop(stop), Some(wire)) => self.stops.push(stored_stop(stop, wire))?,
             _ => unreachable!(),
         }

@@ -1,14 +1,21 @@
 -- The bytes that a reader of the section took are the text of the certificate that it gave.
-use Rattle.check_main.proofs.Imports.{CertView, FeedView, List, None, Ok, Option, Some, ap, arith, certificate_text}
-use Rattle.check_main.proofs.Imports.{drop, length, length-append, refl, take, ℕ, ◌++◌, ◌+◌, ◌∙◌, ◌≡◌, ◌≤◌}
-use Rattle.lemmas.proofs.Common.{flat_map, drop-append_seam, flat_map-append, take-add}
+use Rattle.check_main.proofs.Imports.{CertView, FeedView, List, None, Ok, Option, Result, Some, [], ap, arith}
+use Rattle.check_main.proofs.Imports.{certificate_text}
+use Rattle.check_main.proofs.Imports.{drop, length, length-append, refl, sym, take, ℕ, ◌++◌, ◌+◌, ◌∙◌, ◌≡◌, ◌≤◌}
+use Rattle.lemmas.proofs.Common.{append-nil, flat_map, drop-append_seam, flat_map-append, take-add, take-append-drop}
+use Rattle.std.specs.Option.{IfSome}
+use Rattle.section_text.specs.Feeds.{ahead}
 use Rattle.section_text.specs.Section.{Reads, ReadsSection, with_line_feed}
-use Rattle.section_text.specs.Words.{lines_of}
+use Rattle.section_text.specs.Words.{bytes_after_last_line_feed, lines_of}
+use Rattle.section_text.proofs.Lines.{whole_text}
 use Rattle.section_text.specs.declared.fault.ReadFault.{ReadFault}
+use Rattle.circuit.specs.declared.circuit_line.CircuitLine.{CircuitLine}
+use Rattle.pattern.specs.Layout.{Pattern}
 use Rattle.certificate_lines.specs.Entries.{Setting}
+use Rattle.certificate_lines.specs.Settings.{setting_of}
 use Rattle.certificate.specs.Grammars.{certificate_grammar, certificate_section}
 use Rattle.certificate.specs.Laws.{PrintsWhatIsRead}
-use Rattle.check_main.specs.Preparing.{taken_bytes}
+use Rattle.check_main.specs.Preparing.{IsRest, taken_bytes}
 
 -- a feed that has a fault gives no certificate, so this one has read the section
 section_read : (g : Setting) (old new : FeedView) (c : CertView) (o : Option ReadFault) → old.stop ≡ o →
@@ -35,3 +42,31 @@ pub section_bytes : (before after text : List ℕ) → after ≡ before ++ text 
 section_bytes before after text e =
     let longer = ap length e ∙ length-append before text in
     (omega (arith, longer), ap (drop (length before)) e ∙ drop-append_seam before text)
+
+-- a text that was read to its end is that of the lines that were taken
+read_to_end : (f : FeedView) → ahead f ≡ [] → bytes_after_last_line_feed f.text ≡ [] → taken_bytes f ≡ f.text
+read_to_end f none over =
+    let ls = lines_of f.text in
+    let all : take f.taken ls ≡ ls =
+    sym (append-nil (take f.taken ls)) ∙ ap (λ (l : List (List ℕ)). take f.taken ls ++ l) (sym none)
+    ∙ take-append-drop f.taken ls in
+    ap (flat_map with_line_feed) all ∙ sym (append-nil (flat_map with_line_feed ls))
+    ∙ ap (λ (l : List ℕ). flat_map with_line_feed ls ++ l) (sym over) ∙ whole_text f.text
+
+-- so the certificate's text is what stood behind the lines that were taken before it
+pub section_is_rest : PrintsWhatIsRead → (g : Setting) (old new : FeedView) (c : CertView) →
+    Reads (certificate_grammar g) (λ (d : CertView). certificate_section d) old new (Ok c) → ahead new ≡ [] →
+    bytes_after_last_line_feed new.text ≡ [] → IsRest old (certificate_text c)
+section_is_rest printed g old new c r none over =
+    let s = section_read g old new c old.stop refl r in
+    sym (text_taken printed g old new c r) ∙ read_to_end new none over ∙ ap (λ (f : FeedView). f.text) s.after
+
+-- what holds of a value if there is one
+pub some_weaker : {A : Type 0} (o : Option A) (P Q : A → Type 0) → ((a : A) → P a → Q a) → IfSome o P → IfSome o Q
+some_weaker None P Q f h = h
+some_weaker (Some a) P Q f h = f a h
+
+-- what reading makes of a section for a circuit and a layout
+abbrev pub IsReadFrom : List CircuitLine → Pattern → FeedView → FeedView → Result CertView ReadFault → Type 0
+IsReadFrom circuit layout old new =
+    Reads (certificate_grammar (setting_of circuit layout)) (λ (d : CertView). certificate_section d) old new

@@ -1,5 +1,5 @@
 -- The work on a certificate before its modules run: its digest, its jobs and the faults of its borders.
-use Rattle.std.specs.Prelude.{◌≡◌, ◌≤◌, ℕ, List, drop, length, map, take}
+use Rattle.std.specs.Prelude.{◌≡◌, ◌≤◌, ◌++◌, ℕ, List, drop, length, map, take}
 use Rattle.std.specs.Arc.{arc_value}
 use Rattle.std.specs.List.{flat_map}
 use Rattle.sha2.specs.Sha256.{sha256}
@@ -16,6 +16,10 @@ use Rattle.check_main.specs.declared.preparing.Prepared.{Prepared}
 -- the bytes of the lines that were taken
 abbrev pub taken_bytes : FeedView → List ℕ
 taken_bytes f = flat_map with_line_feed (take f.taken (lines_of f.text))
+
+-- these bytes follow the lines that were taken
+abbrev pub IsRest : FeedView → List ℕ → Type 0
+IsRest f rest = taken_bytes f ++ rest ≡ f.text
 
 -- the lines that were taken are the text of the certificate, from this byte on
 pub record IsSectionOf (f : FeedView) (from : ℕ) (c : CertView) : Type 0 where

@@ -94,8 +94,7 @@ pub(crate) fn audit_opening<G: Gate + Sync, R: Threads + Wait + Sync>(
     ensures filed { IfOk result (λ audited. length (modules cert.now) ≤ length
         (filings_in audited.state.history)) }
 {
-    // There are at most 1024 modules.
-    let _count = cert.modules();
+    cert.prove_valid();
     let DigestAndJobs { digest, jobs } = opening;
     let copies = jobs.clone()?;
     let groups = job_groups(alloc, &copies)?;
@@ -127,8 +126,7 @@ fn fill_and_close(
 {
     fill_open_book(alloc, state, digest, jobs, &mut 0)?;
     state.close()?;
-    // The history replays to the state.
-    let _history = state.history();
+    state.prove_replays();
     Ok(())
 }
 

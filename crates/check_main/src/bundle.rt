@@ -10,10 +10,10 @@ ghost use Rattle.headline.specs.RightInFull.{IsRightInFull};
 ghost use Rattle.headline.specs.SmallDesigns.{IsNoSmallDesignText};
 
 use crate::check::report_on;
+use crate::digesting::read_with_digest;
 use crate::preparing::prepare;
 use answers::{Answered, Outcome, refusal_answer};
 use certificate::laws::text_round_trips;
-use certificate::read_certificate;
 use circuit::{port_names, read_circuit};
 use job_pool::Gate;
 use pattern::read_layout;
@@ -108,7 +108,8 @@ fn report_of_text<G: Gate + Sync, R: Threads + Wait + Sync>(
         Ok(layout) => layout,
     };
     let from = feed.taken_text().len();
-    let cert = match read_certificate(alloc, &mut feed, &circuit, &layout) {
+    let (digest, read) = read_with_digest(rt, alloc, &mut feed, &circuit, &layout, workers);
+    let cert = match read {
         Err(fault) => return refusal_answer(alloc, fault),
         Ok(cert) => cert,
     };
@@ -117,6 +118,6 @@ fn report_of_text<G: Gate + Sync, R: Threads + Wait + Sync>(
     }
     // A certificate prints as the bytes that it was read from.
     text_round_trips();
-    let prepared = prepare(rt, alloc, &cert, feed, from, workers)?;
+    let prepared = prepare(alloc, &cert, feed, from, digest)?;
     report_on(rt, alloc, &cert, prepared, workers, gate)
 }

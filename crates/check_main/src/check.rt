@@ -88,8 +88,7 @@ fn verdict_from(
     requires audit { IsAuditOf cert.now state.now }
     ensures { IfOk result (IsVerdictOn cert.now) }
 {
-    // What is known of the modules.
-    let _count = cert.modules();
+    cert.prove_valid();
     conclude_from_full_book(alloc, cert, borders, state)
 }
 

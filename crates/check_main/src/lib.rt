@@ -4,6 +4,7 @@
 mod auditing;
 mod bundle;
 mod check;
+mod digesting;
 mod fault;
 mod front;
 pub mod laws;

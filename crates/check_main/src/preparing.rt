@@ -1,5 +1,5 @@
 //! The work on a certificate before its modules run.
-ghost use Rattle.std.specs.Prelude.{◌≡◌, ◌≤◌, IfOk, drop, length};
+ghost use Rattle.std.specs.Prelude.{◌≡◌, ◌≤◌, IfOk, IfSome, drop, length};
 ghost use Rattle.sha2.specs.Sha256.{sha256};
 ghost use Rattle.certificate.specs.Text.{certificate_text};
 ghost use Rattle.check_main.specs.Preparing.{IsMadeFor, IsPreparedFor, IsSectionOf, taken_bytes};
@@ -11,7 +11,6 @@ use section_text::Feed;
 use sha2::{Digest, Sha256};
 use std::alloc::{AllocError, Global};
 use std::sync::Arc;
-use std::thread::{Threads, join_mut};
 
 /// The digest and the jobs of a certificate, and the faults of its borders.
 #[derive(Drop)]
@@ -20,68 +19,31 @@ pub(crate) struct Prepared {
     pub(crate) borders: Vec<Option<BorderFault>>,
 }
 
-/// Takes the digest of a certificate, makes its jobs, and matches its borders. It frees the text, so that the modules
-/// can use its memory.
+/// Takes the digest of a certificate, unless it is given, makes the jobs and matches the borders.
 ///
-/// The certificate's section is the last part of the text's lines, from the byte `from` on. If there are several
-/// workers, a thread of its own takes the digest.
-pub(crate) fn prepare<R: Threads>(
-    rt: &R,
+/// The text is freed before the jobs are made, so that they and the modules can use its memory. The certificate's
+/// section is the last part of the text's lines, from the byte `from` on.
+pub(crate) fn prepare(
     alloc: Global,
     cert: &Cert<'_>,
     text: Feed,
     from: usize,
-    workers: usize,
+    digest: Option<[u8; 32]>,
 ) -> Result<Prepared, AllocError>
-    requires { IsSectionOf text from cert.now }
+    requires section { IsSectionOf text from cert.now }
+    requires digest { IfSome digest (λ d. d ≡ sha256 (certificate_text cert.now)) }
     ensures { IfOk result (IsPreparedFor cert.now) }
 {
-    let (digest, made) = digest_jobs_and_borders(rt, alloc, cert, text, from, workers);
-    let JobsAndBorders { jobs, borders } = made?;
+    let digest = match digest {
+        Some(digest) => digest,
+        None => Sha256::digest(certificate_section_in(&text, from)),
+    };
+    drop(text);
+    let JobsAndBorders { jobs, borders } = make_jobs_and_borders(alloc, cert)?;
     Ok(Prepared {
         opening: DigestAndJobs { digest, jobs },
         borders,
     })
-}
-
-// The digest of a certificate, and what is made without it.
-fn digest_jobs_and_borders<R: Threads>(
-    rt: &R,
-    alloc: Global,
-    cert: &Cert<'_>,
-    text: Feed,
-    from: usize,
-    workers: usize,
-) -> ([u8; 32], Result<JobsAndBorders, AllocError>)
-    requires { IsSectionOf text from cert.now }
-    ensures digest { result.0 ≡ sha256 (certificate_text cert.now) }
-    ensures made_for_cert { IfOk result.1 (IsMadeFor cert.now) }
-{
-    if workers == 1 {
-        let digest = Sha256::digest(certificate_section_in(&text, from));
-        drop(text);
-        return (digest, make_jobs_and_borders(alloc, cert));
-    }
-    digest_in_parallel(rt, alloc, cert, certificate_section_in(&text, from))
-}
-
-// The digest of a certificate's section, and what is made without it, in two threads.
-fn digest_in_parallel<R: Threads>(
-    rt: &R,
-    alloc: Global,
-    cert: &Cert<'_>,
-    section: &[u8],
-) -> ([u8; 32], Result<JobsAndBorders, AllocError>)
-    ensures digest { result.0 ≡ sha256 section.now }
-    ensures made_for_cert { IfOk result.1 (IsMadeFor cert.now) }
-{
-    join_mut(
-        rt,
-        &mut || -> [u8; 32]
-            ensures { result ≡ sha256 section.entry.now }
-        { Sha256::digest(section) },
-        &mut || make_jobs_and_borders(alloc, cert),
-    )
 }
 
 // Jobs, and the faults of the borders between their modules.

@@ -182,6 +182,20 @@ impl Circuit {
         self.wired.len()
     }
 
+    /// Shows what holds of each circuit. It does nothing.
+    #[tactic(auto, using(crate::proofs::Naming::inputs_are_first, crate::proofs::Naming::wires_are_named))]
+    #[inline(always)]
+    pub fn prove_valid(&self)
+        ensures at_most_1024_gates { length (netlist_of self.now).gates ≤ 1024 }
+        ensures at_most_4096_wires { wires (netlist_of self.now) ≤ 4096 }
+        ensures gates_ordered { AreOrdered (netlist_of self.now).given (netlist_of self.now).gates }
+        ensures inputs_come_first { take (netlist_of self.now).given (defined self.now)
+            ≡ input_names self.now }
+    {
+        let _ = &self.wires;
+        self.gates();
+    }
+
     /// Returns a gate, for a number below `gates()`: its kind, and the wires that it uses and defines.
     pub fn gate(&self, gate: GateNo) -> GateWires
         requires { gate < length (netlist_of self.now).gates }

@@ -244,14 +244,8 @@ one-among : (es : List Event) (c : CoreView) (k : ℕ) → IsBook c.book →
     sum_by (at_number k) (findings_accepted_in c es) + held_at c k ≤ held_at (after_events c es) k
 one-among [] c k is = omega arith
 one-among (e ∷ es) c k is =
-    grind (
-      arith,
-      common_steps,
-      sum_by-append,
-      one-event,
-      event-book,
-      (one-among es (after_event c e) k (event-book c e is)),
-    )
+    grind
+    (arith, common_steps, sum_by-append, one-event, event-book, (one-among es (after_event c e) k (event-book c e is)))
 
 at_most_one : (b : Bool) → cond b 1 0 ≤ 1
 at_most_one true = omega arith

@@ -184,6 +184,14 @@ impl BookState {
         history.as_slice()
     }
 
+    /// Shows that the history replays to the state. It does nothing.
+    #[inline(always)]
+    pub fn prove_replays(&self)
+        ensures { IsReplayed self.now }
+    {
+        let _ = &self.history;
+    }
+
     /// Returns the finding that is held for a number, or `None` if none is held, as for a number past the last job.
     ///
     /// It was made for the book's digest, for this number and for the book's job of it.

@@ -75,8 +75,7 @@ pub fn fill_open_book(
     ensures one_run_a_shape { RunsAtMostOncePerShape (shapes_of (map arc_value jobs.now)) runs.old
         runs.new }
 {
-    // The history replays to the state.
-    let _history = state.history();
+    state.prove_replays();
     if state.is_full() {
         return Ok(());
     }
@@ -84,8 +83,7 @@ pub fn fill_open_book(
     'numbers: for number in 0..jobs.len() {
         fill_number(alloc, state, number, &jobs[number], groups[number], runs)?;
     }
-    // The history replays to the state.
-    let _history = state.history();
+    state.prove_replays();
     Ok(())
 }
 

@@ -2,16 +2,16 @@
 --
 -- One is of four modules around a gate, with stops and a delay, and one of a switch and its inverse gate. Two are plain
 -- texts of two balls that meet, the second of them with a wrong layout.
-use Rattle.headline.proofs.Imports.{All, All-cons, All-head, All-nil, All-tail, Bundle, Cell, CircuitLine, Cut, Delay}
-use Rattle.headline.proofs.Imports.{Gate, GateKind, HasNoDelay, Input, Interact, IsCorrect, IsDesign, IsInputName}
+use Rattle.lemmas.proofs.Common.{common_steps}
+use Rattle.headline.proofs.Imports.{All, All-head, All-tail, Bundle, Cell, CircuitLine, Cut}
+use Rattle.headline.proofs.Imports.{Gate, HasNoDelay, Input, Interact, IsCorrect, IsDesign, IsInputName}
 use Rattle.headline.proofs.Imports.{IsPlain, IsReportOf, IsSmallDesign, List, Meet, Module, ModuleLines, No, Ok}
 use Rattle.headline.proofs.Imports.{Outcome, Output, Pattern, Refused, Some, Stop, StopHolds, StopLine, Switch}
-use Rattle.headline.proofs.Imports.{TouchesRim, Unswitch, Use, Yes, [], ap, arith, bit, bundle_of, cell, circuit_of}
+use Rattle.headline.proofs.Imports.{TouchesRim, Unswitch, Use, Yes, [], arith, bit, bundle_of, cell, circuit_of}
 use Rattle.headline.proofs.Imports.{codes, cuts, design_text, evaluate, fault_cmp, flat_map, in_span, job_demand}
 use Rattle.headline.proofs.Imports.{job_start, local_run, modules_of, netlist_of, numbered_all_times, numbered_event}
-use Rattle.headline.proofs.Imports.{numbered_signals, option_map, partner, parts_of, plain_lines, refl, row, slice_get}
-use Rattle.headline.proofs.Imports.{step, subst, suc, sym, true, true≢false, turned, whole, zero, ℕ, ◌∙◌, ◌∷◌, ◌≡◌, ◌≢◌}
-use Rattle.lemmas.proofs.Common.{unwrap_or}
+use Rattle.headline.proofs.Imports.{numbered_signals, partner, parts_of, plain_lines, refl, row, slice_get}
+use Rattle.headline.proofs.Imports.{step, subst, suc, true, turned, whole, zero, ℕ, ◌∷◌, ◌≡◌, ◌≢◌}
 use Rattle.circuit.specs.Gates.{is_inverse}
 use Rattle.bbm_rule.specs.CellOrder.{cell_cmp}
 use Rattle.module_box.specs.Schedules.{all_times_at, event_at, signal_at}
@@ -147,21 +147,11 @@ record IsMeeting (p : Pattern) : Type 0 where
 
 is_meeting : (b c : Cell) → IsMeeting (meeting_in b c)
 unfolding entries.change_last entries.add_line entries.modules_of meaning.number meaning.place_of
-is_meeting b c = record {
-  inputs = All-cons (IsInputName meeting) (codes "p") (codes "q" ∷ [])
-      (record { wire = 0; named = refl; is_given = omega arith })
-      (All-cons (IsInputName meeting) (codes "q") [] (record { wire = 1; named = refl; is_given = omega arith })
-      (All-nil (IsInputName meeting)));
-  modules = refl;
-  box = refl;
-}
+is_meeting b c = grind (arith, common_steps)
 
 no_inverse : (k : ℕ) (gate : Meant) → slice_get (netlist_of meeting).gates k ≡ Some gate →
     is_inverse gate.kind ≡ true → ⊥
-no_inverse zero gate at inverse =
-    let kind : ◌≡◌ {A = GateKind} Interact gate.kind =
-    ap (λ o. unwrap_or (option_map (λ (h : Meant). h.kind) o) Interact) at in
-    true≢false (sym inverse ∙ ap is_inverse (sym kind))
+no_inverse zero gate at inverse = grind (arith, common_steps)
 no_inverse (suc k) gate at inverse = absurd cc
 
 meeting_plain : (b c : Cell) → IsPlain meeting (meeting_in b c) one
@@ -326,10 +316,7 @@ plain_no_text_refuted =
 -- ---- so the plain texts of both designs are reported with the same outcomes
 
 no_delay : HasNoDelay meeting
-no_delay zero steps a b is =
-    let kind : ◌≡◌ {A = GateKind} Interact (Delay steps) =
-    ap (λ o. unwrap_or (option_map (λ (h : Meant). h.kind) o) Interact) is in
-    cc
+no_delay zero steps a b is = grind (arith, common_steps)
 no_delay (suc k) steps a b is = absurd cc
 
 few : (b c : Cell) → IsSmallDesign meeting (meeting_in b c)

@@ -30,7 +30,7 @@ use Rattle.border_match.specs.declared.fault.BorderFault.{BorderFault}
 use Rattle.soundness.specs.PlainCertificates.{LocalLineMeans}
 use Rattle.core_book.specs.Verdicts.{AreLeastFaultsOfJob, report_lines_from, unkept_lines}
 use Rattle.core_book.specs.declared.verdict.LeastFaults.{LeastFaults}
-use Rattle.soundness.proofs.FirstFaults.{ring_inside}
+use Rattle.local_run.proofs.Silence.{ring_in_box}
 use Rattle.soundness.proofs.PlainCertificates.{only_module, plain_report_lines}
 use Rattle.soundness.proofs.SomeVerdict.{IsVecOf, jobs_good}
 use Rattle.soundness.proofs.Trials.{all_at, all_below, at_every, at_odd, at_odd_times, edge_test, every_cell, given_of}
@@ -120,7 +120,7 @@ module _ (j : JobView) (is : IsJob j) (ordered : AreOrdered j.locals.netlist.giv
   after f a u t Edge x y pass g =
       let all = (and_parts (at_odd_times j.steps (edge_test j u)) _ pass).0 in
       absurd (g.differs ((booleans_Decides _ _).0 (implied (in_ring j.area x y) _
-      (at_every j.area _ (at_odd j.steps (edge_test j u) all t g.odd g.early) x y (ring_inside j.area x y g.ring))
+      (at_every j.area _ (at_odd j.steps (edge_test j u) all t g.odd g.early) x y (ring_in_box j.area x y g.ring))
       g.ring)))
   after f a u t Stop x y pass g = grind (arith, common_steps, stop_test, slice_get-get_or, all_at)
   after f a u t End x y pass g =

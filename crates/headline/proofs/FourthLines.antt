@@ -3,10 +3,10 @@ use Rattle.std.proofs.lemmas.Grind.{common_steps}
 use Rattle.headline.proofs.Imports.{All-from_recursion, Bool, CertView, FourthLineSaysYes, IsOneLine, List, Option}
 use Rattle.headline.proofs.Imports.{Refusal, Some, Verdict, [], and_parts, ap, append-nil, append_assoc, ap₂, arith}
 use Rattle.headline.proofs.Imports.{codes, cond, decimal, ended-cons, eqb, false, flat_map, kept, length, line_text}
-use Rattle.headline.proofs.Imports.{lines_of, list_all, nat_lt, not, refl, refusal_line, report_line_text, report_text}
+use Rattle.headline.proofs.Imports.{lines_of, list_all, not, refl, refusal_line, report_line_text, report_text}
 use Rattle.headline.proofs.Imports.{slice_get, slice_split_at, some_part, space_and_word, suc, sym, timing_report_line}
-use Rattle.headline.proofs.Imports.{true, zero, ℕ, ◌%◌, ◌&&◌, ◌++◌, ◌+◌, ◌<◌, ◌∙◌, ◌∷◌, ◌≡◌}
-use Rattle.lemmas.proofs.Common.{◌/◌, get_or, ne_eqb, digit_glyph, digits_onto, list_all-append, onto_first}
+use Rattle.headline.proofs.Imports.{true, zero, ℕ, ◌%◌, ◌&&◌, ◌++◌, ◌<◌, ◌∙◌, ◌∷◌, ◌≡◌}
+use Rattle.lemmas.proofs.Common.{◌/◌, get_or, digit_glyph, digits_onto, list_all-append, onto_first}
 use Rattle.lemmas.proofs.Common.{slice_split}
 use Rattle.std.specs.Fmt.{digits}
 use Rattle.hex.specs.Hex.{encode_lower, encode_with, lower_digits}
@@ -15,22 +15,17 @@ use Rattle.certificate.specs.declared.times.TimeLine.{TimeLine}
 use Rattle.report.specs.ReportText.{verdict_lines}
 use Rattle.headline.specs.Laws.{SaysYesMeansFourthLine}
 use Rattle.core_book.specs.declared.verdict.Verdict.TheVariants as verdict
+use Rattle.lemmas.proofs.Common.{false_from_not}
 
 -- ---- bytes that are no line feed
 
 abbrev is_clean : List ℕ → Bool
 is_clean l = list_all (λ b. not (is_line_feed b)) l
 
-no_feed : (b : ℕ) → not (is_line_feed b) ≡ true → is_line_feed b ≡ false
-no_feed b e = by_bool (is_line_feed b) e
-  where
-    by_bool : (t : Bool) → not t ≡ true → t ≡ false
-    by_bool true e = absurd cc
-    by_bool false e = refl
-
 one_line : (l : List ℕ) → is_clean l ≡ true → IsOneLine l
 one_line [] e = tt
-one_line (b ∷ l) e = let both = and_parts (not (is_line_feed b)) (is_clean l) e in (no_feed b both.0, one_line l both.1)
+one_line (b ∷ l) e = let both = and_parts (not (is_line_feed b)) (is_clean l) e in
+    (false_from_not (is_line_feed b) both.0, one_line l both.1)
 
 clean_index : (l : List ℕ) (k : ℕ) → is_clean l ≡ true → not (is_line_feed (get_or l k 0)) ≡ true
 clean_index [] k e = refl
@@ -44,14 +39,7 @@ clean_hex (b ∷ bytes) =
     cc ((clean_index lower_digits (b / 16) refl), (clean_index lower_digits (b % 16) refl), (clean_hex bytes))
 
 clean_glyph : (d : ℕ) → not (is_line_feed (digit_glyph false d)) ≡ true
-clean_glyph d = by_size (nat_lt d 10)
-  where
-    far : (a : ℕ) → 10 < a → not (eqb a 10) ≡ true
-    far a h = ap not (ne_eqb a 10 (λ e. omega (arith, h, e)))
-
-    by_size : (t : Bool) → not (eqb (cond t (48 + d) (87 + d)) 10) ≡ true
-    by_size true = far (48 + d) (omega arith)
-    by_size false = far (87 + d) (omega arith)
+clean_glyph d = grind (arith, common_steps)
 
 clean_choice : (t : Bool) (a b : List ℕ) → is_clean a ≡ true → is_clean b ≡ true → is_clean (cond t a b) ≡ true
 clean_choice true a b e f = e
@@ -176,11 +164,7 @@ grow x [] more h g = absurd (omega (arith, h))
 grow x (p ∷ []) more h g = record { others = ended_parts (onto_first x more); are = refl }
 grow x (p ∷ p' ∷ parts) [] h g = absurd (let e = g.are in cc)
 grow x (p ∷ p' ∷ parts) (q ∷ []) h g = absurd (let e = g.are in cc)
-grow x (p ∷ p' ∷ parts) (q ∷ q' ∷ more) h g =
-    let e = g.are in
-    let heads : q ≡ p = cc in
-    let tails : ended_parts (q' ∷ more) ≡ ended_parts (p' ∷ parts) ++ g.others = cc in
-    record { others = g.others; are = ap₂ (λ a b. (x ∷ a) ∷ b) heads tails }
+grow x (p ∷ p' ∷ parts) (q ∷ q' ∷ more) h g = grind (arith, common_steps)
 
 grown : (front rest : List ℕ) → Grown (slice_split is_line_feed front) (slice_split is_line_feed (front ++ rest))
 grown [] rest = record { others = ended_parts (slice_split is_line_feed rest); are = refl }

@@ -129,6 +129,7 @@ pub use Rattle.soundness.proofs.InputRuns.{IsPlaced, placed, read_layout-names}
 unfoldable pub use Rattle.soundness.proofs.NumberedSignals.{numbered_all_times, numbered_event, numbered_signals}
 pub use Rattle.soundness.proofs.PortNames.{no_code, read_layout-is_named}
 pub use Rattle.soundness.proofs.SomeJobs.{are_jobs_of, job_of}
-pub use Rattle.soundness.proofs.SomeVerdict.{first_none, vec_of}
+pub use Rattle.pattern.proofs.ReadingLemmas.{no_code_first}
+pub use Rattle.soundness.proofs.SomeVerdict.{vec_of}
 pub use Rattle.soundness.proofs.YesMeansCorrect.{IsRead}
 pub use Rattle.soundness.specs.PlainCertificates.{IsPlain, LineMeans, TouchesRim}

@@ -1,8 +1,8 @@
 -- The output of `migrate` says what was read, in version 2.
-use Rattle.headline.proofs.Imports.{AnswersOrRefuses, AreFaultless, AreLines, Bool, Bundle, CertificateLine}
-use Rattle.headline.proofs.Imports.{CircuitLine, End, Err, Grammar, Header, IsFaultless, IsMigrationOf, IsSection, Item}
+use Rattle.headline.proofs.Imports.{AreFaultless, AreLines, Bool, Bundle, CertificateLine}
+use Rattle.headline.proofs.Imports.{CircuitLine, End, Grammar, Header, IsFaultless, IsMigrationOf, IsSection, Item}
 use Rattle.headline.proofs.Imports.{LayoutHeader, LayoutLine, List, None, Ok, Option, Pattern, Refusal, RefusalCode}
-use Rattle.headline.proofs.Imports.{Refused, Result, SaysBundle, SaysDesign, SaysMigration, Setting, Some, Yes, [], ap}
+use Rattle.headline.proofs.Imports.{Refused, Result, SaysBundle, SaysDesign, Setting, Some, Yes, [], ap}
 use Rattle.headline.proofs.Imports.{append-nil, append_assoc, ap₂, arith, bundle_of, bundle_text}
 use Rattle.headline.proofs.Imports.{bytes_after_last_line_feed, certificate_grammar, certificate_section_text}
 use Rattle.headline.proofs.Imports.{circuit_grammar, clean_both, code_if, codes, common_steps, false, flat_map}
@@ -294,12 +294,7 @@ not_refused : Yes ≡ Refused → ⊥
 not_refused e = cc
 
 pub was_migrated : (text output : List ℕ) → IsMigrationOf text output Yes → IsMigrated text output
-was_migrated text output says = by (bundle_of text) refl says
-  where
-    by : (read : Result Bundle Refusal) → bundle_of text ≡ read → AnswersOrRefuses SaysMigration read output Yes →
-        IsMigrated text output
-    by (Ok b) e says = record { bundle = b; read = e; says = says.says }
-    by (Err refusal) e told = absurd (not_refused told.1)
+was_migrated text output says = grind (arith, common_steps, not_refused)
 
 twice_on : (i : CertificateLine) (es : List CertificateLine) (b : Bool) → is_halo i ≡ b →
     without_halos (without_halos es) ≡ without_halos es →

@@ -1,15 +1,16 @@
 -- The lines of a moved layout keep the rules of lines
-use Rattle.headline.proofs.Imports.{Ball, Bool, In, LayoutHeader, LayoutLine, List, Mirror, None, Out, PastLimit}
-use Rattle.headline.proofs.Imports.{Pattern, TakenCell, Waste, [], and_parts, ap, ap₂, arith, cell_fault, cells_of}
-use Rattle.headline.proofs.Imports.{cells_taken_at_start, code_if, common_steps, cond, enlarged, false, flat_map}
+use Rattle.headline.proofs.Imports.{Ball, Bool, In, LayoutHeader, LayoutLine, List, Mirror, None, Out}
+use Rattle.headline.proofs.Imports.{Pattern, TakenCell, Waste, [], and_parts, ap₂, arith, cell_fault, cells_of}
+use Rattle.headline.proofs.Imports.{cells_taken_at_start, code_if, common_steps, enlarged, false, flat_map}
 use Rattle.headline.proofs.Imports.{in_layout, in_span, in_span-negsuc, ints, is_inside, is_layout_side, is_taken}
-use Rattle.headline.proofs.Imports.{limit_fault, list_any, map, map-append, moved, moved_by_two, nat_le, nat_tests}
+use Rattle.headline.proofs.Imports.{limit_fault, map, map-append, moved, moved_by_two, nat_tests}
 use Rattle.headline.proofs.Imports.{negsuc, not, parts_of, port_moved_by_two, pos, range_with_len, rectangle_cells}
 use Rattle.headline.proofs.Imports.{rectangle_moved_by_two, refl, size_fault, span_from, span_parts, suc, sym}
-use Rattle.headline.proofs.Imports.{takes_at_start, true, zero, ℕ, ℤ, ◌&&◌, ◌++◌, ◌+ℤ◌, ◌+◌, ◌||◌, ◌∙◌, ◌∷◌, ◌≡◌, ◌≤◌}
+use Rattle.headline.proofs.Imports.{takes_at_start, true, zero, ℕ, ℤ, ◌++◌, ◌+ℤ◌, ◌+◌, ◌||◌, ◌∙◌, ◌∷◌, ◌≡◌, ◌≤◌}
 use Rattle.bbm_rule.specs.CellLists.{row_cells}
 use Rattle.pattern.specs.Lines.{AreGoodAfter, cells_taken_at_end, takes_at_end, holds}
 use Rattle.headline.proofs.MovedPlanes.{any_map, cells_moved}
+use Rattle.headline.proofs.Imports.{no_code}
 
 -- ---- lines
 
@@ -81,19 +82,7 @@ ended_moved parts x y = grind (arith, common_steps, any_map, ends_moved, holds_m
 taken_moved : (before : List LayoutLine) (part : LayoutLine) →
     is_taken (moved_lines before) (moved_line part) ≡ is_taken before part
 unfolding is_taken
-taken_moved before part = λ i. cond (begins_moved part i) (at_start i) (at_end i)
-  where
-    at_start : list_any (λ c. cells_taken_at_start (moved_lines before) c.x c.y) (cells_of (moved_line part))
-        ≡ list_any (λ c. cells_taken_at_start before c.x c.y) (cells_of part)
-    at_start =
-        ap (list_any (λ c. cells_taken_at_start (moved_lines before) c.x c.y)) (line_cells_moved part)
-        ∙ any_map moved_by_two _ _ (λ c. begun_moved before c.x c.y) (cells_of part)
-
-    at_end : list_any (λ c. cells_taken_at_end (moved_lines before) c.x c.y) (cells_of (moved_line part))
-        ≡ list_any (λ c. cells_taken_at_end before c.x c.y) (cells_of part)
-    at_end =
-        ap (list_any (λ c. cells_taken_at_end (moved_lines before) c.x c.y)) (line_cells_moved part)
-        ∙ any_map moved_by_two _ _ (λ c. ended_moved before c.x c.y) (cells_of part)
+taken_moved before part = grind (arith, common_steps, begins_moved, line_cells_moved, any_map, begun_moved, ended_moved)
 
 -- ---- cells inside
 
@@ -108,12 +97,7 @@ layout_enlarged s x y h = grind (arith, common_steps, and_parts, span_enlarged)
 inside_moved : (s : LayoutHeader) (part : LayoutLine) → is_inside s part ≡ true →
     is_inside (enlarged s) (moved_line part) ≡ true
 unfolding is_inside
-inside_moved s (Mirror r) h =
-    let both = and_parts (nat_le (r.x + r.w) s.w) (nat_le (r.y + r.h) s.h) h in
-    ap₂ (λ a b. a && b) (side r.x r.w s.w both.0) (side r.y r.h s.h both.1)
-  where
-    side : (a n m : ℕ) → nat_le (a + n) m ≡ true → nat_le (a + 2 + n) (m + 4) ≡ true
-    side a n m h = grind (arith, nat_tests, h)
+inside_moved s (Mirror r) h = grind (arith, common_steps)
 inside_moved s (Ball c) h = layout_enlarged s c.x c.y h
 inside_moved s (In q) h = layout_enlarged s q.cell.x q.cell.y h
 inside_moved s (Out q) h = layout_enlarged s q.cell.x q.cell.y h
@@ -150,10 +134,6 @@ moved_good p good = grind (arith, common_steps, parts_moved, lines_good)
 
 side_more : (n : ℕ) → is_layout_side n ≡ true → n ≤ 60 → is_layout_side (n + 4) ≡ true
 side_more n side few = grind (arith, nat_tests, side)
-
-no_code : (a : Bool) → code_if (not a) PastLimit ≡ None → a ≡ true
-no_code true e = refl
-no_code false e = cc
 
 -- and its size is within the limits
 pub enlarged_good : (s : LayoutHeader) → size_fault s ≡ None → s.w ≤ 60 → s.h ≤ 60 → size_fault (enlarged s) ≡ None

@@ -1,7 +1,7 @@
 -- The plane of a moved design is the moved plane, at each time
 use Rattle.headline.proofs.Imports.{Bool, Box2, Cell, List, Pattern, Port, [], ap, ap₂, arith, common_steps, in_cells}
 use Rattle.headline.proofs.Imports.{in_rectangles, ints, list_any, map, moved, moved_by_two, port_moved_by_two, pos}
-use Rattle.headline.proofs.Imports.{rectangle_moved_by_two, refl, run, start, subst, suc, zero, ℕ, ℤ, ◌&&◌, ◌+ℤ◌, ◌+◌}
+use Rattle.headline.proofs.Imports.{rectangle_moved_by_two, refl, run, start, subst, suc, zero, ℕ, ℤ, ◌&&◌, ◌+ℤ◌}
 use Rattle.headline.proofs.Imports.{◌-ℤ◌, ◌||◌, ◌∷◌, ◌≡◌}
 use Rattle.lemmas.proofs.Common.{int_eq}
 use Rattle.bbm_rule.specs.Moves.{IsMoved}
@@ -28,12 +28,7 @@ eq_moved a b = grind (arith, ints)
 area_moved : (r : Box2) (x y : ℤ) →
     in_box (rectangle_moved_by_two r) (x +ℤ pos 2) (y +ℤ pos 2) ≡ in_box r x y
 unfolding in_box
-area_moved r x y = ap₂ (λ a b. a && b)
-    (span_moved r.x (r.x + 2) r.w r.w (pos 2) x (from r.x) refl)
-    (span_moved r.y (r.y + 2) r.h r.h (pos 2) y (from r.y) refl)
-  where
-    from : (k : ℕ) → pos (k + 2) ≡ pos k +ℤ pos 2
-    from k = omega (arith, ints)
+area_moved r x y = grind (arith, common_steps, span_moved)
 
 -- ---- sets of cells
 

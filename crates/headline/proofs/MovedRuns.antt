@@ -1,8 +1,9 @@
 -- A layout that computes a circuit does so after it is moved
+use Rattle.lemmas.proofs.Common.{arith, common_steps}
 use Rattle.headline.proofs.Imports.{Bool, Circuit, CircuitLine, HaveNames, IsCorrect, IsDeadOutside, IsNamed, IsTrue}
-use Rattle.headline.proofs.Imports.{List, LooksAsAsked, None, Pattern, Port, Some, State, Valuation, [], ap, circuit_of}
+use Rattle.headline.proofs.Imports.{List, LooksAsAsked, Pattern, Port, Some, State, Valuation, [], ap, circuit_of}
 use Rattle.headline.proofs.Imports.{enlarged, has, in_cells, in_layout, in_rectangles, input_names, map, moved}
-use Rattle.headline.proofs.Imports.{option_map, output_names, port_moved_by_two, pos, refl, run_under, slice_get}
+use Rattle.headline.proofs.Imports.{output_names, port_moved_by_two, pos, refl, run_under, slice_get}
 use Rattle.headline.proofs.Imports.{slice_get-map, subst, sym, true, ℕ, ℤ, ◌+ℤ◌, ◌∙◌, ◌∷◌, ◌≡◌}
 use Rattle.lemmas.proofs.Common.{IsFalse}
 use Rattle.circuit.specs.Meaning.{values_by_name}
@@ -35,15 +36,7 @@ module _ (p : Pattern) (value : List ℕ → Bool) (s s' : State)
     (along : (x y : ℤ) → s' (x +ℤ pos 2) (y +ℤ pos 2) ≡ s x y) (looks : LooksAsAsked p value s) where
   outputs_moved : (i : ℕ) (q : Port) → slice_get (map port_moved_by_two p.outs) i ≡ Some q →
       s' q.cell.x q.cell.y ≡ value q.name
-  outputs_moved i q at = by_output (slice_get p.outs i) refl (sym (slice_get-map port_moved_by_two p.outs i) ∙ at)
-    where
-      by_output : (o : _) → slice_get p.outs i ≡ o → option_map port_moved_by_two o ≡ Some q →
-          s' q.cell.x q.cell.y ≡ value q.name
-      by_output None here e = cc
-      by_output (Some r) here e =
-          let same : port_moved_by_two r ≡ q = cc in
-          subst (λ (q : Port). s' q.cell.x q.cell.y ≡ value q.name) same
-          (along r.cell.x r.cell.y ∙ looks.outputs i r here)
+  outputs_moved i q at = grind (arith, common_steps, slice_get-map)
 
   pub looks_moved : LooksAsAsked (moved p) value s'
   looks_moved = record {

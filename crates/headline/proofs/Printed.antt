@@ -1,9 +1,9 @@
 -- A text that begins with a design says it, and the printing is the text of the sections.
-use Rattle.headline.proofs.Imports.{All, All-head, All-tail, AllByRecursion, AreLines, Ball, Cell, CircuitLine, Cswap}
-use Rattle.headline.proofs.Imports.{Delay, End, FitsKind, Fredkin, Gate, Header, In, Input, Interact, IsForm, IsLine}
+use Rattle.headline.proofs.Imports.{All, All-head, All-tail, AllByRecursion, AreLines, Ball, Cell, CircuitLine}
+use Rattle.headline.proofs.Imports.{End, FitsKind, Gate, Header, In, Input, IsForm, IsLine}
 use Rattle.headline.proofs.Imports.{IsTrue, Item, LayoutLine, List, Mirror, None, Out, Output, Pattern, Source, Spill}
-use Rattle.headline.proofs.Imports.{Switch, Uninteract, Unswitch, Waste, [], ap, append-nil, append_assoc, ap₂, arith}
-use Rattle.headline.proofs.Imports.{circuit_grammar, clean_both, codes, common_steps, ended-cons, entry, false}
+use Rattle.headline.proofs.Imports.{Waste, [], ap, append-nil, append_assoc, ap₂, arith}
+use Rattle.headline.proofs.Imports.{circuit_grammar, clean_both, codes, common_steps, ended-cons, entry}
 use Rattle.headline.proofs.Imports.{flat_map, flat_map-append, is_name, layout_grammar, length, line_text, lines_of}
 use Rattle.headline.proofs.Imports.{map, part_form, parts_of, pos, refl, slice_split_at, some_part, subst, sym}
 use Rattle.headline.proofs.Imports.{text_said, true, with_line_feed, ℕ, ℤ, ◌&&◌, ◌++◌, ◌<◌, ◌^◌, ◌∙◌, ◌∷◌, ◌≡◌}
@@ -92,10 +92,7 @@ abbrev pub IsNumber : ℤ → Type 0
 IsNumber z = (n : ℕ) × (z ≡ pos n) × (n < 10 ^ 9)
 
 small : (n : ℕ) → IsNumber (pos n) → n < 10 ^ 9
-small n h = let same : n ≡ h.0 = pos_same n h.0 h.1 in let low = h.2 in omega (arith, same, low)
-  where
-    pos_same : (a b : ℕ) → ◌≡◌ {A = ℤ} (pos a) (pos b) → a ≡ b
-    pos_same a b e = cc
+small n h = grind (arith, common_steps)
 
 cell_numbered : (c : Cell) → IsNumber c.x → IsNumber c.y → IsNumbered c
 cell_numbered c h k = grind (arith, common_steps)

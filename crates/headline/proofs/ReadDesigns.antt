@@ -1,11 +1,11 @@
 -- What a text says that is not refused keeps the rules of a design
 use Rattle.headline.proofs.Imports.{All-from_recursion, AllByRecursion, AnswersOrRefuses, AreFaultless, AreInOrder}
-use Rattle.headline.proofs.Imports.{Bool, Bundle, CircuitLine, End, Err, Form, Header, Input, IsDesign, IsFaultless}
-use Rattle.headline.proofs.Imports.{IsSection, IsTrue, Item, LayoutHeader, LayoutLine, List, None, Ok, Option, Output}
-use Rattle.headline.proofs.Imports.{Pattern, Refusal, Result, SaysReport, Some, Spill, [], and_parts, ap}
-use Rattle.headline.proofs.Imports.{ap₂, arith, bundle_of, circuit_grammar, codes, common_steps, cond, cond_some}
-use Rattle.headline.proofs.Imports.{consumed, defined, entry, eqb, faultless_named, first_none, form_of, gate_entry}
-use Rattle.headline.proofs.Imports.{gate_line_of_kind, if_one_word, inl, inr, is_name, is_word_at, layout_grammar}
+use Rattle.headline.proofs.Imports.{Bundle, CircuitLine, End, Err, Form, Header, IsDesign, IsFaultless}
+use Rattle.headline.proofs.Imports.{IsSection, IsTrue, Item, LayoutHeader, LayoutLine, List, None, Ok, Option}
+use Rattle.headline.proofs.Imports.{Pattern, Refusal, Result, SaysReport, Some, [], and_parts}
+use Rattle.headline.proofs.Imports.{ap₂, arith, bundle_of, circuit_grammar, common_steps, cond_some}
+use Rattle.headline.proofs.Imports.{consumed, defined, eqb, faultless_named, no_code_first, form_of, gate_entry}
+use Rattle.headline.proofs.Imports.{gate_line_of_kind, if_one_word, is_name, layout_grammar}
 use Rattle.headline.proofs.Imports.{layout_section, length, list_all, map, name_after_keyword, name_at, name_of}
 use Rattle.headline.proofs.Imports.{names_at, one_line, parts_of, port_names_of, read_layout-is_named}
 use Rattle.headline.proofs.Imports.{refl, same_Some, section_made, slice_get, subst, suc, sym, true}
@@ -59,31 +59,7 @@ IfItem _ = Unit {0}
 
 form_named : (ws : List (List ℕ)) (f : Form (Unit {0}) CircuitLine) → form_of ws ≡ Some f → IfItem f
 unfolding form_of if_one_word IfItem Names
-form_named ws f e =
-    elim (chosen (is_word_at ws 0 (codes "circuit")) _ _ (Some f) e) [
-      | inl p ↦ subst IfItem (passed_one (eqb (length ws) 1) (Header tt) f p.1) tt
-      | inr p ↦ elim (chosen (is_word_at ws 0 (codes "end")) _ _ (Some f) p.1) [
-        | inl q ↦ subst IfItem (passed_one (eqb (length ws) 1) End f q.1) tt
-        | inr q ↦ elim (chosen (is_word_at ws 0 (codes "input")) _ _ (Some f) q.1) [
-          | inl r ↦ option_and_then_some (λ n. Some (Item (entry Input [] (n ∷ [])))) (name_after_keyword ws) f r.1
-              (λ n named made. subst IfItem (same_Some (Item (entry Input [] (n ∷ []))) f made)
-              (ap (λ b. b && true) (lone_named ws n named)))
-          | inr r ↦ elim (chosen (is_word_at ws 0 (codes "output")) _ _ (Some f) r.1) [
-            | inl s ↦ option_and_then_some (λ n. Some (Item (entry Output (n ∷ []) []))) (name_after_keyword ws) f s.1
-                (λ n named made. subst IfItem (same_Some (Item (entry Output (n ∷ []) [])) f made) refl)
-            | inr s ↦ elim (chosen (is_word_at ws 0 (codes "spill")) _ _ (Some f) s.1) [
-              | inl t ↦ option_and_then_some (λ n. Some (Item (entry Spill (n ∷ []) []))) (name_after_keyword ws) f t.1
-                  (λ n named made. subst IfItem (same_Some (Item (entry Spill (n ∷ []) [])) f made) refl)
-              | inr t ↦ option_and_then_some (λ r. Some (Item r)) (gate_entry ws) f t.1
-                  (λ r known made. subst IfItem (same_Some (Item r) f made) (gate_named ws r known))
-            ]
-          ]
-        ]
-      ]
-    ]
-  where
-    passed_one : (b : Bool) (x y : Form (Unit {0}) CircuitLine) → cond b (Some x) None ≡ Some y → x ≡ y
-    passed_one b x y e = (cond_some b x y e).1
+form_named ws f e = grind (arith, common_steps, chosen, lone_named, gate_named)
 
 line_named : (l : List ℕ) (r : CircuitLine) → form_of (words_of l) ≡ Some (Item r) → AreNames r.outs
 unfolding IfItem Names
@@ -105,13 +81,13 @@ wires_named circuit ls is =
 
 -- ---- the rules
 
-each_name : (ns : List (List ℕ)) → AreNames ns → AllByRecursion (λ n. IsTrue (is_name n)) ns
+pub each_name : (ns : List (List ℕ)) → AreNames ns → AllByRecursion (λ n. IsTrue (is_name n)) ns
 each_name [] h = tt
 each_name (n ∷ ns) h = let both = and_parts (is_name n) (list_all is_name ns) h in (both.0, each_name ns both.1)
 
 in_order : (before rest : List CircuitLine) → AreFaultless circuit_grammar tt before rest → AreInOrder before rest
 in_order before [] good = tt
-in_order before (r ∷ rest) good = grind (arith, common_steps, first_none, (in_order (before ++ r ∷ []) rest good.1))
+in_order before (r ∷ rest) good = grind (arith, common_steps, no_code_first, (in_order (before ++ r ∷ []) rest good.1))
 
 no_missing : (o : Option (List ℕ)) → unconsumed_wire_code o ≡ None → o ≡ None
 no_missing None e = refl

@@ -1,24 +1,24 @@
 -- The lines of the plain certificate of a small design are good
 use Rattle.headline.proofs.Imports.{All, All-cons, All-head, All-nil, All-tail, AnswersOrRefuses, AreFaultless}
 use Rattle.headline.proofs.Imports.{AreGoodAfter, AreGoodCircuitLines, AreOrdered, Bool, Box2, Bundle, CertificateLine}
-use Rattle.headline.proofs.Imports.{Circuit, CircuitLine, Cut, Edge, Grammar, Halo, Have, IsFaultless, IsInputName}
+use Rattle.headline.proofs.Imports.{Circuit, CircuitLine, Cut, Grammar, Have, IsFaultless, IsInputName}
 use Rattle.headline.proofs.Imports.{IsPlaced, IsPlainText, IsSection, IsSmallDesign, Keep, LayoutHeader, LayoutLine}
 use Rattle.headline.proofs.Imports.{List, Module, ModuleLines, No, None, Ok, OutOfOrder, Outcome, Pattern, Port}
-use Rattle.headline.proofs.Imports.{Refused, SaysBundle, SaysReport, Setting, Some, SomethingMissing, Stop, Use}
-use Rattle.headline.proofs.Imports.{Verdict, Yes, [], add_line, and_parts, any_at, ap, append-nil, append_assoc, ap₂}
+use Rattle.headline.proofs.Imports.{Refused, SaysBundle, SaysReport, Setting, Some, SomethingMissing, Use}
+use Rattle.headline.proofs.Imports.{Verdict, Yes, [], add_line, any_at, ap, append-nil, append_assoc, ap₂}
 use Rattle.headline.proofs.Imports.{arith, bundle_of, bytes_eq, bytes_eq-Decides, bytes_same, cases_Bool}
 use Rattle.headline.proofs.Imports.{certificate_grammar, circuit_grammar, circuit_of, code_if, common_steps}
 use Rattle.headline.proofs.Imports.{cut_name_in, cuts, defined, defines, drop, eqb, eqb-true, false, faultless_named}
 use Rattle.headline.proofs.Imports.{filter, flat_map, flat_map-append, gate_numbers, gates_are_ordered, has, inl}
 use Rattle.headline.proofs.Imports.{input_names, inputs_are_first, inr, is_among, is_inverse_gate, is_layout_side}
 use Rattle.headline.proofs.Imports.{is_module, kept, known, layout_grammar, layout_section, length, length-append}
-use Rattle.headline.proofs.Imports.{list_all, list_any, map, map-append, modules_of, names_pass, nat_le, nat_lt}
+use Rattle.headline.proofs.Imports.{list_all, list_any, map, map-append, modules_of, names_pass, nat_lt}
 use Rattle.headline.proofs.Imports.{nat_tests, netlist_of, no_code, not, number, option_map, or_else, output_names}
 use Rattle.headline.proofs.Imports.{parts_of, placed, plain_lines, port_names_of, push_cons, range_with_len}
 use Rattle.headline.proofs.Imports.{read_faultless, read_layout-is_named, read_layout-names, refl, same_Some}
 use Rattle.headline.proofs.Imports.{section_made, section_of, setting_of, size_fault, slice_get, slice_get-map}
 use Rattle.headline.proofs.Imports.{slice_get_within, subst, suc, sym, take, take-append-drop, true, true≢false}
-use Rattle.headline.proofs.Imports.{verdict_outcome, whole, zero, ℕ, ◌%◌, ◌&&◌, ◌++◌, ◌+◌, ◌<◌, ◌==◌, ◌||◌, ◌∙◌, ◌∷◌}
+use Rattle.headline.proofs.Imports.{verdict_outcome, whole, zero, ℕ, ◌&&◌, ◌++◌, ◌+◌, ◌<◌, ◌||◌, ◌∙◌, ◌∷◌}
 use Rattle.headline.proofs.Imports.{◌≡◌, ◌≢◌, ◌≤◌}
 use Rattle.lemmas.proofs.Common.{is_lt, option_to_list, All-append, and-false, list_any-append, or-true, ordering_then}
 use Rattle.lemmas.proofs.Common.{take-length, less_nat, not_le_test}
@@ -32,7 +32,7 @@ use Rattle.certificate_lines.specs.Orders.{is_cut, line_cmp, may_follow, may_pre
 use Rattle.certificate_lines.specs.Rules.{are_new_and_distinct, cut_line_code, entry_fault, used_gate_fault}
 use Rattle.certificate_lines.specs.Rules.{body_line_code, keep_line_code, line_fault, use_line_code, content_code}
 use Rattle.certificate_lines.specs.Rules.{module_box_code, end_fault, is_last_module_incomplete, is_local}
-use Rattle.certificate_lines.specs.Rules.{is_local_wire, is_odd, is_bad_box_side, has_nonlocal_port, leaves_gap}
+use Rattle.certificate_lines.specs.Rules.{is_local_wire, is_bad_box_side, has_nonlocal_port, leaves_gap}
 use Rattle.certificate_lines.specs.Rules.{module_line_code}
 use Rattle.certificate_lines.proofs.LocalLemmas.{local_more}
 use Rattle.pattern.specs.Lines.{AreNamed}
@@ -47,6 +47,7 @@ use Rattle.headline.proofs.PlainLines.{all_inner, among_range, none_of, own_of, 
 use Rattle.pattern.specs.Forms.{form_of as layout_form}
 use Rattle.certificate_lines.specs.Forms.{form_of as certificate_form}
 use Rattle.core_book.specs.declared.verdict.Verdict.TheVariants as verdict
+use Rattle.lemmas.proofs.Common.{length-range_with_len, list_all-append}
 
 -- ---- numbers in a range
 
@@ -60,10 +61,6 @@ range_append (suc n) a d =
 
 pub range_next : (n : ℕ) → range_with_len 0 n ++ n ∷ [] ≡ range_with_len 0 (n + 1)
 range_next n = ap (λ k. range_with_len 0 n ++ k ∷ []) (omega arith) ∙ range_append n 0 1
-
-pub length_range : (n a : ℕ) → length (range_with_len a n) ≡ n
-length_range zero a = refl
-length_range (suc n) a = ap suc (length_range n (a + 1))
 
 not_among : (n a w : ℕ) → a + n ≤ w → is_among (range_with_len a n) w ≡ false
 not_among zero a w h = refl
@@ -155,9 +152,7 @@ present_one b ms inner = ap last_of (all_inner b [] ms inner)
 all_push : (ms : List CertificateLine) (i : CertificateLine) → list_all (λ i. not (is_module i)) ms ≡ true →
     is_module i ≡ false →
     list_all (λ i. not (is_module i)) (ms ++ i ∷ []) ≡ true
-all_push [] i h k = ap (λ b. not b && true) k
-all_push (m ∷ ms) i h k =
-    grind (arith, (all_push ms i (and_parts (not (is_module m)) (list_all (λ i. not (is_module i)) ms) h).1 k))
+all_push ms i h k = list_all-append (λ i. not (is_module i)) ms (i ∷ []) ∙ rw (h, k) refl
 
 inner_faultless : (g : Setting) (b : Box2) (ms ls : List CertificateLine) →
     list_all (λ i. not (is_module i)) ms ≡ true →
@@ -184,13 +179,7 @@ follow_mapped mk j P (x ∷ xs) all h =
 
 follow_both : (j : CertificateLine) (xs ys : List CertificateLine) → list_all (λ i. may_precede i j) xs ≡ true →
     list_all (λ i. may_precede i j) ys ≡ true → list_all (λ i. may_precede i j) (xs ++ ys) ≡ true
-follow_both j [] ys h k = k
-follow_both j (x ∷ xs) ys h k =
-    grind (arith, (follow_both j xs ys (and_parts (may_precede x j) (list_all (λ i. may_precede i j) xs) h).1 k))
-
-all_anything : {X : Type 0} (xs : List X) → All (λ x. Unit {0}) xs
-all_anything [] = All-nil (λ x. Unit {0})
-all_anything (x ∷ xs) = All-cons (λ x. Unit {0}) x xs tt (all_anything xs)
+follow_both j xs ys h k = list_all-append (λ i. may_precede i j) xs ys ∙ rw (h, k) refl
 
 cut_cut : (a b : List ℕ) → may_precede (Cut a) (Cut b) ≡ true
 unfolding may_precede is_cut
@@ -305,7 +294,7 @@ module _ (circuit : List CircuitLine) (good : AreGoodCircuitLines circuit) (p : 
       ap (λ l. slice_get l (length done)) (sym e) ∙ at_seam done todo n in
       let within = slice_get_within ins (length done) n at in
       let follows : may_follow (map Cut done) (Cut n) ≡ true =
-      follow_mapped Cut (Cut n) (λ m. Unit {0}) done (all_anything done) (λ m u. cut_cut m n) in
+      follow_mapped Cut (Cut n) (λ m. Unit {0}) done (λ k d lt. tt) (λ m u. cut_cut m n) in
       let counted : length (cuts (module_of (map Cut done))) ≡ length done = ap length
       (own_of Cut cut_name_in (λ n. refl) done) in
       let fresh : is_among (known c (module_of (map Cut done))) (length done) ≡ false =
@@ -357,11 +346,11 @@ module _ (circuit : List CircuitLine) (good : AreGoodCircuitLines circuit) (p : 
       let within = slice_get_within all_gates k x at in
       let follows : may_follow (front (range_with_len 0 k)) (Use k) ≡ true =
       follow_both (Use k) (map Cut ins) (map Use (range_with_len 0 k))
-      (follow_mapped Cut (Use k) (λ m. Unit {0}) ins (all_anything ins) (λ m u. cut_use m k))
+      (follow_mapped Cut (Use k) (λ m. Unit {0}) ins (λ k d lt. tt) (λ m u. cut_use m k))
       (follow_mapped Use (Use k) (λ j. j < k) (range_with_len 0 k) (all_below k 0 k (omega arith)) (λ j lt.
       use_use j k lt)) in
       let counted : length (gates (module_of (front (range_with_len 0 k)))) ≡ k =
-      ap length (front_gates (range_with_len 0 k)) ∙ length_range k 0 in
+      ap length (front_gates (range_with_len 0 k)) ∙ length-range_with_len 0 k in
       let local : known c (module_of (front (range_with_len 0 k))) ≡ range_with_len 0 n =
       front_known (range_with_len 0 k) ∙ now in
       let longer : length (done ++ x ∷ []) ≡ k + 1 = length-append done (x ∷ []) in (
@@ -386,9 +375,7 @@ module _ (circuit : List CircuitLine) (good : AreGoodCircuitLines circuit) (p : 
   is_inverse_number k = is_inverse_gate (slice_get all_gates k)
 
   all_more : (a : ℕ) (js : List ℕ) → All (λ j. j < a) js → All (λ j. j < a + 1) js
-  all_more a [] all = All-nil (λ j. j < a + 1)
-  all_more a (j ∷ js) all =
-      grind (arith, common_steps, All-cons, (all_more a js (All-tail (λ j. j < a) j js all)), All-tail)
+  all_more a js all k d lt = let below = all k d lt in omega (arith, below)
 
   all_pushed : (a : ℕ) (js : List ℕ) → All (λ j. j < a) js → All (λ j. j < a + 1) (js ++ a ∷ [])
   all_pushed a js all = grind (arith, common_steps, All-append, all_more, All-cons, All-nil)
@@ -408,8 +395,8 @@ module _ (circuit : List CircuitLine) (good : AreGoodCircuitLines circuit) (p : 
       follows =
           follow_both (Keep a) uses (map Keep done)
           (follow_both (Keep a) (map Cut ins) (map Use (range_with_len 0 (length all_gates)))
-          (follow_mapped Cut (Keep a) (λ m. Unit {0}) ins (all_anything ins) (λ m u. cut_keep m a))
-          (follow_mapped Use (Keep a) (λ j. Unit {0}) _ (all_anything (range_with_len 0 (length all_gates))) (λ j u.
+          (follow_mapped Cut (Keep a) (λ m. Unit {0}) ins (λ k d lt. tt) (λ m u. cut_keep m a))
+          (follow_mapped Use (Keep a) (λ j. Unit {0}) _ (λ k d lt. tt) (λ j u.
           use_keep j a)))
           (follow_mapped Keep (Keep a) (λ j. j < a) done all (λ j lt. keep_keep j a lt))
 
@@ -498,20 +485,7 @@ more_wires n [] = omega arith
 more_wires n (x ∷ gs) = let more = more_wires (n + defines x.kind) gs in omega (arith, more)
 
 side_ok : (n : ℕ) → is_layout_side n ≡ true → n ≤ 64 → is_bad_box_side n ≡ false
-side_ok n side few =
-    let first = and_parts (nat_le 2 n && nat_le n 512) (n % 2 == 0) side in
-    let low = and_parts (nat_le 2 n) (nat_le n 512) first.0 in
-    let even : n % 2 ≡ 0 = eqb-true (n % 2) 0 first.1 in
-    let not_odd : is_odd n ≡ false = ap (λ k. k == 1) even in
-    let not_low : nat_lt n 2 ≡ false = not_less n 2 low.0 in
-    let not_high : nat_lt 64 n ≡ false = not_above n 64 few in
-    ap₂ (λ a b. a || b) (ap₂ (λ a b. a || b) not_odd not_low) not_high
-  where
-    not_less : (n k : ℕ) → nat_le k n ≡ true → nat_lt n k ≡ false
-    not_less n k h = grind (arith, nat_tests, h)
-
-    not_above : (n k : ℕ) → n ≤ k → nat_lt k n ≡ false
-    not_above n k h = grind (arith, nat_tests, h)
+side_ok n side few = grind (arith, common_steps, eqb-true)
 
 module _ (circuit : List CircuitLine) (p : Pattern) (good : AreGoodCircuitLines circuit)
     (layout_good : IsFaultless (layout_grammar (Some (port_names_of circuit))) p.size (parts_of p))
@@ -529,11 +503,7 @@ module _ (circuit : List CircuitLine) (p : Pattern) (good : AreGoodCircuitLines 
   }
 
   its_given : length (input_names circuit) ≡ (netlist_of circuit).given
-  its_given =
-      let all = wires_are_named circuit good in
-      let more = more_wires (netlist_of circuit).given (netlist_of circuit).gates in
-      ap length (sym (inputs_are_first circuit good))
-      ∙ length_taken (netlist_of circuit).given (defined circuit) (omega (arith, all, more))
+  its_given = grind (arith, common_steps, wires_are_named, more_wires, inputs_are_first, length_taken)
 
   abbrev names_are : AreNamed (Some (port_names_of circuit)) (parts_of p)
   names_are = faultless_named (Some (port_names_of circuit)) p.size (parts_of p) layout_good
@@ -612,6 +582,11 @@ module _ (circuit : List CircuitLine) (p : Pattern) (good : AreGoodCircuitLines 
 
 -- ---- the text
 
+-- a section that is a whole text
+pub read_alone : {H I : Type 0} (g : Grammar H I) (ls : List (List ℕ)) (h : H) (items : List I) →
+    IsSection g.form ls h items → IsFaultless g h items → section_of g 0 ls ≡ Ok (h, items)
+read_alone g ls h items is good = ap (section_of g 0) (sym (append-nil ls)) ∙ section_made g 0 ls [] h items is good
+
 -- a text that is read and has the lines of the plain certificate
 pub is_plain_text : (text : List ℕ) (b : Bundle) (layout : Pattern) → bundle_of text ≡ Ok b →
     layout_section layout ≡ (b.size, b.parts) → b.version ≡ 1 → b.entries ≡ plain_lines b.circuit layout →
@@ -635,10 +610,6 @@ is_plain_text text b layout e same version entries =
       certificate_is = subst (λ v. IsSection certificate_form s.third v (plain_lines b.circuit layout)) version
           (subst (IsSection certificate_form s.third b.version) entries s.certificate_is);
     }
-  where
-    read_alone : {H I : Type 0} (g : Grammar H I) (ls : List (List ℕ)) (h : H) (items : List I) →
-        IsSection g.form ls h items → IsFaultless g h items → section_of g 0 ls ≡ Ok (h, items)
-    read_alone g ls h items is good = ap (section_of g 0) (sym (append-nil ls)) ∙ section_made g 0 ls [] h items is good
 
 not_refused : (v : Verdict) (outcome : Outcome) → outcome ≡ verdict_outcome v → outcome ≡ Refused → ⊥
 not_refused verdict.Yes outcome e r = let clash : Yes ≡ Refused = sym e ∙ r in cc

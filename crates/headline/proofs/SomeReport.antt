@@ -5,7 +5,7 @@ use Rattle.headline.proofs.Imports.{AreFaultless, AreModules, Ball, Bundle, Cert
 use Rattle.headline.proofs.Imports.{IsFaultless, IsReportOf, IsVerdictOn, LayoutHeader, LayoutLine, List, Mirror, None}
 use Rattle.headline.proofs.Imports.{Ok, Option, Out, Pattern, PortNameLists, SaysReport, Setting, Some, Verdict, Waste}
 use Rattle.headline.proofs.Imports.{[], ap, append-nil, append_assoc, bundle_of, certificate_grammar, faultless_modules}
-use Rattle.headline.proofs.Imports.{first_none, layout_grammar, layout_line_fault, layout_section, line_fault}
+use Rattle.headline.proofs.Imports.{no_code_first, layout_grammar, layout_line_fault, layout_section, line_fault}
 use Rattle.headline.proofs.Imports.{meant_modules, modules_in, modules_of, parts_of, port_names_of, read_complete, refl}
 use Rattle.headline.proofs.Imports.{report_text, setting_of, size_fault, subst, sym, verdict_outcome, ℕ, ◌++◌, ◌∙◌, ◌∷◌}
 use Rattle.headline.proofs.Imports.{◌≡◌}
@@ -38,7 +38,7 @@ with_part p (Waste c) e = let more = p.wastes ++ c ∷ [] in
 follows : (ports : Option PortNameLists) (s : LayoutHeader) (before : List LayoutLine) (part : LayoutLine) →
     layout_line_fault ports s before part ≡ None → order_fault before part ≡ None
 unfolding layout_line_fault line_fault
-follows ports s before part e = first_none (order_fault before part) _ (first_none _ _ e)
+follows ports s before part e = no_code_first (order_fault before part) _ (no_code_first _ _ e)
 
 more_parts : (ports : Option PortNameLists) (s : LayoutHeader) (before parts : List LayoutLine) → HasLines s before →
     AreFaultless (layout_grammar ports) s before parts → HasLines s (before ++ parts)
@@ -87,14 +87,7 @@ module _ (text : List ℕ) (b : Bundle) (e : bundle_of text ≡ Ok b) (p : Patte
   -- a verdict on its modules is reported
   pub reported_by : (v : Verdict) → IsVerdictOn certificate_by v →
       SaysReport b (report_text certificate_by v) (verdict_outcome v)
-  reported_by v is = record {
-    certificate = certificate_by;
-    its_own = record { circuit = refl; layout = same; version = refl; entries = refl };
-    verdict = v;
-    is_verdict = is;
-    says = refl;
-    ends = refl;
-  }
+  reported_by v is = grind (arith, common_steps)
 
 reported : (text : List ℕ) (b : Bundle) → bundle_of text ≡ Ok b → SaysSomething SaysReport b
 reported text b e =

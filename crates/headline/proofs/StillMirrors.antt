@@ -1,14 +1,14 @@
 -- A mirror that touches the rim of its rectangle: its layout computes a circuit, and gets a yes after it is moved
-use Rattle.headline.proofs.Imports.{All-cons, All-nil, Bool, CircuitLine, Gate, HasNoDelay, HasRoom, IsCorrect}
-use Rattle.headline.proofs.Imports.{IsDesign, IsReportOf, IsSmallDesign, IsTrue, List, LooksAsAsked, No, None, Pattern}
-use Rattle.headline.proofs.Imports.{Satisfies, Source, Spill, State, TouchesRim, Valuation, [], add_fault, and_parts}
-use Rattle.headline.proofs.Imports.{ap, ap₂, arith, cell_fault, cells_of, cells_taken_at_start, codes, common_steps}
+use Rattle.headline.proofs.Imports.{Bool, CircuitLine, Gate, HasNoDelay, HasRoom, IsCorrect}
+use Rattle.headline.proofs.Imports.{IsDesign, IsReportOf, IsSmallDesign, List, LooksAsAsked, No, None, Pattern}
+use Rattle.headline.proofs.Imports.{Satisfies, Source, Spill, State, TouchesRim, Valuation, [], add_fault}
+use Rattle.headline.proofs.Imports.{ap, arith, cell_fault, cells_of, cells_taken_at_start, codes, common_steps}
 use Rattle.headline.proofs.Imports.{design_text, false, in_box, in_layout, in_ring, in_span, in_span-negsuc, inl, inr}
-use Rattle.headline.proofs.Imports.{ints, is_inside, is_name, is_taken, limit_fault, nat_tests, negsuc, number, partner}
+use Rattle.headline.proofs.Imports.{ints, is_inside, is_taken, limit_fault, negsuc, number, partner}
 use Rattle.headline.proofs.Imports.{parts_of, plane_at, pos, rectangle_cells, refl, row, run, run_under, size_fault}
 use Rattle.headline.proofs.Imports.{span_from, span_parts, start, step, subst, suc, sym, takes_at_start, true, turned}
-use Rattle.headline.proofs.Imports.{zero, ℕ, ℤ, ◌&&◌, ◌+ℤ◌, ◌+◌, ◌-ℤ◌, ◌||◌, ◌∙◌, ◌∷◌, ◌≡◌, ◌≤◌}
-use Rattle.lemmas.proofs.Common.{leb, ltb, next_neg}
+use Rattle.headline.proofs.Imports.{zero, ℕ, ℤ, ◌&&◌, ◌+ℤ◌, ◌+◌, ◌-ℤ◌, ◌∙◌, ◌∷◌, ◌≡◌, ◌≤◌}
+use Rattle.lemmas.proofs.Common.{next_neg}
 use Rattle.bbm_rule.specs.Spans.{in_area}
 use Rattle.bbm_rule.proofs.Spans.{even_span, in_span-pos, partner_near}
 use Rattle.bbm_rule.proofs.Steps.{step_same}
@@ -68,10 +68,7 @@ columns_stay false false true = refl
 columns_stay false false false = refl
 
 beyond : (k : ℕ) → in_span 1 2 (pos (3 + k)) ≡ false
-beyond k = in_span-pos 1 2 (3 + k) ∙ tests k
-  where
-    tests : (k : ℕ) → (leb 1 (3 + k) && ltb (3 + k) (1 + 2)) ≡ false
-    tests k = grind (arith, nat_tests)
+beyond k = grind (arith, common_steps, in_span-pos)
 
 -- the partners of a number beyond the span are not in it
 far : (k : ℕ) → in_span 1 2 (partner 1 (pos (4 + k))) ≡ false
@@ -87,13 +84,7 @@ far k = elim (partner_near 1 (pos (4 + k))) [
     below k = omega (arith, ints)
 
 negative : (k : ℕ) → in_span 1 2 (partner 1 (negsuc (suc k))) ≡ false
-negative k = elim (partner_near 1 (negsuc (suc k))) [
-  | inl up ↦ ap (in_span 1 2) (up ∙ next_neg k) ∙ in_span-negsuc 1 2 k
-  | inr down ↦ ap (in_span 1 2) (down ∙ below k) ∙ in_span-negsuc 1 2 (suc (suc k))
-]
-  where
-    below : (k : ℕ) → negsuc (suc k) -ℤ pos 1 ≡ negsuc (suc (suc k))
-    below k = omega (arith, ints)
+negative k = grind (arith, common_steps, partner_near, next_neg, in_span-negsuc)
 
 odd_span : (z : ℤ) → in_span 1 2 (partner 1 z) ≡ in_span 1 2 z
 unfolding partner in_span
@@ -111,11 +102,7 @@ odd_stays x y = grind (arith, common_steps, odd_span, columns_stay)
 
 at_start : (on : List ℕ → Bool) (x y : ℤ) → start rim_mirror on x y ≡ mirror x y
 unfolding start in_box
-at_start on x y = only (mirror x y)
-  where
-    only : (b : Bool) → ((b || false) || false || false) ≡ b
-    only true = refl
-    only false = refl
+at_start on x y = grind (arith, common_steps)
 
 -- a step of a plane that looks like the mirror
 next : (t : ℕ) (s : State) (x y : ℤ) → ((x y : ℤ) → s x y ≡ mirror x y) → step t s x y ≡ step t mirror x y
@@ -139,28 +126,10 @@ satisfied inputs = grind (arith, common_steps)
 
 looks : (value : List ℕ → Bool) (s : State) → ((x y : ℤ) → s x y ≡ mirror x y) → LooksAsAsked rim_mirror value s
 unfolding in_box
-looks value s same = record {
-  mirrors = λ x y h. same x y ∙ one (mirror x y) h;
-  outputs = λ i q at. absurd cc;
-  elsewhere = λ x y h outs wastes. same x y ∙ none (mirror x y) h;
-}
-  where
-    one : (b : Bool) → (b || false) ≡ true → b ≡ true
-    one true e = refl
-    one false e = e
-
-    none : (b : Bool) → (b || false) ≡ false → b ≡ false
-    none true e = e
-    none false e = refl
+looks value s same = grind (arith, common_steps)
 
 inside : (x y : ℤ) → mirror x y ≡ true → in_layout rim_mirror.size x y ≡ true
-inside x y h =
-    let both = and_parts (in_span 1 2 x) (in_span 0 2 y) h in
-    ap₂ (λ a b. a && b) (across x both.0) both.1
-  where
-    across : (x : ℤ) → in_span 1 2 x ≡ true → in_span 0 4 x ≡ true
-    across (pos k) h = let high = (span_parts 1 2 k h).1 in span_from 0 4 k (omega arith) (omega (arith, high))
-    across (negsuc k) h = let no = sym (in_span-negsuc 1 2 k) ∙ h in cc
+inside x y h = grind (arith, common_steps, span_parts, span_from, in_span-negsuc)
 
 mirror_correct : IsCorrect constant rim_mirror
 mirror_correct = record {
@@ -188,15 +157,7 @@ unfolding takes_at_start cells_taken_at_start cell_fault cells_of is_inside is_t
 mirror_good = (refl, refl, tt)
 
 mirror_design : IsDesign constant rim_mirror
-mirror_design = record {
-  circuit_lines = constant_good;
-  in_order = (refl, (refl, tt));
-  names = All-cons (λ n. IsTrue (is_name n)) (codes "a") [] refl (All-nil (λ n. IsTrue (is_name n)));
-  all_consumed = refl;
-  size = mirror_size;
-  layout_lines = mirror_good;
-  ports = mirror_correct.named;
-}
+mirror_design = grind (arith, common_steps, constant_good, mirror_size, mirror_good)
 
 no_delay : HasNoDelay constant
 no_delay zero steps a b e = grind (arith, common_steps)

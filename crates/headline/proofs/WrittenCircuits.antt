@@ -1,10 +1,10 @@
 -- The lines of a good circuit can be written, if its wires have names
-use Rattle.headline.proofs.Imports.{AllByRecursion, AreGoodAfter, CircuitLine, Cswap, Delay, End, FitsKind, Fredkin}
-use Rattle.headline.proofs.Imports.{Gate, GateKind, Have, Header, Input, Interact, Item, List, None, Output, Some}
-use Rattle.headline.proofs.Imports.{Source, Spill, Switch, Uninteract, Unswitch, [], add_fault, and_parts, ap}
+use Rattle.headline.proofs.Imports.{AllByRecursion, AreGoodAfter, CircuitLine, Delay, End, FitsKind}
+use Rattle.headline.proofs.Imports.{Gate, GateKind, Have, Header, Input, Item, List, None, Output, Some}
+use Rattle.headline.proofs.Imports.{Source, Spill, [], add_fault, and_parts, ap}
 use Rattle.headline.proofs.Imports.{ap₂, arith, bytes_eq, bytes_eq-Decides, cases_Bool, codes}
 use Rattle.headline.proofs.Imports.{common_steps, cond, cond_some, consume_have, consumed, decimal, defined, defines}
-use Rattle.headline.proofs.Imports.{entry, false, false≢true, first_none, form_of, gate_entry}
+use Rattle.headline.proofs.Imports.{entry, false, false≢true, no_code_first, form_of, gate_entry}
 use Rattle.headline.proofs.Imports.{gate_line_of_kind, has, if_one_word, inl, inr, is_name, is_word_at, length}
 use Rattle.headline.proofs.Imports.{list_all, name_after_keyword, name_at, name_of, names_at, names_pass}
 use Rattle.headline.proofs.Imports.{nat_tests, number_at, number_of, number_written, refl, slice_get, subst, sym, true}
@@ -16,7 +16,7 @@ use Rattle.circuit.specs.Gates.{uses}
 use Rattle.circuit.specs.Rules.{is_wrong_delay}
 use Rattle.circuit.specs.Text.{gate_parameter_words, gate_word}
 use Rattle.circuit.specs.declared.circuit_line.Kind.{Kind}
-use Rattle.soundness.proofs.SomeVerdict.{no_code}
+use Rattle.pattern.proofs.Added.{no_code}
 use Rattle.headline.proofs.Written.{HasLine, HasSection, IsWord, digits_word, has_section, line_by, name_word}
 
 -- ---- names and numbers
@@ -195,14 +195,12 @@ line_of _ [] outs fits i o right = absurd (let e = fits.0 in omega (arith, e))
 pub right_delay : (before : List CircuitLine) (r : CircuitLine) → add_fault before r ≡ None →
     is_wrong_delay r.kind ≡ false
 unfolding add_fault
-right_delay before r e = grind (arith, common_steps, left_is_false, no_code, first_none)
+right_delay before r e = grind (arith, common_steps, left_is_false, no_code, no_code_first)
 
 pub defined_more : (before : List CircuitLine) (r : CircuitLine) → AreNames (defined before) → AreNames r.outs →
     AreNames (defined (before ++ r ∷ []))
 defined_more [] r h k = names_both r.outs [] k refl
-defined_more (b ∷ before) r h k =
-    names_both b.outs (defined (before ++ r ∷ [])) (names_left b.outs (defined before) h)
-    (defined_more before r (names_right b.outs (defined before) h) k)
+defined_more (b ∷ before) r h k = grind (arith, common_steps, names_both, names_left, names_right)
 
 lines_of : (before rest : List CircuitLine) → AreGoodAfter before rest → AreNames (defined before) →
     AreNames (defined rest) → AllByRecursion (λ r. HasLine form_of (Item r)) rest

@@ -1,26 +1,26 @@
 -- Each small design has a plain text, and `check` decides the design by it
-use Rattle.headline.proofs.Imports.{All, All-head, All-nil, All-tail, AllByRecursion, AreFaultless, AreGoodAfter}
+use Rattle.headline.proofs.Imports.{All, All-nil, AllByRecursion, AreFaultless, AreGoodAfter}
 use Rattle.headline.proofs.Imports.{AreInOrder, AreLines, AreOnTime, Bool, Bundle, CertificateLine, CircuitLine, Cut}
-use Rattle.headline.proofs.Imports.{End, Grammar, HasNoDelay, HasRightStops, HasRimTouch, Header, IsCorrect, IsDesign}
-use Rattle.headline.proofs.Imports.{IsFaultless, IsPlainText, IsRight, IsSection, IsSmallDesign, IsTrue, Item, Keep}
-use Rattle.headline.proofs.Imports.{List, Module, Ok, Pattern, SaysBundle, SaysDesign, Some, StopHolds, TouchesRim, Use}
-use Rattle.headline.proofs.Imports.{[], and_parts, ap, append-nil, append_assoc, ap₂, arith, box_of, bundle_text}
+use Rattle.headline.proofs.Imports.{End, HasNoDelay, HasRightStops, HasRimTouch, Header, IsCorrect, IsDesign}
+use Rattle.headline.proofs.Imports.{IsFaultless, IsPlainText, IsRight, IsSmallDesign, Item, Keep}
+use Rattle.headline.proofs.Imports.{List, Module, Pattern, SaysBundle, SaysDesign, Some, StopHolds, TouchesRim, Use}
+use Rattle.headline.proofs.Imports.{[], and_parts, ap, append-nil, append_assoc, arith, box_of, bundle_text}
 use Rattle.headline.proofs.Imports.{certificate_section_text, certificate_text, circuit_grammar, circuit_of}
 use Rattle.headline.proofs.Imports.{circuit_text, clean_both, codes, common_steps, cond, corner_and_sides, decimal}
 use Rattle.headline.proofs.Imports.{defined, design_text, false, filter, flat_map, flat_map-append, if_one_word}
 use Rattle.headline.proofs.Imports.{input_names, is_name, is_word_at, layout_grammar, layout_section_text, layout_text}
 use Rattle.headline.proofs.Imports.{lines_again, list_all, map, name_after_keyword, name_at, nothing_follows}
 use Rattle.headline.proofs.Imports.{number_after_keyword, number_at, number_written, output_names, parts_of}
-use Rattle.headline.proofs.Imports.{plain_lines, port_names_of, range_with_len, refl, section_made, section_of, stop_in}
-use Rattle.headline.proofs.Imports.{subst, suc, sym, true, unconsumed_wire_code, with_line_feed, zero, ℕ, ◌&&◌, ◌++◌}
+use Rattle.headline.proofs.Imports.{plain_lines, port_names_of, range_with_len, refl, stop_in}
+use Rattle.headline.proofs.Imports.{subst, suc, sym, true, with_line_feed, zero, ℕ, ◌++◌}
 use Rattle.headline.proofs.Imports.{◌+◌, ◌<◌, ◌>>=◌, ◌^◌, ◌∙◌, ◌∷◌, ◌≡◌, ◌≤◌}
 use Rattle.certificate_lines.specs.Forms.{form_of}
 use Rattle.headline.specs.PlainLaws.{EachSmallDesignHasPlainText, EachSmallDesignIsDecided}
 use Rattle.headline.proofs.Designs.{one_certificate, one_design}
 use Rattle.headline.proofs.Migrations.{HasSections, text_is}
 use Rattle.headline.proofs.PlainLines.{none_of}
-use Rattle.headline.proofs.Printed.{printed_is_read}
-use Rattle.headline.proofs.SmallDesigns.{small_is_decided}
+use Rattle.headline.proofs.Printed.{are_names, printed_is_read}
+use Rattle.headline.proofs.SmallDesigns.{read_alone, small_is_decided}
 use Rattle.headline.proofs.WrittenNames.{input_named, outs_named}
 use Rattle.headline.proofs.YesIsPrinted.{design_printed}
 use Rattle.headline.proofs.Written.{HasLine, HasSection, has_section, line_by, name_word}
@@ -30,11 +30,6 @@ use Rattle.circuit.specs.Forms.{form_of as circuit_form}
 use Rattle.pattern.specs.Forms.{form_of as layout_form}
 
 -- ---- the names of the ports
-
-all_names : (ns : List (List ℕ)) → All (λ n. IsTrue (is_name n)) ns → AreNames ns
-all_names [] h = refl
-all_names (n ∷ ns) h = ap₂ (λ a b. a && b) (All-head (λ n. IsTrue (is_name n)) n ns h)
-    (all_names ns (All-tail (λ n. IsTrue (is_name n)) n ns h))
 
 -- ---- the circuit has no fault
 
@@ -123,7 +118,7 @@ number_lines mk line (k ∷ ks) h = grind (arith, common_steps, (number_lines mk
 module _ (circuit : List CircuitLine) (p : Pattern) (design : IsDesign circuit p)
     (small : IsSmallDesign circuit p) where
   names : AreNames (defined circuit)
-  names = all_names (defined circuit) design.names
+  names = are_names (defined circuit) design.names
 
   ins : AreNames (input_names circuit)
   ins = input_named circuit names
@@ -132,11 +127,7 @@ module _ (circuit : List CircuitLine) (p : Pattern) (design : IsDesign circuit p
   outs = outs_named circuit design.circuit_lines names
 
   circuit_faultless : IsFaultless circuit_grammar tt circuit
-  circuit_faultless = record {
-    header = refl;
-    each = circuit_on [] circuit design.in_order design.circuit_lines;
-    end = ap unconsumed_wire_code design.all_consumed;
-  }
+  circuit_faultless = grind (arith, common_steps, circuit_on)
 
   first : HasSection circuit_form tt circuit
   first = circuit_written circuit design.circuit_lines names
@@ -167,10 +158,6 @@ module _ (circuit : List CircuitLine) (p : Pattern) (design : IsDesign circuit p
 
   clean : AreLines lines
   clean = grind (arith, common_steps, clean_both)
-
-  read_alone : {H I : Type 0} (g : Grammar H I) (ls : List (List ℕ)) (h : H) (items : List I) →
-      IsSection g.form ls h items → IsFaultless g h items → section_of g 0 ls ≡ Ok (h, items)
-  read_alone g ls h items is good = ap (section_of g 0) (sym (append-nil ls)) ∙ section_made g 0 ls [] h items is good
 
   its_text : IsPlainText (flat_map with_line_feed lines) circuit p
   its_text = record {
@@ -221,14 +208,7 @@ each_has_text = has_text
 
 module _ (text : List ℕ) (circuit : List CircuitLine) (p : Pattern) (t : IsPlainText text circuit p) where
   design_said : SaysDesign text circuit p
-  design_said = record {
-    first = t.first;
-    second = t.second;
-    others = t.third;
-    lines = t.lines;
-    circuit_is = t.circuit_is;
-    layout_is = t.layout_is;
-  }
+  design_said = grind (arith, common_steps)
 
   said : SaysBundle text circuit p (plain_lines circuit p)
   unfolding design_said

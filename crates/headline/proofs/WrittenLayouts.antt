@@ -7,7 +7,7 @@ use Rattle.headline.proofs.Imports.{arith, box_of, bytes_same, cell, cell_fault,
 use Rattle.headline.proofs.Imports.{corner_and_sides, decimal, false, has, if_one_word, in_box, in_layout, input_names}
 use Rattle.headline.proofs.Imports.{is_inside, is_layout_side, is_name, is_taken, is_word_at, layout_grammar}
 use Rattle.headline.proofs.Imports.{layout_line_fault, limit_fault, line_fault, list_all, list_any, map, name_at}
-use Rattle.headline.proofs.Imports.{nat_lt, nat_tests, no_code, not, number_at, number_written, option_map}
+use Rattle.headline.proofs.Imports.{nat_tests, no_code, not, number_at, number_written, option_map}
 use Rattle.headline.proofs.Imports.{or_else, output_names, parts_of, port_names_of, refl, size_fault, slice_get}
 use Rattle.headline.proofs.Imports.{slice_get-map, subst, suc, sym, true, whole, ℕ, ◌&&◌, ◌++◌, ◌+◌, ◌<◌, ◌>>=◌, ◌^◌}
 use Rattle.headline.proofs.Imports.{◌||◌, ◌∙◌, ◌∷◌, ◌≡◌, ◌≤◌}
@@ -21,6 +21,7 @@ use Rattle.pattern.specs.Lines.{name_fault, order_fault, rank_of}
 use Rattle.soundness.proofs.PortNames.{in_lines, out_lines}
 use Rattle.headline.proofs.Written.{HasLine, HasSection, has_section, line_by, name_word}
 use Rattle.headline.proofs.WrittenCircuits.{AreNames, decimal_word, has_name, named}
+use Rattle.lemmas.proofs.Common.{not_lt_test}
 
 -- ---- sizes
 
@@ -172,11 +173,8 @@ none_late : (k : ℕ) (part : LayoutLine) (before : List LayoutLine) → rank_of
     has_later_kind_before before part ≡ false
 unfolding has_later_kind_before
 none_late k part [] e h = refl
-none_late k part (b ∷ before) e h = ap₂ (λ x y. x || y) (not_less (rank_of part) (rank_of b) (omega (arith, e, h.0)))
+none_late k part (b ∷ before) e h = ap₂ (λ x y. x || y) (not_lt_test (rank_of part) (rank_of b) (omega (arith, e, h.0)))
     (none_late k part before e h.1)
-  where
-    not_less : (n m : ℕ) → m ≤ n → nat_lt n m ≡ false
-    not_less n m h = grind (arith, nat_tests, h)
 
 up_more : (k : ℕ) (before : List LayoutLine) (part : LayoutLine) → rank_of part ≤ k → AreUpTo k before →
     AreUpTo k (before ++ part ∷ [])

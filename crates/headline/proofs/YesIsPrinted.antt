@@ -2,14 +2,14 @@
 use Rattle.headline.proofs.Imports.{All, All-cons, All-from_recursion, All-nil, All-tail, AllByRecursion, AreGoodAfter}
 use Rattle.headline.proofs.Imports.{Ball, Cell, CircuitLine, In, IsDesign, IsForm, IsLine, IsTrue, LayoutHeader}
 use Rattle.headline.proofs.Imports.{LayoutLine, List, Mirror, Out, Pattern, PortNameLists, Refused, Waste, Yes, []}
-use Rattle.headline.proofs.Imports.{and_parts, ap₂, arith, circuit_text, codes, common_steps, consume_have, consumed}
-use Rattle.headline.proofs.Imports.{defined, is_name, layout_text, list_all, map, names_pass, part_form, parts_of}
+use Rattle.headline.proofs.Imports.{ap₂, arith, circuit_text, codes, common_steps, consume_have, consumed}
+use Rattle.headline.proofs.Imports.{defined, is_name, layout_text, map, names_pass, part_form, parts_of}
 use Rattle.headline.proofs.Imports.{port_names_of, pos, refl, subst, sym, true, ℕ, ℤ, ◌++◌, ◌<◌, ◌^◌, ◌∙◌, ◌∷◌, ◌≡◌}
 use Rattle.meaning.specs.Printed.{BeginsWithDesign, layout_forms}
 use Rattle.headline.specs.Laws.{TextBeginsWithReadDesign, RightSaysCorrectDesign, YesMeansRight}
 use Rattle.headline.proofs.Printed.{IsNumber, are_names, circuit_lines, circuit_same, counts_of, layout_same}
 use Rattle.headline.proofs.Printed.{other_forms, parts_read, printed_is_read, size_form}
-use Rattle.headline.proofs.ReadDesigns.{designs_are_read}
+use Rattle.headline.proofs.ReadDesigns.{designs_are_read, each_name}
 use Rattle.headline.proofs.WrittenCircuits.{AreNames, defined_more, have_names, is_short, names_both, names_left}
 use Rattle.headline.proofs.WrittenCircuits.{names_right, right_delay}
 use Rattle.headline.proofs.WrittenLayouts.{HasLimits, IsNumbered, IsPortName, has_limits, inside, number, numbered}
@@ -17,10 +17,6 @@ use Rattle.headline.proofs.WrittenLayouts.{ports_named, small_mirror}
 use Rattle.headline.proofs.WrittenNames.{input_named, outs_named}
 use Rattle.headline.proofs.YesIsRight.{good_designs, yes_is_right_as_read}
 use Rattle.pattern.specs.Lines as lines
-
-each_name : (ns : List (List ℕ)) → AreNames ns → AllByRecursion (λ n. IsTrue (is_name n)) ns
-each_name [] h = tt
-each_name (n ∷ ns) h = let both = and_parts (is_name n) (list_all is_name ns) h in (both.0, each_name ns both.1)
 
 lines_formed : (before rest : List CircuitLine) → AreGoodAfter before rest → AreNames (defined before) →
     AreNames (defined rest) → AllByRecursion IsLine rest

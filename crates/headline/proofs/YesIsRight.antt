@@ -24,7 +24,7 @@ use Rattle.circuit.proofs.Valuations.{at_most_one}
 use Rattle.circuit.proofs.Bridging.{count_append}
 use Rattle.circuit.proofs.Fitting.{entry_fits, no_gate_still, no_gate_yet}
 use Rattle.circuit.proofs.Orders.{last_rank_push}
-use Rattle.soundness.proofs.SomeVerdict.{no_code}
+use Rattle.pattern.proofs.Added.{no_code}
 use Rattle.soundness.proofs.YesMeansCorrect.{yes_means-correct, yes_means-on_time}
 use Rattle.headline.specs.Laws.{FourthLineShowsOutcome, SaysCorrectDesign, UnrefusedDesignIsGood, YesHasOneValuation}
 use Rattle.headline.specs.Laws.{YesMeansRightStops}

@@ -1,6 +1,7 @@
 -- Which blocks are still known to stay, after cells or marks changed
 use Rattle.lanes.proofs.Imports.{AntiStays, AreCellNumbers, AreUnmarkedBlocksStable, BlockMarks, BlockPlaces, Bool}
-use Rattle.lanes.proofs.Imports.{ChangesCells, Even, HasWordsStrideRows, IsNotRowEnd, IsSameOutsidePart, IsStable, List}
+use Rattle.lanes.proofs.Imports.{ChangesCells, Even, HasWordsStrideRows, IsNotRowEnd, IsSameOutsidePart, IsStable}
+use Rattle.lanes.proofs.Imports.{IsWordSame, List}
 use Rattle.lanes.proofs.Imports.{MainStays, Odd, Partition, Planes, TurnsBlock, ap, arith, block_at, block_count}
 use Rattle.lanes.proofs.Imports.{by_eq_or_not, by_lt_or_le, common_steps, false, false≢true, get_or, inl, inr}
 use Rattle.lanes.proofs.Imports.{mul-le-mul_left, refl, sym, true, ℕ, ◌*◌, ◌+◌, ◌-◌, ◌<◌, ◌≡◌, ◌≢◌, ◌≤◌}
@@ -93,19 +94,15 @@ still_stable main anti b m m' p q size ch marks calm part u is free =
     let f = marks part u free in
     let c : BlockPlaces = block_at part p.stride u in
     let h = calm part u (count, inside) f.0 in
+    let same : (k : ℕ) → k < p.words → IsWordSame p.words c k p q = λ k i. record {
+      odd = ch.odd_same c.odd k i (λ e. (f.1.0 e).0);
+      right = ch.right_same c.right k i (λ e. (f.1.1 e).0);
+      down = ch.down_same c.down k i (λ e. (f.1.1 e).1);
+      even = ch.even_same c.even k i (λ e. (f.1.0 e).1);
+    } in
     rw (size.0, size.1) (
-      λ k i. rw (
-        ch.odd_same c.odd k i (λ e. (f.1.0 e).0),
-        ch.right_same c.right k i (λ e. (f.1.1 e).0),
-        ch.down_same c.down k i (λ e. (f.1.1 e).1),
-        ch.even_same c.even k i (λ e. (f.1.0 e).1),
-      ) (h.0 k i),
-      λ k i. rw (
-        ch.odd_same c.odd k i (λ e. (f.1.0 e).0),
-        ch.right_same c.right k i (λ e. (f.1.1 e).0),
-        ch.down_same c.down k i (λ e. (f.1.1 e).1),
-        ch.even_same c.even k i (λ e. (f.1.0 e).1),
-      ) (h.1 k i),
+      λ k i. let e = same k i in rw (e.odd, e.right, e.down, e.even) (h.0 k i),
+      λ k i. let e = same k i in rw (e.odd, e.right, e.down, e.even) (h.1 k i),
     )
 
 -- after a mark was taken off a block that stays, or off the last one of a row, of which nothing is known

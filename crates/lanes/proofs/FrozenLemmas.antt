@@ -7,7 +7,7 @@ use Rattle.lanes.proofs.Imports.{TurnsBlock, TurnsBlocksBetween, ap, arith, bit,
 use Rattle.lanes.proofs.Imports.{by_lt_or_le, cell_at, cell_word_bit, common_steps, false, false≢true, get_or, inl, inr}
 use Rattle.lanes.proofs.Imports.{marks_of, subst, sym, true, ℕ, ◌*◌, ◌+◌, ◌-◌, ◌<◌, ◌^◌, ◌∙◌, ◌≡◌, ◌≢◌, ◌≤◌, ◌⊎◌}
 use Rattle.lemmas.proofs.Common.{props, ∥∥₁_elim, ∥∥₁_map}
-use Rattle.lanes.specs.Blocks.{IsBlock, other_partition}
+use Rattle.lanes.specs.Blocks.{IsBlock}
 use Rattle.lanes.specs.Calm.{AreAllMarked, AreMarkedUnlessIn}
 use Rattle.lanes.specs.Frozen.{AreBlocksMarkedAt, AreFrozenIfFound, IsFrozen}
 use Rattle.lanes.specs.Live.{AllUnmarkedDead-prop, AreCellsMarkedUnlessInBoth}
@@ -133,44 +133,22 @@ cells_stay part marks p q stay first = record {
   ];
 }
 
--- a block whose cells stay is held still
-own_held : (part : Partition) (b : FrozenBlocks) (p q : Planes) (u : ℕ) → HasWordsStrideRows p.words p.stride p.rows q →
-    BlockSame (block_at part p.stride u) p q → IsBlockHeld part b.marks p u → IsBlockHeld part b.marks q u
-own_held part b p q u size s h = grind (arith, common_steps, still_held)
-
-own_empty : (part : Partition) (b : FrozenBlocks) (p q : Planes) (u : ℕ) →
-    HasWordsStrideRows p.words p.stride p.rows q → BlockSame (block_at part p.stride u) p q →
-    IsBlockEmpty part b.marks p u → IsBlockEmpty part b.marks q u
-own_empty part b p q u size s h = grind (arith, common_steps, still_empty)
-
--- so is one whose cells stay if their blocks of the other partition have marks
-around_held : (part : Partition) (b : FrozenBlocks) (p q : Planes) (u : ℕ) →
-    HasWordsStrideRows p.words p.stride p.rows q →
-    CellsStay (other_partition part) (marks_of (other_partition part) b.marks) p q → IsBlockHeld part b.marks p u →
-    IsBlockHeld part b.marks q u
-around_held part b p q u size c h = grind (arith, common_steps, still_held)
-
-around_empty : (part : Partition) (b : FrozenBlocks) (p q : Planes) (u : ℕ) →
-    HasWordsStrideRows p.words p.stride p.rows q →
-    CellsStay (other_partition part) (marks_of (other_partition part) b.marks) p q → IsBlockEmpty part b.marks p u →
-    IsBlockEmpty part b.marks q u
-around_empty part b p q u size c h = grind (arith, common_steps, still_empty)
-
+-- a block is held still if its cells stay, or those of its cells whose blocks of the other partition have marks
 held_on : (part other : Partition) (b : FrozenBlocks) (p q : Planes) (u : ℕ) →
     HasWordsStrideRows p.words p.stride p.rows q → MarkedStay part (marks_of part b.marks) p q →
     CellsStay part (marks_of part b.marks) p q → cell_at (marks_of other b.marks) u ≡ true →
     IsBlockHeld other b.marks p u → IsBlockHeld other b.marks q u
-held_on Odd Odd b p q u size stay cells m h = own_held Odd b p q u size (stay u m) h
-held_on Odd Even b p q u size stay cells m h = around_held Even b p q u size cells h
-held_on Even Odd b p q u size stay cells m h = around_held Odd b p q u size cells h
-held_on Even Even b p q u size stay cells m h = own_held Even b p q u size (stay u m) h
+held_on Odd Odd b p q u size stay cells m h = let s = stay u m in grind (arith, common_steps, still_held)
+held_on Odd Even b p q u size stay cells m h = grind (arith, common_steps, still_held)
+held_on Even Odd b p q u size stay cells m h = grind (arith, common_steps, still_held)
+held_on Even Even b p q u size stay cells m h = let s = stay u m in grind (arith, common_steps, still_held)
 
 empty_on : (part : Partition) (b : FrozenBlocks) (p q : Planes) (u : ℕ) →
     HasWordsStrideRows p.words p.stride p.rows q → MarkedStay part (marks_of part b.marks) p q →
     CellsStay part (marks_of part b.marks) p q → cell_at b.marks.odd.items u ≡ true → IsBlockEmpty Odd b.marks p u →
     IsBlockEmpty Odd b.marks q u
-empty_on Odd b p q u size stay cells m h = own_empty Odd b p q u size (stay u m) h
-empty_on Even b p q u size stay cells m h = around_empty Odd b p q u size cells h
+empty_on Odd b p q u size stay cells m h = let s = stay u m in grind (arith, common_steps, still_empty)
+empty_on Even b p q u size stay cells m h = grind (arith, common_steps, still_empty)
 
 frozen_on : (part : Partition) (b : FrozenBlocks) (p q : Planes) → HasWordsStrideRows p.words p.stride p.rows q →
     MarkedStay part (marks_of part b.marks) p q → KeepsCellsOutsideBlocks part p q → IsFrozen b p → IsFrozen b q

@@ -5,6 +5,7 @@ use Rattle.lanes.proofs.Imports.{get_or, inl, inr, mul-le-mul_left, refl, true, 
 use Rattle.lanes.proofs.Imports.{◌≡◌, ◌≤◌, ◌⊎◌}
 use Rattle.lemmas.proofs.Common.{or_left, or_right}
 use Rattle.bbm_rule.proofs.BitLemmas.{bit_above}
+use Rattle.bbm_rule.proofs.PlaneLemmas.{dead_block}
 use Rattle.lanes.specs.Held.{HasLiveDiagonals, IsEmptyBlock, IsBlockHeldByCorners}
 
 -- ---- cells whose words are the same
@@ -39,10 +40,6 @@ both_live false true true false e f = refl
 both_live false true false true e f = refl
 both_live false true false false e f = absurd (false≢true f)
 both_live false false b c e f = absurd (false≢true e)
-
-none_live : turned false false false false ≡ false
-unfolding turned
-none_live = refl
 
 swap_live : (a d : Bool) → (a || d) ≡ true → (d || a) ≡ true
 swap_live true d e = or_right d true refl
@@ -82,7 +79,7 @@ calm_live : (a b c d : Bool) → (a || d) ≡ true → (b || c) ≡ true → IsC
 calm_live a b c d main anti = grind (arith, common_steps, both_live, swap_live)
 
 calm_dead : (a b c d : Bool) → a ≡ false → b ≡ false → c ≡ false → d ≡ false → IsCalmAt a b c d
-calm_dead a b c d ea eb ec ed = grind (arith, common_steps, none_live)
+calm_dead a b c d ea eb ec ed = grind (arith, common_steps, dead_block)
 
 one_live : (w : ℕ) (A D : Type 0) (a d : ℕ → ℕ → Bool) →
     (A × HasValueUnderAll true w a) ⊎ (D × HasValueUnderAll true w d) → (k j : ℕ) →

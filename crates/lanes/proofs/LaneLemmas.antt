@@ -2,6 +2,7 @@
 use Rattle.lanes.proofs.Imports.{AreTurned, AreTurnedAt, HasWordsStrideRows, List, Planes, ap, arith, bit, by_eq_or_not}
 use Rattle.lanes.proofs.Imports.{common_steps, get_or, get_or-drop, get_or-take, lane, length, mul-le-mul_left}
 use Rattle.lanes.proofs.Imports.{plane_of, refl, turned, ℕ, ◌%◌, ◌*◌, ◌+◌, ◌/◌, ◌<◌, ◌∙◌, ◌≡◌, ◌≤◌}
+use Rattle.lanes.proofs.Imports.{Bool, inl, inr, ◌⊎◌}
 use Rattle.lemmas.proofs.Common.{drop, length-take-le, get_or-append_right, get_or_append_left}
 use Rattle.lanes.specs.Across.{TurnsAcross}
 use Rattle.bbm_rule.specs.Rows.{mate}
@@ -11,25 +12,39 @@ use borrow.Rule.Slice.PartMut.{mid_of, put_mid, post_of}
 abbrev pub place : Planes → ℕ → ℕ → ℕ → ℕ
 place p i j k = p.words * (p.stride * j + i) + k
 
-lane_ul : (p : Planes) (a i j : ℕ) →
-    lane p a (2 * i) (2 * j) ≡ bit (get_or p.odd.items (place p i j (a / 64)) 0) (a % 64)
-unfolding lane plane_of
-lane_ul p a i j = grind (arith, common_steps)
+-- the cells of the block in columns 2 i and 1 + 2 i, and rows 2 j and 1 + 2 j, are bit k of these words
+record AreCorners (cell : ℕ → ℕ → Bool) (i j k ul ur ll lr : ℕ) : Type 0 where
+  upper_left : cell (2 * i) (2 * j) ≡ bit ul k
+  upper_right : cell (1 + 2 * i) (2 * j) ≡ bit ur k
+  lower_left : cell (2 * i) (1 + 2 * j) ≡ bit ll k
+  lower_right : cell (1 + 2 * i) (1 + 2 * j) ≡ bit lr k
 
-lane_ur : (p : Planes) (a i j : ℕ) →
-    lane p a (1 + 2 * i) (2 * j) ≡ bit (get_or p.right.items (place p i j (a / 64)) 0) (a % 64)
+corners : (p q : Planes) (a i j : ℕ) → q.words ≡ p.words → q.stride ≡ p.stride →
+    AreCorners (lane q a) i j (a % 64) (get_or q.odd.items (place p i j (a / 64)) 0)
+    (get_or q.right.items (place p i j (a / 64)) 0) (get_or q.down.items (place p i j (a / 64)) 0)
+    (get_or q.even.items (place p i j (a / 64)) 0)
 unfolding lane plane_of
-lane_ur p a i j = grind (arith, common_steps)
+corners p q a i j words stride = record {
+  upper_left = grind (arith, common_steps);
+  upper_right = grind (arith, common_steps);
+  lower_left = grind (arith, common_steps);
+  lower_right = grind (arith, common_steps);
+}
 
-lane_dl : (p : Planes) (a i j : ℕ) →
-    lane p a (2 * i) (1 + 2 * j) ≡ bit (get_or p.down.items (place p i j (a / 64)) 0) (a % 64)
-unfolding lane plane_of
-lane_dl p a i j = grind (arith, common_steps)
+-- x and x' are the two numbers of pair i
+abbrev ArePair : ℕ → ℕ → ℕ → Type 0
+ArePair i x x' = ((x ≡ 2 * i) × (x' ≡ 1 + 2 * i)) ⊎ ((x ≡ 1 + 2 * i) × (x' ≡ 2 * i))
 
-lane_dr : (p : Planes) (a i j : ℕ) →
-    lane p a (1 + 2 * i) (1 + 2 * j) ≡ bit (get_or p.even.items (place p i j (a / 64)) 0) (a % 64)
-unfolding lane plane_of
-lane_dr p a i j = grind (arith, common_steps)
+pair_of : (x : ℕ) → ArePair (x / 2) x (mate x)
+pair_of x = by_eq_or_not (x % 2) 0 (λ e. inl (omega arith, mate_even x e ∙ omega arith))
+    (λ o. let e : x ≡ 1 + 2 * (x / 2) = omega arith in inr (e, ap mate e ∙ mate_odd (2 * (x / 2)) (omega arith)))
+
+-- a cell of a block whose words are turned
+cell_turned : (old new : ℕ → ℕ → Bool) (i j k x x' y y' ul ur ll lr ul' ur' ll' lr' : ℕ) → ArePair i x x' →
+    ArePair j y y' → AreTurned ul ur ll lr ul' ur' ll' lr' → AreCorners old i j k ul ur ll lr →
+    AreCorners new i j k ul' ur' ll' lr' → new x y ≡ turned (old x y) (old x' y') (old x' y) (old x y')
+cell_turned old new i j k x x' y y' ul ur ll lr ul' ur' ll' lr' column row turns before after =
+    grind (arith, common_steps)
 
 -- the words of a cell are within its plane
 pub place_below : (w s r i j k : ℕ) → i < s → j < r → k < w → w * (s * j + i) + k < w * (s * r)
@@ -42,82 +57,10 @@ pub odd_lane : (p q : Planes) → HasWordsStrideRows p.words p.stride p.rows q �
     q.even.items) → (a x y : ℕ) → a < 64 * p.words → x < 2 * p.stride → y < 2 * p.rows →
     lane q a x y ≡ turned (lane p a x y) (lane p a (mate x) (mate y)) (lane p a (mate x) y) (lane p a x (mate y))
 odd_lane p q size turns a x y la lx ly =
-    by_eq_or_not (x % 2) 0
-    (λ ex. by_eq_or_not (y % 2) 0
-    (λ ey. at_ul (x / 2) (y / 2) (omega arith) (omega arith) (omega arith) (omega arith))
-    (λ oy. at_dl (x / 2) (y / 2) (omega arith) (omega arith) (omega arith) (omega arith)))
-    (λ ox. by_eq_or_not (y % 2) 0
-    (λ ey. at_ur (x / 2) (y / 2) (omega arith) (omega arith) (omega arith) (omega arith))
-    (λ oy. at_dr (x / 2) (y / 2) (omega arith) (omega arith) (omega arith) (omega arith)))
-  where
-    turned_at : (i j : ℕ) → i < p.stride → j < p.rows →
-        AreTurnedAt (place p i j (a / 64)) p.odd.items p.right.items p.down.items p.even.items q.odd.items q.right.items
-        q.down.items q.even.items
-    turned_at i j li lj = turns (place p i j (a / 64))
-        (place_below p.words p.stride p.rows i j (a / 64) li lj (omega arith))
-
-    same_place : (i j k : ℕ) → place q i j k ≡ place p i j k
-    same_place i j k = rw (size.0, size.1) refl
-
-    at_ul : (i j : ℕ) → x ≡ 2 * i → y ≡ 2 * j → i < p.stride → j < p.rows →
-        lane q a x y ≡ turned (lane p a x y) (lane p a (mate x) (mate y)) (lane p a (mate x) y) (lane p a x (mate y))
-    at_ul i j ex ey li lj = rw (
-      ex,
-      ey,
-      mate_even (2 * i) (omega arith),
-      mate_even (2 * j) (omega arith),
-      lane_ul q a i j,
-      same_place i j (a / 64),
-      lane_ul p a i j,
-      lane_ur p a i j,
-      lane_dl p a i j,
-      lane_dr p a i j,
-    ) ((turned_at i j li lj).upper_left (a % 64))
-
-    at_ur : (i j : ℕ) → x ≡ 1 + 2 * i → y ≡ 2 * j → i < p.stride → j < p.rows →
-        lane q a x y ≡ turned (lane p a x y) (lane p a (mate x) (mate y)) (lane p a (mate x) y) (lane p a x (mate y))
-    at_ur i j ex ey li lj = rw (
-      ex,
-      ey,
-      mate_odd (2 * i) (omega arith),
-      mate_even (2 * j) (omega arith),
-      lane_ur q a i j,
-      same_place i j (a / 64),
-      lane_ul p a i j,
-      lane_ur p a i j,
-      lane_dl p a i j,
-      lane_dr p a i j,
-    ) ((turned_at i j li lj).upper_right (a % 64))
-
-    at_dl : (i j : ℕ) → x ≡ 2 * i → y ≡ 1 + 2 * j → i < p.stride → j < p.rows →
-        lane q a x y ≡ turned (lane p a x y) (lane p a (mate x) (mate y)) (lane p a (mate x) y) (lane p a x (mate y))
-    at_dl i j ex ey li lj = rw (
-      ex,
-      ey,
-      mate_even (2 * i) (omega arith),
-      mate_odd (2 * j) (omega arith),
-      lane_dl q a i j,
-      same_place i j (a / 64),
-      lane_ul p a i j,
-      lane_ur p a i j,
-      lane_dl p a i j,
-      lane_dr p a i j,
-    ) ((turned_at i j li lj).lower_left (a % 64))
-
-    at_dr : (i j : ℕ) → x ≡ 1 + 2 * i → y ≡ 1 + 2 * j → i < p.stride → j < p.rows →
-        lane q a x y ≡ turned (lane p a x y) (lane p a (mate x) (mate y)) (lane p a (mate x) y) (lane p a x (mate y))
-    at_dr i j ex ey li lj = rw (
-      ex,
-      ey,
-      mate_odd (2 * i) (omega arith),
-      mate_odd (2 * j) (omega arith),
-      lane_dr q a i j,
-      same_place i j (a / 64),
-      lane_ul p a i j,
-      lane_ur p a i j,
-      lane_dl p a i j,
-      lane_dr p a i j,
-    ) ((turned_at i j li lj).lower_right (a % 64))
+    let i = x / 2 in let j = y / 2 in
+    cell_turned (lane p a) (lane q a) i j (a % 64) x (mate x) y (mate y) _ _ _ _ _ _ _ _ (pair_of x) (pair_of y)
+    (turns (place p i j (a / 64)) (place_below p.words p.stride p.rows i j (a / 64) (omega arith) (omega arith)
+    (omega arith))) (corners p p a i j refl refl) (corners p q a i j size.0 size.1)
 
 -- ---- parts of slices
 pub part_read : (a k i : ℕ) (xs : List ℕ) → i < k → get_or (mid_of a k xs) i 0 ≡ get_or xs (a + i) 0
@@ -174,98 +117,24 @@ pub inner_lane : (p q : Planes) → HasWordsStrideRows p.words p.stride p.rows q
     lane q a (1 + x) (1 + y) ≡ turned (lane p a (1 + x) (1 + y)) (lane p a (1 + mate x) (1 + mate y))
     (lane p a (1 + mate x) (1 + y)) (lane p a (1 + x) (1 + mate y))
 inner_lane p q size turns a x y la lx ly =
-    by_eq_or_not (x % 2) 0
-    (λ ex. by_eq_or_not (y % 2) 0
-    (λ ey. at_ul (x / 2) (y / 2) (omega arith) (omega arith) (omega arith) (omega arith))
-    (λ oy. at_dl (x / 2) (y / 2) (omega arith) (omega arith) (omega arith) (omega arith)))
-    (λ ox. by_eq_or_not (y % 2) 0
-    (λ ey. at_ur (x / 2) (y / 2) (omega arith) (omega arith) (omega arith) (omega arith))
-    (λ oy. at_dr (x / 2) (y / 2) (omega arith) (omega arith) (omega arith) (omega arith)))
+    let i = x / 2 in let j = y / 2 in
+    cell_turned (λ x y. lane p a (1 + x) (1 + y)) (λ x y. lane q a (1 + x) (1 + y)) i j (a % 64) x (mate x) y (mate y)
+    _ _ _ _ _ _ _ _ (pair_of x) (pair_of y) (turns i j (a / 64) (omega arith) (omega arith) (omega arith))
+    (between p i j refl refl) (between q i j size.0 size.1)
   where
-    turned_at : (i j : ℕ) → 1 + i < p.stride → 1 + j < p.rows →
-        AreTurned (get_or p.even.items (place p i j (a / 64)) 0) (get_or p.down.items (place p (1 + i) j (a / 64)) 0)
-        (get_or p.right.items (place p i (1 + j) (a / 64)) 0) (get_or p.odd.items (place p (1 + i) (1 + j) (a / 64)) 0)
-        (get_or q.even.items (place p i j (a / 64)) 0) (get_or q.down.items (place p (1 + i) j (a / 64)) 0)
-        (get_or q.right.items (place p i (1 + j) (a / 64)) 0) (get_or q.odd.items (place p (1 + i) (1 + j) (a / 64)) 0)
-    turned_at i j li lj = turns i j (a / 64) li lj (omega arith)
+    next : (i : ℕ) → 1 + (1 + 2 * i) ≡ 2 * (1 + i)
+    next i = omega arith
 
-    same_place : (i j k : ℕ) → place q i j k ≡ place p i j k
-    same_place i j k = rw (size.0, size.1) refl
-
-    first : (i : ℕ) → 1 + (1 + 2 * i) ≡ 2 * (1 + i)
-    first i = omega arith
-
-    at_ul : (i j : ℕ) → x ≡ 2 * i → y ≡ 2 * j → 1 + i < p.stride → 1 + j < p.rows →
-        lane q a (1 + x) (1 + y) ≡ turned (lane p a (1 + x) (1 + y)) (lane p a (1 + mate x) (1 + mate y))
-        (lane p a (1 + mate x) (1 + y)) (lane p a (1 + x) (1 + mate y))
-    at_ul i j ex ey li lj = rw (
-      ex,
-      ey,
-      mate_even (2 * i) (omega arith),
-      mate_even (2 * j) (omega arith),
-      first i,
-      first j,
-      lane_dr q a i j,
-      same_place i j (a / 64),
-      lane_dr p a i j,
-      lane_dl p a (1 + i) j,
-      lane_ur p a i (1 + j),
-      lane_ul p a (1 + i) (1 + j),
-    ) ((turned_at i j li lj).upper_left (a % 64))
-
-    at_ur : (i j : ℕ) → x ≡ 1 + 2 * i → y ≡ 2 * j → 1 + i < p.stride → 1 + j < p.rows →
-        lane q a (1 + x) (1 + y) ≡ turned (lane p a (1 + x) (1 + y)) (lane p a (1 + mate x) (1 + mate y))
-        (lane p a (1 + mate x) (1 + y)) (lane p a (1 + x) (1 + mate y))
-    at_ur i j ex ey li lj = rw (
-      ex,
-      ey,
-      mate_odd (2 * i) (omega arith),
-      mate_even (2 * j) (omega arith),
-      first i,
-      first j,
-      lane_dl q a (1 + i) j,
-      same_place (1 + i) j (a / 64),
-      lane_dr p a i j,
-      lane_dl p a (1 + i) j,
-      lane_ur p a i (1 + j),
-      lane_ul p a (1 + i) (1 + j),
-    ) ((turned_at i j li lj).upper_right (a % 64))
-
-    at_dl : (i j : ℕ) → x ≡ 2 * i → y ≡ 1 + 2 * j → 1 + i < p.stride → 1 + j < p.rows →
-        lane q a (1 + x) (1 + y) ≡ turned (lane p a (1 + x) (1 + y)) (lane p a (1 + mate x) (1 + mate y))
-        (lane p a (1 + mate x) (1 + y)) (lane p a (1 + x) (1 + mate y))
-    at_dl i j ex ey li lj = rw (
-      ex,
-      ey,
-      mate_even (2 * i) (omega arith),
-      mate_odd (2 * j) (omega arith),
-      first i,
-      first j,
-      lane_ur q a i (1 + j),
-      same_place i (1 + j) (a / 64),
-      lane_dr p a i j,
-      lane_dl p a (1 + i) j,
-      lane_ur p a i (1 + j),
-      lane_ul p a (1 + i) (1 + j),
-    ) ((turned_at i j li lj).lower_left (a % 64))
-
-    at_dr : (i j : ℕ) → x ≡ 1 + 2 * i → y ≡ 1 + 2 * j → 1 + i < p.stride → 1 + j < p.rows →
-        lane q a (1 + x) (1 + y) ≡ turned (lane p a (1 + x) (1 + y)) (lane p a (1 + mate x) (1 + mate y))
-        (lane p a (1 + mate x) (1 + y)) (lane p a (1 + x) (1 + mate y))
-    at_dr i j ex ey li lj = rw (
-      ex,
-      ey,
-      mate_odd (2 * i) (omega arith),
-      mate_odd (2 * j) (omega arith),
-      first i,
-      first j,
-      lane_ul q a (1 + i) (1 + j),
-      same_place (1 + i) (1 + j) (a / 64),
-      lane_dr p a i j,
-      lane_dl p a (1 + i) j,
-      lane_ur p a i (1 + j),
-      lane_ul p a (1 + i) (1 + j),
-    ) ((turned_at i j li lj).lower_right (a % 64))
+    between : (q : Planes) (i j : ℕ) → q.words ≡ p.words → q.stride ≡ p.stride →
+        AreCorners (λ x y. lane q a (1 + x) (1 + y)) i j (a % 64) (get_or q.even.items (place p i j (a / 64)) 0)
+        (get_or q.down.items (place p (1 + i) j (a / 64)) 0) (get_or q.right.items (place p i (1 + j) (a / 64)) 0)
+        (get_or q.odd.items (place p (1 + i) (1 + j) (a / 64)) 0)
+    between q i j words stride = record {
+      upper_left = (corners p q a i j words stride).lower_right;
+      upper_right = rw (next i) (corners p q a (1 + i) j words stride).lower_left;
+      lower_left = rw (next j) (corners p q a i (1 + j) words stride).upper_right;
+      lower_right = rw (next i, next j) (corners p q a (1 + i) (1 + j) words stride).upper_left;
+    }
 
 -- where the words of all blocks are turned, one after another
 pub even_lane : (p q : Planes) → HasWordsStrideRows p.words p.stride p.rows q →

@@ -201,18 +201,10 @@ one_place w a k e l = let m = times_one w a e in omega (arith, m, e, l)
 
 pub one_main : (b : BlockPlaces) (p : Planes) → p.words ≡ 1 → DiagonalStays (get_or p.odd.items b.odd 0)
     (get_or p.even.items b.even 0) (get_or p.right.items b.right 0) (get_or p.down.items b.down 0) → MainStays b p
-one_main b p e stays k l = rw (
-  one_place p.words b.odd k e l,
-  one_place p.words b.even k e l,
-  one_place p.words b.right k e l,
-  one_place p.words b.down k e l,
-) stays
+one_main b p e stays k l = let place : (a : ℕ) → p.words * a + k ≡ a = λ a. one_place p.words a k e l in
+    simp place stays
 
 pub one_anti : (b : BlockPlaces) (p : Planes) → p.words ≡ 1 → DiagonalStays (get_or p.right.items b.right 0)
     (get_or p.down.items b.down 0) (get_or p.odd.items b.odd 0) (get_or p.even.items b.even 0) → AntiStays b p
-one_anti b p e stays k l = rw (
-  one_place p.words b.odd k e l,
-  one_place p.words b.even k e l,
-  one_place p.words b.right k e l,
-  one_place p.words b.down k e l,
-) stays
+one_anti b p e stays k l = let place : (a : ℕ) → p.words * a + k ≡ a = λ a. one_place p.words a k e l in
+    simp place stays

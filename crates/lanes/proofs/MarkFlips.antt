@@ -4,6 +4,8 @@ use Rattle.lanes.proofs.Imports.{bit_and, bit_at, bit_ones, bit_or, bit_xor, by_
 use Rattle.lanes.proofs.Imports.{common_steps, false, false≢true, get_or, get_or-set_other, get_or-set_same, length}
 use Rattle.lanes.proofs.Imports.{mod-lt, not, refl, set, sym, trailing_zeros, true, w64, xor, ℕ, ◌%◌, ◌&&◌, ◌*◌, ◌/◌}
 use Rattle.lanes.proofs.Imports.{◌<◌, ◌^◌, ◌∙◌, ◌≡◌, ◌≢◌}
+use Rattle.bbm_rule.proofs.MarkLemmas.{bit_none, bit_one}
+use Rattle.bbm_rule.proofs.BitLemmas.{xor_false}
 use Rattle.lemmas.proofs.Common.{beq, bit_at-trailing_zeros, bit_at_set_other, bit_at_set_same, or_zero_l, xor_lt}
 use Rattle.std.specs.Int.Count.{trailing_of_zero}
 
@@ -22,10 +24,6 @@ xor_true : (v : Bool) → xor v true ≡ not v
 xor_true true = refl
 xor_true false = refl
 
-xor_false : (v : Bool) → xor v false ≡ v
-xor_false true = refl
-xor_false false = refl
-
 -- the first set bit of a word is cleared
 pub record ClearsFirst (w w' : ℕ) : Type 0 where
   pub within : trailing_zeros w64 w < 64
@@ -34,12 +32,6 @@ pub record ClearsFirst (w w' : ℕ) : Type 0 where
   pub cleared : bit w' (trailing_zeros w64 w) ≡ false
   pub elsewhere : (j : ℕ) → j ≢ trailing_zeros w64 w → bit w' j ≡ bit w j
   pub later : trailing_zeros w64 w < trailing_zeros w64 w'
-
-bit_none : (n j : ℕ) → bit_at n j ≡ 0 → bit n j ≡ false
-bit_none n j e = rw (bit-is n j, e) refl
-
-bit_one : (n j : ℕ) → bit_at n j ≡ 1 → bit n j ≡ true
-bit_one n j e = rw (bit-is n j, e) refl
 
 zeros_of_zero : trailing_zeros w64 0 ≡ 64
 zeros_of_zero = trailing_of_zero 64
@@ -95,18 +87,7 @@ pub flipped_elsewhere : (marks : List ℕ) (at u : ℕ) → at / 64 < length mar
     cell_at (flipped marks at) u ≡ cell_at marks u
 unfolding cell_at
 flipped_elsewhere marks at u room ne =
-    grind (
-      arith,
-      common_steps,
-      by_eq_or_not,
-      get_or-set_same,
-      one_at,
-      bit-xor,
-      xor,
-      bit_elsewhere,
-      xor_false,
-      get_or-set_other,
-    )
+    grind (arith, common_steps, one_at, bit-xor, bit_elsewhere, xor_false, get_or-set_other)
 
 -- the mark of a becomes what that of b was
 pub took : (a b : ℕ) (m o m' : List ℕ) → cell_at m' a ≡ cell_at o b →

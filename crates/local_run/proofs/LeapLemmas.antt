@@ -1,14 +1,15 @@
 -- Runs that stay as they are, and times that can be leapt over
 use Rattle.local_run.proofs.Imports.{AllTimesSignal, Cell, Greater, HasSameSignalsAtOddTimes, IsOddOf, IsRising}
-use Rattle.local_run.proofs.Imports.{IsRunUnchangedUntil, IsTimePlaceBetween, JobView, Less, List, Moment, None, Option}
+use Rattle.local_run.proofs.Imports.{IsRunUnchangedUntil, IsTimePlaceBetween, JobView, Less, List, Moment, None}
 use Rattle.local_run.proofs.Imports.{Signal, Signals, Some, State, TimedSignal, Valuation, Zero, all_times_at}
-use Rattle.local_run.proofs.Imports.{all_times_none, and_parts, ap, ap₂, arith, by_lt_or_le, common_steps, event_at}
+use Rattle.local_run.proofs.Imports.{all_times_none, ap, ap₂, arith, by_lt_or_le, common_steps, event_at}
 use Rattle.local_run.proofs.Imports.{event_none, false, false≢true, in_box, in_halo, inl, inr, is_at, is_first, is_live}
 use Rattle.local_run.proofs.Imports.{length, local_run, moment_cmp, moment_total, moved_signals, nat_cmp, partner, refl}
 use Rattle.local_run.proofs.Imports.{signal_at, signals_moved, slice_get, slice_get_within, step, subst, suc, sym, true}
 use Rattle.local_run.proofs.Imports.{unwrap_or, with_halo, zero, ℕ, ℤ, ◌%◌, ◌&&◌, ◌+ℤ◌, ◌+◌, ◌-◌, ◌<◌, ◌||◌, ◌∙◌, ◌≡◌}
 use Rattle.local_run.proofs.Imports.{◌≢◌, ◌≤◌}
-use Rattle.lemmas.proofs.Common.{int_itself, int_same}
+use Rattle.local_run.proofs.Imports.{same_Some}
+use Rattle.bbm_rule.proofs.SameCells.{cell_itself, cell_same}
 use Rattle.module_box.specs.Schedules.{moment_of}
 use Rattle.module_box.proofs.Rising.{all_times_found, event_found}
 use Rattle.local_run.specs.Laws.{QuietRunStaysUnchanged, QuietRunAddsNoEdgeFault}
@@ -20,23 +21,18 @@ pub event_there : (es : List TimedSignal) (k : ℕ) (m : Moment) (e : TimedSigna
     slice_get es k ≡ Some e → e.at ≡ m → event_at es m.time m.cell.x m.cell.y ≡ Some e.signal
 event_there es k m e rising at same = grind (arith, common_steps, event_found, is_first, moment_total)
 
-at_cell : (c d : Cell) → is_at c d.x d.y ≡ true → c ≡ d
-at_cell c d e = grind (arith, common_steps, and_parts, int_same)
-
-at_itself : (c : Cell) → is_at c c.x c.y ≡ true
-at_itself c = rw (int_itself c.x, int_itself c.y) refl
-
 -- no signal at a place before k is at the cell
 abbrev pub AreOther : List AllTimesSignal → Cell → ℕ → Type 0
 AreOther hs c k = (i : ℕ) (h : AllTimesSignal) → i < k → slice_get hs i ≡ Some h → h.cell ≢ c
 
 pub one_more_other : (hs : List AllTimesSignal) (c : Cell) (k : ℕ) (h : AllTimesSignal) → slice_get hs k ≡ Some h →
     is_at h.cell c.x c.y ≡ false → AreOther hs c k → AreOther hs c (k + 1)
-one_more_other hs c k h at differs other i g l e same = grind (arith, common_steps, by_lt_or_le, false≢true, at_itself)
+one_more_other hs c k h at differs other i g l e same =
+    grind (arith, common_steps, by_lt_or_le, false≢true, cell_itself)
 
 pub all_times_there : (hs : List AllTimesSignal) (k : ℕ) (c : Cell) (h : AllTimesSignal) → AreOther hs c k →
     slice_get hs k ≡ Some h → is_at h.cell c.x c.y ≡ true → all_times_at hs c.x c.y ≡ Some h.signal
-all_times_there hs k c h other at same = grind (arith, common_steps, at_cell, all_times_found)
+all_times_there hs k c h other at same = grind (arith, common_steps, cell_same, all_times_found)
 
 pub all_times_nowhere : (hs : List AllTimesSignal) (c : Cell) → AreOther hs c (length hs) →
     all_times_at hs c.x c.y ≡ None
@@ -165,15 +161,19 @@ moment_less : (m n : Moment) → moment_cmp m n ≡ Less → m.time ≤ n.time
 unfolding moment_cmp
 moment_less m n h = grind (arith, common_steps, nat_less, less_greater)
 
+-- what stands later in a list that rises by moments is not earlier
+pub later_in_time : {A : Type 0} (at : A → Moment) (xs : List A) (i j : ℕ) (a b : A) → IsRising moment_cmp at xs →
+    i ≤ j → slice_get xs i ≡ Some a → slice_get xs j ≡ Some b → (at a).time ≤ (at b).time
+later_in_time at xs i j a b rising le ea eb = by_lt_or_le i j
+    (λ l. moment_less (at a) (at b) (rising.rises i j a b l ea eb))
+    (λ ge. let e : i ≡ j = omega arith in
+    let same : a ≡ b = same_Some a b (sym ea ∙ ap (slice_get xs) e ∙ eb) in
+    omega (arith, ap (λ c. (at c).time) same))
+
 later : (es : List TimedSignal) (i j : ℕ) (a b : TimedSignal) → IsRising moment_cmp moment_of es → i ≤ j →
     slice_get es i ≡ Some a →
     slice_get es j ≡ Some b → a.at.time ≤ b.at.time
-later es i j a b rising le ea eb = by_lt_or_le i j
-    (λ l. moment_less a.at b.at (rising.rises i j a b l ea eb))
-    (λ ge. let e : i ≡ j = omega arith in same_event (slice_get es j) a b (sym (ap (slice_get es) e) ∙ ea) eb)
-  where
-    same_event : (o : Option TimedSignal) (a b : TimedSignal) → o ≡ Some a → o ≡ Some b → a.at.time ≤ b.at.time
-    same_event o a b ea eb = let e : a.at.time ≡ b.at.time = cc in omega arith
+later = later_in_time moment_of
 
 pub raise_time : (es : List TimedSignal) (t low high m : ℕ) (a : TimedSignal) → IsRising moment_cmp moment_of es →
     IsTimePlaceBetween es t low high → slice_get es m ≡ Some a → a.at.time < t → IsTimePlaceBetween es t (m + 1) high

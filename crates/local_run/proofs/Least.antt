@@ -1,5 +1,5 @@
 -- A job has one least fault
-use Rattle.local_run.proofs.Imports.{Cell, Edge, End, Equal, Fault, Greater, KeepFault, Kind, Less, None, Ordering}
+use Rattle.local_run.proofs.Imports.{Edge, End, Equal, Fault, Greater, KeepFault, Kind, Less, None, Ordering}
 use Rattle.local_run.proofs.Imports.{Some, Stop, ap, arith, cell_cmp, common_steps, fault_cmp, keep_cmp, kind_number}
 use Rattle.local_run.proofs.Imports.{refl, suc, zero, ℕ, ℤ, ◌≡◌, ◌≢◌}
 use Rattle.lemmas.proofs.Common.{CmpEqualImpliesEq, IsTotalOrder, exact_pairs, exact_signed, exact_unsigned}

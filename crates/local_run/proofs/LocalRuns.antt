@@ -1,6 +1,6 @@
 -- The run of a module: its two steps, that it stays in its box, and which wires it reads
-use Rattle.local_run.proofs.Imports.{IsSignalWireBelow, JobView, NamesOwnWires, One, Signal, State, Valuation, Wire}
-use Rattle.local_run.proofs.Imports.{Zero, ap, ap₂, arith, cond-false, cond-true, eq-eqb, in_box, in_halo, inl, inr}
+use Rattle.local_run.proofs.Imports.{IsSignalWireBelow, JobView, NamesOwnWires, Signal, State, Valuation, Wire}
+use Rattle.local_run.proofs.Imports.{ap, ap₂, arith, cond-false, cond-true, eq-eqb, in_box, in_halo, inl, inr}
 use Rattle.local_run.proofs.Imports.{is_live, local_run, ne_eqb, refl, signal_at, step, suc, sym, wires, with_halo}
 use Rattle.local_run.proofs.Imports.{zero, ℕ, ℤ, ◌%◌, ◌&&◌, ◌<◌, ◌||◌, ◌∙◌, ◌≡◌, ◌⊎◌}
 use Rattle.lemmas.proofs.Common.{cases_eq}

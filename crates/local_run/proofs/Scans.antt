@@ -1,11 +1,12 @@
 -- Words of assignments, and the first that differs
-use Rattle.local_run.proofs.Imports.{Bool, HasValueRow, IsCellAsSignalUnderWords, IsSignalWireBelow, List, One, Planes}
-use Rattle.local_run.proofs.Imports.{Signal, Values, Wire, Zero, and-true, and_parts, ap, arith, bit, bit-and, bit-zero}
+use Rattle.local_run.proofs.Imports.{Bool, HasValueRow, IsCellAsSignalUnderWords, IsSignalWireBelow, List, Planes}
+use Rattle.local_run.proofs.Imports.{Signal, Values, Wire, and-true, and_parts, ap, arith, bit, bit-and, bit-zero}
 use Rattle.local_run.proofs.Imports.{bit_and, bit_of_row, bit_xor, by_lt_or_le, common_steps, false, get_or}
 use Rattle.local_run.proofs.Imports.{is_defined_under, is_live, lane, length, mul-le-mul_left, refl, subst, sym}
 use Rattle.local_run.proofs.Imports.{trailing_zeros, true, valuation, value_of, w64, ℕ, ◌%◌, ◌&&◌, ◌*◌, ◌+◌, ◌/◌, ◌<◌}
 use Rattle.local_run.proofs.Imports.{◌^◌, ◌∙◌, ◌≡◌, ◌≢◌, ◌≤◌}
-use Rattle.lemmas.proofs.Common.{and_lt, bit_at, bit_at-trailing_zeros, xor_lt}
+use Rattle.bbm_rule.proofs.MarkLemmas.{bit_none, bit_one}
+use Rattle.lemmas.proofs.Common.{and_lt, bit_at-trailing_zeros, xor_lt}
 use Rattle.bbm_rule.proofs.BitLemmas.{xor, bit-xor}
 use Rattle.lanes.proofs.PlaneWords.{get_or_any, quotient, remainder}
 
@@ -19,14 +20,6 @@ xor_differ : (a b : Bool) → xor a b ≡ true → a ≢ b
 xor_differ true false h e = cc
 xor_differ false false h e = cc
 xor_differ _ true h e = cc
-
-bit-one : (n j : ℕ) → bit_at n j ≡ 1 → bit n j ≡ true
-unfolding bit
-bit-one n j h = rw h refl
-
-bit-none : (n j : ℕ) → bit_at n j ≡ 0 → bit n j ≡ false
-unfolding bit
-bit-none n j h = rw h refl
 
 pub value_in_word : (words k b w : ℕ) (values : List ℕ) → b < 64 →
     bit (get_or values (words * w + k) 0) b ≡ value_of words values (64 * k + b) w
@@ -58,12 +51,12 @@ block_first f k w small fw before e =
     let found = bit_at-trailing_zeros w64 w (omega arith) small in
     let z : ℕ = trailing_zeros w64 w in
     let lz : z < 64 = found.0 in (
-      sym (fw z lz) ∙ bit-one w z found.1,
+      sym (fw z lz) ∙ bit_one w z found.1,
       (λ a l. by_lt_or_le a (64 * k) (before a) (λ h.
           let at : a ≡ 64 * k + (a % 64) = split_place a k h (omega arith) in
           let under : a % 64 < z = omega arith in
           let in_word : a % 64 < 64 = omega arith in
-          ap f at ∙ sym (fw (a % 64) in_word) ∙ bit-none w (a % 64) (found.2 (a % 64) under))),
+          ap f at ∙ sym (fw (a % 64) in_word) ∙ bit_none w (a % 64) (found.2 (a % 64) under))),
     )
 
 -- a cell is not as its signal says, where each used gate has a row

@@ -35,7 +35,7 @@ shown_at j vs p t x y a shows la inside =
     ∙ ap₂ (local_run j (valuation vs a) t) (sym (outer_inner j.area.x px.number))
     (sym (outer_inner j.area.y py.number))))
 
-ring_in_box : (b : Box2) (x y : ℤ) → in_ring b x y ≡ true → in_box b x y ≡ true
+pub ring_in_box : (b : Box2) (x y : ℤ) → in_ring b x y ≡ true → in_box b x y ≡ true
 unfolding in_ring
 ring_in_box b x y h = (and_parts _ _ h).0
 
@@ -62,6 +62,13 @@ pub silent_from : (j : JobView) (p : Planes) (t u : ℕ) (marks : List ℕ) → 
     AreLineMarks j t marks → IsUnmarked marks u → IsSilent j t p u
 silent_from j p t u marks es dead lines free = grind (arith, common_steps, dead_lane)
 
+-- a place in the box, counted from the halo
+pub inner_is_outer : (c k : ℕ) → 1 ≤ k → box_coord c (k - 1) ≡ halo_coord c k
+inner_is_outer c k l = sym (ap (halo_coord c) (next k l) ∙ outer_inner c (k - 1))
+  where
+    next : (k : ℕ) → 1 ≤ k → k ≡ 1 + (k - 1)
+    next k l = omega arith
+
 -- ---- cells outside the box have no edge fault
 pub outer_edge : (j : JobView) (vs : Values) (t x y : ℕ) → IsOutsideBoxFromHalo j.area x y → IsEdgeCorrectAt j vs t x y
 outer_edge j vs t x y out a l f = false≢true (sym (box_out j.area x y out) ∙ ring_in_box j.area _ _ f.1.ring)
@@ -70,16 +77,8 @@ pub inner_edge : (j : JobView) (vs : Values) (t x y : ℕ) → 1 ≤ x → 1 ≤
     IsLeastBelow (assignments j) (λ a.
     IsFaultWhereDefined j vs a t Edge (box_coord j.area.x (x - 1)) (box_coord j.area.y (y - 1))) None →
     IsEdgeCorrectAt j vs t x y
-inner_edge j vs t x y lx ly none a l f =
-    let ex : halo_coord j.area.x x ≡ box_coord j.area.x (x - 1) =
-    ap (halo_coord j.area.x) (next x lx) ∙ outer_inner j.area.x (x - 1) in
-    let ey : halo_coord j.area.y y ≡ box_coord j.area.y (y - 1) =
-    ap (halo_coord j.area.y) (next y ly) ∙ outer_inner j.area.y (y - 1) in
-    none a l (subst (λ (z : ℤ). IsFaultWhereDefined j vs a t Edge z (box_coord j.area.y (y - 1))) ex
-    (subst (λ (z : ℤ). IsFaultWhereDefined j vs a t Edge (halo_coord j.area.x x) z) ey f))
-  where
-    next : (k : ℕ) → 1 ≤ k → k ≡ 1 + (k - 1)
-    next k l = omega arith
+inner_edge j vs t x y lx ly none a l =
+    rw (inner_is_outer j.area.x x lx, inner_is_outer j.area.y y ly) at (none a l)
 
 -- nor does a cell that is as its signal says
 pub right_edge : (j : JobView) (vs : Values) (p : Planes) (t x y : ℕ) (s : Signal) → Shows j vs t p →
@@ -88,13 +87,6 @@ pub right_edge : (j : JobView) (vs : Values) (p : Planes) (t x y : ℕ) (s : Sig
     None →
     IsEdgeCorrectAt j vs t x y
 right_edge j vs p t x y s shows es none a l f = grind (arith, common_steps, ring_in_box, shown_at)
-
--- a place in the box, counted from the halo
-pub inner_is_outer : (c k : ℕ) → 1 ≤ k → box_coord c (k - 1) ≡ halo_coord c k
-inner_is_outer c k l = sym (ap (halo_coord c) (next k l) ∙ outer_inner c (k - 1))
-  where
-    next : (k : ℕ) → 1 ≤ k → k ≡ 1 + (k - 1)
-    next k l = omega arith
 
 -- nor does a dead cell of which no line says something
 pub unsaid_edge : (j : JobView) (vs : Values) (p : Planes) (t x y : ℕ) (marks : List ℕ) → IsReady j vs →
@@ -126,43 +118,37 @@ four_cells c r P first second third fourth x y ex ey = grind (arith, common_step
 pub between_edges : (j : JobView) (vs : Values) (t x y : ℕ) → 2 ≤ x → x < j.area.w → 2 ≤ y → y < j.area.h →
     IsEdgeCorrectAt j vs t x y
 between_edges j vs t x y lx hx ly hy a l f =
-    let ex : halo_coord j.area.x x ≡ box_coord j.area.x (x - 1) =
-    ap (halo_coord j.area.x) (next x (omega arith)) ∙ outer_inner j.area.x (x - 1) in
-    let ey : halo_coord j.area.y y ≡ box_coord j.area.y (y - 1) =
-    ap (halo_coord j.area.y) (next y (omega arith)) ∙ outer_inner j.area.y (y - 1) in
-    false≢true (sym (not_in_ring j.area (x - 1) (y - 1) (omega arith) (omega arith) (omega arith) (omega arith))
-    ∙ sym (ap₂ (in_ring j.area) ex ey) ∙ f.1.ring)
-  where
-    next : (k : ℕ) → 1 ≤ k → k ≡ 1 + (k - 1)
-    next k l = omega arith
+    let out = rw (inner_is_outer j.area.x x (omega arith), inner_is_outer j.area.y y (omega arith)) at
+    (not_in_ring j.area (x - 1) (y - 1) (omega arith) (omega arith) (omega arith) (omega arith)) in
+    false≢true (sym out ∙ f.1.ring)
 
 -- ---- the numbers that a look at ring and halo passes
 number_in : (j : JobView) (vs : Values) (t : ℕ) (p : Planes) (x y : ℕ) → Shows j vs t p →
     number_at j.area x y ≡ p.stride * (y / 2) + x / 2
 number_in j vs t p x y shows = ap (λ s. s * (y / 2) + x / 2) (sym shows.size.1)
 
-pub passed_edges : (j : JobView) (vs : Values) (p : Planes) (t from to x y : ℕ) (marks : List ℕ) → IsReady j vs →
-    Shows j vs t p → AreLineMarks j t marks → AreSkippableBetween from to marks p →
-    x < j.area.w + 2 → y < j.area.h + 2 → from ≤ number_at j.area x y → number_at j.area x y < to →
-    IsEdgeCorrectAt j vs t x y
-passed_edges j vs p t from to x y marks ready shows lines passed lx ly after before =
+pub passed_edges : (j : JobView) (vs : Values) (p : Planes) (t x y : ℕ) (marks : List ℕ) → IsReady j vs →
+    Shows j vs t p → AreLineMarks j t marks →
+    AreSkippableBetween (number_at j.area x y) (number_at j.area x y + 1) marks p →
+    x < j.area.w + 2 → y < j.area.h + 2 → IsEdgeCorrectAt j vs t x y
+passed_edges j vs p t x y marks ready shows lines passed lx ly =
     let s1 = shows.size.1 in
     let s2 = shows.size.2 in
     let even_w = ready.job.even.w in
     let even_h = ready.job.even.h in
     let e = number_in j vs t p x y shows in
-    elim (passed (x / 2) (y / 2) (omega arith) (omega arith) (omega (arith, e, after)) (omega (arith, e, before))) [
+    elim (passed (x / 2) (y / 2) (omega arith) (omega arith) (omega (arith, e)) (omega (arith, e))) [
       | inl box_coord ↦ let i0 = box_coord.0 in let i1 = box_coord.1 in let i2 = box_coord.2 in let i3 = box_coord.3 in
           between_edges j vs t x y (omega arith) (omega arith) (omega arith) (omega arith)
       | inr silent ↦ silent_edges j vs p t (x / 2) (y / 2) ready shows (omega arith)
           (silent_from j p t (p.stride * (y / 2) + x / 2) marks s1 silent.0 lines silent.1) x y lx ly refl refl
     ]
 
-pub passed_halo : (j : JobView) (vs : Values) (p : Planes) (t from to x y : ℕ) (marks : List ℕ) → IsReady j vs →
-    Shows j vs t p → AreLineMarks j t marks → AreSkippableBetween from to marks p →
-    x < j.area.w + 2 → y < j.area.h + 2 → from ≤ number_at j.area x y → number_at j.area x y < to →
-    IsHaloCellSet j vs t p x y
-passed_halo j vs p t from to x y marks ready shows lines passed lx ly after before =
+pub passed_halo : (j : JobView) (vs : Values) (p : Planes) (t x y : ℕ) (marks : List ℕ) → IsReady j vs →
+    Shows j vs t p → AreLineMarks j t marks →
+    AreSkippableBetween (number_at j.area x y) (number_at j.area x y + 1) marks p →
+    x < j.area.w + 2 → y < j.area.h + 2 → IsHaloCellSet j vs t p x y
+passed_halo j vs p t x y marks ready shows lines passed lx ly =
     grind (arith, common_steps, common_steps, number_in, silent_halo, silent_from)
 
 -- the cells with a number are those in one column and row

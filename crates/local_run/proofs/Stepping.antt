@@ -9,6 +9,7 @@ use Rattle.local_run.proofs.Imports.{valuation, with_halo, zero, ℕ, ℤ, ◌%�
 use Rattle.local_run.proofs.Imports.{◌||◌, ◌∙◌, ◌≡◌, ◌≢◌, ◌≤◌}
 use Rattle.lemmas.proofs.Common.{add-one, not_from_false, or-false, pred_pos}
 use Rattle.bbm_rule.specs.Rows.{mate}
+use Rattle.bbm_rule.proofs.BlockRuns.{mate_lt}
 use Rattle.bbm_rule.proofs.PairLemmas.{mate_even, mate_odd}
 use Rattle.bbm_rule.specs.Plane.{turned}
 use Rattle.bbm_rule.proofs.RingTests.{halo_read}
@@ -23,12 +24,6 @@ block : (t : ℕ) (s : State) (x y x' y' : ℤ) (a b c d : Bool) → partner t x
     turned a b c d ≡ step t s x y
 unfolding step
 block t s x y x' y' a b c d ex ey ea eb ec ed = rw (ex, ey, ea, eb, ec, ed) refl
-
-mate_below : (n x : ℕ) → n % 2 ≡ 0 → x < n → mate x < n
-mate_below n x even l = by_eq_or_not (x % 2) 0
-    (λ e. let m : mate x ≡ 1 + x = mate_even x e in omega arith)
-    (λ o. let p : 1 + (x - 1) ≡ x = omega arith in let m : mate x ≡ x - 1 =
-    ap mate (sym p) ∙ mate_odd (x - 1) (omega arith) in omega arith)
 
 up_pos : (t n : ℕ) → n % 2 ≡ t % 2 → partner t (pos n) ≡ pos (1 + n)
 unfolding partner
@@ -109,8 +104,8 @@ even_shows j vs t p q ready even shows size turns = record {
       let s0 = shows.size.0 in
       let s1 = shows.size.1 in
       let s2 = shows.size.2 in
-      let mx : mate x < j.area.w = mate_below j.area.w x ew lx in
-      let my : mate y < j.area.h = mate_below j.area.h y eh ly in
+      let mx : mate x < j.area.w = mate_lt x j.area.w ew lx in
+      let my : mate y < j.area.h = mate_lt y j.area.h eh ly in
       turns a x y (omega arith) (omega arith) (omega arith)
       ∙ block t (local_run j u t) (box_coord j.area.x x) (box_coord j.area.y y) (box_coord j.area.x (mate x))
       (box_coord j.area.y (mate y)) _ _ _ _
@@ -149,8 +144,8 @@ odd_shows j vs t p q ready odd sized halo size turns = record {
       let s2 = sized.2 in
       let bx : 1 + x < j.area.w + 2 = omega arith in
       let by : 1 + y < j.area.h + 2 = omega arith in
-      let mx : mate (1 + x) < j.area.w + 2 = mate_below (j.area.w + 2) (1 + x) (omega arith) bx in
-      let my : mate (1 + y) < j.area.h + 2 = mate_below (j.area.h + 2) (1 + y) (omega arith) by in
+      let mx : mate (1 + x) < j.area.w + 2 = mate_lt (1 + x) (j.area.w + 2) (omega arith) bx in
+      let my : mate (1 + y) < j.area.h + 2 = mate_lt (1 + y) (j.area.h + 2) (omega arith) by in
       turns a (1 + x) (1 + y) (omega arith) (omega arith) (omega arith)
       ∙ block t s (halo_coord j.area.x (1 + x)) (halo_coord j.area.y (1 + y)) (halo_coord j.area.x (mate (1 + x)))
       (halo_coord j.area.y (mate (1 + y))) _ _ _ _
@@ -211,12 +206,12 @@ margin_halo b x y tw th lx ly m =
     ∙ and_from _ _ (not_from_false _ (box_out b x y m))
     (and_from _ _ (near_span b.x b.w x lx tw) (near_span b.y b.h y ly th))
 
-with_halo_inside : (j : JobView) (u : Valuation) (t : ℕ) (s : State) (x y : ℤ) → in_box j.area x y ≡ true →
+pub with_halo_inside : (j : JobView) (u : Valuation) (t : ℕ) (s : State) (x y : ℤ) → in_box j.area x y ≡ true →
     with_halo j u t s x y ≡ s x y
 unfolding with_halo in_halo
 with_halo_inside j u t s x y h = grind (arith, common_steps, or-false)
 
-with_halo_outside : (j : JobView) (u : Valuation) (t : ℕ) (s : State) (x y : ℤ) → s x y ≡ false →
+pub with_halo_outside : (j : JobView) (u : Valuation) (t : ℕ) (s : State) (x y : ℤ) → s x y ≡ false →
     in_halo j.area x y ≡ true → with_halo j u t s x y ≡ is_live u (signal_at j.halos t x y)
 unfolding with_halo
 with_halo_outside j u t s x y dead h = grind (arith, common_steps)

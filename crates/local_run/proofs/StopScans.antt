@@ -9,6 +9,7 @@ use Rattle.local_run.proofs.Imports.{◌∙◌, ◌≡◌, ◌≢◌, ◌≤◌,
 use Rattle.lemmas.proofs.Common.{below_or_same, int_less, nat_less}
 use Rattle.module_job.specs.Jobs.{stop_moment}
 use Rattle.local_run.specs.Scans.{IsStopMissed}
+use Rattle.local_run.proofs.LeapLemmas.{later_in_time}
 use Rattle.module_job.specs.declared.job.Stop as listed
 
 -- ---- the order of moments
@@ -74,16 +75,13 @@ where_it_is j vs t place a s x y rising tried e at la whole f =
 less_itself : (z : ℤ) → ¬ (z <ℤ z)
 less_itself z l = omega (arith, ints, l)
 
-less_both : (y z : ℤ) → y <ℤ z → ¬ (z <ℤ y)
-less_both y z l m = omega (arith, ints, l, m)
-
 not_before : (x y x' y' : ℤ) → IsLater x y x' y' → ¬ (y' <ℤ y)
-not_before x y x' y' (inl l) m = less_both y y' l m
-not_before x y x' y' (inr p) m = less_itself y' (subst (λ (z : ℤ). y' <ℤ z) p.0 m)
+not_before x y x' y' (inl l) m = omega (arith, ints, l, m)
+not_before x y x' y' (inr p) m = omega (arith, ints, p.0, m)
 
 not_left : (x y x' : ℤ) → IsLater x y x' y → ¬ (x' <ℤ x)
 not_left x y x' (inl l) m = less_itself y l
-not_left x y x' (inr p) m = less_both x x' p.1 m
+not_left x y x' (inr p) m = omega (arith, ints, p.1, m)
 
 not_itself : (x y : ℤ) → ¬ IsLater x y x y
 not_itself x y (inl l) = less_itself y l
@@ -135,6 +133,10 @@ stop_first j vs t place a s rising tried e at least = record {
 
 -- ---- no stop at the time is left
 
+later_stop : (j : JobView) (i k : ℕ) (s r : listed.Stop) → IsRising moment_cmp stop_moment j.stops → i ≤ k →
+    slice_get j.stops i ≡ Some s → slice_get j.stops k ≡ Some r → s.at.time ≤ r.at.time
+later_stop j = later_in_time stop_moment j.stops
+
 abbrev NoneLeft : JobView → ℕ → ℕ → Type 0
 NoneLeft j t place = (k : ℕ) (s : listed.Stop) → place ≤ k → slice_get j.stops k ≡ Some s → t < s.at.time
 
@@ -143,20 +145,10 @@ at_end j t place past k s l e = absurd (let lt = slice_get_within j.stops k s e 
 
 before_later : (j : JobView) (vs : Values) (t place : ℕ) (s : listed.Stop) → IsRising moment_cmp stop_moment j.stops →
     AreTried j vs t place → slice_get j.stops place ≡ Some s → s.at.time ≢ t → NoneLeft j t place
-before_later j vs t place s rising tried e other k r l h = elim (three_ways k place) [
-  | inl lt ↦ absurd (omega (arith, lt, l))
-  | inr (inl same) ↦
-      let is : r ≡ s = same_Some _ _ (sym h ∙ ap (slice_get j.stops) same ∙ e) in
-      let time : r.at.time ≡ s.at.time = ap (λ (x : listed.Stop). x.at.time) is in
-      let ge = tried.from place s (omega arith) e in
-      omega (arith, time, ge, other)
-  | inr (inr gt) ↦
-      let ge = tried.from place s (omega arith) e in
-      elim (later_moment s.at r.at (rising.rises place k s r gt e h)) [
-        | inl early ↦ omega (arith, early, ge)
-        | inr p ↦ (let same = p.0 in omega (arith, same, ge, other))
-      ]
-]
+before_later j vs t place s rising tried e other k r l h =
+    let le = later_stop j place k s r rising l e h in
+    let ge = tried.from place s (omega arith) e in
+    omega (arith, le, ge, other)
 
 pub record AreAllTried (j : JobView) (vs : Values) (t place : ℕ) : Type 0 where
   pub free : HasNoFaultOfKind j vs t Stop
@@ -172,15 +164,13 @@ all_tried j vs t place tried left = record {
 }
   where
     soon : (x y : ℤ) (a : ℕ) (f : IsStopFault j (valuation vs a) t x y) → f.is_listed.0 < place
-    soon x y a f = elim (three_ways f.is_listed.0 place) [
+    soon x y a f = elim (cases_lt f.is_listed.0 place) [
       | inl lt ↦ lt
-      | inr (inl same) ↦ absurd (late x y a f (omega (arith, same)))
-      | inr (inr gt) ↦ absurd (late x y a f (omega (arith, gt)))
+      | inr ge ↦
+          let lt = left f.is_listed.0 f.stop ge (stop_at j (valuation vs a) t x y f) in
+          let time = f.time in
+          absurd (omega (arith, lt, time))
     ]
-      where
-        late : (x y : ℤ) (a : ℕ) (f : IsStopFault j (valuation vs a) t x y) → ¬ (place ≤ f.is_listed.0)
-        late x y a f ge = (let lt = left f.is_listed.0 f.stop ge (stop_at j (valuation vs a) t x y f) in let time =
-            f.time in omega (arith, lt, time))
 
 pub past_all : (j : JobView) (vs : Values) (t place : ℕ) → AreTried j vs t place → length j.stops ≤ place →
     AreAllTried j vs t place
@@ -204,20 +194,6 @@ none_between j vs t n place k low high from to x y a la found =
       | inl l ↦ let h = low.before f.is_listed.0 f.stop l at in omega (arith, h, time, from)
       | inr g ↦ let h = high.from f.is_listed.0 f.stop g at in omega (arith, h, time, to)
     ]
-
-later_stop : (j : JobView) (i k : ℕ) (s r : listed.Stop) → IsRising moment_cmp stop_moment j.stops → i ≤ k →
-    slice_get j.stops i ≡ Some s → slice_get j.stops k ≡ Some r → s.at.time ≤ r.at.time
-later_stop j i k s r rising le e h = elim (three_ways k i) [
-  | inl lt ↦ absurd (omega (arith, lt, le))
-  | inr (inl same) ↦
-      let is : r ≡ s = same_Some _ _ (sym h ∙ ap (slice_get j.stops) same ∙ e) in
-      let time : r.at.time ≡ s.at.time = ap (λ (x : listed.Stop). x.at.time) is in
-      omega (arith, time)
-  | inr (inr gt) ↦ elim (later_moment s.at r.at (rising.rises i k s r gt e h)) [
-    | inl early ↦ omega (arith, early)
-    | inr p ↦ (let same = p.0 in omega (arith, same))
-  ]
-]
 
 -- a place is that of the next stop also at later times, up to that of the stop
 pub next_later : (j : JobView) (t n place : ℕ) (s : listed.Stop) → IsRising moment_cmp stop_moment j.stops →

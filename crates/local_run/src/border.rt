@@ -252,7 +252,7 @@ pub fn set_halo_check_ring(
     ensures halo { IsHaloSet job.now values.now lines.now.time marked_planes.new.planes }
     ensures edges { result ≡ true → HasNoFaultOfKind job.now values.now lines.now.time Kind.Edge }
 {
-    let _area = job.area();
+    job.prove_valid();
     let cells = marked_planes.planes().cells_per_plane();
     let mut is_right = true;
     'words: for k in 0..cells.div_ceil(64) {

@@ -52,8 +52,8 @@ fn least_fault_moved(from: &Job, to: &Job, fault: Option<Fault>) -> Option<Fault
     ensures moved { result ≡ option_map (fault_moved_to_job from.now to.now) fault }
     ensures least { IsLeastFault to.now result }
 {
-    let _from = from.area();
-    let _to = to.area();
+    from.prove_valid();
+    to.prove_valid();
     match fault {
         Some(fault) => Some(fault_moved_to_job(from, to, fault)),
         None => None,

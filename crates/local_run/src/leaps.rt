@@ -99,7 +99,7 @@ fn end_of_quiet_times(job: &Job, time: u32, end: u32) -> u32
     ensures edges { HasSameSignalsAtOddTimes job.now.edges time result }
     ensures halos { HasSameSignalsAtOddTimes job.now.halos time result }
 {
-    let _area = job.area();
+    job.prove_valid();
     let shape: &Shape = job.shape();
     let edges = end_of_same_signals(shape.edges(), time, end);
     end_of_same_signals(shape.halos(), time, edges)
@@ -112,7 +112,7 @@ fn next_stop_time(job: &Job, next: usize, time: u32, end: u32) -> u32
     ensures range { (time ≤ result) × (result ≤ end) }
     ensures next { IsNextStop job.now result next }
 {
-    let _area = job.area();
+    job.prove_valid();
     if next < job.stops() {
         let first = job.stop(next).at.time;
         if first < end {

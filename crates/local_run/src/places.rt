@@ -115,7 +115,7 @@ pub fn edge_at(job: &Job, time: u32, x: usize, y: usize, near: EventPlaces) -> S
         ≡ signal_at job.now.edges time (box_coord job.now.area.x x) (box_coord job.now.area.y y) }
     ensures wire_exists { IsSignalWireBelow (wires job.now.locals.netlist) result }
 {
-    let _area = job.area();
+    job.prove_valid();
     let shape: &Shape = job.shape();
     let cell = box_cell(x, y);
     signal_at_moment(shape.edges(), Moment { time, cell }, near)
@@ -130,7 +130,7 @@ pub fn halo_at(job: &Job, time: u32, x: usize, y: usize, near: EventPlaces) -> S
         ≡ signal_at job.now.halos time (halo_coord job.now.area.x x) (halo_coord job.now.area.y y) }
     ensures wire_exists { IsSignalWireBelow (wires job.now.locals.netlist) result }
 {
-    let _area = job.area();
+    job.prove_valid();
     let shape: &Shape = job.shape();
     let cell = halo_cell(x, y);
     signal_at_moment(shape.halos(), Moment { time, cell }, near)

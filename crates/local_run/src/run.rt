@@ -169,7 +169,7 @@ fn least_fault_and_keep_fault(
     ensures fault { IfOk result (λ o. IsLeastFault job.now o.0) }
     ensures keep { IfOk result (λ o. IsLeastKeepFault job.now o.1) }
 {
-    let _area = job.area();
+    job.prove_valid();
     let values = Values::of(alloc, job)?;
     let fault = least_fault_if_defined(alloc, &values, job)?;
     let keep = find_least_keep_fault(&values, job);

@@ -5,6 +5,8 @@ use Rattle.module_box.proofs.Imports.{mul-le-mul_right, owner_of, pos, rectangle
 use Rattle.module_box.proofs.Imports.{true, unsigned_abs, ℕ, ℤ, ◌%◌, ◌*◌, ◌+◌, ◌/◌, ◌<◌, ◌∙◌, ◌≡◌, ◌≤◌}
 use Rattle.lemmas.proofs.Common.{negsuc}
 use Rattle.bbm_rule.proofs.Spans.{in_span-negsuc}
+use Rattle.module_box.proofs.Imports.{and_from, span_from}
+use Rattle.module_box.specs.Tiling.{IsInside, rectangle_of}
 
 pub in_span_nat : (f n : ℕ) (x : ℤ) → in_span f n x ≡ true → (k : ℕ) × (x ≡ pos k) × (f ≤ k) × (k < f + n)
 in_span_nat f n (pos k) h = let p = span_parts f n k h in (k, refl, p.0, p.1)
@@ -19,26 +21,28 @@ pub abs_within : (b : Box2) (x y : ℤ) → in_box b x y ≡ true →
     (unsigned_abs x < b.x + b.w) × (unsigned_abs y < b.y + b.h)
 abs_within b x y h = grind (arith, common_steps, in_box_nats)
 
+-- a cell of a box is a cell of the rectangle that has the box
+pub in_rectangle : (w h : ℕ) (b : Box2) (x y : ℤ) → IsInside w h b → in_box b x y ≡ true →
+    in_box (rectangle_of w h) x y ≡ true
+unfolding in_box
+in_rectangle w h b x y inside here = grind (arith, common_steps, in_box_nats, and_from, span_from)
+
 pub in_table : (a b c d : ℕ) → a < b → c < d → a * d + c < b * d
 in_table a b c d p q = grind (arith, common_steps, mul-le-mul_right)
 
 pub same_some : {A : Type 0} (o : Option A) (a b : A) → o ≡ Some a → o ≡ Some b → a ≡ b
 same_some o a b e f = cc
 
-halves : (a b : ℕ) → a < b → b % 2 ≡ 0 → a / 2 < b / 2
+pub halves : (a b : ℕ) → a < b → b % 2 ≡ 0 → a / 2 < b / 2
 halves a b p q = omega arith
-
-pub owner_index : (o : OwnersView) (x y : ℤ) → IsOwnersTable o → in_box (rectangle o) x y ≡ true →
-    (unsigned_abs y / 2) * (o.width / 2) + unsigned_abs x / 2 < (o.height / 2) * (o.width / 2)
-owner_index o x y t h =
-    let p = abs_within (rectangle o) x y h in
-    in_table (unsigned_abs y / 2) (o.height / 2) (unsigned_abs x / 2) (o.width / 2)
-    (halves _ _ (let q : unsigned_abs y < o.height = omega (arith, p.1) in q) t.height.2)
-    (halves _ _ (let q : unsigned_abs x < o.width = omega (arith, p.0) in q) t.width.2)
 
 pub owner_in_table : (o : OwnersView) (x y : ℤ) → IsOwnersTable o → in_box (rectangle o) x y ≡ true →
     (unsigned_abs y / 2) * (o.width / 2) + unsigned_abs x / 2 < length o.numbers
-owner_in_table o x y t h = grind (arith, common_steps, owner_index)
+owner_in_table o x y t h =
+    let p = abs_within (rectangle o) x y h in
+    rw t.sized (in_table (unsigned_abs y / 2) (o.height / 2) (unsigned_abs x / 2) (o.width / 2)
+    (halves _ _ (let q : unsigned_abs y < o.height = omega (arith, p.1) in q) t.height.2)
+    (halves _ _ (let q : unsigned_abs x < o.width = omega (arith, p.0) in q) t.width.2))
 
 pub owner_read : (o : OwnersView) (x y : ℤ) (a b r : ℕ) → IsOwnersTable o → in_box (rectangle o) x y ≡ true →
     a ≡ unsigned_abs y →

@@ -38,8 +38,8 @@ pub use Rattle.module_box.specs.Moves.{moved_all_times, moved_event}
 pub use Rattle.module_box.specs.Numbers.{gate_code_numbers}
 pub use Rattle.module_box.specs.Schedules.{IsRising, cell_of, moment_of}
 unfoldable pub use Rattle.module_box.specs.Schedules.{all_times_at, event_at}
-pub use Rattle.module_box.specs.Taking.{HasBlockAtPlace, TakesBox, TakesRow}
-pub use Rattle.module_box.specs.Tiling.{AreFirstBoxesInside, IsOwnersTable, OwnersView, rectangle}
+pub use Rattle.module_box.specs.Taking.{TakesBox, TakesRow}
+pub use Rattle.module_box.specs.Tiling.{AreFirstBoxesInside, HasBlockAtPlace, IsOwnersTable, OwnersView, rectangle}
 unfoldable pub use Rattle.module_box.specs.Tiling.{owner_of}
 pub use Rattle.module_box.specs.declared.locals.LocalGate.{LocalGate}
 pub use Rattle.module_box.specs.declared.schedules.AllTimesSignal.{AllTimesSignal}

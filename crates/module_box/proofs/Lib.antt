@@ -4,6 +4,7 @@ pub mod BoxCells
 pub mod Tilings
 pub mod Takings
 pub mod NoTilings
+pub mod PartOwners
 pub mod Rising
 pub mod WireLists
 pub mod LocalNets

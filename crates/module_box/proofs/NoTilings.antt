@@ -15,14 +15,14 @@ below_sides : (w h i k : ℕ) → in_box (rectangle_of w h) (pos i) (pos k) ≡ 
 unfolding in_box
 below_sides w h i k e = grind (arith, common_steps, and_parts, span_parts)
 
-from_sides : (w h i k : ℕ) → i < w → k < h → in_box (rectangle_of w h) (pos i) (pos k) ≡ true
+pub from_sides : (w h i k : ℕ) → i < w → k < h → in_box (rectangle_of w h) (pos i) (pos k) ≡ true
 unfolding in_box
 from_sides w h i k p q = grind (arith, common_steps, and_from, span_from)
 
-corner_column : (w n : ℕ) → 2 ≤ w → w % 2 ≡ 0 → 2 * (n % (w / 2)) < w
+pub corner_column : (w n : ℕ) → 2 ≤ w → w % 2 ≡ 0 → 2 * (n % (w / 2)) < w
 corner_column w n a e = grind (arith, common_steps)
 
-corner_row : (w h n : ℕ) → n < (h / 2) * (w / 2) → 2 * (n / (w / 2)) < h
+pub corner_row : (w h n : ℕ) → n < (h / 2) * (w / 2) → 2 * (n / (w / 2)) < h
 corner_row w h n b = let d = div_small (h / 2) (w / 2) n b in omega (arith, d)
 
 pub no_tiling : FaultMeansNoTiling

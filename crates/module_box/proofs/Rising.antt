@@ -139,3 +139,12 @@ pushed [] x zero a e = inr (refl, cc)
 pushed [] x (suc i) a e = inl e
 pushed (y ∷ xs) x zero a e = inl e
 pushed (y ∷ xs) x (suc i) a e = grind (arith, common_steps, pushed xs x i a e)
+
+pub kept : {A : Type 0} (xs ys : List A) (i : ℕ) (a : A) → slice_get xs i ≡ Some a → slice_get (xs ++ ys) i ≡ Some a
+kept [] ys i a e = absurd cc
+kept (x ∷ xs) ys zero a e = e
+kept (x ∷ xs) ys (suc i) a e = kept xs ys i a e
+
+pub at_end : {A : Type 0} (xs : List A) (x : A) → slice_get (xs ++ x ∷ []) (length xs) ≡ Some x
+at_end [] x = refl
+at_end (y ∷ xs) x = at_end xs x

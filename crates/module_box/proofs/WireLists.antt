@@ -9,6 +9,7 @@ use Rattle.lemmas.proofs.Common.{Contains, drop_more, false_from_ne_true, list_a
 use Rattle.lemmas.proofs.Common.{eq_itself, eq_sym}
 use Rattle.std.proofs.lemmas.List.Quantifiers.{position-Some}
 use Rattle.std.proofs.lemmas.Map.Views.{Contains-from_any}
+use Rattle.module_box.proofs.Rising.{kept}
 
 -- the wire that stands at the place that a look-up finds
 pub place_same : (ws : List ℕ) (w i : ℕ) → Some i ≡ position (λ v. v == w) ws → get_or ws i 0 ≡ w
@@ -27,12 +28,7 @@ place_among (v ∷ ws) w = grind (arith, common_steps, place_among ws w)
 
 -- the wires at the front of different ones are different
 pub different_front : (xs ys : List ℕ) → AreDistinct (xs ++ ys) → AreDistinct xs
-different_front xs ys different i j w at there = different i j w (longer xs ys i w at) (longer xs ys j w there)
-  where
-    longer : (xs ys : List ℕ) (i w : ℕ) → slice_get xs i ≡ Some w → slice_get (xs ++ ys) i ≡ Some w
-    longer [] ys i w at = absurd cc
-    longer (x ∷ xs) ys zero w at = at
-    longer (x ∷ xs) ys (suc i) w at = longer xs ys i w at
+different_front xs ys different i j w at there = different i j w (kept xs ys i w at) (kept xs ys j w there)
 
 among : (ws : List ℕ) (w : ℕ) → list_any (nat_eq w) ws ≡ is_among ws w
 among [] w = refl

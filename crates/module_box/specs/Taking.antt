@@ -1,7 +1,6 @@
 -- A table of the blocks of a rectangle, row by row, in which boxes take the places of their blocks
-use Rattle.std.specs.Prelude.{◌≡◌, ℕ, ◌+◌, ◌*◌, ◌<◌, ◌≤◌, List, length, slice_index, IsTrue}
-use Rattle.bbm_rule.specs.Boxes.{in_box}
-use Rattle.module_box.specs.Tiling.{block_corner_x, block_corner_y}
+use Rattle.std.specs.Prelude.{◌≡◌, ℕ, ◌+◌, ◌*◌, ◌<◌, ◌≤◌, List, length, slice_index}
+use Rattle.module_box.specs.Tiling.{HasBlockAtPlace}
 use Rattle.bbm_rule.specs.declared.block.Box2.{Box2}
 
 -- the places from `from` to before `stop` were free and have the number now, the others are as before; a `stop` before
@@ -14,10 +13,6 @@ pub record TakesRow (free number from end stop : ℕ) (old new : List ℕ) : Typ
   pub before : (k : ℕ) → k < from → slice_index new k ≡ slice_index old k
   pub after : (k : ℕ) → stop ≤ k → slice_index new k ≡ slice_index old k
   pub ends : stop < end → ¬ (slice_index old stop ≡ free)
-
--- the block at a place, by blocks counted row by row, lies in the box
-abbrev pub HasBlockAtPlace : Box2 → ℕ → ℕ → Type 0
-HasBlockAtPlace b columns k = IsTrue (in_box b (block_corner_x columns k) (block_corner_y columns k))
 
 -- before `stop`, the places of the box's blocks were free and have the number now, and the others are as before; a
 -- `stop` before the end of the table is the place of a block of the box and is not free

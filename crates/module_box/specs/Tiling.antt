@@ -1,5 +1,7 @@
 -- Boxes that tile a rectangle, by its blocks of two by two cells
-use Rattle.std.specs.Prelude.{◌≡◌, ℕ, ℤ, pos, ◌<◌, ◌≤◌, ◌+◌, ◌*◌, ◌/◌, ◌%◌, List, length, Some, slice_get, slice_index}
+use Rattle.std.specs.Prelude.{◌≡◌, ℕ, ℤ, pos, ◌<◌, ◌≤◌, ◌+◌, ◌*◌, ◌/◌, ◌%◌, List, [], ◌∷◌, ◌++◌, length, None, Option}
+use Rattle.std.specs.Prelude.{Some}
+use Rattle.std.specs.Prelude.{slice_get, slice_index}
 use Rattle.std.specs.Prelude.{IsTrue}
 use Rattle.std.specs.Int.RustNames.{unsigned_abs}
 use Rattle.bbm_rule.specs.Boxes.{in_box, IsEven, Tile}
@@ -106,3 +108,60 @@ pub record AreOwners (o : OwnersView) (boxes : List Box2) : Type 0 where
   pub tile : Tile (rectangle o) boxes
   pub named : (x y : ℤ) → IsTrue (in_box (rectangle o) x y) →
       (b : Box2) × (slice_get boxes (owner_of o x y) ≡ Some b) × IsTrue (in_box b x y)
+
+-- the block at a place, by blocks counted row by row, lies in the box
+abbrev pub HasBlockAtPlace : Box2 → ℕ → ℕ → Type 0
+HasBlockAtPlace b columns k = IsTrue (in_box b (block_corner_x columns k) (block_corner_y columns k))
+
+-- box i has the block at a place
+abbrev pub HoldsBlock : List Box2 → ℕ → ℕ → ℕ → Type 0
+HoldsBlock boxes columns k i = Holds boxes (block_corner_x columns k) (block_corner_y columns k) i
+
+-- the number at each place of the table is that of the one box that has the block there, or `free` if none has it
+pub record AreTakenBy (columns free : ℕ) (boxes : List Box2) (table : List ℕ) : Type 0 where
+  pub few : length boxes ≤ free
+  pub owned : (k i : ℕ) → k < length table → HoldsBlock boxes columns k i → slice_index table k ≡ i
+  pub named : (k : ℕ) → k < length table → ¬ (slice_index table k ≡ free) →
+      HoldsBlock boxes columns k (slice_index table k)
+
+-- the boxes are even and inside the rectangle
+abbrev pub AreEvenInside : OwnersView → List Box2 → Type 0
+AreEvenInside o boxes = (i : ℕ) (b : Box2) → slice_get boxes i ≡ Some b → IsEven b × IsInside o.width o.height b
+
+-- the number at the blocks that no box has so far; each box has a lower one
+abbrev pub no_owner : ℕ
+no_owner = 65536
+
+-- The boxes so far are even and inside the rectangle, and no two have a block in common. The number for each block is
+-- that of the box that has it, or `no_owner` if none has it.
+pub record ArePartOwners (o : OwnersView) (boxes : List Box2) : Type 0 where
+  pub table : IsOwnersTable o
+  pub each : AreEvenInside o boxes
+  pub taken : AreTakenBy (o.width / 2) no_owner boxes o.numbers
+
+-- no box so far has a block of this box
+abbrev pub IsFreeBox : OwnersView → Box2 → Type 0
+IsFreeBox o b = (k : ℕ) → k < length o.numbers → HasBlockAtPlace b (o.width / 2) k →
+    slice_index o.numbers k ≡ no_owner
+
+-- the box may be added: it is even, inside the rectangle and free
+pub record MayPut (o : OwnersView) (b : Box2) : Type 0 where
+  pub even : IsEven b
+  pub inside : IsInside o.width o.height b
+  pub free : IsFreeBox o b
+
+-- the boxes so far have each block of the rectangle
+abbrev pub AreAllTaken : OwnersView → Type 0
+AreAllTaken o = (k : ℕ) → k < length o.numbers → ¬ (slice_index o.numbers k ≡ no_owner)
+
+-- the box of this number has the cell, or none has it
+abbrev pub IsOwnerOrNone : List Box2 → ℤ → ℤ → Option ℕ → Type 0
+IsOwnerOrNone boxes x y None = (i : ℕ) → ¬ Holds boxes x y i
+IsOwnerOrNone boxes x y (Some i) = Holds boxes x y i
+
+-- the table has one more box, with the next number
+pub record PutsBox (b : Box2) (number : ℕ) (old new : OwnersView) : Type 0 where
+  pub width : new.width ≡ old.width
+  pub height : new.height ≡ old.height
+  pub boxes : (boxes : List Box2) → ArePartOwners old boxes → number ≡ length boxes → number < no_owner →
+      ArePartOwners new (boxes ++ b ∷ [])

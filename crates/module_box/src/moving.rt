@@ -19,17 +19,6 @@ pub fn moved_cell(cell: Cell, dx: i32, dy: i32) -> Cell
     }
 }
 
-fn moved_all_times(all_times: AllTimesSignal, dx: i32, dy: i32) -> AllTimesSignal
-    requires cell { IsInShiftRange all_times.cell }
-    requires small_shift { IsSmallShift dx × IsSmallShift dy }
-    ensures { result ≡ moved_all_times dx dy all_times }
-{
-    AllTimesSignal {
-        cell: moved_cell(all_times.cell, dx, dy),
-        signal: all_times.signal,
-    }
-}
-
 /// Returns the event at the cell that lies `dx` columns and `dy` rows further. All these numbers are from -1024 to
 /// 1023.
 pub fn moved_event(event: TimedSignal, dx: i32, dy: i32) -> TimedSignal
@@ -53,7 +42,7 @@ fn move_all_times(all_times: &mut Vec<AllTimesSignal>, dx: i32, dy: i32)
     ensures { all_times.new.items ≡ map (moved_all_times dx dy) all_times.old.items }
 {
     for signal in all_times.iter_mut() {
-        *signal = moved_all_times(*signal, dx, dy);
+        signal.cell = moved_cell(signal.cell, dx, dy);
     }
 }
 
@@ -64,7 +53,7 @@ fn move_events(events: &mut Vec<TimedSignal>, dx: i32, dy: i32)
     ensures { events.new.items ≡ map (moved_event dx dy) events.old.items }
 {
     for event in events.iter_mut() {
-        *event = moved_event(*event, dx, dy);
+        event.at.cell = moved_cell(event.at.cell, dx, dy);
     }
 }
 

@@ -152,6 +152,16 @@ impl Schedule {
         &self.events
     }
 
+    /// Shows that the signals at all times rise strictly, and the events. It does nothing.
+    #[inline(always)]
+    pub fn prove_rising(&self)
+        ensures cells { IsRising cell_cmp cell_of self.now.all_times }
+        ensures moments { IsRising moment_cmp moment_of self.now.events }
+    {
+        self.all_times();
+        self.events();
+    }
+
     /// Returns the signal of the cell at time `t`. It takes no memory.
     ///
     /// It is the cell's signal at all times, else its event at `t`, else [`Signal::Zero`].

@@ -1,8 +1,9 @@
 //! A table with a place for each block of a rectangle, row by row, which boxes take one after the other.
 
-ghost use Rattle.std.specs.Prelude.{◌≤◌, length};
+ghost use Rattle.std.specs.Prelude.{◌≡◌, ◌≤◌, ◌<◌, ◌+◌, ◌*◌, ◌/◌, ◌↔◌, ℕ, IsTrue, length, slice_index};
 ghost use Rattle.bbm_rule.specs.Boxes.{IsEven};
-ghost use Rattle.module_box.specs.Taking.{TakesRow, TakesBox, FitsTable};
+ghost use Rattle.module_box.specs.Taking.{FitsTable, TakesBox, TakesRow};
+ghost use Rattle.module_box.specs.Tiling.{HasBlockAtPlace};
 
 use bbm_rule::Box2;
 
@@ -29,6 +30,7 @@ fn fill_row_until_taken(
 /// Puts the number at the places of the box's blocks, up to the first that is not free.
 ///
 /// It returns that place, or the table's length. It takes a step for each place that was free, and one.
+#[tactic(auto, using(crate::proofs::Takings::among_from, crate::proofs::Takings::in_row, crate::proofs::Takings::row_from, crate::proofs::Takings::row_of))]
 pub fn fill_box_until_taken(
     table: &mut [usize],
     columns: usize,
@@ -53,6 +55,59 @@ pub fn fill_box_until_taken(
         let stop = fill_row_until_taken(table, from, end, free, number);
         if stop < end {
             return stop;
+        }
+    }
+    table.len()
+}
+
+// Whether the places from `from` on, before `end`, are free.
+fn is_row_free(table: &[usize], from: usize, end: usize, free: usize) -> bool
+    requires { (from ≤ end) × (end ≤ length table.now) }
+    ensures { IsTrue result ↔ ((k : ℕ) → from ≤ k → k < end → slice_index table.now k ≡ free) }
+{
+    'places: for index in from..end {
+        if table[index] != free {
+            return false;
+        }
+    }
+    true
+}
+
+/// Returns whether the places of the box's blocks are free.
+#[tactic(auto, using(crate::proofs::Takings::among_from, crate::proofs::Takings::block_from, crate::proofs::Takings::in_row, crate::proofs::Takings::row_from, crate::proofs::Takings::row_of))]
+pub fn is_box_free(table: &[usize], columns: usize, area: Box2, free: usize) -> bool
+    requires even { IsEven area }
+    requires fits { FitsTable columns area }
+    requires within { (area.y / 2 + area.h / 2) * columns ≤ length table.now }
+    ensures { IsTrue result ↔ ((k : ℕ) → HasBlockAtPlace area columns k →
+        slice_index table.now k ≡ free) }
+{
+    let left = area.x as usize / 2;
+    let top = area.y as usize / 2;
+    let across = area.w as usize / 2;
+    let down = area.h as usize / 2;
+    'rows: for row in top..top + down {
+        let from = row * columns + left;
+        if !is_row_free(table, from, from + across, free) {
+            return false;
+        }
+    }
+    true
+}
+
+/// Returns the first place of the table that is free, or its length.
+pub fn first_free_place(table: &[usize], free: usize) -> usize
+    ensures bound { result ≤ length table.now }
+    ensures earlier_places_taken { (k : ℕ) → k < result → ¬ (slice_index table.now k ≡ free) }
+    ensures found_place_free { result < length table.now → slice_index table.now result ≡ free }
+{
+    // Most tables have no free place, and this search tests several places at once.
+    if !table.iter().any(|number| *number == free) {
+        return table.len();
+    }
+    'places: for place in 0..table.len() {
+        if table[place] == free {
+            return place;
         }
     }
     table.len()

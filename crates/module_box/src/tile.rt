@@ -1,12 +1,12 @@
 //! The table of which box has each block of a rectangle.
 
-ghost use Rattle.std.specs.Prelude.{◌≡◌, ◌<◌, ◌≤◌, ◌+◌, ◌↔◌, ◌*◌, ℕ, IsTrue, MatchResult, Some, slice_get, slice_index, length};
+ghost use Rattle.std.specs.Prelude.{◌≡◌, ◌<◌, ◌≤◌, ◌+◌, ◌↔◌, ◌*◌, IsTrue, MatchResult, Some, slice_get, length};
 ghost use Rattle.bbm_rule.specs.declared.block.Box2.{Box2};
 ghost use Rattle.module_box.specs.declared.tile.TileFault.TheVariants.{Memory};
 ghost use Rattle.module_box.specs.Tiling.{AreOwners, AreFirstBoxesInside, MayHaveOwnerTable, IsTileFault, IsInside, block_corner_x, block_corner_y};
 
 use crate::owners::Owners;
-use crate::taking::fill_box_until_taken;
+use crate::taking::{fill_box_until_taken, first_free_place};
 use bbm_rule::{Box2, Cell};
 use std::alloc::{AllocError, Global};
 
@@ -56,24 +56,6 @@ fn first_box_outside(width: u32, height: u32, boxes: &[Box2]) -> usize
         }
     }
     boxes.len()
-}
-
-// the first place of the table that is free, or its length.
-fn first_free_place(table: &[usize], free: usize) -> usize
-    ensures bound { result ≤ length table.now }
-    ensures earlier_places_taken { (k : ℕ) → k < result → ¬ (slice_index table.now k ≡ free) }
-    ensures found_place_free { result < length table.now → slice_index table.now result ≡ free }
-{
-    // Most tables have no free place, and this search tests several places at once.
-    if !table.iter().any(|number| *number == free) {
-        return table.len();
-    }
-    'places: for place in 0..table.len() {
-        if table[place] == free {
-            return place;
-        }
-    }
-    table.len()
 }
 
 // the upper left cell of the block at a place.

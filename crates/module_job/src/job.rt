@@ -107,6 +107,14 @@ impl Job {
         }
     }
 
+    /// Shows what holds of each job. It does nothing.
+    #[inline(always)]
+    pub fn prove_valid(&self)
+        ensures { IsJob self.now }
+    {
+        let _ = &self.shape;
+    }
+
     /// Returns the steps of the layout, at most 65,536.
     pub fn steps(&self) -> u32
         ensures { result ≡ self.now.steps }

@@ -93,8 +93,7 @@ impl Draft {
         ensures fault { IfErr result (λ e. HasRefusalCode e
             (cell_fault self.old.size (parts_of self.old) part)) }
     {
-        // A side is at most 512.
-        let _size = self.layout.size();
+        self.layout.prove_valid();
         if let Some(code) = self.cell_code(&part) {
             return Err(LineFault::Code(code));
         }

@@ -110,6 +110,15 @@ impl Layout {
         self.size
     }
 
+    /// Shows what holds of each layout. It does nothing.
+    #[inline(always)]
+    pub fn prove_valid(&self)
+        ensures limits { size_fault self.now.size ≡ None }
+        ensures parts_good { AreGoodAfter self.now.size [] (parts_of self.now) }
+    {
+        let _ = &self.mirrors;
+    }
+
     /// Returns the mirrors, in the order of their lines.
     pub fn mirrors(&self) -> &[Box2]
         ensures { result.now ≡ self.now.mirrors }

@@ -203,6 +203,14 @@ impl Feed {
         &self.bytes[..self.at]
     }
 
+    /// Returns the text behind the lines that were taken.
+    pub fn untaken_text(&self) -> &[u8]
+        ensures { flat_map with_line_feed (take self.now.taken (lines_of self.now.text))
+            ++ result.now ≡ self.now.text }
+    {
+        &self.bytes[self.at..]
+    }
+
     /// Returns the bytes of a line, without its line feed.
     pub fn line(&self, line: &Line) -> &[u8]
         requires { IsLine self.now line.now }

@@ -11,7 +11,7 @@ use Rattle.soundness.proofs.Imports.{◌∙◌, ◌∷◌, ◌≡◌, ◌≢◌,
 use Rattle.lemmas.proofs.Common.{Contains-append_cases, Contains-append_right, nothing_in, one_in}
 use Rattle.bbm_rule.specs.CellOrder.{cell_cmp}
 use Rattle.soundness.specs.FirstFaults.{EarliestLineIsFirstFault, EarliestLineIsReal}
-use Rattle.core_book.specs.declared.verdict.ReportLine.TheVariants.{Local, Keep, Border, Delay, Meet}
+use Rattle.core_book.specs.declared.verdict.ReportLine.TheVariants.{Local, Keep, Border}
 use Rattle.soundness.proofs.FirstFaults.{assigned, first_means}
 use Rattle.soundness.proofs.PlainCertificates.{greater, nat_greater}
 use Rattle.certificate.specs.declared.times.TimeLine.TheVariants as times
@@ -131,10 +131,7 @@ not_timing i f (times.Meet k at) e = cc
 -- ---- times
 
 no_later : (f g : Fault) → fault_cmp f g ≢ Greater → f.time ≤ g.time
-no_later f g least = by_lt (λ lt. least (greater f g lt))
-  where
-    by_lt : (g.time < f.time → ⊥) → f.time ≤ g.time
-    by_lt never = grind (arith, never)
+no_later f g least = grind (arith, common_steps, greater)
 
 border_greater : (f g : BorderFault) → g.time < f.time → border_cmp f g ≡ Greater
 unfolding border_cmp
@@ -154,10 +151,7 @@ module _ (g : Setting) (ms : List ModuleLines) (jobs : List JobView) (report : L
   same_count = are.are_least.count ∙ count ∙ sym are.are_border_faults.count
 
   has_line : (l : ReportLine) → Contains (report_lines_from 0 are.faults are.borders) l → Contains report l
-  has_line l h =
-      subst (λ ls. Contains ls l) (sym are.lines_are)
-      (Contains-append_left (report_lines_from 0 are.faults are.borders ++ unkept_lines g ms) _ l
-      (Contains-append_left (report_lines_from 0 are.faults are.borders) (unkept_lines g ms) l h))
+  has_line l h = grind (arith, common_steps)
 
   local_is : (i : ℕ) (f : Fault) → Contains report (Local i f) → IsFrom 0 i f are.faults
   local_is i f h =

@@ -1,13 +1,13 @@
 -- The first fault is one of the whole plane
-use Rattle.soundness.proofs.Imports.{All, All-cons, All-contains, All-nil, BelongTogether, Bool, Box2, Cell, Circuit}
+use Rattle.soundness.proofs.Imports.{All, All-cons, All-contains, All-nil, BelongTogether, Bool, Cell, Circuit}
 use Rattle.soundness.proofs.Imports.{CircuitLine, Contains, Demand, Fault, IsModuleAssignmentOf, HasGoodBorders}
 use Rattle.soundness.proofs.Imports.{HasInputNames, IsAsCertified, IsAssignmentOf, IsCorrect, IsFaultUnder}
 use Rattle.soundness.proofs.Imports.{IsFirstFault, IsJobOf, IsModule, IsRunOfJobs, IsStop, JobView, Kind, List}
 use Rattle.soundness.proofs.Imports.{LocalNet, LooksAsAsked, MeetsDemand, ModuleLines, None, Option, Pattern, Port}
-use Rattle.soundness.proofs.Imports.{Satisfies, Some, State, StopLine, Valuation, [], and_parts, ap, ap₂, arith, bit}
+use Rattle.soundness.proofs.Imports.{Satisfies, Some, State, StopLine, Valuation, [], ap, ap₂, arith, bit}
 use Rattle.soundness.proofs.Imports.{cases_Bool, cell_same, circuit_of, circuit_wire, common_steps, cut_wires, cuts}
 use Rattle.soundness.proofs.Imports.{demand_outside_mirrors, end_demand, false, flat_map, get_or_from_slice_get, in_box}
-use Rattle.soundness.proofs.Imports.{in_cells, in_ports, in_rectangles, in_ring, inl, inr, is_at, job_demand, kept}
+use Rattle.soundness.proofs.Imports.{in_cells, in_ports, in_rectangles, inl, inr, is_at, job_demand, kept}
 use Rattle.soundness.proofs.Imports.{known, length, local_run, local_values_agree, netlist_of, none_stands}
 use Rattle.soundness.proofs.Imports.{nothing_prop, option_map_or, option_to_list, passed, port_at, port_stands, refl}
 use Rattle.soundness.proofs.Imports.{renumber_demand, renumber_stop, run_under, same_Some, setting_of, slice_get}
@@ -25,6 +25,7 @@ use Rattle.soundness.proofs.WholeRuns.{starts, steps_with_good_borders}
 use Rattle.module_job.specs.declared.job.Demand.TheVariants as Demanded
 use Rattle.module_job.specs.declared.job.Stop as listed
 use Rattle.local_run.specs.declared.fault.Kind.TheVariants.{Edge, End, Stop as AtStop}
+use Rattle.local_run.proofs.Silence.{ring_in_box}
 
 -- up to a time before which the borders are good, the plane is the jobs' runs
 pub runs_up_to : (lines : List CircuitLine) (p : Pattern) (ms : List ModuleLines) (jobs : List JobView)
@@ -59,10 +60,6 @@ stop_by_lines c p m j P is h s has =
 
 -- ---- a fault under values of the circuit is one of the plane
 
-pub ring_inside : (b : Box2) (x y : ℤ) → in_ring b x y ≡ true → in_box b x y ≡ true
-unfolding in_ring
-ring_inside b x y h = (and_parts (in_box b x y) _ h).0
-
 meets_own : (l : LocalNet) (v : Valuation) (d : Demand) (live : Bool) →
     MeetsDemand v (renumber_demand (circuit_wire l) d) live → MeetsDemand (values_by_local_number l v) d live
 meets_own l v Demanded.Dead live h = h
@@ -87,7 +84,7 @@ real lines p ms jobs inputs v i m j t Edge x y b atm atj s good f said =
     let k : Known lines p ms i j = record { of = m; numbered = atm; is_job = is; good = b.are_modules.each i m atm } in
     let early : t < p.size.steps = subst (λ n. t < n) is.steps f.early in
     let now = runs_up_to lines p ms jobs inputs v t b s (omega (arith, early)) good in
-    f.differs (sym (now.inside i j atj x y (ring_inside j.area x y f.ring)) ∙ said ∙
+    f.differs (sym (now.inside i j atj x y (ring_in_box j.area x y f.ring)) ∙ said ∙
     sym (edge_by_circuit lines p ms i j v t x y k))
 real lines p ms jobs inputs v i m j t AtStop x y b atm atj s good f said =
     let is : IsJobOf (circuit_of lines) p m j = b.are_jobs.each i m j atm atj in

@@ -1,8 +1,8 @@
 -- The jobs of modules: which one has a cell, and what their signals say by the wires of the circuit
 use Rattle.soundness.proofs.Imports.{All, All-head, All-tail, AllTimesSignal, BelongTogether, Bool, BorderLine, Box2}
 use Rattle.soundness.proofs.Imports.{Cell, Circuit, CircuitLine, Demand, IsEven, IsJobOf, IsModule, JobView, List}
-use Rattle.soundness.proofs.Imports.{LocalNet, MeetsDemand, ModuleLines, None, One, Option, Pattern, Signal, Some}
-use Rattle.soundness.proofs.Imports.{TimedSignal, Valuation, Wire, Zero, [], all_times_at, all_times_of_line, ap, arith}
+use Rattle.soundness.proofs.Imports.{LocalNet, MeetsDemand, ModuleLines, None, Option, Pattern, Signal, Some}
+use Rattle.soundness.proofs.Imports.{TimedSignal, Valuation, Zero, [], all_times_at, all_times_of_line, ap, arith}
 use Rattle.soundness.proofs.Imports.{cases_Bool, cell_same, circuit_of, circuit_wire, common_steps, edge_signal, edges}
 use Rattle.soundness.proofs.Imports.{event_at, events_of_line, false, flat_map, halo_same, halo_signal, halos, in_box}
 use Rattle.soundness.proofs.Imports.{in_ring, is_at, is_live, line_signals, mapped_from, one_or_named_wire, refl}
@@ -120,45 +120,38 @@ no_signal c es t x y all = grind (arith, common_steps, no_all_times, no_event)
 pub other_cell : (c : Cell) (x y : ℤ) → (c ≡ record { x = x; y = y } → ⊥) → is_at c x y ≡ false
 other_cell c x y f = grind (arith, common_steps, cases_Bool, cell_same)
 
--- no edge is on the rim of the rectangle
-pub rim_edge_dead : (lines : List CircuitLine) (p : Pattern) (ms : List ModuleLines) (i : ℕ) (j : JobView)
-    (v : Valuation)
-    (t : ℕ) (x y : ℤ) →
-    Known lines p ms i j → in_ring (whole p.size) x y ≡ true →
-    is_live (values_by_local_number j.locals v) (signal_at j.edges t x y) ≡ false
-rim_edge_dead lines p ms i j v t x y k rim =
-    live_renumbered j.locals v (signal_at j.edges t x y) Zero
-    (edge_same lines p k.of j t x y k.is_job
-    ∙ no_signal (circuit_of lines) (edges k.of) t x y
-    (λ n d lt. other_cell _ x y (λ same.
-    true≢false (sym rim ∙ ap (λ (c : Cell). in_ring (whole p.size) c.x c.y) (sym same)
-    ∙ (k.good.edge_lines n d lt).rim))))
+module _ (lines : List CircuitLine) (p : Pattern) (ms : List ModuleLines) (i : ℕ) (j : JobView) (v : Valuation)
+    (t : ℕ) (x y : ℤ) where
+  -- no edge is on the rim of the rectangle
+  pub rim_edge_dead : Known lines p ms i j → in_ring (whole p.size) x y ≡ true →
+      is_live (values_by_local_number j.locals v) (signal_at j.edges t x y) ≡ false
+  rim_edge_dead k rim =
+      live_renumbered j.locals v (signal_at j.edges t x y) Zero
+      (edge_same lines p k.of j t x y k.is_job
+      ∙ no_signal (circuit_of lines) (edges k.of) t x y
+      (λ n d lt. other_cell _ x y (λ same.
+      true≢false (sym rim ∙ ap (λ (c : Cell). in_ring (whole p.size) c.x c.y) (sym same)
+      ∙ (k.good.edge_lines n d lt).rim))))
 
--- no halo line is outside the rectangle
-pub outer_halo_dead : (lines : List CircuitLine) (p : Pattern) (ms : List ModuleLines) (i : ℕ) (j : JobView)
-    (v : Valuation)
-    (t : ℕ) (x y : ℤ) →
-    Known lines p ms i j → in_box (whole p.size) x y ≡ false →
-    is_live (values_by_local_number j.locals v) (signal_at j.halos t x y) ≡ false
-outer_halo_dead lines p ms i j v t x y k out =
-    live_renumbered j.locals v (signal_at j.halos t x y) Zero
-    (halo_same lines p k.of j t x y k.is_job
-    ∙ no_signal (circuit_of lines) (halos k.of) t x y
-    (λ n d lt. other_cell _ x y (λ same.
-    true≢false (sym (k.good.halo_lines n d lt).inside ∙ ap (λ (c : Cell). in_box (whole p.size) c.x c.y) same ∙ out))))
+  -- no halo line is outside the rectangle
+  pub outer_halo_dead : Known lines p ms i j → in_box (whole p.size) x y ≡ false →
+      is_live (values_by_local_number j.locals v) (signal_at j.halos t x y) ≡ false
+  outer_halo_dead k out =
+      live_renumbered j.locals v (signal_at j.halos t x y) Zero
+      (halo_same lines p k.of j t x y k.is_job
+      ∙ no_signal (circuit_of lines) (halos k.of) t x y
+      (λ n d lt. other_cell _ x y (λ same.
+      true≢false (sym (k.good.halo_lines n d lt).inside ∙ ap (λ (c : Cell). in_box (whole p.size) c.x c.y) same
+      ∙ out))))
 
-pub edge_by_circuit : (lines : List CircuitLine) (p : Pattern) (ms : List ModuleLines) (i : ℕ) (j : JobView)
-    (v : Valuation)
-    (t : ℕ) (x y : ℤ) → (k : Known lines p ms i j) →
-    is_live (values_by_local_number j.locals v) (signal_at j.edges t x y)
-    ≡ is_live v (edge_signal (circuit_of lines) k.of t x y)
-edge_by_circuit lines p ms i j v t x y k =
-    live_renumbered j.locals v (signal_at j.edges t x y) _ (edge_same lines p k.of j t x y k.is_job)
+  pub edge_by_circuit : (k : Known lines p ms i j) →
+      is_live (values_by_local_number j.locals v) (signal_at j.edges t x y)
+      ≡ is_live v (edge_signal (circuit_of lines) k.of t x y)
+  edge_by_circuit k =
+      live_renumbered j.locals v (signal_at j.edges t x y) _ (edge_same lines p k.of j t x y k.is_job)
 
-pub halo_by_circuit : (lines : List CircuitLine) (p : Pattern) (ms : List ModuleLines) (i : ℕ) (j : JobView)
-    (v : Valuation)
-    (t : ℕ) (x y : ℤ) → (k : Known lines p ms i j) →
-    is_live (values_by_local_number j.locals v) (signal_at j.halos t x y)
-    ≡ is_live v (halo_signal (circuit_of lines) k.of t x y)
-halo_by_circuit lines p ms i j v t x y k =
-    live_renumbered j.locals v (signal_at j.halos t x y) _ (halo_same lines p k.of j t x y k.is_job)
+  pub halo_by_circuit : (k : Known lines p ms i j) →
+      is_live (values_by_local_number j.locals v) (signal_at j.halos t x y)
+      ≡ is_live v (halo_signal (circuit_of lines) k.of t x y)
+  halo_by_circuit k =
+      live_renumbered j.locals v (signal_at j.halos t x y) _ (halo_same lines p k.of j t x y k.is_job)

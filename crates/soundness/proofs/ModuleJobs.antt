@@ -1,10 +1,11 @@
 -- A module has one job
+use Rattle.lemmas.proofs.Common.{common_steps}
 use Rattle.soundness.proofs.Imports.{All, All-head, All-tail, AllTimesSignal, AreDistinct, AreLocalsOf, AreOrdered}
-use Rattle.soundness.proofs.Imports.{Box2, Circuit, Cswap, Delay, Demand, Fredkin, Gate, GateKind, Interact}
+use Rattle.soundness.proofs.Imports.{Box2, Circuit, Demand, Gate, GateKind}
 use Rattle.soundness.proofs.Imports.{IsDemandWireBelow, IsJobOf, IsSignalWireBelow, IsTrue, JobView, List, LocalNet}
-use Rattle.soundness.proofs.Imports.{ModuleLines, Netlist, One, Pattern, Signal, Signals, Some, Source, Switch}
-use Rattle.soundness.proofs.Imports.{TimedSignal, Uninteract, Unswitch, Wire, Zero, [], ap, ap₂, arith, cases_Bool}
-use Rattle.soundness.proofs.Imports.{cases_lt, circuit_gate, circuit_wire, defines, in_box, inl, inr, job_demand}
+use Rattle.soundness.proofs.Imports.{ModuleLines, Netlist, One, Pattern, Signal, Signals, Some, Source}
+use Rattle.soundness.proofs.Imports.{TimedSignal, Wire, Zero, [], ap, ap₂, arith, cases_Bool}
+use Rattle.soundness.proofs.Imports.{circuit_gate, circuit_wire, defines, in_box, inl, inr, job_demand}
 use Rattle.soundness.proofs.Imports.{job_start, known, length, map, place_in, range_with_len, refl, renumber_all_times}
 use Rattle.soundness.proofs.Imports.{renumber_demand, renumber_event, renumber_signal, renumber_signals, renumber_stop}
 use Rattle.soundness.proofs.Imports.{same_Some, slice_get, slice_get-get_or, slice_index, subst, suc, sym, true}
@@ -265,13 +266,7 @@ module _ (c : Circuit) (p : Pattern) (m : ModuleLines) (j k : JobView) (differen
 
   one_gate : (x y : ℕ) → x < length j.locals.netlist.gates → y < length j.locals.netlist.gates →
       circuit_gate j.locals x ≡ circuit_gate j.locals y → x ≡ y
-  one_gate x y lx ly e = elim (cases_lt x y) [
-    | inl less ↦ (let rises = of_j.locals.rising x y less ly in absurd (omega (arith, rises, e)))
-    | inr large ↦ elim (cases_lt y x) [
-      | inl less ↦ (let rises = of_j.locals.rising y x less lx in absurd (omega (arith, rises, e)))
-      | inr same ↦ omega arith
-    ]
-  ]
+  one_gate x y lx ly e = grind (arith, common_steps)
 
   same_kept : j.kept ≡ k.kept
   same_kept = map_back (circuit_gate j.locals)

@@ -1,7 +1,7 @@
 -- The wires that signals name, by their places in a list of wires
 use Rattle.soundness.proofs.Imports.{AllTimesSignal, Bool, BorderLine, Circuit, Each, IfSome, IsSignalWireBelow, IsTrue}
 use Rattle.soundness.proofs.Imports.{List, None, One, Option, Signal, Signals, Some, TimedSignal, Wire, Zero, []}
-use Rattle.soundness.proofs.Imports.{all_times_of_line, ap, ap₂, arith, common_steps, events_of_line, false, false≢true}
+use Rattle.soundness.proofs.Imports.{all_times_of_line, ap, arith, common_steps, events_of_line, false, false≢true}
 use Rattle.soundness.proofs.Imports.{if◌then◌else◌, is_among, is_local, is_local_wire, length, line_signals, map}
 use Rattle.soundness.proofs.Imports.{nat_tests, one_or_named_wire, refl, renumber_all_times, renumber_event}
 use Rattle.soundness.proofs.Imports.{renumber_signal, slice_index, suc, true, wire_of, wire_or_zero, ℕ, ◌++◌, ◌<◌, ◌==◌}
@@ -79,18 +79,8 @@ module _ (c : Circuit) (ws : List ℕ) where
       IsNumbered ws s →
       IsBack hs es → IsBack (all_times_of_line e time s ++ hs) (events_of_line e time s ++ es)
   unfolding numbered_all_times numbered_event Each
-  back_from e None s hs es is more = record {
-    all_times = ap₂ (λ a l. record { cell = e.cell; signal = a } ∷ l) is.back more.all_times;
-    events = more.events;
-    all_times_below = (is.below, more.all_times_below);
-    events_below = more.events_below;
-  }
-  back_from e (Some t) s hs es is more = record {
-    all_times = more.all_times;
-    events = ap₂ (λ a l. record { at = record { time = t; cell = e.cell }; signal = a } ∷ l) is.back more.events;
-    all_times_below = more.all_times_below;
-    events_below = (is.below, more.events_below);
-  }
+  back_from e None s hs es is more = grind (arith, common_steps)
+  back_from e (Some t) s hs es is more = grind (arith, common_steps)
 
   pub lines_back : (es : List BorderLine) → Each IsNamed es →
       IsBack (line_signals c es).all_times (line_signals c es).events

@@ -11,7 +11,7 @@ use Rattle.soundness.proofs.Imports.{Some, StopGap, StopHolds, StopLine, TimeLin
 use Rattle.soundness.proofs.Imports.{and_from, ap, append-nil, ap₂, are_all_obeyed, arith, assignments, bit}
 use Rattle.soundness.proofs.Imports.{border_line, cases_Bool, circuit_gate, circuit_of, common_steps, cut_wires, cuts}
 use Rattle.soundness.proofs.Imports.{defines, delay_and_meet_lines, edge_signal, eq-eqb, eqb, eqb-true, false}
-use Rattle.soundness.proofs.Imports.{false≢true, fault_cmp, halo_parts, has_valuation, if◌then◌else◌, in_box, in_ring}
+use Rattle.soundness.proofs.Imports.{false≢true, fault_cmp, halo_parts, has_valuation, if◌then◌else◌, in_ring}
 use Rattle.soundness.proofs.Imports.{inl, inr, is_among, is_inverse, is_live, keep_line, keeps, kept, known, length}
 use Rattle.soundness.proofs.Imports.{line_signals, list_all, local_line, local_run, local_values_agree, map, netlist_of}
 use Rattle.soundness.proofs.Imports.{not, nothing_prop, only_inverse, option_map, option_map_or, option_to_list}
@@ -24,7 +24,6 @@ use Rattle.soundness.proofs.Imports.{◌≢◌, ◌≤◌}
 use Rattle.lemmas.proofs.Common.{nat_cmp}
 use Rattle.circuit.specs.Gates.{uses}
 use Rattle.certificate.specs.Arrivals.{AreOnTime, IsFirstTime, IsLastTime, TakesSteps, IsTimeLineTrue, IsDelayGapTrue}
-use Rattle.certificate.specs.Arrivals.{IsMeetingTimeTrue}
 use Rattle.certificate.specs.Times.{is_obeyed}
 use Rattle.certificate.specs.declared.times.StopGap.TheVariants.{Steps, NoStop, Before}
 use Rattle.certificate.proofs.ArrivalLemmas.{lines_tell}
@@ -34,7 +33,7 @@ use Rattle.soundness.specs.PlainCertificates.{TouchesRim, UntimedIsOnTime, IsLiv
 use Rattle.soundness.specs.PlainCertificates.{DelayLineMeans, MeetLineMeans, PlainReportLinesHaveMeaning}
 use Rattle.soundness.specs.PlainCertificates.{LocalLineMeans}
 use Rattle.soundness.proofs.KeptGates.{PlaceOf, place_of}
-use Rattle.soundness.proofs.FirstFaults.{correct_meets, real, ring_inside, runs_up_to, seen_fault, stop_by_lines}
+use Rattle.soundness.proofs.FirstFaults.{correct_meets, real, runs_up_to, seen_fault, stop_by_lines}
 use Rattle.soundness.proofs.FirstFaults.{IsPlacedWire, assigned, first_means, placed_wire}
 use Rattle.soundness.proofs.InputRuns.{at_place, inputs_decide}
 use Rattle.soundness.proofs.JobSignals.{Known, edge_by_circuit, no_signal}
@@ -44,6 +43,7 @@ use Rattle.module_job.specs.declared.job.Stop as listed
 use Rattle.local_run.specs.declared.fault.Kind.TheVariants.{Edge, End, Stop as AtStop}
 use Rattle.certificate.specs.Keeps as keeping
 use Rattle.core_book.specs.declared.verdict.ReportLine.TheVariants as line
+use Rattle.local_run.proofs.Silence.{ring_in_box}
 
 pub nat_greater : (a b : ℕ) → b < a → nat_cmp a b ≡ Greater
 nat_greater a b lt = grind arith
@@ -128,9 +128,6 @@ kept_gap : (c : Circuit) (ss : List StopLine) (k n a b : ℕ) (gap : StopGap) �
 kept_gap c ss k n a b (Steps m) takes tells = eq-eqb m n (same_steps c ss m n a b tells takes)
 kept_gap c ss k n a b NoStop takes tells = absurd (tells takes.leaves (takes.leaves + n) takes.last takes.first)
 kept_gap c ss k n a b Before takes tells = absurd (not_before c ss n a b tells.0 tells.1 takes tells.2 tells.3 tells.4)
-
-same_gate : (o : Option Gate) (g h : Gate) → o ≡ Some g → g ≡ h → o ≡ Some h
-same_gate o g h e same = e ∙ ap Some same
 
 kept_line : (lines : List CircuitLine) (ss : List StopLine) (l : TimeLine) → AreOrdered (netlist_of lines).given
     (netlist_of lines).gates → AreOnTime (circuit_of lines) ss →
@@ -298,7 +295,7 @@ module _ (lines : List CircuitLine) (p : Pattern) (m : ModuleLines) (jobs : List
       record { of = m; numbered = refl; is_job = it.is; good = b.are_modules.each 0 m refl } in
       let said : is_live (values_by_local_number j.locals v) (signal_at j.edges t x y) ≡ false =
       edge_by_circuit lines p (m ∷ []) 0 j v t x y k ∙ ap (is_live v) (no_edge_signal t x y) in
-      let same = now.inside n j it.at x y (ring_inside j.area x y f.ring) in
+      let same = now.inside n j it.at x y (ring_in_box j.area x y f.ring) in
       record {
         odd = f.odd;
         early = subst (λ n. t < n) it.is.steps f.early;
@@ -313,11 +310,7 @@ module _ (lines : List CircuitLine) (p : Pattern) (m : ModuleLines) (jobs : List
   touches inputs t x y touch = record { inputs = inputs; time = t; x = x; y = y; touch = touch }
 
   no_border : (n : ℕ) (f : BorderFault) → ¬ IsBorderFault (setting_of lines p) (m ∷ []) n f
-  no_border n f fault =
-      let box : fault.lines.area ≡ whole p.size = ap (λ (k : ModuleLines). k.area)
-      (sym (only_module m fault.lines n fault.numbered)) ∙ plain.box in
-      true≢false (sym fault.inside ∙ ap (λ a. in_box a f.cell.x f.cell.y) (sym box) ∙
-      (halo_parts fault.lines.area f.cell.x f.cell.y fault.halo).0)
+  no_border n f fault = grind (arith, common_steps, only_module, halo_parts)
 
   edge_of : (j : JobView) (u : Valuation) (t : ℕ) (kind : Kind) (x y : ℤ) → kind ≡ Edge → IsFaultUnder j u t kind x y →
       IsEdgeFault j u t x y
@@ -564,14 +557,7 @@ module _ (lines : List CircuitLine) (p : Pattern) (m : ModuleLines) (jobs : List
 
   meet_means : (ss : List StopLine) (k : ℕ) (o : Option ℕ) → IsTimeLineTrue c ss (times.Meet k o) →
       MeetLineMeans lines ss k o
-  meet_means ss k o (g, at, tells) = record {
-    gate = g;
-    numbered = at;
-    meets = tells;
-    late = λ none timed.
-        let met = timed.meetings k g at in
-        subst (λ (o : Option ℕ). IsMeetingTimeTrue c ss o g.ins) none tells met.0 met.1;
-  }
+  meet_means ss k o (g, at, tells) = grind (arith, common_steps)
 
   time_means : (l : TimeLine) → IsTimeLineTrue c (all_stops (m ∷ [])) l → Means (timing_report_line l)
   time_means (times.Delay k n gap) tells = subst (λ (ss : List StopLine). DelayLineMeans lines ss k n gap)
@@ -656,9 +642,6 @@ plain_report_lines lines p m jobs report named b plain judged =
 
 -- ---- where nothing is timed
 
-not_any : (t : ℕ) → Contains [] t → ⊥
-not_any t h = let lt = h.1 in omega (arith, lt)
-
 pub untimed : UntimedIsOnTime
 untimed lines p m none no_delay =
     let c = circuit_of lines in
@@ -668,6 +651,6 @@ untimed lines p m none no_delay =
       times = subst (AreOnTime c) (sym all) (record {
         delays = λ k n a b is. absurd (at_place (λ (g : Gate). (n : ℕ) → ¬ (g.kind ≡ Delay n))
             (netlist_of lines).gates k _ no_delay is n refl);
-        meetings = λ k g at. (0, λ w s has last. absurd (not_any s last.seen));
+        meetings = λ k g at. (0, λ w s has last. let lt = last.seen.1 in absurd (omega (arith, lt)));
       });
     }

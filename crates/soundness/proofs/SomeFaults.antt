@@ -1,13 +1,14 @@
 -- A job has a least fault or none, and so for keep faults and border faults
+use Rattle.lemmas.proofs.Common.{common_steps}
 use Rattle.soundness.proofs.Imports.{AreOrdered, Bool, BorderFault, Box2, Cell, Demand, Edge, End, Fault, IsBorderFault}
 use Rattle.soundness.proofs.Imports.{IsFault, IsFaultUnder, IsJob, IsKeepFault, IsLeastBorderFault, IsLeastFault}
 use Rattle.soundness.proofs.Imports.{IsLeastKeepFault, IsTotalOrder, IsTrue, JobView, KeepFault, Kind, List}
 use Rattle.soundness.proofs.Imports.{MeetsDemand, ModuleLines, None, One, Option, Setting, Signal, Some, Stop}
-use Rattle.soundness.proofs.Imports.{Valuation, Wire, Zero, [], and_parts, ap, arith, as_values, assignments, bit}
+use Rattle.soundness.proofs.Imports.{Valuation, Wire, Zero, [], ap, arith, as_values, assignments, bit}
 use Rattle.soundness.proofs.Imports.{border_cmp, box_place, decided, edge_signal, false, fault_cmp, flat_map}
 use Rattle.soundness.proofs.Imports.{get_or_from_slice_get, halo_signal, in_box, in_halo, in_ring, inl, inr, is_among}
-use Rattle.soundness.proofs.Imports.{is_live, job_demand, local_run, map, props, range_with_len, rectangle_cells, refl}
-use Rattle.soundness.proofs.Imports.{signal_at, slice_get, slice_get-get_or, slice_get_within, subst, sym, true}
+use Rattle.soundness.proofs.Imports.{is_live, job_demand, local_run, map, range_with_len, rectangle_cells, refl}
+use Rattle.soundness.proofs.Imports.{signal_at, slice_get, slice_get-get_or, slice_get_within, subst, true}
 use Rattle.soundness.proofs.Imports.{undefined_has_none, whole, ℕ, ℤ, ∥∥₁_elim, ◌%◌, ◌+◌, ◌<◌, ◌∙◌, ◌∷◌, ◌≡◌, ◌≢◌, ◌⊎◌}
 use Rattle.lemmas.proofs.Common.{Decides-int_eq, nat_cmp_total, on_total, then_total}
 use Rattle.circuit.proofs.Undefined.{stopped, undefined_is_one}
@@ -20,11 +21,12 @@ use Rattle.local_run.specs.Order.{keep_cmp, kind_number}
 use Rattle.local_run.proofs.Leasts.{undefined_no_fault}
 use Rattle.border_match.proofs.FaultOrder.{border_total}
 use Rattle.soundness.proofs.SomeLeast.{Decided, HasOne, among_in, below_decided, bools_decided, both_decided}
-use Rattle.soundness.proofs.SomeLeast.{decided_by, IsLeastIn, in_map, in_range, least_in, not_decided, numbers_decided}
+use Rattle.soundness.proofs.SomeLeast.{decided_by, in_map, in_range, least_of_all, not_decided, numbers_decided}
 use Rattle.soundness.proofs.SomeLeast.{some_decided, true_decided}
 use Rattle.soundness.proofs.SomeValues.{HasStop, HasValues, values_or_stop}
 use Rattle.module_job.specs.declared.job.Demand.TheVariants as Demanded
 use Rattle.module_job.specs.declared.job.Stop as listed
+use Rattle.local_run.proofs.Silence.{ring_in_box}
 
 fault_total : IsTotalOrder fault_cmp
 unfolding fault_cmp
@@ -56,11 +58,7 @@ module _ (j : JobView) (u : Valuation) (t : ℕ) (x y : ℤ) where
   IsMissed s = (s.at.time ≡ t) × ((s.at.cell.x ≡ x) × ((s.at.cell.y ≡ y) × (local_run j u t x y ≢ u s.wire)))
 
   missed_decided : (s : listed.Stop) → Decided (IsMissed s)
-  missed_decided s =
-      both_decided (numbers_decided s.at.time t) (λ _.
-      both_decided (integers_decided s.at.cell.x x) (λ _.
-      both_decided (integers_decided s.at.cell.y y)
-      (λ _. not_decided (bools_decided (local_run j u t x y) (u s.wire)))))
+  missed_decided s = grind (arith, common_steps, both_decided, numbers_decided, integers_decided, bools_decided)
 
   under_decided : (kind : Kind) → Decided (IsFaultUnder j u t kind x y)
   under_decided Edge = decided_by
@@ -99,23 +97,16 @@ module _ (j : JobView) (u : Valuation) (t : ℕ) (x y : ℤ) where
 
 -- ---- where and when faults are
 
-ring_inside : (b : Box2) (x y : ℤ) → in_ring b x y ≡ true → in_box b x y ≡ true
-unfolding in_ring
-ring_inside b x y h = (and_parts (in_box b x y) _ h).0
-
 module _ (j : JobView) (is : IsJob j) (ordered : AreOrdered j.locals.netlist.given j.locals.netlist.gates) where
   abbrev Bounded : Fault → Type 0
   Bounded f = (f.time < j.steps + 1) × (in_box j.area f.cell.x f.cell.y ≡ true)
 
   stop_inside : (f : Fault) (s : listed.Stop) → IsStopOf j s → s.at.time ≡ f.time → s.at.cell.x ≡ f.cell.x →
       s.at.cell.y ≡ f.cell.y → Bounded f
-  stop_inside f s stop time column row = (
-    (let e = time in let le = stop.time in omega (arith, e, le)),
-    sym (λ i. in_box j.area (column i) (row i)) ∙ stop.inside,
-  )
+  stop_inside f s stop time column row = grind (arith, common_steps)
 
   bounded : (u : Valuation) (f : Fault) (kind : Kind) → IsFaultUnder j u f.time kind f.cell.x f.cell.y → Bounded f
-  bounded u f Edge h = ((let lt = h.early in omega (arith, lt)), ring_inside j.area f.cell.x f.cell.y h.ring)
+  bounded u f Edge h = ((let lt = h.early in omega (arith, lt)), ring_in_box j.area f.cell.x f.cell.y h.ring)
   bounded u f Stop h = stop_inside f h.stop
       (subst (IsStopOf j) h.is_listed.2 (is.stops h.is_listed.0 h.stop h.is_listed.1)) h.time h.column h.row
   bounded u f End h = ((let e = h.last in omega (arith, e)), h.inside)
@@ -175,20 +166,11 @@ module _ (j : JobView) (is : IsJob j) (ordered : AreOrdered j.locals.netlist.giv
     | inr s ↦ absurd (undefined_no_fault j f s.0 ordered (undefined_at f.assignment s) h)
   ]
 
-  everywhere : (o : Option Fault) → IsLeastIn fault_cmp fault_total (IsFault j) fault_decided places_of o →
-      IsLeastFault j o
-  everywhere None h = λ f is. h f (fault_placed f is) is
-  everywhere (Some f) h = (h.0, λ g is. h.1 g (fault_placed g is) is)
-
   pub least_fault : (o : Option Fault) × IsLeastFault j o
-  least_fault =
-      let l = least_in fault_cmp fault_total (IsFault j) fault_decided places_of in
-      (l.least, everywhere l.least l.is)
+  least_fault = least_of_all fault_cmp fault_total (IsFault j) fault_decided places_of fault_placed (IsLeastFault j)
+      (λ none. none) (λ f is. is)
 
   -- ---- keep faults
-
-  nothing_prop : IsProp ⊥
-  nothing_prop = Prim.hlevel props
 
   keep_at : (f : KeepFault) → f.assignment < assignments j → is_among j.kept f.gate ≡ true → Decided (IsKeepFault j f)
   keep_at f small kept = elim (values_of f.assignment) [
@@ -228,15 +210,9 @@ module _ (j : JobView) (is : IsJob j) (ordered : AreOrdered j.locals.netlist.giv
       (in_map (keep_of f.gate) f.assignment (range_with_len 0 (assignments j))
       (in_range (assignments j) f.assignment h.in_range))
 
-  keep_everywhere : (o : Option KeepFault) → IsLeastIn keep_cmp keep_total (IsKeepFault j) keep_decided keeps_of o →
-      IsLeastKeepFault j o
-  keep_everywhere None h = λ f is. h f (keep_placed f is) is
-  keep_everywhere (Some f) h = (h.0, λ g is. h.1 g (keep_placed g is) is)
-
   pub least_keep_fault : (o : Option KeepFault) × IsLeastKeepFault j o
-  least_keep_fault =
-      let l = least_in keep_cmp keep_total (IsKeepFault j) keep_decided keeps_of in
-      (l.least, keep_everywhere l.least l.is)
+  least_keep_fault = least_of_all keep_cmp keep_total (IsKeepFault j) keep_decided keeps_of keep_placed
+      (IsLeastKeepFault j) (λ none. none) (λ f is. is)
 
 -- ---- border faults
 
@@ -272,34 +248,10 @@ module _ (g : Setting) (ms : List ModuleLines) (i : ℕ) where
 
   to_fault : (m : ModuleLines) (f : BorderFault) → slice_get ms i ≡ Some m → IsBorderFaultOf m f →
       IsBorderFault g ms i f
-  to_fault m f at h = record {
-    odd = h.0;
-    early = h.1.0;
-    inside = h.1.1.0;
-    lines = m;
-    numbered = at;
-    halo = h.1.1.1.0;
-    owner_number = h.1.1.1.1.number;
-    owner = h.1.1.1.1.one;
-    owner_numbered = h.1.1.1.1.at;
-    owned = h.1.1.1.1.holds.0;
-    differ = h.1.1.1.1.holds.1;
-  }
+  to_fault m f at h = grind (arith, common_steps)
 
   of_fault : (f : BorderFault) (h : IsBorderFault g ms i f) → IsBorderFaultOf h.lines f
-  of_fault f h = (
-    h.odd,
-    (
-      h.early,
-      (
-        h.inside,
-        (
-          h.halo,
-          record { number = h.owner_number; one = h.owner; at = h.owner_numbered; holds = (h.owned, h.differ) },
-        ),
-      ),
-    ),
-  )
+  of_fault f h = grind (arith, common_steps)
 
   same_module : (m n : ModuleLines) → slice_get ms i ≡ Some m → slice_get ms i ≡ Some n → n ≡ m
   same_module m n at there = cc
@@ -326,14 +278,7 @@ module _ (g : Setting) (ms : List ModuleLines) (i : ℕ) where
       (in_map (border_at f.time) f.cell (rectangle_cells (whole g.size))
       (in_cells_of_box (whole g.size) f.cell h.inside))
 
-  border_everywhere : (o : Option BorderFault) →
-      IsLeastIn border_cmp border_total (IsBorderFault g ms i) (border_decided (slice_get ms i) refl) borders_of o →
-      IsLeastBorderFault g ms i o
-  border_everywhere None h = λ f is. h f (border_placed f is) is
-  border_everywhere (Some f) h = (h.0, λ q is. h.1 q (border_placed q is) is)
-
   pub least_border_fault : (o : Option BorderFault) × IsLeastBorderFault g ms i o
-  least_border_fault =
-      let l = least_in border_cmp border_total (IsBorderFault g ms i)
-      (border_decided (slice_get ms i) refl) borders_of in
-      (l.least, border_everywhere l.least l.is)
+  least_border_fault = least_of_all border_cmp border_total (IsBorderFault g ms i)
+      (border_decided (slice_get ms i) refl) borders_of border_placed (IsLeastBorderFault g ms i) (λ none. none)
+      (λ f is. is)

@@ -1,4 +1,5 @@
 -- A module has a job, which is computed from its lines
+use Rattle.lemmas.proofs.Common.{common_steps}
 use Rattle.soundness.proofs.Imports.{All, All-cons, All-head, All-nil, All-tail, AreJobsOf, AreLocalsOf, AreOrdered}
 use Rattle.soundness.proofs.Imports.{Bool, Cell, Circuit, CircuitLine, Demand, Each, Gate, IfSome, IsDemandWireBelow}
 use Rattle.soundness.proofs.Imports.{IsJobOf, IsModule, IsSignalWireBelow, IsTrue, JobView, List, LocalNet, ModuleLines}
@@ -166,11 +167,7 @@ module _ (ws : List ℕ) where
   demand_numbered : (o : Option ℕ) → is_local_wire ws o ≡ true → IsDemanded (wire_or_dead o)
   unfolding demanded
   demand_numbered None h = absurd cc
-  demand_numbered (Some w) h = let p = is_place ws w h in record {
-    back = ap
-        (λ v. Demanded.Wire v) p.there;
-    below = p.below;
-  }
+  demand_numbered (Some w) h = grind (arith, common_steps, is_place)
 
   -- ---- its stops
 
@@ -182,12 +179,7 @@ module _ (ws : List ℕ) where
       StopsBack (stop_with_wire_number s o ++ ss)
   unfolding placed_stop
   one_stop s None ss h more = absurd cc
-  one_stop s (Some w) ss h more =
-      let p = is_place ws w h in
-      record {
-        back = ap₂ (λ v l. record { at = record { time = s.time; cell = s.cell }; wire = v } ∷ l) p.there more.back;
-        below = All-cons (λ (s : listed.Stop). s.wire < length ws) _ (map (placed_stop ws) ss) p.below more.below;
-      }
+  one_stop s (Some w) ss h more = grind (arith, common_steps, is_place, placed_stop)
 
   stops_back : (c : Circuit) (ss : List StopLine) → Each (λ s. is_local c ws s.wire ≡ true) ss →
       StopsBack (stops_of_lines c ss)

@@ -3,7 +3,7 @@ use Rattle.soundness.proofs.Imports.{Bool, IsTotalOrder, List, None, Option, Som
 use Rattle.soundness.proofs.Imports.{common_steps, eqb, eqb-true, false, false≢true, inl, inr, is_among, map}
 use Rattle.soundness.proofs.Imports.{range_with_len, refl, slice_get, subst, suc, sym, true, true≢false, zero, ℕ, ◌+◌}
 use Rattle.soundness.proofs.Imports.{◌<◌, ◌||◌, ◌∙◌, ◌∷◌, ◌≡◌, ◌≢◌, ◌⊎◌}
-use Rattle.lemmas.proofs.Common.{Equal, Greater, Less, Ordering, is_gt, ordering_reverse, tied_itself, upto}
+use Rattle.lemmas.proofs.Common.{Greater, Ordering, is_gt, ordering_reverse, tied_itself, upto}
 use Rattle.certificate_lines.proofs.LineOrder.{In}
 
 -- ---- facts that can be decided
@@ -135,17 +135,8 @@ module _ {A : Type 0} (cmp : A → A → Ordering) (total : IsTotalOrder cmp) (P
   -- with one more element in front
   without : (x : A) (xs : List A) (o : Option A) → ¬ P x → IsLeastIn xs o → IsLeastIn (x ∷ xs) o
   unfolding In
-  without x xs None not_so h = λ a i p. elim i [
-    | inl same ↦ not_so (subst P (sym same) p)
-    | inr later ↦ h a later p
-  ]
-  without x xs (Some f) not_so h = (
-    h.0,
-    λ a i p. elim i [
-      | inl same ↦ absurd (not_so (subst P (sym same) p))
-      | inr later ↦ h.1 a later p
-    ],
-  )
+  without x xs None not_so h = grind (arith, common_steps)
+  without x xs (Some f) not_so h = grind (arith, common_steps)
 
   with_first : (x : A) (xs : List A) (o : Option A) → P x → IsLeastIn xs o → HasLeast (x ∷ xs)
   unfolding In
@@ -196,3 +187,13 @@ module _ {A : Type 0} (cmp : A → A → Ordering) (total : IsTotalOrder cmp) (P
     | inl so ↦ with_first x xs (least_in xs).least so (least_in xs).is
     | inr not_so ↦ record { least = (least_in xs).least; is = without x xs (least_in xs).least not_so (least_in xs).is }
   ]
+
+  -- the least of all that P holds of, where these are among the elements, and what follows from it
+  pub least_of_all : (xs : List A) → ((a : A) → P a → In a xs) → (Q : Option A → Type 0) →
+      (((a : A) → ¬ P a) → Q None) → ((f : A) → P f × ((a : A) → P a → NotAfter f a) → Q (Some f)) →
+      (o : Option A) × Q o
+  least_of_all xs placed Q none some = by (least_in xs).least (least_in xs).is
+    where
+      by : (o : Option A) → IsLeastIn xs o → (o : Option A) × Q o
+      by None h = (None, none (λ a p. h a (placed a p) p))
+      by (Some f) h = (Some f, some f (h.0, λ a p. h.1 a (placed a p) p))

@@ -1,10 +1,10 @@
 -- The modules of a certificate have jobs and a verdict
 use Rattle.soundness.proofs.Imports.{AreJobsOf, AreLeastFaultsOfJob, AreModules, AreOrdered, Bool, BorderFault, Box2}
-use Rattle.soundness.proofs.Imports.{CircuitLine, Cswap, Delay, Fredkin, Gate, GateKind, Interact, IsEven, IsJob}
+use Rattle.soundness.proofs.Imports.{CircuitLine, Gate, GateKind, IsEven, IsJob}
 use Rattle.soundness.proofs.Imports.{IsJobOf, IsLeastBorderFault, IsModule, IsVerdict, JobView, LeastFaults, List}
-use Rattle.soundness.proofs.Imports.{ModuleLines, None, Option, Pattern, RefusalCode, ReportLine, Setting, Some, Source}
-use Rattle.soundness.proofs.Imports.{StopGap, Switch, TimeLine, Uninteract, Unkept, Unswitch, Yes, [], all_stops, ap}
-use Rattle.soundness.proofs.Imports.{append-nil, append_assoc, are_all_obeyed, arith, circuit_of, code_if, common_steps}
+use Rattle.soundness.proofs.Imports.{ModuleLines, None, Option, Pattern, ReportLine, Setting, Some, Source}
+use Rattle.soundness.proofs.Imports.{StopGap, TimeLine, Unkept, Yes, [], all_stops, ap}
+use Rattle.soundness.proofs.Imports.{append-nil, append_assoc, are_all_obeyed, arith, circuit_of, common_steps}
 use Rattle.soundness.proofs.Imports.{cond, defined, delay_and_meet_lines, false, first_seen, get_or, in_box, inl, inr}
 use Rattle.soundness.proofs.Imports.{is_inverse, is_kept, last_seen, length, length-append, length-map, map, nat_lt}
 use Rattle.soundness.proofs.Imports.{nat_tests, netlist_of, not, option_map, option_to_list, refl, renumber_keep}
@@ -13,14 +13,12 @@ use Rattle.soundness.proofs.Imports.{stops_stand, subst, suc, sym, time_lines_of
 use Rattle.soundness.proofs.Imports.{unkept_from, unkept_lines, zero, ℕ, ◌&&◌, ◌*◌, ◌++◌, ◌+◌, ◌<◌, ◌||◌, ◌∙◌, ◌∷◌, ◌≡◌}
 use Rattle.soundness.proofs.Imports.{◌≤◌}
 use Rattle.lemmas.proofs.Common.{◌^◌, Global, Vec, nat_le}
-use Rattle.section_text.specs.Codes.{or_else}
 use Rattle.circuit.specs.Bridge.{AreGoodCircuitLines, AreGoodAfter}
 use Rattle.circuit.specs.Rules.{add_fault, gate_count, is_gate, is_wrong_delay, exceeds_limit}
 use Rattle.circuit.proofs.Bridging.{count_append, gates_are_ordered}
 use Rattle.circuit.proofs.Naming.{gates_counted}
 use Rattle.certificate.specs.StopLists.{AreStops}
-use Rattle.certificate.specs.Times.{common_time, delay_line_of_kind, meet_line_of_times, lines_by_number}
-use Rattle.certificate.specs.declared.times.TimeLine.TheVariants.{Meet}
+use Rattle.certificate.specs.Times.{delay_line_of_kind, meet_line_of_times, lines_by_number}
 use Rattle.certificate.proofs.JobLemmas.{within_512}
 use Rattle.certificate.proofs.StopLemmas.{stops_rise}
 use Rattle.border_match.specs.BorderFaults.{AreBorderFaultsOf}
@@ -34,6 +32,8 @@ use Rattle.soundness.proofs.SomeFaults.{least_border_fault, least_fault, least_k
 use Rattle.soundness.proofs.SomeJobs.{are_jobs_of, job_of}
 use Rattle.soundness.proofs.SomeLeast.{Decided, both_decided, true_decided}
 use denote.RawPtr.{null_ptr}
+use Rattle.pattern.proofs.Added.{no_code}
+use Rattle.pattern.proofs.ReadingLemmas.{no_code_first}
 
 -- ---- how many lines there are
 
@@ -73,24 +73,12 @@ few_delays k (Source b) gap = omega arith
 few_delays k _ gap = omega arith
 
 few_meetings : (k : ℕ) (ts : List ℕ) → length (meet_line_of_times k ts) ≤ 1
-few_meetings k ts = by (nat_le 2 (length ts)) (common_time ts)
-  where
-    by : (b : Bool) (o : Option ℕ) → length (cond b (Meet k o ∷ []) []) ≤ 1
-    by true o = omega arith
-    by false o = omega arith
+few_meetings k ts = grind (arith, common_steps)
 
 two_each : (first last : ℕ → Option ℕ) (gs : List Gate) → length (time_lines_of_gates first last gs) ≤ 2 * length gs
 two_each first last gs = grind (arith, common_steps, line_each, few_delays, few_meetings, length-append)
 
 -- ---- a circuit has at most 1024 gates
-
-pub first_none : (a b : Option RefusalCode) → or_else a b ≡ None → a ≡ None
-first_none None b e = refl
-first_none (Some code) b e = absurd cc
-
-pub no_code : (b : Bool) (code : RefusalCode) → code_if b code ≡ None → b ≡ false
-no_code true code e = absurd cc
-no_code false code e = refl
 
 last_false : (a b c : Bool) → (a || (b || c)) ≡ false → c ≡ false
 last_false a b c e = grind arith
@@ -104,7 +92,7 @@ gates_below : (before rest : List CircuitLine) → AreGoodAfter before rest → 
 unfolding AreGoodAfter add_fault
 gates_below before [] good h = subst (λ l. gate_count l ≤ 1024) (sym (append-nil before)) h
 gates_below before (r ∷ rest) good h =
-    let passes = no_code (exceeds_limit before r) _ (first_none _ _ good.0.adds) in
+    let passes = no_code (exceeds_limit before r) _ (no_code_first _ _ good.0.adds) in
     let last = last_false (is_wrong_delay r.kind) (nat_lt 4096 (length (defined before) + length r.outs))
     (is_gate r.kind && nat_le 1024 (gate_count before)) passes in
     let count : gate_count (before ++ r ∷ []) ≡ gate_count before + cond (is_gate r.kind) 1 0 =

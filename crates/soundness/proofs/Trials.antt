@@ -20,6 +20,7 @@ use Rattle.certificate_lines.specs.Rules.{is_inverse_gate}
 use Rattle.module_box.proofs.EqualTests.{signal_decides}
 use Rattle.soundness.proofs.SomeVerdict.{jobs_good}
 use Rattle.module_job.specs.declared.job.Demand.TheVariants as Demanded
+use Rattle.local_run.proofs.Silence.{ring_in_box}
 
 -- ---- what is demanded, as a test
 
@@ -91,10 +92,6 @@ end_test j u = every_cell j.area (λ x y. meets u (job_demand j x y) (local_run 
 abbrev pub stop_test : JobView → Valuation → Bool
 stop_test j u = list_all (λ s. beq (local_run j u s.at.time s.at.cell.x s.at.cell.y) (u s.wire)) j.stops
 
-ring_inside : (b : Box2) (x y : ℤ) → in_ring b x y ≡ true → in_box b x y ≡ true
-unfolding in_ring
-ring_inside b x y h = (and_parts (in_box b x y) _ h).0
-
 -- all tests of a job if its wires have these values
 abbrev pub values_test : JobView → Valuation → Bool
 values_test j u = at_odd_times j.steps (edge_test j u) && (stop_test j u && end_test j u)
@@ -153,7 +150,7 @@ no_fault_under : (j : JobView) (u : Valuation) (t : ℕ) (kind : Kind) (x y : �
     IsFaultUnder j u t kind x y → ⊥
 no_fault_under j u t Edge x y is p f =
     f.differs ((booleans_Decides _ _).0 (implied (in_ring j.area x y) _
-    (at_every j.area _ (p.edges t f.odd f.early) x y (ring_inside j.area x y f.ring)) f.ring))
+    (at_every j.area _ (p.edges t f.odd f.early) x y (ring_in_box j.area x y f.ring)) f.ring))
 no_fault_under j u t Stop x y is p f =
     let listed = slice_get-get_or j.stops f.is_listed.0 f.stop f.is_listed.1 ∙ ap Some f.is_listed.2 in
     let own = (booleans_Decides _ _).0 (all_at

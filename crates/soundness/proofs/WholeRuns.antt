@@ -3,14 +3,14 @@ use Rattle.soundness.proofs.Imports.{All, BelongTogether, Bool, CircuitLine, Con
 use Rattle.soundness.proofs.Imports.{HasInputNames, IsAcceptedBundle, IsAssignmentOf, IsFault, IsFaultUnder, IsJobOf}
 use Rattle.soundness.proofs.Imports.{IsRunOfJobs, IsStop, JobView, Kind, List, LooksAsAsked, MeetsDemand, ModuleLines}
 use Rattle.soundness.proofs.Imports.{Pattern, Satisfies, Some, State, StopHolds, StopLine, Valuation, and_parts, ap}
-use Rattle.soundness.proofs.Imports.{ap₂, arith, cases_Bool, choices_are_assignments, circuit_of, circuit_wire}
+use Rattle.soundness.proofs.Imports.{arith, cases_Bool, choices_are_assignments, circuit_of, circuit_wire}
 use Rattle.soundness.proofs.Imports.{common_steps, end_demand, false, false≢true, halo_parts, in_box, in_halo, in_ring}
 use Rattle.soundness.proofs.Imports.{inl, inr, is_live, job_demand, job_start, known, local_run, local_values_agree}
-use Rattle.soundness.proofs.Imports.{netlist_of, not, option_map_or, or-false, refl, renumber_stop, run, run_under}
+use Rattle.soundness.proofs.Imports.{netlist_of, not, option_map_or, refl, renumber_stop, run, run_under}
 use Rattle.soundness.proofs.Imports.{setting_of, signal_at, slice_get, slice_get-get_or, slice_get_within, some_at}
 use Rattle.soundness.proofs.Imports.{some_neighbour, step, stop_with_wire_number, stops, subst, suc, sym, true}
 use Rattle.soundness.proofs.Imports.{true≢false, values_by_local_number, values_by_name, whole, wire_of, with_halo}
-use Rattle.soundness.proofs.Imports.{zero, ℕ, ℤ, ◌%◌, ◌&&◌, ◌<◌, ◌||◌, ◌∙◌, ◌≡◌, ◌≢◌, ◌≤◌}
+use Rattle.soundness.proofs.Imports.{zero, ℕ, ℤ, ◌%◌, ◌&&◌, ◌<◌, ◌∙◌, ◌≡◌, ◌≢◌, ◌≤◌}
 use Rattle.lemmas.proofs.Common.{All-contains_itself, not-true, not_from_false}
 use Rattle.bbm_rule.proofs.Steps.{step_dead}
 use Rattle.module_box.specs.Laws.{LiesInBox, SameInBox}
@@ -21,7 +21,8 @@ use Rattle.certificate.proofs.ArrivalLemmas.{kept_is_on_time}
 use Rattle.certificate_lines.specs.Entries.{areas}
 use Rattle.certificate_lines.proofs.FlatParts.{flat_part}
 use Rattle.local_run.proofs.LocalRuns.{even_or_odd, local_even, local_odd}
-use Rattle.border_match.proofs.Modules.{area_at}
+use Rattle.local_run.proofs.Stepping.{with_halo_inside, with_halo_outside}
+use Rattle.certificate_lines.proofs.OddBlocks.{area_of}
 use Rattle.border_match.proofs.SameSignals.{same_at}
 use Rattle.soundness.specs.FirstFaults.{StepsWithGoodBorders}
 use Rattle.soundness.specs.PlainCertificates.{AcceptedKeepsOffRim}
@@ -102,38 +103,6 @@ own_fault lines p ms inputs v i t a j kind x y k s is differs =
       shown = ∣ record { values = values_by_local_number j.locals v; local = agree.is_local; differs = differs } ∣₁;
     }
 
-no_edge_fault : (lines : List CircuitLine) (p : Pattern) (ms : List ModuleLines) (jobs : List JobView)
-    (inputs v : Valuation)
-    (i t : ℕ) (j : JobView) (x y : ℤ) →
-    Setting lines p ms jobs inputs v t → slice_get jobs i ≡ Some j → t % 2 ≡ 1 → t < p.size.steps →
-    in_ring j.area x y ≡ true →
-    local_run j (values_by_local_number j.locals v) t x y
-    ≡ is_live (values_by_local_number j.locals v) (signal_at j.edges t x y)
-no_edge_fault lines p ms jobs inputs v i t j x y set e odd early ring =
-    let k = known_job lines p ms jobs i j set.bundle e in
-    let a = its_assignment j v in
-    stable _ _ (λ differ. set.right.of_jobs i j (fault_at t Edge x y a.0) e refl refl a.1
-    (own_fault lines p ms inputs v i t a.0 j Edge x y k set.satisfied a.1 (record {
-      odd = odd;
-      early = subst (λ n. t < n) (sym k.is_job.steps) early;
-      ring = ring;
-      differs = differ;
-    })))
-
-no_end_fault : (lines : List CircuitLine) (p : Pattern) (ms : List ModuleLines) (jobs : List JobView)
-    (inputs v : Valuation)
-    (i : ℕ) (j : JobView) (x y : ℤ) →
-    BelongTogether lines p ms jobs → HasNoEndFault jobs → Satisfies (netlist_of lines) inputs v →
-    slice_get jobs i ≡ Some j → in_box j.area x y ≡ true →
-    MeetsDemand (values_by_local_number j.locals v) (job_demand j x y)
-    (local_run j (values_by_local_number j.locals v) p.size.steps x y)
-no_end_fault lines p ms jobs inputs v i j x y b right s e h =
-    let k = known_job lines p ms jobs i j b e in
-    let a = its_assignment j v in
-    stable_meets _ (job_demand j x y) _ (λ differ. right i j (fault_at p.size.steps End x y a.0) e refl
-    (own_fault lines p ms inputs v i p.size.steps a.0 j End x y k s a.1
-    (record { last = sym k.is_job.steps; inside = h; differs = differ })))
-
 -- ---- local runs stay in their boxes
 
 local_stays : (lines : List CircuitLine) (p : Pattern) (ms : List ModuleLines) (i : ℕ) (j : JobView) (u : Valuation)
@@ -152,136 +121,139 @@ local_stays lines p ms i j u (suc t) k x y out =
       (local_stays lines p ms i j u t k),
     )
 
--- ---- an even step
-
-even_outside : (lines : List CircuitLine) (p : Pattern) (ms : List ModuleLines) (jobs : List JobView)
-    (inputs v : Valuation)
-    (t : ℕ) →
-    Setting lines p ms jobs inputs v t → t % 2 ≡ 0 → IsRunOfJobs lines p jobs v t →
-    LiesInBox (whole p.size) (run_under (circuit_of lines) p v (suc t))
-unfolding run
-even_outside lines p ms jobs inputs v t set e now =
-    even_stays (whole p.size) t (run_under (circuit_of lines) p v t) (whole_even p.size set.bundle.limits) e now.outside
-
-even_inside : (lines : List CircuitLine) (p : Pattern) (ms : List ModuleLines) (jobs : List JobView)
-    (inputs v : Valuation)
-    (t i : ℕ) (j : JobView) →
-    Setting lines p ms jobs inputs v t → t % 2 ≡ 0 → IsRunOfJobs lines p jobs v t → slice_get jobs i ≡ Some j →
-    SameInBox j.area (run_under (circuit_of lines) p v (suc t))
-    (local_run j (values_by_local_number j.locals v) (suc t))
-unfolding run local_run
-even_inside lines p ms jobs inputs v t i j set e now at x y h =
-    let k = known_job lines p ms jobs i j set.bundle at in
-    even_local j.area t (run_under (circuit_of lines) p v t) (local_run j (values_by_local_number j.locals v) t)
-    (job_even lines p ms i j k) e (now.inside i j at) x y h
-    ∙ sym (local_even j (values_by_local_number j.locals v) t _ x y e)
-
--- ---- an odd step
-
 -- what is outside the rectangle is outside every box
 outer : (lines : List CircuitLine) (p : Pattern) (ms : List ModuleLines) (jobs : List JobView) (x y : ℤ)
     (o : Owner lines p ms jobs x y) → BelongTogether lines p ms jobs → (x' y' : ℤ) →
     not (in_box (whole p.size) x' y') ≡ true → not (in_box o.job.area x' y') ≡ true
 outer lines p ms jobs x y o b x' y' out =
-    grind (arith, common_steps, cases_Bool, false≢true, not-true, area_at, not_from_false)
+    grind (arith, common_steps, cases_Bool, false≢true, not-true, area_of, not_from_false)
 
--- a cell with a neighbour outside the rectangle is dead
-rim_dead : (lines : List CircuitLine) (p : Pattern) (ms : List ModuleLines) (jobs : List JobView) (inputs v : Valuation)
-    (t : ℕ) (x y : ℤ) →
-    Setting lines p ms jobs inputs v t → t % 2 ≡ 1 → t < p.size.steps → IsRunOfJobs lines p jobs v t →
-    some_neighbour (λ x' y'. not (in_box (whole p.size) x' y')) x y ≡ true →
-    run_under (circuit_of lines) p v t x y ≡ false
-rim_dead lines p ms jobs inputs v t x y set odd early now near = elim (cases_Bool (in_box (whole p.size) x y)) [
-  | inr out ↦ now.outside x y out
-  | inl h ↦
-      let o : Owner lines p ms jobs x y = owner_of lines p ms jobs x y set.bundle h in
-      let ring = ring_from o.job.area x y o.owned
-      (some_neighbour_more _ (λ x' y'. not (in_box o.job.area x' y')) x y
-      (outer lines p ms jobs x y o set.bundle) near) in
-      now.inside o.number o.job o.numbered x y o.owned
-      ∙ no_edge_fault lines p ms jobs inputs v o.number t o.job x y set o.numbered odd early ring
-      ∙ rim_edge_dead lines p ms o.number o.job v t x y o.known (ring_from (whole p.size) x y h near)
-]
+module _ (lines : List CircuitLine) (p : Pattern) (ms : List ModuleLines) (jobs : List JobView)
+    (inputs v : Valuation) where
+  no_edge_fault : (i t : ℕ) (j : JobView) (x y : ℤ) → Setting lines p ms jobs inputs v t → slice_get jobs i ≡ Some j →
+      t % 2 ≡ 1 → t < p.size.steps → in_ring j.area x y ≡ true →
+      local_run j (values_by_local_number j.locals v) t x y
+      ≡ is_live (values_by_local_number j.locals v) (signal_at j.edges t x y)
+  no_edge_fault i t j x y set e odd early ring =
+      let k = known_job lines p ms jobs i j set.bundle e in
+      let a = its_assignment j v in
+      stable _ _ (λ differ. set.right.of_jobs i j (fault_at t Edge x y a.0) e refl refl a.1
+      (own_fault lines p ms inputs v i t a.0 j Edge x y k set.satisfied a.1 (record {
+        odd = odd;
+        early = subst (λ n. t < n) (sym k.is_job.steps) early;
+        ring = ring;
+        differs = differ;
+      })))
 
-odd_outside : (lines : List CircuitLine) (p : Pattern) (ms : List ModuleLines) (jobs : List JobView)
-    (inputs v : Valuation)
-    (t : ℕ) →
-    Setting lines p ms jobs inputs v t → t % 2 ≡ 1 → t < p.size.steps → IsRunOfJobs lines p jobs v t →
-    LiesInBox (whole p.size) (run_under (circuit_of lines) p v (suc t))
-unfolding run
-odd_outside lines p ms jobs inputs v t set odd early now x y out =
-    let q : State = λ x' y'. not (in_box (whole p.size) x' y') in
-    let h : q x y ≡ true = not_from_false _ out in
-    step_dead t (run_under (circuit_of lines) p v t) x y (now.outside x y out)
-    (rim_dead lines p ms jobs inputs v t _ _ set odd early now (block_both q t x y h))
-    (rim_dead lines p ms jobs inputs v t _ _ set odd early now (block_x q t x y h))
-    (rim_dead lines p ms jobs inputs v t _ _ set odd early now (block_y q t x y h))
+  no_end_fault : (i : ℕ) (j : JobView) (x y : ℤ) → BelongTogether lines p ms jobs → HasNoEndFault jobs →
+      Satisfies (netlist_of lines) inputs v → slice_get jobs i ≡ Some j → in_box j.area x y ≡ true →
+      MeetsDemand (values_by_local_number j.locals v) (job_demand j x y)
+      (local_run j (values_by_local_number j.locals v) p.size.steps x y)
+  no_end_fault i j x y b right s e h =
+      let k = known_job lines p ms jobs i j b e in
+      let a = its_assignment j v in
+      stable_meets _ (job_demand j x y) _ (λ differ. right i j (fault_at p.size.steps End x y a.0) e refl
+      (own_fault lines p ms inputs v i p.size.steps a.0 j End x y k s a.1
+      (record { last = sym k.is_job.steps; inside = h; differs = differ })))
 
--- what stands in the box and its halo before an odd step
-with_halo_inside : (j : JobView) (u : Valuation) (t : ℕ) (s : State) (x y : ℤ) → in_box j.area x y ≡ true →
-    with_halo j u t s x y ≡ s x y
-unfolding with_halo in_halo
-with_halo_inside j u t s x y h = grind (arith, common_steps, or-false)
+  -- ---- an even step
 
-with_halo_outside : (j : JobView) (u : Valuation) (t : ℕ) (s : State) (x y : ℤ) → s x y ≡ false →
-    in_halo j.area x y ≡ true → with_halo j u t s x y ≡ is_live u (signal_at j.halos t x y)
-unfolding with_halo
-with_halo_outside j u t s x y dead h = ap₂ (λ q r. q || (r && is_live u (signal_at j.halos t x y))) dead h
+  even_outside : (t : ℕ) → Setting lines p ms jobs inputs v t → t % 2 ≡ 0 → IsRunOfJobs lines p jobs v t →
+      LiesInBox (whole p.size) (run_under (circuit_of lines) p v (suc t))
+  unfolding run
+  even_outside t set e now =
+      even_stays (whole p.size) t (run_under (circuit_of lines) p v t)
+      (whole_even p.size set.bundle.limits) e now.outside
 
--- a cell of the halo is what the halo lines say
-halo_agrees : (lines : List CircuitLine) (p : Pattern) (ms : List ModuleLines) (jobs : List JobView)
-    (inputs v : Valuation)
-    (t i : ℕ) (j : JobView) (x y : ℤ) →
-    Setting lines p ms jobs inputs v t → t % 2 ≡ 1 → t < p.size.steps → IsRunOfJobs lines p jobs v t →
-    slice_get jobs i ≡ Some j → in_halo j.area x y ≡ true →
-    run_under (circuit_of lines) p v t x y ≡ is_live (values_by_local_number j.locals v) (signal_at j.halos t x y)
-halo_agrees lines p ms jobs inputs v t i j x y set odd early now at halo =
-    let b : BelongTogether lines p ms jobs = set.bundle in
-    let k = known_job lines p ms jobs i j b at in
-    elim (cases_Bool (in_box (whole p.size) x y)) [
-      | inr out ↦ now.outside x y out ∙ sym (outer_halo_dead lines p ms i j v t x y k out)
-      | inl h ↦
-          let o : Owner lines p ms jobs x y = owner_of lines p ms jobs x y b h in
-          let beside : in_halo k.of.area x y ≡ true = ap (λ a. in_halo a x y) (sym k.is_job.area) ∙ halo in
-          let owned : in_box o.known.of.area x y ≡ true = ap (λ a. in_box a x y) (sym o.known.is_job.area) ∙ o.owned in
-          let ring : in_ring o.known.of.area x y ≡ true =
-          halo_in_ring (whole p.size) (areas ms) b.are_modules.tile i o.number k.of.area o.known.of.area x y
-          (area_at ms i k.of k.numbered) (area_at ms o.number o.known.of o.known.numbered) beside owned in
-          now.inside o.number o.job o.numbered x y o.owned
-          ∙ no_edge_fault lines p ms jobs inputs v o.number t o.job x y set o.numbered odd early
-          (ap (λ a. in_ring a x y) o.known.is_job.area ∙ ring)
-          ∙ edge_by_circuit lines p ms o.number o.job v t x y o.known
-          ∙ sym (same_at _ ms i o.number k.of o.known.of t x y v (set.right.of_modules i) (record {
-            tile = b.are_modules.tile;
-            numbered = k.numbered;
-            owner_numbered = o.known.numbered;
-            odd = odd;
-            early = early;
-            halo = beside;
-            owned = owned;
-          }))
-          ∙ sym (halo_by_circuit lines p ms i j v t x y k)
-    ]
+  even_inside : (t i : ℕ) (j : JobView) → Setting lines p ms jobs inputs v t → t % 2 ≡ 0 →
+      IsRunOfJobs lines p jobs v t → slice_get jobs i ≡ Some j →
+      SameInBox j.area (run_under (circuit_of lines) p v (suc t))
+      (local_run j (values_by_local_number j.locals v) (suc t))
+  unfolding run local_run
+  even_inside t i j set e now at x y h =
+      let k = known_job lines p ms jobs i j set.bundle at in
+      even_local j.area t (run_under (circuit_of lines) p v t) (local_run j (values_by_local_number j.locals v) t)
+      (job_even lines p ms i j k) e (now.inside i j at) x y h
+      ∙ sym (local_even j (values_by_local_number j.locals v) t _ x y e)
 
-odd_inside : (lines : List CircuitLine) (p : Pattern) (ms : List ModuleLines) (jobs : List JobView)
-    (inputs v : Valuation)
-    (t i : ℕ) (j : JobView) →
-    Setting lines p ms jobs inputs v t → t % 2 ≡ 1 → t < p.size.steps → IsRunOfJobs lines p jobs v t →
-    slice_get jobs i ≡ Some j →
-    SameInBox j.area (run_under (circuit_of lines) p v (suc t))
-    (local_run j (values_by_local_number j.locals v) (suc t))
-unfolding run local_run
-odd_inside lines p ms jobs inputs v t i j set odd early now at x y h =
-    let u : Valuation = values_by_local_number j.locals v in
-    let m : State = with_halo j u t (local_run j u t) in
-    let k = known_job lines p ms jobs i j set.bundle at in
-    near_step j.area t (run_under (circuit_of lines) p v t) m
-    (λ x' y' g. now.inside i j at x' y' g ∙ sym (with_halo_inside j u t (local_run j u t) x' y' g))
-    (λ x' y' g. halo_agrees lines p ms jobs inputs v t i j x' y' set odd early now at g
-    ∙ sym (with_halo_outside j u t (local_run j u t) x' y'
-    (local_stays lines p ms i j u t k x' y' (halo_parts j.area x' y' g).0) g))
-    x y h
-    ∙ sym (local_odd j u t (local_run j u t) x y odd ∙ ap (λ q. q && step t m x y) h)
+  -- ---- an odd step
+
+  -- a cell with a neighbour outside the rectangle is dead
+  rim_dead : (t : ℕ) (x y : ℤ) → Setting lines p ms jobs inputs v t → t % 2 ≡ 1 → t < p.size.steps →
+      IsRunOfJobs lines p jobs v t → some_neighbour (λ x' y'. not (in_box (whole p.size) x' y')) x y ≡ true →
+      run_under (circuit_of lines) p v t x y ≡ false
+  rim_dead t x y set odd early now near = elim (cases_Bool (in_box (whole p.size) x y)) [
+    | inr out ↦ now.outside x y out
+    | inl h ↦
+        let o : Owner lines p ms jobs x y = owner_of lines p ms jobs x y set.bundle h in
+        let ring = ring_from o.job.area x y o.owned
+        (some_neighbour_more _ (λ x' y'. not (in_box o.job.area x' y')) x y
+        (outer lines p ms jobs x y o set.bundle) near) in
+        now.inside o.number o.job o.numbered x y o.owned
+        ∙ no_edge_fault o.number t o.job x y set o.numbered odd early ring
+        ∙ rim_edge_dead lines p ms o.number o.job v t x y o.known (ring_from (whole p.size) x y h near)
+  ]
+
+  odd_outside : (t : ℕ) → Setting lines p ms jobs inputs v t → t % 2 ≡ 1 → t < p.size.steps →
+      IsRunOfJobs lines p jobs v t → LiesInBox (whole p.size) (run_under (circuit_of lines) p v (suc t))
+  unfolding run
+  odd_outside t set odd early now x y out =
+      let q : State = λ x' y'. not (in_box (whole p.size) x' y') in
+      let h : q x y ≡ true = not_from_false _ out in
+      step_dead t (run_under (circuit_of lines) p v t) x y (now.outside x y out)
+      (rim_dead t _ _ set odd early now (block_both q t x y h))
+      (rim_dead t _ _ set odd early now (block_x q t x y h))
+      (rim_dead t _ _ set odd early now (block_y q t x y h))
+
+  -- a cell of the halo is what the halo lines say
+  halo_agrees : (t i : ℕ) (j : JobView) (x y : ℤ) → Setting lines p ms jobs inputs v t → t % 2 ≡ 1 → t < p.size.steps →
+      IsRunOfJobs lines p jobs v t → slice_get jobs i ≡ Some j → in_halo j.area x y ≡ true →
+      run_under (circuit_of lines) p v t x y ≡ is_live (values_by_local_number j.locals v) (signal_at j.halos t x y)
+  halo_agrees t i j x y set odd early now at halo =
+      let b : BelongTogether lines p ms jobs = set.bundle in
+      let k = known_job lines p ms jobs i j b at in
+      elim (cases_Bool (in_box (whole p.size) x y)) [
+        | inr out ↦ now.outside x y out ∙ sym (outer_halo_dead lines p ms i j v t x y k out)
+        | inl h ↦
+            let o : Owner lines p ms jobs x y = owner_of lines p ms jobs x y b h in
+            let beside : in_halo k.of.area x y ≡ true = ap (λ a. in_halo a x y) (sym k.is_job.area) ∙ halo in
+            let owned : in_box o.known.of.area x y ≡ true =
+            ap (λ a. in_box a x y) (sym o.known.is_job.area) ∙ o.owned in
+            let ring : in_ring o.known.of.area x y ≡ true =
+            halo_in_ring (whole p.size) (areas ms) b.are_modules.tile i o.number k.of.area o.known.of.area x y
+            (area_of ms i k.of k.numbered) (area_of ms o.number o.known.of o.known.numbered) beside owned in
+            now.inside o.number o.job o.numbered x y o.owned
+            ∙ no_edge_fault o.number t o.job x y set o.numbered odd early
+            (ap (λ a. in_ring a x y) o.known.is_job.area ∙ ring)
+            ∙ edge_by_circuit lines p ms o.number o.job v t x y o.known
+            ∙ sym (same_at _ ms i o.number k.of o.known.of t x y v (set.right.of_modules i) (record {
+              tile = b.are_modules.tile;
+              numbered = k.numbered;
+              owner_numbered = o.known.numbered;
+              odd = odd;
+              early = early;
+              halo = beside;
+              owned = owned;
+            }))
+            ∙ sym (halo_by_circuit lines p ms i j v t x y k)
+      ]
+
+  odd_inside : (t i : ℕ) (j : JobView) → Setting lines p ms jobs inputs v t → t % 2 ≡ 1 → t < p.size.steps →
+      IsRunOfJobs lines p jobs v t → slice_get jobs i ≡ Some j →
+      SameInBox j.area (run_under (circuit_of lines) p v (suc t))
+      (local_run j (values_by_local_number j.locals v) (suc t))
+  unfolding run local_run
+  odd_inside t i j set odd early now at x y h =
+      let u : Valuation = values_by_local_number j.locals v in
+      let m : State = with_halo j u t (local_run j u t) in
+      let k = known_job lines p ms jobs i j set.bundle at in
+      near_step j.area t (run_under (circuit_of lines) p v t) m
+      (λ x' y' g. now.inside i j at x' y' g ∙ sym (with_halo_inside j u t (local_run j u t) x' y' g))
+      (λ x' y' g. halo_agrees t i j x' y' set odd early now at g
+      ∙ sym (with_halo_outside j u t (local_run j u t) x' y'
+      (local_stays lines p ms i j u t k x' y' (halo_parts j.area x' y' g).0) g))
+      x y h
+      ∙ sym (local_odd j u t (local_run j u t) x y odd ∙ ap (λ q. q && step t m x y) h)
 
 pub steps_with_good_borders : StepsWithGoodBorders
 steps_with_good_borders lines p ms jobs inputs v t b s early right now =
@@ -398,41 +370,39 @@ record Faultless (lines : List CircuitLine) (p : Pattern) (ms : List ModuleLines
   right : HasNoFault lines p ms jobs
   satisfied : Satisfies (netlist_of lines) inputs v
 
-no_stop_fault : (lines : List CircuitLine) (p : Pattern) (ms : List ModuleLines) (jobs : List JobView)
-    (inputs v : Valuation)
-    (i : ℕ) (j : JobView) (s : listed.Stop) → Faultless lines p ms jobs inputs v →
-    slice_get jobs i ≡ Some j → Contains j.stops s →
-    local_run j (values_by_local_number j.locals v) s.at.time s.at.cell.x s.at.cell.y
-    ≡ values_by_local_number j.locals v s.wire
-no_stop_fault lines p ms jobs inputs v i j s set e has =
-    let k = known_job lines p ms jobs i j set.bundle e in
-    let a = its_assignment j v in
-    stable _ _ (λ differ. set.right.of_jobs i j (fault_at s.at.time AtStop s.at.cell.x s.at.cell.y a.0) e
-    (own_fault lines p ms inputs v i s.at.time a.0 j AtStop s.at.cell.x s.at.cell.y k set.satisfied a.1 (record {
-      stop = s;
-      is_listed = has;
-      time = refl;
-      column = refl;
-      row = refl;
-      differs = differ;
-    })))
-
 -- the cell of a stop carries the value of the stop's wire in the circuit
 abbrev IsAsWire : JobView → Valuation → listed.Stop → Type 0
 IsAsWire j v r = local_run j (values_by_local_number j.locals v) r.at.time r.at.cell.x r.at.cell.y ≡ v r.wire
 
-no_line_fault : (lines : List CircuitLine) (p : Pattern) (ms : List ModuleLines) (jobs : List JobView)
-    (inputs v : Valuation)
-    (i : ℕ) (m : ModuleLines) (j : JobView) (k w : ℕ) (s : StopLine) → Faultless lines p ms jobs inputs v →
-    slice_get jobs i ≡ Some j → IsJobOf (circuit_of lines) p m j → slice_get (stops m) k ≡ Some s →
-    wire_of (circuit_of lines) s.wire ≡ Some w →
-    local_run j (values_by_local_number j.locals v) s.time s.cell.x s.cell.y ≡ v w
-no_line_fault lines p ms jobs inputs v i m j k w s set e is at named =
-    let own = all_map (IsAsWire j v) (renumber_stop (circuit_wire j.locals)) j.stops
-    (λ n d lt. no_stop_fault lines p ms jobs inputs v i j _ set e (All-contains_itself j.stops n d lt)) in
-    one_said (IsAsWire j v) s w (wire_of (circuit_of lines) s.wire) named
-    (flat_part (IsAsWire j v) (λ r. stop_with_wire_number r (wire_of (circuit_of lines) r.wire)) (stops m)
-    (subst (All (IsAsWire j v)) is.stops own) k s at)
+module _ (lines : List CircuitLine) (p : Pattern) (ms : List ModuleLines) (jobs : List JobView)
+    (inputs v : Valuation) where
+  no_stop_fault : (i : ℕ) (j : JobView) (s : listed.Stop) → Faultless lines p ms jobs inputs v →
+      slice_get jobs i ≡ Some j → Contains j.stops s →
+      local_run j (values_by_local_number j.locals v) s.at.time s.at.cell.x s.at.cell.y
+      ≡ values_by_local_number j.locals v s.wire
+  no_stop_fault i j s set e has =
+      let k = known_job lines p ms jobs i j set.bundle e in
+      let a = its_assignment j v in
+      stable _ _ (λ differ. set.right.of_jobs i j (fault_at s.at.time AtStop s.at.cell.x s.at.cell.y a.0) e
+      (own_fault lines p ms inputs v i s.at.time a.0 j AtStop s.at.cell.x s.at.cell.y k set.satisfied a.1 (record {
+        stop = s;
+        is_listed = has;
+        time = refl;
+        column = refl;
+        row = refl;
+        differs = differ;
+      })))
+
+  no_line_fault : (i : ℕ) (m : ModuleLines) (j : JobView) (k w : ℕ) (s : StopLine) →
+      Faultless lines p ms jobs inputs v → slice_get jobs i ≡ Some j → IsJobOf (circuit_of lines) p m j →
+      slice_get (stops m) k ≡ Some s → wire_of (circuit_of lines) s.wire ≡ Some w →
+      local_run j (values_by_local_number j.locals v) s.time s.cell.x s.cell.y ≡ v w
+  no_line_fault i m j k w s set e is at named =
+      let own = all_map (IsAsWire j v) (renumber_stop (circuit_wire j.locals)) j.stops
+      (λ n d lt. no_stop_fault i j _ set e (All-contains_itself j.stops n d lt)) in
+      one_said (IsAsWire j v) s w (wire_of (circuit_of lines) s.wire) named
+      (flat_part (IsAsWire j v) (λ r. stop_with_wire_number r (wire_of (circuit_of lines) r.wire)) (stops m)
+      (subst (All (IsAsWire j v)) is.stops own) k s at)
 
 stop_holds : (lines : List CircuitLine) (p : Pattern) (ms : List ModuleLines) (jobs : List JobView) →
     HasInputNames lines p →

@@ -45,8 +45,7 @@ impl<F: Filings, A: Ledger> LockedBook<F, A> {
         requires history_empty { state.history ≡ [] }
         requires totals { (filings.total ≡ 0) × (acceptances.total ≡ 0) }
     {
-        // the history replays to the state
-        let _history = state.history();
+        state.prove_replays();
         LockedBook {
             state,
             filings,

@@ -34,7 +34,7 @@ returns-in-Ok c =
     let bits = c.deref-2.ensures.value ∙ c.in_ok-bits.ensures
     ∙ ap (map on) (c.deref.ensures.value ∙ c.in_ok-ins.ensures.names) in
     record {
-      ordered = c.gates-gates.ensures.gates_ordered;
+      ordered = c.prove_valid.ensures.gates_ordered;
       says = inl (record {
         values = c.in-Ok.values.items;
         are = subst (λ (l : List Bool). AreValues (netlist_of c.args.circuit.now) (as_values l) c.in-Ok.values.items)
@@ -57,7 +57,7 @@ returns-in-Err-OutOfDomain c =
     subst (IsValuesFault (netlist_of c.args.circuit.now) (as_values c.deref-2.result.now)) same
     c.in-Err-OutOfDomain.ensures.fault in
     record {
-      ordered = c.gates-gates.ensures.gates_ordered;
+      ordered = c.prove_valid.ensures.gates_ordered;
       says = inr (record {
         gate = c.in-Err-OutOfDomain.gate;
         values = c.in-Err-OutOfDomain.before.items;

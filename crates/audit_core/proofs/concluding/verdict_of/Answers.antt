@@ -1,5 +1,5 @@
 use Rattle.lemmas.proofs.Common.{◌++◌, ◌==◌, ◌∙◌, ◌≡◌, List, ap, length, map, rules, subst, sym, true, and_from}
-use Rattle.lemmas.proofs.Common.{and_parts, arc_value}
+use Rattle.lemmas.proofs.Common.{and_parts, arc_value, refl}
 use Rattle.std.specs.Vec.{vec_len}
 use Rattle.module_job.specs.Jobs.{JobView}
 use Rattle.certificate.specs.Times.{are_all_obeyed, delay_and_meet_lines}
@@ -46,30 +46,32 @@ returns-then-obeyed-is_empty-clause-verdict c =
 
 pub returns-then-obeyed-is_empty-clause-correct : goal.returns-then-obeyed-is_empty-clause-correct
 returns-then-obeyed-is_empty-clause-correct c is named =
-    let read : IsRead c.args.cert.now c.size-size.result = record {
-      ordered = c.modules-count.ensures.ordered;
-      same = c.size-size.ensures.size;
-      limits = c.size-size.ensures.limits;
-      laid_out = c.size-size.ensures.good;
-      are_modules = c.modules-count.ensures.good;
-      inputs = c.modules-count.ensures.inputs;
+    let read : IsRead c.args.cert.now c.args.cert.now.layout.size = record {
+      ordered = c.prove_valid.ensures.ordered;
+      same = refl;
+      limits = c.prove_valid.ensures.limits;
+      laid_out = c.prove_valid.ensures.parts;
+      are_modules = c.prove_valid.ensures.good;
+      inputs = c.prove_valid.ensures.inputs;
       named = named;
     } in
-    yes_means-correct c.args.cert.now c.size-size.result (map arc_value c.args.jobs.now) read c.requires.own_jobs
+    yes_means-correct c.args.cert.now c.args.cert.now.layout.size
+    (map arc_value c.args.jobs.now) read c.requires.own_jobs
     (returns-then-obeyed-is_empty-clause-verdict c)
 
 pub returns-then-obeyed-is_empty-clause-on_time : goal.returns-then-obeyed-is_empty-clause-on_time
 returns-then-obeyed-is_empty-clause-on_time c is named =
-    let read : IsRead c.args.cert.now c.size-size.result = record {
-      ordered = c.modules-count.ensures.ordered;
-      same = c.size-size.ensures.size;
-      limits = c.size-size.ensures.limits;
-      laid_out = c.size-size.ensures.good;
-      are_modules = c.modules-count.ensures.good;
-      inputs = c.modules-count.ensures.inputs;
+    let read : IsRead c.args.cert.now c.args.cert.now.layout.size = record {
+      ordered = c.prove_valid.ensures.ordered;
+      same = refl;
+      limits = c.prove_valid.ensures.limits;
+      laid_out = c.prove_valid.ensures.parts;
+      are_modules = c.prove_valid.ensures.good;
+      inputs = c.prove_valid.ensures.inputs;
       named = named;
     } in
-    yes_means-on_time c.args.cert.now c.size-size.result (map arc_value c.args.jobs.now) read c.requires.own_jobs
+    yes_means-on_time c.args.cert.now c.args.cert.now.layout.size
+    (map arc_value c.args.jobs.now) read c.requires.own_jobs
     (returns-then-obeyed-is_empty-clause-verdict c)
 
 pub returns-clause-verdict : goal.returns-clause-verdict

@@ -1,21 +1,11 @@
-use Rattle.bbm_rule.proofs.Imports.{arith, cell_at, common_steps, get_or, trailing_zeros, true, w64, ◌%◌, ◌*◌, ◌+◌, ◌/◌}
+use Rattle.bbm_rule.proofs.Imports.{arith, cell_at, get_or, trailing_zeros, true, w64, ◌%◌, ◌*◌, ◌+◌, ◌/◌}
 use Rattle.bbm_rule.proofs.Imports.{◌^◌, ◌≡◌}
 use Rattle.lemmas.proofs.Common.{subst}
-use Rattle.bbm_rule.proofs.BitLemmas.{by_lt_or_le}
-use Rattle.bbm_rule.proofs.MarkLemmas.{first_marked, none_before, none_in_word, whole_before, whole_marked, whole_zero}
+use Rattle.bbm_rule.proofs.MarkLemmas.{first_marked, none_in_word, whole_marked}
 use Rattle.bbm_rule.proofs.marks.next_marked.Goals as goal
-
-pub returns-then-rest-ne0-clause-passed_unmarked : goal.returns-then-rest-ne0-clause-passed_unmarked
-returns-then-rest-ne0-clause-passed_unmarked c = grind (arith, common_steps, none_before)
 
 pub words-init : goal.words-init
 words-init c = λ u l h. none_in_word c.args.marks.now c.args.from u c.if-rest-ne0.false l (omega arith)
-
-pub returns-then-whole-ne0-clause-passed_unmarked : goal.returns-then-whole-ne0-clause-passed_unmarked
-returns-then-whole-ne0-clause-passed_unmarked c = grind (arith, common_steps, by_lt_or_le, whole_before)
-
-pub words-preserved : goal.words-preserved
-words-preserved c = grind (arith, common_steps, by_lt_or_le, whole_zero)
 
 pub returns-then-rest-ne0-clause-marked : goal.returns-then-rest-ne0-clause-marked
 returns-then-rest-ne0-clause-marked c = λ l.

@@ -2,7 +2,10 @@ use Rattle.border_match.proofs.Imports.{AreJobOwners, IsBorderFaultOfJob, IsLeas
 use Rattle.border_match.proofs.Imports.{Some, ap, arc_value, arith, common_steps, map, modules_in, setting_of}
 use Rattle.border_match.proofs.Imports.{slice_get, subst, sym, whole, ◌∙◌, ◌≡◌}
 use Rattle.lemmas.proofs.Common.{Err, IfOk, Ok, Result}
+use Rattle.module_box.specs.Tiling.{AreOwners}
+use Rattle.certificate_lines.specs.Entries.{modules_of}
 use Rattle.certificate_lines.specs.Versions.{modules_by_version}
+use Rattle.certificate.proofs.FullModules.{meant_areas}
 use Rattle.border_match.proofs.Bridge.{board, quiet_job, least_by_lines}
 use Rattle.border_match.proofs.Cells.{job_at}
 use Rattle.border_match.proofs.Modules.{pushed_more}
@@ -21,35 +24,41 @@ pub least_fault-requires-clause-borders_ready : goal.least_fault-requires-clause
 least_fault-requires-clause-borders_ready c =
     let s = c.args.cert.now in
     let js = map arc_value c.args.jobs.now in
-    let o = c.in_ok-owners.owners in
+    let o = c.owners-owners.result.now in
+    let owners = c.owners-owners.ensures in
+    let are = subst (AreOwners o) (sym (meant_areas s.version (setting_of s.circuit s.layout) (modules_of s.entries)))
+    owners.owners in
     let good = c.modules-count.ensures.good in
-    let got : slice_get js c.jobs.job-index ≡ Some c.deref-in-jobs.result.now =
-    job_at arc_value c.args.jobs.now c.jobs.job-index _ c.deref-in-jobs.result.now c.jobs-test.true
-    (c.deref-in-jobs.ensures ∙ ap arc_value c.job-item.is) in (
+    let got : slice_get js c.jobs.job-index ≡ Some c.deref.result.now =
+    job_at arc_value c.args.jobs.now c.jobs.job-index _ c.deref.result.now c.jobs-test.true
+    (c.deref.ensures ∙ ap arc_value c.job-item.is) in (
       subst (λ (z : LayoutHeader). AreJobOwners (whole z) o js) (sym c.size-size.ensures.size)
-          (board s.circuit s.layout (modules_in s) js o good c.requires c.in_ok-owners.ensures.owners
-          c.in_ok-owners.ensures.width c.in_ok-owners.ensures.height),
-      quiet_job s.circuit s.layout (modules_in s) js o good c.requires c.in_ok-owners.ensures.owners
-          c.in_ok-owners.ensures.width c.in_ok-owners.ensures.height c.jobs.job-index c.deref-in-jobs.result.now got,
+          (board s.circuit s.layout (modules_in s) js o good c.requires are
+          owners.width owners.height),
+      quiet_job s.circuit s.layout (modules_in s) js o good c.requires are
+          owners.width owners.height c.jobs.job-index c.deref.result.now got,
     )
 
 pub jobs-preserved : goal.jobs-preserved
 jobs-preserved c =
     let s = c.args.cert.now in
     let js = map arc_value c.args.jobs.now in
-    let o = c.in_ok-owners.owners in
+    let o = c.owners-owners.result.now in
+    let owners = c.owners-owners.ensures in
+    let are = subst (AreOwners o) (sym (meant_areas s.version (setting_of s.circuit s.layout) (modules_of s.entries)))
+    owners.owners in
     let good = c.modules-count.ensures.good in
-    let got : slice_get js c.jobs.job-index ≡ Some c.deref-in-jobs.result.now =
-    job_at arc_value c.args.jobs.now c.jobs.job-index _ c.deref-in-jobs.result.now c.jobs-test.true
-    (c.deref-in-jobs.ensures ∙ ap arc_value c.job-item.is) in
-    let found : IsLeast (IsBorderFaultOfJob (whole s.layout.size) o js c.deref-in-jobs.result.now)
+    let got : slice_get js c.jobs.job-index ≡ Some c.deref.result.now =
+    job_at arc_value c.args.jobs.now c.jobs.job-index _ c.deref.result.now c.jobs-test.true
+    (c.deref.ensures ∙ ap arc_value c.job-item.is) in
+    let found : IsLeast (IsBorderFaultOfJob (whole s.layout.size) o js c.deref.result.now)
     c.in_ok-least_fault.field-0 =
     subst (λ (z : LayoutHeader). IsLeast
-    (IsBorderFaultOfJob (whole z) o js c.deref-in-jobs.result.now) c.in_ok-least_fault.field-0)
+    (IsBorderFaultOfJob (whole z) o js c.deref.result.now) c.in_ok-least_fault.field-0)
     c.size-size.ensures.size c.in_ok-least_fault.ensures in
     let least = least_by_lines s.circuit s.layout
-    (modules_in s) js o good c.requires c.in_ok-owners.ensures.owners c.in_ok-owners.ensures.width
-    c.in_ok-owners.ensures.height c.jobs.job-index c.deref-in-jobs.result.now c.in_ok-least_fault.field-0 got found in (
+    (modules_in s) js o good c.requires are owners.width
+    owners.height c.jobs.job-index c.deref.result.now c.in_ok-least_fault.field-0 got found in (
       omega (arith, c.in_ok-push.ensures.len, c.jobs.invariant.0),
       pushed_more (IsLeastBorderFault (setting_of s.circuit s.layout) (modules_in s)) c.jobs.faults.items _
           c.jobs.job-index c.in_ok-least_fault.field-0

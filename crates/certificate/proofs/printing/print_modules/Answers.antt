@@ -1,6 +1,5 @@
-use Rattle.certificate.proofs.Imports.{All, HasOwnWire, HasOwnWires, arith, circuit_of, common_steps}
-use Rattle.certificate.proofs.Imports.{append_assoc, subst, sym}
-use Rattle.certificate.proofs.PrintedLines.{module_more, own_printed}
+use Rattle.certificate.proofs.Imports.{All, HasOwnWire, HasOwnWires, circuit_of, subst, sym}
+use Rattle.certificate.proofs.PrintedLines.{own_printed}
 use Rattle.certificate.proofs.StoredSignals.{all_at}
 use Rattle.certificate.proofs.printing.print_modules.Goals as goal
 
@@ -15,6 +14,3 @@ print_module_lines-requires-clause-halo_wires c =
     (own_printed (circuit_of c.args.circuit.now) c.module-item.result c.args.with_halos
     (all_at (HasOwnWires (circuit_of c.args.circuit.now)) c.args.modules.now c.requires c.modules.module-index
     c.module-item.result c.modules-test.true c.module-item.is))
-
-pub modules-preserved : goal.modules-preserved
-modules-preserved c = grind (arith, common_steps, module_more, append_assoc)

@@ -6,9 +6,10 @@ use Rattle.certificate.proofs.Imports.{map, module_lines, modules_of, setting_of
 use Rattle.section_text.proofs.Good.{reads_faultless}
 use Rattle.section_text.specs.Section.{Reads}
 use Rattle.certificate_lines.specs.Modules.{IsWithinLineLimit}
+use Rattle.certificate_lines.specs.BuilderView.{AreModuleOwners}
 use Rattle.certificate_lines.proofs.StoredLemmas.{modules_stored}
 use Rattle.certificate.specs.Grammars.{certificate_grammar, certificate_section, version_number}
-use Rattle.certificate.proofs.ReadModules.{fails_as, reads_as}
+use Rattle.certificate.proofs.ReadModules.{fails_as, owners_read, reads_as}
 use Rattle.certificate.proofs.Soundness.{faultless_lines, faultless_modules, read_complete}
 use Rattle.certificate.proofs.reading.read_certificate.Goals as goal
 
@@ -18,24 +19,31 @@ invariant_of-result c =
     let read = c.read_lines-read.result in
     let version = version_number read.1 in
     let view : Unit {0} → ℕ × List CertificateLine = λ u. (version, read.2.entries) in
-    let begun : c.in-Ok.builder.setting ≡ g = grind (arith, common_steps) in
+    let begun : c.in-Ok-new.builder.setting ≡ g = grind (arith, common_steps) in
     let same = c.read_lines-read.ensures.same_setting ∙ begun in
-    let ms = c.into_modules-modules.result.items in
+    let ms = c.into_parts-modules.result.modules.items in
     let faultless = reads_faultless _ _ _ _ _ (subst (Reads (certificate_grammar g) view c.args.feed.now
     c.read_lines-read.new.feed) c.in-Ok-read.is (subst (λ s. Reads (certificate_grammar s) view c.args.feed.now
     c.read_lines-read.new.feed read.0) begun c.read_lines-read.ensures.reads)) in
     let are : modules_of read.2.entries ≡ map (module_lines g.circuit) ms =
-    ap modules_of (sym c.into_modules-modules.ensures.entries
+    ap modules_of (sym c.into_parts-modules.ensures.entries
     ∙ ap (λ (s : Setting). lines_of_modules s.circuit ms) same)
     ∙ modules_stored g.circuit ms in
+    let modules = subst (AreModules g) are (faultless_modules g _ _ faultless) in
     record {
       good = record {
-        wires = subst (λ (s : Setting). All (HasOwnWires s.circuit) ms) same c.into_modules-modules.ensures.wires;
-        modules = subst (AreModules g) are (faultless_modules g _ _ faultless);
+        wires = subst (λ (s : Setting). All (HasOwnWires s.circuit) ms) same c.into_parts-modules.ensures.wires;
+        modules = modules;
         few_lines = subst (All IsWithinLineLimit) are (faultless_lines g _ _ faultless);
       };
       complete = subst (λ ns. (is_haloless_version version && lacks_edge_wire_beside g ns) ≡ false) are
           (read_complete g version _ faultless);
+      owners = owners_read c.args.circuit.now c.args.layout.now _ c.into_parts-modules.result.owners
+          (subst (λ ns. AreModuleOwners g ns c.into_parts-modules.result.owners) are
+          (subst (λ (s : Setting). AreModuleOwners s (modules_of read.2.entries) c.into_parts-modules.result.owners)
+          same
+          c.into_parts-modules.ensures.owners)) modules.tile;
+      ports = c.in-Ok.ensures;
     }
 
 pub returns-in-Ok-read-clause-reads : goal.returns-in-Ok-read-clause-reads
@@ -43,23 +51,23 @@ returns-in-Ok-read-clause-reads c =
     let g = setting_of c.args.circuit.now c.args.layout.now in
     let read = c.read_lines-read.result in
     let view : Unit {0} → ℕ × List CertificateLine = λ u. (version_number read.1, read.2.entries) in
-    let begun : c.in-Ok.builder.setting ≡ g = grind (arith, common_steps) in
+    let begun : c.in-Ok-new.builder.setting ≡ g = grind (arith, common_steps) in
     let same = c.read_lines-read.ensures.same_setting ∙ begun in
-    let ms = c.into_modules-modules.result.items in
+    let ms = c.into_parts-modules.result.modules.items in
     reads_as (certificate_grammar g) view certificate_section c.args.feed.now c.read_lines-read.new.feed
     c.in-Ok-read.field-0 _
     (subst (Reads (certificate_grammar g) view c.args.feed.now c.read_lines-read.new.feed) c.in-Ok-read.is
     (subst (λ s. Reads (certificate_grammar s) view c.args.feed.now c.read_lines-read.new.feed read.0) begun
     c.read_lines-read.ensures.reads))
     (ap (λ (es : List CertificateLine). (version_number read.1, es))
-    (sym c.into_modules-modules.ensures.entries ∙ ap (λ (s : Setting). lines_of_modules s.circuit ms) same))
+    (sym c.into_parts-modules.ensures.entries ∙ ap (λ (s : Setting). lines_of_modules s.circuit ms) same))
 
-pub returns-in-Err-clause-reads : goal.returns-in-Err-clause-reads
-returns-in-Err-clause-reads c =
+pub returns-clause-reads : goal.returns-clause-reads
+returns-clause-reads c =
     let g = setting_of c.args.circuit.now c.args.layout.now in
     let read = c.read_lines-read.result in
     let view : Unit {0} → ℕ × List CertificateLine = λ u. (version_number read.1, read.2.entries) in
-    let begun : c.in-Ok.builder.setting ≡ g = grind (arith, common_steps) in
+    let begun : c.in-Ok-new.builder.setting ≡ g = grind (arith, common_steps) in
     fails_as (certificate_grammar g) view certificate_section c.args.feed.now c.read_lines-read.new.feed _
     (subst (Reads (certificate_grammar g) view c.args.feed.now c.read_lines-read.new.feed) c.in-Err.is
     (subst (λ s. Reads (certificate_grammar s) view c.args.feed.now c.read_lines-read.new.feed read.0) begun

@@ -1,16 +1,6 @@
-use Rattle.certificate_lines.proofs.Imports.{Some, ap, arith, cell, common_steps, pos, rules, sym, to_z, w32, words_of}
-use Rattle.certificate_lines.proofs.Imports.{◌>>=◌, ◌∙◌, ◌≡◌}
-use Rattle.certificate_lines.proofs.BorderText.{border_is, no_column, no_row, no_time, signal_is}
+use Rattle.certificate_lines.proofs.Imports.{Some, ap, cell, pos, rules, sym, to_z, w32, words_of, ◌>>=◌, ◌∙◌, ◌≡◌}
+use Rattle.certificate_lines.proofs.BorderText.{border_is, signal_is}
 use Rattle.certificate_lines.proofs.form.border_after_keyword.Goals as goal
-
-pub returns-in_err-time : goal.returns-in_err-time
-returns-in_err-time c k = grind (arith, common_steps, no_time)
-
-pub returns-in_err-x : goal.returns-in_err-x
-returns-in_err-x c k = grind (arith, common_steps, no_column)
-
-pub returns-in_err-y : goal.returns-in_err-y
-returns-in_err-y c k = grind (arith, common_steps, no_row)
 
 pub returns-in_err-signal : goal.returns-in_err-signal
 returns-in_err-signal c k = rw c.from_residual-in_err-signal.ensures

@@ -1,8 +1,10 @@
-use Rattle.certificate_lines.proofs.Imports.{HaveDistinctCells, subst}
+use Rattle.certificate_lines.proofs.Imports.{HaveDistinctCells, arith, common_steps, subst}
 use Rattle.certificate_lines.proofs.ports.port_tables.Goals as goal
 
-pub returns-clause-ins_apart : goal.returns-clause-ins_apart
-returns-clause-ins_apart c = subst HaveDistinctCells c.ins.ensures.same_ports c.ins.ensures.cells_distinct
-
-pub returns-clause-outs_apart : goal.returns-clause-outs_apart
-returns-clause-outs_apart c = subst HaveDistinctCells c.outs.ensures.same_ports c.outs.ensures.cells_distinct
+pub returns : goal.returns
+returns c = record {
+  inputs = grind (arith, common_steps);
+  outputs = grind (arith, common_steps);
+  ins_apart = subst HaveDistinctCells c.ins.ensures.same_ports c.ins.ensures.cells_distinct;
+  outs_apart = subst HaveDistinctCells c.outs.ensures.same_ports c.outs.ensures.cells_distinct;
+}

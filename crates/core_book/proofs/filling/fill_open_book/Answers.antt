@@ -8,37 +8,11 @@ use Rattle.core_book.proofs.filling.fill_open_book.Goals as goal
 
 pub returns-then-is_full-clause-full : goal.returns-then-is_full-clause-full
 returns-then-is_full-clause-full c =
-    grind (
-      arith,
-      common_steps,
-      is-full,
-      c.args.digest,
-      c.args.jobs.now,
-      c.args.state.now,
-      c.requires.open_for_jobs,
-      c.history-history.ensures.replays,
-      c.if-is_full.ensures.book,
-      c.if-is_full.ensures.full,
-    )
+    grind (arith, common_steps, is-full)
 
 pub fill_number-requires-clause-job : goal.fill_number-requires-clause-job
 fill_number-requires-clause-job c =
-    grind (
-      arith,
-      common_steps,
-      job-at,
-      open-stays,
-      c.args.jobs.now,
-      c.numbers.number,
-      c.index-jobs-number.result,
-      c.numbers-test.true,
-      c.index-jobs-number.is,
-      c.args.digest,
-      c.args.state.now,
-      c.numbers.state,
-      c.requires.open_for_jobs,
-      c.numbers.invariant.0.filled,
-    )
+    grind (arith, common_steps, job-at, open-stays)
 
 -- each job has a group
 within : {Y : Type 0} (view : Y → JobView) (jobs : List Y) (g : List ℕ) (n : ℕ) →
@@ -101,5 +75,5 @@ returns-clause-full c =
     (open-stays c.args.digest
     (map arc_value c.args.jobs.now) b c.numbers.state c.numbers.number c.requires.open_for_jobs
     c.numbers.invariant.0.filled)
-    c.history-history-2.ensures.replays c.numbers.invariant.0.book
+    c.prove_replays-2.ensures c.numbers.invariant.0.book
     (filled-all b c.numbers.state c.numbers.number past c.numbers.invariant.0)

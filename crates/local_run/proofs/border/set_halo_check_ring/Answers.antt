@@ -39,16 +39,14 @@ words-preserved-then-word-eq0 c =
     (whole_zero _ (n % 64) c.if-word-eq0.true) in
     record {
       shows = m.shows;
-      halo = λ x y lx ly before. let n = number_at j.area x y in by_lt_or_le n (64 * c.words.k)
-          (m.halo x y lx ly)
-          (λ g. passed_halo j c.args.values.now p.planes c.args.lines.now.time n
-          (n + 1) x y c.args.lines.now.marks.items c.requires.job_ready
-          m.shows c.requires.lines (passed n g (omega (arith, before))) lx ly (omega arith) (omega arith));
-      right = λ all x y lx ly before. let n = number_at j.area x y in by_lt_or_le n (64 * c.words.k)
-          (m.right all x y lx ly)
-          (λ g. passed_edges j c.args.values.now p.planes c.args.lines.now.time n
-          (n + 1) x y c.args.lines.now.marks.items c.requires.job_ready
-          m.shows c.requires.lines (passed n g (omega (arith, before))) lx ly (omega arith) (omega arith));
+      halo = λ x y lx ly before. by_lt_or_le (number_at j.area x y) (64 * c.words.k) (m.halo x y lx ly)
+          (λ g. passed_halo j c.args.values.now p.planes c.args.lines.now.time x y c.args.lines.now.marks.items
+          c.requires.job_ready m.shows c.requires.lines (passed (number_at j.area x y) g (omega (arith, before))) lx
+          ly);
+      right = λ all x y lx ly before. by_lt_or_le (number_at j.area x y) (64 * c.words.k) (m.right all x y lx ly)
+          (λ g. passed_edges j c.args.values.now p.planes c.args.lines.now.time x y c.args.lines.now.marks.items
+          c.requires.job_ready m.shows c.requires.lines (passed (number_at j.area x y) g (omega (arith, before))) lx
+          ly);
     }
 
 pub returns-clause-halo : goal.returns-clause-halo

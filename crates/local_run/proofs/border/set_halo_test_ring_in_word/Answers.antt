@@ -1,5 +1,7 @@
 use Rattle.local_run.proofs.Imports.{Planes, and_parts, ap, ap₂, arith, by_eq_or_not, number_at, refl, sym, ℕ, ◌*◌, ◌+◌}
 use Rattle.local_run.proofs.Imports.{◌/◌, ◌<◌, ◌∙◌, ◌≡◌}
+use Rattle.lanes.specs.Sweeps.{IsInRangeNotInWord}
+use Rattle.local_run.proofs.Imports.{AreSkippableBetween}
 use Rattle.lanes.proofs.FieldLemmas.{one_past, past_all}
 use Rattle.local_run.proofs.Silence.{passed_edges, passed_halo, same_place}
 use Rattle.local_run.proofs.border.set_halo_test_ring_in_word.Goals as goal
@@ -8,22 +10,19 @@ pub border-init : goal.border-init
 border-init c =
     let a = c.args in
     let m = a.marked_planes.now in
+    let unset : (x y : ℕ) →
+    IsInRangeNotInWord a.first (a.first + 64) a.word (number_at a.job.now.area x y) →
+    AreSkippableBetween (number_at a.job.now.area x y) (number_at a.job.now.area x y + 1) a.lines.now.marks.items
+    m.planes = λ x y past.
+    c.requires.unset_are_skippable (number_at a.job.now.area x y) (omega (arith, past.0, past.1)) past.2 in
     record {
       shows = c.requires.shows;
       halo = λ x y lx ly past.
-          let n = number_at a.job.now.area x y in
-          passed_halo a.job.now a.values.now m.planes a.lines.now.time n
-          (n + 1) x y a.lines.now.marks.items c.requires.job_ready
-          c.requires.shows c.requires.lines
-          (c.requires.unset_are_skippable n (omega (arith, past.0, past.1)) past.2) lx ly
-          (omega arith) (omega arith);
+          passed_halo a.job.now a.values.now m.planes a.lines.now.time x y a.lines.now.marks.items c.requires.job_ready
+          c.requires.shows c.requires.lines (unset x y past) lx ly;
       right = λ e x y lx ly past.
-          let n = number_at a.job.now.area x y in
-          passed_edges a.job.now a.values.now m.planes a.lines.now.time n
-          (n + 1) x y a.lines.now.marks.items c.requires.job_ready
-          c.requires.shows c.requires.lines
-          (c.requires.unset_are_skippable n (omega (arith, past.0, past.1)) past.2) lx ly
-          (omega arith) (omega arith);
+          passed_edges a.job.now a.values.now m.planes a.lines.now.time x y a.lines.now.marks.items c.requires.job_ready
+          c.requires.shows c.requires.lines (unset x y past) lx ly;
       same = λ b x y lb lx before. refl;
     }
 

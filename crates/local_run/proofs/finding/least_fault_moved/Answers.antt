@@ -7,7 +7,7 @@ returns-in-Some-clause-least c =
     let j = c.args.from.now in
     let k = c.args.to.now in
     subst (λ (f : Fault). IsLeastFault k (Some f)) (sym c.fault_moved_to_job.ensures)
-    (least_moved j k (Some c.in-Some.fault) c.area-from.ensures.job_valid c.area-to.ensures.job_valid
+    (least_moved j k (Some c.in-Some.fault) c.prove_valid.ensures c.prove_valid-2.ensures
     c.requires.same_shape
     (subst (λ (o : Option Fault). IsLeastFault j o) c.in-Some.is c.requires.least))
 
@@ -15,5 +15,5 @@ pub returns-in-None-clause-least : goal.returns-in-None-clause-least
 returns-in-None-clause-least c =
     let j = c.args.from.now in
     let k = c.args.to.now in
-    least_moved j k None c.area-from.ensures.job_valid c.area-to.ensures.job_valid c.requires.same_shape
+    least_moved j k None c.prove_valid.ensures c.prove_valid-2.ensures c.requires.same_shape
     (subst (λ (o : Option Fault). IsLeastFault j o) c.in-None.is c.requires.least)

@@ -1,5 +1,6 @@
+use Rattle.module_box.proofs.Imports.{length, take}
 use Rattle.module_box.proofs.Tilings.{IsTakenBy}
 use Rattle.module_box.proofs.tile.owner_table.Given as goal
 
 abbrev pub invariant-boxes : goal.invariant-boxes
-invariant-boxes l = IsTakenBy l.columns l.blocks l.number l.boxes l.numbers.items
+invariant-boxes l = IsTakenBy l.columns l.blocks (length l.boxes) (take l.number l.boxes) l.numbers.items

@@ -1,5 +1,5 @@
-use Rattle.bbm_rule.proofs.Imports.{ap, arith, length, with_items, with_items_is, ◌*◌, ◌≡◌}
-use Rattle.bbm_rule.proofs.BandLemmas.{even_fill, odd_fill}
+use Rattle.bbm_rule.proofs.Imports.{ap, arith, length, with_items, with_items_is, ◌*◌, ◌+◌, ◌≡◌}
+use Rattle.bbm_rule.proofs.BandLemmas.{row_changed}
 use Rattle.bbm_rule.proofs.GridLemmas.{plane_of, fill_plane, filled_cells, grid_of, board_of_words}
 use Rattle.bbm_rule.proofs.grid.Grid.fill_row.Goals as goal
 
@@ -10,6 +10,7 @@ invariant_of-self c =
     let g = c.self.inside in
     let ok = c.self.invariant in
     let plane = plane_of g ok in
+    let place = 64 * g.stride * (c.args.y + 1) + (c.args.x + 1) in
     let fills = rw c.deref_mut.ensures.value at c.fill_cells.ensures in
     let evens = rw c.deref_mut-2.ensures.value at c.mark.ensures in
     let odds = rw c.deref_mut-3.ensures.value at c.mark-2.ensures in
@@ -26,10 +27,11 @@ invariant_of-self c =
     long long_e long_o
     (fill_plane g.width g.height (64 * g.stride) g.words.items c.fill_cells.new.words c.args.x c.args.y c.args.width
     plane columns row fills)
-    (even_fill (64 * g.stride) _ c.args.x c.args.y c.args.width g.even_marks.items _ g.words.items _ plane.row
-    (omega (arith, plane.room, columns)) fills evens ok.even_calm)
-    (odd_fill (64 * g.stride) _ c.args.x c.args.y c.args.width g.odd_marks.items _ g.words.items _ plane.row
-    (omega (arith, plane.room, columns)) fills odds ok.odd_calm)
+    (row_changed (64 * g.stride + 1) (64 * g.stride) _ c.args.x c.args.y c.args.width place g.even_marks.items _
+    g.words.items _ plane.row (omega (arith, plane.room, columns)) (omega arith) fills.before fills.after evens
+    ok.even_calm)
+    (row_changed 0 (64 * g.stride) _ (c.args.x + 1) (c.args.y + 1) c.args.width place g.odd_marks.items _ g.words.items
+    _ plane.row (omega (arith, plane.room, columns)) (omega arith) fills.before fills.after odds ok.odd_calm)
 
 pub returns-clause-cells : goal.returns-clause-cells
 returns-clause-cells c = λ u v.

@@ -1,12 +1,9 @@
 use Rattle.bbm_rule.proofs.Imports.{ap, arith, common_steps, length, with_items, with_items_is, ◌%◌, ◌*◌, ◌+◌, ◌-◌, ◌/◌}
 use Rattle.bbm_rule.proofs.Imports.{◌≡◌}
-use Rattle.bbm_rule.proofs.GridLemmas.{plane_of, grid_of, board_of_words, margin_kept, aligned_room, shifted_room}
+use Rattle.bbm_rule.proofs.GridLemmas.{plane_of, grid_of, board_of_words, margin_kept}
 use Rattle.bbm_rule.proofs.BoardLemmas.{even_plane, even_step, odd_plane, odd_step, odd_leaves, undone, board_same}
 use Rattle.bbm_rule.proofs.BoardLemmas.{plane_same}
 use Rattle.bbm_rule.proofs.grid.Grid.step.Goals as goal
-
-pub turn_all_shifted-requires-clause-pairs_inside : goal.turn_all_shifted-requires-clause-pairs_inside
-turn_all_shifted-requires-clause-pairs_inside c = grind (arith, common_steps, shifted_room)
 
 pub invariant_of-self : goal.invariant_of-self
 invariant_of-self c = grind (arith, common_steps, grid_of, with_items_is, even_plane, plane_of)
@@ -26,16 +23,8 @@ returns-then-t-eq0-clause-stepped c =
     ) (even_step c.args.t g.width g.height (64 * g.stride) (g.height / 2) g.words.items _ c.if-t-eq0.true
     (plane_of g ok) rows (omega (arith, ok.height.2)))
 
-pub turn_all_aligned-requires-clause-pairs_inside : goal.turn_all_aligned-requires-clause-pairs_inside
-turn_all_aligned-requires-clause-pairs_inside c = grind (arith, common_steps, aligned_room)
-
 pub has_live_margin-requires-clause-unmarked : goal.has_live_margin-requires-clause-unmarked
 has_live_margin-requires-clause-unmarked c = grind (arith, common_steps, with_items_is, margin_kept, plane_of)
-
-pub turn_all_aligned-requires-then-has_live_margin-clause-pairs_inside :
-    goal.turn_all_aligned-requires-then-has_live_margin-clause-pairs_inside
-turn_all_aligned-requires-then-has_live_margin-clause-pairs_inside c =
-    grind (arith, common_steps, with_items_is, aligned_room)
 
 pub returns-then-has_live_margin-clause-cell_leaves_on_error :
     goal.returns-then-has_live_margin-clause-cell_leaves_on_error

@@ -5,10 +5,10 @@ pub signal_at_event-requires-clause-cell_in_shift_range : goal.signal_at_event-r
 signal_at_event-requires-clause-cell_in_shift_range c =
     owned_near c.args.self.now c.args.event.at.cell c.owner-owner.result.now c.requires.borders_ready
     c.requires.cell_inside
-    c.owner-owner.ensures c.area-area.ensures.job_valid
+    c.owner-owner.ensures c.prove_valid.ensures
 
 pub signal_at-requires : goal.signal_at-requires
 signal_at-requires c =
     owned_near c.args.self.now c.args.event.at.cell c.owner-owner.result.now c.requires.borders_ready
     c.requires.cell_inside
-    c.owner-owner.ensures c.area-area.ensures.job_valid
+    c.owner-owner.ensures c.prove_valid.ensures

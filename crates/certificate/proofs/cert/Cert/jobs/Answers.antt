@@ -9,6 +9,9 @@ use Rattle.certificate.proofs.cert.Cert.jobs.Goals as goal
 pub jobs_of_version-requires-clause-good : goal.jobs_of_version-requires-clause-good
 jobs_of_version-requires-clause-good c = rw (c.in_ok-tables.ensures, c.deref.ensures.value) c.self.invariant.good
 
+pub jobs_of_version-requires-clause-owners : goal.jobs_of_version-requires-clause-owners
+jobs_of_version-requires-clause-owners c = rw (c.in_ok-tables.ensures, c.deref.ensures.value) c.self.invariant.owners
+
 pub returns : goal.returns
 returns c =
     let s : CertView = cert_view c.self.inside in

@@ -41,7 +41,7 @@ returns-then-is_live-2-clause-same_demand c =
     ∙ end_port (circuit_of a.circuit.now) a.layout.now x y c.is_live.result
     (c.is_live.ensures ∙ c.self.invariant.mirrors x y) c.if-is_live.false None
     (no_port_there (circuit_of a.circuit.now) _
-    (c.in_default.ensures ∙ ap (λ t. wires_at t x y) c.self.invariant.outs)))
+    (c.in_default.ensures ∙ ap (λ t. wires_at t x y) c.self.invariant.ports.outputs)))
 
 pub returns-else-is_live-2-clause-same_demand : goal.returns-else-is_live-2-clause-same_demand
 returns-else-is_live-2-clause-same_demand c =
@@ -52,4 +52,4 @@ returns-else-is_live-2-clause-same_demand c =
     ∙ end_port (circuit_of a.circuit.now) a.layout.now x y c.is_live.result
     (c.is_live.ensures ∙ c.self.invariant.mirrors x y) c.if-is_live.false None
     (no_port_there (circuit_of a.circuit.now) _
-    (c.in_default.ensures ∙ ap (λ t. wires_at t x y) c.self.invariant.outs)))
+    (c.in_default.ensures ∙ ap (λ t. wires_at t x y) c.self.invariant.ports.outputs)))

@@ -41,4 +41,4 @@ returns-in-None-clause-same_signal c =
     (c.is_live-mirror.ensures ∙ c.self.invariant.mirrors x y)
     (c.is_live-ball.ensures ∙ c.self.invariant.balls x y) c.if-mirror-ball.false _
     (no_port_there (circuit_of a.circuit.now) _
-    (c.in-None.ensures ∙ ap (λ t. wires_at t x y) c.self.invariant.ins)))
+    (c.in-None.ensures ∙ ap (λ t. wires_at t x y) c.self.invariant.ports.inputs)))

@@ -8,25 +8,25 @@ use Rattle.certificate_lines.proofs.builder.Builder.add_border_or_stop.Goals as 
 pub push_in_last-requires-clause-some_module : goal.push_in_last-requires-clause-some_module
 push_in_last-requires-clause-some_module c =
     let g = c.self.inside.tables in
-    let good = good_line g _ c.args.entry (grind (arith, common_steps)) in
+    let good = good_line g _ c.args.entry.now (grind (arith, common_steps)) in
     some_module g.circuit c.self.inside.modules.items good.module_lines good.last
 
 pub push_in_last-requires-clause-line : goal.push_in_last-requires-clause-line
 push_in_last-requires-clause-line c =
     let g = c.self.inside.tables in
-    let good = good_line g _ c.args.entry (grind (arith, common_steps)) in
-    may_store g good.module_lines c.args.entry c.wire_in-wire.result
+    let good = good_line g _ c.args.entry.now (grind (arith, common_steps)) in
+    may_store g good.module_lines c.args.entry.now c.wire_in-wire.result
     (last_good g _ _ _ _ _ _ c.self.invariant.tracked.kept good.module_lines good.last)
     c.wire_in-wire.ensures.size_limits c.wire_in-wire.ensures.gates_at_most_1024
-    (border_is_inner c.args.entry c.requires) good.words
-    (named_line g good.module_lines c.args.entry c.wire_in-wire.result good.words c.wire_in-wire.ensures.wire)
+    (border_is_inner c.args.entry.now c.requires) good.words
+    (named_line g good.module_lines c.args.entry.now c.wire_in-wire.result good.words c.wire_in-wire.ensures.wire)
 
 pub invariant_of-self-in_err-push_in_last : goal.invariant_of-self-in_err-push_in_last
 invariant_of-self-in_err-push_in_last c =
     let g = c.self.inside.tables in
-    let good = good_line g (lines_of_modules g.circuit c.self.inside.modules.items) c.args.entry
+    let good = good_line g (lines_of_modules g.circuit c.self.inside.modules.items) c.args.entry.now
     (grind (arith, common_steps)) in
-    let own = named_line g good.module_lines c.args.entry c.wire_in-wire.result good.words
+    let own = named_line g good.module_lines c.args.entry.now c.wire_in-wire.result good.words
     c.wire_in-wire.ensures.wire in
     rw (c.wire_in-wire.ensures.same_setting, c.make_room_for_stars.ensures.edges, c.make_room_for_stars.ensures.halos)
     (kept_left g c.self.inside.modules.items c.push_in_last.new.modules.items _ _ _ _ _ _ c.self.invariant
@@ -37,14 +37,14 @@ pub invariant_of-self-2 : goal.invariant_of-self-2
 invariant_of-self-2 c =
     let g = c.self.inside.tables in
     let ms = c.self.inside.modules.items in
-    let good = good_line g (lines_of_modules g.circuit ms) c.args.entry (grind (arith, common_steps)) in
-    let own = named_line g good.module_lines c.args.entry c.wire_in-wire.result good.words
+    let good = good_line g (lines_of_modules g.circuit ms) c.args.entry.now (grind (arith, common_steps)) in
+    let own = named_line g good.module_lines c.args.entry.now c.wire_in-wire.result good.words
     c.wire_in-wire.ensures.wire in
     rw (c.wire_in-wire.ensures.same_setting, c.key_of-self-inside.ensures)
     (kept_border g ms c.push_in_last.new.modules.items _ _ _ _ _ _ c.self.invariant
-    (c.push_in_last.ensures.wires g.circuit own c.self.invariant.wires) c.args.entry good
+    (c.push_in_last.ensures.wires g.circuit own c.self.invariant.wires) c.args.entry.now good
     (c.in_ok-push_in_last.ensures.lines g.circuit own
-    (follows_last g.circuit ms good.module_lines c.args.entry good.last
+    (follows_last g.circuit ms good.module_lines c.args.entry.now good.last
     good.follows)) c.note_stars.new.edges.keys c.note_stars.new.halos.keys (grind (arith, common_steps))
     (grind (arith, common_steps)) c.requires)
 
@@ -52,9 +52,9 @@ pub returns-clause-ok : goal.returns-clause-ok
 returns-clause-ok c =
     let g = c.self.inside.tables in
     let ms = c.self.inside.modules.items in
-    let good = good_line g (lines_of_modules g.circuit ms) c.args.entry (grind (arith, common_steps)) in
-    let own = named_line g good.module_lines c.args.entry c.wire_in-wire.result good.words
+    let good = good_line g (lines_of_modules g.circuit ms) c.args.entry.now (grind (arith, common_steps)) in
+    let own = named_line g good.module_lines c.args.entry.now c.wire_in-wire.result good.words
     c.wire_in-wire.ensures.wire in
     let more = c.in_ok-push_in_last.ensures.lines g.circuit own
-    (follows_last g.circuit ms good.module_lines c.args.entry good.last good.follows) in
+    (follows_last g.circuit ms good.module_lines c.args.entry.now good.last good.follows) in
     grind (arith, common_steps)

@@ -1,5 +1,5 @@
-use Rattle.certificate_lines.proofs.Imports.{BuilderView, None, Some, ap, is_last_module_incomplete, last_module}
-use Rattle.certificate_lines.proofs.Imports.{option_map, size_fault, subst, sym, ◌+◌, ◌∙◌, ◌≡◌, ◌≤◌}
+use Rattle.certificate_lines.proofs.Imports.{BuilderView, Some, ap, is_last_module_incomplete, last_module}
+use Rattle.certificate_lines.proofs.Imports.{option_map, subst, sym, ◌+◌, ◌∙◌, ◌≡◌, ◌≤◌}
 use Rattle.certificate_lines.specs.StoredModules.{module_lines}
 use Rattle.certificate_lines.specs.declared.stored_module.StoredModule.{StoredModule}
 use Rattle.std.proofs.Common.{Bor}
@@ -12,7 +12,7 @@ has_nonlocal_port-requires c =
     subst (λ (s : BuilderView). last_module s.entries ≡ Some (module_lines s.setting.circuit n) →
     (n.area.x + n.area.w ≤ 512) × (n.area.y + n.area.h ≤ 512)) c.self.view_is
     (λ l. last_fits _ _ _ _ _ _ _ c.self.invariant.tracked.kept (module_lines c.self.inside.tables.circuit n) l
-    (subst (λ s. size_fault s ≡ None) c.size-size.ensures.size c.size-size.ensures.limits))
+    c.prove_valid.ensures)
     (sym c.last_module.ensures.module ∙ ap (option_map (λ (m : Bor StoredModule).
     module_lines c.args.self.now.setting.circuit m.now)) c.in-Some.is)
 

@@ -1,26 +1,26 @@
-use Rattle.certificate_lines.proofs.Imports.{Bool, BuilderView, LayoutHeader, ModuleLines, SFits, ap, ap₂, arith}
+use Rattle.certificate_lines.proofs.Imports.{Bool, BuilderView, ModuleLines, SFits, ap, ap₂, arith}
 use Rattle.certificate_lines.proofs.Imports.{common_steps, in_box, is_outside_and_nonlocal, list_any, modules_of}
 use Rattle.certificate_lines.proofs.Imports.{partner, rules, size_sides, subst, sym, to_z-of_z, true, w32, whole, ℤ}
 use Rattle.certificate_lines.proofs.Imports.{◌&&◌, ◌||◌, ◌∙◌, ◌≡◌}
-use Rattle.certificate_lines.proofs.ModuleBoxes.{EvenBoxes, even_boxes}
 use Rattle.certificate_lines.proofs.OddBlocks.{lacked_beside, low_cell}
-use Rattle.certificate_lines.specs.BuilderView.{builder_lines}
 use Rattle.certificate_lines.proofs.builder.Builder.is_nonlocal_in_neighbour.Goals as goal
 
 pub odd_partner-column-requires : goal.odd_partner-column-requires
 odd_partner-column-requires c =
-    let sides = size_sides c.size-size.result c.size-size.ensures.limits in
-    let same = c.size-size.ensures.size ∙ ap (λ (s : BuilderView). s.setting.size) c.self.view_is in
-    let low = low_cell c.size-size.result.w c.size-size.result.h c.args.cell.x c.args.cell.y sides.0.most sides.1.most
-    (subst (λ (s : LayoutHeader). in_box (whole s) c.args.cell.x c.args.cell.y ≡ true) (sym same) c.requires.inside) in
+    let size = c.self.inside.tables.size in
+    let sides = size_sides size c.prove_valid.ensures in
+    let low = low_cell size.w size.h c.args.cell.x c.args.cell.y sides.0.most sides.1.most
+    (subst (λ (s : BuilderView). in_box (whole s.setting.size) c.args.cell.x c.args.cell.y ≡ true) (sym c.self.view_is)
+    c.requires) in
     grind (arith, common_steps)
 
 pub odd_partner-row-requires : goal.odd_partner-row-requires
 odd_partner-row-requires c =
-    let sides = size_sides c.size-size.result c.size-size.ensures.limits in
-    let same = c.size-size.ensures.size ∙ ap (λ (s : BuilderView). s.setting.size) c.self.view_is in
-    let low = low_cell c.size-size.result.w c.size-size.result.h c.args.cell.x c.args.cell.y sides.0.most sides.1.most
-    (subst (λ (s : LayoutHeader). in_box (whole s) c.args.cell.x c.args.cell.y ≡ true) (sym same) c.requires.inside) in
+    let size = c.self.inside.tables.size in
+    let sides = size_sides size c.prove_valid.ensures in
+    let low = low_cell size.w size.h c.args.cell.x c.args.cell.y sides.0.most sides.1.most
+    (subst (λ (s : BuilderView). in_box (whole s.setting.size) c.args.cell.x c.args.cell.y ≡ true) (sym c.self.view_is)
+    c.requires) in
     grind (arith, common_steps)
 
 pub returns : goal.returns
@@ -47,6 +47,4 @@ returns c =
     (ap₂ (λ a b. a || b) (beside ∙ ap (λ x. asks x cell.y) px) (above ∙ ap (asks cell.x) py))
     (corner ∙ ap₂ asks px py)
     ∙ lacked_beside v.setting.circuit ms cell c.args.wire
-    (subst (λ (s : BuilderView). EvenBoxes (modules_of s.entries)) c.self.view_is
-    (even_boxes c.self.inside.tables
-    (modules_of (builder_lines c.self.inside)) c.self.invariant.tracked.kept.built.sound))
+    (λ k m e. (c.self.invariant.tracked.kept.built.sound.each k m (rw (← c.self.view_is) at e)).good.even)

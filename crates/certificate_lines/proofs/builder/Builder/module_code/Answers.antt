@@ -1,32 +1,27 @@
-use Rattle.certificate_lines.proofs.Imports.{BuilderView, None, areas, arith, module_box_code, common_steps}
-use Rattle.certificate_lines.proofs.Imports.{last_module, length, modules_of, subst, sym, ◌∙◌, ◌≡◌}
-use Rattle.certificate_lines.proofs.BuiltLemmas.{early_fault, live_overlaps, no_fault, overlap_fault}
+use Rattle.certificate_lines.proofs.Imports.{ap, code_if, last_module, modules_of, not, sym, ◌∙◌}
+use Rattle.section_text.specs.declared.code.RefusalCode.TheVariants.{MisplacedBox}
+use Rattle.certificate_lines.proofs.BuiltLemmas.{early_fault}
+use Rattle.certificate_lines.proofs.ModuleBoxes.{module_code_by}
 use Rattle.certificate_lines.specs.BuilderView.{builder_lines}
 use Rattle.certificate_lines.proofs.builder.Builder.module_code.Goals as goal
 
-pub returns-in-Some-clause-code : goal.returns-in-Some-clause-code
-returns-in-Some-clause-code c =
+pub returns-in-Some : goal.returns-in-Some
+returns-in-Some c =
     sym (early_fault c.args.self.now.setting (modules_of c.args.self.now.entries)
-    (last_module c.args.self.now.entries) c.args.area c.in-Some.code (sym c.box_code.ensures.code ∙ c.in-Some.is))
+    (last_module c.args.self.now.entries) c.args.area c.in-Some.code (sym c.box_code.ensures ∙ c.in-Some.is))
 
-pub returns-then-is_any_live_in-clause-code : goal.returns-then-is_any_live_in-clause-code
-returns-then-is_any_live_in-clause-code c =
-    let es = (builder_lines c.self.inside) in
-    let good = subst (λ (s : BuilderView).
-    module_box_code s.setting (length (modules_of s.entries)) (last_module s.entries) c.args.area ≡ None)
-    (sym c.self.view_is)
-    (sym c.box_code.ensures.code ∙ c.in_default.is) in
-    let same = live_overlaps (areas (modules_of es)) c.args.area c.self.inside.covered
-    c.self.invariant.tracked.kept.built.cells in
-    grind (arith, common_steps, overlap_fault)
+pub returns-then-not-is_box_free : goal.returns-then-not-is_box_free
+returns-then-not-is_box_free c =
+    let es = builder_lines c.self.inside in
+    rw (← c.self.view_is) (sym (module_code_by c.self.inside.tables (modules_of es) c.self.inside.owners
+    c.self.invariant.tracked.kept.built.owners (last_module es) c.args.area
+    (rw (← c.self.view_is) at (sym c.box_code.ensures ∙ c.in_default.is)) c.is_box_free.result c.is_box_free.ensures
+    ∙ ap (λ b. code_if (not b) MisplacedBox) c.if-not-is_box_free.true))
 
-pub returns-clause-code : goal.returns-clause-code
-returns-clause-code c =
-    let es = (builder_lines c.self.inside) in
-    let good = subst (λ (s : BuilderView).
-    module_box_code s.setting (length (modules_of s.entries)) (last_module s.entries) c.args.area ≡ None)
-    (sym c.self.view_is)
-    (sym c.box_code.ensures.code ∙ c.in_default.is) in
-    let same = live_overlaps (areas (modules_of es)) c.args.area c.self.inside.covered
-    c.self.invariant.tracked.kept.built.cells in
-    grind (arith, common_steps, no_fault)
+pub returns : goal.returns
+returns c =
+    let es = builder_lines c.self.inside in
+    rw (← c.self.view_is) (sym (module_code_by c.self.inside.tables (modules_of es) c.self.inside.owners
+    c.self.invariant.tracked.kept.built.owners (last_module es) c.args.area
+    (rw (← c.self.view_is) at (sym c.box_code.ensures ∙ c.in_default.is)) c.is_box_free.result c.is_box_free.ensures
+    ∙ ap (λ b. code_if (not b) MisplacedBox) c.if-not-is_box_free.false))

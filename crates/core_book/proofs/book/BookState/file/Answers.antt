@@ -61,32 +61,11 @@ returns-in_default-clause-after c =
 
 pub returns-in_default-clause-counted : goal.returns-in_default-clause-counted
 returns-in_default-clause-counted c =
-    grind (
-      arith,
-      common_steps,
-      accepted_in-filed,
-      without,
-      c.args.self.now,
-      c.args.finding,
-      c.self.invariant.book,
-      c.self.view_is,
-      c.filing_of-filing.ensures,
-      c.in_default.not-Accepted,
-    )
+    grind (arith, common_steps, accepted_in-filed, without)
 
 pub index_mut-requires : goal.index_mut-requires
 index_mut-requires c =
-    grind (
-      arith,
-      common_steps,
-      accepted-inside,
-      accepted,
-      filing,
-      c.args.finding,
-      c.self.invariant.book,
-      c.in-Accepted.is,
-      c.filing_of-filing.result.number,
-    )
+    grind (arith, common_steps, accepted-inside, accepted, filing)
 
 pub invariant_of-self-2 : goal.invariant_of-self-2
 invariant_of-self-2 c =

@@ -4,12 +4,4 @@ use Rattle.core_book.proofs.book.BookState.new.Goals as goal
 pub returns : goal.returns
 unfolding new_book
 returns c =
-    grind (
-      arith,
-      common_steps,
-      length-map,
-      c.in_ok-found.found.items,
-      c.args.jobs.items,
-      c.args.digest,
-      c.new.ensures.items,
-    )
+    grind (arith, common_steps, length-map)

@@ -15,40 +15,11 @@ is_open c = ap (λ (v : BookView). v.closed) (sym c.self.view_is) ∙ c.if-self.
 
 pub returns-then-ne : goal.returns-then-ne
 returns-then-ne c =
-    grind (
-      arith,
-      common_steps,
-      reply_to-other_digest,
-      is_open,
-      digest-differs,
-      c.args.self.now,
-      c.args.finding.now,
-      c.self.inside.digest,
-      c.self.view_is,
-      c.digest.result,
-      c.ne.result,
-      c.ne.ensures,
-      c.digest.ensures,
-      c.if-ne.true,
-    )
+    grind (arith, common_steps, reply_to-other_digest, is_open, digest-differs)
 
 agrees : (c : After-len) → pointwise nat_eq (digest_of c.args.finding.now) c.args.self.now.digest ≡ true
 agrees c =
-    grind (
-      arith,
-      common_steps,
-      digest-agrees,
-      c.self.inside.digest,
-      c.args.self.now.digest,
-      c.self.view_is,
-      c.args.self.now,
-      c.args.finding.now,
-      c.digest.result,
-      c.ne.result,
-      c.ne.ensures,
-      c.digest.ensures,
-      c.if-ne.false,
-    )
+    grind (arith, common_steps, digest-agrees)
 
 -- the length of the list of jobs as the code sees it
 count : (c : After-len) → c.len.result ≡ length c.args.self.now.jobs
@@ -58,21 +29,7 @@ count c =
 
 pub returns-then-number-len : goal.returns-then-number-len
 returns-then-number-len c =
-    grind (
-      arith,
-      common_steps,
-      reply_to-other_number,
-      is_open,
-      agrees,
-      number-past,
-      count,
-      c.args.self.now,
-      c.args.finding.now,
-      c.number-number.result,
-      c.len.result,
-      c.number-number.ensures,
-      c.if-number-len.true,
-    )
+    grind (arith, common_steps, reply_to-other_number, is_open, agrees, number-past, count)
 
 pub returns-then-not-same : goal.returns-then-not-same
 returns-then-not-same c =
@@ -90,36 +47,8 @@ within c len = number-within c.args.self.now c.args.finding.now c.number-number.
 
 pub returns-in-Some : goal.returns-in-Some
 returns-in-Some c =
-    grind (
-      arith,
-      common_steps,
-      reply_to-held,
-      is_open,
-      agrees,
-      within,
-      count,
-      c.args.self.now,
-      c.args.finding.now,
-      c.number-number.ensures,
-      c.in-Some.ensures.held,
-      c.requires,
-      c.if-not-same.false,
-    )
+    grind (arith, common_steps, reply_to-held, is_open, agrees, within, count)
 
 pub returns-in-None : goal.returns-in-None
 returns-in-None c =
-    grind (
-      arith,
-      common_steps,
-      reply_to-new,
-      is_open,
-      agrees,
-      within,
-      count,
-      c.args.self.now,
-      c.args.finding.now,
-      c.number-number.ensures,
-      c.in-None.ensures.held,
-      c.requires,
-      c.if-not-same.false,
-    )
+    grind (arith, common_steps, reply_to-new, is_open, agrees, within, count)

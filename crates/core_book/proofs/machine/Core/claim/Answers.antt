@@ -35,18 +35,7 @@ kept c same = map-set_same (λ (v : Vec ℕ Global). v.items) c.self.inside.draw
 
 pub invariant_of-self : goal.invariant_of-self
 invariant_of-self c =
-    grind (
-      arith,
-      common_steps,
-      kept,
-      length-set,
-      c.self.invariant,
-      c.self.inside,
-      c.in_default.ensures.unchanged,
-      c.self.inside.draws.items,
-      c.args.seat,
-      c.next_claim.new.drawn,
-    )
+    grind (arith, common_steps, kept, length-set)
 
 pub returns-in_default-clause-unchanged : goal.returns-in_default-clause-unchanged
 returns-in_default-clause-unchanged c =
@@ -61,22 +50,7 @@ left : (c : After-next_claim) (next : ℕ) →
     { next = next; draws = lists_of (set c.self.inside.draws.items c.args.seat c.next_claim.new.drawn) }
     ≡ after_claim (core_view c.self.inside) c.args.seat
 left c next next_is drawn_is =
-    grind (
-      arith,
-      common_steps,
-      at-After-next_claim,
-      left-claim,
-      count,
-      was,
-      map-set,
-      c.self.inside,
-      c.args.seat,
-      c.jobs-count.result.now,
-      c.index_mut.result.now.items,
-      c.next_claim.new.drawn.items,
-      c.self.inside.draws.items,
-      c.next_claim.new.drawn,
-    )
+    grind (arith, common_steps, at-After-next_claim, left-claim, count, was, map-set)
 
 pub invariant_of-self-2 : goal.invariant_of-self-2
 invariant_of-self-2 c =
@@ -92,13 +66,4 @@ invariant_of-self-2 c =
 
 pub returns-clause-after : goal.returns-clause-after
 returns-clause-after c =
-    grind (
-      arith,
-      common_steps,
-      left,
-      c.in-Ok.next,
-      c.in-Ok.ensures.next,
-      c.in-Ok.ensures.draws,
-      c.args.seat,
-      c.self.view_is,
-    )
+    grind (arith, common_steps, left)

@@ -7,7 +7,7 @@ use Rattle.pattern.proofs.draft.Draft.add.Goals as goal
 pub take_cells_if-requires : goal.take_cells_if-requires
 take_cells_if-requires c =
     lies_on c.self.inside.cells_taken_at_start c.self.inside.layout.size
-    (ap size_fault (sym c.size-size.ensures.size) ∙ c.size-size.ensures.limits)
+    c.prove_valid.ensures.limits
     c.self.invariant.begun_width c.self.invariant.begun_height c.args.part
     (faultless_is_inside c.self.inside.layout.size (parts_of c.self.inside.layout) c.args.part
     (ap (λ (p : Pattern). cell_fault p.size (parts_of p) c.args.part) c.self.view_is
@@ -16,7 +16,7 @@ take_cells_if-requires c =
 pub take_cells_if-requires-2 : goal.take_cells_if-requires-2
 take_cells_if-requires-2 c =
     lies_on c.self.inside.cells_taken_at_end c.self.inside.layout.size
-    (ap size_fault (sym c.size-size.ensures.size) ∙ c.size-size.ensures.limits)
+    c.prove_valid.ensures.limits
     c.self.invariant.ended_width c.self.invariant.ended_height c.args.part
     (faultless_is_inside c.self.inside.layout.size (parts_of c.self.inside.layout) c.args.part
     (ap (λ (p : Pattern). cell_fault p.size (parts_of p) c.args.part) c.self.view_is
