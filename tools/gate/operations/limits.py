@@ -49,7 +49,7 @@ def limits_statuses(_):
 
 # For each text of bench/make_hostile.py how many MiB `check` may take of it at most. bench/README.md lists what was measured. Each
 # text has 16 MiB, and takes more than this if it is held while the modules are run.
-MOST_MEMORY = {"most_edges": 112, "most_stops": 86}
+MOST_MEMORY = {"most_edges": 78, "most_stops": 40}
 
 
 def memory_of(words, text):
