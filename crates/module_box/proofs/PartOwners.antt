@@ -99,27 +99,34 @@ module _ (o : OwnersView) (t : IsOwnersTable o) where
 
 pub puts_box : (o : OwnersView) (b : Box2) → MayPut o b → (number stop : ℕ) (new : List ℕ) →
     TakesBox (o.width / 2) b no_owner number stop o.numbers new → PutsBox b number o (record o { numbers = new })
-puts_box o b may number stop new takes = record {
-  width = refl;
-  height = refl;
-  boxes = λ boxes part is few.
-      let w = takes.within in
-      let whole : stop ≡ length o.numbers = elim (below_or_from stop (length o.numbers)) [
-        | inl lt ↦ absurd (let e = takes.ends lt in e.1 (may.free stop lt e.0))
-        | inr le ↦ omega (arith, le, w)
-      ] in
-      let t = part.table in
-      record {
-        table = record { width = t.width; height = t.height; sized = takes.sized ∙ t.sized };
-        each = λ i d e. elim (pushed boxes b i d e) [
-          | inl old ↦ part.each i d old
-          | inr last ↦ subst (λ (c : Box2). IsEven c × IsInside o.width o.height c) last.1 (may.even, may.inside)
-        ];
-        taken = (taken_by_next (o.width / 2) (length o.numbers) no_owner number stop boxes b o.numbers new
-            (record { taken = part.taken; bound = omega arith; twice = λ lt. absurd (omega (arith, lt)) }) is few takes
-            new (takes.sized ∙ sym whole) (λ k lt. refl)).taken;
-      };
-}
+puts_box o b may number stop new takes =
+    let w = takes.within in
+    let whole : stop ≡ length o.numbers = elim (below_or_from stop (length o.numbers)) [
+      | inl lt ↦ absurd (let e = takes.ends lt in e.1 (may.free stop lt e.0))
+      | inr le ↦ omega (arith, le, w)
+    ] in
+    record {
+      width = refl;
+      height = refl;
+      sized = takes.sized;
+      blocks = λ k lt here. (takes.taken k (omega (arith, lt, whole)) here).1;
+      others = λ k lt not. takes.others k (omega (arith, lt, whole)) not;
+      boxes = λ boxes part is few.
+          let t = part.table in
+          record {
+            table = record { width = t.width; height = t.height; sized = takes.sized ∙ t.sized };
+            each = λ i d e. elim (pushed boxes b i d e) [
+              | inl old ↦ part.each i d old
+              | inr last ↦ subst (λ (c : Box2). IsEven c × IsInside o.width o.height c) last.1 (may.even, may.inside)
+            ];
+            taken = (taken_by_next (o.width / 2) (length o.numbers) no_owner number stop boxes b o.numbers new
+                (record {
+                  taken = part.taken;
+                  bound = omega arith;
+                  twice = λ lt. absurd (omega (arith, lt));
+                }) is few takes new (takes.sized ∙ sym whole) (λ k lt. refl)).taken;
+          };
+    }
 
 pub no_box : (o : OwnersView) → IsOwnersTable o → o.numbers ≡ replicate ((o.height / 2) * (o.width / 2)) no_owner →
     ArePartOwners o []

@@ -1,8 +1,6 @@
 -- Boxes that tile a rectangle, by its blocks of two by two cells
 use Rattle.std.specs.Prelude.{◌≡◌, ℕ, ℤ, pos, ◌<◌, ◌≤◌, ◌+◌, ◌*◌, ◌/◌, ◌%◌, List, [], ◌∷◌, ◌++◌, length, None, Option}
-use Rattle.std.specs.Prelude.{Some}
-use Rattle.std.specs.Prelude.{slice_get, slice_index}
-use Rattle.std.specs.Prelude.{IsTrue}
+use Rattle.std.specs.Prelude.{IsTrue, Some, slice_get, slice_index}
 use Rattle.std.specs.Int.RustNames.{unsigned_abs}
 use Rattle.bbm_rule.specs.Boxes.{in_box, IsEven, Tile}
 use Rattle.bbm_rule.specs.declared.block.Box2.{Box2}
@@ -159,9 +157,14 @@ abbrev pub IsOwnerOrNone : List Box2 → ℤ → ℤ → Option ℕ → Type 0
 IsOwnerOrNone boxes x y None = (i : ℕ) → ¬ Holds boxes x y i
 IsOwnerOrNone boxes x y (Some i) = Holds boxes x y i
 
--- the table has one more box, with the next number
+-- The box's blocks have the number now, and the others are as before. With the next number the table has one more box.
 pub record PutsBox (b : Box2) (number : ℕ) (old new : OwnersView) : Type 0 where
   pub width : new.width ≡ old.width
   pub height : new.height ≡ old.height
+  pub sized : length new.numbers ≡ length old.numbers
+  pub blocks : (k : ℕ) → k < length old.numbers → HasBlockAtPlace b (old.width / 2) k →
+      slice_index new.numbers k ≡ number
+  pub others : (k : ℕ) → k < length old.numbers → ¬ HasBlockAtPlace b (old.width / 2) k →
+      slice_index new.numbers k ≡ slice_index old.numbers k
   pub boxes : (boxes : List Box2) → ArePartOwners old boxes → number ≡ length boxes → number < no_owner →
       ArePartOwners new (boxes ++ b ∷ [])
