@@ -143,7 +143,7 @@ fn timing_report_line(line: &TimeLine) -> ReportLine
 fn push_time_lines(lines: &mut Vec<ReportLine>, times: &[TimeLine]) -> Result<(), AllocError>
     ensures { OnOk result (lines.new.items ≡ lines.old.items ++ map timing_report_line times.now) }
 {
-    'times: for line in times {
+    for line in times {
         lines.push(timing_report_line(line))?;
     }
     Ok(())
@@ -162,7 +162,7 @@ fn faults_of_held_findings(
         IsFirstMissing book.now (map arc_value jobs.now) number }
 {
     let mut faults = Vec::with_capacity(alloc, jobs.len())?;
-    'modules: for (number, job) in jobs.iter().enumerate() {
+    for (number, job) in jobs.iter().enumerate() {
         let Some(finding) = book.found_for(number, job) else {
             return Err(Unfinished::Missing(number));
         };
@@ -178,7 +178,7 @@ fn faults_in_full_book(alloc: Global, book: &BookState) -> Result<Vec<LeastFault
 {
     let count = book.jobs().len();
     let mut faults = Vec::with_capacity(alloc, count)?;
-    'modules: for number in 0..count {
+    for number in 0..count {
         match book.found(number) {
             Some(finding) => faults.push(least_faults_of(finding))?,
             None => unreachable!(),
@@ -214,7 +214,7 @@ fn report_lines_on_modules(
     ensures { IfOk result (λ lines. lines.items ≡ report_lines_from 0 faults.now borders.now) }
 {
     let mut lines = Vec::new(alloc);
-    'modules: for (number, reasons) in faults.iter().enumerate() {
+    for (number, reasons) in faults.iter().enumerate() {
         push_line_if_some(&mut lines, local_line(number, reasons.fault))?;
         push_line_if_some(&mut lines, keep_line(number, reasons.keep))?;
         push_line_if_some(&mut lines, border_line(number, borders[number]))?;
@@ -234,7 +234,7 @@ fn report_lines(
         ≡ report_lines_from 0 faults.now borders.now ++ map (λ n. Unkept n) unkept.now) }
 {
     let mut lines = report_lines_on_modules(alloc, faults, borders)?;
-    'gates: for gate in unkept {
+    for gate in unkept {
         lines.push(ReportLine::Unkept { gate: *gate })?;
     }
     Ok(lines)

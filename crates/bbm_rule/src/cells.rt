@@ -82,7 +82,7 @@ pub(crate) fn fill_cells(words: &mut [u64], first: usize, count: usize)
 {
     let end = first + count;
     let mut at = first;
-    'words: while at < end {
+    while at < end {
         let next = end.min(64 * (at / 64 + 1));
         fill_in_word(words, at, next - at);
         at = next;
@@ -109,7 +109,7 @@ pub(crate) fn has_live_margin(
 {
     let pairs = height / 2 + 1;
     let mut pair = next_marked(marks, 0, pairs);
-    'rows: while pair < pairs {
+    while pair < pairs {
         if is_row_margin_live(words, stride, width, height, 2 * pair)
             || is_row_margin_live(words, stride, width, height, 2 * pair + 1)
         {

@@ -20,7 +20,7 @@ pub fn next_marked(marks: &[u64], from: usize, end: usize) -> usize
         return (from + rest.trailing_zeros() as usize).min(end);
     }
     // A whole word is read without a shift.
-    'words: for k in from / 64 + 1..end.div_ceil(64) {
+    for k in from / 64 + 1..end.div_ceil(64) {
         let whole = marks[k];
         if whole != 0 {
             return (64 * k + whole.trailing_zeros() as usize).min(end);
@@ -38,7 +38,7 @@ pub fn next_unmarked(marks: &[u64], from: usize, end: usize) -> usize
     ensures unmarked { result < end → IsUnmarked marks.now result }
 {
     let mut at = from;
-    'search: while at < end {
+    while at < end {
         let rest = !marks[at / 64] >> (at % 64);
         if rest != 0 {
             let found = at + rest.trailing_zeros() as usize;

@@ -168,7 +168,7 @@ pub(crate) fn turn_all_aligned(
         words.new }
 {
     let mut pair = next_marked(own, 0, pairs);
-    'rows: while pair < pairs {
+    while pair < pairs {
         if turn_aligned(words, 2 * (pair * stride), stride) {
             mark(own, pair);
             mark(others, pair);
@@ -200,7 +200,7 @@ pub(crate) fn turn_all_shifted(
     ensures others_calm { AreRowPairsStable 0 (64 * stride) (pairs + 1) others.new words.new }
 {
     let mut pair = next_marked(own, 0, pairs);
-    'rows: while pair < pairs {
+    while pair < pairs {
         if turn_shifted(words, stride + 2 * (pair * stride), stride) {
             mark(own, pair);
             mark(others, pair);

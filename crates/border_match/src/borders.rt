@@ -229,7 +229,7 @@ impl<'a> Borders<'a> {
             (IsAtUnmarkedEvent seen.now self.now.job.now.halos.events) best result }
     {
         let mut least = best;
-        'events: for place in 0..self.job.halo_events() {
+        for place in 0..self.job.halo_events() {
             if seen[place] {
                 continue;
             }
@@ -263,7 +263,7 @@ impl<'a> Borders<'a> {
         let mut least = best;
         // Most events of a long side are far from this module, so this test comes before all others.
         let mut place = first_place_near(&window, extent, events, &mut leaps);
-        'events: while place < events.len() {
+        while place < events.len() {
             let event = other.edge_event(place);
             // The events rise, so no fault of the rest is less either.
             if !is_less(possible_fault_at(event), least) {
@@ -314,7 +314,7 @@ impl<'a> Borders<'a> {
         ensures marked { AreHaloMarks self.now seen.new }
     {
         let mut least = best;
-        'modules: for number in near {
+        for number in near {
             least = self.with_edges_of(least, *number, extents, seen);
         }
         least

@@ -18,7 +18,7 @@ fn extent_of(events: &[TimedSignal]) -> Window
     ensures { IsExtent events.now result }
 {
     let mut extent = Window::EMPTY;
-    'events: for event in events {
+    for event in events {
         extent.include(event.at.cell);
     }
     extent
@@ -41,7 +41,7 @@ pub(crate) fn edge_event_extents(
     ensures { IfOk result (λ extents. AreEdgeEventExtents (map arc_value jobs.now) extents.items) }
 {
     let mut extents = Vec::with_capacity(alloc, jobs.len())?;
-    'jobs: for job in jobs {
+    for job in jobs {
         extents.push(edge_event_extent(job))?;
     }
     Ok(extents)

@@ -53,7 +53,7 @@ pub fn match_borders(
     let owners = cert.owners();
     let extents = edge_event_extents(alloc, jobs)?;
     let mut faults = Vec::new(alloc);
-    'jobs: for job in jobs {
+    for job in jobs {
         let borders = Borders {
             whole,
             owners,

@@ -57,7 +57,7 @@ impl<'a> Borders<'a> {
         let end = self.whole.w.min(area.x + area.w + 1);
         let mut x = area.x.saturating_sub(1);
         let mut next = area.y + area.h + 1;
-        'columns: while x < end {
+        while x < end {
             let cell = Cell {
                 x: x as i32,
                 y: y as i32,
@@ -80,7 +80,7 @@ impl<'a> Borders<'a> {
         let end = self.whole.h.min(area.y + area.h + 1);
         let mut near = Vec::new(alloc);
         let mut y = area.y.saturating_sub(1);
-        'rows: while y < end {
+        while y < end {
             y = self.add_other_owners_in_row(&mut near, y)?;
         }
         Ok(near)

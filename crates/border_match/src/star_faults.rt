@@ -21,7 +21,7 @@ impl<'a> Borders<'a> {
         requires { AreReadyBorders self.now }
         ensures { IsNextBest (IsFaultOfSearchedJob self.now) (λ h. h.cell ≡ cell) best result }
     {
-        'times: for time in 0..self.job.steps() {
+        for time in 0..self.job.steps() {
             let fault = BorderFault { time, cell };
             if self.is_fault(fault) {
                 return lesser(best, fault);
@@ -60,7 +60,7 @@ impl<'a> Borders<'a> {
     {
         let area = self.job.area();
         let mut least = best;
-        'stars: for place in 0..stars.len() {
+        for place in 0..stars.len() {
             let Some(cell) = plane_cell_if_near(area, corner, stars[place].cell) else {
                 continue;
             };
@@ -102,7 +102,7 @@ impl<'a> Borders<'a> {
             result }
     {
         let mut least = self.with_stars_of(best, self.job, RingOrHalo::Halo);
-        'modules: for number in near {
+        for number in near {
             least = self.with_stars_of(least, &self.jobs[*number], RingOrHalo::Ring);
         }
         least

@@ -157,7 +157,7 @@ pub(crate) fn find_first_not_before(
             _ => break,
         }
     }
-    'halves: while low < high {
+    while low < high {
         let middle = low + (high - low) / 2;
         match events[middle].at.compare(at) {
             Ordering::Less => low = middle + 1,
@@ -196,10 +196,10 @@ pub(crate) fn next_place_near(
     ensures passed_events_far { AreEventsFar window.now events.now from result }
 {
     let mut place = from;
-    'leaps: while place < events.len() {
+    while place < events.len() {
         let begin = place;
         let end = begin + leaps.wait.min(events.len() - begin - 1) + 1;
-        'looks: while place < end {
+        while place < end {
             if window.holds(events[place].at.cell) {
                 return place;
             }

@@ -25,7 +25,7 @@ fn hash_modules(
     ensures { OnOk result ((m : List ℕ) → Holds256 hasher.old m → Holds256 hasher.new
         (m ++ flat_map entry_text (lines_of_modules (circuit_of circuit.now) modules.now))) }
 {
-    'modules: for module in modules {
+    for module in modules {
         text.truncate(0);
         print_module_lines(text, circuit, module, &module.halos)?;
         hasher.update(text.as_slice());

@@ -53,7 +53,7 @@ fn edge_lines_at(
     ensures { IfOk result (λ lines. lines.items ≡ edge_lines_at modules.now places.now) }
 {
     let mut lines = Vec::with_capacity(alloc, places.len())?;
-    'places: for place in places {
+    for place in places {
         push_edge_at(&mut lines, modules, *place)?;
     }
     Ok(lines)

@@ -138,7 +138,7 @@ fn jobs_as_written(
         (with_lines tables.now.circuit modules.now) (map arc_value js.items)) }
 {
     let mut jobs = Vec::with_capacity(alloc, modules.len())?;
-    'modules: for module in modules {
+    for module in modules {
         let job = make_job(alloc, tables, module, &module.halos)?;
         jobs.push(job)?;
     }
@@ -165,7 +165,7 @@ fn jobs_with_implied_halos(
 {
     let mut places = neighbour_edge_places(alloc, tables, owners, modules)?;
     let mut jobs = Vec::with_capacity(alloc, modules.len())?;
-    'modules: for (number, module) in modules.iter().enumerate() {
+    for (number, module) in modules.iter().enumerate() {
         // The lists of all modules take much memory, so each is freed once its module has its halo lines.
         let halos = {
             let list = take_list(alloc, &mut places, number);

@@ -41,7 +41,7 @@ pub(crate) fn kept_places(
     ensures within { IfOk result (λ places. All (λ place. place < length gates.now) places.items) }
 {
     let mut places = Vec::with_capacity(alloc, keeps.len())?;
-    'keeps: for keep in keeps {
+    for keep in keeps {
         places.push(gate_place(gates, *keep))?;
     }
     Ok(places)
@@ -52,7 +52,7 @@ fn note_keeps(kept: &mut IndexSet<u32>, keeps: &[GateNo]) -> Result<(), AllocErr
     ensures { OnOk result ((n : ℕ) →
         is_among kept.new.keys n ≡ (is_among kept.old.keys n || is_among keeps.now n)) }
 {
-    'keeps: for keep in keeps {
+    for keep in keeps {
         kept.insert(u32::from(keep.number()))?;
     }
     Ok(())
@@ -64,7 +64,7 @@ fn kept_gates(alloc: Global, modules: &[StoredModule]) -> Result<IndexSet<u32>, 
         is_among kept.keys n ≡ is_kept (map (module_lines c) modules.now) n) }
 {
     let mut kept = IndexSet::new(alloc);
-    'modules: for module in modules {
+    for module in modules {
         note_keeps(&mut kept, &module.keeps)?;
     }
     Ok(kept)
@@ -104,7 +104,7 @@ impl<'a> Cert<'a> {
         let kept = kept_gates(alloc, &self.modules)?;
         let mut gates = Vec::new(alloc);
         let count = self.circuit.gates();
-        'gates: for number in 0..count {
+        for number in 0..count {
             let gate = self.circuit.gate(GateNo::of(number as u16));
             let keeps = is_kept(&kept, number);
             push_if_unkept_inverse(&mut gates, gate.kind().is_inverse(), keeps, number)?;

@@ -85,7 +85,7 @@ impl CellLists {
         ensures demands { OnOk result (self.new.demands
             ≡ self.old.demands ++ replicate count Demand.Live) }
     {
-        'mirrors: for _mirror in 0..count {
+        for _mirror in 0..count {
             self.push(Signal::One, Demand::Live)?;
         }
         Ok(())
@@ -346,7 +346,7 @@ impl<'a> LayoutTables<'a> {
     {
         let end = area.x + area.w;
         let mut x = area.x;
-        'cells: while x < end {
+        while x < end {
             let named = self.next_occupied(y, x, end);
             lists.push_dead(named - x)?;
             if named == end {
@@ -397,7 +397,7 @@ impl<'a> LayoutTables<'a> {
             ≡ end_demand (circuit_of self.now.circuit) self.now.layout x y) }
     {
         let mut lists = CellLists::new(alloc, area.w as usize * area.h as usize)?;
-        'rows: for y in area.y..area.y + area.h {
+        for y in area.y..area.y + area.h {
             self.push_row(locals, area, y, &mut lists)?;
         }
         let CellLists { starts, demands } = lists;

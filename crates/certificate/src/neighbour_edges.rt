@@ -159,7 +159,7 @@ fn push_module_places(
         AddsEdgePlaces ms boxes.now edges.now (map (λ l. l.items) lists.old.items)
         (map (λ l. l.items) lists.new.items)) }
 {
-    'lines: for (line, edge) in edges.iter().enumerate() {
+    for (line, edge) in edges.iter().enumerate() {
         let place = EdgePlace {
             number,
             line: line as u16,
@@ -185,7 +185,7 @@ fn push_edge_places(
         (flat_map (λ m. m.edges.items) modules.now) (map (λ l. l.items) lists.old.items)
         (map (λ l. l.items) lists.new.items)) }
 {
-    'modules: for (number, module) in modules.iter().enumerate() {
+    for (number, module) in modules.iter().enumerate() {
         push_module_places(lists, owners, boxes, number as u16, &module.edges)?;
     }
     Ok(())
@@ -199,7 +199,7 @@ fn empty_place_lists(alloc: Global, count: usize) -> Result<Vec<Vec<EdgePlace>>,
         list_at_or_empty (map (λ l. l.items) lists.items) i ≡ []) }
 {
     let mut lists = Vec::new(alloc);
-    'boxes: for _number in 0..count {
+    for _number in 0..count {
         lists.push(Vec::new(alloc))?;
     }
     Ok(lists)

@@ -59,7 +59,7 @@ fn print_cuts(out: &mut Vec<u8>, circuit: &Circuit, cuts: &[WireNo]) -> Result<(
         ++ flat_map (λ w. line_text (codes "cut") (wire_name (circuit_of circuit.now) w ∷ []))
         cuts.now) }
 {
-    'cuts: for wire in cuts {
+    for wire in cuts {
         out.extend_from_slice(b"cut")?;
         print_wire(out, circuit, *wire)?;
         out.push(b'\n')?;
@@ -72,7 +72,7 @@ fn print_gates(out: &mut Vec<u8>, word: &[u8], gates: &[GateNo]) -> Result<(), A
     ensures { OnOk result (out.new.items ≡ out.old.items
         ++ flat_map (λ k. line_text word.now (decimal k ∷ [])) gates.now) }
 {
-    'gates: for gate in gates {
+    for gate in gates {
         out.extend_from_slice(word)?;
         print_number(out, u32::from(gate.number()))?;
         out.push(b'\n')?;
@@ -120,7 +120,7 @@ fn print_borders(
         ++ flat_map (λ b. line_text word.now
         (border_words (border_line (circuit_of circuit.now) b))) borders.now) }
 {
-    'borders: for border in borders {
+    for border in borders {
         out.extend_from_slice(word)?;
         print_star_or_time(out, border.time)?;
         print_cell(out, border.cell())?;
@@ -136,7 +136,7 @@ fn print_stops(out: &mut Vec<u8>, circuit: &Circuit, stops: &[StoredStop]) -> Re
         ++ flat_map (λ s. line_text (codes "stop")
         (stop_words (stop_line (circuit_of circuit.now) s))) stops.now) }
 {
-    'stops: for stop in stops {
+    for stop in stops {
         out.extend_from_slice(b"stop")?;
         print_number(out, stop.time)?;
         print_wire(out, circuit, WireNo::of(stop.wire))?;
@@ -190,7 +190,7 @@ fn print_modules(
         ∷ body_lines_with (circuit_of circuit.now) m (if with_halos then m.halos.items else []))
         modules.now)) }
 {
-    'modules: for module in modules {
+    for module in modules {
         print_module_lines(out, circuit, module, printed_halos(module, with_halos))?;
     }
     Ok(())

@@ -77,7 +77,7 @@ pub(crate) fn signals_of(
         all_times: Vec::new(alloc),
         events: Vec::with_capacity(alloc, lines.len())?,
     };
-    'lines: for line in lines {
+    for line in lines {
         let signal = one_or_local_wire(locals, line.wire);
         table.push(line, signal)?;
     }

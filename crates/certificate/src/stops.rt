@@ -41,7 +41,7 @@ pub(crate) fn stops_of(
         local.items) }
 {
     let mut local = Vec::with_capacity(alloc, stops.len())?;
-    'stops: for stop in stops {
+    for stop in stops {
         local.push(local_stop(locals, stop))?;
     }
     Ok(local)

@@ -97,7 +97,7 @@ fn note_times_of_stops(table: &mut [Option<u32>], choice: FirstOrLast, stops: &[
         IsStopTimeTable choice c (ss ++ map (stop_line c) stops.now) table.new }
     ensures long { length table.new ≡ length table.old }
 {
-    'stops: for stop in stops {
+    for stop in stops {
         note_stop(table, choice, stop);
     }
 }
@@ -114,7 +114,7 @@ fn stop_time_table(
         (all_stops (map (module_lines (circuit_of circuit.now)) modules.now)) table.items) }
 {
     let mut table = vec![in alloc; None; circuit.wires()]?;
-    'modules: for module in modules {
+    for module in modules {
         note_times_of_stops(&mut table, choice, &module.stops);
     }
     Ok(table)
@@ -180,7 +180,7 @@ fn last_times(
     ensures { IfOk result (λ times. times.items ≡ last_times (time_in_table lasts.now) wires.now) }
 {
     let mut times = Vec::new(alloc);
-    'wires: for wire in wires {
+    for wire in wires {
         if let Some(time) = time_of(lasts, *wire) {
             times.push(time)?;
         }
@@ -238,11 +238,11 @@ fn time_lines_of_gates(
 {
     let mut lines = Vec::new(alloc);
     let count = circuit.gates();
-    'delays: for number in 0..count {
+    for number in 0..count {
         let gate = circuit.gate(GateNo::of(number as u16));
         push_delay_line(&mut lines, number, &gate, firsts, lasts)?;
     }
-    'meetings: for number in 0..count {
+    for number in 0..count {
         let gate = circuit.gate(GateNo::of(number as u16));
         push_meet_line(alloc, &mut lines, number, &gate, lasts)?;
     }

@@ -101,7 +101,7 @@ impl<'a> Builder<'a> {
             ≡ list_any (λ b. does_neighbour_lack_wire self.now.setting.circuit
             (modules_of self.now.entries) (border_line self.now.setting.circuit b)) lines.now }
     {
-        'lines: for line in lines {
+        for line in lines {
             if self.does_neighbour_lack_wire(line) {
                 return true;
             }
@@ -115,7 +115,7 @@ impl<'a> Builder<'a> {
             ≡ list_any (lacks_edge_wire self.now.setting.circuit
             (flat_map edges (modules_of self.now.entries))) (modules_of self.now.entries) }
     {
-        'modules: for module in &self.modules {
+        for module in &self.modules {
             if self.do_neighbours_lack_a_wire(module.edges.as_slice()) {
                 return true;
             }

@@ -73,7 +73,7 @@ fn number_rows(alloc: Global, area: Box2, ports: &[Port]) -> Result<(Vec<u32>, u
 {
     let mut rows = vec![in alloc; 0u32; area.h as usize]?;
     let mut count = 0u32;
-    'ports: for number in 0..ports.len() {
+    for number in 0..ports.len() {
         let row = (ports[number].cell.y.unsigned_abs() - area.y) as usize;
         if rows[row] == 0 {
             count += 1;
@@ -89,7 +89,7 @@ fn port_wires(alloc: Global, circuit: &Circuit, ports: &[Port]) -> Result<Vec<Po
         ≡ map (λ p. wire_of (circuit_of circuit.now) p.name) ports.now) }
 {
     let mut wires = Vec::with_capacity(alloc, ports.len())?;
-    'ports: for port in ports {
+    for port in ports {
         wires.push(circuit.wire(&port.name))?;
     }
     Ok(wires)
@@ -111,7 +111,7 @@ fn index_ports<'a>(
     let area = whole_of(size);
     let (rows, count) = number_rows(alloc, area, ports)?;
     let mut numbers = vec![in alloc; 0u32; count as usize * area.w as usize]?;
-    'ports: for number in 0..ports.len() {
+    for number in 0..ports.len() {
         if let Some(place) = entry_place(area, &rows, ports[number].cell) {
             numbers[place] = number as u32 + 1;
         }

@@ -216,7 +216,7 @@ pub fn boxes_of(alloc: Global, modules: &[StoredModule]) -> Result<Vec<Box2>, Al
     ensures { IfOk result (λ boxes. boxes.items ≡ map (λ m. m.area) modules.now) }
 {
     let mut boxes = Vec::with_capacity(alloc, modules.len())?;
-    'modules: for module in modules {
+    for module in modules {
         boxes.push(module.area)?;
     }
     Ok(boxes)

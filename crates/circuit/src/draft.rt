@@ -160,7 +160,7 @@ impl Draft {
             consume_fault (defined self.now) (consumed self.now) names.now ≡ Some code) }
     {
         let mut ins = [WireNo::of(0); 4];
-        'names: for (place, name) in names.iter().enumerate() {
+        for (place, name) in names.iter().enumerate() {
             let wire = self.unconsumed_wire(name)?;
             if ins[..place].contains(&wire) {
                 return Err(RefusalCode::ConsumedTwice);
@@ -322,7 +322,7 @@ impl Draft {
     pub(crate) fn unconsumed_name(&self) -> Option<Name>
         ensures { result ≡ first_unconsumed (consumed self.now) (defined self.now) }
     {
-        'wires: for (number, name) in self.wires.as_slice().iter().enumerate() {
+        for (number, name) in self.wires.as_slice().iter().enumerate() {
             if !self.consumed[number] {
                 return Some(*name);
             }

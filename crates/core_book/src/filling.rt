@@ -80,7 +80,7 @@ pub fn fill_open_book(
         return Ok(());
     }
     let groups = job_groups(alloc, jobs)?;
-    'numbers: for number in 0..jobs.len() {
+    for number in 0..jobs.len() {
         fill_number(alloc, state, number, &jobs[number], groups[number], runs)?;
     }
     state.prove_replays();

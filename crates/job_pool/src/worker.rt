@@ -136,7 +136,7 @@ fn file_members<F: Filings, A: Ledger, G, R: Wait>(
     ensures risen { HasRisen share.old share.new }
 {
     let (jobs, groups) = (shared_work.jobs, shared_work.groups);
-    'members: for member in 0..jobs.len() {
+    for member in 0..jobs.len() {
         if groups[member] == number {
             file_member(rt, shared_work.book, finding, member, &jobs[member], share)?;
         }

@@ -115,7 +115,7 @@ impl Planes {
     {
         let blocks = self.block_count(partition);
         let mut at = next_unmarked(marks, 0, blocks);
-        'runs: while at < blocks {
+        while at < blocks {
             let end = next_marked(marks, at, blocks);
             self.turn_range(partition, at, end);
             at = next_unmarked(marks, end, blocks);

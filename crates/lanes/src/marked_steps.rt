@@ -121,7 +121,7 @@ impl MarkedPlanes {
     {
         let mut rest = word;
         let mut changed = 0;
-        'marked: while rest != 0 {
+        while rest != 0 {
             let (place, others) = take_first(rest);
             let u = first + place;
             if u >= end {
@@ -147,7 +147,7 @@ impl MarkedPlanes {
     {
         let blocks = self.planes.block_count(partition);
         let mut changed = 0;
-        'words: for k in 0..blocks.div_ceil(64) {
+        for k in 0..blocks.div_ceil(64) {
             let word = self.blocks_to_turn(partition, k);
             if word == 0 {
                 continue;

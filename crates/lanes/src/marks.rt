@@ -52,7 +52,7 @@ pub fn set_marks_to_not_both(marks: &mut [u64], first: &[u64], second: &[u64])
         cell_at marks.new u ≡ not (cell_at first.now u && cell_at second.now u) }
 {
     let long = marks.len().min(first.len()).min(second.len());
-    'words: for k in 0..long {
+    for k in 0..long {
         // `!0 ^ a` stands for `!a`.
         marks[k] = 0xFFFF_FFFF_FFFF_FFFF ^ (first[k] & second[k]);
     }
@@ -151,11 +151,11 @@ pub fn mark_border(marks: &mut [u64], stride: usize, rows: usize)
     requires size { (2 ≤ stride) × (stride ≤ 64) × (2 ≤ rows) × (rows ≤ 64) }
     ensures { AreUnmarkedAwayFromBorder stride rows marks.new }
 {
-    'rows: for row in 0..rows {
+    for row in 0..rows {
         mark(marks, stride * row);
         mark(marks, stride * row + stride - 1);
     }
-    'columns: for column in 0..stride {
+    for column in 0..stride {
         mark(marks, column);
         mark(marks, stride * (rows - 1) + column);
     }

@@ -67,11 +67,11 @@ pub(crate) fn swap_part(first: &mut [u64], second: &mut [u64], a: usize, b: usiz
         return;
     }
     let mut k = 0;
-    'fours: while k + 4 <= long {
+    while k + 4 <= long {
         swap_four_words(first, second, a + k, b + k);
         k += 4;
     }
-    'words: while k < long {
+    while k < long {
         let word = first[a + k];
         first[a + k] = second[b + k];
         second[b + k] = word;

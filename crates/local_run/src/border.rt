@@ -223,7 +223,7 @@ fn set_halo_test_ring_in_word(
     let cells = marked_planes.planes().cells_per_plane();
     let mut is_right = true;
     let mut rest = word;
-    'border: while rest != 0 {
+    while rest != 0 {
         let (place, others) = take_first(rest);
         let u = first + place;
         if u >= cells {
@@ -255,7 +255,7 @@ pub fn set_halo_check_ring(
     job.prove_valid();
     let cells = marked_planes.planes().cells_per_plane();
     let mut is_right = true;
-    'words: for k in 0..cells.div_ceil(64) {
+    for k in 0..cells.div_ceil(64) {
         let word = marked_planes.border_marks_to_check(lines.marks(), k);
         if word == 0 {
             continue;

@@ -15,7 +15,7 @@ pub fn find_least_keep_fault(values: &Values, job: &Job) -> Option<KeepFault>
     ensures { IsLeastKeepFault job.now result }
 {
     let gates = job.wiring().gates();
-    'gates: for gate in 0..gates {
+    for gate in 0..gates {
         if job.keeps_gate(gate as u16) {
             if let Some(assignment) = values.first_undefined_assignment(gate) {
                 return Some(KeepFault { gate, assignment });

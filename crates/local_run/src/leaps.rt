@@ -18,7 +18,7 @@ pub fn first_event_place(events: &[TimedSignal], time: u32) -> usize
 {
     let mut low = 0;
     let mut high = events.len();
-    'search: while low < high {
+    while low < high {
         let middle = low + (high - low) / 2;
         if events[middle].at.time < time {
             low = middle + 1;
@@ -55,7 +55,7 @@ pub fn first_event_place_from(events: &[TimedSignal], place: usize, time: u32) -
 {
     let mut low = valid_start_place(events, place, time);
     let mut high = events.len();
-    'search: while low < high {
+    while low < high {
         if events[low].at.time < time {
             low += 1;
         } else {

@@ -118,7 +118,7 @@ fn least_fault(alloc: Global, values: &Values, job: &Job) -> Result<Option<Fault
     let mut next = 0;
     let mut time = 0;
     let mut changed = true;
-    'times: while time < steps {
+    while time < steps {
         if let Some(fault) = fault_at_time(
             &mut marked_planes,
             &mut lines,

@@ -42,9 +42,9 @@ pub fn put_start(marked_planes: &mut MarkedPlanes, values: &Values, job: &Job)
     ensures { Shows job.now values.now 0 marked_planes.new.planes }
 {
     let area = job.area();
-    'rows: for y in 0..area.h as usize {
+    for y in 0..area.h as usize {
         let mut x = skip_dead_starts(job, 0, y);
-        'cells: while x < area.w as usize {
+        while x < area.w as usize {
             put_start_cell(marked_planes, values, job, x, y);
             x = skip_dead_starts(job, x + 1, y);
         }

@@ -45,7 +45,7 @@ fn clear_undefined(values: &mut [u64], defined: &[u64])
         return;
     }
     let words = defined.len();
-    'all: for k in 0..values.len() {
+    for k in 0..values.len() {
         values[k] &= defined[k % words];
     }
 }

@@ -117,7 +117,7 @@ fn number_cuts_and_gates(
     let gate_count = circuit.gates();
     add_wires(known, cuts)?;
     let mut made = Vec::with_capacity(alloc, gates.len())?;
-    'gates: for used in gates {
+    for used in gates {
         prove!((used.number() as usize) < gate_count);
         let gate = circuit.gate(*used);
         let local = local_gate(known, gate);

@@ -80,7 +80,7 @@ fn find_all_times(all_times: &[AllTimesSignal], cell: Cell) -> Option<Signal>
 {
     let mut low = 0;
     let mut high = all_times.len();
-    'search: while low < high {
+    while low < high {
         let middle = low + (high - low) / 2;
         let found = all_times[middle];
         match compare_cells(found.cell, cell) {
@@ -99,7 +99,7 @@ fn find_event(events: &[TimedSignal], moment: Moment) -> Option<Signal>
 {
     let mut low = 0;
     let mut high = events.len();
-    'search: while low < high {
+    while low < high {
         let middle = low + (high - low) / 2;
         let found = events[middle];
         match found.at.compare(moment) {

@@ -18,7 +18,7 @@ fn fill_row_until_taken(
     requires { (from ≤ end) × (end ≤ length table.old) }
     ensures { TakesRow free number from end result table.old table.new }
 {
-    'places: for place in from..end {
+    for place in from..end {
         if table[place] != free {
             return place;
         }
@@ -46,7 +46,7 @@ pub fn fill_box_until_taken(
     let top = area.y as usize / 2;
     let across = area.w as usize / 2;
     let down = area.h as usize / 2;
-    'rows: for row in top..top + down {
+    for row in top..top + down {
         let from = row * columns + left;
         if table.len() <= from {
             return table.len();
@@ -65,7 +65,7 @@ fn is_row_free(table: &[usize], from: usize, end: usize, free: usize) -> bool
     requires { (from ≤ end) × (end ≤ length table.now) }
     ensures { IsTrue result ↔ ((k : ℕ) → from ≤ k → k < end → slice_index table.now k ≡ free) }
 {
-    'places: for index in from..end {
+    for index in from..end {
         if table[index] != free {
             return false;
         }
@@ -86,7 +86,7 @@ pub fn is_box_free(table: &[usize], columns: usize, area: Box2, free: usize) -> 
     let top = area.y as usize / 2;
     let across = area.w as usize / 2;
     let down = area.h as usize / 2;
-    'rows: for row in top..top + down {
+    for row in top..top + down {
         let from = row * columns + left;
         if !is_row_free(table, from, from + across, free) {
             return false;
@@ -105,7 +105,7 @@ pub fn first_free_place(table: &[usize], free: usize) -> usize
     if !table.iter().any(|number| *number == free) {
         return table.len();
     }
-    'places: for place in 0..table.len() {
+    for place in 0..table.len() {
         if table[place] == free {
             return place;
         }

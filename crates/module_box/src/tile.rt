@@ -49,7 +49,7 @@ fn first_box_outside(width: u32, height: u32, boxes: &[Box2]) -> usize
     ensures outside { result < length boxes.now →
         (b : Box2) × (slice_get boxes.now result ≡ Some b) × ¬ IsInside width height b }
 {
-    'boxes: for number in 0..boxes.len() {
+    for number in 0..boxes.len() {
         let area = boxes[number];
         if !is_inside(width, height, area) {
             return number;
@@ -108,7 +108,7 @@ pub fn owner_table(
     // No box has this number.
     let free = boxes.len();
     let mut numbers = vec![in alloc; free; blocks]?;
-    'boxes: for number in 0..boxes.len() {
+    for number in 0..boxes.len() {
         // Where a block lies in two boxes, no later one can be the first fault.
         let kept = fill_box_until_taken(&mut numbers, columns, boxes[number], free, number);
         numbers.truncate(kept);

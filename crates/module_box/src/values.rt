@@ -131,7 +131,7 @@ fn value_words(alloc: Global, given: &[u64], gates: &[LocalGate]) -> Result<Valu
     let mut words = given.to_vec(alloc)?;
     let mut undefined = Vec::with_capacity(alloc, gates.len())?;
     let mut defined = u64::MAX;
-    'gates: for gate in gates {
+    for gate in gates {
         let none = push_out_words(&mut words, *gate)?;
         let first = defined & none;
         undefined.push(first)?;
@@ -294,7 +294,7 @@ impl Wiring {
         let mut values = vec![in alloc; 0; words * self.wires()]?;
         let mut undefined = vec![in alloc; 0; words * self.gates()]?;
         let mut defined = Vec::with_capacity(alloc, words)?;
-        'chunks: for chunk in 0..words {
+        for chunk in 0..words {
             let column = self.words_of_chunk(alloc, chunk as u32)?;
             put_word_in_each_row(&mut values, words, chunk, &column.words);
             put_word_in_each_row(&mut undefined, words, chunk, &column.undefined);

@@ -38,7 +38,7 @@ fn first_numbers_of_keys(alloc: Global, keys: &[[u8; 32]]) -> Result<Vec<usize>,
 {
     let mut firsts = IndexMap::new(alloc);
     let mut groups = Vec::with_capacity(alloc, keys.len())?;
-    'keys: for (number, key) in keys.iter().enumerate() {
+    for (number, key) in keys.iter().enumerate() {
         let first = first_number_with_key(&mut firsts, *key, number)?;
         groups.push(first)?;
     }
@@ -54,7 +54,7 @@ fn first_equal_shape(shapes: &[Arc<Shape>], keys: &[[u8; 32]], number: usize, fi
     ensures { IsFirstLike (map arc_value shapes.now) number result }
 {
     let own: &Shape = &shapes[number];
-    'earlier: for earlier in first..number {
+    for earlier in first..number {
         if keys[earlier] == keys[number] {
             let other: &Shape = &shapes[earlier];
             let same = *other == *own;
@@ -83,7 +83,7 @@ pub fn shape_groups(
 {
     let firsts = first_numbers_of_keys(alloc, keys)?;
     let mut groups = Vec::with_capacity(alloc, shapes.len())?;
-    'shapes: for number in 0..shapes.len() {
+    for number in 0..shapes.len() {
         groups.push(first_equal_shape(shapes, keys, number, firsts[number]))?;
     }
     Ok(groups)
@@ -112,7 +112,7 @@ fn first_of_shape(jobs: &[Arc<Job>], first: usize, number: usize) -> usize
         ≢ slice_get (map shape_of (map arc_value jobs.now)) number }
     ensures { IsFirstLike (map shape_of (map arc_value jobs.now)) number result }
 {
-    'earlier: for earlier in first..number {
+    for earlier in first..number {
         if have_same_shape(jobs, earlier, number) {
             return earlier;
         }
@@ -132,7 +132,7 @@ pub fn job_groups(alloc: Global, jobs: &[Arc<Job>]) -> Result<Vec<usize>, AllocE
     let mut summaries = IndexMap::new(alloc);
     let mut keys = IndexMap::new(alloc);
     let mut groups = Vec::with_capacity(alloc, jobs.len())?;
-    'jobs: for number in 0..jobs.len() {
+    for number in 0..jobs.len() {
         let shape: &Shape = jobs[number].shape();
         let mut group = first_number_with_key(&mut summaries, shape.summary(), number)?;
         if !have_same_shape(jobs, group, number) {

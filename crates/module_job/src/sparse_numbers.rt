@@ -76,7 +76,7 @@ fn count_entries_before(entries: &[u64], place: usize) -> usize
 {
     let mut low = 0;
     let mut high = entries.len() / 2;
-    'search: while low < high {
+    while low < high {
         let middle = low + (high - low) / 2;
         if entries[2 * middle] <= place as u64 {
             low = middle + 1;

@@ -71,7 +71,7 @@ fn has_name_near(set: &IndexSet<Name, Seed>, index: usize, name: &Name) -> bool
 fn has_all(set: &IndexSet<Name, Seed>, names: &[Name]) -> bool
     ensures { result ≡ list_all (λ n. has set.now.keys n) names.now }
 {
-    'names: for (index, name) in names.iter().enumerate() {
+    for (index, name) in names.iter().enumerate() {
         if !has_name_near(set, index, name) {
             return false;
         }

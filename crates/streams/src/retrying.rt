@@ -34,7 +34,7 @@ impl<R: Read> Read for Retrying<R> {
     ghost remaining = { λ s. R.remaining (inner_of s) };
 
     fn read(&mut self, buf: &mut [u8]) -> io::Result<usize> {
-        'tries: for _ in 0..MAX_TRIES {
+        for _ in 0..MAX_TRIES {
             let done = self.inner.read(buf);
             if !is_interrupted(&done) {
                 return done;
@@ -50,7 +50,7 @@ impl<W: Write> Write for Retrying<W> {
     ghost contents = { λ s. W.contents (inner_of s) };
 
     fn write(&mut self, piece: &[u8]) -> io::Result<usize> {
-        'tries: for _ in 0..MAX_TRIES {
+        for _ in 0..MAX_TRIES {
             let done = self.inner.write(piece);
             if !is_interrupted(&done) {
                 return done;

@@ -170,7 +170,7 @@ fn groups_of_one_key(
     key: [u8; 32],
 ) -> Result<Vec<usize>, AllocError> {
     let mut keys = Vec::with_capacity(alloc, shapes.len())?;
-    'shapes: for _ in shapes {
+    for _ in shapes {
         keys.push(key)?;
     }
     shape_groups(alloc, shapes, keys.as_slice())

@@ -4,8 +4,8 @@ use Rattle.lemmas.proofs.Common.{subst}
 use Rattle.bbm_rule.proofs.MarkLemmas.{first_marked, none_in_word, whole_marked}
 use Rattle.bbm_rule.proofs.marks.next_marked.Goals as goal
 
-pub words-init : goal.words-init
-words-init c = λ u l h. none_in_word c.args.marks.now c.args.from u c.if-rest-ne0.false l (omega arith)
+pub loop-k-init : goal.loop-k-init
+loop-k-init c = λ u l h. none_in_word c.args.marks.now c.args.from u c.if-rest-ne0.false l (omega arith)
 
 pub returns-then-rest-ne0-clause-marked : goal.returns-then-rest-ne0-clause-marked
 returns-then-rest-ne0-clause-marked c = λ l.
@@ -16,7 +16,7 @@ returns-then-rest-ne0-clause-marked c = λ l.
 
 pub returns-then-whole-ne0-clause-marked : goal.returns-then-whole-ne0-clause-marked
 returns-then-whole-ne0-clause-marked c = λ l.
-    let e : 64 * c.words.k + trailing_zeros w64 (get_or c.args.marks.now c.words.k 0) ≡ c.min-then-whole-ne0.result =
+    let e : 64 * c.loop-k.k + trailing_zeros w64 (get_or c.args.marks.now c.loop-k.k 0) ≡ c.min-then-whole-ne0.result =
     omega arith in
     subst (λ n. cell_at c.args.marks.now n ≡ true) e
-    (whole_marked c.args.marks.now c.words.k c.if-whole-ne0.true (c.type_inv.marks c.words.k).fits)
+    (whole_marked c.args.marks.now c.loop-k.k c.if-whole-ne0.true (c.type_inv.marks c.loop-k.k).fits)

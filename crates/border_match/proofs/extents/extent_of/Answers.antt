@@ -15,10 +15,11 @@ one_more P events i event there holds before k e below got = elim (below_or_same
       holds
 ]
 
-pub events-preserved : goal.events-preserved
-events-preserved c = one_more (λ (e : TimedSignal). IsInWindow c.include.new.self e.at.cell) c.args.events.now
-    c.events.event-index _ (slice_get-get_or c.args.events.now c.events.event-index _ c.events-test.true)
-    c.include.ensures.cell (λ k e l g. c.include.ensures.cells_stay_in_window e.at.cell (c.events.invariant k e l g))
+pub loop-event-preserved : goal.loop-event-preserved
+loop-event-preserved c = one_more (λ (e : TimedSignal). IsInWindow c.include.new.self e.at.cell) c.args.events.now
+    c.loop-event.event-index _ (slice_get-get_or c.args.events.now c.loop-event.event-index _ c.loop-event-test.true)
+    c.include.ensures.cell (λ k e l g.
+    c.include.ensures.cells_stay_in_window e.at.cell (c.loop-event.invariant k e l g))
 
 pub returns : goal.returns
 returns c = grind (arith, common_steps, slice_get_within)

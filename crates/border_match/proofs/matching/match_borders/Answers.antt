@@ -29,18 +29,18 @@ least_fault-requires-clause-borders_ready c =
     let are = subst (AreOwners o) (sym (meant_areas s.version (setting_of s.circuit s.layout) (modules_of s.entries)))
     owners.owners in
     let good = c.modules-count.ensures.good in
-    let got : slice_get js c.jobs.job-index ≡ Some c.deref.result.now =
-    job_at arc_value c.args.jobs.now c.jobs.job-index _ c.deref.result.now c.jobs-test.true
+    let got : slice_get js c.loop-job.job-index ≡ Some c.deref.result.now =
+    job_at arc_value c.args.jobs.now c.loop-job.job-index _ c.deref.result.now c.loop-job-test.true
     (c.deref.ensures ∙ ap arc_value c.job-item.is) in (
       subst (λ (z : LayoutHeader). AreJobOwners (whole z) o js) (sym c.size-size.ensures.size)
           (board s.circuit s.layout (modules_in s) js o good c.requires are
           owners.width owners.height),
       quiet_job s.circuit s.layout (modules_in s) js o good c.requires are
-          owners.width owners.height c.jobs.job-index c.deref.result.now got,
+          owners.width owners.height c.loop-job.job-index c.deref.result.now got,
     )
 
-pub jobs-preserved : goal.jobs-preserved
-jobs-preserved c =
+pub loop-job-preserved : goal.loop-job-preserved
+loop-job-preserved c =
     let s = c.args.cert.now in
     let js = map arc_value c.args.jobs.now in
     let o = c.owners-owners.result.now in
@@ -48,8 +48,8 @@ jobs-preserved c =
     let are = subst (AreOwners o) (sym (meant_areas s.version (setting_of s.circuit s.layout) (modules_of s.entries)))
     owners.owners in
     let good = c.modules-count.ensures.good in
-    let got : slice_get js c.jobs.job-index ≡ Some c.deref.result.now =
-    job_at arc_value c.args.jobs.now c.jobs.job-index _ c.deref.result.now c.jobs-test.true
+    let got : slice_get js c.loop-job.job-index ≡ Some c.deref.result.now =
+    job_at arc_value c.args.jobs.now c.loop-job.job-index _ c.deref.result.now c.loop-job-test.true
     (c.deref.ensures ∙ ap arc_value c.job-item.is) in
     let found : IsLeast (IsBorderFaultOfJob (whole s.layout.size) o js c.deref.result.now)
     c.in_ok-least_fault.field-0 =
@@ -58,9 +58,10 @@ jobs-preserved c =
     c.size-size.ensures.size c.in_ok-least_fault.ensures in
     let least = least_by_lines s.circuit s.layout
     (modules_in s) js o good c.requires are owners.width
-    owners.height c.jobs.job-index c.deref.result.now c.in_ok-least_fault.field-0 got found in (
-      omega (arith, c.in_ok-push.ensures.len, c.jobs.invariant.0),
-      pushed_more (IsLeastBorderFault (setting_of s.circuit s.layout) (modules_in s)) c.jobs.faults.items _
-          c.jobs.job-index c.in_ok-least_fault.field-0
-          (omega (arith, c.jobs.faults.ok, c.jobs.invariant.0)) c.in_ok-push.ensures.items c.jobs.invariant.1 least,
+    owners.height c.loop-job.job-index c.deref.result.now c.in_ok-least_fault.field-0 got found in (
+      omega (arith, c.in_ok-push.ensures.len, c.loop-job.invariant.0),
+      pushed_more (IsLeastBorderFault (setting_of s.circuit s.layout) (modules_in s)) c.loop-job.faults.items _
+          c.loop-job.job-index c.in_ok-least_fault.field-0
+          (omega (arith, c.loop-job.faults.ok, c.loop-job.invariant.0)) c.in_ok-push.ensures.items
+          c.loop-job.invariant.1 least,
     )

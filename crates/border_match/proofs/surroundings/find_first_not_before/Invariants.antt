@@ -14,8 +14,8 @@ invariant-jumps l = record {
 abbrev pub decreases-jumps : goal.decreases-jumps
 decreases-jumps l = length l.events - l.high
 
-abbrev pub invariant-halves : goal.invariant-halves
-invariant-halves l = record {
+abbrev pub invariant-loop-low : goal.invariant-loop-low
+invariant-loop-low l = record {
   within : l.high ≤ length l.events;
   after : l.from ≤ l.low;
   ordered : l.low ≤ l.high;
@@ -23,5 +23,5 @@ invariant-halves l = record {
   rest : AreFrom l.events l.high l.at;
 }
 
-abbrev pub decreases-halves : goal.decreases-halves
-decreases-halves l = l.high - l.low
+abbrev pub decreases-loop-low : goal.decreases-loop-low
+decreases-loop-low l = l.high - l.low

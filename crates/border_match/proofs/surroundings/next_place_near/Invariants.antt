@@ -2,22 +2,22 @@
 use Rattle.border_match.proofs.Imports.{AreEventsFar, IsEventFarAt, length, ◌-◌, ◌<◌, ◌≤◌}
 use Rattle.border_match.proofs.surroundings.next_place_near.Given as goal
 
-abbrev pub invariant-leaps : goal.invariant-leaps
-invariant-leaps l = record {
+abbrev pub invariant-loop-place : goal.invariant-loop-place
+invariant-loop-place l = record {
   after : l.from ≤ l.place;
   far : AreEventsFar l.window l.events l.from l.place;
 }
 
-abbrev pub decreases-leaps : goal.decreases-leaps
-decreases-leaps l = length l.events - l.place
+abbrev pub decreases-loop-place : goal.decreases-loop-place
+decreases-loop-place l = length l.events - l.place
 
-abbrev pub invariant-looks : goal.invariant-looks
-invariant-looks l = record {
+abbrev pub invariant-loop-place-2 : goal.invariant-loop-place-2
+invariant-loop-place-2 l = record {
   begin : l.begin ≤ l.place;
   within : l.place ≤ l.end;
   far : AreEventsFar l.window l.events l.from l.place;
   last : l.begin < l.place → IsEventFarAt l.window l.events (l.place - 1);
 }
 
-abbrev pub decreases-looks : goal.decreases-looks
-decreases-looks l = l.end - l.place
+abbrev pub decreases-loop-place-2 : goal.decreases-loop-place-2
+decreases-loop-place-2 l = l.end - l.place

@@ -3,6 +3,6 @@ use Rattle.certificate.proofs.Imports.{arc_value, circuit_of, map, with_lines}
 use Rattle.certificate.proofs.JobsSoFar.{PartJobs}
 use Rattle.certificate.proofs.jobs.jobs_as_written.Given as goal
 
-abbrev pub invariant-modules : goal.invariant-modules
-invariant-modules l = PartJobs (circuit_of l.tables.circuit) l.tables.layout (λ m. m)
+abbrev pub invariant-loop-module : goal.invariant-loop-module
+invariant-loop-module l = PartJobs (circuit_of l.tables.circuit) l.tables.layout (λ m. m)
     (with_lines l.tables.circuit l.modules) l.module-index (map arc_value l.jobs.items)

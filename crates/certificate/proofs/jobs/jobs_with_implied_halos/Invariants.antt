@@ -3,8 +3,8 @@ use Rattle.certificate.proofs.Imports.{HaveListsFrom, arc_value, map, setting_of
 use Rattle.certificate.proofs.JobsSoFar.{PartJobs}
 use Rattle.certificate.proofs.jobs.jobs_with_implied_halos.Given as goal
 
-abbrev pub invariant-modules : goal.invariant-modules
-invariant-modules l =
+abbrev pub invariant-loop-number : goal.invariant-loop-number
+invariant-loop-number l =
     let g = setting_of l.tables.circuit l.tables.layout in
     let ms = with_lines l.tables.circuit l.modules in
     record {

@@ -2,6 +2,6 @@
 use Rattle.certificate.proofs.Imports.{is_among, take, ℕ, ◌||◌, ◌≡◌}
 use Rattle.certificate.proofs.keep_lines.note_keeps.Given as goal
 
-abbrev pub invariant-keeps : goal.invariant-keeps
-invariant-keeps l = (n : ℕ) →
+abbrev pub invariant-loop-keep : goal.invariant-loop-keep
+invariant-loop-keep l = (n : ℕ) →
     is_among l.kept.keys n ≡ (is_among l.fn.kept.keys n || is_among (take l.keep-index l.keeps) n)

@@ -11,30 +11,32 @@ push_module_places-requires-clause-inner c =
     subst (All (λ (e : StoredBorder). IsInnerCell (rectangle c.args.owners.now) (line_cell e)))
     (sym c.deref.ensures.value)
     (all_at (λ (m : StoredModule). All (λ (e : StoredBorder). IsInnerCell (rectangle c.args.owners.now) (line_cell e))
-    m.edges.items) c.args.modules.now c.requires.inner c.modules.number c.index-modules-number.result
-    c.modules-test.true c.index-modules-number.is)
+    m.edges.items) c.args.modules.now c.requires.inner c.loop-number.number c.index-modules-number.result
+    c.loop-number-test.true c.index-modules-number.is)
 
 pub push_module_places-requires-clause-few : goal.push_module_places-requires-clause-few
 push_module_places-requires-clause-few c =
     subst (λ (es : List StoredBorder). length es ≤ 65536) (sym c.deref.ensures.value)
     (all_at (λ (m : StoredModule). length m.edges.items ≤ 65536) c.args.modules.now c.requires.few_lines
-    c.modules.number c.index-modules-number.result c.modules-test.true c.index-modules-number.is)
+    c.loop-number.number c.index-modules-number.result c.loop-number-test.true c.index-modules-number.is)
 
-pub modules-preserved : goal.modules-preserved
-modules-preserved c =
+pub loop-number-preserved : goal.loop-number-preserved
+loop-number-preserved c =
     let m = c.index-modules-number.result in
     let boxes = c.args.boxes.now in
     let all = λ (n : StoredModule). n.edges.items in
     let old = map (λ l. l.items) c.args.lists.now.items in
-    let now = map (λ l. l.items) c.modules.lists.items in
+    let now = map (λ l. l.items) c.loop-number.lists.items in
     let new = map (λ l. l.items) c.push_module_places.new.lists.items in
-    let here = element_at c.args.modules.now c.modules.number m c.modules-test.true c.index-modules-number.is in
+    let here = element_at c.args.modules.now c.loop-number.number m c.loop-number-test.true c.index-modules-number.is in
     let added = c.in_ok-push_module_places.ensures.places c.args.modules.now m here (sym c.deref.ensures.value) in
     record {
-      table = still_ready boxes c.args.owners.now now new c.modules.invariant.table added.count;
+      table = still_ready boxes c.args.owners.now now new c.loop-number.invariant.table added.count;
       lists = subst (λ es. AddsEdgePlaces c.args.modules.now boxes es old new)
-          (sym (flat_more all c.args.modules.now c.modules.number m c.modules-test.true c.index-modules-number.is))
-          (edges_then c.args.modules.now boxes (flat_map all (take c.modules.number c.args.modules.now)) (all m) old now
-          new c.modules.invariant.lists
+          (sym (flat_more all c.args.modules.now c.loop-number.number m c.loop-number-test.true
+          c.index-modules-number.is))
+          (edges_then c.args.modules.now boxes (flat_map all (take c.loop-number.number c.args.modules.now))
+          (all m) old now
+          new c.loop-number.invariant.lists
           (subst (λ es. AddsEdgePlaces c.args.modules.now boxes es now new) c.deref.ensures.value added));
     }

@@ -2,8 +2,8 @@
 use Rattle.certificate.proofs.Imports.{AddsEdgePlaces, AreReady, flat_map, map, take}
 use Rattle.certificate.proofs.neighbour_edges.push_edge_places.Given as goal
 
-abbrev pub invariant-modules : goal.invariant-modules
-invariant-modules l = record {
+abbrev pub invariant-loop-number : goal.invariant-loop-number
+invariant-loop-number l = record {
   table : AreReady l.boxes l.owners (map (λ l. l.items) l.lists.items);
   lists : AddsEdgePlaces l.modules l.boxes (flat_map (λ m. m.edges.items) (take l.number l.modules))
       (map (λ l. l.items) l.fn.lists.items) (map (λ l. l.items) l.lists.items);

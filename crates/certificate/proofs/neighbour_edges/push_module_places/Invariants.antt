@@ -3,8 +3,8 @@ use Rattle.certificate.proofs.Imports.{AddsEdgePlaces, AreReady, List, Some, Sto
 use Rattle.certificate.proofs.Imports.{◌≡◌}
 use Rattle.certificate.proofs.neighbour_edges.push_module_places.Given as goal
 
-abbrev pub invariant-lines : goal.invariant-lines
-invariant-lines l = record {
+abbrev pub invariant-loop-line : goal.invariant-loop-line
+invariant-loop-line l = record {
   table : AreReady l.boxes l.owners (map (λ l. l.items) l.lists.items);
   count : length l.lists.items ≡ length l.fn.lists.items;
   places : (ms : List StoredModule) (m : StoredModule) → slice_get ms l.number ≡ Some m → m.edges.items ≡ l.edges →

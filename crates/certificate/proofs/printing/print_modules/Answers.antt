@@ -5,12 +5,12 @@ use Rattle.certificate.proofs.printing.print_modules.Goals as goal
 
 pub print_module_lines-requires-clause-wires : goal.print_module_lines-requires-clause-wires
 print_module_lines-requires-clause-wires c =
-    all_at (HasOwnWires (circuit_of c.args.circuit.now)) c.args.modules.now c.requires c.modules.module-index
-    c.module-item.result c.modules-test.true c.module-item.is
+    all_at (HasOwnWires (circuit_of c.args.circuit.now)) c.args.modules.now c.requires c.loop-module.module-index
+    c.module-item.result c.loop-module-test.true c.module-item.is
 
 pub print_module_lines-requires-clause-halo_wires : goal.print_module_lines-requires-clause-halo_wires
 print_module_lines-requires-clause-halo_wires c =
     subst (All (HasOwnWire (circuit_of c.args.circuit.now))) (sym c.printed_halos.ensures)
     (own_printed (circuit_of c.args.circuit.now) c.module-item.result c.args.with_halos
-    (all_at (HasOwnWires (circuit_of c.args.circuit.now)) c.args.modules.now c.requires c.modules.module-index
-    c.module-item.result c.modules-test.true c.module-item.is))
+    (all_at (HasOwnWires (circuit_of c.args.circuit.now)) c.args.modules.now c.requires c.loop-module.module-index
+    c.module-item.result c.loop-module-test.true c.module-item.is))

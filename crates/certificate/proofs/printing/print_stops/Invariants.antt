@@ -4,7 +4,7 @@ use Rattle.section_text.specs.Spelling.{line_text}
 use Rattle.certificate.specs.Text.{stop_words}
 use Rattle.certificate.proofs.printing.print_stops.Given as goal
 
-abbrev pub invariant-stops : goal.invariant-stops
-invariant-stops l = l.out.items ≡ l.fn.out.items
+abbrev pub invariant-loop-stop : goal.invariant-loop-stop
+invariant-loop-stop l = l.out.items ≡ l.fn.out.items
     ++ flat_map (λ w. line_text (codes "stop") (stop_words (stop_line (circuit_of l.circuit) w)))
     (take l.stop-index l.stops)

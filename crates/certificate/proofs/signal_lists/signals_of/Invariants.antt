@@ -2,5 +2,5 @@
 use Rattle.certificate.proofs.Imports.{AreSignalLists, take}
 use Rattle.certificate.proofs.signal_lists.signals_of.Given as goal
 
-abbrev pub invariant-lines : goal.invariant-lines
-invariant-lines l = AreSignalLists l.locals (take l.line-index l.lines) l.table
+abbrev pub invariant-loop-line : goal.invariant-loop-line
+invariant-loop-line l = AreSignalLists l.locals (take l.line-index l.lines) l.table

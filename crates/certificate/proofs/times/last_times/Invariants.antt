@@ -1,5 +1,5 @@
 use Rattle.certificate.proofs.Imports.{last_times, take, time_in_table, ◌≡◌}
 use Rattle.certificate.proofs.times.last_times.Given as goal
 
-abbrev pub invariant-wires : goal.invariant-wires
-invariant-wires l = l.times.items ≡ last_times (time_in_table l.lasts) (take l.wire-index l.wires)
+abbrev pub invariant-loop-wire : goal.invariant-loop-wire
+invariant-loop-wire l = l.times.items ≡ last_times (time_in_table l.lasts) (take l.wire-index l.wires)

@@ -3,8 +3,8 @@ use Rattle.certificate.proofs.Imports.{All, Circuit, IsOwnWire, IsStopTimeTable,
 use Rattle.certificate.proofs.Imports.{take, ◌++◌, ◌≡◌}
 use Rattle.certificate.proofs.times.note_times_of_stops.Given as goal
 
-abbrev pub invariant-stops : goal.invariant-stops
-invariant-stops l = record {
+abbrev pub invariant-loop-stop : goal.invariant-loop-stop
+invariant-loop-stop l = record {
   table : (c : Circuit) (ss : List StopLine) → All (λ s. IsOwnWire c s.wire) l.stops →
       IsStopTimeTable l.choice c ss l.fn.table →
       IsStopTimeTable l.choice c (ss ++ map (stop_line c) (take l.stop-index l.stops)) l.table;

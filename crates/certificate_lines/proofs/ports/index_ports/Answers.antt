@@ -23,8 +23,8 @@ pub number_rows-requires-clause-small : goal.number_rows-requires-clause-small
 number_rows-requires-clause-small c =
     (small_sides c.args.size c.requires.limits c.whole_of-area.result c.whole_of-area.ensures).1
 
-pub ports-init : goal.ports-init
-ports-init c =
+pub loop-number-init : goal.loop-number-init
+loop-number-init c =
     let zeros = c.in_ok-numbers.ensures.items_if_clones_equal (λ y h. h) in
     subst (λ (ns : List ℕ).
     IsFilling c.whole_of-area.result c.args.ports.now c.in_ok-rows.rows.items c.in_ok-rows.count 0 ns) (sym zeros)
@@ -33,8 +33,8 @@ ports-init c =
 pub entry_place-requires-clause-inside : goal.entry_place-requires-clause-inside
 entry_place-requires-clause-inside c =
     in_whole c.args.size c.whole_of-area.result c.whole_of-area.ensures c.args.ports.now c.requires.inside
-    c.ports.number _
-    (slice_get-get_or c.args.ports.now c.ports.number c.index-ports-number.result c.ports-test.true)
+    c.loop-number.number _
+    (slice_get-get_or c.args.ports.now c.loop-number.number c.index-ports-number.result c.loop-number-test.true)
 
 pub entry_place-requires-clause-small : goal.entry_place-requires-clause-small
 entry_place-requires-clause-small c =
@@ -61,20 +61,22 @@ overflow_add-number c = grind (arith, common_steps, slice_get-get_or, few)
 
 pub index_mut-requires : goal.index_mut-requires
 index_mut-requires c =
-    let p : Port = get_or c.args.ports.now c.ports.number c.index-ports-number.result in
-    let at = slice_get-get_or c.args.ports.now c.ports.number c.index-ports-number.result c.ports-test.true in
+    let p : Port = get_or c.args.ports.now c.loop-number.number c.index-ports-number.result in
+    let at = slice_get-get_or c.args.ports.now c.loop-number.number c.index-ports-number.result
+    c.loop-number-test.true in
     let inside = in_whole c.args.size c.whole_of-area.result c.whole_of-area.ensures c.args.ports.now
-    c.requires.inside c.ports.number p at in
+    c.requires.inside c.loop-number.number p at in
     let there : entry_place c.whole_of-area.result c.in_ok-rows.rows.items p.cell.x p.cell.y ≡ Some c.in-Some.place =
     grind (arith, common_steps) in
     let lt = entry_few c.whole_of-area.result c.args.ports.now c.in_ok-rows.rows.items c.in_ok-rows.count
     c.in_ok-rows.ensures p.cell.x p.cell.y c.in-Some.place inside there in
-    omega (arith, lt, c.ports.invariant.sized)
+    omega (arith, lt, c.loop-number.invariant.sized)
 
-pub ports-preserved : goal.ports-preserved
-ports-preserved c =
-    let p : Port = get_or c.args.ports.now c.ports.number c.index-ports-number.result in
-    let at = slice_get-get_or c.args.ports.now c.ports.number c.index-ports-number.result c.ports-test.true in
+pub loop-number-preserved : goal.loop-number-preserved
+loop-number-preserved c =
+    let p : Port = get_or c.args.ports.now c.loop-number.number c.index-ports-number.result in
+    let at = slice_get-get_or c.args.ports.now c.loop-number.number c.index-ports-number.result
+    c.loop-number-test.true in
     let inside = in_whole c.args.size c.whole_of-area.result c.whole_of-area.ensures c.args.ports.now
     c.requires.inside in
     let there : entry_place c.whole_of-area.result c.in_ok-rows.rows.items p.cell.x p.cell.y ≡ c.entry_place.result =
@@ -82,14 +84,14 @@ ports-preserved c =
     elim c.match-entry_place.branch [
       | in-Some w ↦ grind (arith, common_steps, one_more)
       | in_default w ↦ absurd (entry_some c.whole_of-area.result c.args.ports.now c.in_ok-rows.rows.items
-          c.in_ok-rows.count c.in_ok-rows.ensures c.ports.number p at (there ∙ w.in_default.is))
+          c.in_ok-rows.count c.in_ok-rows.ensures c.loop-number.number p at (there ∙ w.in_default.is))
     ]
 
 pub invariant_of-result : goal.invariant_of-result
 invariant_of-result c =
     let small = small_sides c.args.size c.requires.limits c.whole_of-area.result c.whole_of-area.ensures in
     let full : IsFilling c.whole_of-area.result c.args.ports.now c.in_ok-rows.rows.items c.in_ok-rows.count
-    (length c.args.ports.now) c.ports.numbers.items =
+    (length c.args.ports.now) c.loop-number.numbers.items =
     grind (arith, common_steps) in
     record {
       small = small;

@@ -12,11 +12,11 @@ file_member-requires g c =
     let k = arc_value c.index-jobs-member.result in
     let long = length-map jobs shape_of in
     let many = length-map xs arc_value in
-    let lt : c.members.member < length (shapes_of jobs) = omega (arith, long, many, c.members-test.true) in
+    let lt : c.loop-member.member < length (shapes_of jobs) = omega (arith, long, many, c.loop-member-test.true) in
     record {
-      shape = member_shape jobs c.args.shared_work.now.groups.now c.args.number c.members.member
+      shape = member_shape jobs c.args.shared_work.now.groups.now c.args.number c.loop-member.member
           (job_of c.args.finding.now) k c.requires.groups lt c.requires.first
-          (value_at arc_value xs c.members.member _ k c.members-test.true c.index-jobs-member.is refl)
+          (value_at arc_value xs c.loop-member.member _ k c.loop-member-test.true c.index-jobs-member.is refl)
           c.if-groups-member.true;
       digest = c.requires.digest;
     }
@@ -27,24 +27,24 @@ one_if a x e = grind (arith, nat_tests)
 none_if : (a x : ℕ) → (a ≡ x → ⊥) → ◌≡◌ {A = ℕ} (if a == x then 1 else 0) 0
 none_if a x e = grind (arith, nat_tests)
 
-pub members-preserved : goal.members-preserved
-members-preserved g c =
+pub loop-member-preserved : goal.loop-member-preserved
+loop-member-preserved g c =
     let xs = c.args.shared_work.now.jobs.now in
     let jobs = map arc_value xs in
     let long = length-map jobs shape_of in
     let many = length-map xs arc_value in
     let count = c.requires.groups.count in
-    let lt : c.members.member < length c.args.shared_work.now.groups.now =
-    omega (arith, long, many, count, c.members-test.true) in
-    let step = times_step c.args.number c.args.shared_work.now.groups.now c.members.member 0 lt in
-    let before = c.members.invariant.filed in
-    let risen = c.members.invariant.risen in
+    let lt : c.loop-member.member < length c.args.shared_work.now.groups.now =
+    omega (arith, long, many, count, c.loop-member-test.true) in
+    let step = times_step c.args.number c.args.shared_work.now.groups.now c.loop-member.member 0 lt in
+    let before = c.loop-member.invariant.filed in
+    let risen = c.loop-member.invariant.risen in
     elim c.if-groups-member.branch [
       | then-groups-member+in_ok-file_member w ↦
           let s = ap (λ (z : Counts). z.filed) w.share-is in
           let more = w.in_ok-file_member.ensures.counted in
           let f = ap (λ (z : Counts). z.filed) more in
-          let t = one_if (get_or c.args.shared_work.now.groups.now c.members.member 0) c.args.number
+          let t = one_if (get_or c.args.shared_work.now.groups.now c.loop-member.member 0) c.args.number
           w.if-groups-member.true in
           record {
             filed = omega (arith, s, f, t, step, before);
@@ -52,7 +52,7 @@ members-preserved g c =
           }
       | else-groups-member w ↦
           let s = ap (λ (z : Counts). z.filed) w.share-is in
-          let t = none_if (get_or c.args.shared_work.now.groups.now c.members.member 0) c.args.number
+          let t = none_if (get_or c.args.shared_work.now.groups.now c.loop-member.member 0) c.args.number
           w.if-groups-member.false in
           record {
             filed = omega (arith, s, t, step, before);

@@ -13,37 +13,37 @@ pub set_halo_test_ring_in_word-is_right-requires-clause-unset_are_skippable :
 set_halo_test_ring_in_word-is_right-requires-clause-unset_are_skippable c = λ u e none.
     (rw c.marks.ensures at c.border_marks_to_check-word.ensures.unset_are_skippable) u (omega (arith, e)) none
 
-pub words-preserved : goal.words-preserved
-words-preserved c =
+pub loop-k-preserved : goal.loop-k-preserved
+loop-k-preserved c =
     let j = c.args.job.now in
-    let m = c.words.invariant in
+    let m = c.loop-k.invariant in
     let e = c.set_halo_test_ring_in_word-is_right.ensures in
     record {
       shows = e.shows;
-      halo = λ x y lx ly before. by_lt_or_le (number_at j.area x y) (64 * c.words.k)
+      halo = λ x y lx ly before. by_lt_or_le (number_at j.area x y) (64 * c.loop-k.k)
           (λ h b lb out. e.rest b x y lb lx h ∙ m.halo x y lx ly h b lb out)
           (λ g. e.halo x y lx ly g (omega (arith, before)));
-      right = λ all x y lx ly before. by_lt_or_le (number_at j.area x y) (64 * c.words.k)
+      right = λ all x y lx ly before. by_lt_or_le (number_at j.area x y) (64 * c.loop-k.k)
           (λ h. m.right (and_parts _ _ all).0 x y lx ly h)
           (λ g. e.edges (and_parts _ _ all).1 x y lx ly g (omega (arith, before)));
     }
 
-pub words-preserved-then-word-eq0 : goal.words-preserved-then-word-eq0
-words-preserved-then-word-eq0 c =
+pub loop-k-preserved-then-word-eq0 : goal.loop-k-preserved-then-word-eq0
+loop-k-preserved-then-word-eq0 c =
     let j = c.args.job.now in
-    let m = c.words.invariant in
-    let p = c.words.marked_planes in
-    let passed : (n : ℕ) → 64 * c.words.k ≤ n → n < 64 * (c.words.k + 1) →
+    let m = c.loop-k.invariant in
+    let p = c.loop-k.marked_planes in
+    let passed : (n : ℕ) → 64 * c.loop-k.k ≤ n → n < 64 * (c.loop-k.k + 1) →
     AreSkippableBetween n (n + 1) c.args.lines.now.marks.items p.planes =
     λ n g h. (rw c.marks.ensures at c.border_marks_to_check-word.ensures.unset_are_skippable) n (omega arith)
     (whole_zero _ (n % 64) c.if-word-eq0.true) in
     record {
       shows = m.shows;
-      halo = λ x y lx ly before. by_lt_or_le (number_at j.area x y) (64 * c.words.k) (m.halo x y lx ly)
+      halo = λ x y lx ly before. by_lt_or_le (number_at j.area x y) (64 * c.loop-k.k) (m.halo x y lx ly)
           (λ g. passed_halo j c.args.values.now p.planes c.args.lines.now.time x y c.args.lines.now.marks.items
           c.requires.job_ready m.shows c.requires.lines (passed (number_at j.area x y) g (omega (arith, before))) lx
           ly);
-      right = λ all x y lx ly before. by_lt_or_le (number_at j.area x y) (64 * c.words.k) (m.right all x y lx ly)
+      right = λ all x y lx ly before. by_lt_or_le (number_at j.area x y) (64 * c.loop-k.k) (m.right all x y lx ly)
           (λ g. passed_edges j c.args.values.now p.planes c.args.lines.now.time x y c.args.lines.now.marks.items
           c.requires.job_ready m.shows c.requires.lines (passed (number_at j.area x y) g (omega (arith, before))) lx
           ly);
@@ -56,7 +56,7 @@ returns-clause-halo c = λ x y lx ly.
     let long : c.cells_per_plane-cells.result ≡ (c.args.job.now.area.w / 2 + 1) * (c.args.job.now.area.h / 2 + 1) =
     c.cells_per_plane-cells.ensures.count_is_exact ∙ ap (λ (p : Planes). p.stride * p.rows) c.planes.ensures
     ∙ ap₂ (λ s r. s * r) s1 s2 in
-    c.words.invariant.halo x y lx ly
+    c.loop-k.invariant.halo x y lx ly
     (omega (
       arith,
       number_below c.args.job.now.area x y c.requires.job_ready.job.even.w c.requires.job_ready.job.even.h lx ly,
@@ -72,11 +72,11 @@ returns-clause-edges c = λ h.
     (outer_inner j.area.x x)
     (subst (λ (z : ℤ). ¬ IsFaultWhereDefined j vs a c.args.lines.now.time Edge (halo_coord j.area.x (1 + x)) z)
     (outer_inner j.area.y y)
-    (c.words.invariant.right h (1 + x) (1 + y) (omega arith) (omega arith)
+    (c.loop-k.invariant.right h (1 + x) (1 + y) (omega arith) (omega arith)
     (below (1 + x) (1 + y) (omega arith) (omega arith)) a la)))
   where
     below : (x y : ℕ) → x < c.args.job.now.area.w + 2 → y < c.args.job.now.area.h + 2 →
-        number_at c.args.job.now.area x y < 64 * c.words.k
+        number_at c.args.job.now.area x y < 64 * c.loop-k.k
     below x y lx ly =
         let long : c.cells_per_plane-cells.result ≡ (c.args.job.now.area.w / 2 + 1) * (c.args.job.now.area.h / 2 + 1) =
         c.cells_per_plane-cells.ensures.count_is_exact ∙ ap (λ (p : Planes). p.stride * p.rows) c.planes.ensures

@@ -2,8 +2,8 @@ use Rattle.local_run.proofs.Imports.{IsEdgeCorrectAt, IsHaloCellSet, Shows, numb
 use Rattle.local_run.proofs.border.set_halo_check_ring.Given as goal
 
 -- the cells of the numbers so far
-abbrev pub invariant-words : goal.invariant-words
-invariant-words l = record {
+abbrev pub invariant-loop-k : goal.invariant-loop-k
+invariant-loop-k l = record {
   shows : Shows l.job l.values l.lines.time l.marked_planes.planes;
   halo : (x y : ℕ) → x < l.job.area.w + 2 → y < l.job.area.h + 2 → number_at l.job.area x y < 64 * l.k →
       IsHaloCellSet l.job l.values l.lines.time l.marked_planes.planes x y;

@@ -6,8 +6,8 @@ use Rattle.lanes.proofs.FieldLemmas.{one_past, past_all}
 use Rattle.local_run.proofs.Silence.{passed_edges, passed_halo, same_place}
 use Rattle.local_run.proofs.border.set_halo_test_ring_in_word.Goals as goal
 
-pub border-init : goal.border-init
-border-init c =
+pub loop-rest-init : goal.loop-rest-init
+loop-rest-init c =
     let a = c.args in
     let m = a.marked_planes.now in
     let unset : (x y : ℕ) →
@@ -26,19 +26,19 @@ border-init c =
       same = λ b x y lb lx before. refl;
     }
 
-pub border-preserved : goal.border-preserved
-border-preserved c =
+pub loop-rest-preserved : goal.loop-rest-preserved
+loop-rest-preserved c =
     let j = c.args.job.now in
-    let m = c.border.invariant in
+    let m = c.loop-rest.invariant in
     let e = c.set_or_test_four_cells-is_right.ensures in
-    let p = c.planes-in-border.ensures in
+    let p = c.planes-in-loop-rest.ensures in
     let at = c.column_and_row-column.ensures in
     let u = c.args.first + c.take_first-place.result.0 in
     let taken = c.take_first-place.ensures in
     let one = one_past c.args.first
-    (c.args.first + 64) c.border.rest c.take_first-place.result.1 c.take_first-place.result.0
+    (c.args.first + 64) c.loop-rest.rest c.take_first-place.result.1 c.take_first-place.result.0
     (omega arith) (omega arith) taken.first.0 (omega arith) taken.first.1 taken.rest.0 taken.rest.1 in
-    let stride : c.planes-in-border.result.now.stride ≡ j.area.w / 2 + 1 =
+    let stride : c.planes-in-loop-rest.result.now.stride ≡ j.area.w / 2 + 1 =
     ap (λ (p : Planes). p.stride) p ∙ m.shows.size.1 in
     let number : (j.area.w / 2 + 1) * c.column_and_row-column.result.1 + c.column_and_row-column.result.0 ≡ u =
     ap (λ s. s * c.column_and_row-column.result.1 + c.column_and_row-column.result.0) (sym stride)
@@ -64,6 +64,6 @@ border-preserved c =
 
 pub returns-clause-halo : goal.returns-clause-halo
 returns-clause-halo c = λ x y lx ly after before.
-    c.border.invariant.halo x y lx ly
-    (past_all c.args.first (c.args.first + 64) c.border.rest (number_at c.args.job.now.area x y)
+    c.loop-rest.invariant.halo x y lx ly
+    (past_all c.args.first (c.args.first + 64) c.loop-rest.rest (number_at c.args.job.now.area x y)
     (omega arith) after before)

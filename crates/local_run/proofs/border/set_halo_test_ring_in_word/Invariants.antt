@@ -5,8 +5,8 @@ use Rattle.lanes.specs.Sweeps.{IsInRangeNotInWord}
 use Rattle.local_run.proofs.border.set_halo_test_ring_in_word.Given as goal
 
 -- the cells of the numbers whose marks are not among the rest
-abbrev pub invariant-border : goal.invariant-border
-invariant-border l = record {
+abbrev pub invariant-loop-rest : goal.invariant-loop-rest
+invariant-loop-rest l = record {
   shows : Shows l.job l.values l.lines.time l.marked_planes.planes;
   halo : (x y : ℕ) → x < l.job.area.w + 2 → y < l.job.area.h + 2 →
       IsInRangeNotInWord l.first (l.first + 64) l.rest (number_at l.job.area x y) →
@@ -17,5 +17,5 @@ invariant-border l = record {
   same : IsSameBeforeNumber l.job l.fn.marked_planes.planes l.marked_planes.planes l.first;
 }
 
-abbrev pub decreases-border : goal.decreases-border
-decreases-border l = 64 - trailing_zeros w64 l.rest
+abbrev pub decreases-loop-rest : goal.decreases-loop-rest
+decreases-loop-rest l = 64 - trailing_zeros w64 l.rest

@@ -1,5 +1,5 @@
 use Rattle.local_run.proofs.Leasts.{IsKeepFree}
 use Rattle.local_run.proofs.keep.find_least_keep_fault.Given as goal
 
-abbrev pub invariant-gates : goal.invariant-gates
-invariant-gates l = IsKeepFree l.job l.gate
+abbrev pub invariant-loop-gate : goal.invariant-loop-gate
+invariant-loop-gate l = IsKeepFree l.job l.gate

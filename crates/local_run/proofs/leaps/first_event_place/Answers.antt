@@ -2,8 +2,8 @@ use Rattle.local_run.proofs.Imports.{arith, common_steps, slice_get-get_or}
 use Rattle.local_run.proofs.LeapLemmas.{raise_time, drop_time}
 use Rattle.local_run.proofs.leaps.first_event_place.Goals as goal
 
-pub search-preserved-then-events-middle : goal.search-preserved-then-events-middle
-search-preserved-then-events-middle c = grind (arith, common_steps, raise_time, slice_get-get_or)
+pub loop-low-preserved-then-events-middle : goal.loop-low-preserved-then-events-middle
+loop-low-preserved-then-events-middle c = grind (arith, common_steps, raise_time, slice_get-get_or)
 
-pub search-preserved : goal.search-preserved
-search-preserved c = grind (arith, common_steps, drop_time, slice_get-get_or)
+pub loop-low-preserved : goal.loop-low-preserved
+loop-low-preserved c = grind (arith, common_steps, drop_time, slice_get-get_or)

@@ -3,52 +3,52 @@ use Rattle.local_run.proofs.Leasts.{AreFreeBefore, early_least, end_least_fault,
 use Rattle.local_run.proofs.LeapRuns.{next_run}
 use Rattle.local_run.proofs.run.least_fault.Goals as goal
 
-pub times-preserved : goal.times-preserved
-times-preserved c =
+pub loop-time-preserved : goal.loop-time-preserved
+loop-time-preserved c =
     let one = c.one_step-changed.ensures in
     let next = c.next_time-time.ensures in
     let range = rw c.steps-steps.ensures at next.range in
     record {
-      run = next_run c.args.job.now c.args.values.now c.times.time c.next_time-time.result c.times.next
+      run = next_run c.args.job.now c.args.values.now c.loop-time.time c.next_time-time.result c.loop-time.next
           c.fault_at_time.new.next
-          c.times.marked_planes.planes c.one_step-changed.new.marked_planes.planes c.times.changed
+          c.loop-time.marked_planes.planes c.one_step-changed.new.marked_planes.planes c.loop-time.changed
           c.one_step-changed.result
-          c.requires c.times.invariant.run
+          c.requires c.loop-time.invariant.run
           (omega (arith, range)) c.in_default.ensures.fault one.next one.stays range next.leap
           next.next;
       lines = grind (arith, common_steps);
     }
 
 pub returns-in-Some : goal.returns-in-Some
-returns-in-Some c = early_least c.args.job.now c.args.values.now c.times.time c.in-Some.fault c.requires
-    (omega (arith, c.times-test.true, c.steps-steps.ensures)) c.times.invariant.run.free c.in-Some.ensures.fault
+returns-in-Some c = early_least c.args.job.now c.args.values.now c.loop-time.time c.in-Some.fault c.requires
+    (omega (arith, c.loop-time-test.true, c.steps-steps.ensures)) c.loop-time.invariant.run.free c.in-Some.ensures.fault
 
 pub first_stop_fault-requires-clause-shows : goal.first_stop_fault-requires-clause-shows
 first_stop_fault-requires-clause-shows c =
-    let m = c.times.invariant.run.shows in
-    let early = c.times.invariant.run.early in
-    let e : c.times.time ≡ c.steps-steps.result = omega (arith, c.steps-steps.ensures) in rw e at m
+    let m = c.loop-time.invariant.run.shows in
+    let early = c.loop-time.invariant.run.early in
+    let e : c.loop-time.time ≡ c.steps-steps.result = omega (arith, c.steps-steps.ensures) in rw e at m
 
 pub first_stop_fault-requires-clause-next : goal.first_stop_fault-requires-clause-next
 first_stop_fault-requires-clause-next c =
-    let m = c.times.invariant.run.next in
-    let early = c.times.invariant.run.early in
-    let e : c.times.time ≡ c.steps-steps.result = omega (arith, c.steps-steps.ensures) in rw e at m
+    let m = c.loop-time.invariant.run.next in
+    let early = c.loop-time.invariant.run.early in
+    let e : c.loop-time.time ≡ c.steps-steps.result = omega (arith, c.steps-steps.ensures) in rw e at m
 
 pub first_fault_of_kind-requires-clause-shows : goal.first_fault_of_kind-requires-clause-shows
 first_fault_of_kind-requires-clause-shows c =
-    let m = c.times.invariant.run.shows in
-    let early = c.times.invariant.run.early in
-    let e : c.times.time ≡ c.steps-steps.result = omega (arith, c.steps-steps.ensures) in rw e at m
+    let m = c.loop-time.invariant.run.shows in
+    let early = c.loop-time.invariant.run.early in
+    let e : c.loop-time.time ≡ c.steps-steps.result = omega (arith, c.steps-steps.ensures) in rw e at m
 
 pub returns-in-Some-first_stop_fault : goal.returns-in-Some-first_stop_fault
 returns-in-Some-first_stop_fault c =
     let j = c.args.job.now in
     let vs = c.args.values.now in
-    let early = c.times.invariant.run.early in
-    let time : c.times.time ≡ j.steps = omega (arith, c.times-test.false, c.steps-steps.ensures, early) in
+    let early = c.loop-time.invariant.run.early in
+    let time : c.loop-time.time ≡ j.steps = omega (arith, c.loop-time-test.false, c.steps-steps.ensures, early) in
     last_stop_least j vs c.in-Some-first_stop_fault.fault c.requires
-    (subst (AreFreeBefore j vs) time c.times.invariant.run.free)
+    (subst (AreFreeBefore j vs) time c.loop-time.invariant.run.free)
     (subst (λ (n : ℕ). IsFirstOfKind j vs n Stop c.in-Some-first_stop_fault.fault) c.steps-steps.ensures
     c.in-Some-first_stop_fault.ensures)
 
@@ -56,9 +56,9 @@ pub returns : goal.returns
 returns c =
     let j = c.args.job.now in
     let vs = c.args.values.now in
-    let early = c.times.invariant.run.early in
-    let time : c.times.time ≡ j.steps = omega (arith, c.times-test.false, c.steps-steps.ensures, early) in
+    let early = c.loop-time.invariant.run.early in
+    let time : c.loop-time.time ≡ j.steps = omega (arith, c.loop-time-test.false, c.steps-steps.ensures, early) in
     end_least_fault j vs c.first_fault_of_kind.result c.requires
-    (subst (AreFreeBefore j vs) time c.times.invariant.run.free)
+    (subst (AreFreeBefore j vs) time c.loop-time.invariant.run.free)
     (subst (λ (n : ℕ). HasNoFaultOfKind j vs n Stop) c.steps-steps.ensures c.in_default-first_stop_fault.ensures.0)
     (rw c.steps-steps.ensures at c.first_fault_of_kind.ensures)

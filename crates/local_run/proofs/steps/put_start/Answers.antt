@@ -1,8 +1,8 @@
 use Rattle.local_run.proofs.Imports.{arith, dead_lane, ◌+◌}
 use Rattle.local_run.proofs.steps.put_start.Goals as goal
 
-pub rows-init : goal.rows-init
-rows-init c =
+pub loop-y-init : goal.loop-y-init
+loop-y-init c =
     let size = c.requires.size in
     record {
       size = size;

@@ -3,8 +3,8 @@ use Rattle.local_run.proofs.Imports.{◌*◌, ◌+◌, ◌-◌, ◌/◌, ◌<◌
 use Rattle.local_run.proofs.steps.put_start.Given as goal
 
 -- the cells of the rows so far are as the run begins, and all others are dead
-abbrev pub invariant-rows : goal.invariant-rows
-invariant-rows l = record {
+abbrev pub invariant-loop-y : goal.invariant-loop-y
+invariant-loop-y l = record {
   size : HasWordsStrideRows l.values.words (l.job.area.w / 2 + 1) (l.job.area.h / 2 + 1) l.marked_planes.planes;
   above : (a x y : ℕ) → a < assignments l.job → x < l.job.area.w → y < l.y →
       lane l.marked_planes.planes a (1 + x) (1 + y)
@@ -14,8 +14,8 @@ invariant-rows l = record {
 }
 
 -- so are those of the row up to a column
-abbrev pub invariant-cells : goal.invariant-cells
-invariant-cells l = record {
+abbrev pub invariant-loop-x : goal.invariant-loop-x
+invariant-loop-x l = record {
   size : HasWordsStrideRows l.values.words (l.job.area.w / 2 + 1) (l.job.area.h / 2 + 1) l.marked_planes.planes;
   above : (a x y : ℕ) → a < assignments l.job → x < l.job.area.w → y < l.y →
       lane l.marked_planes.planes a (1 + x) (1 + y)
@@ -29,5 +29,5 @@ invariant-cells l = record {
       lane l.marked_planes.planes a (1 + x) (1 + y) ≡ false;
 }
 
-abbrev pub decreases-cells : goal.decreases-cells
-decreases-cells l = l.job.area.w - l.x
+abbrev pub decreases-loop-x : goal.decreases-loop-x
+decreases-loop-x l = l.job.area.w - l.x

@@ -4,16 +4,16 @@ use Rattle.module_box.proofs.Rising.{raise_low, drop_high, is_absent, is_first, 
 use Rattle.module_box.proofs.Rising.{all_times_found}
 use Rattle.module_box.proofs.schedules.find_all_times.Goals as goal
 
-pub search-preserved-in-Less : goal.search-preserved-in-Less
-search-preserved-in-Less c = grind (arith, common_steps, raise_low, cell_total, slice_get-get_or)
+pub loop-low-preserved-in-Less : goal.loop-low-preserved-in-Less
+loop-low-preserved-in-Less c = grind (arith, common_steps, raise_low, cell_total, slice_get-get_or)
 
-pub search-preserved : goal.search-preserved
-search-preserved c = grind (arith, common_steps, drop_high, cell_total, slice_get-get_or)
+pub loop-low-preserved : goal.loop-low-preserved
+loop-low-preserved c = grind (arith, common_steps, drop_high, cell_total, slice_get-get_or)
 
 pub returns-in-Equal : goal.returns-in-Equal
 returns-in-Equal c =
-    let m = c.search.low + (c.search.high - c.search.low) / 2 in
-    let within : m < length c.args.all_times.now = omega (arith, c.search.invariant.0) in
+    let m = c.loop-low.low + (c.loop-low.high - c.loop-low.low) / 2 in
+    let within : m < length c.args.all_times.now = omega (arith, c.loop-low.invariant.0) in
     let got = slice_get-get_or c.args.all_times.now m _ within in
     let same = cell_exact _ _ (sym c.in-Equal.ensures) in
     sym (all_times_found c.args.all_times.now m _ c.args.cell same got

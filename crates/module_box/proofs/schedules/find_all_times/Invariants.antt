@@ -2,8 +2,8 @@ use Rattle.module_box.proofs.Imports.{cell_cmp, cell_of, length, ◌-◌, ◌≤
 use Rattle.module_box.proofs.Rising.{IsBetween}
 use Rattle.module_box.proofs.schedules.find_all_times.Given as goal
 
-abbrev pub invariant-search : goal.invariant-search
-invariant-search l = (l.high ≤ length l.all_times) × IsBetween cell_cmp cell_of l.all_times l.cell l.low l.high
+abbrev pub invariant-loop-low : goal.invariant-loop-low
+invariant-loop-low l = (l.high ≤ length l.all_times) × IsBetween cell_cmp cell_of l.all_times l.cell l.low l.high
 
-abbrev pub decreases-search : goal.decreases-search
-decreases-search l = l.high - l.low
+abbrev pub decreases-loop-low : goal.decreases-loop-low
+decreases-loop-low l = l.high - l.low

@@ -3,16 +3,16 @@ use Rattle.module_box.proofs.Rising.{raise_low, drop_high, is_absent, is_first, 
 use Rattle.module_box.proofs.Rising.{event_found}
 use Rattle.module_box.proofs.schedules.find_event.Goals as goal
 
-pub search-preserved-in-Less : goal.search-preserved-in-Less
-search-preserved-in-Less c = grind (arith, common_steps, raise_low, moment_total, slice_get-get_or)
+pub loop-low-preserved-in-Less : goal.loop-low-preserved-in-Less
+loop-low-preserved-in-Less c = grind (arith, common_steps, raise_low, moment_total, slice_get-get_or)
 
-pub search-preserved : goal.search-preserved
-search-preserved c = grind (arith, common_steps, drop_high, moment_total, slice_get-get_or)
+pub loop-low-preserved : goal.loop-low-preserved
+loop-low-preserved c = grind (arith, common_steps, drop_high, moment_total, slice_get-get_or)
 
 pub returns-in-Equal : goal.returns-in-Equal
 returns-in-Equal c =
-    let m = c.search.low + (c.search.high - c.search.low) / 2 in
-    let within : m < length c.args.events.now = omega (arith, c.search.invariant.0) in
+    let m = c.loop-low.low + (c.loop-low.high - c.loop-low.low) / 2 in
+    let within : m < length c.args.events.now = omega (arith, c.loop-low.invariant.0) in
     let got = slice_get-get_or c.args.events.now m _ within in
     let same = moment_exact _ _ (sym c.in-Equal.ensures) in
     sym (event_found c.args.events.now m _ c.args.moment same got

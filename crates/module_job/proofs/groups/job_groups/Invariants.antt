@@ -6,8 +6,8 @@ use Rattle.module_job.proofs.FirstKeys.{IsFirstOf}
 use Rattle.module_job.proofs.FirstSummaries.{AreHeadsBefore}
 use Rattle.module_job.proofs.groups.job_groups.Given as goal
 
-abbrev pub invariant-jobs : goal.invariant-jobs
-invariant-jobs l = record {
+abbrev pub invariant-loop-number : goal.invariant-loop-number
+invariant-loop-number l = record {
   count : length l.groups.items ≡ l.number;
   each : (k : ℕ) → k < l.number →
       IsFirstLike (map shape_of (map arc_value l.jobs)) k (slice_index l.groups.items k);

@@ -8,9 +8,9 @@ returns c =
     let top = ap (λ (a : Box2). a.y) c.area-area.ensures.area in
     let high = ap (λ (a : Box2). a.h) c.area-area.ensures.area in
     let least = c.min-end.ensures in
-    let end = c.rows-test.false in
+    let end = c.loop-y-test.false in
     record {
-      owners_listed = all_rows b c.rows.near.items c.rows.y c.requires
-          (λ r from lt. omega (arith, top, high, least, end, from, lt)) c.rows.invariant.noted;
-      numbers_exist = c.rows.invariant.below;
+      owners_listed = all_rows b c.loop-y.near.items c.loop-y.y c.requires
+          (λ r from lt. omega (arith, top, high, least, end, from, lt)) c.loop-y.invariant.noted;
+      numbers_exist = c.loop-y.invariant.below;
     }

@@ -21,11 +21,12 @@ passed b other a corner w es s sv i next f ea ec is same are shape far g h =
 pub first_place_near-place-requires-clause-extent : goal.first_place_near-place-requires-clause-extent
 first_place_near-place-requires-clause-extent c =
     subst (λ (es : List TimedSignal). IsExtent es c.args.extent.now)
-    (sym (cornered c.args.other.now c.events-events.result.now c.edges.result.now c.events-events.ensures.same_list
+    (sym (cornered c.args.other.now c.events-events.result.now c.edges.result.now
+    c.events-events.ensures.same_list
     (c.edges.ensures ∙ ap (λ (s : ShapeView). s.edges) (c.deref-shape.ensures ∙ c.shape.ensures)))) c.requires.extent
 
-pub events-init : goal.events-init
-events-init c = record {
+pub loop-place-init : goal.loop-place-init
+loop-place-init c = record {
   better = better_same _ _ _ (λ h f r. let k = passed c.args.self.now c.args.other.now _ _ c.around-window.result
       c.events-events.result.now c.edges.result.now _ 0 _ h c.area.ensures.area c.area-2.ensures.area
       c.around-window.ensures c.events-events.ensures.same_list c.edges.ensures
@@ -34,13 +35,14 @@ events-init c = record {
   marked = c.requires.marked;
 }
 
-pub events-preserved : goal.events-preserved
-events-preserved c = record {
-  better = better_then _ _ _ _ _ _ _ c.events.invariant.better c.with_edge_event-least.ensures.better
-      (λ h f r. named_step c.args.other.now.edges.events c.events.place c.edge_event-event.result h
+pub loop-place-preserved : goal.loop-place-preserved
+loop-place-preserved c = record {
+  better = better_then _ _ _ _ _ _ _ c.loop-place.invariant.better c.with_edge_event-least.ensures.better
+      (λ h f r. named_step c.args.other.now.edges.events c.loop-place.place c.edge_event-event.result h
       c.edge_event-event.ensures
       (passed c.args.self.now c.args.other.now _ _ c.around-window.result
-      c.events-events.result.now c.edges.result.now _ (c.events.place + 1) _ h c.area.ensures.area c.area-2.ensures.area
+      c.events-events.result.now c.edges.result.now _
+      (c.loop-place.place + 1) _ h c.area.ensures.area c.area-2.ensures.area
       c.around-window.ensures c.events-events.ensures.same_list c.edges.ensures
       (c.deref-shape.ensures ∙ c.shape.ensures)
       c.next_place_near-place.ensures.passed_events_far f r));
@@ -52,9 +54,11 @@ returns c =
     let other = c.args.other.now in
     let are = cornered other c.events-events.result.now c.edges.result.now c.events-events.ensures.same_list
     (c.edges.ensures ∙ ap (λ (s : ShapeView). s.edges) (c.deref-shape.ensures ∙ c.shape.ensures)) in
-    let better = better_for _ _ _ _ _ c.events.invariant.better (λ h f r. named_all other.edges.events c.events.place h
-    (cornered_all _ _ c.events-events.result.now other.edges.events c.events.place are c.events-test.false) r) in
-    record { better = better; marked = c.events.invariant.marked }
+    let better = better_for _ _ _ _ _ c.loop-place.invariant.better
+    (λ h f r. named_all other.edges.events c.loop-place.place h
+    (cornered_all _ _ c.events-events.result.now other.edges.events c.loop-place.place are c.loop-place-test.false)
+    r) in
+    record { better = better; marked = c.loop-place.invariant.marked }
 
 pub returns-then-not-is_less : goal.returns-then-not-is_less
 returns-then-not-is_less c =
@@ -65,9 +69,10 @@ returns-then-not-is_less c =
     let rising : R other.edges.events =
     events_unmoved (shift_to_origin other.area.x) (shift_to_origin other.area.y) (pos other.area.x) (pos other.area.y)
     other.edges (omega (arith, ints)) (omega (arith, ints)) (subst R are c.events-events.ensures.rising_moments) in
-    let covered = subst (HasCandidateAtMost c.events.least)
+    let covered = subst (HasCandidateAtMost c.loop-place.least)
     (same_fault _ _ c.possible_fault_at.result c.possible_fault_at.ensures.time c.possible_fault_at.ensures.cell)
     (c.is_less.ensures c.if-not-is_less.true) in
-    let better = better_rest _ _ _ _ _ c.events.invariant.better (λ h r. rest_covered other.edges.events c.events.place
-    c.edge_event-event.result c.events.least h rising c.edge_event-event.ensures covered r) in
-    record { better = better; marked = c.events.invariant.marked }
+    let better = better_rest _ _ _ _ _ c.loop-place.invariant.better
+    (λ h r. rest_covered other.edges.events c.loop-place.place
+    c.edge_event-event.result c.loop-place.least h rising c.edge_event-event.ensures covered r) in
+    record { better = better; marked = c.loop-place.invariant.marked }

@@ -1,11 +1,11 @@
 use Rattle.border_match.proofs.Imports.{AreHaloMarks, IsAtSomeEventBelow, IsFaultOfSearchedJob, IsNextBest, length, ◌-◌}
 use Rattle.border_match.proofs.borders.Borders.with_edge_events.Given as goal
 
-abbrev pub invariant-events : goal.invariant-events
-invariant-events l = record {
+abbrev pub invariant-loop-place : goal.invariant-loop-place
+invariant-loop-place l = record {
   better : IsNextBest (IsFaultOfSearchedJob l.self) (IsAtSomeEventBelow l.place l.other.edges.events) l.fn.best l.least;
   marked : AreHaloMarks l.self l.seen;
 }
 
-abbrev pub decreases-events : goal.decreases-events
-decreases-events l = length l.events - l.place
+abbrev pub decreases-loop-place : goal.decreases-loop-place
+decreases-loop-place l = length l.events - l.place

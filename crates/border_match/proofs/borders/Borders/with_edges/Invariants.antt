@@ -2,8 +2,8 @@
 use Rattle.border_match.proofs.Imports.{AreHaloMarks, IsAtEdgeEventOfAny, IsFaultOfSearchedJob, IsNextBest, take}
 use Rattle.border_match.proofs.borders.Borders.with_edges.Given as goal
 
-abbrev pub invariant-modules : goal.invariant-modules
-invariant-modules l = record {
+abbrev pub invariant-loop-number : goal.invariant-loop-number
+invariant-loop-number l = record {
   better : IsNextBest (IsFaultOfSearchedJob l.self)
       (IsAtEdgeEventOfAny (take l.number-index l.near) l.self) l.fn.best l.least;
   marked : AreHaloMarks l.self l.seen;

@@ -2,7 +2,7 @@
 use Rattle.border_match.proofs.Imports.{DiffersAtStarBelow, IsFaultOfSearchedJob, IsNextBest, map, moved_all_times, pos}
 use Rattle.border_match.proofs.borders.Borders.with_faults_at_stars.Given as goal
 
-abbrev pub invariant-stars : goal.invariant-stars
-invariant-stars l = IsNextBest (IsFaultOfSearchedJob l.self)
+abbrev pub invariant-loop-place : goal.invariant-loop-place
+invariant-loop-place l = IsNextBest (IsFaultOfSearchedJob l.self)
     (DiffersAtStarBelow l.place l.self (map (moved_all_times (pos l.corner.x) (pos l.corner.y)) l.stars)) l.fn.best
     l.least

@@ -2,6 +2,6 @@
 use Rattle.border_match.proofs.Imports.{DiffersAtStarOfAny, IsFaultOfSearchedJob, IsNextBest, take}
 use Rattle.border_match.proofs.borders.Borders.with_star_faults.Given as goal
 
-abbrev pub invariant-modules : goal.invariant-modules
-invariant-modules l = IsNextBest (IsFaultOfSearchedJob l.self)
+abbrev pub invariant-loop-number : goal.invariant-loop-number
+invariant-loop-number l = IsNextBest (IsFaultOfSearchedJob l.self)
     (DiffersAtStarOfAny (take l.number-index l.near) l.self) l.fn.best l.least

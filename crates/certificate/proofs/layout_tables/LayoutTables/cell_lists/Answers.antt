@@ -6,8 +6,8 @@ use Rattle.certificate_lines.proofs.BoxPlaces.{found_at, same_count}
 use Rattle.certificate.proofs.CellRows.{grow_row}
 use Rattle.certificate.proofs.layout_tables.LayoutTables.cell_lists.Goals as goal
 
-pub rows-preserved : goal.rows-preserved
-rows-preserved c = grind (arith, common_steps, grow_row)
+pub loop-y-preserved : goal.loop-y-preserved
+loop-y-preserved c = grind (arith, common_steps, grow_row)
 
 -- all rows are those of the box
 all_rows : {B : Type 0} (f : Cell → B) (b : Box2) (n : ℕ) → n ≡ b.h →
@@ -27,5 +27,5 @@ returns-clause-demands_count c = grind (arith, common_steps, same_count, all_row
 pub returns-clause-demands : goal.returns-clause-demands
 returns-clause-demands c =
     let f = λ (d : Cell). end_demand (circuit_of c.args.self.now.circuit) c.args.self.now.layout d.x d.y in
-    found_at (renumber_demand (circuit_wire c.args.locals.now)) f c.args.area c.rows.lists.demands Dead
-    (c.rows.invariant.demands ∙ all_rows f c.args.area (c.rows.y - c.args.area.y) (omega arith))
+    found_at (renumber_demand (circuit_wire c.args.locals.now)) f c.args.area c.loop-y.lists.demands Dead
+    (c.loop-y.invariant.demands ∙ all_rows f c.args.area (c.loop-y.y - c.args.area.y) (omega arith))

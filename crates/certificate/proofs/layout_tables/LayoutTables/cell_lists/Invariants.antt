@@ -5,8 +5,8 @@ use Rattle.certificate.proofs.Imports.{◌-◌, ◌≡◌}
 use Rattle.std.specs.List.{All, flat_map}
 use Rattle.certificate.proofs.layout_tables.LayoutTables.cell_lists.Given as goal
 
-abbrev pub invariant-rows : goal.invariant-rows
-invariant-rows l = record {
+abbrev pub invariant-loop-y : goal.invariant-loop-y
+invariant-loop-y l = record {
   starts : map (renumber_signal (circuit_wire l.locals)) l.lists.starts
       ≡ map (λ c. start_signal (circuit_of l.self.circuit) l.self.layout c.x c.y)
       (flat_map (row_cells l.area.x l.area.w) (range_with_len l.area.y (l.y - l.area.y)));

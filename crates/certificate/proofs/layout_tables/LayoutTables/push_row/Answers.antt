@@ -9,8 +9,8 @@ returns-then-named-end c =
     let all : c.next_occupied-named.result - c.args.area.x ≡ c.args.area.w = omega (arith, c.if-named-end.true) in
     subst (λ (n : ℕ). AddsCells circuit c.args.self.now.layout c.args.locals.now (row_cells c.args.area.x n c.args.y)
     c.args.lists.now c.push_dead.new.self) all
-    (add_same circuit c.args.self.now.layout c.args.locals.now c.args.lists.now c.cells.lists c.push_dead.new.self
-    c.args.area.x c.cells.x c.args.y c.cells.invariant.from c.cells.invariant.added Zero Dead
+    (add_same circuit c.args.self.now.layout c.args.locals.now c.args.lists.now c.loop-x.lists c.push_dead.new.self
+    c.args.area.x c.loop-x.x c.args.y c.loop-x.invariant.from c.loop-x.invariant.added Zero Dead
     c.next_occupied-named.result c.next_occupied-named.ensures.range.0 c.in_ok-push_dead.ensures.starts
     c.in_ok-push_dead.ensures.demands c.next_occupied-named.ensures.starts
     c.next_occupied-named.ensures.demands tt tt)
@@ -21,34 +21,36 @@ start_at-requires c = grind (arith, common_steps, cast_inside)
 pub demand_at-requires : goal.demand_at-requires
 demand_at-requires c = grind (arith, common_steps, cast_inside)
 
-pub cells-preserved : goal.cells-preserved
-cells-preserved c =
+pub loop-x-preserved : goal.loop-x-preserved
+loop-x-preserved c =
     let circuit = circuit_of c.args.self.now.circuit in
     let named = c.next_occupied-named.result in
-    let dead = add_same circuit c.args.self.now.layout c.args.locals.now c.args.lists.now c.cells.lists
-    c.push_dead.new.self c.args.area.x c.cells.x c.args.y c.cells.invariant.from c.cells.invariant.added Zero Dead named
+    let dead = add_same circuit c.args.self.now.layout c.args.locals.now c.args.lists.now c.loop-x.lists
+    c.push_dead.new.self c.args.area.x c.loop-x.x c.args.y c.loop-x.invariant.from c.loop-x.invariant.added Zero Dead
+    named
     c.next_occupied-named.ensures.range.0 c.in_ok-push_dead.ensures.starts c.in_ok-push_dead.ensures.demands
     c.next_occupied-named.ensures.starts c.next_occupied-named.ensures.demands tt tt in
     record {
       from =
-          omega (arith, c.cells.invariant.from, c.next_occupied-named.ensures.range, c.next_nonmirror-x.ensures.range);
+          omega (arith, c.loop-x.invariant.from, c.next_occupied-named.ensures.range, c.next_nonmirror-x.ensures.range);
       most = c.next_nonmirror-x.ensures.range.1;
       added = add_same circuit c.args.self.now.layout c.args.locals.now c.args.lists.now c.push_dead.new.self
           c.push_live.new.self c.args.area.x named c.args.y
-          (omega (arith, c.cells.invariant.from, c.next_occupied-named.ensures.range)) dead One Live
+          (omega (arith, c.loop-x.invariant.from, c.next_occupied-named.ensures.range)) dead One Live
           c.next_nonmirror-x.result c.next_nonmirror-x.ensures.range.0 c.in_ok-push_live.ensures.starts
           c.in_ok-push_live.ensures.demands c.next_nonmirror-x.ensures.starts c.next_nonmirror-x.ensures.demands tt
           tt;
     }
 
-pub cells-preserved-then-x-named : goal.cells-preserved-then-x-named
-cells-preserved-then-x-named c =
+pub loop-x-preserved-then-x-named : goal.loop-x-preserved-then-x-named
+loop-x-preserved-then-x-named c =
     let circuit = circuit_of c.args.self.now.circuit in
     let named = c.next_occupied-named.result in
     let from : c.args.area.x ≤ named =
-    omega (arith, c.cells.invariant.from, c.next_occupied-named.ensures.range) in
-    let dead = add_same circuit c.args.self.now.layout c.args.locals.now c.args.lists.now c.cells.lists
-    c.push_dead.new.self c.args.area.x c.cells.x c.args.y c.cells.invariant.from c.cells.invariant.added Zero Dead named
+    omega (arith, c.loop-x.invariant.from, c.next_occupied-named.ensures.range) in
+    let dead = add_same circuit c.args.self.now.layout c.args.locals.now c.args.lists.now c.loop-x.lists
+    c.push_dead.new.self c.args.area.x c.loop-x.x c.args.y c.loop-x.invariant.from c.loop-x.invariant.added Zero Dead
+    named
     c.next_occupied-named.ensures.range.0 c.in_ok-push_dead.ensures.starts c.in_ok-push_dead.ensures.demands
     c.next_occupied-named.ensures.starts c.next_occupied-named.ensures.demands tt tt in
     let mirrors = add_same circuit c.args.self.now.layout c.args.locals.now c.args.lists.now c.push_dead.new.self

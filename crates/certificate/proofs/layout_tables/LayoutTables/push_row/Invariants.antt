@@ -2,13 +2,13 @@
 use Rattle.certificate.proofs.Imports.{AddsCells, circuit_of, row_cells, ◌-◌, ◌≤◌}
 use Rattle.certificate.proofs.layout_tables.LayoutTables.push_row.Given as goal
 
-abbrev pub invariant-cells : goal.invariant-cells
-invariant-cells l = record {
+abbrev pub invariant-loop-x : goal.invariant-loop-x
+invariant-loop-x l = record {
   from : l.fn.area.x ≤ l.x;
   most : l.x ≤ l.end;
   added : AddsCells (circuit_of l.self.circuit) l.self.layout l.locals (row_cells l.fn.area.x (l.x - l.fn.area.x) l.y)
       l.fn.lists l.lists;
 }
 
-abbrev pub decreases-cells : goal.decreases-cells
-decreases-cells l = l.end - l.x
+abbrev pub decreases-loop-x : goal.decreases-loop-x
+decreases-loop-x l = l.end - l.x

@@ -12,7 +12,8 @@ do_neighbours_lack_a_wire-requires-clause-own c =
     let d = c.self.inside.tables.circuit in
     let n = c.module-item.result in
     let all = subst (All (HasOwnWires d)) (sym c.deref-module-items.ensures.value) c.self.invariant.wires in
-    let here = subst (HasOwnWires d) (sym c.module-item.is) (all c.modules.module-index n c.modules-test.true) in
+    let here = subst (HasOwnWires d) (sym c.module-item.is)
+    (all c.loop-module.module-index n c.loop-module-test.true) in
     subst (λ (s : BuilderView). All (HasOwnWire s.setting.circuit) c.as_slice.result.now) c.self.view_is
     (subst (All (HasOwnWire d)) (sym c.as_slice.ensures.value) here.edges)
 
@@ -20,10 +21,10 @@ pub do_neighbours_lack_a_wire-requires-clause-inside : goal.do_neighbours_lack_a
 do_neighbours_lack_a_wire-requires-clause-inside c =
     let g = c.self.inside.tables in
     let n = c.module-item.result in
-    let i = c.modules.module-index in
+    let i = c.loop-module.module-index in
     let are = c.deref-module-items.ensures.value in
     let all = lines_on_layout g c.self.inside.modules.items c.self.invariant.tracked.kept.built.sound i n
-    (subst (λ (l : List StoredModule). i < length l) are c.modules-test.true)
+    (subst (λ (l : List StoredModule). i < length l) are c.loop-module-test.true)
     (c.module-item.is ∙ ap (λ (l : List StoredModule). get_or l i n) are) in
     subst (λ (s : BuilderView). All (IsWithin s.setting.size) c.as_slice.result.now) c.self.view_is
     (subst (All (IsWithin g.size)) (sym c.as_slice.ensures.value) all)
@@ -39,7 +40,8 @@ returns-then-do_neighbours_lack_a_wire c =
     let v = c.args.self.now in
     let n = c.module-item.result in
     let here : has_lacked v n ≡ true = grind (arith, common_steps) in
-    let hit = list_any_at (has_lacked v) c.deref-module-items.result.now c.modules.module-index n c.modules-test.true
+    let hit = list_any_at (has_lacked v) c.deref-module-items.result.now c.loop-module.module-index n
+    c.loop-module-test.true
     (ap (has_lacked v) (sym c.module-item.is) ∙ here) in
     sym hit ∙ ap (list_any (has_lacked v)) c.deref-module-items.ensures.value
     ∙ subst (λ (s : BuilderView). list_any (has_lacked s) c.self.inside.modules.items
@@ -51,8 +53,8 @@ unfolding has_lacked
 returns c =
     let v = c.args.self.now in
     let l = c.deref-module-items.result.now in
-    let all : take c.modules.module-index l ≡ l = grind (arith, common_steps, take_all) in
-    sym c.modules.invariant ∙ ap (list_any (has_lacked v)) (all ∙ c.deref-module-items.ensures.value)
+    let all : take c.loop-module.module-index l ≡ l = grind (arith, common_steps, take_all) in
+    sym c.loop-module.invariant ∙ ap (list_any (has_lacked v)) (all ∙ c.deref-module-items.ensures.value)
     ∙ subst (λ (s : BuilderView). list_any (has_lacked s) c.self.inside.modules.items
     ≡ list_any (lacks_edge_wire s.setting.circuit (flat_map edges (modules_of s.entries))) (modules_of s.entries))
     c.self.view_is (lacked_stored c.self.inside.tables.circuit c.self.inside.modules.items)

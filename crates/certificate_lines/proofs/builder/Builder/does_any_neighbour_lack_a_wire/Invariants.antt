@@ -3,7 +3,7 @@ use Rattle.certificate_lines.proofs.Imports.{does_neighbour_lack_wire, false, li
 use Rattle.certificate_lines.specs.StoredModules.{border_line}
 use Rattle.certificate_lines.proofs.builder.Builder.does_any_neighbour_lack_a_wire.Given as goal
 
-abbrev pub invariant-modules : goal.invariant-modules
-invariant-modules l = list_any (λ m. list_any (λ b. does_neighbour_lack_wire l.self.setting.circuit
+abbrev pub invariant-loop-module : goal.invariant-loop-module
+invariant-loop-module l = list_any (λ m. list_any (λ b. does_neighbour_lack_wire l.self.setting.circuit
     (modules_of l.self.entries) (border_line l.self.setting.circuit b)) m.edges.items)
     (take l.module-index l.module-items) ≡ false

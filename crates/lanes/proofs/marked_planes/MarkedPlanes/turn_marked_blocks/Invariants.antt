@@ -3,8 +3,8 @@ use Rattle.lanes.proofs.Imports.{◌≤◌}
 use Rattle.lanes.proofs.marked_planes.MarkedPlanes.turn_marked_blocks.Given as goal
 
 -- the blocks are turned whose marks are not among the rest
-abbrev pub invariant-marked : goal.invariant-marked
-invariant-marked l = record {
+abbrev pub invariant-loop-rest : goal.invariant-loop-rest
+invariant-loop-rest l = record {
   size : HasWordsStrideRows l.fn.self.planes.words l.fn.self.planes.stride l.fn.self.planes.rows l.self.planes;
   stays : l.changed ≡ 0 → l.self.planes ≡ l.fn.self.planes;
   count : (l.changed ≤ trailing_zeros w64 l.rest) × (l.first + l.changed ≤ l.end);
@@ -12,5 +12,5 @@ invariant-marked l = record {
       l.fn.self.planes l.self.planes;
 }
 
-abbrev pub decreases-marked : goal.decreases-marked
-decreases-marked l = 64 - trailing_zeros w64 l.rest
+abbrev pub decreases-loop-rest : goal.decreases-loop-rest
+decreases-loop-rest l = 64 - trailing_zeros w64 l.rest

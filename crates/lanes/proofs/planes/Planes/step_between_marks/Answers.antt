@@ -3,17 +3,17 @@ use Rattle.lanes.proofs.FieldLemmas.{by_row_end, join}
 use Rattle.lanes.proofs.RunLemmas.{first_join, first_part, run_skipped, run_turned}
 use Rattle.lanes.proofs.planes.Planes.step_between_marks.Goals as goal
 
-pub runs-preserved : goal.runs-preserved
-runs-preserved c =
+pub loop-at-preserved : goal.loop-at-preserved
+loop-at-preserved c =
     let p = c.args.self.now in
     let part = c.args.partition in
-    let m = c.runs.invariant in
+    let m = c.loop-at.invariant in
     let e = c.turn_range.ensures in
-    let next = c.next_unmarked-at-in-runs.ensures in
+    let next = c.next_unmarked-at-in-loop-at.ensures in
     let blocks = c.block_count-blocks.ensures.count_is_exact in
-    let q = c.runs.self in
+    let q = c.loop-at.self in
     let r = c.turn_range.new.self in
-    let at = c.runs.at in
+    let at = c.loop-at.at in
     let end = c.next_marked-end.result in
     let marked = c.next_marked-end.ensures in
     let size : HasWordsStrideRows p.words p.stride p.rows r =
@@ -28,7 +28,7 @@ runs-preserved c =
       size = size;
       within = next.range.1;
       unmarked = next.unmarked;
-      turned = run_skipped part p r c.args.marks.now end c.next_unmarked-at-in-runs.result
+      turned = run_skipped part p r c.args.marks.now end c.next_unmarked-at-in-loop-at.result
           c.requires.marked_blocks_stable
           (omega (arith, next.range.1, blocks)) next.passed_marked
           (join part p q r at end m.size (omega (arith, marked.range.0)) m.turned run) next.range.0;

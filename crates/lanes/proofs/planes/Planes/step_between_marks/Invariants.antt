@@ -3,8 +3,8 @@ use Rattle.lanes.proofs.Imports.{◌≤◌}
 use Rattle.lanes.proofs.planes.Planes.step_between_marks.Given as goal
 
 -- the blocks so far are turned, and the next one has no mark
-abbrev pub invariant-runs : goal.invariant-runs
-invariant-runs l = record {
+abbrev pub invariant-loop-at : goal.invariant-loop-at
+invariant-loop-at l = record {
   size : HasWordsStrideRows l.fn.self.words l.fn.self.stride l.fn.self.rows l.self;
   within : l.at ≤ l.blocks;
   unmarked : l.at < l.blocks → IsUnmarked l.marks l.at;
@@ -12,5 +12,5 @@ invariant-runs l = record {
   first : KeepsCellsOutsideBlocks l.partition l.fn.self l.self;
 }
 
-abbrev pub decreases-runs : goal.decreases-runs
-decreases-runs l = l.blocks - l.at
+abbrev pub decreases-loop-at : goal.decreases-loop-at
+decreases-loop-at l = l.blocks - l.at
