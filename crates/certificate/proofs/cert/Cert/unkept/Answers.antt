@@ -12,8 +12,8 @@ loop-number-preserved c =
     let circuit = circuit_of c.self.inside.circuit.now in
     let same = ap (λ s. s.circuit) c.self.view_is in
     let gs : List Gate = (netlist_of s.circuit).gates in
-    let count : c.loop-number-count.result ≡ length gs =
-    c.loop-number-count.ensures.count ∙ ap (λ (l : List CircuitLine). length (netlist_of l).gates) same in
+    let count : c.gates-count.result ≡ length gs =
+    c.gates-count.ensures.count ∙ ap (λ (l : List CircuitLine). length (netlist_of l).gates) same in
     let at : slice_get gs c.loop-number.number ≡ Some (gate_of c.gate-gate.result) =
     ap (slice_get gs) (sym c.of.ensures)
     ∙ ap (λ (l : List CircuitLine). slice_get (netlist_of l).gates c.of.result) (sym same) ∙ c.gate-gate.ensures in
@@ -33,8 +33,8 @@ pub returns : goal.returns
 returns c =
     let s = c.args.self.now in
     let same = ap (λ s. s.circuit) c.self.view_is in
-    let count : c.loop-number-count.result ≡ length (netlist_of s.circuit).gates =
-    c.loop-number-count.ensures.count ∙ ap (λ (l : List CircuitLine). length (netlist_of l).gates) same in
+    let count : c.gates-count.result ≡ length (netlist_of s.circuit).gates =
+    c.gates-count.ensures.count ∙ ap (λ (l : List CircuitLine). length (netlist_of l).gates) same in
     unkept_all (unkept (setting_of s.circuit s.layout) (modules_of s.entries)) c.loop-number.gates.items
     (modules_of s.entries) (netlist_of s.circuit).gates c.loop-number.number
     (let test = c.loop-number-test.false in omega (arith, test, count)) c.loop-number.invariant
