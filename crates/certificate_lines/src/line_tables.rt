@@ -18,7 +18,7 @@ use crate::certificate_line::CertificateLine;
 use crate::ports::{PortTable, PortTablePair};
 use crate::wire_list::WireList;
 use bbm_rule::Cell;
-use circuit::{Circuit, GateNo, GateWires};
+use circuit::{Circuit, GateNo, GateWires, WireHints};
 use module_box::Box2;
 use pattern::{Layout, LayoutHeader};
 use section_text::Name;
@@ -30,8 +30,8 @@ pub struct LineTables<'a> {
     circuit: &'a Circuit,
     layout: &'a Layout,
     ports: &'a PortTablePair<'a>,
-    // the wire that was named last by a name of this slot
-    likely: [u16; SLOT_COUNT],
+    // the wires that were named last
+    hints: WireHints,
 }
 
 impl<'a> Model for LineTables<'a> {
@@ -44,20 +44,6 @@ impl<'a> Model for LineTables<'a> {
     ghost view = { tables_setting };
 
     ghost invariant = { AreLineTables };
-}
-
-// The count of slots.
-const SLOT_COUNT: usize = 64;
-
-// The slot of a name, by its last two bytes, in which the names of a module's wires mostly differ.
-fn slot_of(name: &Name) -> usize
-    ensures { result < 64 }
-{
-    match name.bytes() {
-        [.., ten, one] => (10 * *ten as usize + *one as usize) % SLOT_COUNT,
-        [one] => *one as usize % SLOT_COUNT,
-        [] => 0,
-    }
 }
 
 // The name in a line, if it has one.
@@ -143,7 +129,7 @@ impl<'a> LineTables<'a> {
             circuit,
             layout,
             ports,
-            likely: [0; SLOT_COUNT],
+            hints: WireHints::new(),
         }
     }
 
@@ -177,9 +163,8 @@ impl<'a> LineTables<'a> {
     {
         let circuit = self.circuit;
         let name = name_in(line)?;
-        let slot = slot_of(name);
-        let wire = circuit.wire_by_hint(self.likely[slot], name)?;
-        self.likely[slot] = wire.number();
+        let wire = circuit.wire_by_hint(self.hints.guess(name), name)?;
+        self.hints.note(name, wire.number());
         Some(wire.number())
     }
 

@@ -1,5 +1,5 @@
 -- The names of wires.
-use Rattle.circuit.proofs.Imports.{AreGoodAfter, CircuitLine, FitsKind, Gate, Kind, List, None, Some, [], ap}
+use Rattle.circuit.proofs.Imports.{AreGoodAfter, AreGoodCircuitLines, CircuitLine, FitsKind, Gate, Kind, List, None, Some, [], ap}
 use Rattle.circuit.proofs.Imports.{append-nil, append_assoc, arith, bytes_eq, cases_Bool, cases_lt, common_steps, cond}
 use Rattle.circuit.proofs.Imports.{define_fault, defined, false, gate_count, gate_of_line_kind, gates_of, has, inl}
 use Rattle.circuit.proofs.Imports.{input_count, input_names, inr, is_gate, is_input, le-ltb, length, list_any-append}
@@ -115,7 +115,7 @@ inputs_are_first entries good = inputs_lead [] entries good
 
 -- ---- each wire has a name of its own
 
-abbrev AreOwn : List (List ℕ) → Type 0
+abbrev pub AreOwn : List (List ℕ) → Type 0
 AreOwn d = (w : ℕ) (n : List ℕ) → slice_get d w ≡ Some n → (number d n ≡ w) × (has d n ≡ true)
 
 slice_left : (d e : List (List ℕ)) (w : ℕ) → w < length d → slice_get (d ++ e) w ≡ slice_get d w
@@ -160,8 +160,11 @@ own_good before (r ∷ rest) good own =
     subst (λ (l : List CircuitLine). AreOwn (defined l)) (push_cons before r rest)
     (own_good (before ++ r ∷ []) rest good.1 here)
 
+pub wires_are_own : (entries : List CircuitLine) → AreGoodCircuitLines entries → AreOwn (defined entries)
+wires_are_own entries good = own_good [] entries good (λ w n at. absurd cc)
+
 pub names_are_own : WireNamesAreDistinct
 names_are_own entries w name good at =
-    let own = own_good [] entries good (λ w n at. absurd cc) w name at in
+    let own = wires_are_own entries good w name at in
     place_number (defined entries) name ∙ ap (λ b. cond b (Some (number (defined entries) name)) None) own.1
     ∙ ap (λ (k : ℕ). Some k) own.0

@@ -1,5 +1,6 @@
 //! Circuits, line by line.
-ghost use Rattle.std.specs.Prelude.{◌≡◌, ◌==◌, ◌+◌, ◌-◌, true, false, [], ◌∷◌, ◌++◌, ◌≤◌, map, length, take, Option, None, Some, OnOk, OnErr, IfOk, IfErr};
+ghost use Rattle.std.specs.Prelude.{◌≡◌, ◌==◌, ◌+◌, ◌-◌, true, false, [], ◌∷◌, ◌++◌, ◌≤◌, map, is_some, length, position, take, ◌<◌, Option, None, Some, OnOk, OnErr, IfOk, IfErr, IfSome};
+ghost use Rattle.std.specs.Str.{bytes_eq};
 ghost use Rattle.circuit.specs.Entries.{entry, defined};
 ghost use Rattle.circuit.specs.Gates.{uses, defines};
 ghost use Rattle.circuit.specs.declared.circuit_line.Kind.TheVariants.{Input, Gate, Output, Spill};
@@ -12,7 +13,8 @@ ghost use Rattle.section_text.specs.Adding.{HasRefusalCode};
 ghost use Rattle.circuit.specs.Bridge.{FitsKind, IsNoInputAfterGate};
 
 use crate::circuit_line::{CircuitLine, GateKind, Kind};
-use crate::netlist::Circuit;
+use crate::hints::WireHints;
+use crate::netlist::{Circuit, is_name_at};
 use crate::number::WireNo;
 use crate::sets::{define_wires, mark_wires};
 use crate::wiring::{GateWires, push_gate_of_line};
@@ -31,6 +33,7 @@ const MAX_GATES: usize = 1024;
 #[derive(Drop)]
 pub struct Draft {
     wires: IndexSet<Name, Seed>,
+    hints: WireHints,
     // for each wire, by its number, whether a line consumes it
     consumed: Vec<bool>,
     entries: Vec<CircuitLine>,
@@ -115,6 +118,7 @@ impl Draft {
     {
         Draft {
             wires: IndexSet::with_hasher(alloc, seed),
+            hints: WireHints::new(),
             consumed: Vec::new(alloc),
             entries: Vec::new(alloc),
             wired: Vec::new(alloc),
@@ -131,6 +135,20 @@ impl Draft {
             || (is_gate_kind(entry.kind) && self.gates >= MAX_GATES)
     }
 
+    // The number of the wire of a name, if a line defines it.
+    #[inline(always)]
+    fn wire_number(&self, name: &Name) -> Option<usize>
+        ensures number { result ≡ position (bytes_eq name.now) (defined self.now) }
+        ensures found { is_some result ≡ has (defined self.now) name.now }
+        ensures within { IfSome result (λ i. i < length (defined self.now)) }
+    {
+        let likely = self.hints.guess(name) as usize;
+        if is_name_at(self.wires.as_slice(), likely, name) {
+            return Some(likely);
+        }
+        self.wires.get_index_of(name)
+    }
+
     // The wire of a name, if no line consumes it yet, else the code.
     #[tactic(auto, using(crate::proofs::Places::found_number, crate::proofs::Drafts::mark_of_line))]
     fn unconsumed_wire(&self, name: &Name) -> Result<WireNo, RefusalCode>
@@ -140,7 +158,7 @@ impl Draft {
         ensures err { IfErr result (λ code.
             consume_fault (defined self.now) (consumed self.now) (name.now ∷ []) ≡ Some code) }
     {
-        let Some(index) = self.wires.get_index_of(name) else {
+        let Some(index) = self.wire_number(name) else {
             return Err(RefusalCode::UnknownName);
         };
         if self.consumed[index] {
@@ -190,6 +208,7 @@ impl Draft {
         let used = entry.ins.as_slice().len();
         let wires = self.wires.len();
         define_wires(&mut self.wires, &mut self.consumed, entry.outs.as_slice())?;
+        self.hints.note_all(entry.outs.as_slice(), wires as u16);
         let is_gate = is_gate_kind(entry.kind);
         if push_line_and_gate(
             &mut self.entries,
@@ -346,6 +365,7 @@ impl Draft {
         }
         let Draft {
             wires,
+            hints: _,
             consumed: _,
             entries,
             wired,

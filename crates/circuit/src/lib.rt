@@ -5,6 +5,7 @@
 mod circuit_line;
 mod draft;
 mod form;
+mod hints;
 pub mod laws;
 mod netlist;
 mod number;
@@ -16,6 +17,7 @@ mod wiring;
 
 pub use circuit_line::GateKind;
 pub use draft::{Draft, Unused};
+pub use hints::WireHints;
 pub use netlist::{Circuit, ValuesFault};
 pub use number::{GateNo, WireNo};
 pub use ports::port_names;

@@ -76,9 +76,9 @@ fn count_inputs(entries: &[CircuitLine]) -> usize
         .count()
 }
 
-// Whether the list has the name at this place.
+/// Returns whether the list has the name at this place.
 #[inline(always)]
-fn is_name_at(names: &[Name], place: usize, name: &Name) -> bool
+pub(crate) fn is_name_at(names: &[Name], place: usize, name: &Name) -> bool
     ensures name { result ≡ true → slice_get names.now place ≡ Some name.now }
     ensures place_within_names { result ≡ true → place < length names.now }
 {
