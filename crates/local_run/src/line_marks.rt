@@ -3,7 +3,7 @@
 ghost use Rattle.module_job.specs.Jobs.{IsJob};
 ghost use Rattle.module_job.specs.Shapes.{shape_of};
 ghost use Rattle.bbm_rule.specs.Marks.{IsUnmarked};
-ghost use Rattle.local_run.specs.Quiet.{AreStarredCellMarks, AreLineMarks};
+ghost use Rattle.local_run.specs.Quiet.{AreStarredCellMarks, AreLineMarks, KeepsMarks};
 ghost use Rattle.std.specs.Prelude.{◌≡◌, ◌+◌, ◌*◌, ◌/◌, ◌%◌, ◌<◌, ◌≤◌, vec_len, IfOk, false};
 
 use crate::lines::{EventPlaces, LinePlaces, mark_lines, marks_of_starred_cells, own_mark_number};
@@ -17,11 +17,12 @@ use std::alloc::{AllocError, Global};
 pub struct LineMarks {
     time: u32,
     marks: Vec<u64>,
-    // the marks for lines at all times
+    // the marks for lines at all times, which all are marks
     all_times: Vec<u64>,
     // where the search for the next time's lines begins
     places: LinePlaces,
     ghost same_long: { vec_len marks ≡ vec_len all_times },
+    ghost keeps: { KeepsMarks all_times.items marks.items },
 }
 
 impl LineMarks {
@@ -31,7 +32,7 @@ impl LineMarks {
         ensures { IfOk result (λ l. AreStarredCellMarks (shape_of job.now) l.all_times.items) }
     {
         let all_times = marks_of_starred_cells(alloc, job)?;
-        let marks = vec![in alloc; 0u64; all_times.len()]?;
+        let marks = all_times.as_slice().to_vec(alloc)?;
         let none = EventPlaces::NO_PHASE;
         Ok(LineMarks {
             time: 0,
@@ -45,6 +46,8 @@ impl LineMarks {
     }
 
     /// Marks the cells of which an edge or halo line of the job says something at a time.
+    ///
+    /// The marks of the time that was looked at before are taken off. Most times have none of their own.
     pub fn look_at(&mut self, job: &Job, time: u32)
         requires all_times { AreStarredCellMarks (shape_of job.now) self.old.all_times.items }
         requires range { time < 65536 }
@@ -53,7 +56,9 @@ impl LineMarks {
         ensures all_times { self.new.all_times ≡ self.old.all_times }
     {
         self.time = time;
-        self.marks.copy_from_slice(&self.all_times);
+        if self.places.has_any() {
+            self.marks.copy_from_slice(&self.all_times);
+        }
         mark_lines(&mut self.marks, &mut self.places, job, time);
     }
 

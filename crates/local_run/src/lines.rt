@@ -6,7 +6,7 @@ ghost use Rattle.module_box.specs.Moments.{moment_cmp};
 ghost use Rattle.module_box.specs.Schedules.{IsRising, all_times_at, event_at, moment_of, signal_at};
 ghost use Rattle.local_run.specs.Quiet.{AreStarredCellMarks, AreStarredCellsMarked, AreLineMarks, box_at_origin, HasRoomForCellNumbers, IsCellMarked, IsZeroAtUnmarked, KeepsMarks};
 ghost use Rattle.local_run.specs.Places.{halo_coord};
-ghost use Rattle.std.specs.Prelude.{ℕ, ◌≢◌, MatchOption, ◌≡◌, ◌<◌, ◌+◌, ◌*◌, ◌/◌, ◌%◌, ◌^◌, ◌≤◌, length, slice_index, slice_get, Some, IfOk, IfSome};
+ghost use Rattle.std.specs.Prelude.{ℕ, nat_lt, ◌||◌, ◌≢◌, MatchOption, ◌≡◌, ◌<◌, ◌+◌, ◌*◌, ◌/◌, ◌%◌, ◌^◌, ◌≤◌, length, slice_index, slice_get, Some, IfOk, IfSome};
 
 use crate::leaps::first_event_place_from;
 use bbm_rule::Cell;
@@ -158,6 +158,16 @@ pub struct LinePlaces {
     pub halos: EventPlaces,
 }
 
+impl LinePlaces {
+    /// Returns whether there is any.
+    pub fn has_any(&self) -> bool
+        ensures { result ≡ (nat_lt self.now.edges.first self.now.edges.end
+            || nat_lt self.now.halos.first self.now.halos.end) }
+    {
+        self.edges.first < self.edges.end || self.halos.first < self.halos.end
+    }
+}
+
 // The most lines among which a cell's is sought one by one.
 const MAX_NEAR_LINES: usize = 8;
 
@@ -218,7 +228,8 @@ pub fn signal_at_moment(schedule: &Schedule, moment: Moment, near: EventPlaces) 
 pub fn mark_lines(marks: &mut [u64], places: &mut LinePlaces, job: &Job, time: u32)
     requires all_times { AreStarredCellMarks (shape_of job.now) marks.old }
     requires range { time < 65536 }
-    ensures { AreLineMarks job.now time marks.new }
+    ensures marks_kept { KeepsMarks marks.old marks.new }
+    ensures lines { AreLineMarks job.now time marks.new }
 {
     let shape: &Shape = job.shape();
     let area = box_at_origin_of(shape);
