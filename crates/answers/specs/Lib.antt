@@ -1,4 +1,5 @@
 pub mod Answers
+pub mod KeptLines
 pub mod RunText
 pub mod ValueText
 pub mod BundleText

@@ -4,7 +4,6 @@ use Rattle.std.specs.Prelude.{◌≡◌, ℕ, ◌+◌, List, [], ◌∷◌, ◌+
 use Rattle.std.specs.Fmt.{decimal}
 use Rattle.section_text.specs.Spelling.{line_text}
 use Rattle.certificate_lines.specs.Entries.{counts_of, modules_of}
-use Rattle.bbm_rule.specs.declared.block.Box2.{Box2}
 use Rattle.certificate_lines.specs.declared.certificate_line.Counts.{Counts}
 use Rattle.answers.specs.declared.outcome.Outcome.{Outcome}
 use Rattle.answers.specs.declared.outcome.Outcome.TheVariants.{Yes}

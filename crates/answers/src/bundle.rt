@@ -1,5 +1,8 @@
 //! Reads a bundle, and answers what is asked of it.
 ghost use Rattle.std.specs.Prelude.{◌≡◌, true, None, IfOk};
+ghost use Rattle.section_text.specs.SaidSection.{IsSection};
+ghost use Rattle.section_text.specs.Words.{lines_of};
+ghost use Rattle.certificate_lines.specs.Forms.{form_of};
 ghost use Rattle.answers.specs.Answers.{AnswersOrRefuses as AnsweredAs};
 ghost use Rattle.answers.specs.BundleReading.{bundle_of_certificate};
 ghost use Rattle.answers.specs.BundleText.{bundle_of};
@@ -73,6 +76,7 @@ fn answer_of_text(
         Err(fault) => return refusal_answer(alloc, fault),
         Ok(layout) => layout,
     };
+    let from = text.taken_text().len();
     let cert = match read_certificate(alloc, text, &circuit, &layout) {
         Err(fault) => return refusal_answer(alloc, fault),
         Ok(cert) => cert,
@@ -80,16 +84,22 @@ fn answer_of_text(
     if let Err(fault) = text.finish() {
         return refusal_answer(alloc, fault);
     }
-    answer(alloc, &cert, question)
+    answer(alloc, &cert, &text.taken_text()[from..], question)
 }
 
-// Answers the question for the bundle of a certificate.
-fn answer(alloc: Global, cert: &Cert<'_>, question: Question) -> Result<Answered, AllocError>
+// Answers the question for the bundle of a certificate, which was read from a section.
+fn answer(
+    alloc: Global,
+    cert: &Cert<'_>,
+    section: &[u8],
+    question: Question,
+) -> Result<Answered, AllocError>
+    requires section { IsSection form_of (lines_of section.now) cert.now.version cert.now.entries }
     ensures says { IfOk result (λ answered. AnswersQuestion question
         (bundle_of_certificate cert.now) answered.output.items answered.outcome) }
 {
     match question {
         Question::Modules => list_modules(alloc, cert),
-        Question::Migration => migrate(alloc, cert),
+        Question::Migration => migrate(alloc, cert, section),
     }
 }

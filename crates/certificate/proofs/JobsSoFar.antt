@@ -10,16 +10,26 @@ use Rattle.certificate.proofs.Imports.{slice_get_within, some_is, sorted_border_
 use Rattle.certificate.proofs.Imports.{with_halos, ℕ, ◌++◌, ◌+◌, ◌<◌, ◌∙◌, ◌∷◌, ◌≡◌, ◌≤◌, All, AreGoodModules}
 use Rattle.certificate.proofs.Imports.{CircuitLine, HasOwnWire, HasOwnWires, IsGoodModule, circuit_of}
 use Rattle.certificate.proofs.Imports.{get_or_from_slice_get, setting_of, with_lines}
-use Rattle.lemmas.proofs.Common.{filter-append, length_push, slice_get_read}
+use Rattle.lemmas.proofs.Common.{Bool, filter-append, length_push, slice_get_read, true}
 use Rattle.module_box.proofs.Rising.{pushed}
 use Rattle.certificate.specs.Jobs.{AreJobsOf}
 use Rattle.certificate_lines.proofs.StoredLemmas.{stops_with}
 use Rattle.certificate.proofs.FullModules.{full_modules}
-use Rattle.certificate.proofs.PrintedLines.{filter_all, filter_none}
+use Rattle.certificate_lines.specs.declared.certificate_line.CertificateLine.{CertificateLine}
 use Rattle.std.proofs.lemmas.Simd.{map-map}
 use Rattle.certificate.proofs.StoredSignals.{all_at}
 
 -- ---- the halo lines of a module
+
+filter_all : {X : Type 0} (p : CertificateLine → Bool) (f : X → CertificateLine) → ((x : X) → p (f x) ≡ true) →
+    (xs : List X) → filter p (map f xs) ≡ map f xs
+filter_all p f passes [] = refl
+filter_all p f passes (x ∷ xs) = grind (arith, common_steps, filter_all p f passes xs)
+
+filter_none : {X : Type 0} (p : CertificateLine → Bool) (f : X → CertificateLine) → ((x : X) → p (f x) ≡ false) →
+    (xs : List X) → filter p (map f xs) ≡ []
+filter_none p f fails [] = refl
+filter_none p f fails (x ∷ xs) = grind (arith, common_steps, filter_none p f fails xs)
 
 -- the lines before the halo lines
 early_lines : (c : Circuit) (m : StoredModule) → filter precedes_halos (body_lines_with c m m.halos.items)

@@ -1,14 +1,14 @@
 //! The text of a certificate.
-ghost use Rattle.std.specs.Prelude.{◌≡◌, ◌++◌, [], ◌∷◌, ℕ, List, OnOk, IfOk, IfSome, codes, if◌then◌else◌};
+ghost use Rattle.std.specs.Prelude.{◌≡◌, ◌++◌, [], ◌∷◌, ℕ, List, OnOk, IfOk, IfSome, codes};
 ghost use Rattle.std.specs.List.{All, flat_map};
 ghost use Rattle.std.specs.Option.{option_map};
 ghost use Rattle.std.specs.Fmt.{decimal};
 ghost use Rattle.section_text.specs.Spelling.{space_and_word, line_text};
 ghost use Rattle.pattern.specs.Text.{box_words};
 ghost use Rattle.circuit.specs.Bridge.{circuit_of};
-ghost use Rattle.certificate.specs.Grammars.{migrated, version_number};
+ghost use Rattle.certificate.specs.Grammars.{version_number};
 ghost use Rattle.certificate.specs.Text.{star_or_time_word, one_or_name_word, border_words, entry_text, stop_words, certificate_text};
-ghost use Rattle.certificate_lines.specs.StoredModules.{HasOwnWire, HasOwnWires, IsOwnWire, body_lines_with, border_line, stop_line, wire_name};
+ghost use Rattle.certificate_lines.specs.StoredModules.{HasOwnWire, HasOwnWires, IsOwnWire, body_lines_with, border_line, lines_of_modules, stop_line, wire_name};
 ghost use Rattle.certificate_lines.specs.declared.certificate_line.CertificateLine.TheVariants.{Module};
 
 use crate::cert::Cert;
@@ -169,29 +169,19 @@ pub(crate) fn print_module_lines(
     Ok(())
 }
 
-// The halo lines of a module that are printed, all or none.
-fn printed_halos(stored: &StoredModule, with_halos: bool) -> &[StoredBorder]
-    ensures { result.now ≡ (if with_halos then stored.now.halos.items else []) }
-{
-    if with_halos { &stored.halos } else { &[] }
-}
-
-// The lines of modules, with their halo lines or without them.
+// The lines of modules.
 #[tactic(auto, using(crate::proofs::PrintedLines::module_more, crate::proofs::StoredSignals::all_at))]
 fn print_modules(
     out: &mut Vec<u8>,
     circuit: &Circuit,
     modules: &[StoredModule],
-    with_halos: bool,
 ) -> Result<(), AllocError>
     requires { All (HasOwnWires (circuit_of circuit.now)) modules.now }
     ensures { OnOk result (out.new.items ≡ out.old.items
-        ++ flat_map entry_text (flat_map (λ m. Module m.area
-        ∷ body_lines_with (circuit_of circuit.now) m (if with_halos then m.halos.items else []))
-        modules.now)) }
+        ++ flat_map entry_text (lines_of_modules (circuit_of circuit.now) modules.now)) }
 {
     for module in modules {
-        print_module_lines(out, circuit, module, printed_halos(module, with_halos))?;
+        print_module_lines(out, circuit, module, &module.halos)?;
     }
     Ok(())
 }
@@ -206,21 +196,7 @@ pub fn print_certificate(alloc: Global, cert: &Cert) -> Result<Vec<u8>, AllocErr
 {
     let mut out = Vec::new(alloc);
     print_header(&mut out, cert.version)?;
-    print_modules(&mut out, cert.circuit, &cert.modules, true)?;
+    print_modules(&mut out, cert.circuit, &cert.modules)?;
     out.extend_from_slice(b"end\n")?;
     Ok(out)
-}
-
-/// Prints the text of a certificate as one of version 2: with that version in its header line, and without its halo
-/// lines.
-///
-/// If the certificate is of version 2, it is the text of the certificate itself.
-#[tactic(auto, unfolding(crate::specs::Text::certificate_text))]
-pub fn print_migrated(out: &mut Vec<u8>, cert: &Cert) -> Result<(), AllocError>
-    ensures { OnOk result (out.new.items ≡ out.old.items ++ certificate_text (migrated cert.now)) }
-{
-    print_header(out, Version::WithoutHalos)?;
-    print_modules(out, cert.circuit, &cert.modules, false)?;
-    out.extend_from_slice(b"end\n")?;
-    Ok(())
 }

@@ -15,33 +15,16 @@ use Rattle.certificate_lines.specs.Entries.{Setting}
 use Rattle.certificate_lines.specs.Settings.{setting_of}
 use Rattle.certificate.specs.Grammars.{certificate_grammar, certificate_section}
 use Rattle.certificate.specs.Laws.{PrintsWhatIsRead}
+use Rattle.answers.proofs.SectionLines.{more_taken, read as section_read}
 use Rattle.check_main.specs.Preparing.{IsRest, taken_bytes}
-
--- a feed that has a fault gives no certificate, so this one has read the section
-section_read : (g : Setting) (old new : FeedView) (c : CertView) (o : Option ReadFault) → old.stop ≡ o →
-    Reads (certificate_grammar g) (λ (d : CertView). certificate_section d) old new (Ok c) →
-    ReadsSection (certificate_grammar g) (λ (d : CertView). certificate_section d) old new (Ok c)
-section_read g old new c None e r = r.reads e
-section_read g old new c (Some fault) e r = absurd ((r.stopped fault e).0)
 
 pub text_taken : PrintsWhatIsRead → (g : Setting) (old new : FeedView) (c : CertView) →
     Reads (certificate_grammar g) (λ (d : CertView). certificate_section d) old new (Ok c) →
     taken_bytes new ≡ taken_bytes old ++ certificate_text c
 text_taken printed g old new c r =
-    let s = section_read g old new c old.stop refl r in
-    let ls = lines_of old.text in
-    let k = length c.entries + 2 in
-    ap taken_bytes s.after
-    ∙ ap (flat_map with_line_feed) (take-add old.taken k ls)
-    ∙ flat_map-append with_line_feed (take old.taken ls) (take k (drop old.taken ls))
-    ∙ ap (λ (t : List ℕ). taken_bytes old ++ t) (printed g old.taken (drop old.taken ls) c s.gives)
-
--- so the bytes behind those before are the certificate's text
-pub section_bytes : (before after text : List ℕ) → after ≡ before ++ text →
-    (length before ≤ length after) × (drop (length before) after ≡ text)
-section_bytes before after text e =
-    let longer = ap length e ∙ length-append before text in
-    (omega (arith, longer), ap (drop (length before)) e ∙ drop-append_seam before text)
+    more_taken g old new c r
+    ∙ ap (λ (t : List ℕ). taken_bytes old ++ t)
+    (printed g old.taken (drop old.taken (lines_of old.text)) c (section_read g old new c r).gives)
 
 -- a text that was read to its end is that of the lines that were taken
 read_to_end : (f : FeedView) → ahead f ≡ [] → bytes_after_last_line_feed f.text ≡ [] → taken_bytes f ≡ f.text
@@ -58,8 +41,8 @@ pub section_is_rest : PrintsWhatIsRead → (g : Setting) (old new : FeedView) (c
     Reads (certificate_grammar g) (λ (d : CertView). certificate_section d) old new (Ok c) → ahead new ≡ [] →
     bytes_after_last_line_feed new.text ≡ [] → IsRest old (certificate_text c)
 section_is_rest printed g old new c r none over =
-    let s = section_read g old new c old.stop refl r in
-    sym (text_taken printed g old new c r) ∙ read_to_end new none over ∙ ap (λ (f : FeedView). f.text) s.after
+    sym (text_taken printed g old new c r) ∙ read_to_end new none over
+    ∙ ap (λ (f : FeedView). f.text) (section_read g old new c r).after
 
 -- what holds of a value if there is one
 pub some_weaker : {A : Type 0} (o : Option A) (P Q : A → Type 0) → ((a : A) → P a → Q a) → IfSome o P → IfSome o Q

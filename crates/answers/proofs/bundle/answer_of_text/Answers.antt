@@ -1,10 +1,12 @@
 -- The circuit, the layout, the certificate, and the end of the text.
-use Rattle.lemmas.proofs.Common.{IfOk-weaker}
+use Rattle.lemmas.proofs.Common.{IfOk-weaker, ap, ◌∙◌}
 use Rattle.section_text.specs.Ports.{named_ports}
+use Rattle.certificate_lines.specs.Settings.{setting_of}
 use Rattle.answers.specs.Questions.{AnswersQuestion}
 use Rattle.answers.specs.BundleText.{bundle_of}
 use Rattle.answers.proofs.Bundles.{bundle_answers, bundle_goes_on, bundle_read, certificate_failed, circuit_failed}
 use Rattle.answers.proofs.Bundles.{going_3, layout_failed, refusal_answers}
+use Rattle.answers.proofs.SectionLines.{bytes_taken, longer, section_lines}
 use Rattle.answers.proofs.bundle.answer_of_text.Goals as goal
 
 pub returns-in-Err : goal.returns-in-Err
@@ -57,6 +59,47 @@ returns-in-Err-finish c =
     (λ answered told. refusal_answers (AnswersQuestion c.args.question)
     (bundle_of c.args.text.now.text) c.in-Err-finish.fault answered.output.items answered.outcome fails told)
     c.refusal_answer-in-Err-finish.ensures.refusal_told
+
+-- the bytes that were taken of the certificate's section have its lines
+pub slice_bounds-answer-start : goal.slice_bounds-answer-start
+slice_bounds-answer-start c =
+    let going = going_3 c.args.text.now c.read_circuit.new.feed c.requires.unread c.requires.feed_not_stopped
+    c.in-Ok.circuit
+    c.in-Ok.ensures (named_ports c.in-Ok-port_names.ports) c.read_layout.new.feed c.in-Ok-port_names.ensures.ports
+    c.in-Ok-read_layout.layout c.in-Ok-read_layout.ensures.reads c.read_certificate.new.feed
+    c.in-Ok-read_certificate.cert c.in-Ok-read_certificate.ensures.reads in
+    let done = c.in_default.ensures.ok going in
+    longer
+    (setting_of c.in-Ok.circuit c.in-Ok-read_layout.layout) c.read_layout.new.feed c.read_certificate.new.feed
+    c.in-Ok-read_certificate.cert c.in-Ok-read_certificate.ensures.reads c.taken_text-from.result.now
+    c.taken_text.result.now c.taken_text-from.ensures (c.taken_text.ensures ∙ ap bytes_taken done.2)
+
+pub slice_bounds-answer-count : goal.slice_bounds-answer-count
+slice_bounds-answer-count c =
+    let going = going_3 c.args.text.now c.read_circuit.new.feed c.requires.unread c.requires.feed_not_stopped
+    c.in-Ok.circuit
+    c.in-Ok.ensures (named_ports c.in-Ok-port_names.ports) c.read_layout.new.feed c.in-Ok-port_names.ensures.ports
+    c.in-Ok-read_layout.layout c.in-Ok-read_layout.ensures.reads c.read_certificate.new.feed
+    c.in-Ok-read_certificate.cert c.in-Ok-read_certificate.ensures.reads in
+    let done = c.in_default.ensures.ok going in
+    longer
+    (setting_of c.in-Ok.circuit c.in-Ok-read_layout.layout) c.read_layout.new.feed c.read_certificate.new.feed
+    c.in-Ok-read_certificate.cert c.in-Ok-read_certificate.ensures.reads c.taken_text-from.result.now
+    c.taken_text.result.now c.taken_text-from.ensures (c.taken_text.ensures ∙ ap bytes_taken done.2)
+
+pub answer-requires : goal.answer-requires
+answer-requires c =
+    let going = going_3 c.args.text.now c.read_circuit.new.feed c.requires.unread c.requires.feed_not_stopped
+    c.in-Ok.circuit
+    c.in-Ok.ensures (named_ports c.in-Ok-port_names.ports) c.read_layout.new.feed c.in-Ok-port_names.ensures.ports
+    c.in-Ok-read_layout.layout c.in-Ok-read_layout.ensures.reads c.read_certificate.new.feed
+    c.in-Ok-read_certificate.cert c.in-Ok-read_certificate.ensures.reads in
+    let done = c.in_default.ensures.ok going in
+    record {
+      section = section_lines (setting_of c.in-Ok.circuit c.in-Ok-read_layout.layout) c.read_layout.new.feed c.read_certificate.new.feed
+          c.in-Ok-read_certificate.cert c.in-Ok-read_certificate.ensures.reads c.taken_text-from.result.now
+          c.taken_text.result.now c.taken_text-from.ensures (c.taken_text.ensures ∙ ap bytes_taken done.2);
+    }
 
 pub returns : goal.returns
 returns c =

@@ -27,6 +27,6 @@ loop-module-preserved c m h =
     ∷ body_lines_with circuit c.module-item.result hs)) c.truncate.ensures.items c.deref.ensures.value in
     subst (Holds256 c.update.new.self)
     (append_assoc m before c.as_slice.result.now ∙ ap (λ t. m ++ t) (ap (λ t. before ++ t) text_is
-    ∙ sym (module_more circuit (λ n. n.halos.items) c.args.modules.now c.loop-module.module-index c.module-item.result
+    ∙ sym (module_more circuit c.args.modules.now c.loop-module.module-index c.module-item.result
     c.loop-module-test.true c.module-item.is)))
     (c.update.ensures (m ++ before) (c.loop-module.invariant m h))

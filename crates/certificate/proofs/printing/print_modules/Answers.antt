@@ -1,5 +1,4 @@
 use Rattle.certificate.proofs.Imports.{All, HasOwnWire, HasOwnWires, circuit_of, subst, sym}
-use Rattle.certificate.proofs.PrintedLines.{own_printed}
 use Rattle.certificate.proofs.StoredSignals.{all_at}
 use Rattle.certificate.proofs.printing.print_modules.Goals as goal
 
@@ -10,7 +9,6 @@ print_module_lines-requires-clause-wires c =
 
 pub print_module_lines-requires-clause-halo_wires : goal.print_module_lines-requires-clause-halo_wires
 print_module_lines-requires-clause-halo_wires c =
-    subst (All (HasOwnWire (circuit_of c.args.circuit.now))) (sym c.printed_halos.ensures)
-    (own_printed (circuit_of c.args.circuit.now) c.module-item.result c.args.with_halos
+    subst (All (HasOwnWire (circuit_of c.args.circuit.now))) (sym c.deref.ensures.value)
     (all_at (HasOwnWires (circuit_of c.args.circuit.now)) c.args.modules.now c.requires c.loop-module.module-index
-    c.module-item.result c.loop-module-test.true c.module-item.is))
+    c.module-item.result c.loop-module-test.true c.module-item.is).halos
