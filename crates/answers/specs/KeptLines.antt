@@ -9,7 +9,8 @@ begins_with_h (byte ∷ bytes) = byte == 104
 -- the lines that do not
 unfoldable pub lines_without_h : List (List ℕ) → List (List ℕ)
 lines_without_h [] = []
-lines_without_h (line ∷ lines) = if not (begins_with_h line) then line ∷ lines_without_h lines else lines_without_h lines
+lines_without_h (line ∷ lines) =
+    if not (begins_with_h line) then line ∷ lines_without_h lines else lines_without_h lines
 
 -- a line with its line feed, or nothing if it begins so
 abbrev pub line_without_h : List ℕ → List ℕ

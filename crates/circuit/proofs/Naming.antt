@@ -1,5 +1,6 @@
 -- The names of wires.
-use Rattle.circuit.proofs.Imports.{AreGoodAfter, AreGoodCircuitLines, CircuitLine, FitsKind, Gate, Kind, List, None, Some, [], ap}
+use Rattle.circuit.proofs.Imports.{AreGoodAfter, AreGoodCircuitLines, CircuitLine, FitsKind, Gate, Kind, List, None}
+use Rattle.circuit.proofs.Imports.{Some, [], ap}
 use Rattle.circuit.proofs.Imports.{append-nil, append_assoc, arith, bytes_eq, cases_Bool, cases_lt, common_steps, cond}
 use Rattle.circuit.proofs.Imports.{define_fault, defined, false, gate_count, gate_of_line_kind, gates_of, has, inl}
 use Rattle.circuit.proofs.Imports.{input_count, input_names, inr, is_gate, is_input, le-ltb, length, list_any-append}

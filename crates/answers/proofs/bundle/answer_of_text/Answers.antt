@@ -96,7 +96,8 @@ answer-requires c =
     c.in-Ok-read_certificate.cert c.in-Ok-read_certificate.ensures.reads in
     let done = c.in_default.ensures.ok going in
     record {
-      section = section_lines (setting_of c.in-Ok.circuit c.in-Ok-read_layout.layout) c.read_layout.new.feed c.read_certificate.new.feed
+      section = section_lines (setting_of c.in-Ok.circuit c.in-Ok-read_layout.layout) c.read_layout.new.feed
+          c.read_certificate.new.feed
           c.in-Ok-read_certificate.cert c.in-Ok-read_certificate.ensures.reads c.taken_text-from.result.now
           c.taken_text.result.now c.taken_text-from.ensures (c.taken_text.ensures ∙ ap bytes_taken done.2);
     }

@@ -1,4 +1,5 @@
-use Rattle.lemmas.proofs.Common.{ap, ap₂, append-nil, append_assoc, arith, drop, length, length-drop, sym, take, take_rest, ◌++◌, ◌+◌, ◌∙◌}
+use Rattle.lemmas.proofs.Common.{ap, ap₂, append-nil, append_assoc, arith, drop, length, length-drop, sym, take}
+use Rattle.lemmas.proofs.Common.{take_rest, ◌++◌, ◌+◌, ◌∙◌}
 use Rattle.answers.specs.KeptLines.{line_without_h}
 use Rattle.answers.proofs.KeptLines.{first_kept, kept_text, none_kept}
 use Rattle.answers.proofs.migration.push_lines_without_h.Goals as goal
