@@ -11,7 +11,7 @@ class AssignReader(SectionReader):
 
     def __init__(self, lines: Lines, known: list[str], command: str) -> None:
         super().__init__(lines)
-        self.known = known
+        self.known = dict.fromkeys(known)
         self.command = command
         self.on: dict[str, int] = {}
 
@@ -21,7 +21,7 @@ class AssignReader(SectionReader):
     def read_on(self, name: str) -> None:
         """Reads a line `on`."""
         if name not in self.known:
-            self.lines.refuse(3, "on_unknown", name=name, known=list(dict.fromkeys(self.known)), command=self.command)
+            self.lines.refuse(3, "on_unknown", name=name, known=list(self.known), command=self.command)
         if name in self.on:
             self.lines.refuse(4, "on_twice", name=name, at=self.on[name])
         self.on[name] = self.lines.taken

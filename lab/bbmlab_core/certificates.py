@@ -4,7 +4,7 @@ from dataclasses import dataclass, field
 
 from .boxes import Box
 from .circuits import Circuit
-from .layouts import Cell, Layout
+from .layouts import Cell, Layout, Part
 from .lines import Form, Lines, SectionReader, forms_of
 
 MAX_MODULES = 1024
@@ -139,7 +139,10 @@ class CertificateReader(SectionReader):
         super().__init__(lines)
         self.circuit, self.layout = circuit, layout
         self.certificate = Certificate(first_line=lines.taken + 1)
-        self.ports = layout.of_kind("in") + layout.of_kind("out")
+        # The `in` and `out` cells by the block that they lie in.
+        self.ports: dict[Cell, list[Part]] = {}
+        for port in layout.of_kind("in") + layout.of_kind("out"):
+            self.ports.setdefault((port.x // 2 * 2, port.y // 2 * 2), []).append(port)
         # The module that has each block of two by two cells, by the block's place.
         self.owners: dict[Cell, Module] = {}
 
@@ -327,7 +330,10 @@ class CertificateReader(SectionReader):
     def require_ports(self) -> None:
         """Refuses the end of a module that has a port whose wire it does not know."""
         for module in self.certificate.modules[-1:]:
-            missing = [port for port in self.ports if module.box.has(port.cell) and port.name not in module.local]
+            box = module.box
+            blocks = ((u, v) for v in range(box.y, box.y + box.height, 2) for u in range(box.x, box.x + box.width, 2))
+            missing = sorted((port for block in blocks for port in self.ports.get(block, ()) if port.name not in module.local),
+                             key=lambda port: port.line)
             if missing:
                 makers = {port.name: self.circuit.maker.get(port.name or "") for port in missing}
                 self.lines.refuse(11, "port_not_local", module=module.number, at=module.line, ports=missing, makers=makers)
@@ -349,8 +355,9 @@ class CertificateReader(SectionReader):
         """Returns rectangles that together have all cells in no box."""
         free = {(u, v) for v in range(0, self.layout.height, 2) for u in range(0, self.layout.width, 2)} - self.owners.keys()
         gaps = []
-        while free:
-            x, y = min(free, key=lambda block: (block[1], block[0]))
+        for x, y in sorted(free, key=lambda block: (block[1], block[0])):
+            if (x, y) not in free:
+                continue
             right, bottom = x, y
             while (right, y) in free:
                 right += 2

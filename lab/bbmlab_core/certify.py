@@ -150,12 +150,16 @@ class Maker:
         needed = {line.signal for line in (*module.edges, *module.halos)} - {"1"}
         inside = [key_of(cell) for cell in box.cells()]
         needed |= {self.ports[key] for key in inside if key in self.ports} | {stop.name for stop in module.stops}
+        fault = None
         for wiring in self.wirings(box, needed, inside, halo):
             if wiring.fits():
                 module.cuts, module.uses = wiring.cuts, dict.fromkeys(wiring.uses, 0)
-                if not self.plan.is_tried or ModuleRun(self.circuit, self.layout, Certificate(1, [module]), module).least_fault() is None:
+                fault = ModuleRun(self.circuit, self.layout, Certificate(1, [module]), module).least_fault() if self.plan.is_tried else None
+                if fault is None:
                     return module
-        raise NoBoxError(f"the box {box} needs {len(needed)} wires, and no cuts that were tried serve it")
+        if fault is None:
+            raise NoBoxError(f"the box {box} needs {len(needed)} wires, and no cuts that were tried fit one module")
+        raise NoBoxError(f"with the last cuts that were tried the cell ({fault.x}, {fault.y}) in the box {box} is wrong at time {fault.time}")
 
     def border_lines(self, kind: str, keys: list[int]) -> list[BorderLine]:
         """Returns the lines for cells of a ring or a halo."""

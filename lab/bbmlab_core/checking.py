@@ -20,12 +20,21 @@ __all__ = ["WORDS", "Checker", "Keeper", "Result", "counted", "exit_status", "su
 LOOK_SECONDS, END_SECONDS = 0.2, 2.0
 
 
+def files_below(folder: str) -> list[str]:
+    """Returns the `.txt` files of a folder, at any depth. Raises LabError if a folder cannot be listed."""
+    def stop(error: OSError) -> None:
+        """Ends the search."""
+        raise LabError(f"{error.filename}: {error.strerror or error}") from error
+
+    return sorted(str(Path(place) / name) for place, _, names in os.walk(folder, onerror=stop) for name in names if name.endswith(".txt"))
+
+
 def text_files(names: list[str]) -> list[str]:
     """Returns the files of these names; a folder is all its `.txt` files, at any depth."""
     found: list[str] = []
     for name in names:
         if name != "-" and os.path.isdir(name):
-            inside = sorted(str(path) for path in Path(name).rglob("*.txt"))
+            inside = files_below(name)
             if not inside:
                 raise LabError(f"{name}: no .txt file in this folder")
             found += inside

@@ -48,6 +48,14 @@ def from_zero(word: str) -> int:
     return whole_number(word, 0)
 
 
+def port(word: str) -> int:
+    """Returns the number of a port, or 0 for a free one."""
+    number = whole_number(word, 0)
+    if number > 65535:
+        raise argparse.ArgumentTypeError(f"{word!r} is no port: ports are 0 to 65535")
+    return number
+
+
 def whole_number(word: str, least: int) -> int:
     """Returns a whole number that is not less than another."""
     if not word.isdecimal() or len(word) > 18 or int(word) < least:
@@ -262,7 +270,7 @@ def add_studio(commands: Commands) -> None:
                           "Example: bbmlab studio my_gate.txt")
     parser.add_argument("file", nargs="?", metavar="FILE", help="the text to open (default: a new layout in this folder)")
     parser.add_argument("--no-open", dest="open", action="store_false", help="print the address, and open no browser")
-    parser.add_argument("--port", type=from_zero, metavar="N", help="listen at this port of 127.0.0.1 (default: a free one)")
+    parser.add_argument("--port", type=port, metavar="N", help="listen at this port of 127.0.0.1 (default: a free one)")
     parser.add_argument("--memory", type=positive, default=4096, metavar="MIB", help="the memory limit of the program and of the lab (default: 4096)")
     add_program(parser)
 
@@ -318,9 +326,11 @@ def answered(run: Callable[[argparse.Namespace], int], options: argparse.Namespa
     from .program import ProgramError, ProgramTimeout
     from .reports import ReportError
     from .signals import Stopped, end_by_pipe, listen
-    from .terminal import LabError, plain
+    from .terminal import LabError, plain, require_output
     listen()
     try:
+        read = [getattr(options, word, None) for word in ("file", "report", "boxes")]
+        require_output(getattr(options, "output", None), [name for name in read if name])
         status = run(options)
         if sys.stdout is not None:
             sys.stdout.flush()
@@ -336,6 +346,9 @@ def answered(run: Callable[[argparse.Namespace], int], options: argparse.Namespa
     except OSError as error:
         print(f"bbmlab: standard output: {error.strerror or error}", file=sys.stderr)
         return 4
+    except MemoryError:
+        print("bbmlab: out of memory", file=sys.stderr)
+        return 4
     except Stopped as signal:
         return signal.status
 
@@ -343,7 +356,10 @@ def answered(run: Callable[[argparse.Namespace], int], options: argparse.Namespa
 def main(words: list[str] | None = None) -> int:
     """Runs a command and returns the exit status."""
     words = sys.argv[1:] if words is None else words
-    options = commands_for(words).parser.parse_args(words)
+    commands = commands_for(words)
+    options, unknown = commands.parser.parse_known_args(words)
+    if unknown:
+        commands.commands.choices[options.name].error(f"unrecognized arguments: {' '.join(unknown)}")
     if sys.stdout is None:
         print("bbmlab: standard output is closed", file=sys.stderr)
         return 4

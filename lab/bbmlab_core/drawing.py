@@ -351,7 +351,10 @@ def ball_ways(document: Document, on: list[str] | None, until: int) -> tuple[dic
     names[full] = "1"
     run, ways = WholeRun(layout, tables, full), dict[tuple[Cell, Cell], set[str]]()
     for _ in range(until):
-        before, is_odd = dict(run.field.live), run.time % 2
+        # Only blocks of the cells that changed in the last two steps can change: their cells are kept, and not all that are live.
+        live, is_odd = run.field.live, run.time % 2
+        looked = {block_of(key, is_odd) for key in run.field.changed | run.field.changed_before}
+        before = {key: live[key] for corner in looked for key in (corner, corner + 1, corner + ROW, corner + DIAGONAL) if key in live}
         if not run.step():
             break
         for corner in {block_of(key, is_odd) for key in run.field.changed}:

@@ -1,6 +1,7 @@
 """Edits of a text: whole lines to add, to replace and to delete, and their application to a text in memory."""
 
 import difflib
+from collections import Counter
 from dataclasses import dataclass
 from typing import Iterable
 
@@ -9,6 +10,8 @@ from .spelling import module_key, rank_of, SECTION_ORDERS
 ACTIONS = ("add", "replace", "delete")
 # The most lines between the first and the last difference of two texts for which the fewest edits are looked for.
 MAX_COMPARED = 4000
+# The most pairs of equal lines for that: a search for the longest match looks at all of them, and each match is searched by itself.
+MAX_PAIRS = 40_000
 
 
 class EditError(Exception):
@@ -30,6 +33,8 @@ class Edit:
         """Returns the edit as a sentence; `lines` are those of the text before all edits."""
         old = lines[self.line - 1] if 0 < self.line <= len(lines) else ""
         if self.action == "add":
+            if not self.text and self.line == len(lines):
+                return "Add a line feed at the end of the file."
             return f"Add `{self.text}` after line {self.line} (`{old}`)." if self.line else f"Add `{self.text}` before the first line."
         if self.action == "replace":
             return f"Replace line {self.line} (`{old}`) by `{self.text}`."
@@ -78,19 +83,26 @@ def edits_between(old: str, new: str) -> list[Edit]:
     """Returns edits that make one text of another."""
     before, after = old.split("\n"), new.split("\n")
     first = 0
-    while first < min(len(before), len(after)) and before[first] == after[first]:
+    # The last line is left, so that of equal lines at the end the first is changed.
+    while first < min(len(before), len(after)) - 1 and before[first] == after[first]:
         first += 1
     last = 0
     while last < min(len(before), len(after)) - first and before[-1 - last] == after[-1 - last]:
         last += 1
     middle, other = before[first:len(before) - last], after[first:len(after) - last]
-    if max(len(middle), len(other)) > MAX_COMPARED:
+    if max(len(middle), len(other)) > MAX_COMPARED or equal_pairs(middle, other) > MAX_PAIRS:
         return hunk_edits(first, len(middle), other)
     edits: list[Edit] = []
     for _, low, high, start, end in difflib.SequenceMatcher(None, middle, other, autojunk=False).get_opcodes():
         if middle[low:high] != other[start:end]:
             edits += hunk_edits(first + low, high - low, other[start:end])
     return edits
+
+
+def equal_pairs(one: list[str], other: list[str]) -> int:
+    """Returns in how many ways a line of one list and an equal line of another can be chosen."""
+    counts = Counter(other)
+    return sum(counts[line] for line in one)
 
 
 def hunk_edits(before: int, count: int, new: list[str]) -> list[Edit]:

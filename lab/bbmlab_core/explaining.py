@@ -6,13 +6,13 @@ from dataclasses import asdict, dataclass, field
 
 from .certificates import StopLine
 from .circuits import Circuit
+from .designs import require_digest
 from .diagnosis import MAX_STEPS, Diagnosis, Truth
 from .documents import Document, read_document
 from .edits import Edit
 from .faults import Entry, assignment_words, explain_border, explain_keep, explain_local, shown
 from .fixing import Fix, Fixer, outcome_words
 from .mirrors import falling_mirrors
-from .own_report import certificate_digest
 from .refusals import Explained, explain_code, explain_refusal, listed
 from .reports import Finding, Report, ReportError, parse_report
 from .trials import Trial
@@ -148,18 +148,6 @@ def explain_report(document: Document, report: Report, file: str, trial: Trial |
     if trial and report.verdict == "no":
         add_fixes(explanation, diagnosis, report, trial)
     return explanation
-
-
-def require_digest(document: Document, report: Report) -> None:
-    """Refuses a report whose digest is not that of the text's certificate, or whose lines name modules or gates that there are not."""
-    digest = certificate_digest(document.text)
-    if digest != report.digest:
-        raise ReportError(f"the report is not of this text: its certificate has the digest {report.digest[:16]}.., and the text's has {digest[:16]}..")
-    modules = len(document.certificate.modules) if document.certificate else 0
-    gates = len(document.circuit.gates) if document.circuit else 0
-    for finding in report.findings:
-        if int(finding.values.get("module", -1)) >= modules or int(finding.values.get("gate", -1)) >= gates:
-            raise ReportError(f"the report is not of this text: `{finding.text}` names a module or a gate that the text does not have")
 
 
 def yes_words(count: int) -> str:
@@ -344,7 +332,7 @@ def as_gcc(explanation: Explanation) -> list[str]:
     if explanation.refused:
         text = " ".join([*explanation.refused.what, *fix_words(explanation.fix.words if explanation.fix else [])])
         return [f"{explanation.file}:{explanation.line}: error: {text} [code {explanation.code}]"]
-    return [f"{explanation.file}:{entry.line or 1}: error: {' '.join([*entry.what, *fix_words(entry.fixes)])} [{entry.report_line}]"
+    return [f"{explanation.file}:{entry.line or entry.facts.get('module_line', 1)}: error: {' '.join([*entry.what, *fix_words(entry.fixes)])} [{entry.report_line}]"
             for entry in explanation.entries if entry.is_against]
 
 

@@ -41,7 +41,7 @@ def golly_states(text: str) -> tuple[dict[Cell, int], list[str]]:
     """Returns the states of the cells of an RLE file that are not 0, and the layout's lines in its comments."""
     corner, comments, body, header = (0, 0), [], "", None
     for line in text.splitlines():
-        place = re.match(r"#CXRLE.*Pos=(-?\d+),(-?\d+)", line)
+        place = re.match(r"#CXRLE.*Pos=(-?\d{1,9}),(-?\d{1,9})(?!\d)", line)
         if place:
             corner = int(place[1]), int(place[2])
         if line.startswith("#C layout: "):

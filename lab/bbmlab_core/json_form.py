@@ -9,6 +9,7 @@ from .documents import Document
 from .gates import GATE_SIZES
 from .layouts import Layout
 from .lines import NAME
+from .refusals import refusal_words
 from .reports import Report
 from .terminal import LabError
 
@@ -51,7 +52,7 @@ def report_json(report: Report) -> dict[str, Any]:
 def document_json(document: Document, report: Report | None) -> str:
     """Writes the sections of a text, and a report if there is one, as one JSON document."""
     if document.refusal:
-        raise LabError(f"the text is refused at line {document.refusal.line}, code {document.refusal.code}: bbmlab explain tells why", 1)
+        raise LabError(f"the text is refused: {refusal_words(document)}", 1)
     parts: dict[str, Any] = {"format": FORMAT}
     if document.circuit:
         parts["circuit"] = circuit_json(document.circuit)

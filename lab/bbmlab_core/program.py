@@ -60,7 +60,9 @@ def find_program(given: str | None = None) -> str:
         found = shutil.which(place)
         if found and os.path.isfile(found):
             return behind_wrapper(os.path.abspath(found))
-    raise ProgramError(f"the program is not at {' or '.join(tried)}; name it with --program PATH or set BBMCHECK")
+    is_named = given or os.environ.get("BBMCHECK")
+    where = f"there is no program at {tried[0]}" if is_named else "no program was found in the clone, next to bbmlab or on PATH"
+    raise ProgramError(f"{where}; name it with --program PATH or set BBMCHECK")
 
 
 class Running:

@@ -15,6 +15,7 @@ from urllib.parse import quote
 from .answering import STATUS_OF, Result, result_of_report
 from .checking import Contradiction
 from .releases import Program
+from .reports import parse_report
 from .terminal import LabError, read_bytes, replace_file
 
 FORMAT = "bbmlab receipt 1"
@@ -106,6 +107,14 @@ def digest_of(document: Any, name: str) -> str:
     return value
 
 
+def seconds_of(document: Any) -> float:
+    """Returns the member `processor_seconds`."""
+    try:
+        return float(member(document, "processor_seconds", (int, float)))
+    except OverflowError as error:
+        raise ReceiptError("its member `processor_seconds` is too large") from error
+
+
 def parse_receipt(data: bytes) -> Receipt:
     """Reads a receipt; raises ReceiptError for what is none, and for one whose report or verdict was changed."""
     try:
@@ -123,7 +132,7 @@ def parse_receipt(data: bytes) -> Receipt:
         {name: member(sections, name, (str, nothing)) for name in SECTIONS}, report, member(document, "verdict", str), status,
         Program(digest_of(program, "sha256"), member(program, "version", (str, nothing)), member(program, "kit", (str, nothing)),
                 member(program, "sources_sha256", (str, nothing))),
-        member(document, "workers", int), float(member(document, "processor_seconds", (int, float))), member(document, "date", str),
+        member(document, "workers", int), seconds_of(document), member(document, "date", str),
         result_of_report(name, status, report))
     require_same_report(receipt, digest_of(document, "report_sha256"))
     return receipt
@@ -134,9 +143,9 @@ def require_same_report(receipt: Receipt, digest: str) -> None:
     if sha256(receipt.report.encode("latin-1", "replace")) != digest:
         raise ReceiptError("its report was changed: the digest of the report is another one")
     said = receipt.said
-    if said.result != receipt.verdict:
+    if said.result == "error" or said.result != receipt.verdict:
         raise ReceiptError(f"its verdict was changed: the report says {said.result if said.result != 'error' else said.detail}")
-    certificate = receipt.report.split("\n")[1].removeprefix("certificate ") if receipt.verdict != "refused" else None
+    certificate = parse_report(receipt.report).digest
     if certificate and certificate != receipt.sections["certificate"]:
         raise ReceiptError("its report is of another certificate than its text")
 

@@ -533,6 +533,13 @@ def explain_refusal(document: Document, refusal: Refusal) -> Explained:
     return explained
 
 
+def refusal_words(document: Document) -> str:
+    """Returns in one line where the lab's reader refuses a text, the code, and why."""
+    assert document.refusal
+    why = " ".join(explain_refusal(document, document.refusal).what)
+    return f"line {document.refusal.line} is refused with code {document.refusal.code}: {why}"
+
+
 def explain_code(line: int, code: int) -> Explained:
     """Returns what a refusal alone says, where the lab's reader does not come to the same one."""
     rule = RULES.get(code, "There is no such code.")

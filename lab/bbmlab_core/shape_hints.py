@@ -25,7 +25,8 @@ def character_hints(line: str) -> list[Hint]:
     if "\t" in line:
         hints.append(("The line has a tab; words are parted by one space.", f"Write a space for each tab. {SEVERAL}"))
     if "#" in line or "//" in line:
-        hints.append(("The line has a comment; these texts have no comments.", f"Remove the comment. {SEVERAL}"))
+        cure = f"Remove the comment. {SEVERAL}" if "#" in line else "Remove the comment."
+        hints.append(("The line has a comment; these texts have no comments.", cure))
     bare = line.rstrip("\r")
     if not bare.strip(" \t\r"):
         hints.append(("The line is empty; these texts have no empty lines.", f"Remove the line. {SEVERAL}"))

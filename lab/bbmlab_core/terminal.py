@@ -104,6 +104,23 @@ def require_other_file(name: str | None, sources: Iterable[str]) -> None:
         raise LabError(f"{name}: the output is the input; write to another file", 2)
 
 
+def require_output(name: str | None, sources: Iterable[str]) -> None:
+    """Raises LabError if an output is one of the files that were read, or a file that cannot be made."""
+    if name is None or name == "-":
+        return
+    require_other_file(name, sources)
+    target = os.path.realpath(name)
+    folder = os.path.dirname(target)
+    if os.path.isdir(target):
+        raise LabError(f"{name}: this is a folder")
+    if os.path.exists(target) and not os.path.isfile(target):
+        return
+    if not os.path.isdir(folder):
+        raise LabError(f"{name}: there is no folder {folder}")
+    if not os.access(folder, os.W_OK):
+        raise LabError(f"{name}: no file can be made in {folder}")
+
+
 def is_same_file(one: str, other: str) -> bool:
     """Whether two names are of one file. `-` is no file."""
     if "-" in (one, other):
@@ -121,7 +138,9 @@ def replace_file(name: str, data: bytes) -> None:
         with open(target, "wb", buffering=0) as device:
             device.write(data)
         return
-    beside = f"{target[:200]}.{os.getpid()}.part"
+    folder, base = os.path.split(target)
+    # A name of a file has at most 255 bytes.
+    beside = os.path.join(folder, f"{os.fsdecode(os.fsencode(base)[:200])}.{os.getpid()}.part")
     mode = os.stat(target).st_mode & 0o7777 if os.path.exists(target) else None
     try:
         with open(os.open(beside, os.O_WRONLY | os.O_CREAT | os.O_EXCL, 0o666), "wb") as file:

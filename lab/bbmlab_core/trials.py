@@ -2,6 +2,7 @@
 
 from dataclasses import dataclass
 
+from .answering import STATUS_OF
 from .documents import read_document
 from .own_report import own_report
 from .processor import processor_seconds
@@ -60,7 +61,8 @@ class Trial:
             return self.own_answer(text)
         try:
             answer = ask(self.program, "check", text.encode("latin-1"), MAX_RUN_SECONDS)
-            return parse_report(answer.output) if answer.status in (0, 1, 3) else None
+            report = parse_report(answer.output)
+            return report if answer.status == STATUS_OF["refused" if report.refused else report.verdict] else None
         except (ProgramError, ProgramTimeout, ReportError):
             return None
 

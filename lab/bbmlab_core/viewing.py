@@ -10,6 +10,7 @@ from pathlib import Path
 from . import json_form
 from .documents import Document
 from .explaining import Explanation
+from .terminal import plain
 
 TEMPLATE = Path(__file__).resolve().parent / "view"
 # The scripts: the engine runs without a page, the others need one. The order is that in which they use each other.
@@ -45,7 +46,7 @@ def page(document: Document, explanation: Explanation | None, title: str) -> str
     assert document.layout
     before, after = piece("page.html").split("DATA")
     style, scripts = piece("page.css"), {"ENGINE": f"\n{piece(*ENGINE)}", "PAGE": f"\n{piece(*PAGE)}"}
-    for mark, text in (("POLICY", policy(style, list(scripts.values()))), ("STYLE", style), ("TITLE", escape(title))):
+    for mark, text in (("POLICY", policy(style, list(scripts.values()))), ("STYLE", style), ("TITLE", escape(plain(title)))):
         before = before.replace(mark, text)
     for mark, text in scripts.items():
         after = after.replace(f"<script>{mark}</script>", f"<script>{text}</script>")

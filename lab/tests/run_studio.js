@@ -72,6 +72,13 @@ function ends(text) {
   return { states, leftAt: run.leftAt, marks: [...new Set(run.marks.filter((_, index) => index % 3 === 2))].sort() };
 }
 
+/** Returns the size, whether the circuit is whole, and the kinds and places of the parts. */
+function parts(text) {
+  const model = new Model(text), { width, height, steps } = model.header;
+  return { size: [width, height, steps], isWhole: bbmlab.circuitText.read(model.headText).isWhole,
+    parts: model.parts.map(({ kind, box }) => [kind, box[0], box[1]]).sort() };
+}
+
 /** Returns the truth table. */
 function truth(text) {
   const { layout, circuit } = new Model(text), table = new TruthTable(layout, circuit);
@@ -95,6 +102,6 @@ const fallen = (mirrors) => geometry.fallingMirrors(mirrors).map(({ box }) => bo
 const snapped = (boxes, width, height) => boxes.map((box) => geometry.snapMirror(box, width, height));
 const circuit = (text) => { const { isWhole, inputs, outputs, spills, gates } = bbmlab.circuitText.read(text); return { isWhole, inputs, outputs, spills, gates }; };
 
-const functions = { law, random, commands, ends, truth, timed, fallen, snapped, circuit };
+const functions = { law, random, commands, ends, parts, truth, timed, fallen, snapped, circuit };
 const jobs = JSON.parse(fs.readFileSync(0, "utf8"));
 console.log(JSON.stringify(jobs.map(([name, ...words]) => functions[name](...words))));

@@ -249,6 +249,9 @@ class Program(unittest.TestCase):
                 path.chmod(0o755)
                 with self.subTest(name), self.assertRaises(TimeoutError if name == "slow" else bbmlab.ProgramError):
                     bbmlab.check(text, program=str(path), timeout=0.5 if name == "slow" else None)
+                if name != "slow":
+                    with self.subTest(f"explain, {name}"), self.assertRaises(bbmlab.ProgramError):
+                        bbmlab.explain(text, program=str(path))
             with self.assertRaises(bbmlab.ProgramError):
                 bbmlab.check(text, program=f"{room}/none")
         self.assertTrue(issubclass(bbmlab.ProgramError, OSError))

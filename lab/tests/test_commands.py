@@ -10,6 +10,7 @@ import xml.etree.ElementTree as ET
 from pathlib import Path
 
 import support
+from bbmlab_core.program import ask
 
 
 def fake_program(room: str, body: str) -> str:
@@ -41,7 +42,7 @@ class Documents(unittest.TestCase):
         file, program = support.example("wrong_edge"), support.program()
         with tempfile.TemporaryDirectory() as room:
             report = Path(room) / "report"
-            report.write_text("bbmcheck 1\ncertificate " + "0" * 64 + "\nmodules 1\nverdict no\nlocal 0 edge 1 0 0 0\n")
+            report.write_text(ask(program, "check", Path(file).read_bytes()).output)
             for words, without in [(("json", "--report", str(report), file), {"assign"}), (("explain", "--json", file), set()),
                                    (("check", "--format", "json", file), {"stopped", "not_checked"}), (("trace", "--json", file), set())]:
                 more = () if words[0] == "json" else ("--program", program)
@@ -85,7 +86,7 @@ class Check(unittest.TestCase):
                     self.assertIn(f"1 {word}", ended.stdout)
             ended = support.lab("check", "--program", str(Path(room) / "none"), file)
             self.assertEqual((ended.returncode, ended.stdout), (4, ""))
-            self.assertIn("the program is not at", ended.stderr)
+            self.assertIn("there is no program at", ended.stderr)
 
     def test_folders(self) -> None:
         """A folder is all its .txt files."""

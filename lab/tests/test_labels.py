@@ -6,6 +6,7 @@ from pathlib import Path
 
 import support
 from bbmlab_core.commands.draw import picture_of
+from bbmlab_core.designs import read_design
 from bbmlab_core.label_places import Name, Rect, place_names
 
 SVG = "{http://www.w3.org/2000/svg}"
@@ -46,7 +47,7 @@ class Labels(unittest.TestCase):
             layout = support.read_document(Path(support.TOP, file).read_text()).layout
             size = 8 * max(1.0, max(layout.width, layout.height) / 64)
             with self.subTest(file):
-                self.assertEqual(covered(picture_of(str(support.TOP / file), None, None), size), [])
+                self.assertEqual(covered(picture_of(read_design(str(support.TOP / file)), None, None), size), [])
 
     def test_alone_a_name_keeps_its_side(self) -> None:
         """With nothing near, an input's name is above its cell and an output's below, both in the middle."""

@@ -1,5 +1,6 @@
 """What the lab writes: certificates, spellings, JSON, pattern files and pictures."""
 
+import hashlib
 import random
 import re
 import shutil
@@ -249,12 +250,15 @@ class Pictures(unittest.TestCase):
         self.assertNotIn("text", "".join(module_parts(modules)))
 
     def test_faults_are_marked(self) -> None:
-        """The cells of a report's faults are marked."""
-        with tempfile.NamedTemporaryFile("w", suffix=".report") as report:
-            report.write("bbmcheck 1\ncertificate " + "0" * 64 + "\nmodules 4\nverdict no\nlocal 0 end 3 2 2 2\nborder 0 1 4 4\n")
-            report.flush()
-            ended = support.lab("draw", support.example("wrong_border"), "--report", report.name)
-        self.assertEqual(ended.stdout.count('class="fault"'), 2)
+        """The cells of a report's faults are marked. A report of another certificate is refused."""
+        file = support.example("wrong_border")
+        section = b"certificate" + Path(file).read_bytes().split(b"\ncertificate", 1)[1]
+        for digest, status, count in [(hashlib.sha256(section).hexdigest(), 0, 2), ("0" * 64, 4, 0)]:
+            with self.subTest(digest), tempfile.NamedTemporaryFile("w", suffix=".report") as report:
+                report.write(f"bbmcheck 1\ncertificate {digest}\nmodules 4\nverdict no\nlocal 0 end 3 2 2 2\nborder 0 1 4 4\n")
+                report.flush()
+                ended = support.lab("draw", file, "--report", report.name)
+                self.assertEqual((ended.returncode, ended.stdout.count('class="fault"')), (status, count))
 
     def test_ways_join(self) -> None:
         """Segments of one diagonal that meet become one."""

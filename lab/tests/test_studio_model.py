@@ -153,6 +153,18 @@ class Commands(unittest.TestCase):
                                 (["insertCell", {"layout": {}, "circuit": []}, 1, 0, False], "A cell is moved by even numbers of columns and rows.")):
             self.assertEqual(node(["commands", text, [command]])[0], reason)
 
+    def test_a_text_without_a_layout(self) -> None:
+        """Its size cannot be set."""
+        self.assertEqual(node(["commands", "circuit\nend\n", [["resize", 10, 10, 3]]])[0], "The text has no line `layout W H STEPS`.")
+
+    def test_freely_written_words(self) -> None:
+        """Arrows without spaces and leading zeros are read as the lab reads them."""
+        free = "circuit\nsource 1->k\noutput k\nend\nlayout 08 08 00\nmirror 3 04 2 2\nball 02 02\nout k 02 5\nend\n"
+        layout = support.read_document(spelled(free).text, "design").layout
+        assert layout
+        self.assertEqual(node(["parts", free])[0], {"size": [layout.width, layout.height, layout.steps], "isWhole": True,
+                                                    "parts": sorted([part.kind, part.x, part.y] for part in layout.parts)})
+
     def test_outputs_follow(self) -> None:
         """With four more steps the output and waste cells of the NOT gate are four cells on: the layout is still right."""
         text = node(["commands", example("not_gate"), [["resize", 12, 12, 5, True]]])[0]
@@ -233,6 +245,12 @@ class Runs(unittest.TestCase):
                     states = {port.cell in run.field.state() for port in document.layout.of_kind("out") if port.name == output["name"]}
                     found = states.pop() if len(states) == 1 else None
                     self.assertEqual((output["wanted"], output["found"]), (values[output["name"]], found), (name, number))
+
+    def test_a_ball_that_leaves_ends_the_run(self) -> None:
+        """Nothing is found at the end of a run that ends early, whatever a run without the ball would give."""
+        text = "circuit\ninput p\nsource 1 -> k\noutput k\noutput p\nend\nlayout 8 8 6\nmirror 3 4 2 2\nin p 0 6\nout k 4 5\nout p 7 7\nend\n"
+        found = [[output["found"] for output in row["outputs"]] for row in node(["truth", text])[0]]
+        self.assertEqual((found[0], found[1]), ([True, False], [None, None]))
 
     def test_circuits(self) -> None:
         """The page reads each circuit that the lab reads, and knows that a wrong one is wrong."""

@@ -156,6 +156,10 @@ class Files(Served):
         self.assertEqual(self.ask("files")["files"], ["gate.txt"])
         self.assertEqual(sorted(path.name for path in self.outside.iterdir()), ["designs", "secret.txt"])
 
+    def test_long_names(self) -> None:
+        """A name that the file system does not take is refused with a sentence."""
+        self.assertIn("File name too long", self.ask("save", name="ü" * 150 + ".txt", text="x", digest=None)["error"])
+
     def test_other_texts_of_the_folder(self) -> None:
         """A `.txt` file of the folder can be opened, also one whose bytes are no UTF-8, and is written back as it is."""
         data = b"circuit # caf\xe9 \xc3\xa9\r\nend\n"
@@ -289,6 +293,24 @@ class Verdicts(Served):
             self.assertIn(word, self.ask("export", text=text, tab="a", bundle="", form=form, name="a<b>", on=["p"])["text"], form)
         self.assertIn("error", self.ask("export", text="circuit\n", tab="a", bundle="", form="svg", name="a", on=[]))
         self.assertEqual(self.send("POST", "api/export", json.dumps({"text": "", "tab": "", "bundle": "", "form": "svg", "name": ""}).encode())[0], 400)
+
+
+    def test_what_is_no_text(self) -> None:
+        """Half a character, and a report that is none, are told as what they are."""
+        for request, more, sentence in (("verdict", {"text": "# \ud800"}, "half a character"),
+                                        ("explain", {"text": Path(support.example("not_gate")).read_text(), "bundle": "", "report": "junk"}, "report")):
+            self.assertIn(sentence, self.ask(request, tab="a", **more)["error"])
+
+    def test_an_export_is_not_ended(self) -> None:
+        """A verdict of the same tab waits for an export, and the export for a verdict."""
+        text, answers = Path(support.example("machine_full_adder")).read_text(), {}
+        asks = [threading.Thread(target=lambda name=name, more=more: answers.update({name: self.ask(name, text=text, tab="a", **more)}))  # type: ignore[misc]
+                for name, more in (("export", {"bundle": "", "form": "svg", "name": "a", "on": []}), ("verdict", {}))]
+        for thread in asks:
+            thread.start()
+        for thread in asks:
+            thread.join()
+        self.assertEqual(("text" in answers["export"], answers["verdict"].get("verdict")), (True, "yes"))
 
 
 class Limits(unittest.TestCase):

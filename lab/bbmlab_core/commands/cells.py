@@ -3,6 +3,7 @@
 import argparse
 
 from .. import standard_cells
+from ..designs import read_design
 from ..terminal import LabError, read_text, write_text
 from .draw import picture_of
 
@@ -14,7 +15,7 @@ def run(options: argparse.Namespace) -> int:
             raise LabError("--svg and --bundle need the name of a cell", 2)
         text = "\n\n".join(standard_cells.read_cell(name).text() for name in standard_cells.cell_names()) + "\n"
     elif options.svg:
-        text = picture_of(str(standard_cells.cell_path(options.cell)), None, None)
+        text = picture_of(read_design(str(standard_cells.cell_path(options.cell))), None, None)
     elif options.bundle:
         text = read_text(str(standard_cells.cell_path(options.cell)))
     else:

@@ -4,10 +4,12 @@ import argparse
 import sys
 
 from ..boxes import Box
+from ..certificates import MAX_BOX_SIDE
 from ..certify import Plan, certified, checked_boxes
 from ..documents import Document, read_document
 from ..layouts import Layout
 from ..program import ProgramError, ProgramTimeout, ask, find_program
+from ..refusals import refusal_words
 from ..terminal import LabError, plain, read_text, require_other_file, write_text
 
 
@@ -35,20 +37,23 @@ def design_of(text: str, file: str) -> Document:
     old = next((index for index, line in enumerate(lines) if line.startswith("certificate")), None)
     document = read_document(text if old is None else "\n".join([*lines[:old], ""]), "design")
     if document.refusal:
-        raise LabError(f"{file}: line {document.refusal.line} is refused with code {document.refusal.code}; bbmlab explain says why", 1)
+        raise LabError(f"{file}: {refusal_words(document)}", 1)
     return document
 
 
 def chosen_boxes(options: argparse.Namespace, layout: Layout) -> list[Box] | None:
     """Returns the boxes that the options name, or None if the lab is to choose them."""
     if options.plain:
+        if max(layout.width, layout.height) > MAX_BOX_SIDE:
+            raise LabError(f"--plain takes a layout of at most {MAX_BOX_SIDE} by {MAX_BOX_SIDE} cells, and this one has "
+                           f"{layout.width} by {layout.height}", 2)
         return checked_boxes(layout, layout.width, layout.height)
     if options.grid:
         return checked_boxes(layout, *options.grid)
-    return boxes_of(options.boxes) if options.boxes else None
+    return boxes_of(options.boxes, layout) if options.boxes else None
 
 
-def boxes_of(file: str) -> list[Box]:
+def boxes_of(file: str, layout: Layout) -> list[Box]:
     """Returns the boxes of the lines `module X Y W H` of a text."""
     found = []
     for line in read_text(file).split("\n"):
@@ -56,7 +61,10 @@ def boxes_of(file: str) -> list[Box]:
         if words[0] == "module":
             if len(words) != 5 or not all(word.isdecimal() and len(word) < 9 for word in words[1:]):
                 raise LabError(f"{file}: {line!r} is no line `module X Y W H`", 1)
-            found.append(Box(*map(int, words[1:])))
+            box = Box(*map(int, words[1:]))
+            if box.x + box.width > layout.width or box.y + box.height > layout.height:
+                raise LabError(f"{file}: the box of {line!r} is not inside the layout of {layout.width} by {layout.height} cells", 1)
+            found.append(box)
     if not found:
         raise LabError(f"{file}: there is no line `module X Y W H`", 1)
     return found

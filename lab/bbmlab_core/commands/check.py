@@ -18,6 +18,8 @@ def source(options: argparse.Namespace) -> Checker:
     program = find_program(options.program)
     if options.again and not options.receipts:
         raise LabError("--again is for --receipts", 2)
+    if options.send_program and options.dask is None:
+        raise LabError("--send-program is for --dask", 2)
     folder = ReceiptFolder(options.receipts, program_at(program), options.again) if options.receipts else None
     if options.dask is None:
         return Checker(program, options.jobs, options.timeout, folder)

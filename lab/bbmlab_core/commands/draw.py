@@ -4,13 +4,15 @@ import argparse
 
 from .. import drawing, tracing
 from ..designs import read_design, report_for
+from ..documents import Document
+from ..layouts import Layout
 from ..reports import Report
 from ..terminal import LabError, write_text
 
 
-def picture_of(file: str, names: str | None, time: int | None, report: Report | None = None) -> str:
-    """Returns the picture of a text at a time, or without a time the ways of its balls."""
-    document, layout = read_design(file)
+def picture_of(design: tuple[Document, Layout], names: str | None, time: int | None, report: Report | None = None) -> str:
+    """Returns the picture of a design at a time, or without a time the ways of its balls."""
+    document, layout = design
     on = tracing.chosen_inputs(document, names)
     under = f" with {' '.join(on) or 'no input'} on"
     picture = drawing.Drawing(modules=document.certificate.modules if document.certificate else [])
@@ -31,5 +33,7 @@ def picture_of(file: str, names: str | None, time: int | None, report: Report | 
 
 def run(options: argparse.Namespace) -> int:
     """Draws a layout."""
-    write_text(options.output, picture_of(options.file, options.on, None if options.ways else options.time, report_for(options)))
+    design = read_design(options.file)
+    report = report_for(options, design[0])
+    write_text(options.output, picture_of(design, options.on, None if options.ways else options.time, report))
     return 0

@@ -4,9 +4,11 @@ import argparse
 import sys
 
 from .. import explaining
+from ..answering import result_of_report
 from ..documents import command_for
 from ..explaining import Explanation
 from ..fixing import Fixer, outcome_words
+from ..netlists import NetlistFormat, netlist_format
 from ..pictures import LEGEND
 from ..program import ProgramError, ask, find_program
 from ..terminal import LabError, painted, plain, read_text, wrapped, write_bytes
@@ -18,6 +20,10 @@ def run(options: argparse.Namespace) -> int:
     if not options.fix and (options.output or options.in_place):
         raise LabError("-o and -i need --fix", 2)
     text = read_text(options.file)
+    form = netlist_format(text)
+    if form is not None:
+        what = "a netlist" if form is NetlistFormat.BLIF else "JSON"
+        raise LabError(f"{options.file}: this is {what}: `bbmlab route` reads a netlist, and `bbmlab json --back` its own documents", 1)
     command = options.command_of_program or {"design": "check", "layout": "run", "circuit": "value"}.get(command_for(text), command_for(text))
     program = program_of(options)
     if options.fix:
@@ -52,6 +58,8 @@ def asked(program: str, command: str, text: str, options: argparse.Namespace) ->
     answer = ask(program, command, text.encode("latin-1"), options.timeout)
     if answer.status >= 4:
         raise LabError(f"the program answered: {answer.errors}")
+    if command == "check" and (result := result_of_report("", answer.status, answer.output)).result == "error":
+        raise LabError(f"the program gave no verdict: {result.detail}")
     return answer.output
 
 
@@ -77,7 +85,7 @@ def write_fix(text: str, command: str, program: str | None, options: argparse.Na
             write_bytes(options.file, data)
     else:
         write_bytes(options.output, data, [options.file])
-    return 0 if fix is None or (fix.report.verdict == "yes" and program) else 1
+    return 0 if program and (fix is None or fix.report.verdict == "yes") else 1
 
 
 def show_explanation(explanation: Explanation, options: argparse.Namespace) -> int:

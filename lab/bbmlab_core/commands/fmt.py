@@ -14,6 +14,8 @@ def run(options: argparse.Namespace) -> int:
     """Writes texts in their one spelling. Bytes that are no ASCII stay as they are."""
     if not options.in_place and not options.check and len(options.files) > 1:
         raise LabError("several texts would be written to one output: write one at a time, or use --in-place", 2)
+    if options.in_place and options.output:
+        raise LabError("-i writes the file itself: it goes without -o", 2)
     changed = 0
     for file in options.files:
         data = read_bytes(file)

@@ -16,8 +16,10 @@ from ..terminal import LabError, plain
 def run(options: argparse.Namespace) -> int:
     """Serves the studio until it is stopped."""
     folder = Folder(options.file)
-    if not folder.place.is_dir() or (folder.place / folder.name).is_dir():
-        raise LabError(f"{options.file}: this is no file", 4)
+    if not folder.place.is_dir():
+        raise LabError(f"{options.file}: there is no folder {folder.place}")
+    if (folder.place / folder.name).is_dir():
+        raise LabError(f"{options.file}: this is a folder")
     jobs = None
     try:
         jobs = Jobs(find_program(options.program), options.timeout or 20.0, options.memory)

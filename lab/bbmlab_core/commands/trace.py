@@ -6,7 +6,7 @@ import sys
 from .. import tracing
 from ..designs import read_design
 from ..program import ProgramError, ProgramTimeout, ask, find_program
-from ..terminal import LabError, write_text
+from ..terminal import LabError, plain, write_text
 
 
 def run(options: argparse.Namespace) -> int:
@@ -16,6 +16,8 @@ def run(options: argparse.Namespace) -> int:
     if options.start > last:
         raise LabError(f"--from {options.start} is later than --to {last}", 2)
     if options.module is not None:
+        if options.on is not None:
+            raise LabError("--on is not for --module, whose values are --assignment", 2)
         trace = tracing.trace_module(document, options.module, options.assignment, options.start, last)
     else:
         on = tracing.chosen_inputs(document, options.on)
@@ -32,6 +34,9 @@ def warn_of_difference(options: argparse.Namespace, trace: tracing.Trace, text: 
         answer = ask(find_program(options.program), "run", text, options.timeout)
     except (ProgramError, ProgramTimeout) as error:
         print(f"bbmlab: the last state was not compared: {error}", file=sys.stderr)
+        return
+    if answer.status >= 3:
+        print(f"bbmlab: the last state was not compared: {plain(answer.errors or answer.output.strip())}", file=sys.stderr)
         return
     differs = tracing.compare_with_run(trace, answer.output)
     if differs:

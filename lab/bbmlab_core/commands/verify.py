@@ -1,6 +1,7 @@
 """Runs `bbmlab verify` and `bbmlab summary`."""
 
 import argparse
+import os
 from pathlib import Path
 
 from ..answering import WORDS
@@ -62,7 +63,10 @@ def checked_again(receipt: Receipt, text: bytes, options: argparse.Namespace) ->
 
 def run_summary(options: argparse.Namespace) -> int:
     """Counts the receipts of a folder. The status is that of a run that gave these results, or 4 if one does not count."""
-    files = sorted(Path(options.folder).glob("*.json"))
+    try:
+        files = sorted(Path(options.folder) / name for name in os.listdir(options.folder) if name.endswith(".json"))
+    except OSError as error:
+        raise LabError(f"{options.folder}: {error.strerror or error}") from error
     if not files:
         raise LabError(f"{options.folder}: no receipt in this folder")
     counts: dict[str, int] = {}

@@ -5,6 +5,7 @@ import os
 import sys
 
 from .. import explaining, viewing
+from ..answering import result_of_report
 from ..designs import read_design
 from ..program import ProgramError, ProgramTimeout, ask, find_program
 from ..terminal import read_text, write_text
@@ -16,13 +17,21 @@ def run(options: argparse.Namespace) -> int:
     (document, _), explanation = read_design(options.file), None
     if document.certificate:
         try:
-            output = read_text(options.report) if options.report else ask(
-                find_program(options.program), "check", document.text.encode("latin-1"), options.timeout).output
+            output = read_text(options.report) if options.report else report_of(document.text, options)
             explanation = explaining.explain_answer(document.text, "check", output, options.file, trial_of(options))
         except (ProgramError, ProgramTimeout) as error:
             print(f"bbmlab: the page has no report: {error}", file=sys.stderr)
     write_text(options.output, viewing.page(document, explanation, os.path.basename(options.file)))
     return 0
+
+
+def report_of(text: str, options: argparse.Namespace) -> str:
+    """Returns the report or the refusal of the program. Raises ProgramError if its status is not that of its report."""
+    answer = ask(find_program(options.program), "check", text.encode("latin-1"), options.timeout)
+    result = result_of_report("", answer.status, answer.output)
+    if result.result == "error":
+        raise ProgramError(answer.errors or result.detail)
+    return answer.output
 
 
 def trial_of(options: argparse.Namespace) -> Trial | None:

@@ -15,6 +15,9 @@ from .yosys_json import read_yosys_json
 
 __all__ = ["MappedNetlist", "NetlistError", "NetlistFormat", "circuit_from_netlist", "map_netlist", "netlist_format", "read_netlist"]
 
+# Some editors put these bytes before a text; each is a character here.
+BYTE_ORDER_MARK = "\xef\xbb\xbf"
+
 
 @dataclass(frozen=True)
 class MappedNetlist:
@@ -27,6 +30,7 @@ class MappedNetlist:
 
 def netlist_format(text: str) -> NetlistFormat | None:
     """Returns the format of a netlist by its first characters, or None if the text is no netlist."""
+    text = text.removeprefix(BYTE_ORDER_MARK)
     if text.lstrip().startswith("{"):
         return NetlistFormat.YOSYS_JSON
     for line in text.split("\n"):
@@ -43,6 +47,7 @@ def read_netlist(text: str) -> Netlist:
     """
     if len(text) > MAX_TEXT_BYTES:
         raise NetlistError(f"The netlist is longer than {MAX_TEXT_BYTES} bytes.")
+    text = text.removeprefix(BYTE_ORDER_MARK)
     form = netlist_format(text)
     if form is None:
         raise NetlistError("The text is neither BLIF, which begins with a line such as `.model`, nor the JSON of yosys.")

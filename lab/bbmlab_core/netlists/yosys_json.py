@@ -123,7 +123,11 @@ def bit_index(port: Any, position: int, width: int) -> int:
 
 def parameter_number(value: Any) -> int:
     """Returns the number of a parameter, which yosys writes as a number or as bits. An undefined bit is 0."""
-    return value if isinstance(value, int) else int(value.replace("x", "0"), 2)
+    if isinstance(value, int):
+        return value
+    if not isinstance(value, str):
+        raise TypeError("a parameter is a number or bits")
+    return int(value.replace("x", "0"), 2)
 
 
 def read_yosys_json(text: str) -> Netlist:

@@ -1,15 +1,17 @@
 """The command `bbmlab route`: reads a circuit, searches for a route, and asks the program for its verdict."""
 
 import argparse
+import re
 import sys
 import time
 
 from ..circuits import Circuit
 from ..documents import read_document
 from ..layouts import MAX_SIDE
-from ..netlists import map_netlist, netlist_format
+from ..netlists import NetlistError, map_netlist, netlist_format
 from ..program import Answer, ask, find_program
-from ..terminal import LabError, painted, read_text, require_other_file, write_text
+from ..refusals import refusal_words
+from ..terminal import LabError, painted, plain, read_text, require_other_file, write_text
 from .certificate import NO_ROW, circuit_section
 from .search import LEAST_SIDE, Options, Outcome, Routed, Search, partial_bundle
 from .settings import Settings
@@ -46,19 +48,22 @@ def circuit_of(name: str) -> tuple[str, Circuit]:
 
     A netlist of BLIF or yosys is mapped to a circuit section. Notes on names go to standard error.
     """
-    text = read_text(name)
-    if netlist_format(text) is None:
-        text = circuit_section(text)
+    given = read_text(name)
+    if netlist_format(given) is None:
+        text = circuit_section(given)
     else:
-        mapped = map_netlist(text)
+        try:
+            mapped = map_netlist(given)
+        except NetlistError as error:
+            raise LabError(f"{name}: {error}", 1) from error
         text = mapped.text
         for note in mapped.notes:
-            print(f"bbmlab: {note}", file=sys.stderr)
+            print(f"bbmlab: {plain(note)}", file=sys.stderr)
     document = read_document(text, "circuit")
+    if document.refusal is not None and re.search(r"\bendmodule\b", given):
+        raise LabError(f"{name}: this is Verilog: yosys makes a netlist of it (docs/GUIDE.md, From Verilog)", 1)
     if document.refusal is not None or document.circuit is None:
-        refusal = document.refusal
-        where = f"line {refusal.line} is refused with code {refusal.code}" if refusal else "there is no circuit"
-        raise LabError(f"{name}: {where}; bbmlab explain says why", 1)
+        raise LabError(f"{name}: {refusal_words(document) if document.refusal else 'there is no circuit'}", 1)
     return text, document.circuit
 
 

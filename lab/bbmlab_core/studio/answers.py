@@ -146,4 +146,5 @@ class Answers:
             word(body, name)
         if body["kind"] == "export" and not (isinstance(body.get("on"), list) and all(isinstance(name, str) for name in body["on"])):
             raise Denied(400, "the request has no list `on`")
-        return self.jobs.run(body["tab"], body)
+        # An export is no answer to the newest text: it waits for its turn, and no verdict of its tab ends it.
+        return self.jobs.run(f"{body['tab']} export" if body["kind"] == "export" else body["tab"], body)

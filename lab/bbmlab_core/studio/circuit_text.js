@@ -7,8 +7,11 @@
   const SIZES = { source: [0, 1], fredkin: [3, 3], cswap: [3, 3], interact: [2, 4], switch: [2, 3], delay: [1, 1], unswitch: [3, 2], uninteract: [4, 2] };
   const ORDER = ["circuit", "input", "gate", "output", "spill", "end"];
 
-  /** Returns the words of a line, without a comment. */
-  const wordsOf = (line) => { const code = line.split("#")[0].trim(); return code === "" ? [] : code.split(/\s+/); };
+  /** Returns the words of a line, without a comment and leading zeros, as `spelling.py` reads them. */
+  const wordsOf = (line) => {
+    const code = line.split("#")[0].replaceAll("->", " -> ").trim();
+    return code === "" ? [] : code.split(/\s+/).map((word) => (/^\d+$/.test(word) ? word.replace(/^0+(?=\d)/, "") : word));
+  };
 
   /** Returns the gate that words name, or null. */
   function gateOf(words) {

@@ -167,7 +167,7 @@
       const { verdicts, desk } = this, { verdict } = verdicts, bundle = verdicts.isCurrent && ["yes", "no"].includes(verdict.verdict) ? verdict.bundle : "";
       const on = desk.player.names.filter((name) => desk.player.on.has(name));
       const answer = await server.request("export", { text: desk.model.text, bundle, form, name: this.name, on });
-      if (answer.error) { this.say(answer.error, true); return; }
+      if (answer.error || answer.text === undefined) { this.say(answer.error || "Nothing was exported: another export was begun.", true); return; }
       const [, ending, type] = EXPORTS[form], link = made("a");
       Object.assign(link, { href: URL.createObjectURL(new Blob([answer.text], { type })), download: this.name.replace(/\.txt$/, "") + `.${ending}` });
       link.click();

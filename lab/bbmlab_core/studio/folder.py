@@ -65,7 +65,11 @@ class Folder:
         if name != self.name and not FILE_NAME.match(name):
             raise FolderError("a name of a file ends with .txt and contains no folder")
         path = self.place / name
-        if path.is_symlink() or path.exists() and not path.is_file():
+        try:
+            is_other = path.is_symlink() or path.exists() and not path.is_file()
+        except OSError as error:
+            raise FolderError(f"{name}: {error.strerror or error}") from error
+        if is_other:
             raise FolderError(f"{name} is no plain file")
         return path
 

@@ -7,7 +7,7 @@
 "use strict";
 
 {
-  const { circuitText, geometry } = bbmlab;
+  const { circuitText, geometry } = bbmlab, { wordsOf } = circuitText;
   const KINDS = ["mirror", "ball", "in", "out", "waste"];
   const FORMS = { mirror: 4, ball: 2, in: 2, out: 2, waste: 2 };
   const NAME = /^[a-z][a-z0-9_]{0,31}$/, NUMBER = /^(0|[1-9][0-9]{0,8})$/;
@@ -16,9 +16,6 @@
 
   /** A command that cannot be done. The message is for the user. */
   class Refusal extends Error {}
-
-  /** Returns the words of a line, without a comment. */
-  const wordsOf = (line) => { const code = line.split("#")[0].trim(); return code === "" ? [] : code.split(/\s+/); };
 
   /** Returns the first word of a line, without a comment. */
   const firstWord = (line) => { const found = /^\s*([^\s#]+)/.exec(line); return found ? found[1] : ""; };
@@ -338,6 +335,7 @@
     /** Sets size and steps. If `follows`, outputs and waste cells fly on by the change of the steps. */
     resize(width, height, steps, follows = false) {
       const isSide = (side) => Number.isInteger(side) && side % 2 === 0 && side >= 2 && side <= geometry.MAX_SIDE;
+      if (this.start < 0) throw new Refusal("The text has no line `layout W H STEPS`.");
       if (!isSide(width) || !isSide(height)) throw new Refusal("Width and height are even numbers from 2 to 512.");
       if (!Number.isInteger(steps) || steps < 0 || steps > MAX_STEPS) throw new Refusal(`The steps are a number from 0 to ${MAX_STEPS}.`);
       const flying = follows && this.header ? this.parts.filter(({ kind }) => kind === "out" || kind === "waste") : [];

@@ -44,7 +44,7 @@
     /** @param {Layout} layout @param {?Circuit} circuit @param {Choice[]} choices at most 32 */
     constructor(layout, circuit, choices) {
       const inputs = circuit ? circuit.inputs : [...new Set(layout.ins.map(({ name }) => name))];
-      Object.assign(this, { layout, circuit, choices, inputs, time: 0, leftAt: null, isEnded: layout.steps === 0 });
+      Object.assign(this, { layout, circuit, choices, inputs, time: 0, leftAt: null, leftLanes: 0, isEnded: layout.steps === 0 });
       this.full = choices.length === LANES ? -1 : (1 << choices.length) - 1;
       this.tables = tablesOf(circuit, inputs, choices);
       this.colours = new Map();
@@ -180,6 +180,7 @@
       for (let index = 0; index < nowCount; index += 1) {
         const key = now[index], x = (key & ROW - 1) - 2, y = (key >> 10) - 2;
         if (x >= 0 && y >= 0 && x < width && y < height || live[key] === 0) continue;
+        this.leftLanes |= live[key];
         live[key] = 0;
         if (this.leftAt === null) { this.leftAt = this.time; this.marks.push(x, y, "left"); }
       }
@@ -240,7 +241,7 @@
 
     /**
      * Returns the rows: the inputs' values, and for each output what is wanted and what was found. `wanted` is null where the circuit has no
-     * value. `found` is null where the cells of an output differ or there is none.
+     * value. `found` is null where the cells of an output differ, there is none, or a ball leaves.
      */
     rows() {
       const { circuit, layout } = this, cells = new Map(circuit.outputs.map((name) => [name, layout.outs.filter((out) => out.name === name)]));
@@ -249,7 +250,9 @@
         const isLive = ({ cell }) => (run.live[keyOf(...cell)] >>> lane & 1) === 1;
         const outputs = circuit.outputs.map((name) => {
           const states = new Set(cells.get(name).map(isLive));
-          return { name, wanted: values.get(name) ?? null, found: states.size === 1 ? [...states][0] : null };
+          // The run of a layout ends where a ball leaves: then nothing is known of the end.
+          const isWhole = (run.leftLanes >>> lane & 1) === 0;
+          return { name, wanted: values.get(name) ?? null, found: isWhole && states.size === 1 ? [...states][0] : null };
         });
         return { inputs: circuit.inputs.map((name) => on.has(name)), outputs };
       });

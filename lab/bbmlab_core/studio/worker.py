@@ -18,9 +18,10 @@ from typing import Any
 from .. import drawing, explaining, golly, program, tracing, viewing
 from ..documents import Document, read_document
 from ..layouts import Layout
+from ..reports import ReportError
 from ..spelling import spelled
 from ..terminal import LabError
-from .folder import bytes_of
+from .folder import FolderError, bytes_of
 from .verdicts import Judge, explained, fixes_of_design
 
 # How many seconds a search for fixes takes, at most.
@@ -86,9 +87,9 @@ def answer(line: str, path: str, seconds: float) -> dict[str, Any]:
         return {"error": "The memory limit was reached."}
     except RecursionError:
         return {"error": "The text is too deeply nested."}
-    except LabError as error:
+    except (LabError, FolderError) as error:
         return {"error": str(error)}
-    except (program.ProgramError, program.ProgramTimeout) as error:
+    except (program.ProgramError, program.ProgramTimeout, ReportError) as error:
         return {"error": f"The program gave no answer: {error}."}
 
 

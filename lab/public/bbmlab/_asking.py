@@ -8,6 +8,7 @@ from dataclasses import dataclass
 from typing import Any
 
 from bbmlab_core import program as programs
+from bbmlab_core.answering import result_of_report
 from bbmlab_core.commands.explain import text_of
 from bbmlab_core.documents import command_for, read_document
 from bbmlab_core.explaining import as_json, explain_answer
@@ -140,6 +141,11 @@ def explain(text: str | Bundle, *, effort: float = 30.0, program: str | None = N
     command, path = command_for(data), program_path(program)
     command = COMMANDS.get(command, command)
     answer = answer_of(path, command, data, None)
-    explanation = explain_answer(data, command, answer.output, "text", Trial(path, Budget(seconds=effort)))
+    if command == "check" and (result := result_of_report("", answer.status, answer.output)).result == "error":
+        raise ProgramError(result.detail)
+    try:
+        explanation = explain_answer(data, command, answer.output, "text", Trial(path, Budget(seconds=effort)))
+    except ReportError as error:
+        raise ProgramError(str(error)) from error
     fixed = None if explanation.fixed is None else explanation.fixed.encode("latin-1").decode("utf-8", "replace")
     return Explanation(explanation.verdict, COLOUR.sub("", text_of(explanation)), json.loads(as_json(explanation)), fixed)
