@@ -9,9 +9,11 @@ from .circuits import Circuit, evaluate
 def fewest_cuts(circuit: Circuit, wires: Iterable[str], used: Iterable[int]) -> tuple[set[str], set[int]]:
     """Returns wires to cut and gates to use so that all given wires are local; `used` are gates that must be used.
 
-    A gate with more outputs among the wires than inputs that are not is used in place of cutting its outputs.
+    A gate with more outputs among the wires than inputs that are not is used in place of cutting its outputs. Delays between two
+    local wires are used too.
     """
     gates, local = set(used), set(wires)
+    gates |= delays_between(circuit, local | {wire for number in gates for wire in circuit.gates[number].ins + circuit.gates[number].outs})
     for number in gates:
         local |= set(circuit.gates[number].ins)
     cuts = local - {wire for number in gates for wire in circuit.gates[number].outs}
@@ -30,6 +32,24 @@ def fewest_cuts(circuit: Circuit, wires: Iterable[str], used: Iterable[int]) -> 
         gates.add(gate.number)
         cuts = (cuts | {wire for wire in gate.ins if wire not in defined}) - set(gate.outs)
     return cuts, gates
+
+
+def delays_between(circuit: Circuit, wires: set[str]) -> set[int]:
+    """Returns the delays that lead from one of some wires to another one.
+
+    One ball carries both wires in turn. A module that cut both would also run them with different values, which never occur.
+    """
+    found: set[int] = set()
+    for wire in wires:
+        passed: list[int] = []
+        gate = circuit.maker.get(wire)
+        while gate is not None and gate.word == "delay":
+            passed.append(gate.number)
+            if gate.ins[0] in wires:
+                found.update(passed)
+                break
+            gate = circuit.maker.get(gate.ins[0])
+    return found
 
 
 def keeping_cone(circuit: Circuit, number: int) -> tuple[list[str], list[int]] | None:

@@ -380,6 +380,65 @@ def keep_draft(studio: Studio) -> None:
     studio.wait(lambda: (studio.folder / "draft.txt").read_text().startswith(text.split("certificate")[0][:40]) and studio.text("name") == "draft.txt", "saved")
 
 
+def offer_draft_again(studio: Studio) -> None:
+    """A draft that was offered stays until it is answered, though the page is loaded again, and its buttons are not shown for another file."""
+    (studio.folder / "draft.txt").write_text(example("not_gate"))
+    (studio.folder / "other.txt").write_text(example("gate_and_mirror"))
+    studio.start("draft.txt")
+    studio.script("localStorage.clear()")
+    studio.click("#tool-mirror")
+    studio.drag((9, 2), (10, 3))
+    studio.wait(lambda: studio.script("return Object.keys(localStorage).some((key) => localStorage[key].includes('mirror 9 2'))"), "the draft is kept")
+    for _ in range(2):
+        studio.browser.refresh()
+        studio.wait(lambda: "There is a draft of draft.txt" in studio.text("notice"), "the draft is offered")
+        time.sleep(0.5)
+    studio.open("other.txt")
+    time.sleep(0.3)
+    assert not studio.browser.find_element(By.ID, "notice").is_displayed(), studio.text("notice")
+    studio.open("draft.txt")
+    studio.wait(lambda: "There is a draft of draft.txt" in studio.text("notice"), "the draft is offered again")
+    studio.click("#notice button")
+    assert "mirror 9 2" in studio.layout_text()
+    studio.click("#save")
+    studio.wait(lambda: studio.text("status") == "Saved draft.txt.", "saved")
+    assert studio.script("return Object.keys(localStorage).filter((key) => key.startsWith('bbmlab draft')).length") == 0
+
+
+def keep_selection(studio: Studio) -> None:
+    """The selection stays on its part while lines are typed, and another file begins without one. Words of the page can be copied."""
+    studio.begin("chosen.txt", example("not_gate"))
+    studio.verdict("yes")
+    studio.click("#tool-select")
+    studio.press(4, 4)
+    chosen = "return bbmlab.studio.sketch.selected.map(({ kind, box }) => `${kind} ${box[0]} ${box[1]}`)"
+    found = studio.script(chosen)
+    assert len(found) == 1, found
+    studio.script("const { model } = bbmlab.studio.desk; model.setHead(model.headText.replace('circuit', 'circuit\\n# one'), 'typing')")
+    assert studio.script(chosen) == found, (found, studio.script(chosen))
+    studio.press_keys(Keys.CONTROL + "c")
+    studio.script("getSelection().selectAllChildren(document.getElementById('report')); document.activeElement.blur()")
+    studio.script("addEventListener('keydown', (event) => { window.isTaken = event.defaultPrevented; }, { once: true })")
+    studio.press_keys(Keys.CONTROL + "c")
+    assert studio.script("return window.isTaken") is False
+    studio.script("getSelection().empty(); bbmlab.studio.files.saved = bbmlab.studio.desk.model.text")
+    studio.begin("chosen_2.txt", example("gate_and_mirror"))
+    assert studio.script(chosen) == []
+    studio.keys(Keys.CONTROL + "c")
+    assert studio.text("status") == "Nothing is selected." and studio.script("return bbmlab.studio.tools.clipboard.length") == 1
+
+
+def ask_twice(studio: Studio) -> None:
+    """A question that another one replaces is answered with null, and the other one waits for its button."""
+    studio.script("window.answers = []; const { ask } = bbmlab.parts;"
+                  "for (const name of ['one', 'two']) ask(name, [], [['ok', () => 7]]).then((value) => window.answers.push([name, value]))")
+    time.sleep(0.3)
+    assert studio.script("return window.answers") == [["one", None]], studio.script("return window.answers")
+    studio.answer("two", "ok")
+    studio.wait(lambda: studio.script("return window.answers.length") == 2, "the second question is answered")
+    assert studio.script("return window.answers")[1] == ["two", 7]
+
+
 def use_two_tabs(studio: Studio) -> None:
     """Two tabs on one file: the second one that saves is asked, and writes over the file or under another name."""
     (studio.folder / "tabs.txt").write_text(example("not_gate"))
@@ -457,7 +516,8 @@ def see_dark(studio: Studio) -> None:
 
 
 USES = [draw_collision, drag_mirror, draw_by_keyboard, refuse_circuit, place_mirrors, change_selection, insert_cell, draw_not_gate, take_fix, see_ways, draw_by_touch,
-        do_many_commands, choose_spelling, answer_late, see_dark, use_dialogs, keep_draft, use_two_tabs]
+        do_many_commands, choose_spelling, answer_late, see_dark, use_dialogs, keep_draft, offer_draft_again, keep_selection,
+        ask_twice, use_two_tabs]
 
 
 def run_uses(studio: Studio, wanted: list[str]) -> list[str]:

@@ -63,6 +63,15 @@ function commands(text, list) {
   return model.text;
 }
 
+/** Returns where lines are after a command, [name, arguments..], and after it is undone. */
+function moved(text, [name, ...words], lines) {
+  const model = new Model(text);
+  model[name](...words);
+  const after = model.movedLines(lines);
+  model.undo();
+  return [after, model.movedLines(after), model.movedLines(after)];
+}
+
 /** Returns the cells that are live at the end under each choice of the inputs, and the kinds of marks. */
 function ends(text) {
   const { layout, circuit } = new Model(text), choices = surveys.allChoices(circuit.inputs), run = new Survey(layout, circuit, choices);
@@ -102,6 +111,6 @@ const fallen = (mirrors) => geometry.fallingMirrors(mirrors).map(({ box }) => bo
 const snapped = (boxes, width, height) => boxes.map((box) => geometry.snapMirror(box, width, height));
 const circuit = (text) => { const { isWhole, inputs, outputs, spills, gates } = bbmlab.circuitText.read(text); return { isWhole, inputs, outputs, spills, gates }; };
 
-const functions = { law, random, commands, ends, parts, truth, timed, fallen, snapped, circuit };
+const functions = { law, random, commands, moved, ends, parts, truth, timed, fallen, snapped, circuit };
 const jobs = JSON.parse(fs.readFileSync(0, "utf8"));
 console.log(JSON.stringify(jobs.map(([name, ...words]) => functions[name](...words))));

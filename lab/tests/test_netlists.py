@@ -129,6 +129,15 @@ class Equivalence(unittest.TestCase):
                 self.compare(text, lambda on: {"Y": bool(table >> sum(on[name] << index for index, name in enumerate(inputs)) & 1)},
                              inputs, ["Y"])
 
+    def test_a_deep_netlist(self) -> None:
+        """A chain of 3000 XOR tables with one net, which a product with this net absorbs, is mapped without deep recursion."""
+        tables = "".join(f".names a n{number} n{number + 1}\n10 1\n01 1\n" for number in range(3000))
+        text = f".model m\n.inputs a n0\n.outputs y\n{tables}.names a n3000 y\n11 1\n.end\n"
+        circuit = circuit_of(text)
+        for a, b in itertools.product((False, True), repeat=2):
+            on = {name for name, value in (("a", a), ("n0", b)) if value}
+            self.assertEqual(values_under(circuit, on)[0]["y"], a and b)
+
     def test_constants_copies_and_plain_wires(self) -> None:
         """Constant outputs, an input that is several outputs, and unused inputs."""
         text = (".model m\n.inputs a b\n.outputs zero one a2 a3 na\n.names zero\n.names one\n1\n"

@@ -19,8 +19,10 @@ import support
 from bbmlab_core.circuits import evaluate
 from bbmlab_core.cli import main
 from bbmlab_core.documents import Document, read_document
-from bbmlab_core.route import certificate, world
+from bbmlab_core.route import certificate, search, world
+from bbmlab_core.route.settings import Settings
 from bbmlab_core.route.world import Item
+from bbmlab_core.signals import Stopped
 from bbmlab_core.simulation import WholeRun, key_of
 
 sys.path.insert(0, str(support.TOP / "bench"))
@@ -278,6 +280,47 @@ class Hostile(Routing):
                 self.assertEqual("no part is kept" in said or "verdict yes" in said, "--keep-partial" in words, said)
                 self.assertEqual(bundle.exists(), "kept a bundle" in said, said)
 
+    def test_interrupted_processes_keep_what_they_found(self) -> None:
+        """An interrupt of several processes keeps the routes that were found, as that of one process does, and has its signal's status."""
+        text = gate_circuit("switch")
+        circuit = read_document(text, "circuit").circuit
+        assert circuit
+        found = search.Search(circuit, text, search.Options(), Settings(), lambda *_: None).run().routed
+
+        def stopped(pool: search.Pool) -> None:
+            """Is interrupted after a route was found."""
+            assert found
+            pool.found[0] = found
+            raise Stopped(signal.SIGTERM)
+
+        with mock.patch.object(search.Pool, "start", stopped):
+            outcome = search.Search(circuit, text, search.Options(jobs=2, is_compact=True), Settings(), lambda *_: None).run()
+        self.assertTrue(outcome.is_interrupted)
+        self.assertEqual((outcome.routed, outcome.interrupt_status), (found, 143))
+
+
+class Delays(Routing):
+    """Delays that one ball passes in turn."""
+
+    def test_short_delays_in_turn(self) -> None:
+        """A box that knows the first and the last wire of a ball uses the delays between, so that it does not run them as independent."""
+        text = "circuit\ninput a\ndelay 1 a -> b\ndelay 1 b -> c\ndelay 1 c -> d\ndelay 1 d -> e\noutput e\nend\n"
+        for seed in range(1, 41):
+            status, _, said = self.route(text, "--size", "96", "--seed", str(seed))
+            self.assertEqual(status, 0, f"seed {seed}: {said}")
+
+    def test_delay_behind_constants(self) -> None:
+        """A box with a gate of constants and a delay of its output uses the delay."""
+        text = "circuit\nsource 1 -> a\nsource 1 -> b\nswitch b a -> c d e\ndelay 3 d -> f\noutput f\nspill e\nspill c\nend\n"
+        self.assertEqual(self.route(text)[0], 0)
+
+    def test_more_steps_than_a_layout_has(self) -> None:
+        """Delays that need too many steps are refused at once."""
+        lines = "\n".join(f"delay 4096 w{number} -> w{number + 1}" for number in range(17))
+        status, _, said = self.route(f"circuit\ninput w0\n{lines}\noutput w17\nend\n")
+        self.assertEqual(status, 1)
+        self.assertIn("the delays need 69632 steps; a layout has at most 65536", said)
+
 
 class Refusals(Routing):
     """What is no circuit, and wrong words."""
@@ -291,6 +334,12 @@ class Refusals(Routing):
     def test_wrong_size(self) -> None:
         """A size that no layout can have gets status 2."""
         self.assertEqual(self.route(gate_circuit("switch"), "--size", "100")[0], 2)
+
+    def test_a_cell_as_wide_as_the_layout(self) -> None:
+        """A gate whose cell has no room in the layout gets a sentence."""
+        status, _, said = self.route(gate_circuit("fredkin"), "--size", "48", "--effort", "1")
+        self.assertEqual(status, 1)
+        self.assertIn("found no place: no room", said)
 
 
 if __name__ == "__main__":

@@ -128,6 +128,13 @@ class Commands(unittest.TestCase):
         self.assertEqual(moved, COMMENTED.replace("  mirror 1 4 2 2\t# stays\n", "  mirror 2 5 2 2\t# stays\nmirror 5 2 2 2\n")
                          .replace("layout 8 8 3 ", "layout 10 8 3 "))
 
+    def test_lines_move(self) -> None:
+        """Lines behind added ones move, lines that went away are left out, and a change is taken into account once."""
+        head = "circuit\n# one\n# two" + example("not_gate").partition("\nlayout")[0].removeprefix("circuit")
+        self.assertEqual(node(["moved", example("not_gate"), ["setHead", head, "typing"], [0, 10, 12]])[0], [[0, 12, 14], [0, 10, 12], [0, 12, 14]])
+        self.assertEqual(node(["moved", example("not_gate"), ["remove", [11]], [10, 11, 12]])[0], [[10, 11], [10, 12], [10, 11]])
+        self.assertEqual(node(["moved", example("not_gate"), ["move", [10], 2, 0], [10, 12]])[0], [[10, 12], [10, 12], [10, 12]])
+
     def test_order_of_kinds(self) -> None:
         """New parts of any order of kinds are read."""
         text = "circuit\nend\nlayout 12 12 3\nend\n"

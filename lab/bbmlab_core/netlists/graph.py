@@ -75,34 +75,33 @@ class Graph:
 
     def and_(self, left: Literal, right: Literal) -> Literal:
         """Returns "left and right"."""
-        left, right = min(left, right), max(left, right)
-        if left == FALSE or left == right ^ 1:
-            return FALSE
-        if left in (TRUE, right):
-            return right
-        for one, other in ((left, right), (right, left)):
-            simpler = self._absorbed(one, other)
-            if simpler is not None:
-                return simpler
+        simpler: tuple[Literal, Literal] | None = (left, right)
+        while simpler:
+            left, right = min(simpler), max(simpler)
+            if left == FALSE or left == right ^ 1:
+                return FALSE
+            if left in (TRUE, right):
+                return right
+            simpler = self._absorbed(left, right) or self._absorbed(right, left)
         joined = self._joined(left, right) if left & 1 and right & 1 else None
         return self.literal(Kind.AND, left, right) if joined is None else joined ^ 1
 
-    def _absorbed(self, one: Literal, other: Literal) -> Literal | None:
-        """Returns a simpler form of "one and other" where `other` depends on the value of `one`."""
+    def _absorbed(self, one: Literal, other: Literal) -> tuple[Literal, Literal] | None:
+        """Returns two literals whose AND is a simpler form of "one and other" where `other` depends on the value of `one`."""
         factors, inverse_factors = self.product(other), self.product(other ^ 1)
         if factors and one in factors:
-            return other
+            return other, other
         if factors and one ^ 1 in factors:
-            return FALSE
+            return FALSE, FALSE
         if inverse_factors and one ^ 1 in inverse_factors:
-            return one
+            return one, one
         if inverse_factors and one in inverse_factors:
             rest = inverse_factors[1 - inverse_factors.index(one)]
-            return self.and_(one, rest ^ 1)
+            return one, rest ^ 1
         node = self.nodes[other >> 1]
         if node.kind is Kind.XOR and one & ~1 in node.inputs:
             rest = node.inputs[1 - node.inputs.index(one & ~1)]
-            return self.and_(one, rest ^ (other & 1) ^ (~one & 1))
+            return one, rest ^ (other & 1) ^ (~one & 1)
         return None
 
     def _joined(self, left: Literal, right: Literal) -> Literal | None:

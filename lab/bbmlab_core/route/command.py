@@ -7,7 +7,7 @@ import time
 
 from ..circuits import Circuit
 from ..documents import read_document
-from ..layouts import MAX_SIDE
+from ..layouts import MAX_SIDE, MAX_STEPS
 from ..netlists import NetlistError, map_netlist, netlist_format
 from ..program import Answer, ask, find_program
 from ..refusals import refusal_words
@@ -16,9 +16,6 @@ from .certificate import NO_ROW, circuit_section
 from .search import LEAST_SIDE, Options, Outcome, Routed, Search, partial_bundle
 from .settings import Settings
 from .world import TILE
-
-# The status after an interrupt, as shells have it.
-INTERRUPTED = 130
 
 
 class ProgressLine:
@@ -73,6 +70,18 @@ def check_side(side: int | None) -> None:
         raise LabError(f"--size {side}: it is a multiple of {TILE} from {LEAST_SIDE // 2} to {MAX_SIDE}", 2)
 
 
+def require_steps(name: str, circuit: Circuit) -> None:
+    """Raises LabError if the delays on the way to some wire need more steps than a layout can have."""
+    steps: dict[str, int] = {}
+    for gate in circuit.gates:
+        own = gate.parameter or 0 if gate.word == "delay" else 0
+        before = max((steps.get(wire, 0) for wire in gate.ins), default=0)
+        steps.update((wire, before + own) for wire in gate.outs)
+    most = max(steps.values(), default=0)
+    if most > MAX_STEPS:
+        raise LabError(f"{name}: the delays need {most} steps; a layout has at most {MAX_STEPS}", 1)
+
+
 def route_command(options: argparse.Namespace) -> int:
     """Runs `bbmlab route`."""
     check_side(options.size)
@@ -81,6 +90,7 @@ def route_command(options: argparse.Namespace) -> int:
     if options.circuit_only:
         write_text(options.output, text)
         return 0
+    require_steps(options.file, circuit)
     program = find_program(options.program)
     begun, line = time.monotonic(), ProgressLine()
     asked = Options(options.seed, options.size, options.effort, options.jobs, options.compact, options.keep_partial)
@@ -140,4 +150,4 @@ def report_failure(circuit: Circuit, outcome: Outcome, options: argparse.Namespa
             answer = ask(program, "check", found[0].encode("latin-1"), options.timeout)
             print(f"bbmlab: kept a bundle of the {found[1]} gates that were placed, whose other wires are outputs: {verdict_of(answer)}",
                   file=sys.stderr)
-    return INTERRUPTED if outcome.is_interrupted else 1
+    return outcome.interrupt_status if outcome.is_interrupted else 1

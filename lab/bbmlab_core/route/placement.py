@@ -155,7 +155,9 @@ class Placer:
         chance, size = self.chance, self.board.size
         balls = [inlet.ball for inlet in inlets if inlet.ball] or ([partner] if partner else [])
         if not balls:
-            return chance.randrange(half, size - half), chance.randrange(half, size - half), 60
+            # A cell may be as wide as the layout: it finds no room then.
+            far = max(half + 1, size - half)
+            return chance.randrange(half, far), chance.randrange(half, far), 60
         radius = half + chance.choice((20, 40 + int(60 * growth), 80 + int(100 * growth), 120 + int(140 * growth)))
         last = max(balls, key=lambda ball: ball.time)
         ahead = last.flown(chance.randint(half, half + 20 + int(60 * growth)))

@@ -14,6 +14,7 @@ from typing import Callable, Iterator
 
 from ..circuits import Circuit
 from ..layouts import MAX_SIDE
+from ..signals import Stopped
 from .attempt import Attempt, OutOfTimeError
 from .board import NoRouteError, Step
 from .certificate import Certifier, bundle_text, circuit_section
@@ -78,6 +79,8 @@ class Outcome:
     partial: list[Step] = field(default_factory=list)
     partial_size: int = 0
     is_interrupted: bool = False
+    # The exit status after an interrupt: 130 for SIGINT, and 143 for SIGTERM.
+    interrupt_status: int = 130
 
 
 Progress = Callable[[int, int, int, int], None]
@@ -147,8 +150,9 @@ class Search:
                 Pool(self).run()
             else:
                 self.run_here()
-        except KeyboardInterrupt:
+        except KeyboardInterrupt as interrupt:
             self.outcome.is_interrupted = True
+            self.outcome.interrupt_status = interrupt.status if isinstance(interrupt, Stopped) else self.outcome.interrupt_status
         return self.outcome
 
     def limit(self) -> int:
@@ -260,9 +264,10 @@ class Pool:
                 worker.process.kill()
             for worker in self.workers.values():
                 worker.process.join()
-        for index in sorted(self.found):
-            if search.take(self.found[index]):
-                break
+            # After an interrupt too.
+            for index in sorted(self.found):
+                if search.take(self.found[index]):
+                    break
 
     def is_useful(self, index: int) -> bool:
         """Whether the attempt with an index can still count."""

@@ -24,6 +24,17 @@
   /** Forgets this tab's draft of a file. */
   function forget(folder, name, tab = server.tab) { localStorage.removeItem(keyOf(folder, name, tab)); }
 
+  /**
+   * Puts this tab's draft of a file, from before the file was opened, under another name. It stays there until the user takes it or throws it
+   * away: the tab's next draft of the file does not replace it.
+   */
+  function setAside(folder, name, saved) {
+    const key = keyOf(folder, name, server.tab), draft = localStorage.getItem(key);
+    if (draft === null) return;
+    localStorage.removeItem(key);
+    if (JSON.parse(draft).text !== saved) localStorage.setItem(keyOf(folder, name, crypto.randomUUID()), draft);
+  }
+
   /** Returns the drafts of a file that no other open tab is working on, the newest first. */
   async function found(folder, name) {
     const held = navigator.locks ? (await navigator.locks.query()).held.map((lock) => lock.name) : [];
@@ -40,5 +51,5 @@
     return drafts.sort((one, other) => other.at - one.at);
   }
 
-  bbmlab.drafts = { keep, forget, found };
+  bbmlab.drafts = { keep, forget, setAside, found };
 }

@@ -39,6 +39,13 @@
       if (this.onSelect) this.onSelect();
     }
 
+    /** Keeps the selection on its parts after a change, since their lines may have moved. Another file begins without one. */
+    follow() {
+      const { model } = this, lines = model.movedLines(model === this.followed ? this.selection : []);
+      this.followed = model;
+      this.select(model.partsAt(lines).map(({ line }) => line));
+    }
+
     /** Ends what was begun, without a change. */
     cancel() {
       this.pressed = null;
@@ -246,6 +253,7 @@
     }
 
     copy() {
+      if (this.selection.size === 0) { this.say("Nothing is selected.", true); return; }
       this.clipboard = this.model.partsAt(this.selection).map((part) => ({ ...part, line: -1 }));
       this.say(`Copied ${bbmlab.counted(this.clipboard.length, "part", "parts")}.`);
     }

@@ -22,7 +22,7 @@
   class Files {
     /** @param {bbmlab.Desk} desk @param {bbmlab.VerdictPanel} verdicts @param {(text: string, isBad?: boolean) => void} say */
     constructor(desk, verdicts, say) {
-      Object.assign(this, { desk, verdicts, say, folder: "", name: "", digest: null, saved: null, isFree: false, opened: 0 });
+      Object.assign(this, { desk, verdicts, say, folder: "", name: "", digest: null, saved: null, isFree: false, opened: 0, hasOffer: false });
       this.keepSoon = delayed(DRAFT_DELAY, () => this.keepDraft());
       desk.listen("change", () => { this.showName(); this.keepSoon(); });
       for (const [id, action] of [["save", () => this.save()], ["open", () => this.chooseFile()], ["new", () => this.chooseTemplate()],
@@ -48,6 +48,10 @@
       Object.assign(this, { name, digest, saved: text, isFree: false, opened: this.opened + 1 });
       this.verdicts.earlier = "";
       this.say("");
+      drafts.setAside(this.folder, name, text);
+      // The draft that is offered is one of the file that was open.
+      if (this.hasOffer) notice("");
+      this.hasOffer = false;
       this.desk.open(text);
       this.showName();
       this.offerDraft();
@@ -64,9 +68,10 @@
 
     /** Offers the newest draft that differs from the file. */
     async offerDraft() {
-      const { name, folder } = this, draft = (await drafts.found(folder, name)).find(({ text }) => text !== this.saved);
-      if (!draft || name !== this.name) return;
-      const forget = () => drafts.forget(folder, name, draft.tab);
+      const { name, folder, opened } = this, draft = (await drafts.found(folder, name)).find(({ text }) => text !== this.saved);
+      if (!draft || opened !== this.opened) return;
+      this.hasOffer = true;
+      const forget = () => { this.hasOffer = false; drafts.forget(folder, name, draft.tab); };
       notice(`There is a draft of ${name} from ${new Date(draft.at).toLocaleString()} that was not saved. `, [
         ["take the draft", () => { forget(); this.desk.model.setText(draft.text, "draft"); }], ["throw it away", forget]]);
     }

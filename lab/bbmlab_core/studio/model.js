@@ -92,7 +92,7 @@
   class Model {
     /** @param {string} text */
     constructor(text) {
-      Object.assign(this, { lines: text.split("\n"), past: [], future: [], listeners: [] });
+      Object.assign(this, { lines: text.split("\n"), past: [], future: [], listeners: [], shift: null });
       this.read();
     }
 
@@ -160,10 +160,22 @@
       return this.parts.filter(({ box: [u, v, w, h] }) => x >= u && y >= v && x < u + w && y < v + h).reverse();
     }
 
+    /**
+     * Returns where lines are after the last change, which is taken into account once. If a change put more or fewer lines in the place of some,
+     * these are left out.
+     */
+    movedLines(lines) {
+      const { at, removed, added } = this.shift || { at: 0, removed: 0, added: 0 };
+      this.shift = null;
+      if (added === removed) return [...lines];
+      return [...lines].filter((line) => line < at || line >= at + removed).map((line) => (line < at ? line : line + added - removed));
+    }
+
     // ---- history
 
     /** Puts other lines in the place of some. */
     put({ at, removed, added }) {
+      this.shift = { at, removed: removed.length, added: added.length };
       this.lines = [...this.lines.slice(0, at), ...added, ...this.lines.slice(at + removed.length)];
       this.read();
     }

@@ -32,15 +32,20 @@
     return () => { clearTimeout(timer); timer = setTimeout(action, milliseconds); };
   }
 
+  // Resolves the question in the dialog to null.
+  let cancelAsked = () => {};
+
   /** Asks something in the dialog, and resolves to the value of the button that is pressed, or to null. @returns {Promise<any>} */
   function ask(title, body, choices) {
     const dialog = element("dialog");
-    if (dialog.open) dialog.close();
+    if (dialog.open) { dialog.close(); cancelAsked(); }
     element("dialog-title").textContent = title;
     element("dialog-body").replaceChildren(...body);
     return new Promise((resolve) => {
       const end = (value) => { dialog.onclose = null; dialog.close(); resolve(value); };
-      dialog.onclose = () => resolve(null);
+      cancelAsked = () => resolve(null);
+      // The event of a dialog that was open before comes late: this one is open then.
+      dialog.onclose = () => { if (!dialog.open) resolve(null); };
       element("dialog-buttons").replaceChildren(...choices.map(([text, value]) => button(text, () => end(value()))));
       dialog.showModal();
     });

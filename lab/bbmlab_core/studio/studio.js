@@ -94,7 +94,7 @@
   /** Shows the desk after a change. */
   function showChange() {
     sketch.take();
-    tools.select(desk.model.partsAt(tools.selection).map(({ line }) => line));
+    tools.follow();
     if (tools.name === "in" || tools.name === "out") suggestWire();
     element("hint").hidden = desk.model.parts.length > 0 || !desk.model.header;
     const why = desk.fallen.length ? bbmlab.geometry.fallReason(desk.fallen[0].box) : null;
@@ -143,6 +143,8 @@
     if (element("dialog").open) return;
     if (event.ctrlKey || event.metaKey) {
       if (!Object.hasOwn(CONTROL, key) || isField && key !== "s" && target.id !== "circuit" || target.id === "circuit" && !"szyZ".includes(key)) return;
+      // Words that are marked, as in the report, are for the browser to copy.
+      if (key === "c" && target !== canvasParts.whole && !getSelection().isCollapsed) return;
       CONTROL[key]();
     } else if (isField) return;
     else if (ARROWS[key] && target === canvasParts.whole) onArrow(event, ARROWS[key]);
