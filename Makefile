@@ -16,9 +16,11 @@ DESTDIR ?=
 # Another program than the one that ./bbmcheck runs.
 PROGRAM ?=
 
-# The folder of this file, also with `make -f`.
-top := $(shell dirname -- '$(strip $(MAKEFILE_LIST))')
-room = $(DESTDIR)$(PREFIX)
+# A text as it stands between single quotes of the shell.
+quoted = $(subst ','\'',$1)
+# The folder of this file, also with `make -f`: MAKEFILE_LIST begins with a space.
+top := $(call quoted,$(shell list='$(call quoted,$(MAKEFILE_LIST))'; dirname -- "$${list# }"))
+room = $(call quoted,$(DESTDIR)$(PREFIX))
 
 .PHONY: all help install uninstall check dist deb prove release mostlyclean clean
 
@@ -29,7 +31,7 @@ help:
 	@sed -n 's/^#   //p' '$(top)/Makefile'
 
 install:
-	'$(top)/tools/package/install_files' install '$(room)' $(if $(PROGRAM),'$(PROGRAM)')
+	'$(top)/tools/package/install_files' install '$(room)' $(if $(PROGRAM),'$(call quoted,$(PROGRAM))')
 	'$(top)/tools/package/install_files' install_lab '$(room)'
 
 uninstall:
@@ -58,7 +60,7 @@ release:
 
 mostlyclean:
 	rm -rf -- '$(top)/dist' '$(top)/crates/bbmcheck/out/wrapper'
-	find '$(top)/tools' '$(top)/conformance' '$(top)/examples' -name __pycache__ -prune -exec rm -rf -- {} +
+	find '$(top)/tools' '$(top)/conformance' '$(top)/examples' '$(top)/lab' '$(top)/bench' -name __pycache__ -prune -exec rm -rf -- {} +
 
 clean: mostlyclean
 	rm -rf -- '$(top)'/crates/*/out

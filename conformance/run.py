@@ -6,10 +6,11 @@ how many held. The status is 0 if all did.
 
 Without FOLDER the cases are those of the repository, with the large bundles of conformance/data. With it they are the case folders at or
 below each FOLDER, such as conformance/unpack.py writes. --commands takes the cases of these commands alone. --all also takes the cases
-that are about the words of a command and no text, and compares standard error if a case gives it: both are this project's own. A case has
-120 seconds, or N. Two run at a time, or N.
+that are about the words of a command and no text, unless --commands is given, and compares standard error if a case gives it: both are this
+project's own. A case has 120 seconds, or N. Two run at a time, or N.
 """
 import argparse
+import shutil
 import subprocess
 import sys
 from concurrent.futures import ThreadPoolExecutor
@@ -64,18 +65,22 @@ def behind_wrapper(program):
 def chosen(options):
     folders = sorted({path.parent for folder in options.folders for path in folder.glob("**/args")})
     cases = [case_of_folder(folder) for folder in folders] if options.folders else all_cases()
-    return [case for case in cases if options.all or is_about_texts(case) and case.words[0] in options.commands]
+    if options.all and not options.commands:
+        return cases
+    return [case for case in cases if is_about_texts(case) and case.words[0] in (options.commands or COMMANDS)]
 
 
 def main():
     parser = argparse.ArgumentParser(usage=__doc__)
     parser.add_argument("program", type=Path)
     parser.add_argument("folders", nargs="*", type=Path)
-    parser.add_argument("--commands", type=lambda names: names.split(","), default=COMMANDS)
+    parser.add_argument("--commands", type=lambda names: names.split(","), default=None)
     parser.add_argument("--all", action="store_true")
     parser.add_argument("--seconds", type=int, default=120)
     parser.add_argument("--jobs", type=int, default=2)
     options = parser.parse_args()
+    if not shutil.which(options.program.resolve()):
+        parser.exit(2, f"run.py: {options.program} is no program that can be run\n")
     program, cases, failed = behind_wrapper(options.program.resolve()), chosen(options), 0
     with ThreadPoolExecutor(max_workers=options.jobs) as pool:
         faults = pool.map(lambda case: fault_of(program, case, options.all, options.seconds), cases)

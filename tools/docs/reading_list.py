@@ -225,8 +225,12 @@ def rows_of(closure):
 
 def main(words):
     names = "--definitions" in words
-    table = words[words.index("--check") + 1] if "--check" in words else None
+    table = "".join(words[words.index("--check") + 1:][:1]) if "--check" in words else None
     files = [w for w in words if not w.startswith("--") and w != table]
+    wrong = [w for w in words if w.startswith("--") and w not in ("--definitions", "--check")]
+    if wrong or files[1:] or table is not None and not Path(table).is_file() or files and not (CRATES / files[0]).is_file():
+        print("usage: tools/docs/reading_list.py [--definitions] [--check PAGE] [FILE], with FILE as in crates/", file=sys.stderr)
+        return 2
     closure = Closure(files[0] if files else STATEMENT)
     rows = rows_of(closure)
     lines = table_lines([row for row in rows if row[2]], names)

@@ -1,5 +1,6 @@
 """Runs a program with one of its growths of memory refused, by tools/gate/fail_allocations.c. Needs cc."""
 import os
+import shutil
 import subprocess
 import sys
 from pathlib import Path
@@ -13,6 +14,8 @@ class AllocationFailer:
 
     def __init__(self, room):
         self.library, self.counter = Path(room) / "fail_allocations.so", Path(room) / "count"
+        if not shutil.which("cc"):
+            sys.exit("there is no C compiler (cc)")
         source = Path(__file__).resolve().with_name("fail_allocations.c")
         subprocess.run(["cc", "-O1", "-Wall", "-shared", "-fPIC", "-o", self.library, source, "-ldl"], check=True)
 
