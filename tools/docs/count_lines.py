@@ -47,7 +47,10 @@ def main() -> int:
     parser.add_argument("commit", nargs="?")
     commit = parser.parse_args().commit
     now = lines_here()
-    before = lines_at(commit) if commit else now
+    try:
+        before = lines_at(commit) if commit else now
+    except subprocess.CalledProcessError as error:
+        parser.exit(2, f"count_lines.py: git does not list {commit}: {error.stderr}")
     for name in [*sorted(now | before), ""]:
         old, new = (before[name], now[name]) if name else (before.total(), now.total())
         print(f"{name or 'all':<18}" + (f"{old:>7,} {new:>7,} {new - old:>+7,}" if commit else f"{new:>7,}"))
