@@ -1,6 +1,6 @@
 mod AskedLemmas
 mod InNames
-pub mod KeptLines
+mod KeptLines
 pub mod ModuleText
 pub mod Bundles
 pub mod SectionLines

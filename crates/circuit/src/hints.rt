@@ -4,12 +4,12 @@ ghost use Rattle.std.specs.Prelude.{◌<◌};
 use section_text::Name;
 
 // The count of slots.
-const SLOT_COUNT: usize = 4096;
+const SLOT_COUNT: usize = 1024;
 
 // The slot of a name, by its last four bytes as digits. Most names end in a number, and wires near each other seldom
 // share a slot then.
 fn slot_of(name: &Name) -> usize
-    ensures { result < 4096 }
+    ensures { result < 1024 }
 {
     let sum = match name.bytes() {
         [.., a, b, c, d] => 1000 * *a as usize + 100 * *b as usize + 10 * *c as usize + *d as usize,
