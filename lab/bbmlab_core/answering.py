@@ -3,7 +3,7 @@
 import time
 from dataclasses import dataclass
 
-from .program import ProgramError, ProgramTimeout, Running, ask
+from .program import Answer, ProgramError, ProgramTimeout, Running, ask
 from .reports import ReportError, parse_report
 
 # The results, from best to worst, with the word that is shown.
@@ -45,6 +45,14 @@ def result_of_report(file: str, status: int, output: str) -> Result:
     more = f" and {len(faults) - 1} more" if len(faults) > 1 else ""
     detail = f"{faults[0].text}{more}" if faults else f"{report.modules} module{'s' if report.modules != 1 else ''}"
     return Result(file, report.verdict, detail, 0, report.modules, output)
+
+
+def why_no_verdict(said: Answer) -> str | None:
+    """Returns why an answer to `check` is neither a verdict nor a refusal, or None if it is one."""
+    if said.status >= 4:
+        return said.errors or f"status {said.status}"
+    result = result_of_report("", said.status, said.output)
+    return result.detail if result.result == "error" else None
 
 
 def answer(program: str, file: str, text: bytes, timeout: float | None, running: Running) -> Result:

@@ -20,7 +20,7 @@ def read_design(name: str) -> tuple[Document, Layout]:
     return document, document.layout
 
 
-def require_digest(document: Document, report: Report) -> None:
+def require_report_of(document: Document, report: Report) -> None:
     """Refuses a report whose digest is not that of the text's certificate, or whose lines are not of things that the text has."""
     digest = certificate_digest(document.text)
     if digest != report.digest:
@@ -69,5 +69,5 @@ def report_for(options: argparse.Namespace, document: Document) -> Report | None
         return None
     report = parse_report(read_text(options.report))
     if not report.refused:
-        require_digest(document, report)
+        require_report_of(document, report)
     return report

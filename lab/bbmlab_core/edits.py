@@ -83,7 +83,7 @@ def edits_between(old: str, new: str) -> list[Edit]:
     """Returns edits that make one text of another."""
     before, after = old.split("\n"), new.split("\n")
     first = 0
-    # The last line is left, so that of equal lines at the end the first is changed.
+    # The last line is not compared here, so that an edit names the first of equal lines at the end.
     while first < min(len(before), len(after)) - 1 and before[first] == after[first]:
         first += 1
     last = 0

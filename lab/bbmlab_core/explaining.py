@@ -6,7 +6,7 @@ from dataclasses import asdict, dataclass, field
 
 from .certificates import StopLine
 from .circuits import Circuit
-from .designs import require_digest
+from .designs import require_report_of
 from .diagnosis import MAX_STEPS, Diagnosis, Truth
 from .documents import Document, read_document
 from .edits import Edit
@@ -129,7 +129,7 @@ def explain_report(document: Document, report: Report, file: str, trial: Trial |
         return explain_refused(document, report, file, trial)
     if document.certificate is None or document.refusal:
         raise ReportError("the report is not of this text: the lab's reader refuses the text")
-    require_digest(document, report)
+    require_report_of(document, report)
     diagnosis = Diagnosis(document)
     faults = sorted((finding for finding in report.faults if finding.word == "local"), key=lambda finding: finding.number("time"))
     diagnosis.detailed = {finding.text for finding in faults[:MAX_DETAILED]}
@@ -332,8 +332,13 @@ def as_gcc(explanation: Explanation) -> list[str]:
     if explanation.refused:
         text = " ".join([*explanation.refused.what, *fix_words(explanation.fix.words if explanation.fix else [])])
         return [f"{explanation.file}:{explanation.line}: error: {text} [code {explanation.code}]"]
-    return [f"{explanation.file}:{entry.line or entry.facts.get('module_line', 1)}: error: {' '.join([*entry.what, *fix_words(entry.fixes)])} [{entry.report_line}]"
+    return [f"{explanation.file}:{line_of(entry)}: error: {' '.join([*entry.what, *fix_words(entry.fixes)])} [{entry.report_line}]"
             for entry in explanation.entries if entry.is_against]
+
+
+def line_of(entry: Entry) -> int:
+    """Returns the line of the text that an editor shows for a line of the report: its own, else that of its module."""
+    return entry.line or int(entry.facts.get("module_line", 1))
 
 
 def fix_words(fixes: list[str]) -> list[str]:

@@ -10,7 +10,7 @@ from unittest.mock import patch
 import support
 from bbmlab_core.certificates import Module
 from bbmlab_core.checking import files_below
-from bbmlab_core.designs import require_digest
+from bbmlab_core.designs import require_report_of
 from bbmlab_core.edits import add, applied, delete, edits_between
 from bbmlab_core.explaining import as_gcc, explain_answer
 from bbmlab_core.golly import layout_from_golly
@@ -189,9 +189,9 @@ class Reports(unittest.TestCase):
         for rest in ("no\ndelay 0 5 missing\n", "no\nborder 0 1 900 1\n", "no\nlocal 0 end 999999999 1 1 0\n", "no\nlocal 0 end 2 1 1 1\n",
                      "no\nkeep 0 0 0\n", "no\nunkept 0\n", "no\nmeet 0 differ\n", "no\nlocal 7 end 2 1 1 0\n", "no\n", "yes\nlocal 0 end 2 1 1 0\n"):
             with self.subTest(rest), self.assertRaises(ReportError):
-                require_digest(document, parse_report(head + rest))
-        require_digest(document, parse_report(head + "yes\n"))
-        require_digest(document, parse_report(head + "no\nlocal 0 end 2 1 1 0\n"))
+                require_report_of(document, parse_report(head + rest))
+        require_report_of(document, parse_report(head + "yes\n"))
+        require_report_of(document, parse_report(head + "no\nlocal 0 end 2 1 1 0\n"))
 
     def test_faults_have_a_line(self) -> None:
         """For editors, a fault at a cell without a line is at its module's line."""

@@ -10,12 +10,11 @@ from ..documents import Document, read_document
 from ..layouts import Layout
 from ..program import ProgramError, ProgramTimeout, ask, find_program
 from ..refusals import refusal_words
-from ..terminal import LabError, plain, read_text, require_other_file, write_text
+from ..terminal import LabError, plain, read_text, write_text
 
 
 def run(options: argparse.Namespace) -> int:
     """Makes a certificate, and has the program check it if there is one. An old certificate is left out, apart from stops that hold."""
-    require_other_file(options.output, [options.file])
     text = read_text(options.file)
     document, plan = design_of(text, options.file), Plan(options.version_of_text, "safe" if options.plain else options.cuts)
     old = read_document(text, "check")

@@ -4,7 +4,7 @@ import argparse
 import sys
 
 from .. import explaining
-from ..answering import result_of_report
+from ..answering import why_no_verdict
 from ..documents import command_for
 from ..explaining import Explanation
 from ..fixing import Fixer, outcome_words
@@ -58,8 +58,9 @@ def asked(program: str, command: str, text: str, options: argparse.Namespace) ->
     answer = ask(program, command, text.encode("latin-1"), options.timeout)
     if answer.status >= 4:
         raise LabError(f"the program answered: {answer.errors}")
-    if command == "check" and (result := result_of_report("", answer.status, answer.output)).result == "error":
-        raise LabError(f"the program gave no verdict: {result.detail}")
+    why = why_no_verdict(answer) if command == "check" else None
+    if why:
+        raise LabError(f"the program gave no verdict: {why}")
     return answer.output
 
 

@@ -5,7 +5,7 @@ import os
 import sys
 
 from .. import explaining, viewing
-from ..answering import result_of_report
+from ..answering import why_no_verdict
 from ..designs import read_design
 from ..program import ProgramError, ProgramTimeout, ask, find_program
 from ..terminal import read_text, write_text
@@ -28,9 +28,9 @@ def run(options: argparse.Namespace) -> int:
 def report_of(text: str, options: argparse.Namespace) -> str:
     """Returns the report or the refusal of the program. Raises ProgramError if its status is not that of its report."""
     answer = ask(find_program(options.program), "check", text.encode("latin-1"), options.timeout)
-    result = result_of_report("", answer.status, answer.output)
-    if result.result == "error":
-        raise ProgramError(answer.errors or result.detail)
+    why = why_no_verdict(answer)
+    if why:
+        raise ProgramError(f"the program gave no verdict: {why}")
     return answer.output
 
 

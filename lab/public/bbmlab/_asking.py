@@ -8,7 +8,7 @@ from dataclasses import dataclass
 from typing import Any
 
 from bbmlab_core import program as programs
-from bbmlab_core.answering import result_of_report
+from bbmlab_core.answering import why_no_verdict
 from bbmlab_core.commands.explain import text_of
 from bbmlab_core.documents import command_for, read_document
 from bbmlab_core.explaining import as_json, explain_answer
@@ -141,8 +141,9 @@ def explain(text: str | Bundle, *, effort: float = 30.0, program: str | None = N
     command, path = command_for(data), program_path(program)
     command = COMMANDS.get(command, command)
     answer = answer_of(path, command, data, None)
-    if command == "check" and (result := result_of_report("", answer.status, answer.output)).result == "error":
-        raise ProgramError(result.detail)
+    why = why_no_verdict(answer) if command == "check" else None
+    if why:
+        raise ProgramError(f"the program gave no verdict: {why}")
     try:
         explanation = explain_answer(data, command, answer.output, "text", Trial(path, Budget(seconds=effort)))
     except ReportError as error:
