@@ -18,7 +18,7 @@ use crate::certificate_line::CertificateLine;
 use crate::ports::{PortTable, PortTablePair};
 use crate::wire_list::WireList;
 use bbm_rule::Cell;
-use circuit::{Circuit, GateNo, GateWires, WireHints};
+use circuit::{Circuit, GateNo, GateWires};
 use module_box::Box2;
 use pattern::{Layout, LayoutHeader};
 use section_text::Name;
@@ -30,8 +30,6 @@ pub struct LineTables<'a> {
     circuit: &'a Circuit,
     layout: &'a Layout,
     ports: &'a PortTablePair<'a>,
-    // the wires that were named last
-    hints: WireHints,
 }
 
 impl<'a> Model for LineTables<'a> {
@@ -129,7 +127,6 @@ impl<'a> LineTables<'a> {
             circuit,
             layout,
             ports,
-            hints: WireHints::new(),
         }
     }
 
@@ -150,21 +147,14 @@ impl<'a> LineTables<'a> {
     }
 
     /// Returns the circuit's wire that a line names, if it names one and the circuit has it.
-    ///
-    /// The lines of a module name few wires. To compare a name with that of the wire named last costs less than to look
-    /// it up by its hash.
     #[inline(always)]
-    pub(crate) fn wire_in(&mut self, line: &CertificateLine) -> Option<u16>
-        ensures wire { result ≡ option_and_then (wire_of self.old.circuit) (name_in line.now) }
+    pub(crate) fn wire_in(&self, line: &CertificateLine) -> Option<u16>
+        ensures wire { result ≡ option_and_then (wire_of self.now.circuit) (name_in line.now) }
         ensures below_4096 { IfSome result (λ w. w < 4096) }
-        ensures gates_at_most_1024 { length self.old.circuit.netlist.gates ≤ 1024 }
-        ensures size_limits { size_fault self.old.size ≡ None }
-        ensures same_setting { self.new ≡ self.old }
+        ensures gates_at_most_1024 { length self.now.circuit.netlist.gates ≤ 1024 }
+        ensures size_limits { size_fault self.now.size ≡ None }
     {
-        let circuit = self.circuit;
-        let name = name_in(line)?;
-        let wire = circuit.wire_by_hint(self.hints.guess(name), name)?;
-        self.hints.note(name, wire.number());
+        let wire = self.circuit.wire(name_in(line)?)?;
         Some(wire.number())
     }
 

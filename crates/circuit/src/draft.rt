@@ -13,13 +13,12 @@ ghost use Rattle.section_text.specs.Adding.{HasRefusalCode};
 ghost use Rattle.circuit.specs.Bridge.{FitsKind, IsNoInputAfterGate};
 
 use crate::circuit_line::{CircuitLine, GateKind, Kind};
-use crate::hints::WireHints;
 use crate::netlist::{Circuit, is_name_at};
 use crate::number::WireNo;
 use crate::sets::{define_wires, mark_wires};
 use crate::wiring::{GateWires, push_gate_of_line};
 use indexmap::IndexSet;
-use section_text::{LineFault, Name, Names, RefusalCode, Seed};
+use section_text::{LineFault, Name, NameHints, Names, RefusalCode, Seed};
 use std::alloc::{AllocError, Global};
 use std::marker::Model;
 
@@ -33,7 +32,7 @@ const MAX_GATES: usize = 1024;
 #[derive(Drop)]
 pub struct Draft {
     wires: IndexSet<Name, Seed>,
-    hints: WireHints,
+    hints: NameHints,
     // for each wire, by its number, whether a line consumes it
     consumed: Vec<bool>,
     entries: Vec<CircuitLine>,
@@ -118,7 +117,7 @@ impl Draft {
     {
         Draft {
             wires: IndexSet::with_hasher(alloc, seed),
-            hints: WireHints::new(),
+            hints: NameHints::new(alloc),
             consumed: Vec::new(alloc),
             entries: Vec::new(alloc),
             wired: Vec::new(alloc),
@@ -142,7 +141,7 @@ impl Draft {
         ensures found { is_some result ≡ has (defined self.now) name.now }
         ensures within { IfSome result (λ i. i < length (defined self.now)) }
     {
-        let likely = self.hints.guess(name) as usize;
+        let likely = self.hints.guess(name);
         if is_name_at(self.wires.as_slice(), likely, name) {
             return Some(likely);
         }
@@ -208,7 +207,7 @@ impl Draft {
         let used = entry.ins.as_slice().len();
         let wires = self.wires.len();
         define_wires(&mut self.wires, &mut self.consumed, entry.outs.as_slice())?;
-        self.hints.note_all(entry.outs.as_slice(), wires as u16);
+        self.hints.note_all(entry.outs.as_slice(), wires);
         let is_gate = is_gate_kind(entry.kind);
         if push_line_and_gate(
             &mut self.entries,
@@ -365,7 +364,7 @@ impl Draft {
         }
         let Draft {
             wires,
-            hints: _,
+            hints,
             consumed: _,
             entries,
             wired,
@@ -373,6 +372,7 @@ impl Draft {
         } = self;
         Ok(Circuit {
             wires,
+            hints,
             entries,
             wired,
         })

@@ -5,7 +5,6 @@
 mod circuit_line;
 mod draft;
 mod form;
-mod hints;
 pub mod laws;
 mod netlist;
 mod number;
@@ -17,7 +16,6 @@ mod wiring;
 
 pub use circuit_line::GateKind;
 pub use draft::{Draft, Unused};
-pub use hints::WireHints;
 pub use netlist::{Circuit, ValuesFault};
 pub use number::{GateNo, WireNo};
 pub use ports::port_names;

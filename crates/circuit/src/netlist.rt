@@ -10,7 +10,7 @@ use crate::circuit_line::{CircuitLine, Kind};
 use crate::number::{GateNo, WireNo};
 use crate::wiring::{GateWires, values_of};
 use indexmap::IndexSet;
-use section_text::{Name, Seed};
+use section_text::{Name, NameHints, Seed};
 use std::alloc::{AllocError, Global};
 use std::marker::Model;
 
@@ -21,6 +21,7 @@ use std::marker::Model;
 #[derive(Drop)]
 pub struct Circuit {
     pub(crate) wires: IndexSet<Name, Seed>,
+    pub(crate) hints: NameHints,
     pub(crate) entries: Vec<CircuitLine>,
     pub(crate) wired: Vec<GateWires>,
 }
@@ -125,9 +126,9 @@ impl Circuit {
         self.wires.len()
     }
 
-    /// Returns the wire of this name, if there is one. Its number is below `wires()`.
+    // The wire of this name, if there is one.
     #[tactic(auto, using(crate::proofs::Naming::place_position, crate::proofs::Naming::wires_are_named))]
-    pub fn wire(&self, name: &Name) -> Option<WireNo>
+    fn wire_by_hash(&self, name: &Name) -> Option<WireNo>
         ensures wire { result ≡ wire_of (circuit_of self.now) name.now }
         ensures wire_exists { IfSome result (λ w. w < wires (netlist_of self.now)) }
     {
@@ -136,18 +137,18 @@ impl Circuit {
     }
 
     /// Returns the wire of this name, if there is one. Its number is below `wires()`.
-    ///
-    /// If the wire of the number `likely` has the name, the name is compared, and not looked up by its hash.
     #[inline(always)]
     #[tactic(auto, using(crate::proofs::Naming::names_are_own, crate::proofs::Naming::wires_are_named))]
-    pub fn wire_by_hint(&self, likely: u16, name: &Name) -> Option<WireNo>
+    pub fn wire(&self, name: &Name) -> Option<WireNo>
         ensures wire { result ≡ wire_of (circuit_of self.now) name.now }
         ensures wire_exists { IfSome result (λ w. w < wires (netlist_of self.now)) }
     {
-        if is_name_at(self.wires.as_slice(), likely as usize, name) {
-            return Some(WireNo::of(likely));
+        // To compare the name with that of a likely wire costs less than to look it up by its hash.
+        let likely = self.hints.guess(name);
+        if is_name_at(self.wires.as_slice(), likely, name) {
+            return Some(WireNo::of(likely as u16));
         }
-        self.wire(name)
+        self.wire_by_hash(name)
     }
 
     /// Returns the wire of this name, and the name as the circuit holds it, if there is one.

@@ -16,7 +16,7 @@ use crate::layout_line::{LayoutHeader, LayoutLine};
 use crate::names::{name_set, put_name_if_room};
 use indexmap::IndexSet;
 use section_text::{
-    Feed, Form, Line, LineFault, Name, PortNames, ReadFault, RefusalCode, Section, Seed,
+    Feed, Form, Line, LineFault, Name, NameHints, PortNames, ReadFault, RefusalCode, Section, Seed,
     read_section,
 };
 use std::alloc::{AllocError, Global};
@@ -30,9 +30,11 @@ struct Reading<'a> {
     // the names that ports may have, where not all are good
     known_ins: IndexSet<Name, Seed>,
     known_outs: IndexSet<Name, Seed>,
+    known_hints: NameHints,
     // those that have a port, where not all are good
     seen_ins: IndexSet<Name, Seed>,
     seen_outs: IndexSet<Name, Seed>,
+    seen_hints: NameHints,
     draft: Draft,
 }
 
@@ -57,22 +59,23 @@ fn allows_any_name(ports: &PortNames) -> bool
     }
 }
 
-// Whether the set has the name, which is likely the one of this index: ports mostly come in the order of the circuit.
-fn has_name_near(set: &IndexSet<Name, Seed>, index: usize, name: &Name) -> bool
+// Whether the set has the name, for hints by which it is likely found.
+fn has_name(set: &IndexSet<Name, Seed>, hints: &NameHints, name: &Name) -> bool
     ensures { result ≡ has set.now.keys name.now }
 {
-    match set.as_slice().get(index) {
+    let place = hints.guess(name);
+    match set.as_slice().get(place) {
         Some(likely) if *likely == *name => true,
         _ => set.contains(name),
     }
 }
 
 // Whether the set has all these names.
-fn has_all(set: &IndexSet<Name, Seed>, names: &[Name]) -> bool
+fn has_all(set: &IndexSet<Name, Seed>, hints: &NameHints, names: &[Name]) -> bool
     ensures { result ≡ list_all (λ n. has set.now.keys n) names.now }
 {
-    for (index, name) in names.iter().enumerate() {
-        if !has_name_near(set, index, name) {
+    for name in names {
+        if !has_name(set, hints, name) {
             return false;
         }
     }
@@ -83,6 +86,7 @@ fn has_all(set: &IndexSet<Name, Seed>, names: &[Name]) -> bool
 fn note_port_name_seen(
     ins: &mut IndexSet<Name, Seed>,
     outs: &mut IndexSet<Name, Seed>,
+    hints: &mut NameHints,
     part: &LayoutLine,
 )
     requires room_in { 0 < spare ins.old }
@@ -93,8 +97,14 @@ fn note_port_name_seen(
         has outs.new.keys n ≡ (has outs.old.keys n || is_out_line_named n part.now) }
 {
     match part {
-        LayoutLine::In(port) => put_name_if_room(ins, port.name),
-        LayoutLine::Out(port) => put_name_if_room(outs, port.name),
+        LayoutLine::In(port) => {
+            hints.note_all(&[port.name], ins.len());
+            put_name_if_room(ins, port.name);
+        }
+        LayoutLine::Out(port) => {
+            hints.note_all(&[port.name], outs.len());
+            put_name_if_room(outs, port.name);
+        }
         LayoutLine::Mirror(_) => {}
         LayoutLine::Ball(_) => {}
         LayoutLine::Waste(_) => {}
@@ -109,6 +119,7 @@ impl<'a> Reading<'a> {
         ensures parts { IfOk result (λ reading. parts_of reading.layout ≡ []) }
     {
         let (known_ins, known_outs) = allowed_port_names(alloc, seed, ports)?;
+        let known_hints = port_name_hints(alloc, ports);
         let seen_ins = IndexSet::with_hasher(alloc, seed);
         let seen_outs = IndexSet::with_hasher(alloc, seed);
         let smallest = LayoutHeader {
@@ -122,8 +133,10 @@ impl<'a> Reading<'a> {
             ports,
             known_ins,
             known_outs,
+            known_hints,
             seen_ins,
             seen_outs,
+            seen_hints: NameHints::new(alloc),
             draft,
         })
     }
@@ -136,8 +149,10 @@ impl<'a> Reading<'a> {
             ports: _,
             known_ins: _,
             known_outs: _,
+            known_hints: _,
             seen_ins: _,
             seen_outs: _,
+            seen_hints: _,
             draft,
         } = self;
         draft.into_layout()
@@ -151,13 +166,13 @@ impl<'a> Reading<'a> {
         let any = allows_any_name(self.ports);
         match part {
             LayoutLine::In(port) => {
-                if any || has_name_near(&self.known_ins, self.seen_ins.len(), &port.name) {
+                if any || has_name(&self.known_ins, &self.known_hints, &port.name) {
                     return None;
                 }
                 Some(RefusalCode::UnknownName)
             }
             LayoutLine::Out(port) => {
-                if any || has_name_near(&self.known_outs, self.seen_outs.len(), &port.name) {
+                if any || has_name(&self.known_outs, &self.known_hints, &port.name) {
                     return None;
                 }
                 Some(RefusalCode::UnknownName)
@@ -204,6 +219,16 @@ fn allowed_port_names(
     }
 }
 
+// Hints for the names that ports may have. A name of an input and an output has the place of the output.
+fn port_name_hints(alloc: Global, ports: &PortNames) -> NameHints {
+    let mut hints = NameHints::new(alloc);
+    if let PortNames::Only { ins, outs } = ports {
+        hints.note_all(ins.as_slice(), 0);
+        hints.note_all(outs.as_slice(), 0);
+    }
+    hints
+}
+
 impl<'a> Section for Reading<'a> {
     type Header = LayoutHeader;
 
@@ -242,7 +267,12 @@ impl<'a> Section for Reading<'a> {
             return Err(LineFault::Memory);
         }
         self.draft.add(part)?;
-        note_port_name_seen(&mut self.seen_ins, &mut self.seen_outs, &part);
+        note_port_name_seen(
+            &mut self.seen_ins,
+            &mut self.seen_outs,
+            &mut self.seen_hints,
+            &part,
+        );
         Ok(())
     }
 
@@ -250,8 +280,8 @@ impl<'a> Section for Reading<'a> {
         match self.ports {
             PortNames::Any => None,
             PortNames::Only { ins, outs } => {
-                let has_ins = has_all(&self.seen_ins, ins);
-                let has_outs = has_all(&self.seen_outs, outs);
+                let has_ins = has_all(&self.seen_ins, &self.seen_hints, ins);
+                let has_outs = has_all(&self.seen_outs, &self.seen_hints, outs);
                 if has_ins & has_outs {
                     None
                 } else {

@@ -4,6 +4,7 @@
 mod code;
 mod fault;
 mod feed;
+mod hints;
 mod keyword;
 pub mod laws;
 mod name;
@@ -19,6 +20,7 @@ mod words;
 pub use code::RefusalCode;
 pub use fault::{PushFault, ReadFault, Refusal};
 pub use feed::{Feed, Line, MAX_TEXT_BYTES};
+pub use hints::NameHints;
 pub use keyword::is_keyword;
 pub use name::Name;
 pub use names::Names;

@@ -2,5 +2,5 @@
 use Rattle.pattern.proofs.Imports.{has, list_all, take, true, ◌≡◌}
 use Rattle.pattern.proofs.reading.has_all.Given as goal
 
-abbrev pub invariant-loop-index : goal.invariant-loop-index
-invariant-loop-index l = list_all (λ n. has l.set.keys n) (take l.index l.names) ≡ true
+abbrev pub invariant-loop-name : goal.invariant-loop-name
+invariant-loop-name l = list_all (λ n. has l.set.keys n) (take l.name-index l.names) ≡ true

@@ -27,7 +27,6 @@ invariant_of-self-in_err-push_in_last c =
     let own = named_line g good.module_lines c.args.entry c.wire_in-wire.result good.words
     c.wire_in-wire.ensures.wire in
     rw (
-      c.wire_in-wire.ensures.same_setting,
       c.make_room_for_stars.ensures.edges,
       c.make_room_for_stars.ensures.halos,
       c.make_room_for_wires.ensures.wires,
@@ -47,7 +46,6 @@ invariant_of-self-2 c =
       c.key_of-self-inside.ensures,
       c.push_line_wires.ensures,
       c.make_room_for_wires.ensures.wires,
-      c.wire_in-wire.ensures.same_setting,
     )
     (kept_body g ms c.push_in_last.new.modules.items _ _ _ _ _ _ c.self.invariant
     (c.push_in_last.ensures.wires g.circuit own c.self.invariant.wires) c.args.entry good

@@ -28,7 +28,7 @@ invariant_of-self-in_err-push_in_last c =
     (grind (arith, common_steps)) in
     let own = named_line g good.module_lines c.args.entry.now c.wire_in-wire.result good.words
     c.wire_in-wire.ensures.wire in
-    rw (c.wire_in-wire.ensures.same_setting, c.make_room_for_stars.ensures.edges, c.make_room_for_stars.ensures.halos)
+    rw (c.make_room_for_stars.ensures.edges, c.make_room_for_stars.ensures.halos)
     (kept_left g c.self.inside.modules.items c.push_in_last.new.modules.items _ _ _ _ _ _ c.self.invariant
     (c.push_in_last.ensures.wires g.circuit own c.self.invariant.wires)
     (c.in_err-push_in_last.ensures.lines_on_error g.circuit))
@@ -40,7 +40,7 @@ invariant_of-self-2 c =
     let good = good_line g (lines_of_modules g.circuit ms) c.args.entry.now (grind (arith, common_steps)) in
     let own = named_line g good.module_lines c.args.entry.now c.wire_in-wire.result good.words
     c.wire_in-wire.ensures.wire in
-    rw (c.wire_in-wire.ensures.same_setting, c.key_of-self-inside.ensures)
+    rw (c.key_of-self-inside.ensures)
     (kept_border g ms c.push_in_last.new.modules.items _ _ _ _ _ _ c.self.invariant
     (c.push_in_last.ensures.wires g.circuit own c.self.invariant.wires) c.args.entry.now good
     (c.in_ok-push_in_last.ensures.lines g.circuit own
