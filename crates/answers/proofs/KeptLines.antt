@@ -84,12 +84,12 @@ header_said = refl
 pub header_line : with_line_feed (codes "certificate 2") ≡ form_text (Header 2)
 header_line = form_line (codes "certificate 2") (Header 2) header_said
 
-without_halo : (i : CertificateLine) (items : List CertificateLine) → is_halo i ≡ true →
+pub without_halo : (i : CertificateLine) (items : List CertificateLine) → is_halo i ≡ true →
     without_halos (i ∷ items) ≡ without_halos items
 unfolding without_halos
 without_halo i items e = ap (λ b. if not b then i ∷ without_halos items else without_halos items) e
 
-with_other : (i : CertificateLine) (items : List CertificateLine) → is_halo i ≡ false →
+pub with_other : (i : CertificateLine) (items : List CertificateLine) → is_halo i ≡ false →
     without_halos (i ∷ items) ≡ i ∷ without_halos items
 unfolding without_halos
 with_other i items e = ap (λ b. if not b then i ∷ without_halos items else without_halos items) e

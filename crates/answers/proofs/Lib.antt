@@ -1,6 +1,6 @@
 mod AskedLemmas
 mod InNames
-mod KeptLines
+pub mod KeptLines
 pub mod ModuleText
 pub mod Bundles
 pub mod SectionLines

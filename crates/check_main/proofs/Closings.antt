@@ -1,8 +1,7 @@
 -- The book of an audit.
 use Rattle.check_main.proofs.Imports.{AreJobsOfCertificate, CertView, List, [], ap, arith, certificate_text, false}
-use Rattle.check_main.proofs.Imports.{length, length-append, map, refl, subst, suc, sym, zero, ℕ, ◌++◌, ◌+◌, ◌∙◌, ◌∷◌}
+use Rattle.check_main.proofs.Imports.{length, length-append, map, refl, subst, sym, ℕ, ◌++◌, ◌+◌, ◌∙◌, ◌∷◌}
 use Rattle.check_main.proofs.Imports.{◌≡◌, ◌≤◌}
-use Rattle.lemmas.proofs.Common.{replicate}
 use Rattle.sha2.specs.Sha256.{sha256}
 use Rattle.core_book.specs.Book.{BookView, IsReplayed, accepted_in, after_closing, new_book}
 use Rattle.core_book.specs.Replay.{Replayed, accepted_after, after_entry, empty_replayed, has_closing, replay}
@@ -13,8 +12,6 @@ use Rattle.core_book.proofs.Replays.{closed-by_its_history}
 use Rattle.core_book.specs.declared.log_entry.LogEntry.{LogEntry}
 use Rattle.core_book.specs.declared.log_entry.LogEntry.TheVariants.{Filed, Closing}
 use Rattle.module_job.specs.Jobs.{JobView}
-use Rattle.verdict_book.specs.Counts.{no_counts}
-use Rattle.job_pool.specs.Work.{sum_of_filed}
 use Rattle.check_main.specs.Audits.{IsAuditOf, IsClosedOnce, IsFilledAndClosed, filings_in}
 use Rattle.core_book.specs.declared.reply.Reply.TheVariants as reply
 

@@ -1,11 +1,11 @@
 -- The bytes that a reader of the section took are the text of the certificate that it gave.
-use Rattle.check_main.proofs.Imports.{CertView, FeedView, List, None, Ok, Option, Result, Some, [], ap, arith}
+use Rattle.check_main.proofs.Imports.{CertView, FeedView, List, None, Ok, Option, Result, Some, [], ap}
 use Rattle.check_main.proofs.Imports.{certificate_text}
-use Rattle.check_main.proofs.Imports.{drop, length, length-append, refl, sym, take, ℕ, ◌++◌, ◌+◌, ◌∙◌, ◌≡◌, ◌≤◌}
-use Rattle.lemmas.proofs.Common.{append-nil, flat_map, drop-append_seam, flat_map-append, take-add, take-append-drop}
+use Rattle.check_main.proofs.Imports.{drop, sym, take, ℕ, ◌++◌, ◌∙◌, ◌≡◌}
+use Rattle.lemmas.proofs.Common.{append-nil, flat_map, take-append-drop}
 use Rattle.std.specs.Option.{IfSome}
 use Rattle.section_text.specs.Feeds.{ahead}
-use Rattle.section_text.specs.Section.{Reads, ReadsSection, with_line_feed}
+use Rattle.section_text.specs.Section.{Reads, with_line_feed}
 use Rattle.section_text.specs.Words.{bytes_after_last_line_feed, lines_of}
 use Rattle.section_text.proofs.Lines.{whole_text}
 use Rattle.section_text.specs.declared.fault.ReadFault.{ReadFault}

@@ -20,6 +20,7 @@ use Rattle.section_text.proofs.Joined.{at_the_end}
 use Rattle.section_text.proofs.Lines.{whole_text}
 use Rattle.section_text.proofs.MadeSections.{clean_left, clean_right, forms, items_said}
 use Rattle.certificate_lines.specs.Versions.{is_halo}
+use Rattle.answers.proofs.KeptLines.{with_other, without_halo}
 use Rattle.headline.specs.Migration.{MigrationKeepsVersionTwo, MigrationIsIdempotent, MigrationSaysTheSame}
 use Rattle.headline.proofs.YesIsRight.{bundle_good, in_sections, past_circuit, past_layout}
 use Rattle.circuit.specs.Forms.{form_of as circuit_form}
@@ -210,16 +211,6 @@ record Kept (items : List CertificateLine) : Type 0 where
   pub lines : List (List ℕ)
   pub said : forms certificate_form lines ≡ items_said certificate_form (without_halos items)
   pub clean : AreLines lines
-
-without_halo : (i : CertificateLine) (items : List CertificateLine) → is_halo i ≡ true →
-    without_halos (i ∷ items) ≡ without_halos items
-unfolding without_halos
-without_halo i items e = ap (λ b. if not b then i ∷ without_halos items else without_halos items) e
-
-with_other : (i : CertificateLine) (items : List CertificateLine) → is_halo i ≡ false →
-    without_halos (i ∷ items) ≡ i ∷ without_halos items
-unfolding without_halos
-with_other i items e = ap (λ b. if not b then i ∷ without_halos items else without_halos items) e
 
 keep : (i : CertificateLine) (items : List CertificateLine) (line : List ℕ) (b : Bool) → is_halo i ≡ b →
     certificate_form (words_of line) ≡ Some (Item i) → AreLines (line ∷ []) → Kept items → Kept (i ∷ items)

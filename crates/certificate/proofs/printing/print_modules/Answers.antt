@@ -1,4 +1,6 @@
-use Rattle.certificate.proofs.Imports.{All, HasOwnWire, HasOwnWires, circuit_of, subst, sym}
+use Rattle.certificate.proofs.Imports.{All, HasOwnWire, HasOwnWires, arith, circuit_of}
+use Rattle.certificate.proofs.Imports.{common_steps, subst, sym}
+use Rattle.certificate.proofs.PrintedLines.{module_more}
 use Rattle.certificate.proofs.StoredSignals.{all_at}
 use Rattle.certificate.proofs.printing.print_modules.Goals as goal
 
@@ -12,3 +14,6 @@ print_module_lines-requires-clause-halo_wires c =
     subst (All (HasOwnWire (circuit_of c.args.circuit.now))) (sym c.deref.ensures.value)
     (all_at (HasOwnWires (circuit_of c.args.circuit.now)) c.args.modules.now c.requires c.loop-module.module-index
     c.module-item.result c.loop-module-test.true c.module-item.is).halos
+
+pub loop-module-preserved : goal.loop-module-preserved
+loop-module-preserved c = grind (arith, common_steps, module_more)

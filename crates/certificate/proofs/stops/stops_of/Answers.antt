@@ -1,0 +1,5 @@
+use Rattle.certificate.proofs.Imports.{arith, common_steps}
+use Rattle.certificate.proofs.stops.stops_of.Goals as goal
+
+pub loop-stop-preserved : goal.loop-stop-preserved
+loop-stop-preserved c = grind (arith, common_steps)
