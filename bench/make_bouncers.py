@@ -5,6 +5,7 @@ same bundle each time.
 Balls run to and fro on diagonals that are APART columns apart (24 by default), each between two mirrors of its own, over the borders of
 modules. Each ball is an input that ends as an output of the same name. So the layout is mostly empty, and most of the text is border lines.
 """
+import argparse
 import random
 import sys
 from collections import defaultdict
@@ -114,4 +115,13 @@ def bundle(rng, side, steps, apart):
     return "".join(line + "\n" for line in [*lines, "end"])
 
 
-sys.stdout.write(bundle(random.Random(1984), int(sys.argv[1]), int(sys.argv[2]), int(sys.argv[3]) if sys.argv[3:] else 24))
+def main():
+    reader = argparse.ArgumentParser(usage=__doc__)
+    reader.add_argument("side", type=int)
+    reader.add_argument("steps", type=int)
+    reader.add_argument("apart", type=int, nargs="?", default=24)
+    given = reader.parse_args()
+    sys.stdout.write(bundle(random.Random(1984), given.side, given.steps, given.apart))
+
+
+main()

@@ -5,6 +5,7 @@ cells, which have no fault: each another one, or all of one shape. It is the sam
 Mirrors wall each module off. Inside the walls there are some more mirrors, an input cell for each cut and BALLS constant balls (none by
 default), which run for all steps. Every cell inside that is no mirror is waste, so whatever is live there at the end is no fault.
 """
+import argparse
 import random
 import sys
 
@@ -56,5 +57,12 @@ def bundle(rng, side, cuts, steps, across=1, balls=0, are_equal=False):
     return "".join(line + "\n" for line in lines)
 
 
-numbers = [int(word) for word in sys.argv[1:] if word != "equal"]
-sys.stdout.write(bundle(random.Random(1982), *numbers, are_equal="equal" in sys.argv))
+def main(words):
+    reader = argparse.ArgumentParser(usage=__doc__)
+    for name, default in (("side", None), ("cuts", None), ("steps", None), ("across", 1), ("balls", 0)):
+        reader.add_argument(name, type=int, nargs=None if default is None else "?", default=default)
+    given = reader.parse_args([word for word in words if word != "equal"])
+    sys.stdout.write(bundle(random.Random(1982), given.side, given.cuts, given.steps, given.across, given.balls, "equal" in words))
+
+
+main(sys.argv[1:])

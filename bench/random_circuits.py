@@ -5,6 +5,7 @@ KIND is one of the names of KINDS below, or `ripple` (a ripple adder of GATES bi
 `wide` (layers of switches: GATES of them on INPUTS inputs). Inverse gates get inputs at which they always have a row.
 """
 
+import argparse
 import random
 import sys
 from pathlib import Path
@@ -170,11 +171,15 @@ def made_circuit(kind, gates, inputs, seed):
     return special[kind]() if kind in special else random_circuit(KINDS[kind], gates, inputs, seed)
 
 
-def main(words):
+def main():
     """Writes the circuit that the words ask for."""
-    kind, gates, inputs, seed = words[0], int(words[1]), int(words[2]), int(words[3])
-    sys.stdout.write(made_circuit(kind, gates, inputs, seed))
+    reader = argparse.ArgumentParser(usage=__doc__)
+    reader.add_argument("kind", choices=[*KINDS, "ripple", "multiply", "wide"])
+    for name in ("gates", "inputs", "seed"):
+        reader.add_argument(name, type=int)
+    given = reader.parse_args()
+    sys.stdout.write(made_circuit(given.kind, given.gates, given.inputs, given.seed))
 
 
 if __name__ == "__main__":
-    main(sys.argv[1:])
+    main()

@@ -494,7 +494,7 @@ def answer_late(studio: Studio) -> None:
     studio.press(7, 7)
     time.sleep(0.35)
     studio.click("#undo")
-    assert studio.text("badge") == "yes"
+    studio.wait(lambda: studio.text("badge") == "yes", "the verdict that was known")
     time.sleep(0.8)
     assert studio.text("badge") == "yes", studio.text("badge")
     (studio.folder / "late_2.txt").write_text(example("head_on"))

@@ -4,6 +4,7 @@
 Writes cases of `check`, in the form that crates/case_text/src/lib.rt describes: COUNT bundles of mostly_right_bundle.py, then DENSE ones with many
 balls and SECOND ones in version 2, each with the report of reference_reports.py. The repository's file is made with `100 25 25 1`.
 """
+import argparse
 import random
 import sys
 from pathlib import Path
@@ -25,7 +26,11 @@ def lines_of(keyword, text):
 
 
 def main():
-    count, dense, second, seed = map(int, sys.argv[1:])
+    reader = argparse.ArgumentParser(usage=__doc__)
+    for name in ("count", "dense", "second", "seed"):
+        reader.add_argument(name, type=int)
+    given = reader.parse_args()
+    count, dense, second, seed = given.count, given.dense, given.second, given.seed
     rng, reports = random.Random(seed), []
     print(HEAD, end="")
     for number in range(count + dense + second):

@@ -209,7 +209,10 @@ def main():
     parser.add_argument("program")
     parser.add_argument("--check", action="store_true")
     given = parser.parse_args()
-    top = help_in(said(given.program, "--help"))
+    try:
+        top = help_in(said(given.program, "--help"))
+    except (OSError, subprocess.CalledProcessError) as error:
+        sys.exit(f"make_man.py: {given.program} gives no help: {error}")
     # `help` is the library's own command, and has no page.
     pages = {name: help_in(said(given.program, name, "--help")) for name, _ in top.commands if name != "help"}
     made = {MAN: man_page(said(given.program, "--version"), top, pages), BASH: bash_completions(top, pages), ZSH: zsh_completions(top, pages),
