@@ -286,7 +286,8 @@ fn search_event_place(events: &[TimedSignal], walk: &mut EventWalk, at: Moment) 
 }
 
 /// Returns the place of the event at a moment, or `None` if the search along the walk meets none.
-// Most often it is the next event or the one behind it, since modules on two sides of a third take turns.
+// Most often it is the next event or the one behind it, since modules on two sides of a third take turns. Else it is
+// probably as far away as the last one that was searched for.
 #[inline(always)]
 pub(crate) fn find_event_place(
     events: &[TimedSignal],
@@ -302,6 +303,10 @@ pub(crate) fn find_event_place(
     let second = walk.next.saturating_add(1);
     if is_event_at(events, second, at) {
         return Some(second);
+    }
+    let probable = walk.next.saturating_add(walk.passed);
+    if is_event_at(events, probable, at) {
+        return Some(probable);
     }
     search_event_place(events, walk, at)
 }

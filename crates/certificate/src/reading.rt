@@ -61,6 +61,7 @@ impl<'a, S: ReadFor> Section for Reading<'a, S> {
 
     ghost items = { λ r. r.builder.entries };
 
+    #[inline(always)]
     fn form(&self, feed: &Feed, line: &Line) -> Option<Form<u32, CertificateLine>> {
         line_form(feed, line)
     }

@@ -241,6 +241,7 @@ fn stop_or_other_line_form(feed: &Feed, line: &Line) -> Option<Form<u32, Certifi
 ///
 /// Most lines of a certificate are edge, halo and stop lines. So these are formed here, and the others in functions of
 /// their own, since each call that returns a form copies its 64 bytes.
+#[inline(always)]
 pub fn line_form(feed: &Feed, line: &Line) -> Option<Form<u32, CertificateLine>>
     requires { IsLine feed.now line.now }
     ensures { result ≡ form_of (words_of (line_bytes feed.now line.now)) }
