@@ -5,6 +5,7 @@ The pages are of full_adder.txt, wrong_edge.txt and of a layout with 48 outputs 
 python3-selenium. Each test opens its page anew. BBMLAB_ONLY names one test.
 """
 import os
+import re
 import sys
 import time
 import unittest
@@ -12,15 +13,17 @@ import xml.etree.ElementTree as ET
 from pathlib import Path
 from typing import Any, Callable
 
+from browse_page import await_frames, is_of_size, is_still, open_browser
 from selenium import webdriver
-from selenium.webdriver.chrome.service import Service
 from selenium.webdriver.common.by import By
 from selenium.webdriver.common.keys import Keys
 
 FOLDER = Path(sys.argv.pop(1)).resolve()
 WIDE, PHONE = (1280, 800), (390, 844)
+# The picture as a file.
+INK = "return document.getElementById('whole').toDataURL()"
 # Counts what changes in live regions, which screen readers speak.
-WATCH = """window.spoken = []; for (const part of document.querySelectorAll('[role=status],[role=alert],[aria-live],output'))
+LISTEN = """window.spoken = []; for (const part of document.querySelectorAll('[role=status],[role=alert],[aria-live],output'))
   new MutationObserver(() => window.spoken.push(part.textContent)).observe(part, {childList: true, characterData: true, subtree: true});"""
 
 
@@ -31,11 +34,7 @@ class Page(unittest.TestCase):
 
     @classmethod
     def setUpClass(cls) -> None:
-        options = webdriver.ChromeOptions()
-        for word in ("--headless", "--no-sandbox", "--hide-scrollbars", "--touch-events=enabled"):
-            options.add_argument(word)
-        options.set_capability("goog:loggingPrefs", {"browser": "ALL"})
-        cls.browser = webdriver.Chrome(service=Service("/usr/bin/chromedriver"), options=options)
+        cls.browser = open_browser("--touch-events=enabled")
         cls.browser.execute_cdp_cmd("Browser.setDownloadBehavior", {"behavior": "allow", "downloadPath": str(FOLDER)})
 
     @classmethod
@@ -49,9 +48,11 @@ class Page(unittest.TestCase):
         self.browser.execute_cdp_cmd("Emulation.setDeviceMetricsOverride", {"width": width, "height": height, "deviceScaleFactor": 1,
                                                                             "mobile": size == PHONE})
         self.browser.execute_cdp_cmd("Emulation.setTouchEmulationEnabled", {"enabled": size == PHONE, "maxTouchPoints": 2})
-        self.browser.get((FOLDER / f"{name}.html").as_uri() + hash_text)
         self.browser.get_log("browser")
-        time.sleep(0.2)
+        self.browser.get((FOLDER / f"{name}.html").as_uri() + hash_text)
+        self.wait(lambda: is_of_size(self.browser, *size), f"the page has the size {size}")
+        # The picture has its place in the layout and its scale.
+        await_frames(self.browser)
 
     def tearDown(self) -> None:
         """The console has no error, whatever was done."""
@@ -77,12 +78,16 @@ class Page(unittest.TestCase):
         """Returns the part of the address behind "#"."""
         return self.run_script("return location.hash")
 
-    def wait(self, test: Callable[[], Any], what: str, seconds: float = 30) -> None:
+    def wait(self, test: Callable[[], Any], what: str, seconds: float = 60) -> None:
         """Waits until something holds."""
         until = time.monotonic() + seconds
         while not test():
             self.assertLess(time.monotonic(), until, what)
             time.sleep(0.05)
+
+    def rest(self) -> None:
+        """Waits until nothing on the page can change by itself: it is drawn, has spoken, and its address says what it shows."""
+        self.wait(lambda: is_still(self.browser), "the page comes to rest")
 
     def point(self, x: float, y: float, kind: str = "mouseMoved", selector: str = "#whole") -> None:
         """Moves the mouse to a place of an element, in pixels from its corner."""
@@ -116,35 +121,36 @@ class Picture(Page):
     def test_trails(self) -> None:
         """Trails are drawn, and a key switches them off and on, which the address keeps."""
         self.open("adder", "#t=6")
-        ink = "const c = document.getElementById('whole'); return c.toDataURL().length"
         self.wait(lambda: self.text("time") == "6 of 8", "the time of the address")
-        time.sleep(0.3)
-        before = self.run_script(ink)
+        self.rest()
+        before = self.run_script(INK)
         self.keys("t")
-        time.sleep(0.5)
-        self.assertNotEqual(self.run_script(ink), before)
+        self.wait(lambda: self.run_script(INK) != before, "the picture is another one without trails")
         self.assertFalse(self.browser.find_element(By.ID, "trails").is_selected())
-        self.wait(lambda: self.hash() == "#t=6&trails=0", self.hash())
+        self.wait(lambda: self.hash() == "#t=6&trails=0", "the address says that there are no trails")
         self.click("#trails")
-        time.sleep(0.5)
-        self.assertEqual(self.run_script(ink), before)
+        self.wait(lambda: self.run_script(INK) == before, "the picture is the first one again")
 
     def test_play_backwards(self) -> None:
         """From the end the key b plays to the start and stops there, and from the start it begins at the end."""
         self.open("adder", "#t=8")
         self.keys("b")
         self.wait(lambda: self.text("time") == "0 of 8" and "reverse" in self.text("reverse"), "it comes to the start")
-        # One step a second, so that a slow machine sees it on its way.
-        self.run_script("const speed = document.getElementById('speed'); speed.value = 0; speed.dispatchEvent(new Event('input'))")
+        # A step in four seconds, so that a slow machine stops it on its way, and a list of the times, so that it misses none.
+        self.run_script("const speed = document.getElementById('speed'); speed.min = speed.value = -2; speed.dispatchEvent(new Event('input'));"
+                        "const time = document.getElementById('time'); window.times = [];"
+                        "new MutationObserver(() => window.times.push(time.textContent)).observe(time, {childList: true})")
         self.click("#reverse")
-        self.wait(lambda: self.text("time").startswith(("7", "6", "5")), "it begins at the end")
+        self.wait(lambda: self.run_script("return window.times.length") >= 2, "it plays")
+        self.assertEqual(self.run_script("return window.times.slice(0, 2)"), ["8 of 8", "7 of 8"], "it begins at the end")
         self.keys(" ")
         self.wait(lambda: "reverse" in self.text("reverse"), "space stops")
+        self.assertNotEqual(self.text("time"), "0 of 8", "it stopped at the start, and not by the key")
 
     def test_waveform(self) -> None:
         """The waveform is drawn under the picture, and a click on it goes to that time."""
         self.open("adder", "#on=a")
-        time.sleep(0.3)
+        self.rest()
         box = self.run_script("const b = document.getElementById('wave').getBoundingClientRect(); return [b.width, b.height, b.top]")
         self.assertGreater(box[2], self.run_script("return document.getElementById('whole').getBoundingClientRect().bottom"))
         line = "return parseFloat(document.getElementById('wave-cursor').style.left)"
@@ -157,11 +163,12 @@ class Picture(Page):
     def test_files(self) -> None:
         """PNG and SVG have what is seen: the size of the picture, and its texts."""
         self.open("adder", "#t=8")
-        time.sleep(0.3)
-        for kind in ("png", "svg"):
+        self.rest()
+        for kind, end in (("png", b"IEND\xaeB`\x82"), ("svg", b"</svg>")):
+            file = FOLDER / f"adder_8.{kind}"
+            file.unlink(missing_ok=True)
             self.click(f"#{kind}")
-            self.wait(lambda: (FOLDER / f"adder_8.{kind}").exists(), f"the {kind} file comes")
-        time.sleep(0.3)
+            self.wait(lambda: file.exists() and file.read_bytes().rstrip().endswith(end), f"the whole {kind} file comes")
         width, height = self.run_script("const c = document.getElementById('whole'); return [c.clientWidth, c.clientHeight]")
         png, svg = (FOLDER / "adder_8.png").read_bytes(), ET.parse(FOLDER / "adder_8.svg").getroot()
         self.assertEqual((png[:8], int.from_bytes(png[16:20]), int.from_bytes(png[20:24])), (b"\x89PNG\r\n\x1a\n", width, height))
@@ -227,12 +234,12 @@ class Report(Page):
     def test_speaks_when_it_stops(self) -> None:
         """While it plays no live region changes; when it has stopped one says the time and the outputs, once."""
         self.open("adder")
-        time.sleep(1)
-        self.run_script(WATCH)
+        self.rest()
+        self.run_script(LISTEN)
         self.keys(" ")
         # What it spoke while it played would be in the list too.
         self.wait(lambda: self.run_script("return window.spoken.length"), "it speaks")
-        time.sleep(0.8)
+        self.rest()
         self.assertEqual(self.run_script("return window.spoken"), ["Time 8 of 8. The last time. All 2 outputs are as the circuit says."])
 
 
@@ -247,14 +254,16 @@ class State(Page):
         self.keys("+", "+", Keys.ARROW_RIGHT)
         look = ("return [document.getElementById('time').textContent, [...document.querySelectorAll('#inputs input')].map((box) => box.checked),"
                 "document.getElementById('beside-title').textContent, document.getElementById('cell').textContent]")
-        self.wait(lambda: "z=" in self.hash() and "fault=1" in self.hash() and "on=" in self.hash(), "the address has the state")
+        self.rest()
+        kept = self.hash()
+        self.assertTrue("z=" in kept and "fault=1" in kept and "on=" in kept, kept)
         self.point(200, 100)
-        time.sleep(0.5)
-        before, kept = self.run_script(look), self.hash()
-        self.assertRegex(before[-1], r"\(\d+, \d+\)")
+        self.wait(lambda: re.search(r"\(\d+, \d+\)", self.text("cell")), "the cell under the pointer is shown")
+        before = self.run_script(look)
         self.open("faults", kept)
         self.point(201, 101)
-        time.sleep(0.5)
+        self.wait(lambda: self.run_script(look) == before, f"all is shown as before: {before}")
+        self.rest()
         self.assertEqual(self.run_script(look), before)
         self.assertEqual(self.hash(), kept)
 
@@ -295,7 +304,8 @@ class Phone(Page):
         x, y = self.run_script("const box = document.getElementById('whole').getBoundingClientRect();"
                                "return [box.left + box.width / 2, box.top + box.height / 2]")
         self.drag([[(x - 20 - apart, y), (x + 20 + apart, y)] for apart in range(0, 61, 5)])
-        self.wait(lambda: "z=" in self.hash(), "the zoom is in the address")
+        self.rest()
+        self.assertIn("z=", self.hash())
         self.assertGreater(float(self.hash().split("z=")[1].split(",")[0]), 15)
         self.assertEqual(self.run_script("return scrollY"), 0)
 
@@ -305,19 +315,23 @@ class Phone(Page):
         x, y = self.run_script("const box = document.getElementById('whole').getBoundingClientRect();"
                                "return [box.left + box.width / 2, box.top + box.height / 2]")
         self.drag([[(x - 30, y - up), (x + 30, y - up)] for up in range(0, 101, 10)])
-        self.wait(lambda: self.hash() != "#z=10,20,17", "the place is in the address")
+        self.rest()
+        self.assertNotEqual(self.hash(), "#z=10,20,17")
         scale, _, row = map(float, self.hash().split("z=")[1].split(","))
         self.assertAlmostEqual(scale, 10, delta=1)
         self.assertAlmostEqual(row, 27, delta=2)
         self.assertEqual(self.run_script("return scrollY"), 0)
 
     def drag(self, places: list[list[tuple[float, float]]]) -> None:
-        """Puts fingers at the first places, moves them over the others, and lifts them."""
+        """Puts fingers at the first places, moves them over the others, and lifts them. Waits until the page knows that they are lifted."""
+        lifts = self.run_script("return watched.lifts")
         for number, fingers in enumerate(places):
             points = [{"x": x, "y": y, "id": at} for at, (x, y) in enumerate(fingers)]
             self.browser.execute_cdp_cmd("Input.dispatchTouchEvent", {"type": "touchMove" if number else "touchStart", "touchPoints": points})
-            time.sleep(0.01)
+            # The page hears of places between two frames only by the last one of them.
+            await_frames(self.browser)
         self.browser.execute_cdp_cmd("Input.dispatchTouchEvent", {"type": "touchEnd", "touchPoints": []})
+        self.wait(lambda: self.run_script("return watched.lifts") >= lifts + len(places[0]), "the page has heard of the fingers")
 
     def test_fits(self) -> None:
         """Nothing is wider than the window, and the buttons are large enough for a finger."""

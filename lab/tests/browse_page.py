@@ -1,7 +1,8 @@
 #!/usr/bin/python3
 """browse_page.py PAGE FOLDER: uses a page of wrong_edge.txt in headless Chromium, and writes screenshots of two sizes to FOLDER.
 
-It runs with Debian's python3-selenium. The status is 1 where the page does not do what it should.
+It runs with Debian's python3-selenium. The status is 1 where the page does not do what it should. The other scripts take the browser and
+what waits for a page from here.
 """
 import sys
 import time
@@ -13,14 +14,66 @@ from selenium.webdriver.chrome.service import Service
 from selenium.webdriver.common.by import By
 from selenium.webdriver.common.keys import Keys
 
+# Runs in each page before its own scripts. It lists the timers and frames that the page waits for, and counts the fingers and buttons of the
+# mouse that were lifted. A timer of ten seconds only frees the memory of a saved file.
+WATCH = """
+window.watched = { timers: new Set(), frames: new Set(), lifts: 0 };
+{
+  const { timers, frames } = watched, { setTimeout, clearTimeout, requestAnimationFrame, cancelAnimationFrame } = window;
+  window.setTimeout = (action, delay, ...words) => {
+    const timer = setTimeout(() => { timers.delete(timer); action(...words); }, delay);
+    if (!(delay >= 10000)) timers.add(timer);
+    return timer;
+  };
+  window.clearTimeout = (timer) => { timers.delete(timer); clearTimeout(timer); };
+  window.requestAnimationFrame = (action) => {
+    const frame = requestAnimationFrame((now) => { frames.delete(frame); action(now); });
+    frames.add(frame);
+    return frame;
+  };
+  window.cancelAnimationFrame = (frame) => { frames.delete(frame); cancelAnimationFrame(frame); };
+  // The handlers of the page's elements come before the window's.
+  for (const kind of ["pointerup", "pointercancel"]) addEventListener(kind, () => { watched.lifts += 1; });
+}
+"""
+# A script may run as long as a page of a large layout is busy on a slow machine, in seconds.
+SCRIPT_SECONDS = 240
 
-def open_browser() -> webdriver.Chrome:
-    """Returns a headless browser."""
+
+def open_browser(*words: str, **capabilities: str) -> webdriver.Chrome:
+    """Returns a headless browser that watches its pages, as `WATCH` does. The words are options of Chromium."""
     options = webdriver.ChromeOptions()
-    for word in ("--headless", "--no-sandbox", "--window-size=1300,850"):
+    for word in ("--headless", "--no-sandbox", "--hide-scrollbars", *words):
         options.add_argument(word)
     options.set_capability("goog:loggingPrefs", {"browser": "ALL"})
-    return webdriver.Chrome(service=Service("/usr/bin/chromedriver"), options=options)
+    for name, value in capabilities.items():
+        options.set_capability(name, value)
+    browser = webdriver.Chrome(service=Service("/usr/bin/chromedriver"), options=options)
+    browser.set_script_timeout(SCRIPT_SECONDS)
+    watch(browser)
+    return browser
+
+
+def watch(browser: webdriver.Chrome) -> None:
+    """Watches the pages that a tab opens from now on."""
+    browser.execute_cdp_cmd("Page.addScriptToEvaluateOnNewDocument", {"source": WATCH})
+
+
+def await_frames(browser: webdriver.Chrome) -> None:
+    """Waits for two frames of the page. The first one lays the page out and tells it of parts whose size changed."""
+    browser.execute_async_script("const done = arguments[0]; requestAnimationFrame(() => requestAnimationFrame(() => done()));")
+
+
+def is_still(browser: webdriver.Chrome) -> bool:
+    """Waits for two frames, and returns whether the page waits for no timer and no frame: nothing but an event can change it then."""
+    await_frames(browser)
+    return bool(browser.execute_script("return watched.timers.size + watched.frames.size === 0"))
+
+
+def is_of_size(browser: webdriver.Chrome, width: int, height: int) -> bool:
+    """Returns whether the page is laid out for a size of the window."""
+    return bool(browser.execute_script("const { clientWidth, clientHeight } = document.documentElement; return clientWidth === arguments[0] && "
+                                       "clientHeight === arguments[1]", width, height))
 
 
 def shown(browser: webdriver.Chrome, name: str) -> str:
@@ -28,7 +81,7 @@ def shown(browser: webdriver.Chrome, name: str) -> str:
     return browser.find_element(By.ID, name).text
 
 
-def wait(test: Callable[[], bool], what: str, seconds: float = 30) -> None:
+def wait(test: Callable[[], bool], what: str, seconds: float = 60) -> None:
     """Waits until something holds."""
     until = time.monotonic() + seconds
     while not test():
@@ -48,15 +101,16 @@ def use(browser: webdriver.Chrome, folder: Path) -> None:
     wait(lambda: shown(browser, "time") == "6 of 6" and "play" in shown(browser, "play"), "it plays to the end")
     browser.find_elements(By.CSS_SELECTOR, "#report button")[1].click()
     assert shown(browser, "time") == "5 of 6" and "Module 1 by itself with a=0 c=1" in shown(browser, "beside-title")
-    browser.save_screenshot(str(folder / "large.png"))
-    browser.set_window_size(420, 900)
-    browser.save_screenshot(str(folder / "small.png"))
+    for name, (width, height) in {"large": (1300, 850), "small": (420, 900)}.items():
+        browser.execute_cdp_cmd("Emulation.setDeviceMetricsOverride", {"width": width, "height": height, "deviceScaleFactor": 1, "mobile": False})
+        wait(lambda: is_of_size(browser, width, height) and is_still(browser), f"the page is drawn at the size {name}")
+        browser.save_screenshot(str(folder / f"{name}.png"))
 
 
 def main() -> int:
     """Uses the page, and returns the exit status."""
     page, folder = Path(sys.argv[1]).resolve(), Path(sys.argv[2])
-    browser = open_browser()
+    browser = open_browser("--window-size=1300,850")
     try:
         browser.get(page.as_uri())
         use(browser, folder)

@@ -19,6 +19,9 @@ TOP = Path(__file__).resolve().parents[2]
 COLLISION = "circuit\ninput p\ninput q\ninteract p q -> a b c d\noutput a\noutput b\noutput c\noutput d\nend"
 EMPTY = "circuit\nend\nlayout 24 16 6\nend\n"
 CROSSED = "circuit\ninput p\noutput p\nend\nlayout 66 66 4\nin p 2 2\nout p 8 6\nend\n"
+# Whether the canvas of the waveform has a size of its own, and is not empty.
+HAS_WAVE = """const wave = document.getElementById("wave"), { width, height } = wave, empty = Object.assign(document.createElement("canvas"), { width, height });
+return wave.clientHeight > 20 && width === wave.clientWidth && wave.toDataURL() !== empty.toDataURL();"""
 # The page does 500 commands by its own buttons, keys and pointers, by a fixed sequence of random numbers.
 COMMANDS = """
 const { desk, tools, sketch } = bbmlab.studio, whole = document.getElementById("whole"), { width, height } = desk.layout;
@@ -65,8 +68,8 @@ def draw_collision(studio: Studio) -> None:
     studio.click("#ends")
     studio.verdict("yes")
     print(f"from nothing to a yes for the collision: {time.monotonic() - start:.1f} s", file=sys.stderr)
-    assert "All 4 rows are as the circuit says." in studio.text("truth"), studio.text("truth")
-    assert "says bbmcheck" in studio.text("who"), studio.text("who")
+    studio.await_text("truth", "All 4 rows are as the circuit says.")
+    studio.await_text("who", "says bbmcheck")
     text = studio.layout_text()
     assert [line for line in text.split("\n") if line.startswith("in ")] == ["in p 4 4", "in p 2 2", "in q 4 11", "in q 2 13"], text
     studio.click("#tool-select")
@@ -84,14 +87,18 @@ def drag_mirror(studio: Studio) -> None:
     first = studio.layout_text()
     mirror = studio.script("return bbmlab.studio.desk.model.parts.find(({ kind }) => kind === 'mirror').box")
     studio.click("#tool-select")
+    studio.script("const badge = document.getElementById('badge'); window.badges = [];"
+                  "new MutationObserver(() => window.badges.push(badge.className)).observe(badge, { attributes: true })")
     studio.drag((mirror[0], mirror[1]), (mirror[0] + 4, mirror[1] + 2))
-    assert studio.script("return document.getElementById('badge').className") == "old", "an outdated verdict is grey"
     assert studio.layout_text() != first, "the mirror is moved"
     taken = studio.verdict("no")
-    assert "rows differ" in studio.text("truth"), studio.text("truth")
-    cell = studio.browser.find_element(By.CSS_SELECTOR, "#truth td.bad")
-    assert "wanted" in cell.text and cell.value_of_css_property("color") == "rgba(179, 0, 12, 1)", cell.value_of_css_property("color")
-    assert studio.script("return bbmlab.studio.sketch.faults.length") > 0, "faults are drawn"
+    badges = studio.script("return window.badges")
+    assert badges[0] == "old" and badges[-1] == "no", f"an outdated verdict is grey: {badges}"
+    studio.await_text("truth", "rows differ")
+    # The table is another one whenever the worker has made it again.
+    text, colour = studio.script("const cell = document.querySelector('#truth td.bad'); return [cell.textContent, getComputedStyle(cell).color]")
+    assert "wanted" in text and colour == "rgb(179, 0, 12)", (text, colour)
+    studio.wait(lambda: studio.script("return bbmlab.studio.sketch.faults.length") > 0, "faults are drawn")
     studio.shoot("fredkin_no")
     studio.click("#undo")
     taken = max(taken, studio.verdict("yes"))
@@ -122,8 +129,8 @@ def draw_by_keyboard(studio: Studio) -> None:
     studio.tab_to("whole")
     # A frame about everything by Enter at two corners, and then a turn by a quarter.
     studio.press_keys("v", *[Keys.ARROW_LEFT] * 16, *[Keys.ARROW_UP] * 16, Keys.ENTER, *[Keys.ARROW_RIGHT] * 16, *[Keys.ARROW_DOWN] * 16, Keys.ENTER, "r")
+    studio.wait(lambda: "in p 11 4" in studio.layout_text(), "everything is turned")
     studio.verdict("yes")
-    assert "in p 11 4" in studio.layout_text(), studio.layout_text()
     studio.press_keys(Keys.ALT + Keys.ARROW_UP, Keys.ALT + Keys.ARROW_DOWN, Keys.CONTROL + "z", Keys.CONTROL + "z", Keys.CONTROL + "z", Keys.CONTROL + "s")
     studio.wait(lambda: "in p 4 4" in (studio.folder / "keys.txt").read_text(), "Ctrl-S writes the file")
 
@@ -134,11 +141,11 @@ def refuse_circuit(studio: Studio) -> None:
     studio.verdict("yes")
     good = studio.script("return document.getElementById('circuit').value")
     studio.type_circuit(good.replace("spill a", "spill <img src=x onerror=alert(1)>"))
-    studio.wait(lambda: "<img src=x onerror=alert(1)>" in studio.text("refusal"), "the refusal is shown")
-    assert studio.text("refusal").startswith("Line 6: "), studio.text("refusal")
-    assert studio.browser.find_element(By.CSS_SELECTOR, "#gutter .bad").text == "\u2717 6"
-    assert studio.browser.find_elements(By.CSS_SELECTOR, "img") == [], "a text of the page is HTML"
+    # While it is typed other lines are refused.
+    studio.wait(lambda: "<img src=x onerror=alert(1)>" in studio.text("refusal") and studio.text("refusal").startswith("Line 6: "), "the refusal is shown")
+    studio.wait(lambda: studio.script("return document.querySelector('#gutter .bad')?.textContent") == "\u2717 6", "the gutter marks the line")
     studio.verdict("refused")
+    assert studio.browser.find_elements(By.CSS_SELECTOR, "img") == [], "a text of the page is HTML"
     studio.shoot("refused")
     studio.type_circuit(good)
     studio.wait(lambda: studio.text("refusal") == "", "the refusal is gone")
@@ -154,16 +161,17 @@ def place_mirrors(studio: Studio) -> None:
     studio.drag((4, 4), (6, 4))
     found = studio.script("return bbmlab.studio.desk.model.parts.map(({ box }) => box)")
     assert found == [[5, 4, 4, 2]], found
-    canvas = studio.browser.find_element(By.ID, "whole")
-    studio.chain().move_to_element_with_offset(canvas, *studio.place(12, 4)).click_and_hold().move_to_element_with_offset(canvas, *studio.place(13, 5)).perform()
-    assert "would fall apart, since its upper left cell is (12, 4)" in studio.text("status"), studio.text("status")
-    studio.chain().release().perform()
+    studio.hold(12, 4)
+    studio.aim(13, 5)
+    studio.await_text("status", "would fall apart, since its upper left cell is (12, 4)")
+    studio.lift()
     studio.drag((5, 5), (6, 6))
-    assert "is taken by the mirror at (5, 4)" in studio.text("status"), studio.text("status")
+    studio.await_text("status", "is taken by the mirror at (5, 4)")
     studio.click("#tool-select")
-    studio.chain().move_to_element_with_offset(canvas, *studio.place(6, 4)).click_and_hold().move_to_element_with_offset(canvas, *studio.place(7, 10)).perform()
-    assert "would fall apart" in studio.text("status"), studio.text("status")
-    studio.chain().release().perform()
+    studio.hold(6, 4)
+    studio.aim(7, 10)
+    studio.await_text("status", "would fall apart")
+    studio.lift()
     assert all((x + y) % 2 == 1 for x, y, _, _ in studio.script("return bbmlab.studio.desk.model.parts.map(({ box }) => box)"))
     studio.type_circuit("circuit\nend")
     studio.script("const { desk } = bbmlab.studio; desk.model.setText('circuit\\nend\\nlayout 24 16 6\\nmirror 4 4 2 2\\nend\\n')")
@@ -210,8 +218,8 @@ def insert_cell(studio: Studio) -> None:
     studio.begin("cell.txt", "circuit\nend\nlayout 48 48 0\nend\n")
     studio.click("#hint-cell")
     studio.script("const list = document.getElementById('cell-name'); list.value = 'not'; list.dispatchEvent(new Event('change'))")
-    studio.hover(24, 24)
-    assert studio.text("status").startswith("not ") and studio.text("status").endswith("; 37 steps."), studio.text("status")
+    studio.aim(24, 24)
+    studio.wait(lambda: studio.text("status").startswith("not ") and studio.text("status").endswith("; 37 steps."), "the cell and its steps are named")
     ports = studio.script("return bbmlab.studio.sketch.ghost.ports.map(({ name, time }) => [name, time])")
     stops = [line.split(" ") for line in (TOP / "lab" / "cells" / "not.txt").read_text().split("\n") if line.startswith("stop ")]
     assert sorted(ports) == sorted(map(list, {(name, int(at)) for _, at, name, _, _ in stops})), ports
@@ -226,7 +234,8 @@ def draw_not_gate(studio: Studio) -> None:
     studio.begin("ready_not.txt", "circuit\nend\nlayout 48 48 40\nend\n")
     start = time.monotonic()
     studio.click("#hint-cell")
-    studio.press_keys("n", "o", "t", Keys.ENTER)
+    type_cell(studio, "not")
+    studio.press_keys(Keys.ENTER)
     studio.press(24, 24)
     studio.verdict("yes")
     print(f"a NOT gate of a ready cell: {time.monotonic() - start:.1f} s", file=sys.stderr)
@@ -244,7 +253,18 @@ def draw_not_gate(studio: Studio) -> None:
     studio.click("#ends")
     studio.verdict("yes")
     print(f"a NOT gate by hand: {time.monotonic() - start:.1f} s", file=sys.stderr)
-    assert "All 2 rows are as the circuit says." in studio.text("truth"), studio.text("truth")
+    studio.await_text("truth", "All 2 rows are as the circuit says.")
+
+
+def type_cell(studio: Studio, name: str) -> None:
+    """Types the name of a standard cell in the list that has the focus."""
+    for _ in range(20):
+        studio.press_keys(*name)
+        if studio.script("return document.getElementById('cell-name').value") == name:
+            return
+        # The browser takes letters as one word if less than a second lies between them, which a slow machine may not do. A word ends so too.
+        time.sleep(2)
+    raise AssertionError(f"the list does not go to {name}")
 
 
 def take_fix(studio: Studio) -> None:
@@ -252,13 +272,15 @@ def take_fix(studio: Studio) -> None:
     studio.begin("fix.txt", example("not_gate").replace("out b 4 4\nwaste 7 4\n", "out b 7 4\nwaste 4 4\n"))
     studio.verdict("no")
     studio.wait(lambda: studio.browser.find_elements(By.CSS_SELECTOR, "#report .fix"), "a fix is found")
+    # The table is above the report, and moves it when it comes.
+    studio.await_text("truth", "rows differ")
     studio.click("#report .fault")
-    assert studio.text("time") == "3 of 3", studio.text("time")
+    studio.wait(lambda: studio.text("time") == "3 of 3", "the line's time is shown")
     studio.shoot("fix")
     studio.click("#report .fix")
     studio.verdict("yes")
     studio.begin("none.txt", CROSSED.replace("layout 66 66 4", "layout 66 66 80").replace("out p 8 6", "out p 6 6"))
-    studio.verdict("no certificate found")
+    studio.verdict("no certificate found", 120)
 
 
 def see_ways(studio: Studio) -> None:
@@ -278,9 +300,9 @@ def see_ways(studio: Studio) -> None:
     assert studio.script(ways) < every
     studio.script("const list = document.getElementById('ways'); list.value = 'all'; list.dispatchEvent(new Event('change'))")
     studio.script("const field = document.getElementById('slider'); field.value = 20; field.dispatchEvent(new Event('input'))")
-    assert studio.text("time").startswith("20 of "), studio.text("time")
+    studio.wait(lambda: studio.text("time").startswith("20 of "), "the slider's time is shown")
     studio.script("document.getElementById('wave-part').open = true")
-    studio.wait(lambda: studio.script("return document.getElementById('wave').height > 20"), "the waveform is drawn")
+    studio.wait(lambda: studio.script(HAS_WAVE), "the waveform is drawn")
     studio.click(f"#inputs input[value={names[0]}]")
     studio.shoot("ways")
     studio.script("document.getElementById('wave-part').open = false")
@@ -299,12 +321,13 @@ def draw_by_touch(studio: Studio) -> None:
     studio.touch("Start", (13, 9))
     studio.touch("End")
     studio.wait(lambda: "mirror 5 4 4 2" in studio.layout_text() and "ball 13 9" in studio.layout_text(), f"drawn by touch: {studio.layout_text()}")
-    before, text = studio.script("return bbmlab.studio.sketch.scale"), studio.layout_text()
+    before, text, count = studio.script("return bbmlab.studio.sketch.scale"), studio.layout_text(), studio.lift_count()
     studio.touch("Start", (10, 8))
     studio.touch("Start", (10, 8), (14, 8))
     studio.touch("Move", (8, 8), (16, 8))
     studio.touch("Move", (6, 8), (18, 8))
     studio.touch("End")
+    studio.wait(lambda: studio.lift_count() >= count + 2, "the page has heard of both fingers")
     studio.browser.execute_cdp_cmd("Emulation.setTouchEmulationEnabled", {"enabled": False})
     assert studio.script("return bbmlab.studio.sketch.scale") > before, "two fingers zoom"
     assert studio.layout_text() == text, "two fingers draw nothing"
@@ -326,6 +349,8 @@ def use_dialogs(studio: Studio) -> None:
     """Opens a file, begins from a template and from an example, and exports in each form; the exported page works without a network."""
     studio.browser.execute_cdp_cmd("Browser.setDownloadBehavior", {"behavior": "allow", "downloadPath": str(studio.folder)})
     (studio.folder / "other.txt").write_text(example("head_on"))
+    for old in studio.folder.glob("made_*"):
+        old.unlink()
     studio.click("#open")
     choose(studio, "other.txt")
     studio.answer("Open a file of this folder", "open")
@@ -337,14 +362,16 @@ def use_dialogs(studio: Studio) -> None:
         studio.answer("New layout", "make")
         studio.wait(lambda: studio.text("name") == f"made_{number}.txt", "the template is opened")
         studio.verdict("yes")
-    for form, ending, word in (("svg", "svg", "<svg "), ("golly", "rle", "rule = BBM-Margolus-emulated"), ("page", "html", "Content-Security-Policy")):
+    for form, ending, word, last in (("svg", "svg", "<svg ", "</svg>"), ("golly", "rle", "rule = BBM-Margolus-emulated", "!"),
+                                     ("page", "html", "Content-Security-Policy", "</html>")):
         studio.click("#export")
         choose(studio, form)
         studio.answer("Export", "export")
         path = studio.folder / f"made_1.{ending}"
-        studio.wait(lambda: path.exists() and word in path.read_text(), f"the file {path.name}")
+        studio.wait(lambda: path.exists() and word in path.read_text() and path.read_text().rstrip().endswith(last), f"the whole file {path.name}")
     studio.click("#save")
-    studio.wait(lambda: (studio.folder / "made_1.txt").exists(), "the new file is written")
+    studio.await_text("status", "Saved made_1.txt.")
+    assert (studio.folder / "made_1.txt").exists(), "the new file is written"
     studio.browser.get((studio.folder / "made_1.html").as_uri())
     studio.click("#last")
     studio.wait(lambda: studio.text("time") != "" and studio.text("time").split(" of ")[0] == studio.text("time").split(" of ")[1], "the page plays")
@@ -366,18 +393,23 @@ def keep_draft(studio: Studio) -> None:
     studio.drag((9, 2), (10, 3))
     text = studio.layout_text()
     assert "mirror 9 2" in text, text
-    studio.wait(lambda: studio.script("return Object.keys(localStorage).some((key) => localStorage[key].includes('mirror 9 2'))"), "the draft is kept")
+    await_draft(studio)
     studio.kill()
     studio.drag((1, 10), (2, 11))
     studio.wait(lambda: "does not answer" in studio.text("report"), "the page says that the server is gone")
     text = studio.layout_text()
     studio.start("draft.txt")
     assert studio.layout_text() == example("not_gate")
-    studio.wait(lambda: "There is a draft of draft.txt" in studio.text("notice"), "the draft is offered")
+    studio.await_text("notice", "There is a draft of draft.txt")
     studio.click("#notice button")
     assert studio.layout_text() == text
     studio.click("#save")
     studio.wait(lambda: (studio.folder / "draft.txt").read_text().startswith(text.split("certificate")[0][:40]) and studio.text("name") == "draft.txt", "saved")
+
+
+def await_draft(studio: Studio) -> None:
+    """Waits until the browser keeps a draft with the mirror that was drawn."""
+    studio.wait(lambda: studio.script("return Object.keys(localStorage).some((key) => localStorage[key].includes('mirror 9 2'))"), "the draft is kept")
 
 
 def offer_draft_again(studio: Studio) -> None:
@@ -388,16 +420,17 @@ def offer_draft_again(studio: Studio) -> None:
     studio.script("localStorage.clear()")
     studio.click("#tool-mirror")
     studio.drag((9, 2), (10, 3))
-    studio.wait(lambda: studio.script("return Object.keys(localStorage).some((key) => localStorage[key].includes('mirror 9 2'))"), "the draft is kept")
+    await_draft(studio)
     for _ in range(2):
         studio.browser.refresh()
-        studio.wait(lambda: "There is a draft of draft.txt" in studio.text("notice"), "the draft is offered")
-        time.sleep(0.5)
+        studio.await_text("notice", "There is a draft of draft.txt")
+        # The page may put its own text, which is no draft, in the place of the draft when it was still for a while.
+        studio.rest()
     studio.open("other.txt")
-    time.sleep(0.3)
+    studio.rest()
     assert not studio.browser.find_element(By.ID, "notice").is_displayed(), studio.text("notice")
     studio.open("draft.txt")
-    studio.wait(lambda: "There is a draft of draft.txt" in studio.text("notice"), "the draft is offered again")
+    studio.await_text("notice", "There is a draft of draft.txt")
     studio.click("#notice button")
     assert "mirror 9 2" in studio.layout_text()
     studio.click("#save")
@@ -417,22 +450,28 @@ def keep_selection(studio: Studio) -> None:
     studio.script("const { model } = bbmlab.studio.desk; model.setHead(model.headText.replace('circuit', 'circuit\\n# one'), 'typing')")
     assert studio.script(chosen) == found, (found, studio.script(chosen))
     studio.press_keys(Keys.CONTROL + "c")
+    # Another report would take the place of the words that are marked next.
+    studio.verdict("yes")
     studio.script("getSelection().selectAllChildren(document.getElementById('report')); document.activeElement.blur()")
-    studio.script("addEventListener('keydown', (event) => { window.isTaken = event.defaultPrevented; }, { once: true })")
+    # The key Control comes before.
+    studio.script("addEventListener('keydown', (event) => { if (event.key === 'c') window.isTaken = event.defaultPrevented; })")
     studio.press_keys(Keys.CONTROL + "c")
-    assert studio.script("return window.isTaken") is False
+    studio.wait(lambda: studio.script("return window.isTaken !== undefined"), "the page hears of the key")
+    assert studio.script("return window.isTaken") is False, "the browser copies the words"
     studio.script("getSelection().empty(); bbmlab.studio.files.saved = bbmlab.studio.desk.model.text")
     studio.begin("chosen_2.txt", example("gate_and_mirror"))
     assert studio.script(chosen) == []
     studio.keys(Keys.CONTROL + "c")
-    assert studio.text("status") == "Nothing is selected." and studio.script("return bbmlab.studio.tools.clipboard.length") == 1
+    studio.wait(lambda: studio.text("status") == "Nothing is selected.", "nothing is selected")
+    assert studio.script("return bbmlab.studio.tools.clipboard.length") == 1
 
 
 def ask_twice(studio: Studio) -> None:
     """A question that another one replaces is answered with null, and the other one waits for its button."""
-    studio.script("window.answers = []; const { ask } = bbmlab.parts;"
+    studio.script("window.answers = []; const { ask, element } = bbmlab.parts;"
+                  "element('dialog').addEventListener('close', () => { window.isClosed = true; }, { once: true });"
                   "for (const name of ['one', 'two']) ask(name, [], [['ok', () => 7]]).then((value) => window.answers.push([name, value]))")
-    time.sleep(0.3)
+    studio.wait(lambda: studio.script("return window.isClosed"), "the event of the first question comes")
     assert studio.script("return window.answers") == [["one", None]], studio.script("return window.answers")
     studio.answer("two", "ok")
     studio.wait(lambda: studio.script("return window.answers.length") == 2, "the second question is answered")
@@ -442,19 +481,22 @@ def ask_twice(studio: Studio) -> None:
 def use_two_tabs(studio: Studio) -> None:
     """Two tabs on one file: the second one that saves is asked, and writes over the file or under another name."""
     (studio.folder / "tabs.txt").write_text(example("not_gate"))
+    (studio.folder / "tabs_2.txt").unlink(missing_ok=True)
     address = studio.start("tabs.txt")
     studio.click("#tool-mirror")
     studio.drag((9, 2), (10, 3))
+    await_draft(studio)
     first = studio.browser.current_window_handle
-    studio.browser.switch_to.new_window("tab")
+    studio.new_tab()
     studio.browser.get(address)
     studio.wait(lambda: studio.text("name") == "tabs.txt", "the second tab is open")
-    time.sleep(0.3)
+    studio.rest()
     assert not studio.browser.find_element(By.ID, "notice").is_displayed(), "the draft of an open tab is not offered"
     studio.click("#tool-mirror")
     studio.drag((1, 8), (2, 9))
     studio.click("#save")
-    studio.wait(lambda: "mirror 1 8" in (studio.folder / "tabs.txt").read_text(), "the second tab saved")
+    studio.await_text("status", "Saved tabs.txt.")
+    assert "mirror 1 8" in (studio.folder / "tabs.txt").read_text(), "the second tab saved"
     studio.browser.close()
     studio.browser.switch_to.window(first)
     studio.click("#save")
@@ -483,24 +525,48 @@ def choose_spelling(studio: Studio) -> None:
     assert checked.returncode == 0, checked.stdout
 
 
+# Each answer of the server waits until `answerNow` is called with its name, or `answerAll`.
+HOLD = """const { server } = bbmlab, { request } = server;
+window.held = [];
+const go = (isWanted) => { const all = window.held.splice(0); for (const one of all) if (isWanted(one)) one.done(); else window.held.push(one); };
+window.answerNow = (wanted) => go(({ name }) => name === wanted);
+window.answerAll = () => { server.request = request; go(() => true); };
+server.request = async (name, body) => {
+  const answer = await request(name, body);
+  await new Promise((done) => window.held.push({ name, done }));
+  return answer;
+};"""
+
+
 def answer_late(studio: Studio) -> None:
     """Answers of the server that come late change nothing: a verdict on a text that was undone, and the end of a save after another file was opened."""
+    def await_held(name: str) -> None:
+        studio.wait(lambda: studio.script("return window.held.some(({ name }) => name === arguments[0])", name), f"the server answers {name}")
+
     studio.begin("late.txt", example("not_gate"))
     studio.verdict("yes")
-    studio.script("""const { server } = bbmlab, { request } = server;
-        server.request = async (name, body) => { const answer = await request(name, body); await new Promise((done) => setTimeout(done, 400)); return answer; };
-        window.quick = () => { server.request = request; };""")
+    studio.script(HOLD)
     studio.click("#tool-erase")
     studio.press(7, 7)
-    time.sleep(0.35)
+    await_held("verdict")
     studio.click("#undo")
-    studio.wait(lambda: studio.text("badge") == "yes", "the verdict that was known")
-    time.sleep(0.8)
-    assert studio.text("badge") == "yes", studio.text("badge")
+    studio.wait(lambda: studio.is_verdict("yes"), "the verdict that was known")
+    studio.script("answerNow('verdict')")
+    studio.rest()
+    assert studio.is_verdict("yes"), studio.text("badge")
     (studio.folder / "late_2.txt").write_text(example("head_on"))
     studio.script("const { files } = bbmlab.studio; files.save(); files.openFile('late_2.txt')")
-    time.sleep(1.5)
-    studio.script("quick()")
+    await_held("spelling")
+    await_held("open")
+    studio.script("answerNow('spelling')")
+    await_held("save")
+    studio.script("answerNow('open')")
+    studio.wait(lambda: studio.text("name") == "late_2.txt", "the other file is opened")
+    studio.script("answerNow('save')")
+    studio.rest()
+    assert studio.text("name") == "late_2.txt", studio.text("name")
+    studio.script("answerAll()")
+    studio.rest()
     assert studio.text("name") == "late_2.txt", studio.text("name")
     assert (studio.folder / "late.txt").read_text().startswith(example("not_gate"))
 

@@ -8,33 +8,32 @@ import time
 from pathlib import Path
 from typing import Callable
 
-from selenium import webdriver
-from selenium.webdriver.chrome.service import Service
+from browse_page import is_of_size, is_still, open_browser
 from selenium.webdriver.common.by import By
 from selenium.webdriver.common.keys import Keys
 
 SIZES = {"wide": (1280, 800), "phone": (390, 844)}
+# The run to 65,536 takes 7 s on four processors that are busy with other work (2026-11-29): a machine may be 40 times slower.
+END_SECONDS = 300
 
 
 class Page:
     """A page in a headless browser."""
 
     def __init__(self, folder: Path) -> None:
-        options = webdriver.ChromeOptions()
-        for word in ("--headless", "--no-sandbox", "--hide-scrollbars"):
-            options.add_argument(word)
-        options.set_capability("goog:loggingPrefs", {"browser": "ALL"})
-        self.folder, self.browser = folder, webdriver.Chrome(service=Service("/usr/bin/chromedriver"), options=options)
+        self.folder, self.browser = folder, open_browser()
 
     def open(self, name: str) -> None:
         """Opens a page of the folder at the wide size."""
         self.size("wide")
         self.browser.get((self.folder / f"{name}.html").resolve().as_uri())
+        self.wait(lambda: is_of_size(self.browser, *SIZES["wide"]), f"the page {name} has its size")
 
     def size(self, name: str) -> None:
         """Sets the size of the window."""
         width, height = SIZES[name]
         self.browser.execute_cdp_cmd("Emulation.setDeviceMetricsOverride", {"width": width, "height": height, "deviceScaleFactor": 1, "mobile": False})
+        self.wait(lambda: is_of_size(self.browser, width, height), f"the page has the size {name}")
 
     def scheme(self, name: str) -> None:
         """Sets light or dark."""
@@ -52,7 +51,7 @@ class Page:
         """Presses keys on the picture."""
         self.browser.find_element(By.ID, "whole").send_keys(*keys)
 
-    def wait(self, test: Callable[[], bool], what: str, seconds: float = 20) -> None:
+    def wait(self, test: Callable[[], bool], what: str, seconds: float = 60) -> None:
         """Waits until something holds."""
         until = time.monotonic() + seconds
         while not test():
@@ -63,7 +62,7 @@ class Page:
         """Writes a screenshot at each size, with nothing wider than the window."""
         for size in SIZES:
             self.size(size)
-            time.sleep(0.3)
+            self.wait(lambda: is_still(self.browser), f"{name} is drawn at {size}")
             too_wide = self.browser.execute_script("return document.documentElement.scrollWidth > innerWidth")
             assert not too_wide, f"{name} is wider than the window at {size}"
             self.browser.save_screenshot(str(self.folder / f"{name}_{size}.png"))
@@ -118,24 +117,42 @@ FRAMES = """const done = arguments[arguments.length - 1], start = performance.no
 let count = 0;
 const next = () => { count += 1; if (performance.now() - start < 3000) requestAnimationFrame(next); else done(count / 3); };
 requestAnimationFrame(next);"""
+# Counts the steps of runs that go to a time. The run to the end, which goes on meanwhile, never does.
+COUNT = """const run = bbmlab.WholeRun.prototype, { jump, forward, backward } = run, sought = new Set();
+window.stepCount = 0;
+run.jump = function (time) { sought.add(this); jump.call(this, time); };
+run.forward = function () { window.stepCount += Number(sought.has(this)); return forward.call(this); };
+run.backward = function () { window.stepCount += Number(sought.has(this)); return backward.call(this); };"""
+# From the nearest snapshot no time of 65,536 is more than 512 steps away.
+MAX_STEPS = 600
+
+
+def go_to(page: Page, action: Callable[[], object], time_text: str, most: int, seconds: float = 60) -> None:
+    """Goes to a time by a limited number of steps, since how long a step takes depends on the machine."""
+    page.browser.execute_script("window.stepCount = 0")
+    action()
+    page.wait(lambda: page.text("time") == time_text, f"the page comes to {time_text}", seconds)
+    count = page.browser.execute_script("return window.stepCount")
+    assert 0 < count <= most, f"{count} steps to {time_text}"
 
 
 def use_large(page: Page) -> None:
     """Goes to the last of 65,536 times of 512 by 512 cells with 1,024 balls, and back, while the page still answers, and plays smoothly."""
     page.open("large")
     page.wait(lambda: page.text("time") == "0 of 65536", "the page answers while it runs ahead")
-    page.keys(Keys.END)
-    page.wait(lambda: page.text("time") == "65536 of 65536", "the last time comes within a minute", 60)
-    page.keys(Keys.ARROW_LEFT)
-    page.wait(lambda: page.text("time") == "65535 of 65536", "a step back is quick", 2)
-    page.browser.execute_script("const s = document.getElementById('slider'); s.value = 30001; s.dispatchEvent(new Event('input'));")
-    page.wait(lambda: page.text("time") == "30001 of 65536", "the slider is quick", 5)
-    page.wait(lambda: "Running" not in page.text("outputs-count"), "the run to the end comes to it", 60)
+    page.browser.execute_script(COUNT)
+    start = time.monotonic()
+    go_to(page, lambda: page.keys(Keys.END), "65536 of 65536", 65536, END_SECONDS)
+    print(f"the last time after {time.monotonic() - start:.1f} s")
+    go_to(page, lambda: page.keys(Keys.ARROW_LEFT), "65535 of 65536", 1)
+    slider = "const s = document.getElementById('slider'); s.value = 30001; s.dispatchEvent(new Event('input'));"
+    go_to(page, lambda: page.browser.execute_script(slider), "30001 of 65536", MAX_STEPS)
+    page.wait(lambda: "Running" not in page.text("outputs-count"), "the run to the end comes to it", END_SECONDS)
     page.keys("b")
     frames = page.browser.execute_async_script(FRAMES)
-    page.keys(" ")
     print(f"{frames} frames a second with trails")
-    assert int(page.text("time").split()[0]) < 30001, page.text("time")
+    page.wait(lambda: int(page.text("time").split()[0]) < 30001, "it plays backwards")
+    page.keys(" ")
     page.shoot("large")
 
 

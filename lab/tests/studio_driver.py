@@ -6,27 +6,23 @@ import time
 from pathlib import Path
 from typing import Any, Callable
 
-from selenium import webdriver
-from selenium.webdriver.chrome.service import Service
+from browse_page import await_frames, is_of_size, is_still, open_browser, watch
 from selenium.webdriver.common.action_chains import ActionChains
 from selenium.webdriver.common.by import By
 from selenium.webdriver.common.keys import Keys
 
 SIZES = {"wide": (1400, 850), "phone": (390, 844)}
+# What the page says, for the message of a wait that is too long.
+WORDS = "return ['name', 'badge', 'status', 'report', 'dialog'].map((id) => document.getElementById(id)?.innerText)"
 
 
 class Studio:
     """A server of a file, and a browser."""
 
     def __init__(self, folder: Path, program: str, lab: str) -> None:
-        options = webdriver.ChromeOptions()
-        for word in ("--headless", "--no-sandbox", "--hide-scrollbars", "--window-size=1400,850"):
-            options.add_argument(word)
-        options.set_capability("goog:loggingPrefs", {"browser": "ALL"})
-        options.set_capability("unhandledPromptBehavior", "accept")
         self.folder, self.program, self.lab = folder, program, lab
         self.server: subprocess.Popen[str] | None = None
-        self.browser = webdriver.Chrome(service=Service("/usr/bin/chromedriver"), options=options)
+        self.browser = open_browser("--window-size=1400,850", unhandledPromptBehavior="accept")
 
     def serve(self, name: str) -> str:
         """Starts a server of a file, and returns its address."""
@@ -50,6 +46,11 @@ class Studio:
         self.wait(lambda: self.text("name").startswith(name), "the file is opened")
         self.wait(lambda: self.script("return bbmlab.studio.tools.cell !== null"), "the cells are there")
         return address
+
+    def new_tab(self) -> None:
+        """Opens another tab, and goes on there."""
+        self.browser.switch_to.new_window("tab")
+        watch(self.browser)
 
     def open(self, name: str) -> None:
         """Opens a file in the page that is open."""
@@ -86,14 +87,28 @@ class Studio:
         """Waits until something holds."""
         until = time.monotonic() + seconds
         while not test():
-            assert time.monotonic() < until, f"{what}: {self.text('badge')!r} {self.text('status')!r} {self.text('report')!r} {self.text('dialog')!r}"
+            assert time.monotonic() < until, f"{what}: {self.script(WORDS)!r}"
             time.sleep(0.05)
 
-    def verdict(self, wanted: str) -> float:
+    def is_verdict(self, wanted: str) -> bool:
+        """Returns whether the page shows a verdict that is not outdated."""
+        return bool(self.script("return document.getElementById('badge').textContent === arguments[0] && bbmlab.studio.verdicts.isCurrent", wanted))
+
+    def verdict(self, wanted: str, seconds: float = 60) -> float:
         """Waits for a verdict that is not outdated, and returns how many seconds it took."""
         start = time.monotonic()
-        self.wait(lambda: self.text("badge") == wanted and self.script("return bbmlab.studio.verdicts.isCurrent"), f"the verdict {wanted}")
+        self.wait(lambda: self.is_verdict(wanted), f"the verdict {wanted}", seconds)
         return time.monotonic() - start
+
+    def await_text(self, name: str, words: str) -> None:
+        """Waits until the text of an element contains some words."""
+        self.wait(lambda: words in self.text(name), f"{name} says {words!r}")
+
+    def rest(self) -> None:
+        """Waits until the page waits for no timer and no frame, and knows which tabs are open."""
+        self.wait(lambda: is_still(self.browser), "the page comes to rest")
+        # The browser answers such questions in their order, so that an earlier one of the page is answered then.
+        self.browser.execute_async_script("const done = arguments[0]; navigator.locks.query().then(() => setTimeout(done));")
 
     def still(self) -> None:
         """Waits until the ways are of the text as it is."""
@@ -109,24 +124,53 @@ class Studio:
         """Returns a chain of quick actions."""
         return ActionChains(self.browser, duration=10)
 
+    def aim(self, x: int, y: int) -> None:
+        """Moves the mouse to a cell, until the page knows it there."""
+        # The words below the picture, which change with the cell, may change the scale of the picture.
+        canvas, moved = self.browser.find_element(By.ID, "whole"), None
+
+        def is_there() -> bool:
+            nonlocal moved
+            await_frames(self.browser)
+            place = self.place(x, y)
+            if place == moved and self.script("return bbmlab.studio.sketch.pointed") == [x, y]:
+                return True
+            moved = place
+            self.chain().move_to_element_with_offset(canvas, *place).perform()
+            return False
+
+        self.wait(is_there, f"the mouse is at ({x}, {y})")
+
+    def hold(self, x: int, y: int) -> None:
+        """Presses the button of the mouse at a cell."""
+        self.aim(x, y)
+        self.chain().click_and_hold().perform()
+        self.wait(lambda: self.script("return bbmlab.studio.tools.pressed !== null"), f"the tool begins at ({x}, {y})")
+
+    def lift(self) -> None:
+        """Lifts the button of the mouse, and waits until the page has done what follows."""
+        count = self.lift_count()
+        self.chain().release().perform()
+        self.wait(lambda: self.lift_count() > count, "the page has heard of the button")
+
+    def lift_count(self) -> int:
+        """Returns how many times a finger or the button of the mouse was lifted."""
+        return int(self.script("return watched.lifts"))
+
     def press(self, x: int, y: int) -> None:
         """Clicks a cell."""
-        canvas = self.browser.find_element(By.ID, "whole")
-        ActionChains(self.browser, duration=10).move_to_element_with_offset(canvas, *self.place(x, y)).click().perform()
+        self.hold(x, y)
+        self.lift()
 
     def drag(self, start: tuple[int, int], end: tuple[int, int]) -> None:
         """Drags from a cell to another one."""
-        canvas, (x, y) = self.browser.find_element(By.ID, "whole"), self.place(*end)
-        chain = ActionChains(self.browser, duration=10).move_to_element_with_offset(canvas, *self.place(*start)).click_and_hold()
-        chain.move_to_element_with_offset(canvas, x - 3, y).move_to_element_with_offset(canvas, x, y).release().perform()
-
-    def hover(self, x: int, y: int) -> None:
-        """Moves the mouse to a cell."""
-        canvas = self.browser.find_element(By.ID, "whole")
-        ActionChains(self.browser, duration=10).move_to_element_with_offset(canvas, *self.place(x, y)).perform()
+        self.hold(*start)
+        self.aim(*end)
+        self.lift()
 
     def touch(self, kind: str, *cells: tuple[float, float]) -> None:
         """Sends an event of fingers at cells: `Start`, `Move` or `End`."""
+        await_frames(self.browser)
         left, top, wide, high = self.script("const b = document.getElementById('whole').getBoundingClientRect(); return [b.left, b.top, b.width, b.height]")
         points = []
         for number, cell in enumerate(cells):
@@ -137,9 +181,10 @@ class Studio:
     def tab_to(self, name: str) -> None:
         """Presses Tab until an element has the focus."""
         for _ in range(90):
-            if self.script("return document.activeElement.id") == name:
+            if self.script("window.focused = document.activeElement; return window.focused.id") == name:
                 return
             self.press_keys(Keys.TAB)
+            self.wait(lambda: self.script("return document.activeElement !== window.focused"), "Tab moves the focus")
         raise AssertionError(f"Tab does not come to {name}")
 
     def press_keys(self, *keys: str) -> None:
@@ -176,12 +221,15 @@ class Studio:
     def shoot(self, name: str) -> None:
         """Writes a screenshot at each size, with nothing wider than the window."""
         for size, (width, height) in SIZES.items():
-            self.browser.execute_cdp_cmd("Emulation.setDeviceMetricsOverride", {"width": width, "height": height, "deviceScaleFactor": 1, "mobile": False})
-            time.sleep(0.4)
+            self.set_size(width, height)
             assert not self.script("return document.documentElement.scrollWidth > innerWidth"), f"{name} is wider than the window at {size}"
             self.browser.save_screenshot(str(self.folder / f"{name}_{size}.png"))
-        self.browser.execute_cdp_cmd("Emulation.setDeviceMetricsOverride", {"width": 1400, "height": 850, "deviceScaleFactor": 1, "mobile": False})
-        time.sleep(0.2)
+        self.set_size(*SIZES["wide"])
+
+    def set_size(self, width: int, height: int) -> None:
+        """Sets the size of the window, and waits until the page is drawn at it."""
+        self.browser.execute_cdp_cmd("Emulation.setDeviceMetricsOverride", {"width": width, "height": height, "deviceScaleFactor": 1, "mobile": False})
+        self.wait(lambda: is_of_size(self.browser, width, height) and is_still(self.browser), f"the page is drawn at {width} by {height}")
 
     def scheme(self, name: str) -> None:
         """Sets light or dark."""

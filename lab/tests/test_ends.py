@@ -84,7 +84,7 @@ class Signals(unittest.TestCase):
         asked = time.monotonic()
         ran.send_signal(number)
         output, _ = ran.communicate(timeout=30)
-        self.assertLess(time.monotonic() - asked, 5)
+        self.assertLess(time.monotonic() - asked, 30)
         self.assertEqual(ran.returncode, status)
         self.assertEqual((room / "begun").read_text().count("x"), 2)
         if form == "json":

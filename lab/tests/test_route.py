@@ -33,8 +33,8 @@ LINES = {
     "interact": "interact a b -> w x y z", "switch": "switch a b -> x y z", "delay": "delay 37 a -> x",
     "unswitch": "switch a b -> p q r\nunswitch p q r -> x y", "uninteract": "interact a b -> p q r s\nuninteract p q r s -> x y",
 }
-# The seconds in which an interrupted search has to end, with room for a slow machine.
-INTERRUPT_SECONDS = 2.0
+# The seconds in which an interrupted search has to end, on a busy machine too. Without an interrupt it takes longer.
+INTERRUPT_SECONDS = 25.0
 
 
 def circuit_text(inputs: str, lines: str, outputs: str, spills: str = "") -> str:
@@ -213,7 +213,7 @@ class Hostile(Routing):
         ended = subprocess.run([sys.executable, str(support.LAB / "bbmlab"), "route", str(path), "-o", str(self.room / "bundle.txt"),
                                 "--program", self.program, "--effort", str(effort)], capture_output=True, check=False)
         said = ended.stderr.decode()
-        self.assertLess(time.monotonic() - begun, 2 * effort + 20)
+        self.assertLess(time.monotonic() - begun, 2 * effort + 60)
         self.assertLess(resource.getrusage(resource.RUSAGE_CHILDREN).ru_maxrss, 500_000)
         self.assertIn(ended.returncode, (0, 1), said)
         self.assertIn("verdict yes" if ended.returncode == 0 else "no route", said)
@@ -273,7 +273,7 @@ class Hostile(Routing):
             os.killpg(process.pid, signal.SIGINT)
             said = process.communicate(timeout=30)[1].decode()
             with self.subTest(words=words):
-                self.assertLess(time.monotonic() - begun, INTERRUPT_SECONDS + 1)
+                self.assertLess(time.monotonic() - begun, INTERRUPT_SECONDS)
                 self.assertEqual(process.returncode, 130)
                 self.assertIn("interrupted", said)
                 self.assertNotIn("Traceback", said)

@@ -28,7 +28,7 @@ class Browser(unittest.TestCase):
             folder = Path(os.environ.get("BBMLAB_SHOTS") or room)
             (folder / "collision.txt").unlink(missing_ok=True)
             ended = subprocess.run(["/usr/bin/python3", str(SCRIPT), str(folder), support.program(), str(support.LAB / "bbmlab")], capture_output=True, text=True,
-                                   check=False, timeout=280)
+                                   check=False, timeout=540)
         self.assertEqual(ended.returncode, 0, ended.stderr)
 
 

@@ -124,7 +124,7 @@ class Page(unittest.TestCase):
         with tempfile.TemporaryDirectory() as room:
             page = Path(room) / "page.html"
             support.lab("view", support.example("wrong_edge"), "-o", str(page), "--program", support.program())
-            ended = subprocess.run(["/usr/bin/python3", str(script), str(page), room], capture_output=True, text=True, check=False, timeout=120)
+            ended = subprocess.run(["/usr/bin/python3", str(script), str(page), room], capture_output=True, text=True, check=False, timeout=300)
         self.assertEqual(ended.returncode, 0, ended.stderr)
 
 

@@ -60,7 +60,7 @@ class Browser(unittest.TestCase):
             for name, file in (("fault", support.example("wrong_border")), ("wrong", f"{room}/wrong.txt"), ("large", f"{room}/large.txt")):
                 made = support.lab("view", file, "-o", f"{folder}/{name}.html", "--program", program)
                 self.assertEqual((made.returncode, made.stderr), (0, ""))
-            ended = subprocess.run(["/usr/bin/python3", str(SCRIPT), folder], capture_output=True, text=True, check=False, timeout=180)
+            ended = subprocess.run(["/usr/bin/python3", str(SCRIPT), folder], capture_output=True, text=True, check=False, timeout=540)
         self.assertEqual(ended.returncode, 0, ended.stderr)
 
 

@@ -35,7 +35,7 @@ class Browser(unittest.TestCase):
                 Path(room, f"{name}.txt").write_text(text)
                 made = support.lab("view", f"{room}/{name}.txt", "-o", f"{folder}/{name}.html", "--program", program)
                 self.assertEqual((made.returncode, made.stderr), (0, ""))
-            ended = subprocess.run(["/usr/bin/python3", str(SCRIPT), folder], capture_output=True, text=True, check=False, timeout=240)
+            ended = subprocess.run(["/usr/bin/python3", str(SCRIPT), folder], capture_output=True, text=True, check=False, timeout=540)
         self.assertEqual(ended.returncode, 0, ended.stderr)
 
 
