@@ -29,5 +29,4 @@ pub mod PortLemmas
 pub mod RowLemmas
 pub mod StarLemmas
 pub mod TableLemmas
-mod WireBounds
 pub mod Imports

@@ -1,20 +1,36 @@
--- The marks of a list of wires
-use Rattle.certificate_lines.proofs.Imports.{List, [], ap, arith, common_steps, false, get_or, is_among, length}
-use Rattle.certificate_lines.proofs.Imports.{length-replicate, replicate, ℕ, ◌%◌, ◌∙◌, ◌≡◌, ◌≤◌}
-use Rattle.lemmas.proofs.Common.{◌/◌, get_or-replicate, get_or_past}
-use Rattle.bbm_rule.specs.Bits.{bit}
-use Rattle.bbm_rule.specs.Rows.{cell_at}
-use Rattle.bbm_rule.proofs.BitLemmas.{by_lt_or_le, bit-zero}
+-- The entries of a table of wires
+use Rattle.certificate_lines.proofs.Imports.{List, [], arith, common_steps, false, get_or, get_or_default, is_among}
+use Rattle.certificate_lines.proofs.Imports.{length, refl, set, true}
+use Rattle.certificate_lines.proofs.Imports.{ℕ, ◌%◌, ◌++◌, ◌<◌, ◌∷◌, ◌≡◌, ◌≤◌}
+use Rattle.lemmas.proofs.Common.{false_from_ne_true, length-set}
+use Rattle.std.proofs.lemmas.List.{get_or-set_other, get_or-set_same}
+use Rattle.certificate_lines.specs.WireListView.{HasEntries, entry_of, no_place}
 
--- a number whose word is zero has no mark
-unmarked : (marks : List ℕ) (w : ℕ) → get_or marks (w / 64) 0 ≡ 0 → cell_at marks w ≡ false
-unfolding cell_at
-unmarked marks w e = ap (λ (n : ℕ). bit n (w % 64)) e ∙ bit-zero (w % 64)
+-- a wire whose entry is no place is not in the list
+pub not_among : (entries wires : List ℕ) (w : ℕ) → HasEntries entries wires → entry_of entries w ≡ no_place →
+    is_among wires w ≡ false
+not_among entries wires w has at = false_from_ne_true _ (λ e. omega (arith, has w e, at))
 
--- nor has one past the words
-pub past_marks : (marks : List ℕ) (w : ℕ) → length marks ≤ w / 64 → cell_at marks w ≡ false
-past_marks marks w past = unmarked marks w (get_or_past marks (w / 64) 0 past)
+-- the entry that the code reads
+pub no_table : (entries : List ℕ) (w : ℕ) → entries ≡ [] → no_place ≡ entry_of entries w
+no_table [] w none = refl
+no_table (e ∷ entries) w none = absurd cc
 
--- no wire is marked at first
-pub none_marked : (n w : ℕ) → cell_at (replicate n 0) w ≡ is_among [] w
-none_marked n w = grind (arith, common_steps, unmarked, by_lt_or_le, get_or-replicate, get_or_past, length-replicate)
+pub in_table : (entries : List ℕ) (w : ℕ) → 0 < length entries →
+    get_or entries (w % length entries) 0 ≡ entry_of entries w
+in_table entries w some = get_or_default entries (w % length entries) 0 no_place (omega (arith, some))
+
+-- an entry that is written is a place
+pub entry_written : (entries : List ℕ) (w place : ℕ) → 0 < length entries → place < no_place →
+    entry_of (set entries (w % length entries) place) w < no_place
+entry_written entries w place some low = grind (arith, common_steps, get_or-set_same, length-set)
+
+-- and no other entry is lost
+pub entry_kept : (entries : List ℕ) (w v place : ℕ) → 0 < length entries → place < no_place →
+    entry_of entries v < no_place → entry_of (set entries (w % length entries) place) v < no_place
+entry_kept entries w v place some low has = grind (arith, common_steps, get_or-set_same, get_or-set_other, length-set)
+
+-- a list with one more wire, whose place was written
+pub entries_push : (old new wires : List ℕ) (v : ℕ) → HasEntries old wires → entry_of new v < no_place →
+    ((w : ℕ) → entry_of old w < no_place → entry_of new w < no_place) → HasEntries new (wires ++ v ∷ [])
+entries_push old new wires v has noted kept w among = grind (arith, common_steps)

@@ -52,7 +52,6 @@ pub(crate) fn are_all_new_and_distinct(known: &WireList, wires: &[WireNo]) -> bo
 // Makes these wires local, where there is room for them.
 fn push_wires(known: &mut WireList, wires: &[WireNo])
     requires room_for_wires { length wires.now ≤ known.old.spare }
-    requires of_a_circuit { All (λ w. w < 4096) wires.now }
     ensures { known.new.wires ≡ known.old.wires ++ wires.now }
 {
     for wire in wires {
@@ -90,7 +89,6 @@ pub(crate) fn push_line_wires(
     wire: Option<u16>,
 )
     requires wire { wire ≡ option_and_then (wire_of tables.now.circuit) (name_in entry.now) }
-    requires of_a_circuit { IfSome wire (λ w. w < 4096) }
     requires room_for_wires { length (wires_made_local tables.now.circuit entry.now) ≤
         known.old.spare }
     ensures { known.new.wires ≡ known.old.wires ++ wires_made_local tables.now.circuit entry.now }
