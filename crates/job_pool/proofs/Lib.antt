@@ -5,3 +5,4 @@ pub mod Members
 pub mod Filed
 pub mod Risen
 pub mod Imports
+mod Linking

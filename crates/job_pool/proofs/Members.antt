@@ -12,7 +12,7 @@ use Rattle.job_pool.proofs.Sums.{times-append, total-add, total_same}
 
 -- ---- groups
 
-read_any : (xs : List ℕ) (k d : ℕ) → k < length xs → get_or xs k d ≡ slice_index xs k
+pub read_any : (xs : List ℕ) (k d : ℕ) → k < length xs → get_or xs k d ≡ slice_index xs k
 read_any [] k d lt = absurd (omega (arith, lt))
 read_any (x ∷ xs) zero d lt = refl
 read_any (x ∷ xs) (suc k) d lt = read_any xs k d (omega (arith, lt))

@@ -3,3 +3,4 @@ pub mod Rule
 pub mod Seats
 pub mod Closings
 pub mod Work
+pub mod Links

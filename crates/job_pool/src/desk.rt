@@ -2,6 +2,7 @@
 ghost use Rattle.std.specs.Prelude.{◌≡◌, ◌-◌, ◌<◌, ◌≤◌, [], length, vec_len, vec_capacity, IfOk, All};
 ghost use Rattle.core_book.specs.Draws.{past_last};
 ghost use Rattle.job_pool.specs.Lists.{all_but_last, past_greatest};
+ghost use Rattle.lemmas.specs.Bounds.{max_modules};
 
 use crate::rule::{Claims, DeskRule, DeskSize, LookStep, SplitOrJoinStep, View};
 use atomic_table::{Seat, Table};
@@ -10,10 +11,10 @@ use std::alloc::{AllocError, Global};
 
 /// A desk that hands out the numbers below a count, each once, to the seats that were opened with it.
 ///
-/// The count is at most 1024, and the seats are 1 to 64. The desk is one word, the next number. It keeps the desk rule
-/// at each moment, whoever draws: each number below the word was drawn by one seat, once. A claim adds 1 to the word,
-/// in one atomic step. A look at the word, and the splits and joins of seats by `open` and `close`, add nothing. There
-/// is no other step.
+/// The count is at most 65,536, and the seats are 1 to 64. The desk is one word, the next number. It keeps the desk
+/// rule at each moment, whoever draws: each number below the word was drawn by one seat, once. A claim adds 1 to the
+/// word, in one atomic step. A look at the word, and the splits and joins of seats by `open` and `close`, add nothing.
+/// There is no other step.
 #[derive(Drop)]
 pub struct Desk {
     pub(crate) table: Table<(), View, DeskSize, DeskRule, Global>,
@@ -21,7 +22,7 @@ pub struct Desk {
     pub(crate) seats: usize,
     ghost counts: { (table.shared.table_id.words ≡ 1) × (table.shared.table_id.slots ≡ 0) },
     ghost size: { (table.shared.key.numbers ≡ numbers) × (table.shared.key.seats ≡ seats) },
-    ghost small: { (numbers ≤ 1024) × (0 < seats) × (seats ≤ 64) },
+    ghost small: { (numbers ≤ max_modules) × (0 < seats) × (seats ≤ 64) },
 }
 
 /// A seat that was opened with a desk, with the numbers that it drew. One thread at a time draws with it.
@@ -64,7 +65,7 @@ impl Desk {
         numbers: usize,
         seats: usize,
     ) -> Result<(Desk, Vec<DeskSeat>), AllocError>
-        requires { (numbers ≤ 1024) × (0 < seats) × (seats ≤ 64) }
+        requires { (numbers ≤ max_modules) × (0 < seats) × (seats ≤ 64) }
         ensures desk { IfOk result (λ o. (number_count_of o.0 ≡ numbers)
             × (seat_count_of o.0 ≡ seats)) }
         ensures count { IfOk result (λ o. vec_len o.1 ≡ seats) }

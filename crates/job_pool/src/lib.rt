@@ -13,6 +13,7 @@
 mod close;
 mod desk;
 mod gate;
+mod links;
 mod pool;
 mod rule;
 mod worker;

@@ -2,12 +2,15 @@
 ghost use Rattle.std.specs.Prelude.{◌≡◌, ℕ, ◌+◌, ◌<◌, ◌≤◌, false, [], length, map, slice_index_or, vec_len, vec_capacity, All, IfOk};
 ghost use Rattle.std.specs.Arc.{arc_value};
 ghost use Rattle.module_job.specs.Groups.{AreGroups};
+ghost use Rattle.job_pool.specs.Links.{AreLinks};
 ghost use Rattle.job_pool.specs.Seats.{IsNewSeatOf, number_count_of, seat_count_of};
 ghost use Rattle.core_book.specs.Filling.{shapes_of};
 ghost use Rattle.job_pool.specs.Work.{HasWorked, HaveRisen, IsReadyWorker, sum_of_filed, seats_of, shares_of};
+ghost use Rattle.lemmas.specs.Bounds.{max_modules};
 
 use crate::desk::{Desk, DeskSeat};
 use crate::gate::Gate;
+use crate::links::link_members;
 use crate::worker::{SharedWork, Worker};
 use certificate::Job;
 use std::alloc::{AllocError, Global};
@@ -28,9 +31,10 @@ pub struct WorkEnd<F: Filings, A: Ledger> {
     pub runs: usize,
 }
 
-// Room for the workers, and later for their seats and shares.
+// The links of the jobs, and room for the workers, and later for their seats and shares.
 #[derive(Drop)]
 struct ReservedLists<F: Filings, A: Ledger> {
+    links: Vec<usize>,
     workers: Vec<Worker<F, A>>,
     seats: Vec<DeskSeat>,
     shares: Vec<Share<F, A>>,
@@ -39,7 +43,7 @@ struct ReservedLists<F: Filings, A: Ledger> {
 /// Files the findings of all jobs under the book's digest, by one worker a share. All workers have ended when it
 /// returns.
 ///
-/// There are at most 1024 jobs, numbered from 0 in their order, and 1 to 64 shares of the book. `groups` has for each
+/// There are at most 65,536 jobs, numbered from 0 in their order, and 1 to 64 shares of the book. `groups` has for each
 /// job the number of the first of its shape.
 ///
 /// Each worker draws numbers at a desk, in a thread of its own if one can be made, until no number is left. The worker
@@ -55,14 +59,14 @@ pub fn work<F: Filings + Sync, A: Ledger + Sync, G: Gate + Sync, R: Threads + Wa
     book: &Book<F, A>,
     shares: Vec<Share<F, A>>,
 ) -> WorkEnd<F, A>
-    requires jobs { length jobs.now ≤ 1024 }
+    requires jobs { length jobs.now ≤ max_modules }
     requires groups { AreGroups (shapes_of (map arc_value jobs.now)) groups.now }
     requires shares { (0 < vec_len shares) × (vec_len shares ≤ 64) }
     ensures shares { HaveRisen shares.items result.shares.items }
     ensures filed { result.memory ≡ false →
         sum_of_filed result.shares.items ≡ sum_of_filed shares.items + length jobs.now }
 {
-    let Ok((desk, seats, rooms)) = open_desk_and_reserve(alloc, jobs.len(), shares.len()) else {
+    let Ok((desk, seats, rooms)) = open_desk_and_reserve(alloc, groups, shares.len()) else {
         return WorkEnd {
             shares,
             memory: true,
@@ -70,6 +74,7 @@ pub fn work<F: Filings + Sync, A: Ledger + Sync, G: Gate + Sync, R: Threads + Wa
         };
     };
     let ReservedLists {
+        links,
         workers,
         seats: ended,
         shares: returned,
@@ -79,6 +84,7 @@ pub fn work<F: Filings + Sync, A: Ledger + Sync, G: Gate + Sync, R: Threads + Wa
         gate,
         jobs,
         groups,
+        links: &links,
         desk: &desk,
         book,
     };
@@ -98,30 +104,34 @@ pub fn work<F: Filings + Sync, A: Ledger + Sync, G: Gate + Sync, R: Threads + Wa
     }
 }
 
-// A desk, and room for its workers.
+// A desk for the members of all groups, their links, and room for `count` workers.
 fn open_desk_and_reserve<F: Filings, A: Ledger>(
     alloc: Global,
-    numbers: usize,
+    groups: &[usize],
     count: usize,
 ) -> Result<(Desk, Vec<DeskSeat>, ReservedLists<F, A>), AllocError>
-    requires { (numbers ≤ 1024) × (0 < count) × (count ≤ 64) }
-    ensures desk { IfOk result (λ p. (number_count_of p.0 ≡ numbers) × (seat_count_of p.0 ≡ count)
-        × (vec_len p.1 ≡ count)) }
+    requires sizes { (length groups.now ≤ max_modules) × (0 < count) × (count ≤ 64) }
+    requires groups { All (λ g. g < length groups.now) groups.now }
+    ensures desk { IfOk result (λ p. (number_count_of p.0 ≡ length groups.now)
+        × (seat_count_of p.0 ≡ count) × (vec_len p.1 ≡ count)) }
+    ensures links { IfOk result (λ p. AreLinks groups.now p.2.links.items) }
     ensures seats { IfOk result (λ p. All (IsNewSeatOf p.0) p.1.items) }
     ensures empty { IfOk result (λ p. (p.2.workers.items ≡ []) × (p.2.seats.items ≡ [])
         × (p.2.shares.items ≡ [])) }
     ensures room_for_all { IfOk result (λ p. (count ≤ vec_capacity p.2.workers)
         × (count ≤ vec_capacity p.2.seats) × (count ≤ vec_capacity p.2.shares)) }
 {
+    let links = link_members(alloc, groups)?;
     let workers = Vec::with_capacity(alloc, count)?;
     let seats = Vec::with_capacity(alloc, count)?;
     let shares = Vec::with_capacity(alloc, count)?;
     let rooms = ReservedLists {
+        links,
         workers,
         seats,
         shares,
     };
-    let (desk, seats) = Desk::open(alloc, numbers, count)?;
+    let (desk, seats) = Desk::open(alloc, groups.len(), count)?;
     Ok((desk, seats, rooms))
 }
 
@@ -166,6 +176,7 @@ fn run_all<F: Filings + Sync, A: Ledger + Sync, G: Gate + Sync, R: Threads + Wai
     requires all { number_count_of shared_work.now.desk.now ≡ length shared_work.now.jobs.now }
     requires groups { AreGroups (shapes_of (map arc_value shared_work.now.jobs.now))
         shared_work.now.groups.now }
+    requires links { AreLinks shared_work.now.groups.now shared_work.now.links.now }
     ensures { (i : ℕ) (d : _) → i < length workers.old →
         HasWorked shared_work.now.desk.now shared_work.now.groups.now
         (slice_index_or workers.old i d) (slice_index_or workers.new i d) }

@@ -7,6 +7,7 @@ ghost use Rattle.module_job.specs.Shapes.{shape_of};
 ghost use Rattle.local_run.specs.Shown.{digest_of, job_of};
 ghost use Rattle.verdict_book.specs.Counts.{counts_after_reply};
 ghost use Rattle.verdict_book.specs.Replies.{IsReplyOf};
+ghost use Rattle.job_pool.specs.Links.{AreLinks};
 ghost use Rattle.job_pool.specs.Seats.{number_count_of};
 ghost use Rattle.core_book.specs.Filling.{IsOneMore, shapes_of};
 ghost use Rattle.job_pool.specs.Work.{HasRisen, HasWorked, IsReadyWorker};
@@ -28,6 +29,8 @@ pub struct SharedWork<'a, F: Filings, A: Ledger, G> {
     pub(crate) jobs: &'a [Arc<Job>],
     /// For each job the number of the first of its shape.
     pub(crate) groups: &'a [usize],
+    /// For each job the number of the next of its shape, or the count of jobs if it is the last.
+    pub(crate) links: &'a [usize],
     pub(crate) desk: &'a Desk,
     pub(crate) book: &'a Book<F, A>,
 }
@@ -56,6 +59,7 @@ impl<F: Filings, A: Ledger> Worker<F, A> {
         requires all { number_count_of shared_work.now.desk.now ≡ length shared_work.now.jobs.now }
         requires groups { AreGroups (shapes_of (map arc_value shared_work.now.jobs.now))
             shared_work.now.groups.now }
+        requires links { AreLinks shared_work.now.groups.now shared_work.now.links.now }
         ensures { HasWorked shared_work.now.desk.now shared_work.now.groups.now self.old self.new }
     {
         while let Claim::Number(number) = shared_work.desk.claim(&mut self.seat) {
@@ -86,6 +90,7 @@ fn run_group_if_first<F: Filings, A: Ledger, G, R: Wait>(
     requires number { number < length shared_work.now.jobs.now }
     requires groups { AreGroups (shapes_of (map arc_value shared_work.now.jobs.now))
         shared_work.now.groups.now }
+    requires links { AreLinks shared_work.now.groups.now shared_work.now.links.now }
     ensures filed { OnOk result (share.new.filed
         ≡ share.old.filed + occurrences number shared_work.now.groups.now) }
     ensures risen { HasRisen share.old share.new }
@@ -118,7 +123,7 @@ fn run_counted(
     run_job(alloc, digest, number, job.clone()?)
 }
 
-// Files the findings of all members of a group, by that of its first number.
+// Files the findings of all members of a group, by that of its first number. It looks at no other job.
 fn file_members<F: Filings, A: Ledger, G, R: Wait>(
     rt: &R,
     shared_work: &SharedWork<'_, F, A, G>,
@@ -128,24 +133,25 @@ fn file_members<F: Filings, A: Ledger, G, R: Wait>(
 ) -> Result<(), AllocError>
     requires groups { AreGroups (shapes_of (map arc_value shared_work.now.jobs.now))
         shared_work.now.groups.now }
+    requires links { AreLinks shared_work.now.groups.now shared_work.now.links.now }
     requires first { slice_get (map arc_value shared_work.now.jobs.now) number
         ≡ Some (job_of finding.now) }
+    requires in_own_group { slice_index shared_work.now.groups.now number ≡ number }
     requires digest { digest_of finding.now ≡ F.digest }
     ensures filed { OnOk result (share.new.filed
         ≡ share.old.filed + occurrences number shared_work.now.groups.now) }
     ensures risen { HasRisen share.old share.new }
 {
-    let (jobs, groups) = (shared_work.jobs, shared_work.groups);
-    for member in 0..jobs.len() {
-        if groups[member] == number {
-            file_member(rt, shared_work.book, finding, member, &jobs[member], share)?;
-        }
+    let jobs = shared_work.jobs;
+    let mut member = number;
+    while member < jobs.len() {
+        file_member(rt, shared_work.book, finding, member, &jobs[member], share)?;
+        member = shared_work.links[member];
     }
     Ok(())
 }
 
-// Files the finding of a job of the same shape. Inlined, it would slow the search for the members.
-#[inline(never)]
+// Files the finding of a job of the same shape.
 fn file_member<F: Filings, A: Ledger, R: Wait>(
     rt: &R,
     book: &Book<F, A>,
