@@ -1,16 +1,25 @@
 -- Laws of the certificate section, and of jobs
 use Rattle.std.specs.Prelude.{◌≡◌, ℕ, ℤ, ◌+◌, ◌<◌, ◌≤◌, ◌%◌, ◌&&◌, false, Contains, IsTrue, List, [], ◌∷◌, ◌++◌, None}
-use Rattle.std.specs.Prelude.{Some, length, slice_get, take, drop, Ok}
+use Rattle.std.specs.Prelude.{Some, length, slice_get, take, drop, Ok, Option, nat_le, ◌||◌}
 use Rattle.std.specs.List.{All, flat_map}
 use Rattle.section_text.specs.Words.{lines_of}
+use Rattle.section_text.specs.Codes.{code_if, or_else}
+use Rattle.section_text.specs.declared.code.RefusalCode.{RefusalCode}
+use Rattle.section_text.specs.declared.code.RefusalCode.TheVariants.{MisplacedBox, NoForm, PastLimit, SomethingMissing}
+use Rattle.section_text.specs.declared.limits.Limits.{Limits}
+use Rattle.section_text.specs.declared.limits.Limits.TheVariants.{First, Second}
+use Rattle.bbm_rule.specs.declared.block.Box2.{Box2}
 use Rattle.section_text.specs.Section.{section_of, with_line_feed}
 use Rattle.bbm_rule.specs.Boxes.{in_box, in_halo}
 use Rattle.module_box.specs.Schedules.{signal_at}
-use Rattle.certificate_lines.specs.Entries.{ModuleLines, Setting, edges, halos, modules_of}
+use Rattle.certificate_lines.specs.Entries.{ModuleLines, Setting, areas, edges, halos, last_module, modules_of}
 use Rattle.certificate.specs.Grammars.{CertView, certificate_grammar, certificate_section}
 use Rattle.certificate.specs.Jobs.{line_signals}
 use Rattle.certificate_lines.specs.Modules.{AreModules}
-use Rattle.certificate_lines.specs.Rules.{end_fault}
+use Rattle.certificate_lines.specs.Rules.{end_fault, entry_fault, is_bad_box_side, is_last_module_incomplete}
+use Rattle.certificate_lines.specs.Rules.{is_misplaced, overlaps}
+use Rattle.certificate_lines.specs.Versions.{is_halo}
+use Rattle.certificate_lines.specs.declared.certificate_line.CertificateLine.TheVariants.{Module}
 use Rattle.certificate_lines.specs.Versions.{AreGoodLines, is_haloless_version, lacks_edge_wire_beside}
 use Rattle.certificate_lines.specs.Versions.{modules_by_version, with_halos, without_halos}
 use Rattle.certificate_lines.specs.declared.certificate_line.CertificateLine.{CertificateLine}
@@ -23,15 +32,15 @@ use Rattle.circuit.specs.Meaning.{Circuit}
 
 -- the text of a certificate that is read is the text of the lines that it is read from
 abbrev pub PrintsWhatIsRead : Type 0
-PrintsWhatIsRead = (g : Setting) (n : ℕ) (ls : List (List ℕ)) (c : CertView) →
-    section_of (certificate_grammar g) n ls ≡ Ok (certificate_section c) →
+PrintsWhatIsRead = (l : Limits) (g : Setting) (n : ℕ) (ls : List (List ℕ)) (c : CertView) →
+    section_of (certificate_grammar l g) n ls ≡ Ok (certificate_section c) →
     flat_map with_line_feed (take (length c.entries + 2) ls) ≡ certificate_text c
 
 -- and it is read as the same certificate again, wherever it is
 abbrev pub ReadsWhatIsPrinted : Type 0
-ReadsWhatIsPrinted = (g : Setting) (text : List ℕ) (from n m : ℕ) (c : CertView) →
-    section_of (certificate_grammar g) n (drop from (lines_of text)) ≡ Ok (certificate_section c) →
-    section_of (certificate_grammar g) m (lines_of (certificate_text c)) ≡ Ok (certificate_section c)
+ReadsWhatIsPrinted = (l : Limits) (g : Setting) (text : List ℕ) (from n m : ℕ) (c : CertView) →
+    section_of (certificate_grammar l g) n (drop from (lines_of text)) ≡ Ok (certificate_section c) →
+    section_of (certificate_grammar l g) m (lines_of (certificate_text c)) ≡ Ok (certificate_section c)
 
 -- the first time of a wire is the least of the times of its stops
 abbrev pub FirstSeenTimeIsLeast : Type 0
@@ -81,20 +90,48 @@ GoodWithoutHalos = (g : Setting) (es : List CertificateLine) → AreGoodSectionL
     AreGoodSectionLines g (without_halos es)
 
 -- each line passes the tests of a section of this version after those before it
-abbrev pub AreFaultlessLines : Setting → ℕ → List CertificateLine → List CertificateLine → Type 0
-AreFaultlessLines g version before [] = Unit {0}
-AreFaultlessLines g version before (i ∷ es) =
-    ((certificate_grammar g).item_fault version before i ≡ None) × AreFaultlessLines g version (before ++ i ∷ []) es
+abbrev pub AreFaultlessLines : Limits → Setting → ℕ → List CertificateLine → List CertificateLine → Type 0
+AreFaultlessLines l g version before [] = Unit {0}
+AreFaultlessLines l g version before (i ∷ es) =
+    ((certificate_grammar l g).item_fault version before i ≡ None) × AreFaultlessLines l g version (before ++ i ∷ []) es
 
 -- the lines are what a section of this version has between its header and its end
-pub record IsSectionOf (g : Setting) (version : ℕ) (es : List CertificateLine) : Type 0 where
-  pub header : (certificate_grammar g).header_fault version ≡ None
-  pub lines : AreFaultlessLines g version [] es
-  pub end : (certificate_grammar g).end_fault version es ≡ None
+pub record IsSectionOf (l : Limits) (g : Setting) (version : ℕ) (es : List CertificateLine) : Type 0 where
+  pub header : (certificate_grammar l g).header_fault version ≡ None
+  pub lines : AreFaultlessLines l g version [] es
+  pub end : (certificate_grammar l g).end_fault version es ≡ None
 
 -- So a section of version 1 is one of version 2 without its halo lines, if each module knows the wires of the edge
 -- lines beside it.
 abbrev pub SectionWithoutHalos : Type 0
-SectionWithoutHalos = (g : Setting) (es : List CertificateLine) → IsSectionOf g 1 es →
+SectionWithoutHalos = (l : Limits) (g : Setting) (es : List CertificateLine) → IsSectionOf l g 1 es →
     lacks_edge_wire_beside g (modules_of es) ≡ false →
-    IsSectionOf g 2 (without_halos es)
+    IsSectionOf l g 2 (without_halos es)
+
+-- ---- limits
+
+-- With the first limits, the code of a `module` line after these lines: at most 1024 modules.
+abbrev pub first_module_code : Setting → List CertificateLine → Box2 → Option RefusalCode
+first_module_code g before b =
+    or_else (code_if (is_last_module_incomplete g (last_module before)) SomethingMissing)
+    (or_else (code_if (is_bad_box_side b.w || is_bad_box_side b.h || nat_le 1024 (length (modules_of before)))
+    PastLimit)
+    (or_else (code_if (is_misplaced g.size b) MisplacedBox)
+    (code_if (overlaps (areas (modules_of before)) b) MisplacedBox)))
+
+-- and of any line
+abbrev pub first_entry_fault : Setting → List CertificateLine → CertificateLine → Option RefusalCode
+first_entry_fault g before (Module b) = first_module_code g before b
+first_entry_fault g before i = entry_fault g before i
+
+-- with the first limits a line is tested as in a text without the line `limits 2`
+abbrev pub FirstLimitsAreKept : Type 0
+FirstLimitsAreKept = (g : Setting) (version : ℕ) (before : List CertificateLine) (i : CertificateLine) →
+    (certificate_grammar First g).item_fault version before i
+    ≡ or_else (code_if (is_haloless_version version && is_halo i) NoForm) (first_entry_fault g before i)
+
+-- a line that passes the first limits passes the second ones
+abbrev pub SecondLimitsAreWider : Type 0
+SecondLimitsAreWider = (g : Setting) (version : ℕ) (before : List CertificateLine) (i : CertificateLine) →
+    (certificate_grammar First g).item_fault version before i ≡ None →
+    (certificate_grammar Second g).item_fault version before i ≡ None

@@ -1,5 +1,5 @@
 //! Laws of the definitions, each the contract of a function without a body.
-ghost use Rattle.certificate.specs.Laws.{FirstSeenTimeIsLeast, GoodWithoutHalos, HaloIsEdgeBeside, ObeyedLinesAreOnTime, LastSeenTimeIsGreatest, TimeLinesAreTrue, BothVersionsGiveModules, PrintsWhatIsRead, ReadsWhatIsPrinted, SectionWithoutHalos};
+ghost use Rattle.certificate.specs.Laws.{FirstLimitsAreKept, FirstSeenTimeIsLeast, SecondLimitsAreWider, GoodWithoutHalos, HaloIsEdgeBeside, ObeyedLinesAreOnTime, LastSeenTimeIsGreatest, TimeLinesAreTrue, BothVersionsGiveModules, PrintsWhatIsRead, ReadsWhatIsPrinted, SectionWithoutHalos};
 
 pub use module_job::laws::{
     equality_is_of_content, job_is_placed_shape, shape_bytes_are_injective,
@@ -45,4 +45,10 @@ pub fn version_2_maps_to_version_1()
     ensures halos { HaloIsEdgeBeside }
     ensures good { GoodWithoutHalos }
     ensures section { SectionWithoutHalos }
+{}
+
+/// States that the first limits are those of a text without the line `limits 2`, and that the second ones let in more.
+pub fn first_limits_are_kept()
+    ensures kept { FirstLimitsAreKept }
+    ensures wider { SecondLimitsAreWider }
 {}

@@ -1,5 +1,7 @@
 -- Laws of the circuit section.
-use Rattle.std.specs.Prelude.{◌≡◌, ℕ, ◌+◌, ◌<◌, Bool, List, length, map, take, drop, Some, Ok, slice_get, IsTrue}
+use Rattle.std.specs.Prelude.{◌≡◌, ℕ, ◌+◌, ◌<◌, ◌&&◌, ◌||◌, Bool, List, length, map, take, drop, None, Some, Ok}
+use Rattle.std.specs.Prelude.{slice_get}
+use Rattle.std.specs.Prelude.{IsTrue, nat_le, nat_lt}
 use Rattle.section_text.specs.Words.{lines_of}
 use Rattle.circuit.specs.declared.circuit_line.GateKind.{GateKind}
 use Rattle.circuit.specs.declared.circuit_line.GateKind.TheVariants.{Source, Switch, Unswitch, Interact, Uninteract}
@@ -9,23 +11,27 @@ use Rattle.circuit.specs.Entries.{defined}
 use Rattle.section_text.specs.Section.{section_of, with_line_feed}
 use Rattle.circuit.specs.declared.circuit_line.CircuitLine.{CircuitLine}
 use Rattle.circuit.specs.Grammars.{circuit_grammar}
+use Rattle.section_text.specs.declared.limits.Limits.{Limits}
 use Rattle.circuit.specs.Text.{circuit_text}
 use Rattle.circuit.specs.Meaning.{Netlist, Valuation, Satisfies, AreOrdered, AreNonInverse, IsUndefined, wires, wire_of}
 use Rattle.circuit.specs.Bridge.{AreGoodCircuitLines, AreValues, ValuesStopAt, input_count, input_names, gates_of}
-use Rattle.circuit.specs.Bridge.{netlist_of}
-use Rattle.circuit.specs.Bridge.{circuit_of}
+use Rattle.circuit.specs.Bridge.{circuit_of, netlist_of}
+use Rattle.circuit.specs.Rules.{add_fault_within, gate_count, is_gate, is_wrong_delay, name_fault}
+use Rattle.section_text.specs.Codes.{code_if, or_else}
+use Rattle.section_text.specs.declared.code.RefusalCode.TheVariants.{PastLimit}
+use Rattle.section_text.specs.declared.limits.Limits.TheVariants.{First, Second}
 
 -- the text of a circuit that is read is the text of the lines that it is read from
 abbrev pub PrintsWhatIsRead : Type 0
-PrintsWhatIsRead = (n : ℕ) (ls : List (List ℕ)) (entries : List CircuitLine) →
-    section_of circuit_grammar n ls ≡ Ok (tt, entries) →
+PrintsWhatIsRead = (l : Limits) (n : ℕ) (ls : List (List ℕ)) (entries : List CircuitLine) →
+    section_of (circuit_grammar l) n ls ≡ Ok (tt, entries) →
     flat_map with_line_feed (take (length entries + 2) ls) ≡ circuit_text entries
 
 -- and it is read as the same circuit again, wherever it is
 abbrev pub ReadsWhatIsPrinted : Type 0
-ReadsWhatIsPrinted = (text : List ℕ) (from n m : ℕ) (entries : List CircuitLine) →
-    section_of circuit_grammar n (drop from (lines_of text)) ≡ Ok (tt, entries) →
-    section_of circuit_grammar m (lines_of (circuit_text entries)) ≡ Ok (tt, entries)
+ReadsWhatIsPrinted = (l : Limits) (text : List ℕ) (from n m : ℕ) (entries : List CircuitLine) →
+    section_of (circuit_grammar l) n (drop from (lines_of text)) ≡ Ok (tt, entries) →
+    section_of (circuit_grammar l) m (lines_of (circuit_text entries)) ≡ Ok (tt, entries)
 
 -- the gates of a good list of lines are ordered
 abbrev pub GatesAreOrdered : Type 0
@@ -108,3 +114,18 @@ pub record Undoes (gate inverse : GateKind) : Type 0 where
 pub record InverseGatesUndo : Type 0 where
   pub switch : Undoes Switch Unswitch
   pub interact : Undoes Interact Uninteract
+
+-- ---- limits
+
+-- With the first limits a line is tested as in a text without the line `limits 2`: a delay of 1 to 4096, at most 4096
+-- wires and 1024 gates, and then the names.
+abbrev pub FirstLimitsAreKept : Type 0
+FirstLimitsAreKept = (entries : List CircuitLine) (r : CircuitLine) →
+    add_fault_within First entries r ≡ or_else (code_if (is_wrong_delay r.kind
+    || (nat_lt 4096 (length (defined entries) + length r.outs) || (is_gate r.kind && nat_le 1024 (gate_count entries))))
+    PastLimit) (name_fault entries r)
+
+-- a line that passes the first limits passes the second ones
+abbrev pub SecondLimitsAreWider : Type 0
+SecondLimitsAreWider = (entries : List CircuitLine) (r : CircuitLine) → add_fault_within First entries r ≡ None →
+    add_fault_within Second entries r ≡ None

@@ -1,5 +1,5 @@
 //! Laws of the definitions.
-ghost use Rattle.circuit.specs.Laws.{PrintsWhatIsRead, ReadsWhatIsPrinted, GatesAreOrdered, HasValuationIfDefined, UndefinedHasNoValuation, OnlyInverseGatesAreUndefined, AtMostOneGateIsUndefined, ValuesStopAtUndefinedGate, HasAtMostOneValuation, NoninverseHasOneValuation, ValuesAreTheValuation, WiresAreNamed, WireNamesAreDistinct, InputsAreFirst, GatesKeepOnes, InverseGatesUndo};
+ghost use Rattle.circuit.specs.Laws.{PrintsWhatIsRead, ReadsWhatIsPrinted, GatesAreOrdered, HasValuationIfDefined, UndefinedHasNoValuation, OnlyInverseGatesAreUndefined, AtMostOneGateIsUndefined, ValuesStopAtUndefinedGate, HasAtMostOneValuation, NoninverseHasOneValuation, ValuesAreTheValuation, WiresAreNamed, WireNamesAreDistinct, InputsAreFirst, GatesKeepOnes, InverseGatesUndo, FirstLimitsAreKept, SecondLimitsAreWider};
 
 /// States that a circuit has one text.
 ///
@@ -65,4 +65,11 @@ pub fn gates_keep_ones()
 #[tactic(auto, using(crate::proofs::GateLaws::inverse_gates_undo))]
 pub fn inverse_gates_undo()
     ensures { InverseGatesUndo }
+{}
+
+/// States that the first limits are those of a text without the line `limits 2`, and that the second ones let in more.
+#[tactic(auto, using(crate::proofs::LimitLaws::first_limits_are_kept, crate::proofs::LimitLaws::second_limits_are_wider))]
+pub fn first_limits_are_kept()
+    ensures kept { FirstLimitsAreKept }
+    ensures wider { SecondLimitsAreWider }
 {}

@@ -20,18 +20,21 @@ use Rattle.headline.proofs.Migrations.{HasSections, IsGoodBundle, IsMigrated, bu
 use Rattle.headline.proofs.Migrations.{says_design, sections_read, unchanged, was_migrated}
 use Rattle.headline.proofs.YesIsRight.{by_outcome}
 use Rattle.core_book.specs.declared.verdict.Verdict.TheVariants as verdict
+use Rattle.section_text.specs.declared.limits.Limits.{Limits}
+use Rattle.meaning.specs.Design.{front_text, text_limits}
 
 -- ---- two words for good lines
 
-as_lines : (g : Setting) (v : ℕ) (es before : List CertificateLine) → AreFaultless (certificate_grammar g) v before es →
-    AreFaultlessLines g v before es
-as_lines g v [] before h = tt
-as_lines g v (i ∷ es) before h = (h.0, as_lines g v es (before ++ i ∷ []) h.1)
+as_lines : (l : Limits) (g : Setting) (v : ℕ) (es before : List CertificateLine) →
+    AreFaultless (certificate_grammar l g) v before es →
+    AreFaultlessLines l g v before es
+as_lines l g v [] before h = tt
+as_lines l g v (i ∷ es) before h = (h.0, as_lines l g v es (before ++ i ∷ []) h.1)
 
-from_lines : (g : Setting) (v : ℕ) (es before : List CertificateLine) → AreFaultlessLines g v before es →
-    AreFaultless (certificate_grammar g) v before es
-from_lines g v [] before h = tt
-from_lines g v (i ∷ es) before h = (h.0, from_lines g v es (before ++ i ∷ []) h.1)
+from_lines : (l : Limits) (g : Setting) (v : ℕ) (es before : List CertificateLine) → AreFaultlessLines l g v before es →
+    AreFaultless (certificate_grammar l g) v before es
+from_lines l g v [] before h = tt
+from_lines l g v (i ∷ es) before h = (h.0, from_lines l g v es (before ++ i ∷ []) h.1)
 
 -- ---- the certificate of a report
 
@@ -46,7 +49,11 @@ record IsReportedYes (output : List ℕ) : Type 0 where
   pub reported : IsReportOf output report Yes
 
 module _ (text report output : List ℕ) (b : Bundle) (read : bundle_of text ≡ Ok b) (says : SaysReport b report Yes)
-    (is : says.verdict ≡ verdict.Yes) (one : b.version ≡ 1) (written : output ≡ migrate_of b) where
+    (is : says.verdict ≡ verdict.Yes) (one : b.version ≡ 1)
+    (written : output ≡ front_text (text_limits text) ++ migrate_of b) where
+  abbrev l : Limits
+  l = text_limits text
+
   abbrev c : CertView
   c = says.certificate
 
@@ -56,7 +63,7 @@ module _ (text report output : List ℕ) (b : Bundle) (read : bundle_of text ≡
   abbrev ms : List ModuleLines
   ms = modules_of c.entries
 
-  good : IsGoodBundle b
+  good : IsGoodBundle l b
   good = good_read text b read
 
   own : setting_of b.circuit (layout_of b.size b.parts) ≡ g
@@ -66,46 +73,49 @@ module _ (text report output : List ℕ) (b : Bundle) (read : bundle_of text ≡
   version = says.its_own.version ∙ one
 
   -- its lines are a section of version 1
-  faultless : IsFaultless (certificate_grammar g) 1 c.entries
+  faultless : IsFaultless (certificate_grammar l g) 1 c.entries
   faultless =
-      subst (λ es. IsFaultless (certificate_grammar g) 1 es) (sym says.its_own.entries)
-      (subst (λ v. IsFaultless (certificate_grammar g) v b.entries) one
-      (subst (λ h. IsFaultless (certificate_grammar h) b.version b.entries) own good.certificate))
+      subst (λ es. IsFaultless (certificate_grammar l g) 1 es) (sym says.its_own.entries)
+      (subst (λ v. IsFaultless (certificate_grammar l g) v b.entries) one
+      (subst (λ h. IsFaultless (certificate_grammar l h) b.version b.entries) own good.certificate))
 
-  section : IsSectionOf g 1 c.entries
-  section = record { header = faultless.header; lines = as_lines g 1 c.entries [] faultless.each; end = faultless.end }
+  section : IsSectionOf l g 1 c.entries
+  section =
+      record { header = faultless.header; lines = as_lines l g 1 c.entries [] faultless.each; end = faultless.end }
 
   accepts : Accepts g (modules_in c) says.is_verdict.jobs
   unfolding IsVerdict
   accepts = subst (λ v. IsVerdict g (modules_in c) says.is_verdict.jobs v) is says.is_verdict.judged
 
-  accepted : IsAcceptedMigration c
-  accepted = migration_accepted c says.is_verdict.jobs version section says.is_verdict.are_jobs accepts
+  accepted : IsAcceptedMigration l c
+  accepted = migration_accepted l c says.is_verdict.jobs version section says.is_verdict.are_jobs accepts
 
   -- and without halo lines a section of version 2
-  faultless_two : IsFaultless (certificate_grammar g) 2 (without_halos c.entries)
+  faultless_two : IsFaultless (certificate_grammar l g) 2 (without_halos c.entries)
   faultless_two = record {
     header = accepted.section.header;
-    each = from_lines g 2 (without_halos c.entries) [] accepted.section.lines;
+    each = from_lines l g 2 (without_halos c.entries) [] accepted.section.lines;
     end = accepted.section.end;
   }
 
-  good_two : IsGoodBundle (migrated_bundle b)
+  good_two : IsGoodBundle l (migrated_bundle b)
   good_two = record {
     circuit = good.circuit;
     layout = good.layout;
-    certificate = subst (λ es. IsFaultless (certificate_grammar (setting_of b.circuit (layout_of b.size b.parts))) 2
+    certificate = subst (λ es. IsFaultless (certificate_grammar l (setting_of b.circuit (layout_of b.size b.parts))) 2
         (without_halos es)) says.its_own.entries
-        (subst (λ h. IsFaultless (certificate_grammar h) 2 (without_halos c.entries)) (sym own) faultless_two);
+        (subst (λ h. IsFaultless (certificate_grammar l h) 2 (without_halos c.entries)) (sym own) faultless_two);
   }
 
   read_two : bundle_of output ≡ Ok (migrated_bundle b)
-  read_two = bundle_made output (migrated_bundle b)
+  read_two =
+      let made = migrated_sections l text b (sections_read text b read) in
+      bundle_made output (migrated_bundle b)
       (subst (λ t. HasSections t (migrated_bundle b)) (sym written)
-      (migrated_sections text b (sections_read text b read))) good_two
+      made.1) (subst (λ m. IsGoodBundle m (migrated_bundle b)) (sym (ap text_limits written ∙ made.0)) good_two)
 
   complete : lacks_edge_wire_beside g ms ≡ false
-  complete = sym (migrated_lacks g c.entries) ∙ read_complete g 2 (without_halos c.entries) faultless_two
+  complete = sym (migrated_lacks g c.entries) ∙ read_complete l g 2 (without_halos c.entries) faultless_two
 
   same_modules : modules_in c ≡ ms
   same_modules = meant_old c.version g ms (ap is_haloless_version version)
@@ -114,15 +124,15 @@ module _ (text report output : List ℕ) (b : Bundle) (read : bundle_of text ≡
   unfolding IsVerdict
   verdict_two =
       let jobs = full_jobs c.circuit c.layout ms
-      (faultless_modules g 1 c.entries faultless) complete says.is_verdict.jobs
+      (faultless_modules l g 1 c.entries faultless) complete says.is_verdict.jobs
       (subst (λ ns. AreJobsOf (circuit_of c.circuit) c.layout ns says.is_verdict.jobs) same_modules
       says.is_verdict.are_jobs) in
       let are : AreJobsOf (circuit_of c.circuit) c.layout (modules_in (migrated c)) jobs.0 =
       subst (λ ns. AreJobsOf (circuit_of c.circuit) c.layout ns jobs.0) (sym (migrated_modules g c.entries)) jobs.1 in
       record {
         good = meant_modules 2 g (modules_of (without_halos c.entries))
-            (faultless_modules g 2 (without_halos c.entries) faultless_two)
-            (read_complete g 2 (without_halos c.entries) faultless_two);
+            (faultless_modules l g 2 (without_halos c.entries) faultless_two)
+            (read_complete l g 2 (without_halos c.entries) faultless_two);
         jobs = jobs.0;
         are_jobs = are;
         judged = accepted.accepted jobs.0 are;
@@ -174,10 +184,10 @@ of_bundle text report output m reports b read says is = by (b.version == 2) refl
         unchanged text output m (ap (λ (d : Bundle). d.version) same ∙ is_two b.version two) in
         record { report = report; reported = subst (λ t. IsReportOf t report Yes) (sym unmoved) reports }
     by false other =
-        let v = read_version (setting_of b.circuit (layout_of b.size b.parts)) b.version b.entries
+        let v = read_version (text_limits text) (setting_of b.circuit (layout_of b.size b.parts)) b.version b.entries
         ((good_read text b read).certificate) in
         reported_yes text report output b read says is (which_version b.version v.0 v.1 other)
-        (m.says ∙ ap migrate_of same)
+        (m.says ∙ ap (λ d. front_text (text_limits text) ++ migrate_of d) same)
 
 pub migration_is-accepted : MigrationKeepsYes
 migration_is-accepted text report output reports migrates =

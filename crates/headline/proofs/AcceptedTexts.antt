@@ -7,7 +7,8 @@ use Rattle.headline.proofs.Imports.{All, All-head, All-tail, Bundle, Cell, Circu
 use Rattle.headline.proofs.Imports.{Gate, HasNoDelay, Input, Interact, IsCorrect, IsDesign, IsInputName}
 use Rattle.headline.proofs.Imports.{IsPlain, IsReportOf, IsSmallDesign, List, Meet, Module, ModuleLines, No, Ok}
 use Rattle.headline.proofs.Imports.{Outcome, Output, Pattern, Refused, Some, Stop, StopHolds, StopLine, Switch}
-use Rattle.headline.proofs.Imports.{TouchesRim, Unswitch, Use, Yes, [], arith, bit, bundle_of, cell, circuit_of}
+use Rattle.headline.proofs.Imports.{TouchesRim, Unswitch, Use, Yes, [], arith, bit, bundle_of, bundle_with, cell}
+use Rattle.headline.proofs.Imports.{circuit_of}
 use Rattle.headline.proofs.Imports.{codes, cuts, design_text, evaluate, fault_cmp, flat_map, in_span, job_demand}
 use Rattle.headline.proofs.Imports.{job_start, local_run, modules_of, netlist_of, numbered_all_times, numbered_event}
 use Rattle.headline.proofs.Imports.{numbered_signals, partner, parts_of, plain_lines, refl, row, slice_get}
@@ -20,6 +21,11 @@ use Rattle.certificate.specs.Jobs.{end_demand, start_signal}
 use Rattle.local_run.specs.Runs.{local_step, with_halo}
 use Rattle.soundness.proofs.NumberedSignals.{numbered, place_among}
 use Rattle.soundness.proofs.SomeJobs.{demanded, placed_gate, placed_gates, placed_stop, places}
+use Rattle.meaning.specs.Design.{front_text}
+use Rattle.section_text.specs.declared.limits.Limits.TheVariants.{Second}
+use Rattle.headline.proofs.Imports.{AnswersOrRefuses, Err, SaysReport, sym, ◌++◌}
+use Rattle.report.specs.ReportText.{refusal_line}
+use Rattle.headline.specs.Fronts.{WideTextIsAccepted, WideTextIsRefused, wide_text}
 use Rattle.headline.specs.Laws.{ThereAndBackTextIsAccepted, TimedModulesTextIsAccepted}
 use Rattle.headline.specs.PlainLaws.{ThereAndBackTextIsPlain, ThereAndBackTextIsSmall}
 use Rattle.headline.specs.PlainNo.{plain_no_text}
@@ -170,11 +176,14 @@ record AreRead : Type 0 where
   pub reads : bundle_of there_and_back_text ≡ Ok bundle
   pub yes : IsReadAndPasses (bundle_of plain_yes_text)
   pub yes_reads : bundle_of plain_yes_text ≡ Ok (meeting_bundle right_layout)
+  pub wide : IsReadAndPasses (bundle_of (front_text Second ++ wide_text))
+  pub wide_is_refused : bundle_of wide_text ≡ Err (record { line = 3; code = 2 })
   pub no_reads : bundle_of plain_no_text ≡ Ok (meeting_bundle wrong_layout)
   pub no_fails : Fails (meeting_bundle wrong_layout) wrong_layout one (cell 2 2) 1 (Meet 0 (Some 1) ∷ [])
 
 are_read : AreRead
-unfolding timed_modules_text there_and_back_text plain_yes_text plain_no_text bundle_of words.lines_of
+unfolding wide_text timed_modules_text there_and_back_text plain_yes_text plain_no_text bundle_of bundle_with
+    words.lines_of
     words.bytes_after_last_line_feed
     words.number_of
     words.name_of
@@ -185,7 +194,8 @@ unfolding timed_modules_text there_and_back_text plain_yes_text plain_no_text bu
     circuit_forms.gate_kind circuit_forms.bit_at circuit_rules.add_fault meaning.number meaning.place_of
     layout_forms.form_of layout_forms.cell_of_words_from layout_forms.cell_after_keyword layout_forms.port_after_keyword
     layout_forms.port_of
-    layout_forms.size_of layout_forms.sides_and_steps layout_rules.size_fault layout_rules.limit_fault
+    layout_forms.size_of layout_forms.sides_and_steps layout_rules.size_fault layout_rules.text_size_fault
+    layout_rules.limit_fault layout_rules.text_limit_fault
     layout_rules.rank_of layout_rules.has_later_kind_before layout_rules.order_fault layout_rules.name_fault
     layout_rules.cells_of
     layout_rules.is_inside layout_rules.takes_at_start layout_rules.takes_at_end layout_rules.cells_taken_at_start
@@ -200,7 +210,8 @@ unfolding timed_modules_text there_and_back_text plain_yes_text plain_no_text bu
     rules.are_new_and_distinct rules.used_gate_fault
     rules.use_line_code rules.keep_line_code rules.is_line_time_allowed rules.is_edge_place_and_time
     rules.is_halo_place_and_time rules.is_stop_place_and_time
-    rules.signal_fault rules.border_line_code rules.entry_fault rules.end_fault cell_cmp versions.modules_by_version
+    rules.signal_fault rules.border_line_code rules.entry_fault rules.module_limit_fault rules.end_fault cell_cmp
+    versions.modules_by_version
     start_signal
     end_demand
     port_at places placed_gate placed_gates place_among numbered numbered_all_times numbered_event numbered_signals
@@ -214,6 +225,8 @@ are_read = record {
   reads = refl;
   yes = record { layout = refl; tests = record { jobs = refl; kept = refl; borders = refl; on_time = refl } };
   yes_reads = refl;
+  wide = record { layout = refl; tests = record { jobs = refl; kept = refl; borders = refl; on_time = refl } };
+  wide_is_refused = refl;
   no_reads = refl;
   no_fails = record {
     layout = refl;
@@ -230,6 +243,13 @@ are_read = record {
 pub timed_accepted : TimedModulesTextIsAccepted
 timed_accepted = accepted_if timed_modules_text are_read.timed
 
+pub wide_accepted : WideTextIsAccepted
+wide_accepted = accepted_if (front_text Second ++ wide_text) are_read.wide
+
+pub wide_refused : WideTextIsRefused
+wide_refused = subst (λ r. AnswersOrRefuses SaysReport r (refusal_line (record { line = 3; code = 2 })) Refused)
+    (sym are_read.wide_is_refused) (refl, refl)
+
 pub inverse_accepted : ThereAndBackTextIsAccepted
 inverse_accepted = accepted_if there_and_back_text are_read.inverse
 
@@ -244,7 +264,8 @@ small = record {
   circuit = circuit;
   layout = layout;
   plain = is_plain_text there_and_back_text bundle layout are_read.reads refl refl refl;
-  small = record { wide = omega arith; high = omega arith; inputs = omega arith; gates = omega arith };
+  small =
+      record { wide = omega arith; high = omega arith; short = omega arith; inputs = omega arith; gates = omega arith };
 }
 
 -- ---- two balls that meet, with the right layout and with a wrong one
@@ -320,7 +341,8 @@ no_delay zero steps a b is = grind (arith, common_steps)
 no_delay (suc k) steps a b is = absurd cc
 
 few : (b c : Cell) → IsSmallDesign meeting (meeting_in b c)
-few b c = record { wide = omega arith; high = omega arith; inputs = omega arith; gates = omega arith }
+few b c =
+    record { wide = omega arith; high = omega arith; short = omega arith; inputs = omega arith; gates = omega arith }
 
 right_design : IsDesign meeting right_layout
 right_design = design_read plain_yes_text (meeting_bundle right_layout) right_layout are_read.yes_reads refl

@@ -1,46 +1,52 @@
 -- The design that a text says.
 use Rattle.headline.proofs.Imports.{CertificateLine, CircuitLine, List, Ok, Option, Pattern, PortNameLists, SaysBundle}
 use Rattle.headline.proofs.Imports.{SaysDesign, Setting, ap, ap₂, certificate_grammar, circuit_grammar, drop}
-use Rattle.headline.proofs.Imports.{layout_grammar, layout_section, length, lines_of, one_section, parts_of, section_of}
+use Rattle.headline.proofs.Imports.{layout_grammar, layout_section, length, one_section, parts_of, section_of}
 use Rattle.headline.proofs.Imports.{section_said, sym, take, take-append-drop, ℕ, ◌++◌, ◌+◌, ◌∙◌, ◌≡◌}
 use Rattle.headline.specs.Laws.{SaysOneCertificate, SaysOneDesign}
 use Rattle.headline.proofs.OneAnswer.{one_layout}
 use Rattle.circuit.specs.Forms.{form_of as circuit_form}
 use Rattle.pattern.specs.Forms.{form_of as layout_form}
 use Rattle.certificate_lines.specs.Forms.{form_of as certificate_form}
+use Rattle.section_text.specs.declared.limits.Limits.{Limits}
+use Rattle.meaning.specs.Design.{section_lines}
 
 -- ---- the two sections of a design
 
-pub design_said : (text : List ℕ) (circuit : List CircuitLine) (named : Option PortNameLists) (n : ℕ) (layout : Pattern)
-    → section_of circuit_grammar 0 (lines_of text) ≡ Ok (tt, circuit)
-    → section_of (layout_grammar named) n (drop (length circuit + 2) (lines_of text)) ≡ Ok (layout_section layout)
+pub design_said : (l : Limits) (from : ℕ) (text : List ℕ) (circuit : List CircuitLine) (named : Option PortNameLists)
+    (n : ℕ) (layout : Pattern)
+    → section_of (circuit_grammar l) from (section_lines text) ≡ Ok (tt, circuit)
+    → section_of (layout_grammar l named) n (drop (length circuit + 2) (section_lines text))
+    ≡ Ok (layout_section layout)
     → SaysDesign text circuit layout
-design_said text circuit named n layout first second =
+design_said l from text circuit named n layout first second =
     let k = length circuit + 2 in
-    let later = drop k (lines_of text) in
+    let later = drop k (section_lines text) in
     let m = length (layout_section layout).1 + 2 in
     record {
-      first = take k (lines_of text);
+      first = take k (section_lines text);
       second = take m later;
       others = drop m later;
-      lines = sym (ap (λ ls. take k (lines_of text) ++ ls) (take-append-drop m later)
-          ∙ take-append-drop k (lines_of text));
-      circuit_is = section_said circuit_grammar 0 (lines_of text) tt circuit first;
-      layout_is = section_said (layout_grammar named) n later layout.size (layout_section layout).1 second;
+      lines = sym (ap (λ ls. take k (section_lines text) ++ ls) (take-append-drop m later)
+          ∙ take-append-drop k (section_lines text));
+      circuit_is = section_said (circuit_grammar l) from (section_lines text) tt circuit first;
+      layout_is = section_said (layout_grammar l named) n later layout.size (layout_section layout).1 second;
     }
 
 -- and the section after them
-pub bundle_said : (text : List ℕ) (circuit : List CircuitLine) (named : Option PortNameLists) (n : ℕ) (layout : Pattern)
+pub bundle_said : (l : Limits) (from : ℕ) (text : List ℕ) (circuit : List CircuitLine) (named : Option PortNameLists)
+    (n : ℕ) (layout : Pattern)
     (g : Setting)
     (m version : ℕ) (lines : List CertificateLine)
-    → section_of circuit_grammar 0 (lines_of text) ≡ Ok (tt, circuit)
-    → section_of (layout_grammar named) n (drop (length circuit + 2) (lines_of text)) ≡ Ok (layout_section layout)
-    → section_of (certificate_grammar g) m
-    (drop (length (layout_section layout).1 + 2) (drop (length circuit + 2) (lines_of text))) ≡ Ok (version, lines)
+    → section_of (circuit_grammar l) from (section_lines text) ≡ Ok (tt, circuit)
+    → section_of (layout_grammar l named) n (drop (length circuit + 2) (section_lines text))
+    ≡ Ok (layout_section layout)
+    → section_of (certificate_grammar l g) m
+    (drop (length (layout_section layout).1 + 2) (drop (length circuit + 2) (section_lines text))) ≡ Ok (version, lines)
     → SaysBundle text circuit layout lines
 unfolding design_said
-bundle_said text circuit named n layout g m version lines first second third =
-    let d = design_said text circuit named n layout first second in
+bundle_said l from text circuit named n layout g m version lines first second third =
+    let d = design_said l from text circuit named n layout first second in
     let k = length lines + 2 in
     record {
       design = d;
@@ -48,7 +54,7 @@ bundle_said text circuit named n layout g m version lines first second third =
       third = take k d.others;
       rest = drop k d.others;
       lines = sym (take-append-drop k d.others);
-      certificate_is = section_said (certificate_grammar g) m d.others version lines third;
+      certificate_is = section_said (certificate_grammar l g) m d.others version lines third;
     }
 
 -- ---- a text says one design

@@ -1,7 +1,7 @@
 -- The names from outside this folder that two or more proofs of this crate use, in one file to import them from.
 pub use Rattle.answers.specs.Answers.{AnswersOrRefuses, pair_with_result}
 pub use Rattle.answers.specs.BundleText.{Bundle}
-unfoldable pub use Rattle.answers.specs.BundleText.{bundle_of}
+unfoldable pub use Rattle.answers.specs.BundleText.{bundle_of, bundle_with}
 pub use Rattle.answers.specs.CheckText.{IsReportOf, IsVerdictOn, SaysReport, verdict_outcome}
 pub use Rattle.answers.specs.MigrateText.{IsMigrationOf, SaysMigration, migrate_of, migrated_bundle}
 unfoldable pub use Rattle.answers.specs.MigrateText.{bundle_text, certificate_section_text, layout_section_text}

@@ -8,6 +8,7 @@ mod PassingTexts
 mod FailingTexts
 mod SomeRun
 mod Designs
+mod FewWires
 mod AcceptedTexts
 pub mod FourthLines
 pub mod YesIsRight
@@ -33,3 +34,4 @@ mod Printed
 pub mod YesIsPrinted
 mod AcceptedMigrations
 pub mod Imports
+mod Fronts

@@ -3,7 +3,7 @@ use Rattle.headline.proofs.Imports.{AreFaultless, AreLines, Bool, Bundle, Certif
 use Rattle.headline.proofs.Imports.{CircuitLine, End, Grammar, Header, IsFaultless, IsMigrationOf, IsSection, Item}
 use Rattle.headline.proofs.Imports.{LayoutHeader, LayoutLine, List, None, Ok, Option, Pattern, Refusal, RefusalCode}
 use Rattle.headline.proofs.Imports.{Refused, Result, SaysBundle, SaysDesign, Setting, Some, Yes, [], ap}
-use Rattle.headline.proofs.Imports.{append-nil, append_assoc, ap₂, arith, bundle_of, bundle_text}
+use Rattle.headline.proofs.Imports.{append-nil, append_assoc, ap₂, arith, bundle_of, bundle_with, bundle_text}
 use Rattle.headline.proofs.Imports.{bytes_after_last_line_feed, certificate_grammar, certificate_section_text}
 use Rattle.headline.proofs.Imports.{circuit_grammar, clean_both, code_if, codes, common_steps, false, flat_map}
 use Rattle.headline.proofs.Imports.{flat_map-append, if◌then◌else◌, is_word_at, layout_grammar, layout_of}
@@ -13,11 +13,10 @@ use Rattle.headline.proofs.Imports.{number_of, one_line, one_section, or_else, p
 use Rattle.headline.proofs.Imports.{refl, section_made, section_said, setting_of, subst, sym, take, take-append-drop}
 use Rattle.headline.proofs.Imports.{text_said, true, value_if_at_end, with_line_feed, without_halos, words_of, ℕ, ◌++◌}
 use Rattle.headline.proofs.Imports.{◌+◌, ◌∙◌, ◌∷◌, ◌≡◌}
-use Rattle.lemmas.proofs.Common.{drop-append_seam}
+use Rattle.lemmas.proofs.Common.{drop, drop-append_seam, suc, zero}
 use Rattle.section_text.specs.Sections.{section_then}
 use Rattle.section_text.proofs.Again.{lines_clean}
 use Rattle.section_text.proofs.Joined.{at_the_end}
-use Rattle.section_text.proofs.Lines.{whole_text}
 use Rattle.section_text.proofs.MadeSections.{clean_left, clean_right, forms, items_said}
 use Rattle.certificate_lines.specs.Versions.{is_halo}
 use Rattle.answers.proofs.KeptLines.{with_other, without_halo}
@@ -32,6 +31,11 @@ use Rattle.pattern.proofs.Spelling.{form_line as layout_spelled}
 use Rattle.certificate_lines.specs.Forms.{form_of as certificate_form}
 use Rattle.certificate.specs.Text.{form_text as certificate_line}
 use Rattle.certificate.proofs.Spelling.{form_line as certificate_spelled}
+use Rattle.section_text.specs.declared.limits.Limits.{Limits}
+use Rattle.section_text.specs.declared.limits.Limits.TheVariants.{First}
+use Rattle.section_text.specs.Limits.{front_lines, limits_of}
+use Rattle.meaning.specs.Design.{front_text, section_lines, text_limits}
+use Rattle.meaning.proofs.Fronts.{HasFront, first_limits, front_and_lines, has_front}
 
 -- ---- a text by its sections
 
@@ -40,21 +44,22 @@ pub record HasSections (text : List ℕ) (b : Bundle) : Type 0 where
   pub first : List (List ℕ)
   pub second : List (List ℕ)
   pub third : List (List ℕ)
-  pub lines : lines_of text ≡ first ++ (second ++ third)
+  pub lines : section_lines text ≡ first ++ (second ++ third)
   pub rest : bytes_after_last_line_feed text ≡ []
   pub circuit_is : IsSection circuit_form first tt b.circuit
   pub layout_is : IsSection layout_form second b.size b.parts
   pub certificate_is : IsSection certificate_form third b.version b.entries
 
 -- no line of them has a fault
-pub record IsGoodBundle (b : Bundle) : Type 0 where
-  pub circuit : IsFaultless circuit_grammar tt b.circuit
-  pub layout : IsFaultless (layout_grammar (Some (port_names_of b.circuit))) b.size b.parts
+pub record IsGoodBundle (l : Limits) (b : Bundle) : Type 0 where
+  pub circuit : IsFaultless (circuit_grammar l) tt b.circuit
+  pub layout : IsFaultless (layout_grammar l (Some (port_names_of b.circuit))) b.size b.parts
   pub certificate : IsFaultless
-      (certificate_grammar (setting_of b.circuit (layout_of b.size b.parts))) b.version b.entries
+      (certificate_grammar l (setting_of b.circuit (layout_of b.size b.parts))) b.version b.entries
 
 pub sections_read : (text : List ℕ) (b : Bundle) → bundle_of text ≡ Ok b → HasSections text b
 sections_read text b e =
+    let l : Limits = text_limits text in
     let r = in_sections text b e in
     let i = length b.circuit + 2 in
     let j = length b.parts + 2 in
@@ -64,26 +69,29 @@ sections_read text b e =
     let whole : take n last ≡ last =
     sym (append-nil (take n last)) ∙ ap (λ ls. take n last ++ ls) (sym r.nothing_more) ∙ take-append-drop n last in
     record {
-      first = take i (lines_of text);
+      first = take i (section_lines text);
       second = take j later;
       third = take n last;
-      lines = sym (ap (λ ls. take i (lines_of text) ++ (take j later ++ ls)) whole
-          ∙ ap (λ ls. take i (lines_of text) ++ ls) (take-append-drop j later) ∙ take-append-drop i (lines_of text));
+      lines = sym (ap (λ ls. take i (section_lines text) ++ (take j later ++ ls)) whole
+          ∙ ap (λ ls. take i (section_lines text) ++ ls) (take-append-drop j later)
+          ∙ take-append-drop i (section_lines text));
       rest = r.ended;
-      circuit_is = section_said circuit_grammar 0 (lines_of text) tt b.circuit r.circuit;
-      layout_is = section_said (layout_grammar (Some (port_names_of b.circuit))) _ later b.size b.parts r.layout;
+      circuit_is = section_said (circuit_grammar l) (front_lines l) (section_lines text) tt b.circuit r.circuit;
+      layout_is = section_said (layout_grammar l (Some (port_names_of b.circuit))) _ later b.size b.parts r.layout;
       certificate_is = section_said
-          (certificate_grammar (setting_of b.circuit (layout_of b.size b.parts))) _ last b.version b.entries
+          (certificate_grammar l (setting_of b.circuit (layout_of b.size b.parts))) _ last b.version b.entries
           r.certificate;
     }
 
-pub good_read : (text : List ℕ) (b : Bundle) → bundle_of text ≡ Ok b → IsGoodBundle b
+pub good_read : (text : List ℕ) (b : Bundle) → bundle_of text ≡ Ok b → IsGoodBundle (text_limits text) b
 good_read text b e =
+    let l : Limits = text_limits text in
     let r = in_sections text b e in
     record {
-      circuit = read_faultless circuit_grammar 0 (lines_of text) tt b.circuit r.circuit;
+      circuit = read_faultless (circuit_grammar l) (front_lines l) (section_lines text) tt b.circuit r.circuit;
       layout = (bundle_good text b e).layout;
-      certificate = read_faultless (certificate_grammar (setting_of b.circuit (layout_of b.size b.parts))) _ _ b.version
+      certificate = read_faultless (certificate_grammar l (setting_of b.circuit (layout_of b.size b.parts))) _ _
+          b.version
           b.entries r.certificate;
     }
 
@@ -99,7 +107,7 @@ then_made : {H I B : Type 0} (g : Grammar H I) (n : ℕ) (ls others lines : List
     section_then g n lines next ≡ next h items (n + (length items + 2)) others
 then_made g n ls others lines h items next e is good = grind (arith, section_made, section_length, drop-append_seam)
 
-module _ (text : List ℕ) where
+module _ (l : Limits) (text : List ℕ) where
   abbrev ended : List CircuitLine → LayoutHeader → List LayoutLine → ℕ → List CertificateLine → ℕ → List (List ℕ) →
       Result Bundle Refusal
   ended circuit size parts version entries k last =
@@ -108,26 +116,29 @@ module _ (text : List ℕ) where
 
   abbrev after_layout : List CircuitLine → LayoutHeader → List LayoutLine → ℕ → List (List ℕ) → Result Bundle Refusal
   after_layout circuit size parts m later =
-      section_then (certificate_grammar (setting_of circuit (layout_of size parts))) m later (ended circuit size parts)
+      section_then (certificate_grammar l (setting_of circuit (layout_of size parts))) m later
+      (ended circuit size parts)
 
   abbrev after_circuit : Unit {0} → List CircuitLine → ℕ → List (List ℕ) → Result Bundle Refusal
   after_circuit _ circuit n ahead =
-      section_then (layout_grammar (Some (port_names_of circuit))) n ahead (after_layout circuit)
+      section_then (layout_grammar l (Some (port_names_of circuit))) n ahead (after_layout circuit)
 
-pub bundle_made : (text : List ℕ) (b : Bundle) → HasSections text b → IsGoodBundle b → bundle_of text ≡ Ok b
-unfolding bundle_of
+pub bundle_made : (text : List ℕ) (b : Bundle) → HasSections text b → IsGoodBundle (text_limits text) b →
+    bundle_of text ≡ Ok b
+unfolding bundle_of bundle_with
 bundle_made text b s good =
+    let l : Limits = text_limits text in
     let i = length b.circuit + 2 in
     let j = length b.parts + 2 in
     let n = length b.entries + 2 in
-    then_made circuit_grammar 0 s.first (s.second ++ s.third) (lines_of text) tt b.circuit
-    (after_circuit text) s.lines s.circuit_is good.circuit
-    ∙ then_made (layout_grammar (Some (port_names_of b.circuit))) (0 + i) s.second s.third
-    (s.second ++ s.third) b.size b.parts (after_layout text b.circuit) refl s.layout_is good.layout
-    ∙ then_made (certificate_grammar (setting_of b.circuit (layout_of b.size b.parts)))
-    (0 + i + j) s.third [] s.third b.version b.entries (ended text b.circuit b.size b.parts)
+    then_made (circuit_grammar l) (front_lines l) s.first (s.second ++ s.third) (section_lines text) tt b.circuit
+    (after_circuit l text) s.lines s.circuit_is good.circuit
+    ∙ then_made (layout_grammar l (Some (port_names_of b.circuit))) (front_lines l + i) s.second s.third
+    (s.second ++ s.third) b.size b.parts (after_layout l text b.circuit) refl s.layout_is good.layout
+    ∙ then_made (certificate_grammar l (setting_of b.circuit (layout_of b.size b.parts)))
+    (front_lines l + i + j) s.third [] s.third b.version b.entries (ended l text b.circuit b.size b.parts)
     (sym (append-nil s.third)) s.certificate_is good.certificate
-    ∙ at_the_end (0 + i + j + n) [] (bytes_after_last_line_feed text) b refl s.rest
+    ∙ at_the_end (front_lines l + i + j + n) [] (bytes_after_last_line_feed text) b refl s.rest
 
 -- ---- they are those of one bundle
 
@@ -183,13 +194,14 @@ sections_text : (b : Bundle) (first second third : List (List ℕ)) → IsSectio
 unfolding bundle_text layout_section_text certificate_section_text circuit_text
 sections_text b first second third c l k =
     let setting : Setting = setting_of b.circuit (layout_of b.size b.parts) in
-    let one = text_said circuit_grammar circuit_line circuit_spelled first tt b.circuit c
+    let one = text_said (circuit_grammar First) circuit_line circuit_spelled first tt b.circuit c
     ∙ sym (append_assoc (circuit_line (Header tt)) (flat_map (λ i. circuit_line (Item i)) b.circuit)
     (circuit_line End)) in
-    let two = text_said (layout_grammar None) layout_line layout_spelled second b.size b.parts l
+    let two = text_said (layout_grammar First None) layout_line layout_spelled second b.size b.parts l
     ∙ sym (append_assoc (layout_line (Header b.size)) (flat_map (λ i. layout_line (Item i)) b.parts)
     (layout_line End)) in
-    let three = text_said (certificate_grammar setting) certificate_line certificate_spelled third b.version b.entries k
+    let three = text_said (certificate_grammar First setting) certificate_line certificate_spelled third b.version
+    b.entries k
     ∙ sym (append_assoc (certificate_line (Header b.version)) (flat_map (λ i. certificate_line (Item i)) b.entries)
     (certificate_line End)) in
     flat_map-append with_line_feed first (second ++ third)
@@ -199,11 +211,13 @@ sections_text b first second third c l k =
     ∙ ap₂ (λ a t. a ++ t) (ap₂ (λ a t. a ++ t) one two) three
 
 -- a text that has only these sections is spelled in the one way
-pub text_is : (text : List ℕ) (b : Bundle) → HasSections text b → text ≡ bundle_text b
+pub text_is : (text : List ℕ) (b : Bundle) → HasSections text b →
+    text ≡ front_text (text_limits text) ++ bundle_text b
 text_is text b s =
-    sym (whole_text text) ∙ ap₂ (λ ls r. flat_map with_line_feed ls ++ r) s.lines s.rest
+    front_and_lines text ∙ ap (λ t. front_text (text_limits text) ++ t)
+    (ap₂ (λ ls r. flat_map with_line_feed ls ++ r) s.lines s.rest
     ∙ append-nil (flat_map with_line_feed (s.first ++ (s.second ++ s.third)))
-    ∙ sections_text b s.first s.second s.third s.circuit_is s.layout_is s.certificate_is
+    ∙ sections_text b s.first s.second s.third s.circuit_is s.layout_is s.certificate_is)
 
 -- ---- the lines of a certificate other than its halo lines
 
@@ -245,10 +259,16 @@ header_clean = grind (arith, common_steps)
 
 -- ---- the text that is written has sections
 
-pub migrated_sections : (text : List ℕ) (b : Bundle) → HasSections text b →
-    HasSections (migrate_of b) (migrated_bundle b)
-migrated_sections text b s =
-    let clean : AreLines (s.first ++ (s.second ++ s.third)) = subst AreLines s.lines (lines_clean text) in
+lines_behind : (n : ℕ) (ls : List (List ℕ)) → AreLines ls → AreLines (drop n ls)
+lines_behind zero ls clean = clean
+lines_behind (suc n) [] clean = tt
+lines_behind (suc n) (l ∷ ls) clean = lines_behind n ls clean.1
+
+pub migrated_sections : (l : Limits) (text : List ℕ) (b : Bundle) → HasSections text b →
+    (text_limits (front_text l ++ migrate_of b) ≡ l) × HasSections (front_text l ++ migrate_of b) (migrated_bundle b)
+migrated_sections l text b s =
+    let clean : AreLines (s.first ++ (s.second ++ s.third)) =
+    subst AreLines s.lines (lines_behind (front_lines (text_limits text)) (lines_of text) (lines_clean text)) in
     let later = clean_right s.first (s.second ++ s.third) clean in
     let one = one_line certificate_form (Some (Header b.version))
     (items_said certificate_form b.entries) s.third s.certificate_is in
@@ -263,23 +283,28 @@ migrated_sections text b s =
     (clean_both s.second third (clean_left s.second s.third later) (header_clean.0, k.clean)) in
     let is : migrate_of b ≡ flat_map with_line_feed all =
     sym (sections_text (migrated_bundle b) s.first s.second third s.circuit_is s.layout_is certificate_is) in
-    record {
-      first = s.first;
-      second = s.second;
-      third = third;
-      lines = ap lines_of is ∙ lines_again all all_clean;
-      rest = ap bytes_after_last_line_feed is ∙ nothing_follows all all_clean;
-      circuit_is = s.circuit_is;
-      layout_is = s.layout_is;
-      certificate_is = certificate_is;
-    }
+    let lines : lines_of (migrate_of b) ≡ all = ap lines_of is ∙ lines_again all all_clean in
+    let front : HasFront l (migrate_of b) = has_front l (migrate_of b)
+    (ap limits_of lines ∙ first_limits s.first (s.second ++ third) b.circuit s.circuit_is) in (
+      front.limits,
+      record {
+        first = s.first;
+        second = s.second;
+        third = third;
+        lines = front.lines ∙ lines;
+        rest = front.rest ∙ (ap bytes_after_last_line_feed is ∙ nothing_follows all all_clean);
+        circuit_is = s.circuit_is;
+        layout_is = s.layout_is;
+        certificate_is = certificate_is;
+      },
+    )
 
 -- ---- what a migration tells
 
 pub record IsMigrated (text output : List ℕ) : Type 0 where
   pub bundle : Bundle
   pub read : bundle_of text ≡ Ok bundle
-  pub says : output ≡ migrate_of bundle
+  pub says : output ≡ front_text (text_limits text) ++ migrate_of bundle
 
 not_refused : Yes ≡ Refused → ⊥
 not_refused e = cc
@@ -302,11 +327,14 @@ pub migrates_once : MigrationIsIdempotent
 migrates_once text output again first second =
     let a = was_migrated text output first in
     let b = was_migrated output again second in
-    let made = migrated_sections text a.bundle (sections_read text a.bundle a.read) in
+    let l : Limits = text_limits text in
+    let made = migrated_sections l text a.bundle (sections_read text a.bundle a.read) in
+    let limits : text_limits output ≡ l = ap text_limits a.says ∙ made.0 in
     let same : b.bundle ≡ migrated_bundle a.bundle =
     one_bundle output b.bundle (migrated_bundle a.bundle) (sections_read output b.bundle b.read)
-    (subst (λ t. HasSections t (migrated_bundle a.bundle)) (sym a.says) made) in
-    b.says ∙ ap migrate_of same ∙ ap (λ es. bundle_text (record a.bundle { version = 2; entries = es }))
+    (subst (λ t. HasSections t (migrated_bundle a.bundle)) (sym a.says) made.1) in
+    b.says ∙ ap₂ (λ m d. front_text m ++ migrate_of d) limits same
+    ∙ ap (λ es. front_text l ++ bundle_text (record a.bundle { version = 2; entries = es }))
     (without_twice a.bundle.entries) ∙ sym a.says
 
 -- ---- version 2 has no halo lines
@@ -316,19 +344,21 @@ no_code : (b : Bool) (code : RefusalCode) (more : Option RefusalCode) → or_els
 no_code true code more e = absurd cc
 no_code false code more e = refl
 
-no_halos : (g : Setting) (before es : List CertificateLine) → AreFaultless (certificate_grammar g) 2 before es →
+no_halos : (l : Limits) (g : Setting) (before es : List CertificateLine) →
+    AreFaultless (certificate_grammar l g) 2 before es →
     without_halos es ≡ es
 unfolding without_halos
-no_halos g before [] good = refl
-no_halos g before (i ∷ es) good = grind (arith, with_other, no_code, (no_halos g (before ++ i ∷ []) es good.1))
+no_halos l g before [] good = refl
+no_halos l g before (i ∷ es) good = grind (arith, with_other, no_code, (no_halos l g (before ++ i ∷ []) es good.1))
 
 -- a bundle of version 2 is its own migration
-pub in_place : (b : Bundle) → IsGoodBundle b → b.version ≡ 2 → migrated_bundle b ≡ b
-in_place b good two = grind (arith, common_steps, no_halos)
+pub in_place : (l : Limits) (b : Bundle) → IsGoodBundle l b → b.version ≡ 2 → migrated_bundle b ≡ b
+in_place l b good two = grind (arith, common_steps, no_halos)
 
 pub unchanged : (text output : List ℕ) (m : IsMigrated text output) → m.bundle.version ≡ 2 → output ≡ text
 unchanged text output m two =
-    m.says ∙ ap bundle_text (in_place m.bundle (good_read text m.bundle m.read) two)
+    m.says ∙ ap (λ d. front_text (text_limits text) ++ bundle_text d)
+    (in_place (text_limits text) m.bundle (good_read text m.bundle m.read) two)
     ∙ sym (text_is text m.bundle (sections_read text m.bundle m.read))
 
 pub keeps_version_two : MigrationKeepsVersionTwo
@@ -344,7 +374,7 @@ pub says_design : (text output : List ℕ) (circuit : List CircuitLine) (layout 
 says_design text output circuit layout m d =
     let b = m.bundle in
     let read = sections_read text b m.read in
-    let s = migrated_sections text b read in
+    let s = (migrated_sections (text_limits text) text b read).1 in
     let first = one_section circuit_form read.first d.first (read.second ++ read.third)
     (d.second ++ d.others) tt tt b.circuit circuit (sym read.lines ∙ d.lines) read.circuit_is d.circuit_is in
     let second = one_section layout_form read.second d.second read.third d.others b.size layout.size b.parts
@@ -353,7 +383,7 @@ says_design text output circuit layout m d =
       first = s.first;
       second = s.second;
       others = s.third;
-      lines = ap lines_of m.says ∙ s.lines;
+      lines = ap section_lines m.says ∙ s.lines;
       circuit_is = subst (IsSection circuit_form s.first tt) first.items s.circuit_is;
       layout_is = subst (IsSection layout_form s.second layout.size) second.items
           (subst (λ size. IsSection layout_form s.second size b.parts) second.header s.layout_is);
@@ -366,7 +396,7 @@ says_the_same text output circuit layout certificate migrates says =
     let b = m.bundle in
     let read = sections_read text b m.read in
     let is = said_so text b circuit layout certificate read says in
-    let s = migrated_sections text b read in
+    let s = (migrated_sections (text_limits text) text b read).1 in
     let bundle : SaysBundle output circuit layout (without_halos certificate) = record {
       design = says_design text output circuit layout m says.design;
       version = 2;

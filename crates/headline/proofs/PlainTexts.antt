@@ -33,6 +33,7 @@ use Rattle.headline.proofs.Printed.{printed_is_read}
 use Rattle.headline.proofs.YesIsPrinted.{yes_is_right}
 use Rattle.local_run.specs.declared.fault.Kind.TheVariants.{Edge, End, Stop as AtStop}
 use Rattle.core_book.specs.declared.verdict.Verdict.TheVariants as verdict
+use Rattle.meaning.specs.Design.{text_limits}
 
 -- ---- a plain module is plain in either version
 
@@ -194,7 +195,7 @@ module _ (text : List ℕ) (b : Bundle) (output : List ℕ) (outcome : Outcome) 
   own_stops =
       stops_meant c.version (setting_of c.circuit c.layout) (modules_of c.entries) ∙
       ap (λ (es : List CertificateLine). all_stops (modules_of es)) says.its_own.entries
-      ∙ all_in_modules (setting_of b.circuit c.layout) b.version b.entries
+      ∙ all_in_modules (text_limits text) (setting_of b.circuit c.layout) b.version b.entries
       (certificate_faultless text b c.layout reads says.its_own.layout)
 
   stops_on_time : HasRightStops text → IsOnTime (circuit_of c.circuit) c.layout (modules_in c)

@@ -23,6 +23,12 @@ use Rattle.circuit.proofs.Spelling.{form_line as circuit_spelled}
 use Rattle.pattern.specs.Forms.{form_of as layout_form}
 use Rattle.pattern.specs.Text.{form_text as layout_line, layout_text, part_text}
 use Rattle.pattern.proofs.Spelling.{form_line as layout_spelled}
+use Rattle.lemmas.proofs.Common.{inl, inr}
+use Rattle.section_text.specs.Limits.{limits_of}
+use Rattle.section_text.specs.declared.limits.Limits.TheVariants.{First, Second}
+use Rattle.meaning.specs.Design.{section_lines, text_limits}
+use Rattle.meaning.specs.Printed.{IsFront}
+use Rattle.meaning.proofs.Fronts.{first_limits, has_front}
 
 -- ---- lines at the head of a text
 
@@ -189,6 +195,14 @@ layout_whole : (p : Pattern) →
 unfolding layout_text
 layout_whole p = grind (arith, common_steps, append_assoc)
 
+-- the lines behind a front are those of what stands behind it
+pub behind_front : (text front sections : List ℕ) → IsFront front → text ≡ front ++ sections →
+    text_limits sections ≡ First → section_lines text ≡ lines_of sections
+behind_front text front sections is e none = elim is [
+  | inl nothing ↦ ap section_lines (e ∙ ap (λ f. f ++ sections) nothing) ∙ (has_front First sections none).lines
+  | inr line ↦ ap section_lines (e ∙ ap (λ f. f ++ sections) line) ∙ (has_front Second sections none).lines
+]
+
 -- a text that begins with a design says it
 pub printed_is_read : PrintedDesignIsRead
 printed_is_read text circuit p b =
@@ -207,22 +221,26 @@ printed_is_read text circuit p b =
     (small p.size.h (first_number (pos p.size.h) hs h)) (small p.size.steps (first_number (pos p.size.steps) [] t)))
     end_line l.0 in
     let one : flat_map with_line_feed first.lines ≡ circuit_printed circuit =
-    text_said circuit_grammar circuit_line circuit_spelled first.lines tt circuit first.is
+    text_said (circuit_grammar First) circuit_line circuit_spelled first.lines tt circuit first.is
     ∙ circuit_whole circuit ∙ sym (circuit_same circuit c.1) in
     let two : flat_map with_line_feed second.lines ≡ layout_printed p =
-    text_said (layout_grammar None) layout_line layout_spelled second.lines p.size (parts_of p) second.is
+    text_said (layout_grammar First None) layout_line layout_spelled second.lines p.size (parts_of p) second.is
     ∙ layout_whole p ∙ sym (layout_same p l.1) in
     let spelled : flat_map with_line_feed (first.lines ++ second.lines) ≡ circuit_printed circuit ++ layout_printed p =
     flat_map-append with_line_feed first.lines second.lines ∙ ap₂ (λ a b. a ++ b) one two in
+    let sections : List ℕ = circuit_printed circuit ++ (layout_printed p ++ b.rest) in
+    let lines : lines_of sections ≡ first.lines ++ (second.lines ++ lines_of b.rest) =
+    ap lines_of (sym (append_assoc (circuit_printed circuit) (layout_printed p) b.rest)
+    ∙ ap (λ t. t ++ b.rest) (sym spelled))
+    ∙ lines_more (first.lines ++ second.lines) b.rest (clean_both first.lines second.lines first.clean second.clean)
+    ∙ append_assoc first.lines second.lines (lines_of b.rest) in
     record {
       first = first.lines;
       second = second.lines;
       others = lines_of b.rest;
-      lines = ap lines_of (b.begins ∙ sym (append_assoc (circuit_printed circuit) (layout_printed p) b.rest)
-          ∙ ap (λ t. t ++ b.rest) (sym spelled))
-          ∙ lines_more (first.lines ++ second.lines) b.rest (clean_both first.lines second.lines first.clean
-          second.clean)
-          ∙ append_assoc first.lines second.lines (lines_of b.rest);
+      lines = behind_front text b.front sections b.is_front b.begins
+          (ap limits_of lines ∙ first_limits first.lines (second.lines ++ lines_of b.rest) circuit first.is)
+          ∙ lines;
       circuit_is = first.is;
       layout_is = second.is;
     }

@@ -18,6 +18,9 @@ use Rattle.headline.proofs.Designs.{one_design}
 use Rattle.headline.proofs.Migrations.{good_read, sections_read}
 use Rattle.headline.proofs.WrittenCircuits.{AreNames, names_both}
 use Rattle.headline.proofs.YesIsRight.{bundle_good, circuit_good, laid_out}
+use Rattle.section_text.specs.declared.limits.Limits.{Limits}
+use Rattle.meaning.specs.Design.{text_limits}
+use Rattle.pattern.proofs.ReadingLemmas.{no_code_second}
 
 -- ---- names that are read are names
 
@@ -85,28 +88,32 @@ pub each_name : (ns : List (List ℕ)) → AreNames ns → AllByRecursion (λ n.
 each_name [] h = tt
 each_name (n ∷ ns) h = let both = and_parts (is_name n) (list_all is_name ns) h in (both.0, each_name ns both.1)
 
-in_order : (before rest : List CircuitLine) → AreFaultless circuit_grammar tt before rest → AreInOrder before rest
-in_order before [] good = tt
-in_order before (r ∷ rest) good = grind (arith, common_steps, no_code_first, (in_order (before ++ r ∷ []) rest good.1))
+in_order : (l : Limits) (before rest : List CircuitLine) → AreFaultless (circuit_grammar l) tt before rest →
+    AreInOrder before rest
+in_order l before [] good = tt
+in_order l before (r ∷ rest) good =
+    grind (arith, common_steps, no_code_first, (in_order l (before ++ r ∷ []) rest good.1))
 
 no_missing : (o : Option (List ℕ)) → unconsumed_wire_code o ≡ None → o ≡ None
 no_missing None e = refl
 no_missing (Some n) e = absurd cc
 
-pub design_by : (circuit : List CircuitLine) (p : Pattern) (ls : List (List ℕ)) → IsSection form_of ls tt circuit →
-    IsFaultless circuit_grammar tt circuit →
-    IsFaultless (layout_grammar (Some (port_names_of circuit))) p.size (parts_of p) → IsDesign circuit p
-design_by circuit p ls is good layout =
+pub design_by : (l : Limits) (circuit : List CircuitLine) (p : Pattern) (ls : List (List ℕ)) →
+    IsSection form_of ls tt circuit →
+    IsFaultless (circuit_grammar l) tt circuit →
+    IsFaultless (layout_grammar l (Some (port_names_of circuit))) p.size (parts_of p) → IsDesign circuit p
+design_by l circuit p ls is good layout =
     let ports = Some (port_names_of circuit) in
     record {
-      circuit_lines = circuit_good 0 (ls ++ []) tt circuit (section_made circuit_grammar 0 ls [] tt circuit is good);
-      in_order = in_order [] circuit good.each;
+      circuit_lines = circuit_good l 0 (ls ++ []) tt circuit
+          (section_made (circuit_grammar l) 0 ls [] tt circuit is good);
+      in_order = in_order l [] circuit good.each;
       names = All-from_recursion (λ n. IsTrue (is_name n)) (defined circuit)
           (each_name (defined circuit) (wires_named circuit ls is));
       all_consumed = no_missing (first_unconsumed (consumed circuit) (defined circuit)) good.end;
-      size = layout.header;
-      layout_lines = laid_out ports p.size [] (parts_of p) layout.each;
-      ports = read_layout-is_named circuit p (faultless_named ports p.size (parts_of p) layout);
+      size = no_code_second _ _ layout.header;
+      layout_lines = laid_out l ports p.size [] (parts_of p) layout.each;
+      ports = read_layout-is_named circuit p (faultless_named l ports p.size (parts_of p) layout);
     }
 
 -- what is read is a design
@@ -115,9 +122,9 @@ pub design_read : (text : List ℕ) (b : Bundle) (p : Pattern) → bundle_of tex
 design_read text b p e same =
     let s = sections_read text b e in
     let good = good_read text b e in
-    design_by b.circuit p s.first s.circuit_is good.circuit
+    design_by (text_limits text) b.circuit p s.first s.circuit_is good.circuit
     (subst (λ (q : LayoutHeader × List LayoutLine).
-    IsFaultless (layout_grammar (Some (port_names_of b.circuit))) q.0 q.1) (sym same) good.layout)
+    IsFaultless (layout_grammar (text_limits text) (Some (port_names_of b.circuit))) q.0 q.1) (sym same) good.layout)
 
 pub designs_are_read : UnrefusedKeepsDesignRules
 designs_are_read text output outcome circuit layout reports some d = by (bundle_of text) refl reports

@@ -48,6 +48,10 @@ use Rattle.pattern.specs.Forms.{form_of as layout_form}
 use Rattle.certificate_lines.specs.Forms.{form_of as certificate_form}
 use Rattle.core_book.specs.declared.verdict.Verdict.TheVariants as verdict
 use Rattle.lemmas.proofs.Common.{length-range_with_len, list_all-append}
+use Rattle.section_text.specs.declared.limits.Limits.{Limits}
+use Rattle.section_text.specs.declared.limits.Limits.TheVariants.{First, Second}
+use Rattle.certificate_lines.specs.Rules.{module_limit_fault}
+use Rattle.meaning.specs.Design.{text_limits}
 
 -- ---- numbers in a range
 
@@ -154,18 +158,31 @@ all_push : (ms : List CertificateLine) (i : CertificateLine) → list_all (λ i.
     list_all (λ i. not (is_module i)) (ms ++ i ∷ []) ≡ true
 all_push ms i h k = list_all-append (λ i. not (is_module i)) ms (i ∷ []) ∙ rw (h, k) refl
 
-inner_faultless : (g : Setting) (b : Box2) (ms ls : List CertificateLine) →
+-- only a line of a module is one too many
+no_module_more : (l : Limits) (g : Setting) (before : List CertificateLine) (i : CertificateLine) →
+    is_module i ≡ false → module_limit_fault l g before i ≡ None
+unfolding module_limit_fault
+no_module_more l g before (Module b) other = absurd cc
+no_module_more l g before i other = refl
+
+first_module : (l : Limits) (g : Setting) (b : Box2) → module_limit_fault l g [] (Module b) ≡ None
+unfolding module_limit_fault modules_of
+first_module First g b = refl
+first_module Second g b = refl
+
+inner_faultless : (l : Limits) (g : Setting) (b : Box2) (ms ls : List CertificateLine) →
     list_all (λ i. not (is_module i)) ms ≡ true →
-    Inner g b ms ls → AreFaultless (certificate_grammar g) 1 (Module b ∷ ms) ls
+    Inner g b ms ls → AreFaultless (certificate_grammar l g) 1 (Module b ∷ ms) ls
 unfolding Inner
-inner_faultless g b ms [] all h = tt
-inner_faultless g b ms (i ∷ ls) all h =
+inner_faultless l g b ms [] all h = tt
+inner_faultless l g b ms (i ∷ ls) all h =
     grind (
       arith,
       common_steps,
       in_module,
       present_one,
-      (inner_faultless g b (ms ++ i ∷ []) ls (all_push ms i all h.0) h.2),
+      no_module_more,
+      (inner_faultless l g b (ms ++ i ∷ []) ls (all_push ms i all h.0) h.2),
     )
 
 -- ---- the order of lines
@@ -487,8 +504,8 @@ more_wires n (x ∷ gs) = let more = more_wires (n + defines x.kind) gs in omega
 side_ok : (n : ℕ) → is_layout_side n ≡ true → n ≤ 64 → is_bad_box_side n ≡ false
 side_ok n side few = grind (arith, common_steps, eqb-true)
 
-module _ (circuit : List CircuitLine) (p : Pattern) (good : AreGoodCircuitLines circuit)
-    (layout_good : IsFaultless (layout_grammar (Some (port_names_of circuit))) p.size (parts_of p))
+module _ (k : Limits) (circuit : List CircuitLine) (p : Pattern) (good : AreGoodCircuitLines circuit)
+    (layout_good : IsFaultless (layout_grammar k (Some (port_names_of circuit))) p.size (parts_of p))
     (small : IsSmallDesign circuit p) where
   abbrev its_setting : Setting
   its_setting = setting_of circuit p
@@ -502,11 +519,11 @@ module _ (circuit : List CircuitLine) (p : Pattern) (good : AreGoodCircuitLines 
     lines = map Cut (input_names circuit) ++ map Use (gate_numbers circuit) ++ map Keep its_kept;
   }
 
-  its_given : length (input_names circuit) ≡ (netlist_of circuit).given
+  pub its_given : length (input_names circuit) ≡ (netlist_of circuit).given
   its_given = grind (arith, common_steps, wires_are_named, more_wires, inputs_are_first, length_taken)
 
   abbrev names_are : AreNamed (Some (port_names_of circuit)) (parts_of p)
-  names_are = faultless_named (Some (port_names_of circuit)) p.size (parts_of p) layout_good
+  names_are = faultless_named k (Some (port_names_of circuit)) p.size (parts_of p) layout_good
 
   local_by : (n : List ℕ) (w : ℕ) → wire_of (circuit_of circuit) n ≡ Some w → w < wires (netlist_of circuit) →
       is_local (circuit_of circuit) (known (circuit_of circuit) its_module) n ≡ true
@@ -569,12 +586,12 @@ module _ (circuit : List CircuitLine) (p : Pattern) (good : AreGoodCircuitLines 
       (is_one circuit p good)
       ∙ ap₂ (λ a b. code_if (a || b) SomethingMissing) lacks_none no_gap
 
-  pub plain_faultless : IsFaultless (certificate_grammar its_setting) 1 (plain_lines circuit p)
+  pub plain_faultless : IsFaultless (certificate_grammar k its_setting) 1 (plain_lines circuit p)
   plain_faultless = record {
     header = refl;
     each = (
-      module_good,
-      inner_faultless its_setting (whole p.size) [] its_module.lines refl
+      ap₂ or_else (first_module k its_setting (whole p.size)) module_good,
+      inner_faultless k its_setting (whole p.size) [] its_module.lines refl
           (all_lines circuit good p (whole p.size) small.inputs small.gates its_given),
     );
     end = ap (λ o. or_else o None) end_good;
@@ -594,6 +611,7 @@ pub is_plain_text : (text : List ℕ) (b : Bundle) (layout : Pattern) → bundle
 is_plain_text text b layout e same version entries =
     let s = sections_read text b e in
     let good = good_read text b e in
+    let k : Limits = text_limits text in
     let ports = Some (port_names_of b.circuit) in
     record {
       first = s.first;
@@ -602,10 +620,10 @@ is_plain_text text b layout e same version entries =
       lines = s.lines;
       ended = s.rest;
       circuit_is = s.circuit_is;
-      circuit_read = read_alone circuit_grammar s.first tt b.circuit s.circuit_is good.circuit;
+      circuit_read = read_alone (circuit_grammar k) s.first tt b.circuit s.circuit_is good.circuit;
       layout_is = subst (λ (q : LayoutHeader × List LayoutLine). IsSection layout_form s.second q.0 q.1) (sym same)
           s.layout_is;
-      layout_read = read_alone (layout_grammar ports) s.second b.size b.parts s.layout_is good.layout
+      layout_read = read_alone (layout_grammar k ports) s.second b.size b.parts s.layout_is good.layout
           ∙ ap Ok (sym same);
       certificate_is = subst (λ v. IsSection certificate_form s.third v (plain_lines b.circuit layout)) version
           (subst (IsSection certificate_form s.third b.version) entries s.certificate_is);
@@ -617,6 +635,7 @@ not_refused (verdict.No lines) outcome e r = let clash : No ≡ Refused = sym e 
 
 pub small_is_decided : SmallDesignIsDecided
 small_is_decided text output outcome circuit layout t small reports =
+    let k : Limits = text_limits text in
     let ports = Some (port_names_of circuit) in
     let b : Bundle = record {
       circuit = circuit;
@@ -625,9 +644,9 @@ small_is_decided text output outcome circuit layout t small reports =
       version = 1;
       entries = plain_lines circuit layout;
     } in
-    let good : AreGoodCircuitLines circuit = circuit_good 0 t.first tt circuit t.circuit_read in
-    let layout_good : IsFaultless (layout_grammar ports) layout.size (parts_of layout) =
-    read_faultless (layout_grammar ports) 0 t.second layout.size (parts_of layout) t.layout_read in
+    let good : AreGoodCircuitLines circuit = circuit_good k 0 t.first tt circuit t.circuit_read in
+    let layout_good : IsFaultless (layout_grammar k ports) layout.size (parts_of layout) =
+    read_faultless (layout_grammar k ports) 0 t.second layout.size (parts_of layout) t.layout_read in
     let sections : HasSections text b = record {
       first = t.first;
       second = t.second;
@@ -638,11 +657,11 @@ small_is_decided text output outcome circuit layout t small reports =
       layout_is = t.layout_is;
       certificate_is = t.certificate_is;
     } in
-    let is_good : IsGoodBundle b = record {
-      circuit = read_faultless circuit_grammar 0 t.first tt circuit t.circuit_read;
+    let is_good : IsGoodBundle k b = record {
+      circuit = read_faultless (circuit_grammar k) 0 t.first tt circuit t.circuit_read;
       layout = layout_good;
-      certificate = subst (λ g. IsFaultless (certificate_grammar g) 1 (plain_lines circuit layout))
-          (sym (same_setting circuit layout)) (plain_faultless circuit layout good layout_good small);
+      certificate = subst (λ g. IsFaultless (certificate_grammar k g) 1 (plain_lines circuit layout))
+          (sym (same_setting circuit layout)) (plain_faultless k circuit layout good layout_good small);
     } in
     let reads : bundle_of text ≡ Ok b = bundle_made text b sections is_good in
     let says : SaysReport b output outcome = subst (λ r. AnswersOrRefuses SaysReport r output outcome) reads reports in

@@ -8,6 +8,10 @@ use Rattle.headline.proofs.Imports.{value_lines, value_sections_of, ℕ, ◌++�
 use Rattle.soundness.proofs.SomeValues.{HasStop, HasValues, values_or_stop}
 use Rattle.answers.specs.ValueText.{assigned_inputs}
 use Rattle.headline.proofs.YesIsRight.{circuit_good, went_on}
+use Rattle.section_text.specs.declared.limits.Limits.{Limits}
+use Rattle.section_text.specs.Limits.{front_lines}
+use Rattle.meaning.specs.Design.{section_lines, text_limits}
+use Rattle.answers.specs.ValueText.{value_sections_with}
 
 -- some output and some way to end
 pub record SaysSomething {A : Type 0} (says : A → List ℕ → Outcome → Type 0) (asked : A) : Type 0 where
@@ -27,7 +31,7 @@ some_list text = answered_always SaysModules (bundle_of text)
     (λ bundle e. record { output = _; outcome = Yes; is = record { says = refl; ends = refl } })
 
 pub some_migration : HasAnAnswerToEachText IsMigrationOf
-some_migration text = answered_always SaysMigration (bundle_of text)
+some_migration text = answered_always (SaysMigration (text_limits text)) (bundle_of text)
     (λ bundle e. record { output = _; outcome = Yes; is = record { says = refl; ends = refl } })
 
 -- ---- the values of a circuit
@@ -59,12 +63,14 @@ asked_first entries (Err refusal) asked e = absurd cc
 
 asked_ordered : (text : List ℕ) (asked : ValueQuestion) → value_sections_of text ≡ Ok asked
     → AreOrdered (netlist_of asked.0).given (netlist_of asked.0).gates
-unfolding value_sections_of
+unfolding value_sections_of value_sections_with
 asked_ordered text asked e =
-    let c = went_on (section_of circuit_grammar 0 (lines_of text)) _ asked e in
+    let l : Limits = text_limits text in
+    let ls : List (List ℕ) = section_lines text in
+    let c = went_on (section_of (circuit_grammar l) (front_lines l) ls) _ asked e in
     let same : c.items ≡ asked.0 = asked_first c.items _ asked c.then in
     subst (λ es. AreOrdered (netlist_of es).given (netlist_of es).gates) same
-    (gates_are_ordered c.items (circuit_good 0 (lines_of text) c.header c.items c.was))
+    (gates_are_ordered c.items (circuit_good l (front_lines l) ls c.header c.items c.was))
 
 pub some_values : HasAnAnswerToEachText IsValueOf
 some_values text = answered_always SaysValues (value_sections_of text) (λ asked e.

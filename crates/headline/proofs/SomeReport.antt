@@ -14,6 +14,9 @@ use Rattle.pattern.proofs.Added.{with_ball, with_in, with_mirror, with_out, with
 use Rattle.soundness.proofs.SomeVerdict.{some_verdict}
 use Rattle.headline.proofs.SomeAnswer.{SaysSomething, answered_always}
 use Rattle.headline.proofs.YesIsRight.{bundle_good, certificate_faultless}
+use Rattle.section_text.specs.declared.limits.Limits.{Limits}
+use Rattle.meaning.specs.Design.{text_limits}
+use Rattle.pattern.proofs.ReadingLemmas.{no_code_second}
 
 -- ---- a layout from its lines
 
@@ -40,28 +43,30 @@ follows : (ports : Option PortNameLists) (s : LayoutHeader) (before : List Layou
 unfolding layout_line_fault line_fault
 follows ports s before part e = no_code_first (order_fault before part) _ (no_code_first _ _ e)
 
-more_parts : (ports : Option PortNameLists) (s : LayoutHeader) (before parts : List LayoutLine) → HasLines s before →
-    AreFaultless (layout_grammar ports) s before parts → HasLines s (before ++ parts)
+more_parts : (l : Limits) (ports : Option PortNameLists) (s : LayoutHeader) (before parts : List LayoutLine) →
+    HasLines s before →
+    AreFaultless (layout_grammar l ports) s before parts → HasLines s (before ++ parts)
 unfolding HasLines
-more_parts ports s before [] has good = subst (HasLines s) (sym (append-nil before)) has
-more_parts ports s before (part ∷ parts) has good =
+more_parts l ports s before [] has good = subst (HasLines s) (sym (append-nil before)) has
+more_parts l ports s before (part ∷ parts) has good =
     subst (HasLines s) (append_assoc before (part ∷ []) parts)
-    (more_parts ports s (before ++ part ∷ []) parts (next has) good.1)
+    (more_parts l ports s (before ++ part ∷ []) parts (next has) good.1)
   where
     next : HasLines s before → HasLines s (before ++ part ∷ [])
     next (p, same) =
         let are : parts_of p ≡ before = ap (λ (v : LayoutHeader × List LayoutLine). v.1) same in
         let one = with_part p part
-        (subst (λ l. order_fault l part ≡ None) (sym are) (follows ports s before part good.0)) in
+        (subst (λ l. order_fault l part ≡ None) (sym are)
+        (follows ports s before part (no_code_second _ _ (no_code_second _ _ good.0)))) in
         (one.0, one.1 ∙ ap (λ (v : LayoutHeader × List LayoutLine). (v.0, v.1 ++ part ∷ [])) same)
 
-pub some_layout : (ports : Option PortNameLists) (s : LayoutHeader) (parts : List LayoutLine) →
-    IsFaultless (layout_grammar ports) s parts →
+pub some_layout : (l : Limits) (ports : Option PortNameLists) (s : LayoutHeader) (parts : List LayoutLine) →
+    IsFaultless (layout_grammar l ports) s parts →
     (p : Pattern) × (layout_section p ≡ (s, parts))
 unfolding HasLines
-some_layout ports s parts good =
+some_layout l ports s parts good =
     let empty : Pattern = record { size = s; mirrors = []; balls = []; ins = []; outs = []; wastes = [] } in
-    more_parts ports s [] parts (empty, refl) good.each
+    more_parts l ports s [] parts (empty, refl) good.each
 
 -- ---- the report
 
@@ -74,12 +79,13 @@ module _ (text : List ℕ) (b : Bundle) (e : bundle_of text ≡ Ok b) (p : Patte
   abbrev g : Setting
   g = setting_of b.circuit p
 
-  faultless : IsFaultless (certificate_grammar g) b.version b.entries
+  faultless : IsFaultless (certificate_grammar (text_limits text) g) b.version b.entries
   faultless = certificate_faultless text b p e same
 
   pub modules_good : AreModules g (modules_in certificate_by)
-  modules_good = meant_modules b.version g (modules_of b.entries) (faultless_modules g b.version b.entries faultless)
-      (read_complete g b.version b.entries faultless)
+  modules_good = meant_modules b.version g (modules_of b.entries)
+      (faultless_modules (text_limits text) g b.version b.entries faultless)
+      (read_complete (text_limits text) g b.version b.entries faultless)
 
   pub limits : size_fault p.size ≡ None
   limits = grind (arith, common_steps, (bundle_good text b e))
@@ -91,7 +97,8 @@ module _ (text : List ℕ) (b : Bundle) (e : bundle_of text ≡ Ok b) (p : Patte
 
 reported : (text : List ℕ) (b : Bundle) → bundle_of text ≡ Ok b → SaysSomething SaysReport b
 reported text b e =
-    let own = some_layout (Some (port_names_of b.circuit)) b.size b.parts (bundle_good text b e).layout in
+    let own = some_layout (text_limits text) (Some (port_names_of b.circuit)) b.size b.parts
+    (bundle_good text b e).layout in
     let c = certificate_by text b e own.0 own.1 in
     let good = modules_good text b e own.0 own.1 in
     let judged = some_verdict b.circuit own.0 (modules_in c) (bundle_good text b e).circuit

@@ -21,6 +21,12 @@ use Rattle.answers.specs.RunText.{run_sections_of}
 use Rattle.headline.proofs.SomeAnswer.{SaysSomething, answered_always}
 use Rattle.headline.proofs.SomeReport.{some_layout}
 use Rattle.headline.proofs.YesIsRight.{laid_out, went_on}
+use Rattle.section_text.specs.declared.limits.Limits.{Limits}
+use Rattle.section_text.specs.Limits.{front_lines}
+use Rattle.meaning.specs.Design.{section_lines, text_limits}
+use Rattle.answers.specs.RunText.{run_sections_with}
+use Rattle.pattern.proofs.ReadingLemmas.{no_code_second}
+use Rattle.lemmas.specs.Bounds.{max_side}
 
 -- ---- whether a step leaves the layout
 
@@ -140,7 +146,7 @@ few_cells s state limits =
     let sides = size_sides s limits in
     let wide = sides.0.most in
     let high = sides.1.most in
-    let area : s.w * s.h ≤ 512 * s.h = mul-le-mul_right s.h wide in
+    let area : s.w * s.h ≤ max_side * s.h = mul-le-mul_right s.h wide in
     let all = filter_few (λ (c : Cell). state c.x c.y) (rectangle_cells (whole s)) in
     let count = box_length (whole s) in
     omega (arith, all, count, area, high)
@@ -158,10 +164,10 @@ some_end p on limits inside = elim (run_to p.size (start p on) inside p.size.ste
 -- ---- the answer
 
 -- what is asked has the lines of a layout that was read
-record IsAskedLayout (asked : RunQuestion) : Type 0 where
+record IsAskedLayout (l : Limits) (asked : RunQuestion) : Type 0 where
   pub size : LayoutHeader
   pub parts : List LayoutLine
-  pub good : IsFaultless (layout_grammar None) size parts
+  pub good : IsFaultless (layout_grammar l None) size parts
   pub same : (size, parts) ≡ asked.0
 
 asked_first : (lines : LayoutHeader × List LayoutLine) (read : Result (List (List ℕ)) Refusal)
@@ -170,24 +176,27 @@ asked_first : (lines : LayoutHeader × List LayoutLine) (read : Result (List (Li
 asked_first lines (Ok on) asked e = cc
 asked_first lines (Err refusal) asked e = absurd cc
 
-asked_layout : (text : List ℕ) (asked : RunQuestion) → run_sections_of text ≡ Ok asked → IsAskedLayout asked
-unfolding run_sections_of
+asked_layout : (text : List ℕ) (asked : RunQuestion) → run_sections_of text ≡ Ok asked →
+    IsAskedLayout (text_limits text) asked
+unfolding run_sections_of run_sections_with
 asked_layout text asked e =
-    let l = went_on (section_of (layout_grammar None) 0 (lines_of text)) _ asked e in
+    let k : Limits = text_limits text in
+    let ls : List (List ℕ) = section_lines text in
+    let l = went_on (section_of (layout_grammar k None) (front_lines k) ls) _ asked e in
     record {
       size = l.header;
       parts = l.items;
-      good = read_faultless (layout_grammar None) 0 (lines_of text) l.header l.items l.was;
+      good = read_faultless (layout_grammar k None) (front_lines k) ls l.header l.items l.was;
       same = asked_first (l.header, l.items) _ asked l.then;
     }
 
-says_end : (asked : RunQuestion) → IsAskedLayout asked → SaysSomething SaysRunEnd asked
-says_end asked a =
-    let p = some_layout None a.size a.parts a.good in
-    let whole : IsFaultless (layout_grammar None) p.0.size (parts_of p.0) =
-    subst (λ (q : LayoutHeader × List LayoutLine). IsFaultless (layout_grammar None) q.0 q.1) (sym p.1) a.good in
-    let begins = begins_inside p.0 (laid_out None p.0.size [] (parts_of p.0) whole.each) in
-    let end = some_end p.0 (has asked.1) whole.header (start_inside p.0 (has asked.1) begins) in
+says_end : (l : Limits) (asked : RunQuestion) → IsAskedLayout l asked → SaysSomething SaysRunEnd asked
+says_end l asked a =
+    let p = some_layout l None a.size a.parts a.good in
+    let whole : IsFaultless (layout_grammar l None) p.0.size (parts_of p.0) =
+    subst (λ (q : LayoutHeader × List LayoutLine). IsFaultless (layout_grammar l None) q.0 q.1) (sym p.1) a.good in
+    let begins = begins_inside p.0 (laid_out l None p.0.size [] (parts_of p.0) whole.each) in
+    let end = some_end p.0 (has asked.1) (no_code_second _ _ whole.header) (start_inside p.0 (has asked.1) begins) in
     record {
       output = run_end_text end.0;
       outcome = run_end_outcome end.0;
@@ -196,4 +205,4 @@ says_end asked a =
 
 pub some_run : HasAnAnswerToEachText IsRunOf
 some_run text = answered_always SaysRunEnd (run_sections_of text)
-    (λ asked e. says_end asked (asked_layout text asked e))
+    (λ asked e. says_end (text_limits text) asked (asked_layout text asked e))

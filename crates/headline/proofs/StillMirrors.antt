@@ -164,10 +164,11 @@ no_delay zero steps a b e = grind (arith, common_steps)
 no_delay (suc k) steps a b e = absurd cc
 
 room : HasRoom constant rim_mirror
-room = record { wide = omega arith; high = omega arith; inputs = omega arith; gates = omega arith }
+room = record { wide = omega arith; high = omega arith; short = omega arith; inputs = omega arith; gates = omega arith }
 
 small : IsSmallDesign constant rim_mirror
-small = record { wide = omega arith; high = omega arith; inputs = omega arith; gates = omega arith }
+small =
+    record { wide = omega arith; high = omega arith; short = omega arith; inputs = omega arith; gates = omega arith }
 
 -- ---- it touches its rim
 

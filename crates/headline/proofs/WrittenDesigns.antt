@@ -28,16 +28,73 @@ use Rattle.headline.proofs.WrittenCircuits.{AreNames, circuit_written, decimal_w
 use Rattle.headline.proofs.WrittenLayouts.{layout_faultless, layout_written}
 use Rattle.circuit.specs.Forms.{form_of as circuit_form}
 use Rattle.pattern.specs.Forms.{form_of as layout_form}
+use Rattle.section_text.specs.declared.limits.Limits.{Limits}
+use Rattle.section_text.specs.declared.limits.Limits.TheVariants.{First}
+use Rattle.section_text.specs.declared.code.RefusalCode.TheVariants.{PastLimit}
+use Rattle.section_text.specs.Limits.{limits_of}
+use Rattle.section_text.specs.Codes.{code_if, or_else}
+use Rattle.meaning.specs.Design.{front_text, section_lines, text_limits}
+use Rattle.meaning.proofs.Fronts.{first_limits, has_front}
+use Rattle.circuit.specs.Bridge.{netlist_of}
+use Rattle.circuit.specs.Gates.{defines}
+use Rattle.circuit.specs.Meaning.{Gate, wires_after}
+use Rattle.circuit.specs.Grammars.{unconsumed_wire_code}
+use Rattle.circuit.specs.Rules.{exceeds_text_limit, gate_count, is_gate}
+use Rattle.circuit.specs.declared.circuit_line.GateKind.{GateKind}
+use Rattle.circuit.specs.declared.circuit_line.GateKind.TheVariants.{Source, Fredkin, Cswap, Interact, Switch, Delay}
+use Rattle.circuit.specs.declared.circuit_line.GateKind.TheVariants.{Unswitch, Uninteract}
+use Rattle.circuit.proofs.Bridging.{count_append}
+use Rattle.circuit.proofs.Naming.{gates_counted, wires_are_named}
+use Rattle.headline.proofs.Imports.{ap₂, length, length-append, nat_tests}
+use Rattle.lemmas.proofs.Common.{◌*◌}
+use Rattle.headline.proofs.SmallDesigns.{its_given}
+use Rattle.headline.proofs.WrittenLayouts.{IsWithin}
 
 -- ---- the names of the ports
 
 -- ---- the circuit has no fault
 
-circuit_on : (before rest : List CircuitLine) → AreInOrder before rest → AreGoodAfter before rest →
-    AreFaultless circuit_grammar tt before rest
+-- a circuit of few wires and few gates exceeds no limit
+few_lines : (before : List CircuitLine) (r : CircuitLine) (rest : List CircuitLine) →
+    length (defined (before ++ r ∷ rest)) ≤ 4096 → gate_count (before ++ r ∷ rest) ≤ 1024 →
+    exceeds_text_limit First before r ≡ false
+few_lines before r rest wires gates =
+    let all = ap length (flat_map-append (λ (q : CircuitLine). q.outs) before (r ∷ rest))
+    ∙ length-append (defined before) (r.outs ++ defined rest) in
+    let more = length-append r.outs (defined rest) in
+    let counted = count_append (λ (q : CircuitLine). is_gate q.kind) before (r ∷ rest) in
+    grind (arith, common_steps, nat_tests)
+
+circuit_on : (before rest : List CircuitLine) → length (defined (before ++ rest)) ≤ 4096 →
+    gate_count (before ++ rest) ≤ 1024 → AreInOrder before rest → AreGoodAfter before rest →
+    AreFaultless (circuit_grammar First) tt before rest
 unfolding AreGoodAfter
-circuit_on before [] order good = tt
-circuit_on before (r ∷ rest) order good = grind (arith, (circuit_on (before ++ r ∷ []) rest order.1 good.1))
+circuit_on before [] wires gates order good = tt
+circuit_on before (r ∷ rest) wires gates order good = (
+  ap₂ or_else order.0 (ap₂ or_else (ap (λ b. code_if b PastLimit) (few_lines before r rest wires gates)) good.0.adds),
+  circuit_on (before ++ r ∷ []) rest
+      (subst (λ l. length (defined l) ≤ 4096) (sym (append_assoc before (r ∷ []) rest)) wires)
+      (subst (λ l. gate_count l ≤ 1024) (sym (append_assoc before (r ∷ []) rest)) gates) order.1 good.1,
+)
+
+-- a gate defines at most four wires
+few_wires : (n : ℕ) (gs : List Gate) → wires_after n gs ≤ n + 4 * length gs
+unfolding wires_after
+few_wires n [] = omega arith
+few_wires n (g ∷ gs) =
+    let more = few_wires (n + defines g.kind) gs in
+    let four = at_most_four g.kind in
+    omega (arith, more, four)
+  where
+    at_most_four : (kind : GateKind) → defines kind ≤ 4
+    at_most_four (Source b) = omega arith
+    at_most_four Fredkin = omega arith
+    at_most_four Cswap = omega arith
+    at_most_four Interact = omega arith
+    at_most_four Switch = omega arith
+    at_most_four (Delay n) = omega arith
+    at_most_four Unswitch = omega arith
+    at_most_four Uninteract = omega arith
 
 -- ---- the plain lines can be written
 
@@ -126,8 +183,36 @@ module _ (circuit : List CircuitLine) (p : Pattern) (design : IsDesign circuit p
   outs : AreNames (output_names circuit)
   outs = outs_named circuit design.circuit_lines names
 
-  circuit_faultless : IsFaultless circuit_grammar tt circuit
-  circuit_faultless = grind (arith, common_steps, circuit_on)
+  within : IsWithin First p.size
+  within =
+      let wide = small.wide in
+      let high = small.high in
+      (omega (arith, wide), omega (arith, high), small.short)
+
+  given : length (input_names circuit) ≡ (netlist_of circuit).given
+  given = its_given First circuit p design.circuit_lines
+      (layout_faultless circuit p design.size design.layout_lines design.ports ins outs First within) small
+
+  wires : length (defined circuit) ≤ 4096
+  wires =
+      let are = wires_are_named circuit design.circuit_lines in
+      let few = few_wires (netlist_of circuit).given (netlist_of circuit).gates in
+      let gates = small.gates in
+      let inputs = small.inputs in
+      omega (arith, are, few, gates, inputs, given)
+
+  gates : gate_count circuit ≤ 1024
+  gates =
+      let few = small.gates in
+      let counted = gates_counted (defined circuit) circuit in
+      omega (arith, few, counted)
+
+  circuit_faultless : IsFaultless (circuit_grammar First) tt circuit
+  circuit_faultless = record {
+    header = refl;
+    each = circuit_on [] circuit wires gates design.in_order design.circuit_lines;
+    end = ap unconsumed_wire_code design.all_consumed;
+  }
 
   first : HasSection circuit_form tt circuit
   first = circuit_written circuit design.circuit_lines names
@@ -159,18 +244,31 @@ module _ (circuit : List CircuitLine) (p : Pattern) (design : IsDesign circuit p
   clean : AreLines lines
   clean = grind (arith, common_steps, clean_both)
 
+  -- the text has the first limits
+  its_limits : text_limits (flat_map with_line_feed lines) ≡ First
+  its_limits = ap limits_of (lines_again lines clean)
+      ∙ first_limits first.lines (second.lines ++ third.lines) circuit first.is
+
+  its_lines : section_lines (flat_map with_line_feed lines) ≡ lines
+  its_lines = (has_front First (flat_map with_line_feed lines) its_limits).lines ∙ lines_again lines clean
+
   its_text : IsPlainText (flat_map with_line_feed lines) circuit p
   its_text = record {
     first = first.lines;
     second = second.lines;
     third = third.lines;
-    lines = lines_again lines clean;
+    lines = its_lines;
     ended = nothing_follows lines clean;
     circuit_is = first.is;
-    circuit_read = read_alone circuit_grammar first.lines tt circuit first.is circuit_faultless;
+    circuit_read = read_alone (circuit_grammar (text_limits (flat_map with_line_feed lines))) first.lines tt circuit
+        first.is (subst (λ l. IsFaultless (circuit_grammar l) tt circuit) (sym its_limits) circuit_faultless);
     layout_is = second.is;
-    layout_read = read_alone (layout_grammar (Some (port_names_of circuit))) second.lines p.size (parts_of p) second.is
-        (layout_faultless circuit p design.size design.layout_lines design.ports ins outs);
+    layout_read = read_alone
+        (layout_grammar (text_limits (flat_map with_line_feed lines)) (Some (port_names_of circuit))) second.lines
+        p.size
+        (parts_of p) second.is
+        (subst (λ l. IsFaultless (layout_grammar l (Some (port_names_of circuit))) p.size (parts_of p)) (sym its_limits)
+        (layout_faultless circuit p design.size design.layout_lines design.ports ins outs First within));
     certificate_is = third.is;
   }
 
@@ -188,13 +286,14 @@ module _ (circuit : List CircuitLine) (p : Pattern) (design : IsDesign circuit p
         first = first.lines;
         second = second.lines;
         third = third.lines;
-        lines = lines_again lines clean;
+        lines = its_lines;
         rest = nothing_follows lines clean;
         circuit_is = first.is;
         layout_is = second.is;
         certificate_is = third.is;
       } in
       text_is (flat_map with_line_feed lines) b sections
+      ∙ ap (λ l. front_text l ++ bundle_text b) its_limits
       ∙ append_assoc (circuit_text circuit) (layout_text p) (certificate_text
       (record { circuit = circuit; layout = p; version = 1; entries = plain_lines circuit p }))
 
@@ -279,7 +378,7 @@ each_is_decided circuit p output outcome design small reports =
           record {
             circuit = circuit;
             layout = p;
-            begins = design_printed text (certificate_text (record {
+            begins = design_printed First text (certificate_text (record {
               circuit = circuit;
               layout = p;
               version = 1;

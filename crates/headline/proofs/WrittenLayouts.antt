@@ -22,15 +22,19 @@ use Rattle.soundness.proofs.PortNames.{in_lines, out_lines}
 use Rattle.headline.proofs.Written.{HasLine, HasSection, has_section, line_by, name_word}
 use Rattle.headline.proofs.WrittenCircuits.{AreNames, decimal_word, has_name, named}
 use Rattle.lemmas.proofs.Common.{not_lt_test}
+use Rattle.section_text.specs.declared.limits.Limits.{Limits}
+use Rattle.section_text.specs.Limits.{most_side, most_steps}
+use Rattle.pattern.specs.Lines.{text_limit_fault, text_size_fault}
+use Rattle.lemmas.specs.Bounds.{max_side, max_steps}
 
 -- ---- sizes
 
 pub record HasLimits (s : LayoutHeader) : Type 0 where
-  pub wide : s.w ≤ 512
-  pub high : s.h ≤ 512
-  pub long : s.steps ≤ 65536
+  pub wide : s.w ≤ max_side
+  pub high : s.h ≤ max_side
+  pub long : s.steps ≤ max_steps
 
-side_below : (n : ℕ) → is_layout_side n ≡ true → n ≤ 512
+side_below : (n : ℕ) → is_layout_side n ≡ true → n ≤ max_side
 side_below n h = grind (arith, nat_tests, h)
 
 pub has_limits : (s : LayoutHeader) → size_fault s ≡ None → HasLimits s
@@ -39,7 +43,7 @@ has_limits s e = grind (arith, common_steps, no_code, and_parts, side_below, at_
 
 -- ---- lines
 
-pub number : (n k : ℕ) → n ≤ k → k ≤ 65536 → n < 10 ^ 9
+pub number : (n k : ℕ) → n ≤ k → k ≤ max_steps → n < 10 ^ 9
 number n k h g = omega (arith, h, g)
 
 pub size_line : (s : LayoutHeader) → s.w < 10 ^ 9 → s.h < 10 ^ 9 → s.steps < 10 ^ 9 → HasLine form_of (Header s)
@@ -226,15 +230,32 @@ all_none : (a b c d : Option RefusalCode) → a ≡ None → b ≡ None → c �
     or_else (or_else a (or_else b c)) d ≡ None
 all_none a b c d e f g h = ap₂ or_else (ap₂ or_else e (ap₂ or_else f g)) h
 
-faultless_on : (s : LayoutHeader) (l : HasLimits s) (names : PortNameLists) (before parts : List LayoutLine) →
-    InOrder before parts → AreGoodAfter s before parts → AllByRecursion (IsPortName s l names) parts →
-    AreFaultless (layout_grammar (Some names)) s before parts
+-- the size is within the limits of a text
+abbrev pub IsWithin : Limits → LayoutHeader → Type 0
+IsWithin k s = (s.w ≤ most_side k) × (s.h ≤ most_side k) × (s.steps ≤ most_steps k)
+
+size_within : (k : Limits) (s : LayoutHeader) → IsWithin k s → text_size_fault k s ≡ None
+unfolding text_size_fault
+size_within k s within = grind (arith, common_steps, nat_tests)
+
+-- and so is each mirror inside
+mirror_within : (k : Limits) (s : LayoutHeader) (before : List LayoutLine) (part : LayoutLine) → IsWithin k s →
+    cell_fault s before part ≡ None → text_limit_fault k part ≡ None
+unfolding text_limit_fault cell_fault is_inside
+mirror_within k s before (Mirror r) within good = grind (arith, common_steps, nat_tests)
+mirror_within k s before part within good = refl
+
+faultless_on : (k : Limits) (s : LayoutHeader) (l : HasLimits s) (names : PortNameLists)
+    (before parts : List LayoutLine) →
+    IsWithin k s → InOrder before parts → AreGoodAfter s before parts → AllByRecursion (IsPortName s l names) parts →
+    AreFaultless (layout_grammar k (Some names)) s before parts
 unfolding layout_line_fault line_fault
-faultless_on s l names before [] order good n = tt
-faultless_on s l names before (part ∷ parts) order good n = (
-  all_none (order_fault before part) (limit_fault part) (name_fault (Some names) part) (cell_fault s before part)
-      order.0 good.0 (name_ok s l names part n.0) good.1,
-  faultless_on s l names (before ++ part ∷ []) parts order.1 good.2 n.1,
+faultless_on k s l names before [] within order good n = tt
+faultless_on k s l names before (part ∷ parts) within order good n = (
+  ap₂ or_else order.0 (ap₂ or_else (mirror_within k s before part within good.1)
+      (all_none (order_fault before part) (limit_fault part) (name_fault (Some names) part) (cell_fault s before part)
+      order.0 good.0 (name_ok s l names part n.0) good.1)),
+  faultless_on k s l names (before ++ part ∷ []) parts within order.1 good.2 n.1,
 )
 
 -- ---- the names of the ports
@@ -294,15 +315,15 @@ module _ (circuit : List CircuitLine) (p : Pattern) (limits : size_fault p.size 
 
   pub layout_written : HasSection form_of s (parts_of p)
   layout_written = has_section form_of s (parts_of p)
-      (size_line s (number s.w 512 l.wide (omega arith)) (number s.h 512 l.high (omega arith))
-      (number s.steps 65536 l.long (omega arith)))
+      (size_line s (number s.w max_side l.wide (omega arith)) (number s.h max_side l.high (omega arith))
+      (number s.steps max_steps l.long (omega arith)))
       end_line (lines_of s l names [] (parts_of p) good ports_named)
 
-  pub layout_faultless : IsFaultless (layout_grammar (Some names)) s (parts_of p)
+  pub layout_faultless : (k : Limits) → IsWithin k s → IsFaultless (layout_grammar k (Some names)) s (parts_of p)
   unfolding missing_fault
-  layout_faultless = record {
-    header = limits;
-    each = faultless_on s l names [] (parts_of p) (in_order p) good ports_named;
+  layout_faultless k within = record {
+    header = ap₂ or_else (size_within k s within) limits;
+    each = faultless_on k s l names [] (parts_of p) within (in_order p) good ports_named;
     end = ap₂ (λ a b. code_if (not (a && b)) SomethingMissing)
         (all_have (λ n. list_any (is_in_line_named n) (parts_of p)) names.ins (λ k n at.
         in_lines p n ∙ each_port names.ins p.ins are.ins k n at))

@@ -5,7 +5,11 @@ use Rattle.headline.proofs.Imports.{LayoutLine, List, Mirror, Out, Pattern, Port
 use Rattle.headline.proofs.Imports.{ap₂, arith, circuit_text, codes, common_steps, consume_have, consumed}
 use Rattle.headline.proofs.Imports.{defined, is_name, layout_text, map, names_pass, part_form, parts_of}
 use Rattle.headline.proofs.Imports.{port_names_of, pos, refl, subst, sym, true, ℕ, ℤ, ◌++◌, ◌<◌, ◌^◌, ◌∙◌, ◌∷◌, ◌≡◌}
-use Rattle.meaning.specs.Printed.{BeginsWithDesign, layout_forms}
+use Rattle.meaning.specs.Printed.{BeginsWithDesign, IsFront, layout_forms}
+use Rattle.meaning.specs.Design.{front_text, text_limits}
+use Rattle.headline.proofs.Imports.{inl, inr}
+use Rattle.section_text.specs.declared.limits.Limits.{Limits}
+use Rattle.section_text.specs.declared.limits.Limits.TheVariants.{First, Second}
 use Rattle.headline.specs.Laws.{TextBeginsWithReadDesign, RightSaysCorrectDesign, YesMeansRight}
 use Rattle.headline.proofs.Printed.{IsNumber, are_names, circuit_lines, circuit_same, counts_of, layout_same}
 use Rattle.headline.proofs.Printed.{other_forms, parts_read, printed_is_read, size_form}
@@ -17,6 +21,7 @@ use Rattle.headline.proofs.WrittenLayouts.{ports_named, small_mirror}
 use Rattle.headline.proofs.WrittenNames.{input_named, outs_named}
 use Rattle.headline.proofs.YesIsRight.{good_designs, yes_is_right_as_read}
 use Rattle.pattern.specs.Lines as lines
+use Rattle.lemmas.specs.Bounds.{max_side, max_steps}
 
 lines_formed : (before rest : List CircuitLine) → AreGoodAfter before rest → AreNames (defined before) →
     AreNames (defined rest) → AllByRecursion IsLine rest
@@ -93,25 +98,34 @@ module _ (circuit : List CircuitLine) (p : Pattern) (design : IsDesign circuit p
       All-cons IsForm (size_form p) (other_forms p) (record {
         names = no_names;
         numbers = more_numbers p.size.w (pos p.size.h ∷ pos p.size.steps ∷ [])
-            (number p.size.w 512 limits.wide (omega arith))
-            (more_numbers p.size.h (pos p.size.steps ∷ []) (number p.size.h 512 limits.high (omega arith))
-            (more_numbers p.size.steps [] (number p.size.steps 65536 limits.long (omega arith)) (All-nil IsNumber)));
+            (number p.size.w max_side limits.wide (omega arith))
+            (more_numbers p.size.h (pos p.size.steps ∷ []) (number p.size.h max_side limits.high (omega arith))
+            (more_numbers p.size.steps [] (number p.size.steps max_steps limits.long (omega arith))
+            (All-nil IsNumber)));
       })
       (All-from_recursion IsForm (other_forms p) (parts_formed p.size limits (port_names_of circuit) [] (parts_of p)
       design.layout_lines (ports_named circuit p design.size design.layout_lines design.ports
       (input_named circuit wires) (outs_named circuit design.circuit_lines wires))))
 
+is_front : (l : Limits) → IsFront (front_text l)
+is_front First = inl refl
+is_front Second = inr refl
+
 -- a text that begins with the sections of a design, in their one spelling, begins with the design
-pub design_printed : (text rest : List ℕ) (circuit : List CircuitLine) (p : Pattern) → IsDesign circuit p →
-    text ≡ circuit_text circuit ++ (layout_text p ++ rest) → BeginsWithDesign text circuit p
-design_printed text rest circuit p design e =
+pub design_printed : (l : Limits) (text rest : List ℕ) (circuit : List CircuitLine) (p : Pattern) →
+    IsDesign circuit p → text ≡ front_text l ++ (circuit_text circuit ++ (layout_text p ++ rest)) →
+    BeginsWithDesign text circuit p
+design_printed l text rest circuit p design e =
     let ls = all_lines circuit p design in
     let fs = all_forms circuit p design in
     let fit = (circuit_lines circuit ls).1 in
     let parts = (parts_read (parts_of p) (All-tail IsForm (size_form p) (other_forms p) fs)).1 in
     record {
+      front = front_text l;
+      is_front = is_front l;
       rest = rest;
-      begins = e ∙ ap₂ (λ a b. a ++ (b ++ rest)) (sym (circuit_same circuit fit)) (sym (layout_same p parts));
+      begins = e ∙ ap₂ (λ a b. front_text l ++ (a ++ (b ++ rest))) (sym (circuit_same circuit fit))
+          (sym (layout_same p parts));
       circuit_lines = ls;
       layout_lines = fs;
     }
@@ -119,7 +133,8 @@ design_printed text rest circuit p design e =
 pub read_is_printed : TextBeginsWithReadDesign
 read_is_printed text output outcome circuit p reports some says =
     let good = good_designs text output outcome circuit p reports some says in
-    design_printed text good.rest circuit p (designs_are_read text output outcome circuit p reports some says)
+    design_printed (text_limits text) text good.rest circuit p
+    (designs_are_read text output outcome circuit p reports some says)
     good.begins
 
 not_refused : Yes ≡ Refused → ⊥

@@ -6,7 +6,8 @@ use Rattle.headline.proofs.Imports.{IsVerdict, Item, JobView, LayoutHeader, Layo
 use Rattle.headline.proofs.Imports.{OutOfOrder, Outcome, Pattern, PortNameLists, Refusal, RefusalCode, Refused, Result}
 use Rattle.headline.proofs.Imports.{SaysBundle, SaysDesign, SaysReport, Some, StopHolds, StopLine, Verdict, Yes, []}
 use Rattle.headline.proofs.Imports.{add_fault, all_in_modules, all_stops, ap, append-nil, append_assoc, ap₂, arith}
-use Rattle.headline.proofs.Imports.{bundle_of, bytes_after_last_line_feed, certificate_grammar, circuit_grammar}
+use Rattle.headline.proofs.Imports.{bundle_of, bundle_with, bytes_after_last_line_feed, certificate_grammar}
+use Rattle.headline.proofs.Imports.{circuit_grammar}
 use Rattle.headline.proofs.Imports.{circuit_of, circuit_text, common_steps, cond, drop, eqb, faultless_named, flat_map}
 use Rattle.headline.proofs.Imports.{flat_map-append, form_of, gates_are_ordered, inputs_are_first, layout_grammar}
 use Rattle.headline.proofs.Imports.{layout_of, layout_section, layout_text, length, lines_of, modules_in, modules_of}
@@ -29,13 +30,21 @@ use Rattle.soundness.proofs.YesMeansCorrect.{yes_means-correct, yes_means-on_tim
 use Rattle.headline.specs.Laws.{FourthLineShowsOutcome, SaysCorrectDesign, UnrefusedDesignIsGood, YesHasOneValuation}
 use Rattle.headline.specs.Laws.{YesMeansRightStops}
 use Rattle.headline.proofs.OneAnswer.{layout_from}
+use Rattle.headline.specs.RightInFull.{HasFewWires}
+use Rattle.headline.proofs.FewWires.{few_wires}
 use Rattle.headline.proofs.Designs.{bundle_said, design_said, one_design}
 use Rattle.headline.proofs.FourthLines.{refusal_says_none, says_yes, yes_says}
-use Rattle.section_text.proofs.Lines.{whole_text as no_byte_lost}
 use Rattle.circuit.proofs.RoundTrip.{prints_what_is_read as circuit_printed}
 use Rattle.pattern.proofs.RoundTrip.{prints_what_is_read as layout_printed}
 use Rattle.pattern.specs.Lines as lines
 use Rattle.core_book.specs.declared.verdict.Verdict.TheVariants as verdict
+use Rattle.section_text.specs.declared.limits.Limits.{Limits}
+use Rattle.meaning.specs.Design.{front_text, section_lines, text_limits}
+use Rattle.meaning.proofs.Fronts.{front_and_lines}
+use Rattle.section_text.specs.Codes.{code_if}
+use Rattle.section_text.specs.Limits.{front_lines}
+use Rattle.section_text.specs.declared.code.RefusalCode.TheVariants.{PastLimit}
+use Rattle.circuit.specs.Rules.{exceeds_text_limit}
 
 -- ---- the lines of a circuit that is read are good
 
@@ -65,20 +74,23 @@ unless_ok : (n : ℕ) (o : Option RefusalCode) (r : Result (Unit {0} × List Cir
 unless_ok n None r y e = (refl, e)
 unless_ok n (Some code) r y e = absurd cc
 
-line_good : (words : List (List ℕ)) (ls : List (List ℕ)) (before : List CircuitLine) (n : ℕ) (rows : List CircuitLine)
+line_good : (l : Limits) (words : List (List ℕ)) (ls : List (List ℕ)) (before : List CircuitLine) (n : ℕ)
+    (rows : List CircuitLine)
     (o : Option Line) → form_of words ≡ o → HasNoGateYet before
-    → result_after_line circuit_grammar tt before n
-    (λ i. section_body_of circuit_grammar tt (before ++ i ∷ []) (n + 1) ls) o
+    → result_after_line (circuit_grammar l) tt before n
+    (λ i. section_body_of (circuit_grammar l) tt (before ++ i ∷ []) (n + 1) ls) o
     ≡ Ok (tt, rows)
     → ((i : CircuitLine) → HasNoGateYet (before ++ i ∷ []) →
-    section_body_of circuit_grammar tt (before ++ i ∷ []) (n + 1) ls ≡ Ok (tt, rows) → MoreGood (before ++ i ∷ []) rows)
+    section_body_of (circuit_grammar l) tt (before ++ i ∷ []) (n + 1) ls ≡ Ok (tt, rows) →
+    MoreGood (before ++ i ∷ []) rows)
     →
     MoreGood before rows
 unfolding AreGoodAfter
-line_good words ls before n rows (Some (Item r)) f none e rec =
-    let passed = unless_ok n (or_else (order_fault before r) (add_fault before r))
-    (section_body_of circuit_grammar tt (before ++ r ∷ []) (n + 1) ls) (tt, rows) e in
-    let codes = first_none (order_fault before r) (add_fault before r) passed.0 in
+line_good l words ls before n rows (Some (Item r)) f none e rec =
+    let passed = unless_ok n (or_else (order_fault before r)
+    (or_else (code_if (exceeds_text_limit l before r) PastLimit) (add_fault before r)))
+    (section_body_of (circuit_grammar l) tt (before ++ r ∷ []) (n + 1) ls) (tt, rows) e in
+    let codes = first_none (order_fault before r) _ passed.0 in
     let h : last_rank before ≤ rank_of r.kind =
     ltb-false (rank_of r.kind) (last_rank before)
     (no_code (nat_lt (rank_of r.kind) (last_rank before)) OutOfOrder codes.0) in
@@ -88,81 +100,86 @@ line_good words ls before n rows (Some (Item r)) f none e rec =
       rows_are = t.rows_are ∙ append_assoc before (r ∷ []) t.more;
       good = (
         record {
-          adds = codes.1;
+          adds = (first_none _ (add_fault before r) codes.1).1;
           fits = entry_fits words r f;
           inputs_first = no_gate_yet r.kind (last_rank before) (gate_count before) h none;
         },
         t.good,
       );
     }
-line_good words ls before n rows (Some End) f none e rec = grind (arith, common_steps, unless_ok, ok_of, append-nil)
-line_good words ls before n rows _ f none e rec = absurd cc
+line_good l words ls before n rows (Some End) f none e rec = grind (arith, common_steps, unless_ok, ok_of, append-nil)
+line_good l words ls before n rows _ f none e rec = absurd cc
 
-body_good : (ls : List (List ℕ)) (before : List CircuitLine) (n : ℕ) (rows : List CircuitLine) → HasNoGateYet before →
-    section_body_of circuit_grammar tt before n ls ≡ Ok (tt, rows) → MoreGood before rows
+body_good : (l : Limits) (ls : List (List ℕ)) (before : List CircuitLine) (n : ℕ) (rows : List CircuitLine) →
+    HasNoGateYet before →
+    section_body_of (circuit_grammar l) tt before n ls ≡ Ok (tt, rows) → MoreGood before rows
 unfolding section_body_of
-body_good [] before n rows none e = absurd cc
-body_good (l ∷ ls) before n rows none e =
-    line_good (words_of l) ls before n rows (form_of (words_of l)) refl none e
-    (λ i still e. body_good ls (before ++ i ∷ []) (n + 1) rows still e)
+body_good l [] before n rows none e = absurd cc
+body_good l (line ∷ ls) before n rows none e =
+    line_good l (words_of line) ls before n rows (form_of (words_of line)) refl none e
+    (λ i still e. body_good l ls (before ++ i ∷ []) (n + 1) rows still e)
 
-header_good : (ls : List (List ℕ)) (n : ℕ) (rows : List CircuitLine) (o : Option Line) →
-    result_after_header circuit_grammar n (λ k. section_body_of circuit_grammar k [] (n + 1) ls) o ≡ Ok (tt, rows) →
+header_good : (l : Limits) (ls : List (List ℕ)) (n : ℕ) (rows : List CircuitLine) (o : Option Line) →
+    result_after_header (circuit_grammar l) n (λ k. section_body_of (circuit_grammar l) k [] (n + 1) ls) o
+    ≡ Ok (tt, rows) →
     AreGoodCircuitLines rows
-header_good ls n rows (Some (Header k)) e =
-    let t = body_good ls [] (n + 1) rows refl
-    (unless_ok n None (section_body_of circuit_grammar tt [] (n + 1) ls) (tt, rows) e).1 in
+header_good l ls n rows (Some (Header k)) e =
+    let t = body_good l ls [] (n + 1) rows refl
+    (unless_ok n None (section_body_of (circuit_grammar l) tt [] (n + 1) ls) (tt, rows) e).1 in
     subst (AreGoodAfter []) (sym t.rows_are) t.good
-header_good ls n rows _ e = absurd cc
+header_good l ls n rows _ e = absurd cc
 
-pub circuit_good : (n : ℕ) (ls : List (List ℕ)) (h : Unit {0}) (rows : List CircuitLine) →
-    section_of circuit_grammar n ls ≡ Ok (h, rows) → AreGoodCircuitLines rows
+pub circuit_good : (l : Limits) (n : ℕ) (ls : List (List ℕ)) (h : Unit {0}) (rows : List CircuitLine) →
+    section_of (circuit_grammar l) n ls ≡ Ok (h, rows) → AreGoodCircuitLines rows
 unfolding section_of
-circuit_good n [] h rows e = absurd cc
-circuit_good n (l ∷ ls) h rows e = header_good ls n rows (form_of (words_of l)) e
+circuit_good l n [] h rows e = absurd cc
+circuit_good l n (line ∷ ls) h rows e = header_good l ls n rows (form_of (words_of line)) e
 
 -- ---- the lines of a layout are good
 
-pub laid_out : (ports : Option PortNameLists) (s : LayoutHeader) (before parts : List LayoutLine) →
-    AreFaultless (layout_grammar ports) s before parts → lines.AreGoodAfter s before parts
+pub laid_out : (l : Limits) (ports : Option PortNameLists) (s : LayoutHeader) (before parts : List LayoutLine) →
+    AreFaultless (layout_grammar l ports) s before parts → lines.AreGoodAfter s before parts
 unfolding lines.layout_line_fault lines.line_fault
-laid_out ports s before [] good = tt
-laid_out ports s before (part ∷ parts) good =
-    grind (arith, common_steps, first_none, (laid_out ports s (before ++ part ∷ []) parts good.1))
+laid_out l ports s before [] good = tt
+laid_out l ports s before (part ∷ parts) good =
+    grind (arith, common_steps, first_none, (laid_out l ports s (before ++ part ∷ []) parts good.1))
 
 -- ---- the sections of a bundle
 
 -- the circuit and the layout in their one spelling, and what follows
 pub record BeginsWith (text : List ℕ) (circuit : List CircuitLine) (p : Pattern) : Type 0 where
   pub rest : List ℕ
-  pub begins : text ≡ circuit_text circuit ++ (layout_text p ++ rest)
+  pub begins : text ≡ front_text (text_limits text) ++ (circuit_text circuit ++ (layout_text p ++ rest))
 
-spelled : (text : List ℕ) (circuit : List CircuitLine) (ports : Option PortNameLists) (n : ℕ) (p : Pattern) →
-    section_of circuit_grammar 0 (lines_of text) ≡ Ok (tt, circuit)
-    → section_of (layout_grammar ports) n (drop (length circuit + 2) (lines_of text)) ≡ Ok (layout_section p) →
+spelled : (l : Limits) (from : ℕ) (text : List ℕ) (circuit : List CircuitLine) (ports : Option PortNameLists) (n : ℕ)
+    (p : Pattern) → section_of (circuit_grammar l) from (section_lines text) ≡ Ok (tt, circuit)
+    → section_of (layout_grammar l ports) n (drop (length circuit + 2) (section_lines text)) ≡ Ok (layout_section p) →
     BeginsWith text circuit p
-spelled text circuit ports n p first second =
+spelled l from text circuit ports n p first second =
     let k = length circuit + 2 in
-    let later = drop k (lines_of text) in
+    let later = drop k (section_lines text) in
     let m = length (parts_of p) + 2 in
     let after : List ℕ = flat_map with_line_feed (drop m later) in
-    let split : flat_map with_line_feed (lines_of text) ≡ circuit_text circuit ++ (layout_text p ++ after) =
-    ap (flat_map with_line_feed) (sym (take-append-drop k (lines_of text)))
-    ∙ flat_map-append with_line_feed (take k (lines_of text)) later
-    ∙ ap₂ (λ a b. a ++ b) (circuit_printed 0 (lines_of text) circuit first)
+    let split : flat_map with_line_feed (section_lines text) ≡ circuit_text circuit ++ (layout_text p ++ after) =
+    ap (flat_map with_line_feed) (sym (take-append-drop k (section_lines text)))
+    ∙ flat_map-append with_line_feed (take k (section_lines text)) later
+    ∙ ap₂ (λ a b. a ++ b) (circuit_printed l from (section_lines text) circuit first)
     (ap (flat_map with_line_feed) (sym (take-append-drop m later))
     ∙ flat_map-append with_line_feed (take m later) (drop m later)
-    ∙ ap (λ a. a ++ after) (layout_printed ports n later p second)) in
+    ∙ ap (λ a. a ++ after) (layout_printed l ports n later p second)) in
     record {
       rest = after ++ bytes_after_last_line_feed text;
-      begins = sym (no_byte_lost text) ∙ ap (λ a. a ++ bytes_after_last_line_feed text) split
-          ∙ append_assoc (circuit_text circuit) (layout_text p ++ after) (bytes_after_last_line_feed text)
-          ∙ ap (λ a. circuit_text circuit ++ a) (append_assoc (layout_text p) after (bytes_after_last_line_feed text));
+      begins = front_and_lines text
+          ∙ ap (λ a. front_text (text_limits text) ++ (a ++ bytes_after_last_line_feed text)) split
+          ∙ ap (λ a. front_text (text_limits text) ++ a)
+          (append_assoc (circuit_text circuit) (layout_text p ++ after) (bytes_after_last_line_feed text)
+          ∙ ap (λ a. circuit_text circuit ++ a) (append_assoc (layout_text p) after (bytes_after_last_line_feed text)));
     }
 
 pub record IsReadBundle (text : List ℕ) (b : Bundle) : Type 0 where
   pub circuit : AreGoodCircuitLines b.circuit
-  pub layout : IsFaultless (layout_grammar (Some (port_names_of b.circuit))) b.size b.parts
+  pub few_wires : HasFewWires (text_limits text) b.circuit
+  pub layout : IsFaultless (layout_grammar (text_limits text) (Some (port_names_of b.circuit))) b.size b.parts
   pub says : (p : Pattern) → layout_section p ≡ (b.size, b.parts) → SaysDesign text b.circuit p
   pub begins : (p : Pattern) → layout_section p ≡ (b.size, b.parts) → BeginsWith text b.circuit p
   pub says_all : (p : Pattern) → layout_section p ≡ (b.size, b.parts) → SaysBundle text b.circuit p b.entries
@@ -188,50 +205,59 @@ is_over n [] (c ∷ rest) value b e = absurd cc
 is_over n (l ∷ ls) rest value b e = absurd cc
 
 abbrev pub past_circuit : List ℕ → Bundle → List (List ℕ)
-past_circuit text b = drop (length b.circuit + 2) (lines_of text)
+past_circuit text b = drop (length b.circuit + 2) (section_lines text)
 
 abbrev pub past_layout : List ℕ → Bundle → List (List ℕ)
 past_layout text b = drop (length b.parts + 2) (past_circuit text b)
 
 -- the three sections of a text are read one after the other, and no byte follows them
 pub record AreSections (text : List ℕ) (b : Bundle) : Type 0 where
-  pub circuit : section_of circuit_grammar 0 (lines_of text) ≡ Ok (tt, b.circuit)
-  pub layout : section_of (layout_grammar (Some (port_names_of b.circuit))) (0 + (length b.circuit + 2))
+  pub circuit : section_of (circuit_grammar (text_limits text)) (front_lines (text_limits text)) (section_lines text)
+      ≡ Ok (tt, b.circuit)
+  pub layout : section_of (layout_grammar (text_limits text) (Some (port_names_of b.circuit)))
+      (front_lines (text_limits text) + (length b.circuit + 2))
       (past_circuit text b) ≡ Ok (b.size, b.parts)
-  pub certificate : section_of (certificate_grammar (setting_of b.circuit (layout_of b.size b.parts)))
-      (0 + (length b.circuit + 2) + (length b.parts + 2)) (past_layout text b) ≡ Ok (b.version, b.entries)
+  pub certificate : section_of (certificate_grammar (text_limits text)
+      (setting_of b.circuit (layout_of b.size b.parts)))
+      (front_lines (text_limits text) + (length b.circuit + 2) + (length b.parts + 2)) (past_layout text b)
+      ≡ Ok (b.version, b.entries)
   pub nothing_more : drop (length b.entries + 2) (past_layout text b) ≡ []
   pub ended : bytes_after_last_line_feed text ≡ []
 
 pub in_sections : (text : List ℕ) (b : Bundle) → bundle_of text ≡ Ok b → AreSections text b
-unfolding bundle_of
+unfolding bundle_of bundle_with
 in_sections text b e = grind (arith, lines_of, is_over)
 
 pub bundle_good : (text : List ℕ) (b : Bundle) → bundle_of text ≡ Ok b → IsReadBundle text b
 bundle_good text b e =
     let r = in_sections text b e in
     let ports = Some (port_names_of b.circuit) in
-    let m : ℕ = 0 + (length b.circuit + 2) + (length b.parts + 2) in
+    let l : Limits = text_limits text in
+    let from : ℕ = front_lines l in
+    let m : ℕ = from + (length b.circuit + 2) + (length b.parts + 2) in
     let setting = setting_of b.circuit (layout_of b.size b.parts) in
     record {
-      circuit = circuit_good 0 (lines_of text) tt b.circuit r.circuit;
-      layout = read_faultless (layout_grammar ports) _ _ b.size b.parts r.layout;
-      says = λ p same. design_said text b.circuit ports _ p r.circuit (r.layout ∙ ap Ok (sym same));
-      begins = λ p same. spelled text b.circuit ports _ p r.circuit (r.layout ∙ ap Ok (sym same));
-      says_all = λ p same. bundle_said text b.circuit ports _ p setting m b.version b.entries r.circuit
+      circuit = circuit_good l from (section_lines text) tt b.circuit r.circuit;
+      few_wires = few_wires l [] b.circuit (omega arith, omega arith)
+          (read_faultless (circuit_grammar l) from (section_lines text) tt b.circuit r.circuit).each;
+      layout = read_faultless (layout_grammar l ports) _ _ b.size b.parts r.layout;
+      says = λ p same. design_said l from text b.circuit ports _ p r.circuit (r.layout ∙ ap Ok (sym same));
+      begins = λ p same. spelled l from text b.circuit ports _ p r.circuit (r.layout ∙ ap Ok (sym same));
+      says_all = λ p same. bundle_said l from text b.circuit ports _ p setting m b.version b.entries r.circuit
           (r.layout ∙ ap Ok (sym same))
-          (subst (λ (q : LayoutHeader × List LayoutLine). section_of (certificate_grammar setting) m
+          (subst (λ (q : LayoutHeader × List LayoutLine). section_of (certificate_grammar l setting) m
           (drop (length q.1 + 2) (past_circuit text b)) ≡ Ok (b.version, b.entries)) (sym same) r.certificate);
     }
 
 -- and those of its certificate are good
 pub certificate_faultless : (text : List ℕ) (b : Bundle) (p : Pattern) → bundle_of text ≡ Ok b →
     layout_section p ≡ (b.size, b.parts) →
-    IsFaultless (certificate_grammar (setting_of b.circuit p)) b.version b.entries
+    IsFaultless (certificate_grammar (text_limits text) (setting_of b.circuit p)) b.version b.entries
 certificate_faultless text b p e same =
-    subst (λ p. IsFaultless (certificate_grammar (setting_of b.circuit p)) b.version b.entries)
+    subst (λ p. IsFaultless (certificate_grammar (text_limits text) (setting_of b.circuit p)) b.version b.entries)
     (layout_from p b.size b.parts same)
-    (read_faultless (certificate_grammar (setting_of b.circuit (layout_of b.size b.parts))) _ _ b.version b.entries
+    (read_faultless (certificate_grammar (text_limits text) (setting_of b.circuit (layout_of b.size b.parts))) _ _
+    b.version b.entries
     (in_sections text b e).certificate)
 
 -- ---- the design of a text that is not refused
@@ -245,17 +271,19 @@ own_design text b output outcome circuit layout reads says said =
     let c : CertView = says.certificate in
     let p : Pattern = c.layout in
     let same = says.its_own in
-    let whole : IsFaultless (layout_grammar (Some (port_names_of b.circuit))) p.size (parts_of p) =
+    let whole : IsFaultless (layout_grammar (text_limits text) (Some (port_names_of b.circuit))) p.size (parts_of p) =
     subst (λ (q : LayoutHeader × List LayoutLine).
-    IsFaultless (layout_grammar (Some (port_names_of b.circuit))) q.0 q.1)
+    IsFaultless (layout_grammar (text_limits text) (Some (port_names_of b.circuit))) q.0 q.1)
     (sym same.layout) good.layout in
     let begins = good.begins p same.layout in
     let one = one_design text b.circuit circuit p layout (good.says p same.layout) said in
     subst (λ (cs : List CircuitLine). IsGoodDesign text cs layout) one.0
     (subst (IsGoodDesign text b.circuit) one.1 (record {
       circuit_lines = good.circuit;
-      size = whole.header;
-      layout_lines = laid_out (Some (port_names_of b.circuit)) p.size [] (parts_of p) whole.each;
+      few_wires = good.few_wires;
+      size = (first_none _ _ whole.header).1;
+      text_size = (first_none _ _ whole.header).0;
+      layout_lines = laid_out (text_limits text) (Some (port_names_of b.circuit)) p.size [] (parts_of p) whole.each;
       rest = begins.rest;
       begins = begins.begins;
     }))
@@ -286,20 +314,24 @@ known text b output outcome reads says =
     let c : CertView = says.certificate in
     let same = says.its_own in
     let circuit : AreGoodCircuitLines c.circuit = subst AreGoodCircuitLines (sym same.circuit) good.circuit in
-    let whole : IsFaultless (layout_grammar (Some (port_names_of c.circuit))) c.layout.size (parts_of c.layout) =
+    let whole : IsFaultless (layout_grammar (text_limits text) (Some (port_names_of c.circuit))) c.layout.size
+    (parts_of c.layout) =
     subst (λ (q : LayoutHeader × List LayoutLine).
-    IsFaultless (layout_grammar (Some (port_names_of c.circuit))) q.0 q.1)
+    IsFaultless (layout_grammar (text_limits text) (Some (port_names_of c.circuit))) q.0 q.1)
     (sym same.layout)
-    (subst (λ (cs : List CircuitLine). IsFaultless (layout_grammar (Some (port_names_of cs))) b.size b.parts)
+    (subst (λ (cs : List CircuitLine).
+    IsFaultless (layout_grammar (text_limits text) (Some (port_names_of cs))) b.size b.parts)
     (sym same.circuit) good.layout) in
     record {
       ordered = gates_are_ordered c.circuit circuit;
       same = refl;
-      limits = whole.header;
-      laid_out = laid_out (Some (port_names_of c.circuit)) c.layout.size [] (parts_of c.layout) whole.each;
+      limits = (first_none _ _ whole.header).1;
+      laid_out = laid_out (text_limits text) (Some (port_names_of c.circuit)) c.layout.size []
+          (parts_of c.layout) whole.each;
       are_modules = says.is_verdict.good;
       inputs = inputs_are_first c.circuit circuit;
-      named = faultless_named (Some (port_names_of c.circuit)) c.layout.size (parts_of c.layout) whole;
+      named = faultless_named (text_limits text) (Some (port_names_of c.circuit)) c.layout.size
+          (parts_of c.layout) whole;
     }
 
 -- a text with the verdict yes is right
@@ -337,7 +369,7 @@ module _ (text : List ℕ) (b : Bundle) (output : List ℕ) (outcome : Outcome) 
       let own : all_stops (modules_in c) ≡ flat_map stop_in b.entries =
       stops_meant c.version (setting_of c.circuit p) (modules_of c.entries)
       ∙ ap (λ (es : List CertificateLine). all_stops (modules_of es)) says.its_own.entries
-      ∙ all_in_modules (setting_of b.circuit p) b.version b.entries
+      ∙ all_in_modules (text_limits text) (setting_of b.circuit p) b.version b.entries
       (certificate_faultless text b p reads says.its_own.layout) in
       record {
         circuit = b.circuit;

@@ -12,3 +12,4 @@ pub mod MovedDesigns
 pub mod Witnesses
 pub mod Laws
 pub mod Migration
+pub mod Fronts

@@ -49,10 +49,11 @@ moved p = record {
 
 -- ---- what is proved of it
 
--- at most 60 by 60 cells, 12 inputs and 64 gates, so that the larger layout is small too
+-- at most 60 by 60 cells, 65,536 steps, 12 inputs and 64 gates, so that the larger layout is small too
 pub record HasRoom (circuit : List CircuitLine) (layout : Pattern) : Type 0 where
   pub wide : layout.size.w ≤ 60
   pub high : layout.size.h ≤ 60
+  pub short : layout.size.steps ≤ 65536
   pub inputs : length (input_names circuit) ≤ 12
   pub gates : length (netlist_of circuit).gates ≤ 64
 

@@ -3,29 +3,40 @@
 -- Read before: all that meaning/specs/Headline.antt and Stops.antt name; soundness/specs/PlainCertificates.antt from
 -- `IsLiveOnRim` to `TouchesRim`; circuit/specs/Bridge.antt up to `AreGoodCircuitLines` and Rules.antt up to `add_fault`
 -- (the rules of a circuit); pattern/specs/Lines.antt (those of a layout).
-use Rattle.std.specs.Prelude.{◌≡◌, ◌<◌, ℕ, List, [], ◌++◌, None, Some, slice_get, take}
+use Rattle.std.specs.Prelude.{◌≡◌, ◌<◌, ◌≤◌, ℕ, List, [], ◌++◌, length, None, Some, slice_get, take}
 use Rattle.circuit.specs.Bridge.{AreGoodCircuitLines, input_count, input_names, netlist_of}
 use Rattle.circuit.specs.Entries.{defined}
 use Rattle.circuit.specs.Meaning.{Satisfies, Valuation, wires}
+use Rattle.circuit.specs.Rules.{gate_count}
 use Rattle.circuit.specs.Text.{circuit_text}
+use Rattle.section_text.specs.Limits.{most_gates, most_wires}
+use Rattle.section_text.specs.declared.limits.Limits.{Limits}
 use Rattle.circuit.specs.declared.circuit_line.CircuitLine.{CircuitLine}
 use Rattle.pattern.specs.Layout.{Pattern, parts_of}
-use Rattle.pattern.specs.Lines.{AreGoodAfter, size_fault}
+use Rattle.pattern.specs.Lines.{AreGoodAfter, size_fault, text_size_fault}
 use Rattle.pattern.specs.Text.{layout_text}
 use Rattle.soundness.specs.PlainCertificates.{TouchesRim}
+use Rattle.meaning.specs.Design.{front_text, text_limits}
 use Rattle.meaning.specs.Headline.{IsRight}
 use Rattle.headline.specs.Stops.{HasRightStops}
 
 -- ---- the rules of a design
 
+-- no more wires and no more gates than a text with these limits may have
+abbrev pub HasFewWires : Limits → List CircuitLine → Type 0
+HasFewWires l circuit = (length (defined circuit) ≤ most_wires l) × (gate_count circuit ≤ most_gates l)
+
 -- The design of a text that is not refused is good: each of its lines is good after those before it, by names, limits
--- and cells. The text begins with the lines of both sections in their one spelling.
+-- and cells. The text begins with the lines of both sections in their one spelling, behind that of its limits, if it
+-- has one.
 pub record IsGoodDesign (text : List ℕ) (circuit : List CircuitLine) (layout : Pattern) : Type 0 where
   pub circuit_lines : AreGoodCircuitLines circuit
+  pub few_wires : HasFewWires (text_limits text) circuit
   pub size : size_fault layout.size ≡ None
+  pub text_size : text_size_fault (text_limits text) layout.size ≡ None
   pub layout_lines : AreGoodAfter layout.size [] (parts_of layout)
   pub rest : List ℕ
-  pub begins : text ≡ circuit_text circuit ++ (layout_text layout ++ rest)
+  pub begins : text ≡ front_text (text_limits text) ++ (circuit_text circuit ++ (layout_text layout ++ rest))
 
 -- no two wires have one name
 abbrev pub HasDistinctNames : List CircuitLine → Type 0

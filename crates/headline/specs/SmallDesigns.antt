@@ -7,7 +7,8 @@ use Rattle.std.specs.Prelude.{◌≡◌, ℕ, List, [], ◌∷◌, ◌++◌, ◌
 use Rattle.std.specs.List.{All, range_with_len}
 use Rattle.section_text.specs.SaidSection.{IsSection}
 use Rattle.section_text.specs.Section.{section_of}
-use Rattle.section_text.specs.Words.{is_name, lines_of, bytes_after_last_line_feed}
+use Rattle.meaning.specs.Design.{section_lines, text_limits}
+use Rattle.section_text.specs.Words.{is_name, bytes_after_last_line_feed}
 use Rattle.circuit.specs.Bridge.{AreGoodCircuitLines, circuit_of, input_names, netlist_of}
 use Rattle.circuit.specs.Entries.{defined}
 use Rattle.circuit.specs.Forms.{form_of as circuit_form}
@@ -49,18 +50,20 @@ pub record IsPlainText (text : List ℕ) (circuit : List CircuitLine) (layout : 
   pub first : List (List ℕ)
   pub second : List (List ℕ)
   pub third : List (List ℕ)
-  pub lines : lines_of text ≡ first ++ (second ++ third)
+  pub lines : section_lines text ≡ first ++ (second ++ third)
   pub ended : bytes_after_last_line_feed text ≡ []
   pub circuit_is : IsSection circuit_form first tt circuit
-  pub circuit_read : section_of circuit_grammar 0 first ≡ Ok (tt, circuit)
+  pub circuit_read : section_of (circuit_grammar (text_limits text)) 0 first ≡ Ok (tt, circuit)
   pub layout_is : IsSection layout_form second layout.size (parts_of layout)
-  pub layout_read : section_of (layout_grammar (Some (port_names_of circuit))) 0 second ≡ Ok (layout_section layout)
+  pub layout_read : section_of (layout_grammar (text_limits text) (Some (port_names_of circuit))) 0 second
+      ≡ Ok (layout_section layout)
   pub certificate_is : IsSection certificate_form third 1 (plain_lines circuit layout)
 
--- at most 64 by 64 cells, 12 inputs and 64 gates
+-- at most 64 by 64 cells, 65,536 steps, 12 inputs and 64 gates
 pub record IsSmallDesign (circuit : List CircuitLine) (layout : Pattern) : Type 0 where
   pub wide : layout.size.w ≤ 64
   pub high : layout.size.h ≤ 64
+  pub short : layout.size.steps ≤ 65536
   pub inputs : length (input_names circuit) ≤ 12
   pub gates : length (netlist_of circuit).gates ≤ 64
 

@@ -1,5 +1,6 @@
 //! Laws of the definitions, each the contract of a function without a body.
 ghost use Rattle.answers.specs.CheckText.{IsReportOf};
+ghost use Rattle.headline.specs.Fronts.{FrontLineKeepsReports, WideTextIsAccepted, WideTextIsRefused};
 ghost use Rattle.headline.specs.Laws.{BeginsWithOneDesign, SaysYesMeansFourthLine, FourthLineShowsOutcome, HasAnAnswerToEachText, HasAtMostOneAnswerToEachText, PrintedDesignIsRead, TextBeginsWithReadDesign, UnrefusedDesignIsGood, RightSaysCorrectDesign, SaysOneCertificate, SaysOneDesign, ThereAndBackTextIsAccepted, TimedModulesTextIsAccepted, YesHasOneValuation, YesMeansRight, YesMeansRightInFull, YesMeansRightStops};
 ghost use Rattle.headline.specs.PlainLaws.{UnrefusedKeepsDesignRules, EachSmallDesignHasPlainText, EachSmallDesignIsDecided, PlainIsDecided, PlainLinesTextIsDecided, PlainNoMeansWrong, RefusedIsNoSmallDesign, SmallDesignIsDecided, ThereAndBackTextIsPlain, ThereAndBackTextIsSmall, YesKeepsOffRim, LinesOfNoHaveMeaning};
 ghost use Rattle.headline.specs.Witnesses.{PlainNoTextIsRefuted, PlainYesTextIsAccepted, SmallDesignIsAccepted, SmallDesignIsRefuted};
@@ -162,4 +163,12 @@ pub fn something_is_accepted()
 pub fn something_is_refuted()
     ensures meeting { PlainNoTextIsRefuted }
     ensures design { SmallDesignIsRefuted }
+{}
+
+/// States that the line `limits 2` changes no report of a text that is not refused without it, and that it is of use: a
+/// text with a layout that is wider than 512 cells is refused without the line, and reported with a yes behind it.
+pub fn front_line_keeps_reports()
+    ensures kept { FrontLineKeepsReports }
+    ensures refused { WideTextIsRefused }
+    ensures accepted { WideTextIsAccepted }
 {}

@@ -1,5 +1,5 @@
 //! Laws of the definitions, each the contract of a function without a body.
-ghost use Rattle.pattern.specs.Laws.{PrintsWhatIsRead, ReadsWhatIsPrinted};
+ghost use Rattle.pattern.specs.Laws.{FirstLinesAreKept, FirstSizesAreKept, PrintsWhatIsRead, ReadsWhatIsPrinted, SecondLimitsAreWider};
 
 /// States that a layout has one text.
 ///
@@ -9,4 +9,11 @@ ghost use Rattle.pattern.specs.Laws.{PrintsWhatIsRead, ReadsWhatIsPrinted};
 pub fn text_round_trips()
     ensures printed { PrintsWhatIsRead }
     ensures read_again { ReadsWhatIsPrinted }
+{}
+
+/// States that the first limits are those of a text without the line `limits 2`, and that the second ones let in more.
+pub fn first_limits_are_kept()
+    ensures sizes_kept { FirstSizesAreKept }
+    ensures lines_kept { FirstLinesAreKept }
+    ensures wider { SecondLimitsAreWider }
 {}
