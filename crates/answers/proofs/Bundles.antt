@@ -2,6 +2,8 @@
 use Rattle.lemmas.proofs.Common.{[], ◌++◌, ◌+◌, ◌∙◌, ◌∷◌, ◌≡◌, ◌≢◌, Err, List, None, Ok, Option, Result, Some, ap}
 use Rattle.lemmas.proofs.Common.{append-nil, ap₂, drop, map, refl, subst, sym, ℕ}
 use Rattle.section_text.specs.Words.{lines_of, bytes_after_last_line_feed}
+use Rattle.section_text.specs.declared.limits.Limits.{Limits}
+use Rattle.section_text.specs.Limits.{front_lines}
 use Rattle.section_text.specs.Feeds.{FeedView, ahead}
 use Rattle.section_text.specs.Faults.{refusal}
 use Rattle.section_text.specs.Ports.{PortNameLists}
@@ -30,7 +32,7 @@ use Rattle.answers.specs.Answers.{AnswersOrRefuses}
 use Rattle.answers.specs.BundleReading.{TellsRefusal, bundle_of_certificate}
 use Rattle.core_book.specs.Concluding.{port_names_of}
 use Rattle.pattern.specs.FromLines.{layout_of}
-use Rattle.answers.specs.BundleText.{Bundle, bundle_of}
+use Rattle.answers.specs.BundleText.{Bundle, bundle_with}
 use Rattle.answers.specs.declared.outcome.Outcome.{Outcome}
 use Rattle.section_text.specs.declared.code.RefusalCode.TheVariants.{TextCut}
 
@@ -83,7 +85,7 @@ same_setting circuit p = ap (setting_of circuit) (layout_again p)
 
 -- ---- the sections of a bundle, one after the other
 
-module _ (text : List ℕ) where
+module _ (l : Limits) (text : List ℕ) where
   whole : List CircuitLine → LayoutHeader → List LayoutLine → ℕ → List CertificateLine → Bundle
   whole circuit size parts version entries =
       record { circuit = circuit; size = size; parts = parts; version = version; entries = entries }
@@ -95,121 +97,123 @@ module _ (text : List ℕ) where
 
   after_layout : List CircuitLine → LayoutHeader → List LayoutLine → ℕ → List (List ℕ) → Result Bundle Refusal
   after_layout circuit size parts m later =
-      section_then (certificate_grammar (setting_of circuit (layout_of size parts))) m later (ended circuit size parts)
+      section_then (certificate_grammar l (setting_of circuit (layout_of size parts))) m later
+      (ended circuit size parts)
 
   after_circuit : Unit {0} → List CircuitLine → ℕ → List (List ℕ) → Result Bundle Refusal
   after_circuit _ circuit n ahead =
-      section_then (layout_grammar (Some (port_names_of circuit))) n ahead (after_layout circuit)
+      section_then (layout_grammar l (Some (port_names_of circuit))) n ahead (after_layout circuit)
 
-module _ (f0 f1 : FeedView) (unread : f0.taken ≡ 0) (going : f0.stop ≡ None) where
-  from_start : section_then circuit_grammar f0.taken (ahead f0) (after_circuit f0.text) ≡ bundle_of f0.text
-  unfolding bundle_of after_circuit after_layout ended whole
-  from_start = ap (λ n. section_then circuit_grammar n (drop n (lines_of f0.text)) (after_circuit f0.text)) unread
+module _ (l : Limits) (f0 f1 : FeedView) (unread : f0.taken ≡ front_lines l) (going : f0.stop ≡ None) where
+  from_start : section_then (circuit_grammar l) f0.taken (ahead f0) (after_circuit l f0.text) ≡ bundle_with l f0.text
+  unfolding bundle_with after_circuit after_layout ended whole
+  from_start = ap (λ n. section_then (circuit_grammar l) n (drop n (lines_of f0.text)) (after_circuit l f0.text)) unread
 
   pub circuit_failed : (fault : ReadFault) →
-      Reads {A = List CircuitLine} circuit_grammar circuit_section f0 f1 (Err fault) →
-      FailsAsReading fault (bundle_of f0.text)
+      Reads {A = List CircuitLine} (circuit_grammar l) circuit_section f0 f1 (Err fault) →
+      FailsAsReading fault (bundle_with l f0.text)
   circuit_failed fault reads = subst (FailsAsReading fault) from_start
-      (section_failed circuit_grammar circuit_section f0 f1 going (after_circuit f0.text) fault reads)
+      (section_failed (circuit_grammar l) circuit_section f0 f1 going (after_circuit l f0.text) fault reads)
 
-  module _ (circuit : List CircuitLine) (read : Reads circuit_grammar circuit_section f0 f1 (Ok circuit)) where
-    circuit_read : bundle_of f0.text ≡ after_circuit f0.text tt circuit f1.taken (ahead f1)
+  module _ (circuit : List CircuitLine) (read : Reads (circuit_grammar l) circuit_section f0 f1 (Ok circuit)) where
+    circuit_read : bundle_with l f0.text ≡ after_circuit l f0.text tt circuit f1.taken (ahead f1)
     circuit_read = sym from_start
-        ∙ section_read circuit_grammar circuit_section f0 f1 going (after_circuit f0.text) circuit read
+        ∙ section_read (circuit_grammar l) circuit_section f0 f1 going (after_circuit l f0.text) circuit read
 
     going_1 : f1.stop ≡ None
-    going_1 = still_going circuit_grammar circuit_section f0 f1 going (after_circuit f0.text) circuit read
+    going_1 = still_going (circuit_grammar l) circuit_section f0 f1 going (after_circuit l f0.text) circuit read
 
     text_1 : f1.text ≡ f0.text
-    text_1 = same_text circuit_grammar circuit_section f0 f1 going (after_circuit f0.text) circuit read
+    text_1 = same_text (circuit_grammar l) circuit_section f0 f1 going (after_circuit l f0.text) circuit read
 
     module _ (named : Option PortNameLists) (f2 : FeedView) (are : named ≡ Some (port_names_of circuit)) where
       pub layout_failed : (fault : ReadFault) →
-          Reads {A = Pattern} (layout_grammar named) layout_section f1 f2 (Err fault) →
-          FailsAsReading fault (bundle_of f0.text)
+          Reads {A = Pattern} (layout_grammar l named) layout_section f1 f2 (Err fault) →
+          FailsAsReading fault (bundle_with l f0.text)
       unfolding after_circuit
       layout_failed fault reads =
-          let here : Reads {A = Pattern} (layout_grammar (Some (port_names_of circuit))) layout_section f1 f2
-          (Err fault) = subst (λ n. Reads {A = Pattern} (layout_grammar n) layout_section f1 f2 (Err fault)) are
+          let here : Reads {A = Pattern} (layout_grammar l (Some (port_names_of circuit))) layout_section f1 f2
+          (Err fault) = subst (λ n. Reads {A = Pattern} (layout_grammar l n) layout_section f1 f2 (Err fault)) are
           reads in
-          fails_along fault (bundle_of f0.text) _ circuit_read
-          (section_failed (layout_grammar (Some (port_names_of circuit))) layout_section f1 f2 going_1
-          (after_layout f0.text circuit) fault here)
+          fails_along fault (bundle_with l f0.text) _ circuit_read
+          (section_failed (layout_grammar l (Some (port_names_of circuit))) layout_section f1 f2 going_1
+          (after_layout l f0.text circuit) fault here)
 
-      module _ (layout : Pattern) (read_2 : Reads (layout_grammar named) layout_section f1 f2 (Ok layout)) where
-        here : Reads (layout_grammar (Some (port_names_of circuit))) layout_section f1 f2 (Ok layout)
-        here = subst (λ n. Reads (layout_grammar n) layout_section f1 f2 (Ok layout)) are read_2
+      module _ (layout : Pattern) (read_2 : Reads (layout_grammar l named) layout_section f1 f2 (Ok layout)) where
+        here : Reads (layout_grammar l (Some (port_names_of circuit))) layout_section f1 f2 (Ok layout)
+        here = subst (λ n. Reads (layout_grammar l n) layout_section f1 f2 (Ok layout)) are read_2
 
-        layout_read : bundle_of f0.text ≡ after_layout f0.text circuit layout.size (parts_of layout) f2.taken (ahead f2)
+        layout_read : bundle_with l f0.text
+            ≡ after_layout l f0.text circuit layout.size (parts_of layout) f2.taken (ahead f2)
         unfolding after_circuit
         layout_read = circuit_read ∙ section_read
-            (layout_grammar (Some (port_names_of circuit))) layout_section f1 f2 going_1
-            (after_layout f0.text circuit) layout here
+            (layout_grammar l (Some (port_names_of circuit))) layout_section f1 f2 going_1
+            (after_layout l f0.text circuit) layout here
 
         going_2 : f2.stop ≡ None
-        going_2 = still_going (layout_grammar (Some (port_names_of circuit))) layout_section f1 f2 going_1
-            (after_layout f0.text circuit) layout here
+        going_2 = still_going (layout_grammar l (Some (port_names_of circuit))) layout_section f1 f2 going_1
+            (after_layout l f0.text circuit) layout here
 
         text_2 : f2.text ≡ f0.text
-        text_2 = same_text (layout_grammar (Some (port_names_of circuit))) layout_section f1 f2 going_1
-            (after_layout f0.text circuit) layout here ∙ text_1
+        text_2 = same_text (layout_grammar l (Some (port_names_of circuit))) layout_section f1 f2 going_1
+            (after_layout l f0.text circuit) layout here ∙ text_1
 
         setting : Setting
         setting = setting_of circuit (layout_of layout.size (parts_of layout))
 
         module _ (f3 : FeedView) where
           pub certificate_failed : (fault : ReadFault) →
-              Reads {A = CertView} (certificate_grammar (setting_of circuit layout)) certificate_section f2 f3
-              (Err fault) → FailsAsReading fault (bundle_of f0.text)
+              Reads {A = CertView} (certificate_grammar l (setting_of circuit layout)) certificate_section f2 f3
+              (Err fault) → FailsAsReading fault (bundle_with l f0.text)
           unfolding after_layout setting
           certificate_failed fault reads =
-              let right : Reads {A = CertView} (certificate_grammar setting) certificate_section f2 f3 (Err fault) =
-              subst (λ g. Reads {A = CertView} (certificate_grammar g) certificate_section f2 f3 (Err fault))
+              let right : Reads {A = CertView} (certificate_grammar l setting) certificate_section f2 f3 (Err fault) =
+              subst (λ g. Reads {A = CertView} (certificate_grammar l g) certificate_section f2 f3 (Err fault))
               (sym (same_setting circuit layout)) reads in
-              fails_along fault (bundle_of f0.text) _ layout_read
-              (section_failed (certificate_grammar setting) certificate_section f2 f3 going_2
-              (ended f0.text circuit layout.size (parts_of layout)) fault right)
+              fails_along fault (bundle_with l f0.text) _ layout_read
+              (section_failed (certificate_grammar l setting) certificate_section f2 f3 going_2
+              (ended l f0.text circuit layout.size (parts_of layout)) fault right)
 
           module _ (cert : CertView) (read_3 : Reads
-              (certificate_grammar (setting_of circuit layout)) certificate_section f2 f3 (Ok cert)) where
-            right : Reads (certificate_grammar setting) certificate_section f2 f3 (Ok cert)
+              (certificate_grammar l (setting_of circuit layout)) certificate_section f2 f3 (Ok cert)) where
+            right : Reads (certificate_grammar l setting) certificate_section f2 f3 (Ok cert)
             unfolding setting
-            right = subst (λ g. Reads (certificate_grammar g) certificate_section f2 f3 (Ok cert))
+            right = subst (λ g. Reads (certificate_grammar l g) certificate_section f2 f3 (Ok cert))
                 (sym (same_setting circuit layout)) read_3
 
-            certificate_read : bundle_of f0.text
-                ≡ ended f0.text circuit layout.size (parts_of layout) cert.version cert.entries f3.taken (ahead f3)
+            certificate_read : bundle_with l f0.text
+                ≡ ended l f0.text circuit layout.size (parts_of layout) cert.version cert.entries f3.taken (ahead f3)
             unfolding after_layout setting
             certificate_read = layout_read
-                ∙ section_read (certificate_grammar setting) certificate_section f2 f3 going_2
-                (ended f0.text circuit layout.size (parts_of layout)) cert right
+                ∙ section_read (certificate_grammar l setting) certificate_section f2 f3 going_2
+                (ended l f0.text circuit layout.size (parts_of layout)) cert right
 
             pub going_3 : f3.stop ≡ None
-            going_3 = still_going (certificate_grammar setting) certificate_section f2 f3 going_2
-                (ended f0.text circuit layout.size (parts_of layout)) cert right
+            going_3 = still_going (certificate_grammar l setting) certificate_section f2 f3 going_2
+                (ended l f0.text circuit layout.size (parts_of layout)) cert right
 
             text_3 : f3.text ≡ f0.text
-            text_3 = same_text (certificate_grammar setting) certificate_section f2 f3 going_2
-                (ended f0.text circuit layout.size (parts_of layout)) cert right ∙ text_2
+            text_3 = same_text (certificate_grammar l setting) certificate_section f2 f3 going_2
+                (ended l f0.text circuit layout.size (parts_of layout)) cert right ∙ text_2
 
             pub bundle_read : cert.circuit ≡ circuit → cert.layout ≡ layout → ahead f3 ≡ [] →
                 bytes_after_last_line_feed f3.text ≡ [] →
-                bundle_of f0.text ≡ Ok (bundle_of_certificate cert)
+                bundle_with l f0.text ≡ Ok (bundle_of_certificate cert)
             unfolding ended whole
             bundle_read same_circuit same_layout none over =
                 certificate_read ∙ at_the_end f3.taken (ahead f3) (bytes_after_last_line_feed f0.text)
-                (whole f0.text circuit layout.size (parts_of layout) cert.version cert.entries) none
+                (whole l f0.text circuit layout.size (parts_of layout) cert.version cert.entries) none
                 (ap bytes_after_last_line_feed (sym text_3) ∙ over)
-                ∙ ap₂ (λ cs p. Ok (whole f0.text cs p.size (parts_of p) cert.version cert.entries)) (sym same_circuit)
+                ∙ ap₂ (λ cs p. Ok (whole l f0.text cs p.size (parts_of p) cert.version cert.entries)) (sym same_circuit)
                 (sym same_layout)
 
             pub bundle_goes_on : (fault : ReadFault) → (ahead f3 ≡ [] → bytes_after_last_line_feed f3.text ≢ []) →
-                fault ≡ refusal (f3.taken + 1) TextCut → FailsAsReading fault (bundle_of f0.text)
+                fault ≡ refusal (f3.taken + 1) TextCut → FailsAsReading fault (bundle_with l f0.text)
             unfolding ended
             bundle_goes_on fault more is =
-                fails_along fault (bundle_of f0.text) _ certificate_read
+                fails_along fault (bundle_with l f0.text) _ certificate_read
                 (more_fails f3.taken (ahead f3) (bytes_after_last_line_feed f0.text)
-                (whole f0.text circuit layout.size (parts_of layout) cert.version cert.entries) fault
+                (whole l f0.text circuit layout.size (parts_of layout) cert.version cert.entries) fault
                 (λ none over. more none (ap bytes_after_last_line_feed text_3 ∙ over)) is)
 
 -- ---- answers

@@ -6,6 +6,7 @@ use Rattle.section_text.specs.Feeds.{FeedView, ahead}
 use Rattle.section_text.specs.SaidSection.{IsSection}
 use Rattle.section_text.specs.Section.{Reads, ReadsSection, with_line_feed}
 use Rattle.section_text.specs.Words.{lines_of}
+use Rattle.section_text.specs.declared.limits.Limits.{Limits}
 use Rattle.section_text.specs.declared.fault.ReadFault.{ReadFault}
 use Rattle.section_text.proofs.Again.{lines_of_lines}
 use Rattle.section_text.proofs.SaidSections.{section_said}
@@ -18,11 +19,11 @@ abbrev pub bytes_taken : FeedView → List ℕ
 bytes_taken f = flat_map with_line_feed (take f.taken (lines_of f.text))
 
 -- a feed that has a fault gives no certificate, so this one has read the section
-section_read : (g : Setting) (old new : FeedView) (c : CertView) (o : Option ReadFault) → old.stop ≡ o →
-    Reads (certificate_grammar g) (λ (d : CertView). certificate_section d) old new (Ok c) →
-    ReadsSection (certificate_grammar g) (λ (d : CertView). certificate_section d) old new (Ok c)
-section_read g old new c None e r = r.reads e
-section_read g old new c (Some fault) e r = absurd ((r.stopped fault e).0)
+section_read : (l : Limits) (g : Setting) (old new : FeedView) (c : CertView) (o : Option ReadFault) → old.stop ≡ o →
+    Reads (certificate_grammar l g) (λ (d : CertView). certificate_section d) old new (Ok c) →
+    ReadsSection (certificate_grammar l g) (λ (d : CertView). certificate_section d) old new (Ok c)
+section_read l g old new c None e r = r.reads e
+section_read l g old new c (Some fault) e r = absurd ((r.stopped fault e).0)
 
 -- the bytes before are no more than those after
 pub section_bytes : (before after text : List ℕ) → after ≡ before ++ text →
@@ -31,8 +32,8 @@ section_bytes before after text e =
     let longer = ap length e ∙ length-append before text in
     (omega (arith, longer), ap (drop (length before)) e ∙ drop-append_seam before text)
 
-module _ (g : Setting) (old new : FeedView) (c : CertView)
-    (reads : Reads (certificate_grammar g) (λ (d : CertView). certificate_section d) old new (Ok c)) where
+module _ (l : Limits) (g : Setting) (old new : FeedView) (c : CertView)
+    (reads : Reads (certificate_grammar l g) (λ (d : CertView). certificate_section d) old new (Ok c)) where
   abbrev count : ℕ
   count = length c.entries + 2
 
@@ -40,8 +41,8 @@ module _ (g : Setting) (old new : FeedView) (c : CertView)
   abbrev pub own_lines : List (List ℕ)
   own_lines = take count (ahead old)
 
-  pub read : ReadsSection (certificate_grammar g) (λ (d : CertView). certificate_section d) old new (Ok c)
-  read = section_read g old new c old.stop refl reads
+  pub read : ReadsSection (certificate_grammar l g) (λ (d : CertView). certificate_section d) old new (Ok c)
+  read = section_read l g old new c old.stop refl reads
 
   pub more_taken : bytes_taken new ≡ bytes_taken old ++ flat_map with_line_feed own_lines
   more_taken =
@@ -52,7 +53,7 @@ module _ (g : Setting) (old new : FeedView) (c : CertView)
   module _ (before after : List ℕ) (are_before : before ≡ bytes_taken old) (are_after : after ≡ bytes_taken new) where
     pub longer : length before ≤ length after
     longer = (section_bytes before after (flat_map with_line_feed own_lines)
-        (are_after ∙ more_taken ∙ ap (λ l. l ++ flat_map with_line_feed own_lines) (sym are_before))).0
+        (are_after ∙ more_taken ∙ ap (λ t. t ++ flat_map with_line_feed own_lines) (sym are_before))).0
 
     -- the bytes behind those before have these lines
     pub section_lines : IsSection form_of (lines_of (take (length after - length before) (drop (length before) after)))
@@ -63,4 +64,4 @@ module _ (g : Setting) (old new : FeedView) (c : CertView)
         ∙ ap (λ bytes. lines_of (drop (length (bytes_taken old)) bytes)) more_taken
         ∙ ap lines_of (drop-append_seam (bytes_taken old) (flat_map with_line_feed own_lines))
         ∙ lines_of_lines old.text old.taken count))
-        (section_said (certificate_grammar g) old.taken (ahead old) c.version c.entries read.gives)
+        (section_said (certificate_grammar l g) old.taken (ahead old) c.version c.entries read.gives)

@@ -1,6 +1,8 @@
 -- A bundle: a circuit, a layout for it, and a certificate for both.
-use Rattle.std.specs.Prelude.{ℕ, List, Result, Some}
+use Rattle.std.specs.Prelude.{ℕ, List, Result, Some, drop}
 use Rattle.section_text.specs.Words.{lines_of, bytes_after_last_line_feed}
+use Rattle.section_text.specs.Limits.{front_lines, limits_of}
+use Rattle.section_text.specs.declared.limits.Limits.{Limits}
 use Rattle.section_text.specs.Sections.{section_then, value_if_at_end}
 use Rattle.section_text.specs.declared.fault.Refusal.{Refusal}
 use Rattle.circuit.specs.Grammars.{circuit_grammar}
@@ -22,12 +24,16 @@ pub record Bundle : Type 0 where
   pub version : ℕ
   pub entries : List CertificateLine
 
--- A circuit section, a layout section whose ports are named as its inputs and outputs, a certificate section for both,
--- and nothing more.
-unfoldable pub bundle_of : List ℕ → Result Bundle Refusal
-bundle_of text =
-    section_then circuit_grammar 0 (lines_of text) (λ _ circuit n ahead.
-    section_then (layout_grammar (Some (port_names_of circuit))) n ahead (λ size parts m later.
-    section_then (certificate_grammar (setting_of circuit (layout_of size parts))) m later (λ version entries k last.
+-- With these limits, after their line: a circuit section, a layout section whose ports are named as its inputs and
+-- outputs, a certificate section for both, and nothing more.
+unfoldable pub bundle_with : Limits → List ℕ → Result Bundle Refusal
+bundle_with l text =
+    section_then (circuit_grammar l) (front_lines l) (drop (front_lines l) (lines_of text)) (λ _ circuit n ahead.
+    section_then (layout_grammar l (Some (port_names_of circuit))) n ahead (λ size parts m later.
+    section_then (certificate_grammar l (setting_of circuit (layout_of size parts))) m later (λ version entries k last.
     value_if_at_end k last (bytes_after_last_line_feed text)
     (record { circuit = circuit; size = size; parts = parts; version = version; entries = entries }))))
+
+-- with the limits that the text has
+unfoldable pub bundle_of : List ℕ → Result Bundle Refusal
+bundle_of text = bundle_with (limits_of (lines_of text)) text

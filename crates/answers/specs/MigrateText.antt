@@ -2,6 +2,8 @@
 use Rattle.std.specs.Prelude.{◌≡◌, ℕ, List, [], ◌∷◌, ◌++◌, codes}
 use Rattle.std.specs.List.{flat_map}
 use Rattle.std.specs.Fmt.{decimal}
+use Rattle.meaning.specs.Design.{front_text, text_limits}
+use Rattle.section_text.specs.declared.limits.Limits.{Limits}
 use Rattle.section_text.specs.Spelling.{line_text}
 use Rattle.circuit.specs.Text.{circuit_text}
 use Rattle.pattern.specs.Text.{part_text, size_words}
@@ -38,11 +40,12 @@ migrated_bundle bundle = record bundle { version = 2; entries = without_halos bu
 abbrev pub migrate_of : Bundle → List ℕ
 migrate_of bundle = bundle_text (migrated_bundle bundle)
 
--- the bundle is written in version 2
-pub record SaysMigration (bundle : Bundle) (output : List ℕ) (outcome : Outcome) : Type 0 where
-  pub says : output ≡ migrate_of bundle
+-- the bundle is written in version 2, with the limits of its text
+pub record SaysMigration (l : Limits) (bundle : Bundle) (output : List ℕ) (outcome : Outcome) : Type 0 where
+  pub says : output ≡ front_text l ++ migrate_of bundle
   pub ends : outcome ≡ Yes
 
 -- what `migrate` writes for a text, and how it ends
 abbrev pub IsMigrationOf : List ℕ → List ℕ → Outcome → Type 0
-IsMigrationOf text output outcome = AnswersOrRefuses SaysMigration (bundle_of text) output outcome
+IsMigrationOf text output outcome =
+    AnswersOrRefuses (SaysMigration (text_limits text)) (bundle_of text) output outcome

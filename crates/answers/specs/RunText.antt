@@ -1,8 +1,10 @@
 -- The answer of `run` to a text: the whole run of a layout from the names that are on, or the refusal of the text.
-use Rattle.std.specs.Prelude.{◌≡◌, ℕ, List, [], ◌∷◌, ◌++◌, length, None, Result, codes}
+use Rattle.std.specs.Prelude.{◌≡◌, ℕ, List, [], ◌∷◌, ◌++◌, length, None, Result, codes, drop}
 use Rattle.std.specs.List.{flat_map}
 use Rattle.std.specs.Fmt.{decimal, signed_decimal}
 use Rattle.section_text.specs.Words.{lines_of, has}
+use Rattle.section_text.specs.Limits.{front_lines, limits_of}
+use Rattle.section_text.specs.declared.limits.Limits.{Limits}
 use Rattle.section_text.specs.Spelling.{line_text}
 use Rattle.section_text.specs.Sections.{section_then}
 use Rattle.section_text.specs.declared.fault.Refusal.{Refusal}
@@ -30,11 +32,16 @@ name_of_in_line _ = []
 abbrev pub RunQuestion : Type 0
 RunQuestion = (LayoutHeader × List LayoutLine) × List (List ℕ)
 
--- a layout section, an assign section in which the names of its input cells may be on, and nothing more
-unfoldable pub run_sections_of : List ℕ → Result RunQuestion Refusal
-run_sections_of text =
-    section_then (layout_grammar None) 0 (lines_of text)
+-- With these limits, after their line: a layout section, an assign section in which the names of its input cells may be
+-- on, and nothing more.
+unfoldable pub run_sections_with : Limits → List ℕ → Result RunQuestion Refusal
+run_sections_with l text =
+    section_then (layout_grammar l None) (front_lines l) (drop (front_lines l) (lines_of text))
     (λ size parts n ahead. value_and_names_on text (size, parts) (flat_map name_of_in_line parts) n ahead)
+
+-- with the limits that the text has
+unfoldable pub run_sections_of : List ℕ → Result RunQuestion Refusal
+run_sections_of text = run_sections_with (limits_of (lines_of text)) text
 
 -- ---- what is written
 

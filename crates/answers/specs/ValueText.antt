@@ -1,6 +1,8 @@
 -- The answer of `value` to a text: each wire's value under an assignment of the inputs, or the refusal of the text.
-use Rattle.std.specs.Prelude.{◌≡◌, ◌⊎◌, ℕ, ◌++◌, ◌∷◌, [], Bool, List, codes, map, Result}
+use Rattle.std.specs.Prelude.{◌≡◌, ◌⊎◌, ℕ, ◌++◌, ◌∷◌, [], Bool, List, codes, drop, map, Result}
 use Rattle.std.specs.Fmt.{decimal}
+use Rattle.section_text.specs.Limits.{front_lines, limits_of}
+use Rattle.section_text.specs.declared.limits.Limits.{Limits}
 use Rattle.section_text.specs.Spelling.{line_text}
 use Rattle.circuit.specs.Entries.{defined}
 use Rattle.section_text.specs.Words.{lines_of, has}
@@ -19,11 +21,16 @@ use Rattle.answers.specs.Answers.{AnswersOrRefuses, value_and_names_on}
 abbrev pub ValueQuestion : Type 0
 ValueQuestion = List CircuitLine × List (List ℕ)
 
--- a circuit section, an assign section in which its inputs may be on, and nothing more
-unfoldable pub value_sections_of : List ℕ → Result ValueQuestion Refusal
-value_sections_of text =
-    section_then circuit_grammar 0 (lines_of text)
+-- with these limits, after their line: a circuit section, an assign section in which its inputs may be on, and nothing
+-- more
+unfoldable pub value_sections_with : Limits → List ℕ → Result ValueQuestion Refusal
+value_sections_with l text =
+    section_then (circuit_grammar l) (front_lines l) (drop (front_lines l) (lines_of text))
     (λ _ entries n ahead. value_and_names_on text entries (input_names entries) n ahead)
+
+-- with the limits that the text has
+unfoldable pub value_sections_of : List ℕ → Result ValueQuestion Refusal
+value_sections_of text = value_sections_with (limits_of (lines_of text)) text
 
 -- an input is true exactly if its name is on
 abbrev pub assigned_inputs : ValueQuestion → Valuation

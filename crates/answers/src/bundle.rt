@@ -5,7 +5,8 @@ ghost use Rattle.section_text.specs.Words.{lines_of};
 ghost use Rattle.certificate_lines.specs.Forms.{form_of};
 ghost use Rattle.answers.specs.Answers.{AnswersOrRefuses as AnsweredAs};
 ghost use Rattle.answers.specs.BundleReading.{bundle_of_certificate};
-ghost use Rattle.answers.specs.BundleText.{bundle_of};
+ghost use Rattle.answers.specs.BundleText.{bundle_of, bundle_with};
+ghost use Rattle.section_text.specs.Limits.{front_lines, limits_of};
 ghost use Rattle.answers.specs.MigrateText.{IsMigrationOf};
 ghost use Rattle.answers.specs.ModulesText.{IsModulesOf};
 ghost use Rattle.answers.specs.Questions.{AnswersQuestion};
@@ -14,10 +15,10 @@ use crate::migration::migrate;
 use crate::modules::list_modules;
 use crate::outcome::Answered;
 use crate::refusing::refusal_answer;
-use certificate::{Cert, read_certificate};
-use circuit::{port_names, read_circuit};
-use pattern::read_layout;
-use section_text::Feed;
+use certificate::{Cert, read_certificate_within};
+use circuit::{port_names, read_circuit_within};
+use pattern::read_layout_within;
+use section_text::{Feed, Limits};
 use std::alloc::{AllocError, Global};
 
 /// A question about a bundle.
@@ -53,6 +54,7 @@ pub fn migrate_text(alloc: Global, text: &mut Feed) -> Result<Answered, AllocErr
 }
 
 // Reads a bundle up to the end of the text, and answers the question.
+#[tactic(auto, unfolding(crate::specs::BundleText::bundle_of))]
 fn answer_of_text(
     alloc: Global,
     text: &mut Feed,
@@ -61,10 +63,29 @@ fn answer_of_text(
     requires text_closed { text.old.closed ≡ true }
     requires unread { text.old.taken ≡ 0 }
     requires feed_not_stopped { text.old.stop ≡ None }
-    ensures { IfOk result (λ answered. AnsweredAs (AnswersQuestion question)
-        (bundle_of text.old.text) answered.output.items answered.outcome) }
+    ensures { IfOk result (λ answered. AnsweredAs
+        (AnswersQuestion (limits_of (lines_of text.old.text)) question) (bundle_of text.old.text)
+        answered.output.items answered.outcome) }
 {
-    let circuit = match read_circuit(alloc, text) {
+    let limits = text.take_limits();
+    answer_after_front(alloc, text, limits, question)
+}
+
+// Reads a bundle with these limits up to the end of the text, of which the lines before the first section were taken,
+// and answers the question.
+fn answer_after_front(
+    alloc: Global,
+    text: &mut Feed,
+    limits: Limits,
+    question: Question,
+) -> Result<Answered, AllocError>
+    requires text_closed { text.old.closed ≡ true }
+    requires front_taken { text.old.taken ≡ front_lines limits }
+    requires feed_not_stopped { text.old.stop ≡ None }
+    ensures { IfOk result (λ answered. AnsweredAs (AnswersQuestion limits question)
+        (bundle_with limits text.old.text) answered.output.items answered.outcome) }
+{
+    let circuit = match read_circuit_within(alloc, text, limits) {
         Err(fault) => return refusal_answer(alloc, fault),
         Ok(circuit) => circuit,
     };
@@ -72,34 +93,35 @@ fn answer_of_text(
         Err(error) => return Err(error),
         Ok(ports) => ports,
     };
-    let layout = match read_layout(alloc, text, &ports) {
+    let layout = match read_layout_within(alloc, text, limits, &ports) {
         Err(fault) => return refusal_answer(alloc, fault),
         Ok(layout) => layout,
     };
     let from = text.taken_text().len();
-    let cert = match read_certificate(alloc, text, &circuit, &layout) {
+    let cert = match read_certificate_within(alloc, text, limits, &circuit, &layout) {
         Err(fault) => return refusal_answer(alloc, fault),
         Ok(cert) => cert,
     };
     if let Err(fault) = text.finish() {
         return refusal_answer(alloc, fault);
     }
-    answer(alloc, &cert, &text.taken_text()[from..], question)
+    answer(alloc, limits, &cert, &text.taken_text()[from..], question)
 }
 
 // Answers the question for the bundle of a certificate, which was read from a section.
 fn answer(
     alloc: Global,
+    limits: Limits,
     cert: &Cert<'_>,
     section: &[u8],
     question: Question,
 ) -> Result<Answered, AllocError>
     requires section { IsSection form_of (lines_of section.now) cert.now.version cert.now.entries }
-    ensures says { IfOk result (λ answered. AnswersQuestion question
+    ensures says { IfOk result (λ answered. AnswersQuestion limits question
         (bundle_of_certificate cert.now) answered.output.items answered.outcome) }
 {
     match question {
         Question::Modules => list_modules(alloc, cert),
-        Question::Migration => migrate(alloc, cert, section),
+        Question::Migration => migrate(alloc, limits, cert, section),
     }
 }

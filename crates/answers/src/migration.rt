@@ -7,6 +7,7 @@ ghost use Rattle.section_text.specs.Words.{is_line_feed, lines_of};
 ghost use Rattle.certificate_lines.specs.Forms.{form_of};
 ghost use Rattle.answers.specs.BundleReading.{bundle_of_certificate};
 ghost use Rattle.answers.specs.MigrateText.{SaysMigration, migrate_of};
+ghost use Rattle.meaning.specs.Design.{front_text};
 ghost use Rattle.answers.specs.KeptLines.{line_without_h, lines_without_h};
 
 use crate::outcome::{Answered, Outcome};
@@ -14,6 +15,7 @@ use certificate::Cert;
 use circuit::print_circuit;
 use memchr::memchr;
 use pattern::print_layout;
+use section_text::Limits;
 use std::alloc::{AllocError, Global};
 
 // Where the first line feed is.
@@ -60,13 +62,33 @@ fn push_lines_without_h(out: &mut Vec<u8>, text: &[u8]) -> Result<(), AllocError
     Ok(())
 }
 
-// The text of the bundle: its circuit and its layout, and its certificate in version 2. The lines of a certificate are
-// those of its section, so the ones that stay are copied.
-fn print_migration(alloc: Global, cert: &Cert<'_>, section: &[u8]) -> Result<Vec<u8>, AllocError>
-    requires section { IsSection form_of (lines_of section.now) cert.now.version cert.now.entries }
-    ensures { IfOk result (λ text. text.items ≡ migrate_of (bundle_of_certificate cert.now)) }
+// The line that chooses these limits, if they need one.
+fn print_front(alloc: Global, limits: Limits) -> Result<Vec<u8>, AllocError>
+    ensures { IfOk result (λ text. text.items ≡ front_text limits) }
 {
-    let mut text = print_circuit(alloc, cert.circuit())?;
+    let mut text = Vec::new(alloc);
+    match limits {
+        Limits::First => {}
+        Limits::Second => text.extend_from_slice(b"limits 2\n")?,
+    }
+    Ok(text)
+}
+
+// The text of the bundle: the line of its limits, its circuit and its layout, and its certificate in version 2. The
+// lines of a certificate are those of its section, so the ones that stay are copied.
+fn print_migration(
+    alloc: Global,
+    limits: Limits,
+    cert: &Cert<'_>,
+    section: &[u8],
+) -> Result<Vec<u8>, AllocError>
+    requires section { IsSection form_of (lines_of section.now) cert.now.version cert.now.entries }
+    ensures { IfOk result (λ text. text.items
+        ≡ front_text limits ++ migrate_of (bundle_of_certificate cert.now)) }
+{
+    let mut text = print_front(alloc, limits)?;
+    let circuit = print_circuit(alloc, cert.circuit())?;
+    text.extend_from_slice(&circuit)?;
     let layout = print_layout(alloc, cert.layout())?;
     text.extend_from_slice(&layout)?;
     text.extend_from_slice(b"certificate 2\n")?;
@@ -74,17 +96,19 @@ fn print_migration(alloc: Global, cert: &Cert<'_>, section: &[u8]) -> Result<Vec
     Ok(text)
 }
 
-/// Writes the bundle of a certificate, which was read from a section, in version 2, without halo lines.
+/// Writes the bundle of a certificate, which was read from a section of a text with these limits, in version 2, without
+/// halo lines.
 pub(crate) fn migrate(
     alloc: Global,
+    limits: Limits,
     cert: &Cert<'_>,
     section: &[u8],
 ) -> Result<Answered, AllocError>
     requires section { IsSection form_of (lines_of section.now) cert.now.version cert.now.entries }
-    ensures says { IfOk result (λ answered. SaysMigration (bundle_of_certificate cert.now)
+    ensures says { IfOk result (λ answered. SaysMigration limits (bundle_of_certificate cert.now)
         answered.output.items answered.outcome) }
 {
-    let output = print_migration(alloc, cert, section)?;
+    let output = print_migration(alloc, limits, cert, section)?;
     Ok(Answered {
         outcome: Outcome::Yes,
         output,

@@ -5,14 +5,16 @@ ghost use Rattle.std.specs.List.{flat_map};
 ghost use Rattle.section_text.specs.Section.{ReaderReturnsSection};
 ghost use Rattle.section_text.specs.Spelling.{line_text};
 ghost use Rattle.pattern.specs.Grammars.{layout_section};
-ghost use Rattle.answers.specs.RunText.{IsRunOf, SaysRunEnd, live_cell_line, run_end_outcome, run_end_text, run_sections_of};
+ghost use Rattle.answers.specs.RunText.{IsRunOf, SaysRunEnd, live_cell_line, run_end_outcome, run_end_text, run_sections_with};
+ghost use Rattle.answers.specs.Answers.{AnswersOrRefuses};
+ghost use Rattle.section_text.specs.Limits.{front_lines};
 
 use crate::asking::read_assign_and_end;
 use crate::outcome::{Answered, Outcome};
 use crate::refusing::refusal_answer;
 use bbm_rule::Cell;
-use pattern::{Layout, RunEnd, read_layout, run_plain};
-use section_text::{Feed, Name, PortNames, ReadFault};
+use pattern::{Layout, RunEnd, read_layout_within, run_plain};
+use section_text::{Feed, Limits, Name, PortNames, ReadFault};
 use std::alloc::{AllocError, Global};
 
 // The names of the input cells.
@@ -23,14 +25,18 @@ fn input_cell_names(alloc: Global, layout: &Layout) -> Result<Vec<Name>, AllocEr
 }
 
 // Reads a layout, the names that are on, and the end of the text.
-fn read_layout_and_assign(alloc: Global, feed: &mut Feed) -> Result<(Layout, Vec<Name>), ReadFault>
+fn read_layout_and_assign(
+    alloc: Global,
+    feed: &mut Feed,
+    limits: Limits,
+) -> Result<(Layout, Vec<Name>), ReadFault>
     requires text_closed { feed.old.closed ≡ true }
-    requires unread { feed.old.taken ≡ 0 }
+    requires front_taken { feed.old.taken ≡ front_lines limits }
     requires feed_not_stopped { feed.old.stop ≡ None }
     ensures { ReaderReturnsSection (λ asked. (layout_section asked.0, asked.1.items)) result
-        (run_sections_of feed.old.text) }
+        (run_sections_with limits feed.old.text) }
 {
-    let layout = match read_layout(alloc, feed, &PortNames::Any) {
+    let layout = match read_layout_within(alloc, feed, limits, &PortNames::Any) {
         Err(fault) => return Err(fault),
         Ok(layout) => layout,
     };
@@ -113,7 +119,22 @@ fn answer(alloc: Global, layout: &Layout, on: &[Name]) -> Result<Answered, Alloc
     Ok(Answered { outcome, output })
 }
 
+// Runs the layout of a text with these limits, of which the lines before the first section were taken, as `run` does.
+fn run_after_front(alloc: Global, feed: &mut Feed, limits: Limits) -> Result<Answered, AllocError>
+    requires text_closed { feed.old.closed ≡ true }
+    requires front_taken { feed.old.taken ≡ front_lines limits }
+    requires feed_not_stopped { feed.old.stop ≡ None }
+    ensures { IfOk result (λ answered. AnswersOrRefuses SaysRunEnd
+        (run_sections_with limits feed.old.text) answered.output.items answered.outcome) }
+{
+    match read_layout_and_assign(alloc, feed, limits) {
+        Err(fault) => refusal_answer(alloc, fault),
+        Ok((layout, on)) => answer(alloc, &layout, &on),
+    }
+}
+
 /// Runs the layout of a text under its assignment, and answers as `run` does. The text is read whole.
+#[tactic(auto, unfolding(crate::specs::RunText::run_sections_of))]
 pub fn run_text(alloc: Global, feed: &mut Feed) -> Result<Answered, AllocError>
     requires text_closed { feed.old.closed ≡ true }
     requires unread { feed.old.taken ≡ 0 }
@@ -121,8 +142,6 @@ pub fn run_text(alloc: Global, feed: &mut Feed) -> Result<Answered, AllocError>
     ensures { IfOk result (λ answered. IsRunOf feed.old.text answered.output.items
         answered.outcome) }
 {
-    match read_layout_and_assign(alloc, feed) {
-        Err(fault) => refusal_answer(alloc, fault),
-        Ok((layout, on)) => answer(alloc, &layout, &on),
-    }
+    let limits = feed.take_limits();
+    run_after_front(alloc, feed, limits)
 }

@@ -7,14 +7,16 @@ ghost use Rattle.circuit.specs.Entries.{defined};
 ghost use Rattle.circuit.specs.Text.{value_lines};
 ghost use Rattle.section_text.specs.Section.{ReaderReturnsSection};
 ghost use Rattle.circuit.specs.Bridge.{input_names, netlist_of};
-ghost use Rattle.answers.specs.ValueText.{IsValueOf, SaysValues, value_sections_of};
+ghost use Rattle.answers.specs.ValueText.{IsValueOf, SaysValues, value_sections_with};
+ghost use Rattle.answers.specs.Answers.{AnswersOrRefuses};
+ghost use Rattle.section_text.specs.Limits.{front_lines};
 
 use crate::asking::read_assign_and_end;
 use crate::outcome::{Answered, Outcome};
 use crate::refusing::refusal_answer;
-use circuit::{Circuit, ValuesFault, port_names, print_values, read_circuit};
+use circuit::{Circuit, ValuesFault, port_names, print_values, read_circuit_within};
 use pattern::are_on;
-use section_text::{Feed, Name, PortNames, ReadFault};
+use section_text::{Feed, Limits, Name, PortNames, ReadFault};
 use std::alloc::{AllocError, Global};
 
 // The names of the inputs.
@@ -32,14 +34,15 @@ fn input_name_list(alloc: Global, circuit: &Circuit) -> Result<Vec<Name>, AllocE
 fn read_circuit_and_assign(
     alloc: Global,
     feed: &mut Feed,
+    limits: Limits,
 ) -> Result<(Circuit, Vec<Name>), ReadFault>
     requires text_closed { feed.old.closed ≡ true }
-    requires unread { feed.old.taken ≡ 0 }
+    requires front_taken { feed.old.taken ≡ front_lines limits }
     requires feed_not_stopped { feed.old.stop ≡ None }
     ensures { ReaderReturnsSection (λ asked. (asked.0, asked.1.items)) result
-        (value_sections_of feed.old.text) }
+        (value_sections_with limits feed.old.text) }
 {
-    let circuit = match read_circuit(alloc, feed) {
+    let circuit = match read_circuit_within(alloc, feed, limits) {
         Err(fault) => return Err(fault),
         Ok(circuit) => circuit,
     };
@@ -97,7 +100,23 @@ fn answer(alloc: Global, circuit: &Circuit, on: &[Name]) -> Result<Answered, All
     }
 }
 
+// Evaluates the circuit of a text with these limits, of which the lines before the first section were taken, as `value`
+// does.
+fn value_after_front(alloc: Global, feed: &mut Feed, limits: Limits) -> Result<Answered, AllocError>
+    requires text_closed { feed.old.closed ≡ true }
+    requires front_taken { feed.old.taken ≡ front_lines limits }
+    requires feed_not_stopped { feed.old.stop ≡ None }
+    ensures { IfOk result (λ answered. AnswersOrRefuses SaysValues
+        (value_sections_with limits feed.old.text) answered.output.items answered.outcome) }
+{
+    match read_circuit_and_assign(alloc, feed, limits) {
+        Err(fault) => refusal_answer(alloc, fault),
+        Ok((circuit, on)) => answer(alloc, &circuit, &on),
+    }
+}
+
 /// Evaluates the circuit of a text under its assignment, and answers as `value` does. The text is read whole.
+#[tactic(auto, unfolding(crate::specs::ValueText::value_sections_of))]
 pub fn value_text(alloc: Global, feed: &mut Feed) -> Result<Answered, AllocError>
     requires text_closed { feed.old.closed ≡ true }
     requires unread { feed.old.taken ≡ 0 }
@@ -105,8 +124,6 @@ pub fn value_text(alloc: Global, feed: &mut Feed) -> Result<Answered, AllocError
     ensures { IfOk result (λ answered. IsValueOf feed.old.text answered.output.items
         answered.outcome) }
 {
-    match read_circuit_and_assign(alloc, feed) {
-        Err(fault) => refusal_answer(alloc, fault),
-        Ok((circuit, on)) => answer(alloc, &circuit, &on),
-    }
+    let limits = feed.take_limits();
+    value_after_front(alloc, feed, limits)
 }

@@ -8,6 +8,7 @@ use Rattle.lemmas.proofs.Common.{append-nil, append_assoc, ap₂, cond, filter, 
 use Rattle.lemmas.proofs.Common.{filter_of_map_range_with_len_more, flat_map, flat_map-append, list_all}
 use Rattle.lemmas.proofs.Common.{list_all-append, list_any, list_any-append, map-id, map-range_with_len_more, or-true}
 use Rattle.lemmas.proofs.Common.{range_with_len, to_z, ◌++◌}
+use Rattle.lemmas.specs.Bounds.{max_side}
 
 pub row_more : (x n y j : ℕ) → x + n ≡ j → row_cells x (n + 1) y ≡ row_cells x n y ++ cell j y ∷ []
 row_more x n y j e = map-range_with_len_more (λ c. cell c y) x n j e
@@ -23,10 +24,10 @@ flat_map_range_more f a n j e =
     ∙ ap (λ (l : List _). flat_map f (range_with_len a n) ++ l) (append-nil (f j))
 
 -- a cell whose numbers were cast
-pub cast_cell : (x y : ℕ) → x < 512 → y < 512 → record { x = to_z w32 x; y = to_z w32 y } ≡ cell x y
+pub cast_cell : (x y : ℕ) → x < max_side → y < max_side → record { x = to_z w32 x; y = to_z w32 y } ≡ cell x y
 cast_cell x y a b = grind (arith, common_steps, ints)
 
-pub row_pushed : (first out out' : List Cell) (x y c : ℕ) → x ≤ c → c < 512 → y < 512 →
+pub row_pushed : (first out out' : List Cell) (x y c : ℕ) → x ≤ c → c < max_side → y < max_side →
     out ≡ first ++ row_cells x (c - x) y → out' ≡ out ++ record { x = to_z w32 c; y = to_z w32 y } ∷ [] →
     out' ≡ first ++ row_cells x (c + 1 - x) y
 row_pushed first out out' x y c from low row before now = grind (arith, common_steps, cast_cell, row_more)

@@ -5,6 +5,7 @@ use Rattle.bbm_rule.specs.declared.grid.Grid.TheInside.{Inside}
 use Rattle.bbm_rule.specs.Board.{Board}
 use Rattle.bbm_rule.specs.Bands.{AreRowPairsStable}
 use Rattle.bbm_rule.specs.Rows.{cell_at, is_board_cell}
+use Rattle.lemmas.specs.Bounds.{max_side}
 
 -- the board of words in rows of s cells, with a margin of one cell
 abbrev pub board : ℕ → ℕ → ℕ → List ℕ → Board
@@ -21,8 +22,8 @@ board_of g = board g.width g.height (64 * g.stride) g.words.items
 -- what the fields of every grid meet: the margin, and the bits of a row beyond it, are dead, and pairs of rows without
 -- a mark stay
 pub record IsGrid (g : Inside) : Type 0 where
-  pub width : (2 ≤ g.width) × (g.width ≤ 1024) × (g.width % 2 ≡ 0)
-  pub height : (2 ≤ g.height) × (g.height ≤ 1024) × (g.height % 2 ≡ 0)
+  pub width : (2 ≤ g.width) × (g.width ≤ max_side) × (g.width % 2 ≡ 0)
+  pub height : (2 ≤ g.height) × (g.height ≤ max_side) × (g.height % 2 ≡ 0)
   pub stride : g.stride ≡ g.width / 64 + 1
   pub words : length g.words.items ≡ g.stride * (g.height + 2)
   pub margin : (x y : ℕ) → x < 64 * g.stride → is_board_cell g.width g.height x y ≡ false →

@@ -3,6 +3,7 @@
 ghost use Rattle.std.specs.Prelude.{◌≡◌, ◌<◌, ◌≤ℤ◌, pos};
 ghost use Rattle.bbm_rule.specs.Plane.{partner};
 ghost use Rattle.bbm_rule.specs.Words.{turn_of};
+ghost use Rattle.lemmas.specs.Bounds.{last_place};
 
 /// A cell of the plane, by its column `x`, which grows rightwards, and its row `y`, which grows downwards.
 #[derive(Clone, Copy, Debug, PartialEq, Eq, Hash)]
@@ -34,12 +35,12 @@ pub fn turn(bits: u8) -> u8
     TURNS[bits as usize]
 }
 
-/// Returns the other column or row of a block at odd times, for a column or row from 0 to 1023.
+/// Returns the other column or row of a block at odd times, for a column or row from 0 to 4095.
 ///
 /// It is the one beside this one that belongs to another block at even times.
 #[tactic(auto, unfolding(crate::specs::Plane::partner))]
 pub fn odd_partner(place: i32) -> i32
-    requires { (pos 0 ≤ℤ place) × (place ≤ℤ pos 1023) }
+    requires { (pos 0 ≤ℤ place) × (place ≤ℤ pos last_place) }
     ensures { result ≡ partner 1 place }
 {
     if place.unsigned_abs() % 2 == 1 {

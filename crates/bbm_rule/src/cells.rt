@@ -4,6 +4,7 @@ ghost use Rattle.std.specs.Prelude.{◌≡◌, ◌+◌, ◌*◌, ◌/◌, ◌<�
 ghost use Rattle.std.specs.Bool.{OnTrue};
 ghost use Rattle.bbm_rule.specs.Marks.{IsUnmarked};
 ghost use Rattle.bbm_rule.specs.Rows.{cell_at, FillsRowPart, SetsPlace, place_with_margin, HasLiveMargin, HasDeadMargin, HasDeadMarginInRow};
+ghost use Rattle.lemmas.specs.Bounds.{max_side, max_stride};
 
 use crate::block::Cell;
 use crate::marks::next_marked;
@@ -11,9 +12,9 @@ use crate::marks::next_marked;
 // the place of a cell, in rows of `stride` words with a margin of one cell
 #[inline(always)]
 pub(crate) fn place_with_margin(stride: usize, cell: Cell) -> usize
-    requires columns { (pos 0 ≤ℤ cell.x) × (cell.x <ℤ pos 1024) }
-    requires rows { (pos 0 ≤ℤ cell.y) × (cell.y <ℤ pos 1024) }
-    requires stride { stride ≤ 17 }
+    requires columns { (pos 0 ≤ℤ cell.x) × (cell.x <ℤ pos max_side) }
+    requires rows { (pos 0 ≤ℤ cell.y) × (cell.y <ℤ pos max_side) }
+    requires stride { stride ≤ max_stride }
     ensures { result ≡ place_with_margin (64 * stride) cell.x cell.y }
 {
     64 * stride * (cell.y as usize + 1) + (cell.x as usize + 1)
@@ -22,7 +23,7 @@ pub(crate) fn place_with_margin(stride: usize, cell: Cell) -> usize
 // the row of a cell, as a number
 #[inline(always)]
 pub(crate) fn row_of(cell: Cell) -> usize
-    requires { (pos 0 ≤ℤ cell.y) × (cell.y <ℤ pos 1024) }
+    requires { (pos 0 ≤ℤ cell.y) × (cell.y <ℤ pos max_side) }
     ensures { pos result ≡ cell.y }
 {
     cell.y as usize
@@ -98,8 +99,8 @@ pub(crate) fn has_live_margin(
     width: usize,
     height: usize,
 ) -> bool
-    requires width { (width + 2 ≤ 64 * stride) × (stride ≤ 17) }
-    requires height { (height ≤ 1024) × (height % 2 ≡ 0) }
+    requires width { (width + 2 ≤ 64 * stride) × (stride ≤ max_stride) }
+    requires height { (height ≤ max_side) × (height % 2 ≡ 0) }
     requires word_count { length words.now ≡ stride * (height + 2) }
     requires marks { height / 2 + 1 ≤ 64 * length marks.now }
     requires unmarked { (y : ℕ) → y < height + 2 → IsUnmarked marks.now (y / 2) →
@@ -123,8 +124,8 @@ pub(crate) fn has_live_margin(
 // Whether a cell of row y is live that belongs to the margin: the first, the one after the last of the board, and all
 // in the first and the last row.
 fn is_row_margin_live(words: &[u64], stride: usize, width: usize, height: usize, y: usize) -> bool
-    requires width { (width + 2 ≤ 64 * stride) × (stride ≤ 17) }
-    requires height { height ≤ 1024 }
+    requires width { (width + 2 ≤ 64 * stride) × (stride ≤ max_stride) }
+    requires height { height ≤ max_side }
     requires row { y < height + 2 }
     requires word_count { length words.now ≡ stride * (height + 2) }
     ensures any_live { OnTrue result (HasLiveMargin width height (64 * stride) words.now) }

@@ -6,6 +6,7 @@
 ghost use Rattle.std.specs.Prelude.{◌≡◌, ◌≤◌, ◌%◌, ◌<◌, ◌+◌, ◌||◌, IsTrue, IfOk, OnOk, OnErr, true, false, pos, ℕ, ℤ};
 ghost use Rattle.bbm_rule.specs.Spans.{in_area};
 ghost use Rattle.bbm_rule.specs.Board.{Board, live, is_inside, HasSameSize, IsStep, Leaves, SetsCell};
+ghost use Rattle.lemmas.specs.Bounds.{max_side};
 
 use crate::block::Cell;
 use crate::cells::{cell_bit, fill_cells, has_live_margin, place_with_margin, put_cell, row_of};
@@ -21,7 +22,7 @@ pub struct Left;
 /// A rectangle of cells of the plane, each live or dead.
 ///
 /// Its upper left corner is the cell (0, 0), and the cells outside it are dead. Width and height are even, from 2 to
-/// 1024.
+/// 4096.
 // A row is `stride` words of bits, and a margin of one cell is kept around the rectangle: the cell (x, y) is bit x + 1
 // of row y + 1, counted from the first bit of the row. So no block of either partition is cut by the border.
 #[derive(Drop)]
@@ -54,8 +55,8 @@ impl Grid {
     /// No other function of a grid takes memory.
     #[tactic(auto, using(crate::proofs::BandLemmas::none_calm, crate::proofs::GridLemmas::zeroes_dead, crate::proofs::GridLemmas::all_dead))]
     pub fn new(alloc: Global, width: u32, height: u32) -> Result<Grid, AllocError>
-        requires width { (2 ≤ width) × (width ≤ 1024) × (width % 2 ≡ 0) }
-        requires height { (2 ≤ height) × (height ≤ 1024) × (height % 2 ≡ 0) }
+        requires width { (2 ≤ width) × (width ≤ max_side) × (width % 2 ≡ 0) }
+        requires height { (2 ≤ height) × (height ≤ max_side) × (height % 2 ≡ 0) }
         ensures size { IfOk result (λ g. (g.width ≡ width) × (g.height ≡ height)) }
         ensures all_cells_dead { IfOk result (λ g. (x y : ℤ) → live g x y ≡ false) }
     {

@@ -4,6 +4,7 @@ ghost use Rattle.std.specs.List.{list_any};
 ghost use Rattle.bbm_rule.specs.Board.{live, is_inside, HasSameSize};
 ghost use Rattle.bbm_rule.specs.Boxes.{in_box};
 ghost use Rattle.bbm_rule.specs.CellLists.{in_cells, rectangle_cells, row_cells};
+ghost use Rattle.lemmas.specs.Bounds.{max_side};
 
 use crate::block::{Box2, Cell};
 use crate::grid::Grid;
@@ -11,8 +12,8 @@ use std::alloc::AllocError;
 
 #[tactic(auto, using(crate::proofs::CellLists::row_pushed))]
 fn push_row_cells(out: &mut Vec<Cell>, x: u32, w: u32, y: u32) -> Result<(), AllocError>
-    requires columns { x + w ≤ 512 }
-    requires row { y < 512 }
+    requires columns { x + w ≤ max_side }
+    requires row { y < max_side }
     ensures { OnOk result (out.new.items ≡ out.old.items ++ row_cells x w y) }
 {
     for column in x..x + w {
@@ -24,14 +25,14 @@ fn push_row_cells(out: &mut Vec<Cell>, x: u32, w: u32, y: u32) -> Result<(), All
     Ok(())
 }
 
-/// Appends the cells of the rectangle, row by row. Its columns and rows are below 512.
+/// Appends the cells of the rectangle, row by row. Its columns and rows are below 4096.
 ///
 /// # Errors
 ///
 /// Out of memory. A part of the cells may then be there.
 pub fn push_rectangle(out: &mut Vec<Cell>, r: Box2) -> Result<(), AllocError>
-    requires columns { r.x + r.w ≤ 512 }
-    requires rows { r.y + r.h ≤ 512 }
+    requires columns { r.x + r.w ≤ max_side }
+    requires rows { r.y + r.h ≤ max_side }
     ensures { OnOk result (out.new.items ≡ out.old.items ++ rectangle_cells r) }
 {
     for row in r.y..r.y + r.h {
@@ -74,8 +75,8 @@ pub fn make_live(grid: &mut Grid, cells: &[Cell])
 
 /// Returns whether a cell of the rectangle is live. The rectangle is on the grid.
 pub fn is_any_live_in(grid: &Grid, r: Box2) -> bool
-    requires columns { (r.x + r.w ≤ grid.now.width) × (r.x + r.w ≤ 512) }
-    requires rows { (r.y + r.h ≤ grid.now.height) × (r.y + r.h ≤ 512) }
+    requires columns { (r.x + r.w ≤ grid.now.width) × (r.x + r.w ≤ max_side) }
+    requires rows { (r.y + r.h ≤ grid.now.height) × (r.y + r.h ≤ max_side) }
     ensures { result ≡ list_any (λ c. live grid.now c.x c.y) (rectangle_cells r) }
 {
     let end = r.x + r.w;
@@ -89,8 +90,8 @@ pub fn is_any_live_in(grid: &Grid, r: Box2) -> bool
 /// Makes the cells of the rectangle live, and leaves the others as they are. The rectangle is on the grid.
 #[tactic(auto, unfolding(crate::specs::Boxes::in_box))]
 pub fn fill_rectangle(grid: &mut Grid, r: Box2)
-    requires columns { (r.x + r.w ≤ grid.old.width) × (r.x + r.w ≤ 512) }
-    requires rows { (r.y + r.h ≤ grid.old.height) × (r.y + r.h ≤ 512) }
+    requires columns { (r.x + r.w ≤ grid.old.width) × (r.x + r.w ≤ max_side) }
+    requires rows { (r.y + r.h ≤ grid.old.height) × (r.y + r.h ≤ max_side) }
     ensures filled { (x y : ℤ) →
         live grid.new x y ≡ (live grid.old x y || in_box r x y) }
     ensures size { HasSameSize grid.old grid.new }

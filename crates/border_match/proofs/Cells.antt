@@ -11,6 +11,7 @@ use Rattle.bbm_rule.proofs.Spans.{span_from, span_parts}
 use Rattle.module_box.specs.Moves.{IsInShiftRange, IsSmallShift}
 use Rattle.module_box.proofs.BoxCells.{in_span_nat, in_box_nats}
 use Rattle.module_box.proofs.NearBoxes.{near_one, near_parts}
+use Rattle.lemmas.specs.Bounds.{max_side}
 
 -- ---- jobs and owners
 
@@ -28,7 +29,7 @@ reached b f g = and_from _ _ g.inside g.halo
 
 -- ---- cells that have an owner
 
-small_number : (z : ℤ) (n m w : ℕ) → z ≡ pos n → n < m + w → m + w ≤ 512 → IsSmallShift z
+small_number : (z : ℤ) (n m w : ℕ) → z ≡ pos n → n < m + w → m + w ≤ max_side → IsSmallShift z
 small_number z n m w e lt few = (omega (arith, ints, e), omega (arith, ints, e, lt, few))
 
 -- a cell of the rectangle is in the box of a job

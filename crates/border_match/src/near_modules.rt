@@ -2,6 +2,7 @@
 ghost use Rattle.std.specs.Prelude.{◌+◌, ◌≤◌, ◌≡◌, ◌<◌, IsTrue, IfOk, OnOk};
 ghost use Rattle.bbm_rule.specs.Boxes.{in_box};
 ghost use Rattle.border_match.specs.Boards.{AreModuleNumbers, AreHaloOwnersListed, AreReadyBorders, AreOwnersListedInRows, AreOutsideOwnersListed, KeepsAllNumbers, with_number_once};
+ghost use Rattle.lemmas.specs.Bounds.{max_side};
 
 use crate::borders::Borders;
 use bbm_rule::Cell;
@@ -28,7 +29,8 @@ impl<'a> Borders<'a> {
         requires numbers_exist { AreModuleNumbers self.now near.old.items }
         ensures owners_listed { IfOk result (AreOutsideOwnersListed self.now near.new.items) }
         ensures holds { IfOk result (λ area. IsTrue (in_box area cell.x cell.y)) }
-        ensures fits_512 { IfOk result (λ area. (area.x + area.w ≤ 512) × (area.y + area.h ≤ 512)) }
+        ensures fits_max_side { IfOk result (λ area. (area.x + area.w ≤ max_side)
+            × (area.y + area.h ≤ max_side)) }
         ensures numbers_kept { OnOk result (KeepsAllNumbers near.old.items near.new.items) }
         ensures numbers_exist { OnOk result (AreModuleNumbers self.now near.new.items) }
     {

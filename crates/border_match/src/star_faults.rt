@@ -6,6 +6,7 @@ ghost use Rattle.border_match.specs.Boards.{AreModuleNumbers, AreHaloOwnersListe
 ghost use Rattle.border_match.specs.Candidates.{IsNextBest};
 ghost use Rattle.border_match.specs.declared.fault.BorderFault.{BorderFault};
 ghost use Rattle.border_match.specs.declared.signals.RingOrHalo.TheVariants.{Halo};
+ghost use Rattle.lemmas.specs.Bounds.{max_side};
 
 use crate::borders::Borders;
 use crate::fault::{BorderFault, lesser};
@@ -53,7 +54,7 @@ impl<'a> Borders<'a> {
         stars: &[AllTimesSignal],
     ) -> Option<BorderFault>
         requires borders_ready { AreReadyBorders self.now }
-        requires corner { (corner.x ≤ 512) × (corner.y ≤ 512) }
+        requires corner { (corner.x ≤ max_side) × (corner.y ≤ max_side) }
         ensures { IsNextBest (IsFaultOfSearchedJob self.now)
             (DiffersAtStar self.now (map (moved_all_times (pos corner.x) (pos corner.y)) stars.now))
             best result }

@@ -7,6 +7,7 @@ ghost use Rattle.module_box.specs.Moves.{moved_cell};
 ghost use Rattle.module_box.specs.Schedules.{IsRising, moment_of};
 ghost use Rattle.border_match.specs.Boards.{IsPlaceOf};
 ghost use Rattle.border_match.specs.Surroundings.{AreEventsFar, AreMomentsFarBetween, IsInOrAroundFromCorner, IsEventFarAt, IsExtent, IsFirstNotBefore, IsInWindow, IsWindowAround};
+ghost use Rattle.lemmas.specs.Bounds.{max_side};
 
 use crate::window::Window;
 use bbm_rule::Cell;
@@ -115,8 +116,8 @@ fn is_in_or_around(area: Box2, corner: Box2, cell: Cell) -> bool
 // Returns a cell that is counted from the corner of another box, counted from that of the plane. It returns `None` if
 // the cell is not in the columns and rows of the area or next to them.
 pub(crate) fn plane_cell_if_near(area: Box2, corner: Box2, cell: Cell) -> Option<Cell>
-    requires area { (area.x + area.w ≤ 512) × (area.y + area.h ≤ 512) }
-    requires corner { (corner.x ≤ 512) × (corner.y ≤ 512) }
+    requires area { (area.x + area.w ≤ max_side) × (area.y + area.h ≤ max_side) }
+    requires corner { (corner.x ≤ max_side) × (corner.y ≤ max_side) }
     ensures cell_moved { IfSome result (λ c. c
         ≡ moved_cell (pos corner.x) (pos corner.y) cell) }
     ensures far_if_none { IfNone result (¬ IsInOrAroundFromCorner area corner cell) }

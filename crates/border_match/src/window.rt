@@ -1,6 +1,7 @@
 //! Windows: columns and rows of cells.
 ghost use Rattle.std.specs.Prelude.{◌≡◌, ◌+◌, ◌≤◌, ◌≤ℤ◌, IsTrue};
 ghost use Rattle.border_match.specs.Surroundings.{AreMomentsFarBetween, IsInWindow, IsWindowAround};
+ghost use Rattle.lemmas.specs.Bounds.{max_side};
 
 use bbm_rule::Cell;
 use module_box::{Box2, Moment};
@@ -41,8 +42,8 @@ fn lower_right(a: Cell, b: Cell) -> Cell
 impl Window {
     /// Returns the columns and rows around an area, counted from the corner of another box.
     pub(crate) fn around(area: Box2, corner: Box2) -> Window
-        requires area { (area.x + area.w ≤ 512) × (area.y + area.h ≤ 512) }
-        requires corner { (corner.x ≤ 512) × (corner.y ≤ 512) }
+        requires area { (area.x + area.w ≤ max_side) × (area.y + area.h ≤ max_side) }
+        requires corner { (corner.x ≤ max_side) × (corner.y ≤ max_side) }
         ensures { IsWindowAround area corner result }
     {
         Window {

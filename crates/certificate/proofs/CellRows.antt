@@ -10,6 +10,7 @@ use Rattle.bbm_rule.proofs.Spans.{span_from}
 use Rattle.bbm_rule.specs.CellLists.{cell}
 use Rattle.certificate.specs.declared.layout_tables.CellLists.{CellLists}
 use Rattle.bbm_rule.proofs.CellLists.{cast_cell, flat_map_range_more, row_more}
+use Rattle.lemmas.specs.Bounds.{max_side}
 
 -- a row in two parts
 row_parts : (x a b y : ℕ) → row_cells x (a + b) y ≡ row_cells x a y ++ row_cells (x + a) b y
@@ -45,7 +46,7 @@ module _ {A B : Type 0} (g : A → B) (f : Cell → B) (first old new : List A) 
       grind (arith, common_steps, grown, mapped_same, row_parts)
 
   -- and a value for one cell
-  pub grow_cell : (a : A) → k < 512 → y < 512 → new ≡ old ++ a ∷ [] →
+  pub grow_cell : (a : A) → k < max_side → y < max_side → new ≡ old ++ a ∷ [] →
       g a ≡ f (record { x = to_z w32 k; y = to_z w32 y }) →
       map g new ≡ map g first ++ map f (row_cells x (k + 1 - x) y)
   grow_cell a low row pushed here =
@@ -92,7 +93,7 @@ module _ (c : Circuit) (p : Pattern) (l : LocalNet) (first old new : CellLists) 
   add_same start demand n le starts demands starts_are demands_are start_below demand_below =
       grind (arith, common_steps, grow_same, starts_at, all_same, demands_at)
 
-  pub add_cell : (start : Signal) (demand : Demand) → k < 512 → y < 512 →
+  pub add_cell : (start : Signal) (demand : Demand) → k < max_side → y < max_side →
       new.starts ≡ old.starts ++ start ∷ [] → new.demands ≡ old.demands ++ demand ∷ [] →
       renumber_signal (circuit_wire l) start ≡ start_signal c p (to_z w32 k) (to_z w32 y) →
       IsSignalWireBelow (wires l.netlist) start →
@@ -106,6 +107,7 @@ cell_inside : (b : Box2) (x y : ℕ) → b.x ≤ x → x < b.x + b.w → b.y ≤
 unfolding in_box
 cell_inside b x y left right top bottom = grind (arith, common_steps, and_from, span_from)
 
-pub cast_inside : (b : Box2) (x y : ℕ) → x < 512 → y < 512 → b.x ≤ x → x < b.x + b.w → b.y ≤ y → y < b.y + b.h →
+pub cast_inside : (b : Box2) (x y : ℕ) → x < max_side → y < max_side → b.x ≤ x → x < b.x + b.w → b.y ≤ y →
+    y < b.y + b.h →
     in_box b (to_z w32 x) (to_z w32 y) ≡ true
 cast_inside b x y low row left right top bottom = grind (arith, common_steps, cast_cell, cell_inside)

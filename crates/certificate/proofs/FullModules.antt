@@ -22,6 +22,7 @@ use Rattle.certificate_lines.proofs.LineOrder.{pairs_each, rising_distinct}
 use Rattle.certificate_lines.proofs.Pairs.{each_append, each_at, pairs_append}
 use Rattle.certificate_lines.proofs.StoredLines.{ring_in_box}
 use Rattle.certificate.proofs.BorderOrder.{edges_rise, pairs_of_order}
+use Rattle.lemmas.specs.Bounds.{max_modules}
 
 -- ---- lists
 
@@ -377,7 +378,7 @@ module _ (g : Setting) (ms : List ModuleLines) (good : AreModules g ms) where
 
   pub full_modules : lacks_edge_wire_beside g ms ≡ false → AreModules g (map (with_halos g ms) ms)
   full_modules none = record {
-    few = subst (λ n. n ≤ 1024) (sym (length-map ms (with_halos g ms))) good.few;
+    few = subst (λ n. n ≤ max_modules) (sym (length-map ms (with_halos g ms))) good.few;
     each = λ k m e.
         let n = mapped_from (with_halos g ms) ms k m e in
         let at = stands ms k n.0 n.1 in

@@ -24,6 +24,7 @@ use Rattle.certificate_lines.proofs.BoxPlaces.{skipped}
 use Rattle.certificate_lines.proofs.Lists.{kept}
 use Rattle.certificate_lines.proofs.LayoutPorts.{AllInLayout, port_stands, ports_on_layout}
 use Rattle.module_job.specs.declared.job.Demand.TheVariants as Demanded
+use Rattle.lemmas.specs.Bounds.{max_side}
 
 -- ---- the ports in the box of a module
 
@@ -158,7 +159,7 @@ nothing_here p x y e =
 
 -- ---- the mirrors of a layout
 
-all_on_grid : (s : LayoutHeader) (b : Board) → (b.width ≡ s.w) × (b.height ≡ s.h) → s.w ≤ 512 → s.h ≤ 512 →
+all_on_grid : (s : LayoutHeader) (b : Board) → (b.width ≡ s.w) × (b.height ≡ s.h) → s.w ≤ max_side → s.h ≤ max_side →
     (rs : List Box2) → list_all (λ r. is_inside s (Mirror r)) rs ≡ true → All (IsOnGrid b) rs
 all_on_grid s b size w h [] e k d lt = absurd (omega arith)
 all_on_grid s b size w h (r ∷ rs) e zero d lt =

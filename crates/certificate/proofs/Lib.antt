@@ -26,3 +26,4 @@ mod PrintedLines
 pub mod JobPlaces
 pub mod CellRows
 pub mod Imports
+pub mod LimitLaws

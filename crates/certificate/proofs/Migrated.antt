@@ -18,12 +18,13 @@ use Rattle.certificate.specs.Laws.{AreFaultlessLines, GoodWithoutHalos, IsSectio
 use Rattle.certificate_lines.specs.Orders.{may_follow}
 use Rattle.certificate_lines.specs.Rules.{cut_line_code, use_line_code, keep_line_code, timed_line_count}
 use Rattle.certificate_lines.specs.Rules.{border_line_code, body_line_code, line_fault, module_line_code}
-use Rattle.certificate_lines.specs.Rules.{module_box_code, content_code}
+use Rattle.certificate_lines.specs.Rules.{module_box_code, module_limit_fault, content_code}
 use Rattle.certificate_lines.specs.Versions.{AreGoodLines, haloless_module}
 use Rattle.certificate_lines.proofs.Growing.{last_mapped, map_changed, unchanged}
 use Rattle.section_text.specs.declared.code.RefusalCode.{RefusalCode}
 use Rattle.certificate.proofs.FullModules.{meant_new, no_halo_left, without_same}
-use Rattle.certificate.proofs.Soundness.{faultless_modules}
+use Rattle.certificate.proofs.Soundness.{faultless_modules, passed_line}
+use Rattle.section_text.specs.declared.limits.Limits.{Limits}
 
 pub without_append : (xs ys : List CertificateLine) → without_halos (xs ++ ys) ≡ without_halos xs ++ without_halos ys
 unfolding without_halos
@@ -301,39 +302,84 @@ migrated_lacks g es = ap (lacks_edge_wire_beside g) (modules_without es) ∙ lac
 
 -- ---- sections of either version
 
-good_of : (g : Setting) (es before : List CertificateLine) → AreFaultlessLines g 1 before es → AreGoodLines g before es
-good_of g [] before h = tt
-good_of g (i ∷ es) before h = grind (arith, common_steps, good_of g es (before ++ i ∷ []) h.1, both_none)
+good_of : (l : Limits) (g : Setting) (es before : List CertificateLine) → AreFaultlessLines l g 1 before es →
+    AreGoodLines g before es
+good_of l g [] before h = tt
+good_of l g (i ∷ es) before h = ((passed_line l g 1 before i h.0).1, good_of l g es (before ++ i ∷ []) h.1)
 
-faultless_two : (g : Setting) (es before : List CertificateLine) → AreGoodLines g before (without_halos es) →
-    AreFaultlessLines g 2 before (without_halos es)
+-- no module is one too many
+abbrev AreFewModules : Limits → Setting → List CertificateLine → List CertificateLine → Type 0
+AreFewModules l g before [] = Unit {0}
+AreFewModules l g before (i ∷ es) = (module_limit_fault l g before i ≡ None) × AreFewModules l g (before ++ i ∷ []) es
+
+few_of : (l : Limits) (g : Setting) (es before : List CertificateLine) → AreFaultlessLines l g 1 before es →
+    AreFewModules l g before es
+few_of l g [] before h = tt
+few_of l g (i ∷ es) before h = ((passed_line l g 1 before i h.0).0, few_of l g es (before ++ i ∷ []) h.1)
+
+few_kept : (l : Limits) (g : Setting) (before : List CertificateLine) (i : CertificateLine) →
+    module_limit_fault l g before i ≡ None → module_limit_fault l g (without_halos before) i ≡ None
+unfolding module_limit_fault
+few_kept l g before (Module b) h = rw (
+  modules_without before,
+  last_mapped haloless_module (modules_of before),
+  incomplete_kept g (last_module before),
+  length-map (modules_of before) haloless_module,
+) h
+few_kept l g before i h = refl
+
+few_more : (l : Limits) (g : Setting) (i : CertificateLine) (es before : List CertificateLine) → is_halo i ≡ false →
+    module_limit_fault l g before i ≡ None →
+    AreFewModules l g (without_halos (before ++ i ∷ [])) (without_halos es) →
+    AreFewModules l g (without_halos before) (i ∷ without_halos es)
+few_more l g i es before o few later = grind (arith, common_steps, few_kept, without_one)
+
+few_on : (l : Limits) (g : Setting) (es before : List CertificateLine) → AreFewModules l g before es →
+    AreFewModules l g (without_halos before) (without_halos es)
 unfolding without_halos is_halo
-faultless_two g [] before h = tt
-faultless_two g (Halo e ∷ es) before h = faultless_two g es before h
-faultless_two g (i ∷ es) before h = (h.0, faultless_two g es (before ++ i ∷ []) h.1)
+few_on l g [] before few = tt
+few_on l g (Halo e ∷ es) before few =
+    grind (arith, common_steps, few_on l g es (before ++ Halo e ∷ []) few.1, without_last)
+few_on l g (i ∷ es) before few = few_more l g i es before refl few.0 (few_on l g es (before ++ i ∷ []) few.1)
+
+few_without : (l : Limits) (g : Setting) (es : List CertificateLine) → AreFewModules l g [] es →
+    AreFewModules l g [] (without_halos es)
+unfolding without_halos
+few_without l g es few = few_on l g es [] few
+
+faultless_two : (l : Limits) (g : Setting) (es before : List CertificateLine) →
+    AreGoodLines g before (without_halos es) → AreFewModules l g before (without_halos es) →
+    AreFaultlessLines l g 2 before (without_halos es)
+unfolding without_halos is_halo
+faultless_two l g [] before h few = tt
+faultless_two l g (Halo e ∷ es) before h few = faultless_two l g es before h few
+faultless_two l g (i ∷ es) before h few = (
+  none_both (module_limit_fault l g before i) (entry_fault g before i) few.0 h.0,
+  faultless_two l g es (before ++ i ∷ []) h.1 few.1,
+)
 
 pub section_without_halos : SectionWithoutHalos
-section_without_halos g es is knows =
+section_without_halos l g es is knows =
     let good = good_without_halos g es (record {
-      lines = good_of g es [] is.lines;
+      lines = good_of l g es [] is.lines;
       end = (both_none (end_fault g es)
           (code_if (is_haloless_version 1 && lacks_edge_wire_beside g (modules_of es)) SomethingMissing) is.end).0;
     }) in
     record {
       header = refl;
-      lines = faultless_two g es [] good.lines;
+      lines = faultless_two l g es [] good.lines (few_without l g es (few_of l g es [] is.lines));
       end = none_both (end_fault g (without_halos es))
           (code_if (is_haloless_version 2 && lacks_edge_wire_beside g (modules_of (without_halos es))) SomethingMissing)
           good.end
           (coded _ SomethingMissing (migrated_lacks g es ∙ knows));
     }
 
-faultless_lines : (g : Setting) (v : ℕ) (es before : List CertificateLine) → AreFaultlessLines g v before es →
-    AreFaultless (certificate_grammar g) v before es
-faultless_lines g v [] before h = tt
-faultless_lines g v (i ∷ es) before h = (h.0, faultless_lines g v es (before ++ i ∷ []) h.1)
+faultless_lines : (l : Limits) (g : Setting) (v : ℕ) (es before : List CertificateLine) →
+    AreFaultlessLines l g v before es → AreFaultless (certificate_grammar l g) v before es
+faultless_lines l g v [] before h = tt
+faultless_lines l g v (i ∷ es) before h = (h.0, faultless_lines l g v es (before ++ i ∷ []) h.1)
 
-pub section_modules : (g : Setting) (v : ℕ) (es : List CertificateLine) → IsSectionOf g v es →
+pub section_modules : (l : Limits) (g : Setting) (v : ℕ) (es : List CertificateLine) → IsSectionOf l g v es →
     AreModules g (modules_of es)
-section_modules g v es is = faultless_modules g v es
-    (record { header = is.header; each = faultless_lines g v es [] is.lines; end = is.end })
+section_modules l g v es is = faultless_modules l g v es
+    (record { header = is.header; each = faultless_lines l g v es [] is.lines; end = is.end })

@@ -1,4 +1,4 @@
--- The cells of a module's edge and halo lines lie within 512 columns and rows.
+-- The cells of a module's edge and halo lines lie within 4096 columns and rows.
 use Rattle.certificate.proofs.Imports.{All, All-cons, All-nil, AllTimesSignal, BorderLine, Box2, Cell, IsInShiftRange}
 use Rattle.certificate.proofs.Imports.{IsModule, IsSmallShift, IsWithinMaxSize, LayoutHeader, List, ModuleLines, None}
 use Rattle.certificate.proofs.Imports.{Option, Setting, Signal, Signals, Some, StoredBorder, TimedSignal, []}
@@ -13,12 +13,14 @@ use Rattle.module_box.proofs.BoxCells.{in_box_nats}
 use Rattle.module_job.specs.Signals.{renumber_stop}
 use Rattle.module_job.specs.declared.job.Stop.{Stop}
 use Rattle.certificate.proofs.JobLemmas.{within_512}
+use Rattle.lemmas.specs.Bounds.{last_place, max_side}
 
-low_number : (z : ℤ) (k : ℕ) → z ≡ pos k → k < 512 → (pos 0 ≤ℤ z) × (z ≤ℤ pos 511)
+low_number : (z : ℤ) (k : ℕ) → z ≡ pos k → k < max_side → (pos 0 ≤ℤ z) × (z ≤ℤ pos last_place)
 low_number z k e lt = (omega (arith, ints, e, lt), omega (arith, ints, e, lt))
 
--- a cell of a box within 512 columns and rows
-pub low_in_box : (b : Box2) (c : Cell) → b.x + b.w ≤ 512 → b.y + b.h ≤ 512 → in_box b c.x c.y ≡ true → IsWithinMaxSize c
+-- a cell of a box within 4096 columns and rows
+pub low_in_box : (b : Box2) (c : Cell) → b.x + b.w ≤ max_side → b.y + b.h ≤ max_side → in_box b c.x c.y ≡ true →
+    IsWithinMaxSize c
 low_in_box b c right bottom h = grind (arith, common_steps, in_box_nats, low_number)
 
 ring_inside : (b : Box2) (x y : ℤ) → in_ring b x y ≡ true → in_box b x y ≡ true
@@ -89,10 +91,11 @@ low_stops_of f ss own same all =
     (All-map (λ (s : Stop). IsWithinMaxSize s.at.cell) stored_stop ss all))
 
 -- ---- low cells are near, also where a box moves to the corner
-small_low : (z : ℤ) → (pos 0 ≤ℤ z) → (z ≤ℤ pos 511) → IsSmallShift z
+small_low : (z : ℤ) → (pos 0 ≤ℤ z) → (z ≤ℤ pos last_place) → IsSmallShift z
 small_low z low high = (omega (arith, ints, low), omega (arith, ints, high))
 
-small_back : (z : ℤ) (n : ℕ) → n ≤ 512 → (pos 0 ≤ℤ z) → (z ≤ℤ pos 511) → IsSmallShift (z +ℤ shift_to_origin n)
+small_back : (z : ℤ) (n : ℕ) → n ≤ max_side → (pos 0 ≤ℤ z) → (z ≤ℤ pos last_place) →
+    IsSmallShift (z +ℤ shift_to_origin n)
 small_back z n few low high = (omega (arith, ints, low, few), omega (arith, ints, high))
 
 near_low : (c : Cell) → IsWithinMaxSize c → IsInShiftRange c
@@ -106,7 +109,7 @@ pub near_events : (es : List TimedSignal) → All (λ (e : TimedSignal). IsWithi
     All (λ (e : TimedSignal). IsInShiftRange e.at.cell) es
 near_events es all = All-weaker _ _ (λ (e : TimedSignal) l. near_low e.at.cell l) es all
 
-pub near_moved : (x y : ℕ) (es : List TimedSignal) → x ≤ 512 → y ≤ 512 →
+pub near_moved : (x y : ℕ) (es : List TimedSignal) → x ≤ max_side → y ≤ max_side →
     All (λ (e : TimedSignal). IsWithinMaxSize e.at.cell) es →
     All (λ (e : TimedSignal). IsInShiftRange e.at.cell) (map (moved_event (shift_to_origin x) (shift_to_origin y)) es)
 near_moved x y es few low all =
@@ -120,7 +123,7 @@ pub near_stops : (ss : List Stop) → All (λ (s : Stop). IsWithinMaxSize s.at.c
     All (λ (s : Stop). IsInShiftRange s.at.cell) ss
 near_stops ss all = All-weaker _ _ (λ (s : Stop) l. near_low s.at.cell l) ss all
 
-pub near_moved_stops : (x y : ℕ) (ss : List Stop) → x ≤ 512 → y ≤ 512 →
+pub near_moved_stops : (x y : ℕ) (ss : List Stop) → x ≤ max_side → y ≤ max_side →
     All (λ (s : Stop). IsWithinMaxSize s.at.cell) ss →
     All (λ (s : Stop). IsInShiftRange s.at.cell) (map (moved_stop (shift_to_origin x) (shift_to_origin y)) ss)
 near_moved_stops x y ss few low all =

@@ -10,14 +10,14 @@ use Rattle.certificate.proofs.Spelling.{form_line}
 
 pub prints_what_is_read : PrintsWhatIsRead
 unfolding certificate_text
-prints_what_is_read g n ls c e =
-    section_text_is (certificate_grammar g) form_text form_line n ls c.version c.entries e
+prints_what_is_read l g n ls c e =
+    section_text_is (certificate_grammar l g) form_text form_line n ls c.version c.entries e
     ∙ sym (append_assoc (form_text (Header c.version)) (flat_map (λ i. form_text (Item i)) c.entries) (form_text End))
 
 pub reads_what_is_printed : ReadsWhatIsPrinted
-reads_what_is_printed g text from n m c e =
+reads_what_is_printed l g text from n m c e =
     let ls = drop from (lines_of text) in
-    let printed = prints_what_is_read g n ls c e in
-    ap (λ (t : List ℕ). section_of (certificate_grammar g) m (lines_of t)) (sym printed)
-    ∙ ap (section_of (certificate_grammar g) m) (lines_of_lines text from (length c.entries + 2))
-    ∙ section_again (certificate_grammar g) n m ls c.version c.entries e
+    let printed = prints_what_is_read l g n ls c e in
+    ap (λ (t : List ℕ). section_of (certificate_grammar l g) m (lines_of t)) (sym printed)
+    ∙ ap (section_of (certificate_grammar l g) m) (lines_of_lines text from (length c.entries + 2))
+    ∙ section_again (certificate_grammar l g) n m ls c.version c.entries e

@@ -10,8 +10,10 @@ use Rattle.certificate.proofs.Imports.{no_code, or_parts, rectangle_cells, slice
 use Rattle.certificate.proofs.Imports.{slice_get_within, some_is, subst, sym, true, true_from_not, true≢false, whole, ℕ}
 use Rattle.certificate.proofs.Imports.{◌&&◌, ◌++◌, ◌+◌, ◌<◌, ◌==◌, ◌||◌, ◌∙◌, ◌∷◌, ◌≡◌, ◌≤◌, ◌⊎◌, mapped_from}
 use Rattle.lemmas.proofs.Common.{or_cases}
+use Rattle.section_text.specs.Codes.{or_else}
+use Rattle.section_text.specs.declared.limits.Limits.{Limits}
 use Rattle.module_box.specs.Tiling.{IsInside}
-use Rattle.certificate_lines.specs.Rules.{in_boxes}
+use Rattle.certificate_lines.specs.Rules.{in_boxes, module_limit_fault}
 use Rattle.certificate_lines.specs.Modules.{IsWithinLineLimit}
 use Rattle.certificate_lines.specs.BuilderView.{AreGoodModulesSoFar, IsBodyLine, IsModuleInLimits}
 use Rattle.certificate_lines.proofs.BuiltLemmas.{good_module, line_sound, module_sound, sound_none, last_is}
@@ -40,13 +42,21 @@ module _ (g : Setting) (es : List CertificateLine) (sound : AreGoodModulesSoFar 
       (module_sound g (modules_of es) b sound (good_module g (modules_of es) (last_module es) b e))
   sound_push i e = inner_sound i tt (good_line g es i e)
 
-sound_all : (g : Setting) (v : ℕ) (more before : List CertificateLine) → AreGoodModulesSoFar g (modules_of before) →
-    AreFaultless (certificate_grammar g) v before more → AreGoodModulesSoFar g (modules_of (before ++ more))
-sound_all g v [] before sound good = subst (λ l. AreGoodModulesSoFar g (modules_of l)) (sym (append-nil before)) sound
-sound_all g v (i ∷ more) before sound good =
+-- a line without a fault passes the tests of a line, and that of the limits of its text
+pub passed_line : (l : Limits) (g : Setting) (v : ℕ) (before : List CertificateLine) (i : CertificateLine) →
+    (certificate_grammar l g).item_fault v before i ≡ None →
+    (module_limit_fault l g before i ≡ None) × (entry_fault g before i ≡ None)
+passed_line l g v before i e = both_none (module_limit_fault l g before i) (entry_fault g before i)
+    (both_none _ (or_else (module_limit_fault l g before i) (entry_fault g before i)) e).1
+
+sound_all : (l : Limits) (g : Setting) (v : ℕ) (more before : List CertificateLine) →
+    AreGoodModulesSoFar g (modules_of before) →
+    AreFaultless (certificate_grammar l g) v before more → AreGoodModulesSoFar g (modules_of (before ++ more))
+sound_all l g v [] before sound good = subst (λ l. AreGoodModulesSoFar g (modules_of l)) (sym (append-nil before)) sound
+sound_all l g v (i ∷ more) before sound good =
     subst (λ l. AreGoodModulesSoFar g (modules_of l)) (append_assoc before (i ∷ []) more)
-    (sound_all g v more (before ++ i ∷ [])
-    (sound_push g before sound i (both_none _ (entry_fault g before i) good.0).1) good.1)
+    (sound_all l g v more (before ++ i ∷ [])
+    (sound_push g before sound i (passed_line l g v before i good.0).1) good.1)
 
 none_sound : (g : Setting) → AreGoodModulesSoFar g (modules_of [])
 unfolding modules_of
@@ -95,27 +105,31 @@ one_or_two : (v : ℕ) → (v == 1 || v == 2) ≡ true → (1 ≤ v) × (v ≤ 2
 one_or_two v e = grind (arith, common_steps, or_cases, eqb-true)
 
 -- the version of what was read
-pub read_version : (g : Setting) (v : ℕ) (es : List CertificateLine) → IsFaultless (certificate_grammar g) v es →
+pub read_version : (l : Limits) (g : Setting) (v : ℕ) (es : List CertificateLine) →
+    IsFaultless (certificate_grammar l g) v es →
     (1 ≤ v) × (v ≤ 2)
-read_version g v es good = one_or_two v (true_from_not _ (no_code _ PastLimit good.header))
+read_version l g v es good = one_or_two v (true_from_not _ (no_code _ PastLimit good.header))
 
 -- and in version 2 each module knows the wires of the edge lines beside it
-pub read_complete : (g : Setting) (v : ℕ) (es : List CertificateLine) → IsFaultless (certificate_grammar g) v es →
+pub read_complete : (l : Limits) (g : Setting) (v : ℕ) (es : List CertificateLine) →
+    IsFaultless (certificate_grammar l g) v es →
     (is_haloless_version v && lacks_edge_wire_beside g (modules_of es)) ≡ false
-read_complete g v es good = no_code _ SomethingMissing (both_none (end_fault g es) _ good.end).1
+read_complete l g v es good = no_code _ SomethingMissing (both_none (end_fault g es) _ good.end).1
 
-pub faultless_modules : (g : Setting) (v : ℕ) (es : List CertificateLine) → IsFaultless (certificate_grammar g) v es →
+pub faultless_modules : (l : Limits) (g : Setting) (v : ℕ) (es : List CertificateLine) →
+    IsFaultless (certificate_grammar l g) v es →
     AreModules g (modules_of es)
 unfolding end_fault
-faultless_modules g v es good =
-    let sound = sound_all g v es [] (none_sound g) good.each in
+faultless_modules l g v es good =
+    let sound = sound_all l g v es [] (none_sound g) good.each in
     let parts = or_parts (is_last_module_incomplete g (last_module es)) (leaves_gap g.size (areas (modules_of es)))
     (no_code _ SomethingMissing (both_none (end_fault g es) _ good.end).0) in
     good_modules g (modules_of es) sound parts.0 parts.1
 
 -- and each has few lines
-pub faultless_lines : (g : Setting) (v : ℕ) (es : List CertificateLine) → IsFaultless (certificate_grammar g) v es →
+pub faultless_lines : (l : Limits) (g : Setting) (v : ℕ) (es : List CertificateLine) →
+    IsFaultless (certificate_grammar l g) v es →
     All IsWithinLineLimit (modules_of es)
-faultless_lines g v es good =
-    let sound = sound_all g v es [] (none_sound g) good.each in
+faultless_lines l g v es good =
+    let sound = sound_all l g v es [] (none_sound g) good.each in
     λ k d lt. (sound.each k _ (slice_get-get_or (modules_of es) k d lt)).few_borders

@@ -20,6 +20,7 @@ use Rattle.certificate.specs.Jobs.{stop_with_wire_number}
 use Rattle.certificate.proofs.JobLemmas.{within_512, within_layout}
 use Rattle.certificate.proofs.NearLines.{low_edges, low_halos, low_stops}
 use Rattle.certificate.proofs.BorderOrder.{Before, edges_rise, halos_rise}
+use Rattle.lemmas.specs.Bounds.{max_side}
 
 pub all_at : {A : Type 0} (P : A → Type 0) (xs : List A) → All P xs → (i : ℕ) (x : A) → i < length xs →
     x ≡ get_or xs i x → P x
@@ -166,7 +167,7 @@ module _ {cs : List CircuitLine} {p : Pattern} {m : StoredModule} {hs : List Sto
         (named (Some (wire_name c (get_or m.stops.items k d).wire))
         (of_stops (IsStop g m.area (known c lines)) good.lines.stop_lines k d lt).wire)
 
-  -- and their cells lie within 512 columns and rows
+  -- and their cells lie within 4096 columns and rows
   module _ {s : LayoutHeader} (is : s ≡ p.size) (limits : size_fault s ≡ None) where
     pub low_edge_cells : All (λ b. IsWithinMaxSize (cell_at b.column b.row)) m.edges.items
     low_edge_cells = of_edges (λ e. IsWithinMaxSize e.cell) (low_edges g lines s is limits good.lines)
@@ -177,13 +178,13 @@ module _ {cs : List CircuitLine} {p : Pattern} {m : StoredModule} {hs : List Sto
     pub low_stop_cells : All (λ t. IsWithinMaxSize (cell_at t.column t.row)) m.stops.items
     low_stop_cells = of_stops (λ e. IsWithinMaxSize e.cell) (low_stops g lines s is limits good.lines)
 
-    pub corner_within : (m.area.x ≤ 512) × (m.area.y ≤ 512)
+    pub corner_within : (m.area.x ≤ max_side) × (m.area.y ≤ max_side)
     corner_within =
         let w = within_512 g lines s is limits good.lines in
         let right = w.0 in
         let bottom = w.1 in
         (omega (arith, right), omega (arith, bottom))
 
-    pub inside_layout : ((m.area.x + m.area.w ≤ p.size.w) × (m.area.x + m.area.w ≤ 512))
-        × ((m.area.y + m.area.h ≤ p.size.h) × (m.area.y + m.area.h ≤ 512))
+    pub inside_layout : ((m.area.x + m.area.w ≤ p.size.w) × (m.area.x + m.area.w ≤ max_side))
+        × ((m.area.y + m.area.h ≤ p.size.h) × (m.area.y + m.area.h ≤ max_side))
     inside_layout = within_layout g lines s is limits good.lines

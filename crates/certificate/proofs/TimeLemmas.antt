@@ -1,7 +1,7 @@
 -- Tables of times, line by line, and the lines of gates one after the other.
 use Rattle.certificate.proofs.Imports.{AreFaultless, CertificateLine, Circuit, Gate, IsFaultless, IsStopTimeTable, List}
 use Rattle.certificate.proofs.Imports.{Module, ModuleLines, Option, Setting, Some, StopLine, TimeLine, [], all_stops}
-use Rattle.certificate.proofs.Imports.{ap, arith, body_lines, both_none, certificate_grammar, common_steps}
+use Rattle.certificate.proofs.Imports.{ap, arith, body_lines, certificate_grammar, common_steps}
 use Rattle.certificate.proofs.Imports.{delay_and_meet_lines, drop, drop_all, entry_fault, false, flat_map, get_or}
 use Rattle.certificate.proofs.Imports.{is_module, last_of, length, lines_by_number, modules_of, refl, same_Some}
 use Rattle.certificate.proofs.Imports.{slice_get, slice_get-get_or, slice_get_within, split_module, split_other}
@@ -9,6 +9,8 @@ use Rattle.certificate.proofs.Imports.{stop_in, sym, time_in_table, time_lines_o
 use Rattle.certificate.proofs.Imports.{◌≡◌, ◌≤◌, StoredModule, StoredStop, append_assoc, ap₂, map, map-append}
 use Rattle.certificate.proofs.Imports.{module_lines, stop_line, stops, take, take_more}
 use Rattle.std.proofs.lemmas.List.Folds.{flat_map-map}
+use Rattle.section_text.specs.declared.limits.Limits.{Limits}
+use Rattle.certificate.proofs.Soundness.{passed_line}
 use Rattle.certificate_lines.proofs.FlatParts.{flat_more}
 use Rattle.certificate_lines.proofs.StoredLemmas.{stops_with}
 use Rattle.certificate.specs.SeenTimes.{seen_time}
@@ -37,16 +39,18 @@ splits [] = splits_none
 splits (e ∷ es) = splits_step e es (splits es)
 
 -- and where the lines were read, they are those of all lines: the first is a module line
-starts_with_module : (g : Setting) (v : ℕ) (es : List CertificateLine) → AreFaultless (certificate_grammar g) v [] es →
+starts_with_module : (l : Limits) (g : Setting) (v : ℕ) (es : List CertificateLine) →
+    AreFaultless (certificate_grammar l g) v [] es →
     body_lines es ≡ []
 unfolding body_lines entry_fault modules_of last_of
-starts_with_module g v [] good = refl
-starts_with_module g v (Module b ∷ es) good = refl
-starts_with_module g v (i ∷ es) good = absurd (let first = (both_none _ (entry_fault g [] i) good.0).1 in cc)
+starts_with_module l g v [] good = refl
+starts_with_module l g v (Module b ∷ es) good = refl
+starts_with_module l g v (i ∷ es) good = absurd (let first = (passed_line l g v [] i good.0).1 in cc)
 
-pub all_in_modules : (g : Setting) (v : ℕ) (es : List CertificateLine) → IsFaultless (certificate_grammar g) v es →
+pub all_in_modules : (l : Limits) (g : Setting) (v : ℕ) (es : List CertificateLine) →
+    IsFaultless (certificate_grammar l g) v es →
     all_stops (modules_of es) ≡ flat_map stop_in es
-all_in_modules g v es good = grind (arith, common_steps, splits, starts_with_module)
+all_in_modules l g v es good = grind (arith, common_steps, splits, starts_with_module)
 
 -- ---- the lines of gates, one after the other
 

@@ -5,7 +5,8 @@ use Rattle.section_text.specs.Section.{Grammar}
 use Rattle.pattern.specs.Layout.{Pattern}
 use Rattle.certificate_lines.specs.Entries.{Setting, ModuleLines, modules_of}
 use Rattle.certificate_lines.specs.Forms.{form_of}
-use Rattle.certificate_lines.specs.Rules.{entry_fault, end_fault}
+use Rattle.certificate_lines.specs.Rules.{entry_fault, end_fault, module_limit_fault}
+use Rattle.section_text.specs.declared.limits.Limits.{Limits}
 use Rattle.certificate_lines.specs.Versions.{is_halo, is_haloless_version, lacks_edge_wire_beside, modules_by_version}
 use Rattle.certificate_lines.specs.Versions.{without_halos}
 use Rattle.certificate_lines.specs.declared.certificate_line.CertificateLine.{CertificateLine}
@@ -15,14 +16,15 @@ use Rattle.circuit.specs.declared.circuit_line.CircuitLine.{CircuitLine}
 use Rattle.certificate_lines.specs.Settings.{setting_of}
 use Rattle.section_text.specs.declared.code.RefusalCode.TheVariants.{NoForm, PastLimit, SomethingMissing}
 
--- The section, for a circuit and a layout. The version is 1 or 2. In version 2 a halo line has no form of the section,
--- and at the end each module knows the wires of the edge lines beside it.
-abbrev pub certificate_grammar : Setting → Grammar ℕ CertificateLine
-certificate_grammar g = record {
+-- The section, for a circuit and a layout, in a text with these limits. The version is 1 or 2. In version 2 a halo line
+-- has no form of the section, and at the end each module knows the wires of the edge lines beside it.
+abbrev pub certificate_grammar : Limits → Setting → Grammar ℕ CertificateLine
+certificate_grammar l g = record {
   form = form_of;
   header_fault = λ version. code_if (not (version == 1 || version == 2)) PastLimit;
   item_fault = λ version before i.
-      or_else (code_if (is_haloless_version version && is_halo i) NoForm) (entry_fault g before i);
+      or_else (code_if (is_haloless_version version && is_halo i) NoForm)
+      (or_else (module_limit_fault l g before i) (entry_fault g before i));
   end_fault = λ version entries.
       or_else (end_fault g entries)
       (code_if (is_haloless_version version && lacks_edge_wire_beside g (modules_of entries)) SomethingMissing);

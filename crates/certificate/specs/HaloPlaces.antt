@@ -13,6 +13,7 @@ use Rattle.certificate_lines.specs.Versions.{edge_lines_beside}
 use Rattle.certificate_lines.specs.declared.stored_module.StoredBorder.{StoredBorder}
 use Rattle.certificate_lines.specs.declared.stored_module.StoredModule.{StoredModule}
 use Rattle.certificate.specs.declared.neighbour_edges.EdgePlace.{EdgePlace}
+use Rattle.lemmas.specs.Bounds.{max_side}
 
 -- the cell of an edge line
 abbrev pub line_cell : StoredBorder → Cell
@@ -37,7 +38,7 @@ IsInnerCell b c = IsTrue (in_box b c.x c.y) × IsFalse (in_ring b c.x c.y)
 
 -- the table has the box of each cell of a rectangle, the boxes are even, and there is a list for each
 pub record AreReady (boxes : List Box2) (o : OwnersView) (lists : List (List EdgePlace)) : Type 0 where
-  pub small : (o.width ≤ 512) × (o.height ≤ 512)
+  pub small : (o.width ≤ max_side) × (o.height ≤ max_side)
   pub owners : AreOwners o boxes
   pub even : (k : ℕ) (b : Box2) → slice_get boxes k ≡ Some b → IsEven b
   pub count : length lists ≡ length boxes

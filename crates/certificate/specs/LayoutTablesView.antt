@@ -17,6 +17,7 @@ use Rattle.certificate_lines.specs.Rules.{is_local}
 use Rattle.certificate.specs.Jobs.{end_demand, start_signal}
 use Rattle.certificate.specs.declared.layout_tables.CellLists.{CellLists}
 use Rattle.certificate.specs.declared.layout_tables.LayoutTables.TheInside.{Inside}
+use Rattle.lemmas.specs.Bounds.{max_side}
 
 -- the lines of the circuit, and the layout
 pub record LayoutTablesView : Type 0 where
@@ -43,10 +44,10 @@ pub record HasNothing (p : Pattern) (x y : ℤ) : Type 0 where
 abbrev pub HasLayoutSize : Pattern → Board → Type 0
 HasLayoutSize p b = (b.width ≡ p.size.w) × (b.height ≡ p.size.h)
 
--- the rectangle lies on the grid, which has at most 512 columns and rows
+-- the rectangle lies on the grid, which has at most 4096 columns and rows
 abbrev pub IsOnGrid : Board → Box2 → Type 0
 IsOnGrid b r =
-    ((r.x + r.w ≤ b.width) × (r.x + r.w ≤ 512)) × ((r.y + r.h ≤ b.height) × (r.y + r.h ≤ 512))
+    ((r.x + r.w ≤ b.width) × (r.x + r.w ≤ max_side)) × ((r.y + r.h ≤ b.height) × (r.y + r.h ≤ max_side))
 
 -- The live cells of each grid are those of the mirrors, balls or wastes. If `named` is dead at a cell, the cell has
 -- nothing. The tables are of the layout's ports.

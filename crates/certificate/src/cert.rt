@@ -76,7 +76,7 @@ impl<'a> Cert<'a> {
         self.layout
     }
 
-    /// Returns the width, the height and the steps of the layout: even sides of 2 to 512, and at most 65,536 steps.
+    /// Returns the width, the height and the steps of the layout: even sides of 2 to 4096, and at most 1,048,576 steps.
     ///
     /// The whole contents of the layout are inside. No cell is taken twice at the start, or twice at the end.
     pub fn size(&self) -> LayoutHeader
@@ -87,7 +87,7 @@ impl<'a> Cert<'a> {
         self.layout.size()
     }
 
-    /// Returns how many modules the certificate has, at most 1024. They are numbered from 0 in the order of their
+    /// Returns how many modules the certificate has, at most 65,536. They are numbered from 0 in the order of their
     /// lines.
     ///
     /// - Each module has at most 65,536 edge, halo and stop lines of its own.

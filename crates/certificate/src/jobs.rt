@@ -18,6 +18,7 @@ ghost use Rattle.module_job.specs.Signals.{IsSignalWireBelow, renumber_signals, 
 ghost use Rattle.certificate.specs.StopLists.{stored_stop};
 ghost use Rattle.certificate.specs.Timetables.{AreRising, HasLocalWire, stored_signals};
 ghost use Rattle.certificate_lines.specs.Versions.{is_haloless_version, lacks_edge_wire_beside, modules_by_version, with_halos};
+ghost use Rattle.lemmas.specs.Bounds.{max_side};
 
 use crate::cert::Cert;
 use crate::implied_halos::implied_halos;
@@ -43,7 +44,7 @@ fn schedule_from_corner(
     requires order { AreRising lines.now }
     requires local { All (HasLocalWire locals.now) lines.now }
     requires low { All (λ e. IsWithinMaxSize (cell_at e.column e.row)) lines.now }
-    requires corner { (area.x ≤ 512) × (area.y ≤ 512) }
+    requires corner { (area.x ≤ max_side) × (area.y ≤ max_side) }
     ensures same_signals { IfOk result (λ s. renumber_signals (circuit_wire locals.now)
         (signals_in_plane area s) ≡ stored_signals lines.now) }
     ensures all_times { IfOk result (λ s. All
@@ -67,7 +68,7 @@ fn stops_from_corner(
 ) -> Result<Vec<Stop>, AllocError>
     requires local { All (λ s. IsTrue (is_among locals.now.circuit_wires s.wire)) stops.now }
     requires low { All (λ s. IsWithinMaxSize (cell_at s.column s.row)) stops.now }
-    requires corner { (area.x ≤ 512) × (area.y ≤ 512) }
+    requires corner { (area.x ≤ max_side) × (area.y ≤ max_side) }
     ensures same_stops { IfOk result (λ moved. map (renumber_stop (circuit_wire locals.now))
         (stops_in_plane area moved.items) ≡ map stored_stop stops.now) }
     ensures own_wires { IfOk result (λ moved. All (λ s. s.wire < wires locals.now.netlist)

@@ -13,6 +13,7 @@ ghost use Rattle.certificate.specs.Jobs.{end_demand, start_signal};
 ghost use Rattle.module_box.specs.Places.{place_in};
 ghost use Rattle.certificate.specs.LayoutTablesView.{AddsCells, HasLayoutSize, HasNothing, IsOnGrid, IsPortWireLocalAt, ArePortWiresLocalIn, non_mirror_cells};
 ghost use Rattle.module_job.specs.Signals.{IsSignalWireBelow, IsDemandWireBelow, renumber_demand, renumber_signal};
+ghost use Rattle.lemmas.specs.Bounds.{max_side};
 
 use bbm_rule::{Cell, Grid, fill_rectangle, is_live, make_live};
 use certificate_lines::PortTablePair;
@@ -334,8 +335,9 @@ impl<'a> LayoutTables<'a> {
         y: u32,
         lists: &mut CellLists,
     ) -> Result<(), AllocError>
-        requires columns { (area.x + area.w ≤ self.now.layout.size.w) × (area.x + area.w ≤ 512) }
-        requires row { (area.y ≤ y) × (y < area.y + area.h) × (y < 512) }
+        requires columns { (area.x + area.w ≤ self.now.layout.size.w)
+            × (area.x + area.w ≤ max_side) }
+        requires row { (area.y ≤ y) × (y < area.y + area.h) × (y < max_side) }
         requires rows { area.y + area.h ≤ self.now.layout.size.h }
         requires ins { ArePortWiresLocalIn (circuit_of self.now.circuit) locals.now.circuit_wires
             self.now.layout.ins area }
@@ -375,8 +377,9 @@ impl<'a> LayoutTables<'a> {
         area: Box2,
         locals: &Locals,
     ) -> Result<(StartSignals, EndDemands), AllocError>
-        requires columns { (area.x + area.w ≤ self.now.layout.size.w) × (area.x + area.w ≤ 512) }
-        requires rows { (area.y + area.h ≤ self.now.layout.size.h) × (area.y + area.h ≤ 512) }
+        requires columns { (area.x + area.w ≤ self.now.layout.size.w)
+            × (area.x + area.w ≤ max_side) }
+        requires rows { (area.y + area.h ≤ self.now.layout.size.h) × (area.y + area.h ≤ max_side) }
         requires ins { ArePortWiresLocalIn (circuit_of self.now.circuit) locals.now.circuit_wires
             self.now.layout.ins area }
         requires outs { ArePortWiresLocalIn (circuit_of self.now.circuit) locals.now.circuit_wires

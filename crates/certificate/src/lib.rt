@@ -25,5 +25,5 @@ pub use cert::Cert;
 pub use certificate_lines::{BorderLine, CertificateLine, Counts, StopLine};
 pub use module_job::{Demand, Job, Shape, Stop, job_groups, shape_groups};
 pub use printing::print_certificate;
-pub use reading::read_certificate;
+pub use reading::{read_certificate, read_certificate_within};
 pub use times::{StopGap, TimeLine};

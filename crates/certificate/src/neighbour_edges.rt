@@ -10,6 +10,7 @@ ghost use Rattle.certificate_lines.specs.Settings.{setting_of};
 ghost use Rattle.certificate_lines.specs.declared.stored_module.StoredModule.{StoredModule};
 ghost use Rattle.certificate.specs.GoodModules.{AreGoodModules, AreOwnersOf, with_lines};
 ghost use Rattle.certificate.specs.HaloPlaces.{AddsEdgePlaces, AddsPlaceWhere, AreReady, HaveListsFrom, IsInnerCell, line_cell, list_at_or_empty};
+ghost use Rattle.lemmas.specs.Bounds.{last_place, max_modules};
 
 use crate::layout_tables::LayoutTables;
 use bbm_rule::{Cell, odd_partner};
@@ -105,8 +106,8 @@ fn push_place_for_owner(
 
 // The other cells of a block at odd times: in the cell's row, in its column, and the opposite one.
 fn odd_block_others(cell: Cell) -> (Cell, Cell, Cell)
-    requires column { (pos 0 ≤ℤ cell.x) × (cell.x ≤ℤ pos 1023) }
-    requires row { (pos 0 ≤ℤ cell.y) × (cell.y ≤ℤ pos 1023) }
+    requires column { (pos 0 ≤ℤ cell.x) × (cell.x ≤ℤ pos last_place) }
+    requires row { (pos 0 ≤ℤ cell.y) × (cell.y ≤ℤ pos last_place) }
     ensures side { (result.0.x ≡ partner 1 cell.x) × (result.0.y ≡ cell.y) }
     ensures above { (result.1.x ≡ cell.x) × (result.1.y ≡ partner 1 cell.y) }
     ensures corner { (result.2.x ≡ partner 1 cell.x) × (result.2.y ≡ partner 1 cell.y) }
@@ -179,7 +180,7 @@ fn push_edge_places(
     requires table { AreReady boxes.now owners.now (map (λ l. l.items) lists.old.items) }
     requires inner { All (λ m. All (λ e. IsInnerCell (rectangle owners.now) (line_cell e))
         m.edges.items) modules.now }
-    requires few_modules { length modules.now ≤ 1024 }
+    requires few_modules { length modules.now ≤ max_modules }
     requires few_lines { All (λ m. length m.edges.items ≤ 65536) modules.now }
     ensures { OnOk result (AddsEdgePlaces modules.now boxes.now
         (flat_map (λ m. m.edges.items) modules.now) (map (λ l. l.items) lists.old.items)

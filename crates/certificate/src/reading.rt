@@ -3,6 +3,7 @@ ghost use Rattle.std.specs.Prelude.{◌≡◌, ◌≤◌, [], true, drop, length
 ghost use Rattle.circuit.specs.Entries.{defined};
 ghost use Rattle.section_text.specs.Section.{Reads};
 ghost use Rattle.certificate.specs.Grammars.{certificate_grammar, certificate_section, version_number};
+ghost use Rattle.section_text.specs.declared.limits.Limits.TheVariants.{First};
 ghost use Rattle.certificate_lines.specs.Settings.{setting_of};
 ghost use Rattle.certificate_lines.specs.Versions.{is_halo};
 
@@ -11,7 +12,9 @@ use crate::version::Version;
 use certificate_lines::{Builder, BuiltParts, CertificateLine, LineTables, line_form, port_tables};
 use circuit::{Circuit, WireNo};
 use pattern::Layout;
-use section_text::{Feed, Form, Line, LineFault, ReadFault, RefusalCode, Section, read_section};
+use section_text::{
+    Feed, Form, Limits, Line, LineFault, ReadFault, RefusalCode, Section, read_section,
+};
 use std::alloc::Global;
 use std::marker::{Brand, PhantomData};
 
@@ -36,6 +39,7 @@ impl ReadFor for Brand {
 #[derive(Drop)]
 struct Reading<'a, S: ReadFor> {
     alloc: Global,
+    limits: Limits,
     version: Version,
     builder: Builder<'a>,
     read_for: PhantomData<S>,
@@ -55,7 +59,7 @@ impl<'a, S: ReadFor> Section for Reading<'a, S> {
 
     type Item = CertificateLine;
 
-    ghost grammar = { λ r. certificate_grammar r.builder.setting };
+    ghost grammar = { λ r. certificate_grammar r.limits r.builder.setting };
 
     ghost header = { λ r. version_number r.version };
 
@@ -79,6 +83,9 @@ impl<'a, S: ReadFor> Section for Reading<'a, S> {
         if self.version.is_haloless() & is_halo(&entry) {
             return Err(LineFault::Code(RefusalCode::NoForm));
         }
+        if let Some(code) = self.builder.module_limit_code(self.limits, &entry) {
+            return Err(LineFault::Code(code));
+        }
         self.builder.add(self.alloc, entry)
     }
 
@@ -97,17 +104,19 @@ impl<'a, S: ReadFor> Section for Reading<'a, S> {
 fn read_lines<'a, S: ReadFor>(
     alloc: Global,
     feed: &mut Feed,
+    limits: Limits,
     builder: Builder<'a>,
 ) -> (Result<(), ReadFault>, Version, Builder<'a>)
     requires text_closed { feed.old.closed ≡ true }
     requires right_setting { builder.setting ≡ S.setting }
     requires builder_empty { builder.entries ≡ [] }
-    ensures reads { Reads (certificate_grammar S.setting)
+    ensures reads { Reads (certificate_grammar limits S.setting)
         (λ _. (version_number result.1, result.2.entries)) feed.old feed.new result.0 }
     ensures same_setting { result.2.setting ≡ S.setting }
 {
     let mut reading: Reading<'a, S> = Reading {
         alloc,
+        limits,
         version: Version::WithHalos,
         builder,
         read_for: PhantomData,
@@ -121,7 +130,23 @@ fn read_lines<'a, S: ReadFor>(
     (read, version, builder)
 }
 
-/// Reads a certificate section for a circuit and a layout.
+/// Reads a certificate section as `read_certificate_within` does, of at most 1024 modules.
+pub fn read_certificate<'a>(
+    alloc: Global,
+    feed: &mut Feed,
+    circuit: &'a Circuit,
+    layout: &'a Layout,
+) -> Result<Cert<'a>, ReadFault>
+    requires { feed.old.closed ≡ true }
+    ensures reads { Reads (certificate_grammar First (setting_of circuit.now layout.now))
+        certificate_section feed.old feed.new result }
+    ensures circuit { IfOk result (λ cert. cert.circuit ≡ circuit.now) }
+    ensures layout { IfOk result (λ cert. cert.layout ≡ layout.now) }
+{
+    read_certificate_within(alloc, feed, Limits::First, circuit, layout)
+}
+
+/// Reads a certificate section for a circuit and a layout, in a text with these limits.
 ///
 /// # Errors
 ///
@@ -135,21 +160,22 @@ fn read_lines<'a, S: ReadFor>(
 /// - 11: it is `end`, and some cell of the rectangle lies in no box;
 /// - 11: it is `end` in version 2, and a module does not know the wire of an edge line for a cell of its halo;
 /// - 2: the version is not 1 or 2, or a side of a box is odd or not 2 to 64;
-/// - 2: there are more than 1024 modules, or more than twelve cuts, 64 used gates, or 65,536 edge, halo and stop lines
-///   of a module;
+/// - 2: there are more modules than the limits allow, or more than twelve cuts, 64 used gates, or 65,536 edge, halo
+///   and stop lines of a module;
 /// - 8: a box has an odd corner, or a cell outside the rectangle or in an earlier box;
 /// - 10: an edge, halo or stop line may not have its cell or time;
 /// - 3: there is no wire of this name, no gate of this number, or, at `keep`, no inverse gate of this number;
 /// - 9: the wire of a signal or a stop, or an input of a used gate, is not local, or a gate that is kept is not used;
 /// - 4: a wire that is cut, or an output of a used gate, is local already.
-pub fn read_certificate<'a>(
+pub fn read_certificate_within<'a>(
     alloc: Global,
     feed: &mut Feed,
+    limits: Limits,
     circuit: &'a Circuit,
     layout: &'a Layout,
 ) -> Result<Cert<'a>, ReadFault>
     requires { feed.old.closed ≡ true }
-    ensures reads { Reads (certificate_grammar (setting_of circuit.now layout.now))
+    ensures reads { Reads (certificate_grammar limits (setting_of circuit.now layout.now))
         certificate_section feed.old feed.new result }
     ensures circuit { IfOk result (λ cert. cert.circuit ≡ circuit.now) }
     ensures layout { IfOk result (λ cert. cert.layout ≡ layout.now) }
@@ -160,7 +186,7 @@ pub fn read_certificate<'a>(
     let Ok(builder) = Builder::new(alloc, LineTables::new(circuit, layout, &ports)) else {
         return Err(feed.starve());
     };
-    let (read, version, builder) = read_lines::<Brand>(alloc, feed, builder);
+    let (read, version, builder) = read_lines::<Brand>(alloc, feed, limits, builder);
     let BuiltParts { modules, owners } = builder.into_parts();
     match read {
         Ok(()) => Ok(Cert {

@@ -20,6 +20,7 @@ use Rattle.certificate_lines.proofs.ModulePushes.{no_code, both_none, less}
 use Rattle.certificate_lines.proofs.PortLemmas.{has_cell}
 use Rattle.module_box.specs.Tiling.{ArePartOwners, OwnersView, PutsBox}
 use Rattle.bbm_rule.proofs.RectangleLemmas.{in_box_cells}
+use Rattle.lemmas.specs.Bounds.{max_modules}
 
 -- ---- a box that is good
 
@@ -43,14 +44,14 @@ box_good s b wide high placed = grind (arith, common_steps, side, or_parts, even
 -- what the tests of a `module` line say
 pub record IsGoodModule (g : Setting) (ms : List ModuleLines) (before : Option ModuleLines) (b : Box2) : Type 0 where
   pub complete : is_last_module_incomplete g before ≡ false
-  pub few : length ms < 1024
+  pub few : length ms < max_modules
   pub box : IsGoodBox g.size b
   pub free : overlaps (areas ms) b ≡ false
 
 -- what the tests of a box by itself say
 pub record PassesAlone (g : Setting) (count : ℕ) (before : Option ModuleLines) (b : Box2) : Type 0 where
   pub complete : is_last_module_incomplete g before ≡ false
-  pub few : count < 1024
+  pub few : count < max_modules
   pub box : IsGoodBox g.size b
 
 pub passes_alone : (g : Setting) (count : ℕ) (before : Option ModuleLines) (b : Box2) →

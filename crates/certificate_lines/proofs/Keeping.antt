@@ -24,6 +24,7 @@ use Rattle.certificate_lines.proofs.LackedWires.{wires_begun, wires_more}
 use Rattle.certificate_lines.proofs.ModulePushes.{no_code, both_none, new_wire, good_use, known_cut, known_use}
 use Rattle.certificate_lines.proofs.ModulePushes.{known_same, pushed}
 use Rattle.module_box.specs.Tiling.{ArePartOwners, OwnersView, PutsBox}
+use Rattle.lemmas.specs.Bounds.{max_side}
 
 no_last : {X : Type 0} (x : X) → None ≡ Some x → ⊥
 no_last x e = cc
@@ -112,7 +113,7 @@ module _ (g : Setting) (es : List CertificateLine) (owners : OwnersView) (last :
 
   -- its box is in the rectangle
   pub last_fits : (m : ModuleLines) → last_module es ≡ Some m → size_fault g.size ≡ None →
-      (m.area.x + m.area.w ≤ 512) × (m.area.y + m.area.h ≤ 512)
+      (m.area.x + m.area.w ≤ max_side) × (m.area.y + m.area.h ≤ max_side)
   last_fits m some sized =
       let inside = (last_good m some).inside in
       let sides = size_sides g.size sized in

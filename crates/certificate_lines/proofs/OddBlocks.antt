@@ -20,6 +20,7 @@ use Rattle.certificate_lines.proofs.AnyLines.{any_filter}
 use Rattle.certificate_lines.proofs.LackedWires.{any_either, any_same, any_swap, none_any}
 use Rattle.lemmas.proofs.Common.{mapped_at}
 use Rattle.certificate_lines.proofs.Lists.{some_is}
+use Rattle.lemmas.specs.Bounds.{last_place, max_side}
 
 -- ---- columns and rows
 
@@ -195,9 +196,9 @@ module _ (c : Circuit) (ms : List ModuleLines) where
 
 -- ---- places in the rectangle
 
-low_number : (z : ℤ) (k : ℕ) → z ≡ pos k → k < 512 → (pos 0 ≤ℤ z) × (z ≤ℤ pos 1023)
+low_number : (z : ℤ) (k : ℕ) → z ≡ pos k → k < max_side → (pos 0 ≤ℤ z) × (z ≤ℤ pos last_place)
 low_number z k e lt = (omega (arith, ints, e, lt), omega (arith, ints, e, lt))
 
-pub low_cell : (w h : ℕ) (x y : ℤ) → w ≤ 512 → h ≤ 512 → in_box (rectangle_of w h) x y ≡ true →
-    ((pos 0 ≤ℤ x) × (x ≤ℤ pos 1023)) × ((pos 0 ≤ℤ y) × (y ≤ℤ pos 1023))
+pub low_cell : (w h : ℕ) (x y : ℤ) → w ≤ max_side → h ≤ max_side → in_box (rectangle_of w h) x y ≡ true →
+    ((pos 0 ≤ℤ x) × (x ≤ℤ pos last_place)) × ((pos 0 ≤ℤ y) × (y ≤ℤ pos last_place))
 low_cell w h x y wide high inside = grind (arith, common_steps, in_box_nats, low_number)

@@ -26,6 +26,7 @@ use Rattle.module_box.proofs.BoxCells.{in_rectangle}
 use Rattle.certificate_lines.proofs.ModulePushes.{good_edge, good_halo, good_stop, good_use, keep_good, new_wire}
 use Rattle.certificate_lines.proofs.StoredLemmas.{count_stored, last_stored}
 use Rattle.module_box.specs.Tiling.{OwnersView, PutsBox}
+use Rattle.lemmas.specs.Bounds.{last_place, max_gates, max_side}
 
 -- ---- the wire of a name
 
@@ -70,7 +71,7 @@ named_line g m i wire good is =
 
 -- ---- the numbers of a line
 
-low_number : (z : ℤ) (k : ℕ) → z ≡ pos k → k < 512 → (pos 0 ≤ℤ z) × (z ≤ℤ pos 511)
+low_number : (z : ℤ) (k : ℕ) → z ≡ pos k → k < max_side → (pos 0 ≤ℤ z) × (z ≤ℤ pos last_place)
 low_number z k e lt = (omega (arith, ints, e, lt), omega (arith, ints, e, lt))
 
 pub max_size : (s : LayoutHeader) (x y : ℤ) → size_fault s ≡ None → in_box (whole s) x y ≡ true →
@@ -93,7 +94,7 @@ gate_there gates k None is inverse = absurd (false≢true inverse)
 gate_there gates k (Some gate) is inverse = slice_get_within gates k gate is
 
 pub may_store : (g : Setting) (m : ModuleLines) (i : CertificateLine) (wire : Option ℕ) → IsModule g m →
-    size_fault g.size ≡ None → length g.circuit.netlist.gates ≤ 1024 → IsBodyLine i → content_code g m i ≡ None →
+    size_fault g.size ≡ None → length g.circuit.netlist.gates ≤ max_gates → IsBodyLine i → content_code g m i ≡ None →
     IsWireOfLine g.circuit i wire → MayBeStored i wire
 may_store g m (Module b) wire is sized few body good own = absurd body
 may_store g m (Cut n) wire is sized few body good own = wire_there (wire_name g.circuit) wire n own.name

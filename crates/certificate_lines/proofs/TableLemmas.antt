@@ -20,6 +20,7 @@ use Rattle.certificate_lines.proofs.Lists.{passed, any_at, some_is}
 use Rattle.certificate_lines.proofs.LayoutPorts.{port_stands, none_stands}
 use Rattle.certificate_lines.proofs.PortLemmas.{cell_passed, has_cell}
 use Rattle.bbm_rule.proofs.RectangleLemmas.{in_box_cells}
+use Rattle.lemmas.specs.Bounds.{max_side}
 
 -- ---- the ports in a box
 
@@ -74,7 +75,7 @@ module _ (ports : List Port) (apart : HaveDistinctCells ports) (b : Box2) (c : C
   ports_in_box = same_truth _ _ from_cells from_ports
 
 -- the ports at one cell more
-pub row_named : (test : Cell → Bool) (here : Bool) (x y k : ℕ) → x ≤ k → k < 512 → y < 512 →
+pub row_named : (test : Cell → Bool) (here : Bool) (x y k : ℕ) → x ≤ k → k < max_side → y < max_side →
     here ≡ test (record { x = to_z w32 k; y = to_z w32 y }) →
     (list_any test (row_cells x (k - x) y) || here) ≡ list_any test (row_cells x (k + 1 - x) y)
 row_named test here x y k from low row is =
@@ -205,7 +206,7 @@ pub part_zero : (numbers : List ℕ) (p n k : ℕ) → list_all (λ m. nat_eq m 
     get_or numbers (p + k) 0 ≡ 0
 part_zero numbers p n k all l = sym (get_or-drop p numbers k 0) ∙ zero_at (drop p numbers) n k all l
 
-pub few_entries : (count w h : ℕ) → count ≤ h → w ≤ 512 → h ≤ 512 → count * w ≤ 262144
+pub few_entries : (count w h : ℕ) → count ≤ h → w ≤ max_side → h ≤ max_side → count * w ≤ 16777216
 few_entries count w h few p q = grind (arith, common_steps, mul-le-mul_right)
 
 pub entry_is : (numbers : List ℕ) (place n : ℕ) → n ≡ get_or numbers place n → place < length numbers →

@@ -23,6 +23,7 @@ use Rattle.certificate_lines.specs.declared.certificate_line.CertificateLine.The
 use Rattle.certificate_lines.specs.declared.certificate_line.CertificateLine.TheVariants.{Halo, Stop}
 use Rattle.certificate_lines.specs.declared.stored_module.StoredModule.{StoredModule}
 use Rattle.certificate_lines.specs.declared.builder.Builder.TheInside.{Inside}
+use Rattle.lemmas.specs.Bounds.{last_place, max_modules}
 
 -- what the certificate is for, and the lines so far
 pub record BuilderView : Type 0 where
@@ -58,7 +59,7 @@ pub record IsModuleInLimits (g : Setting) (m : ModuleLines) : Type 0 where
 
 -- the modules so far are good
 pub record AreGoodModulesSoFar (g : Setting) (ms : List ModuleLines) : Type 0 where
-  pub few : length ms ≤ 1024
+  pub few : length ms ≤ max_modules
   pub each : (k : ℕ) (m : ModuleLines) → slice_get ms k ≡ Some m → IsModuleInLimits g m
   pub apart : AreApart (areas ms)
   -- the ports' wires are local in all modules but the last
@@ -143,8 +144,8 @@ starred_lines lines = filter (λ e. is_star e.time) lines
 
 -- column and row are those of a cell of a layout
 pub record IsWithinMaxSize (c : Cell) : Type 0 where
-  pub column : (pos 0 ≤ℤ c.x) × (c.x ≤ℤ pos 511)
-  pub row : (pos 0 ≤ℤ c.y) × (c.y ≤ℤ pos 511)
+  pub column : (pos 0 ≤ℤ c.x) × (c.x ≤ℤ pos last_place)
+  pub row : (pos 0 ≤ℤ c.y) × (c.y ≤ℤ pos last_place)
 
 -- the numbers of a line are small, and a cut or a stop has its wire
 abbrev pub MayBeStored : CertificateLine → Option ℕ → Type 0

@@ -14,6 +14,7 @@ use Rattle.certificate_lines.specs.Rules.{whole, is_local, is_inverse_gate, is_s
 use Rattle.certificate_lines.specs.Rules.{timed_line_count, timed_line_limit}
 use Rattle.certificate_lines.specs.declared.certificate_line.BorderLine.{BorderLine}
 use Rattle.certificate_lines.specs.declared.certificate_line.StopLine.{StopLine}
+use Rattle.lemmas.specs.Bounds.{max_modules}
 
 -- the time of an edge or halo line is odd and below the steps, and its signal is `1` or a local wire
 pub record IsBorder (g : Setting) (local : List ℕ) (e : BorderLine) : Type 0 where
@@ -75,7 +76,7 @@ pub record HasLocalPorts (g : Setting) (m : ModuleLines) : Type 0 where
 
 -- the modules of a certificate: their boxes tile the rectangle
 pub record AreModules (g : Setting) (ms : List ModuleLines) : Type 0 where
-  pub few : length ms ≤ 1024
+  pub few : length ms ≤ max_modules
   pub each : (k : ℕ) (m : ModuleLines) → slice_get ms k ≡ Some m → IsModule g m
   pub ports : (k : ℕ) (m : ModuleLines) → slice_get ms k ≡ Some m → HasLocalPorts g m
   pub tile : Tile (whole g.size) (areas ms)

@@ -12,6 +12,7 @@ use Rattle.pattern.specs.declared.layout_line.Port.{Port}
 use Rattle.bbm_rule.specs.Boxes.{in_box}
 use Rattle.bbm_rule.specs.declared.block.Box2.{Box2}
 use Rattle.certificate_lines.specs.declared.ports.PortTable.TheInside.{Inside}
+use Rattle.lemmas.specs.Bounds.{max_side}
 
 -- the name of the port at the cell (x, y)
 unfoldable pub port_at : List Port → ℤ → ℤ → Option (List ℕ)
@@ -71,7 +72,7 @@ circuit_and_ports a = record { circuit = circuit_of a.circuit.now; ports = a.por
 -- each cell of a numbered row has an entry, which is the number of the port there, or 0. No port is in a row without a
 -- number, or outside the area. Each port has its wire.
 pub record IsPortTable (a : Inside) : Type 0 where
-  pub small : (a.area.w ≤ 512) × (a.area.h ≤ 512)
+  pub small : (a.area.w ≤ max_side) × (a.area.h ≤ max_side)
   pub sized : length a.rows.items ≡ a.area.h
   pub within : (x y : ℤ) (place : ℕ) → in_box a.area x y ≡ true → entry_place a.area a.rows.items x y ≡ Some place →
       place < length a.numbers.items

@@ -5,6 +5,8 @@ use Rattle.std.specs.List.{list_any, list_all}
 use Rattle.std.specs.Ordering.{int_eq}
 use Rattle.bbm_rule.specs.Plane.{State}
 use Rattle.bbm_rule.specs.declared.block.Cell.{Cell}
+use Rattle.section_text.specs.Limits.{most_modules}
+use Rattle.section_text.specs.declared.limits.Limits.{Limits}
 use Rattle.section_text.specs.Codes.{code_if, or_else}
 use Rattle.circuit.specs.Gates.{is_inverse}
 use Rattle.circuit.specs.Meaning.{Circuit, Gate, wire_of}
@@ -25,6 +27,7 @@ use Rattle.certificate_lines.specs.Orders.{may_follow}
 use Rattle.section_text.specs.declared.code.RefusalCode.{RefusalCode}
 use Rattle.section_text.specs.declared.code.RefusalCode.TheVariants.{PastLimit, UnknownName, DefinedTwice, OutOfOrder}
 use Rattle.section_text.specs.declared.code.RefusalCode.TheVariants.{MisplacedBox, NotLocal, NoPlace, SomethingMissing}
+use Rattle.lemmas.specs.Bounds.{max_modules}
 
 -- the whole rectangle of the layout
 abbrev pub whole : LayoutHeader → Box2
@@ -78,7 +81,7 @@ overlaps boxes b = list_any (λ c. in_boxes boxes c.x c.y) (rectangle_cells b)
 unfoldable pub module_box_code : Setting → ℕ → Option ModuleLines → Box2 → Option RefusalCode
 module_box_code g count before b =
     or_else (code_if (is_last_module_incomplete g before) SomethingMissing)
-    (or_else (code_if (is_bad_box_side b.w || is_bad_box_side b.h || nat_le 1024 count) PastLimit)
+    (or_else (code_if (is_bad_box_side b.w || is_bad_box_side b.h || nat_le max_modules count) PastLimit)
     (code_if (is_misplaced g.size b) MisplacedBox))
 
 -- the code of a `module` line after these modules
@@ -230,6 +233,12 @@ body_line_code g (Some m) i = line_fault g m i
 unfoldable pub entry_fault : Setting → List CertificateLine → CertificateLine → Option RefusalCode
 entry_fault g before (Module b) = module_line_code g (modules_of before) (last_module before) b
 entry_fault g before i = body_line_code g (last_module before) i
+
+-- the code of a line that is one module too many for the limits of its text, where the module before it is complete
+unfoldable pub module_limit_fault : Limits → Setting → List CertificateLine → CertificateLine → Option RefusalCode
+module_limit_fault l g before (Module b) = code_if (nat_le (most_modules l) (length (modules_of before))
+    && not (is_last_module_incomplete g (last_module before))) PastLimit
+module_limit_fault l g before i = None
 
 -- ---- the end
 

@@ -7,7 +7,7 @@ ghost use Rattle.circuit.specs.Meaning.{wire_of};
 ghost use Rattle.certificate_lines.specs.Entries.{ModuleLines, known, modules_of, last_module, name_in};
 ghost use Rattle.certificate_lines.specs.Modules.{IsWithinLineLimit};
 ghost use Rattle.certificate_lines.specs.StoredModules.{HasOwnWires, lines_of_modules, module_lines};
-ghost use Rattle.certificate_lines.specs.Rules.{timed_line_count, border_line_code, entry_fault, end_fault, module_box_code, module_line_code, body_line_code, content_code, is_last_module_incomplete};
+ghost use Rattle.certificate_lines.specs.Rules.{timed_line_count, border_line_code, entry_fault, end_fault, module_box_code, module_line_code, body_line_code, content_code, is_last_module_incomplete, module_limit_fault};
 ghost use Rattle.certificate_lines.specs.BuilderView.{AreModuleOwners, BuilderView, IsEdgeHaloOrStopLine, IsBodyLine};
 ghost use Rattle.certificate_lines.specs.declared.certificate_line.CertificateLine.TheVariants.{Module};
 
@@ -25,12 +25,9 @@ use crate::wire_list::WireList;
 use bbm_rule::Cell;
 use indexmap::IndexSet;
 use module_box::{Box2, Owners};
-use section_text::{LineFault, RefusalCode};
+use section_text::{Limits, LineFault, MAX_MODULES, RefusalCode};
 use std::alloc::{AllocError, Global};
 use std::marker::Model;
-
-// The most modules.
-const MAX_MODULES: usize = 1024;
 
 /// A certificate to which lines are added.
 ///
@@ -333,6 +330,26 @@ impl<'a> Builder<'a> {
         self.edges.truncate(0);
         self.halos.truncate(0);
         Ok(())
+    }
+
+    /// Returns code 2 if the line is one module too many for the limits of its text.
+    ///
+    /// If a port of the last module has a wire that is not local, it returns none: `add` answers code 11 first.
+    #[tactic(auto, unfolding(crate::specs::Rules::module_limit_fault))]
+    pub fn module_limit_code(&self, limits: Limits, entry: &CertificateLine) -> Option<RefusalCode>
+        ensures { result
+            ≡ module_limit_fault limits self.now.setting self.now.entries entry.now }
+    {
+        match entry {
+            CertificateLine::Module(_) => {
+                if self.module_count() >= limits.most_modules() && !self.has_nonlocal_port() {
+                    Some(RefusalCode::PastLimit)
+                } else {
+                    None
+                }
+            }
+            _ => None,
+        }
     }
 
     /// Adds a line.

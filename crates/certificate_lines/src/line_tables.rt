@@ -3,7 +3,7 @@ ghost use Rattle.bbm_rule.specs.CellLists.{rectangle_cells};
 ghost use Rattle.std.specs.Prelude.{◌≡◌, ◌+◌, ◌<◌, ◌≤◌, ◌&&◌, not, length, slice_get, IfSome};
 ghost use Rattle.std.specs.List.{All, list_any};
 ghost use Rattle.std.specs.Option.{option_and_then, option_map};
-ghost use Rattle.circuit.specs.Meaning.{wire_of};
+ghost use Rattle.circuit.specs.Meaning.{wire_of, wires};
 ghost use Rattle.circuit.specs.Wiring.{gate_of};
 ghost use Rattle.bbm_rule.specs.CellLists.{row_cells};
 ghost use Rattle.pattern.specs.Lines.{size_fault};
@@ -13,6 +13,7 @@ ghost use Rattle.certificate_lines.specs.Rules.{is_inverse_gate, is_local};
 ghost use Rattle.certificate_lines.specs.Versions.{is_nonlocal_signal};
 ghost use Rattle.certificate_lines.specs.PortTables.{port_at, ArePortTables};
 ghost use Rattle.certificate_lines.specs.Settings.{setting_of};
+ghost use Rattle.lemmas.specs.Bounds.{max_gates, max_side};
 
 use crate::certificate_line::CertificateLine;
 use crate::ports::{PortTable, PortTablePair};
@@ -74,7 +75,7 @@ fn is_nonlocal_port(ports: &PortTable, known: &WireList, cell: Cell) -> bool
 // Whether a port at one of `width` cells of row `y`, from column `x` on, has a wire that is not local.
 #[tactic(auto, using(bbm_rule::proofs::CellLists::none_in_row, crate::proofs::TableLemmas::row_named))]
 fn has_row_nonlocal_port(ports: &PortTable, known: &WireList, x: u32, y: u32, width: u32) -> bool
-    requires { (x + width ≤ 512) × (y < 512) }
+    requires { (x + width ≤ max_side) × (y < max_side) }
     ensures { result
         ≡ list_any (λ c. is_nonlocal_signal ports.now.circuit known.now.wires
         (port_at ports.now.ports c.x c.y)) (row_cells x width y) }
@@ -99,7 +100,7 @@ fn has_row_nonlocal_port(ports: &PortTable, known: &WireList, x: u32, y: u32, wi
 // Whether a port in a box has a wire that is not local.
 #[tactic(auto, unfolding(bbm_rule::specs::CellLists::rectangle_cells))]
 fn has_box_nonlocal_port(ports: &PortTable, known: &WireList, area: Box2) -> bool
-    requires { (area.x + area.w ≤ 512) × (area.y + area.h ≤ 512) }
+    requires { (area.x + area.w ≤ max_side) × (area.y + area.h ≤ max_side) }
     ensures { result
         ≡ list_any (λ c. is_nonlocal_signal ports.now.circuit known.now.wires
         (port_at ports.now.ports c.x c.y)) (rectangle_cells area) }
@@ -150,8 +151,7 @@ impl<'a> LineTables<'a> {
     #[inline(always)]
     pub(crate) fn wire_in(&self, line: &CertificateLine) -> Option<u16>
         ensures wire { result ≡ option_and_then (wire_of self.now.circuit) (name_in line.now) }
-        ensures below_4096 { IfSome result (λ w. w < 4096) }
-        ensures gates_at_most_1024 { length self.now.circuit.netlist.gates ≤ 1024 }
+        ensures at_most_max_gates { length self.now.circuit.netlist.gates ≤ max_gates }
         ensures size_limits { size_fault self.now.size ≡ None }
     {
         let wire = self.circuit.wire(name_in(line)?)?;
@@ -160,11 +160,8 @@ impl<'a> LineTables<'a> {
 
     /// Returns the circuit's gate of this number.
     pub(crate) fn gate(&self, number: u32) -> Option<GateWires>
-        ensures gate { option_map gate_of result
-            ≡ slice_get self.now.circuit.netlist.gates number }
-        ensures below_4096 { IfSome result (λ g. All (λ w. w < 4096) (gate_of g).outs) }
+        ensures { option_map gate_of result ≡ slice_get self.now.circuit.netlist.gates number }
     {
-        self.circuit.prove_valid();
         if number as usize >= self.circuit.gates() {
             return None;
         }
@@ -183,7 +180,7 @@ impl<'a> LineTables<'a> {
 
     /// Returns whether a port in a box has a wire that is not local.
     pub(crate) fn has_nonlocal_port(&self, known: &WireList, area: Box2) -> bool
-        requires { (area.x + area.w ≤ 512) × (area.y + area.h ≤ 512) }
+        requires { (area.x + area.w ≤ max_side) × (area.y + area.h ≤ max_side) }
         ensures { result ≡ list_any (λ p. in_box area p.cell.x p.cell.y
             && not (is_local self.now.circuit known.now.wires p.name)) self.now.ports }
     {

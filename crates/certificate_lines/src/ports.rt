@@ -8,6 +8,7 @@ ghost use Rattle.pattern.specs.Layout.{HaveDistinctCells};
 ghost use Rattle.pattern.specs.Lines.{size_fault};
 ghost use Rattle.bbm_rule.specs.Boxes.{in_box};
 ghost use Rattle.certificate_lines.specs.PortTables.{port_at, entry_place, AreInBox, ArePortTables, AreNumberedRows, AreOnBoard};
+ghost use Rattle.lemmas.specs.Bounds.{max_side};
 
 use crate::rules::whole_of;
 use bbm_rule::Cell;
@@ -53,7 +54,7 @@ impl<'a> Model for PortTable<'a> {
 #[tactic(auto, using(crate::proofs::Imports::abs_from, crate::proofs::RowLemmas::none_after, crate::proofs::RowLemmas::sides, crate::proofs::RowLemmas::some_after))]
 fn entry_place(area: Box2, rows: &[u32], cell: Cell) -> Option<usize>
     requires inside { in_box area cell.x cell.y ≡ true }
-    requires small { area.w ≤ 512 }
+    requires small { area.w ≤ max_side }
     requires sized { length rows.now ≡ area.h }
     ensures { result ≡ entry_place area rows.now cell.x cell.y }
 {
@@ -68,7 +69,7 @@ fn entry_place(area: Box2, rows: &[u32], cell: Cell) -> Option<usize>
 // The numbers of an area's rows with a port, counted from 1, with 0 for each other row; and how many have a port.
 fn number_rows(alloc: Global, area: Box2, ports: &[Port]) -> Result<(Vec<u32>, u32), AllocError>
     requires inside { AreInBox area ports.now }
-    requires small { area.h ≤ 512 }
+    requires small { area.h ≤ max_side }
     ensures { IfOk result (λ numbered. AreNumberedRows area ports.now numbered.0.items numbered.1) }
 {
     let mut rows = vec![in alloc; 0u32; area.h as usize]?;
@@ -172,7 +173,7 @@ impl<'a> PortTable<'a> {
 
     // Whether no port is at `width` cells of row `y`, from column `x` on. It looks at the row once.
     pub(crate) fn is_row_part_without_port(&self, x: u32, y: u32, width: u32) -> bool
-        requires { (x + width ≤ 512) × (y < 512) }
+        requires { (x + width ≤ max_side) × (y < max_side) }
         ensures { result ≡ true → (k : ℕ) → k < width →
             port_at self.now.ports (pos (x + k)) (pos y) ≡ None }
     {

@@ -23,4 +23,4 @@ pub use Rattle.headline.specs.SmallDesigns.{IsNoSmallDesignText}
 pub use Rattle.lemmas.proofs.Common.{Appends, Consumes, IfErr, IfOk, OnOk}
 pub use Rattle.meaning.specs.Streams.{HoldsOfKnownInput, YesMeans}
 pub use Rattle.section_text.proofs.Imports.{FeedView}
-pub use Rattle.section_text.specs.Feeds.{text_limit}
+pub use Rattle.section_text.specs.Limits.{own_text_limit}

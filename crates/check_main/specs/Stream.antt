@@ -5,7 +5,8 @@ use Rattle.std.specs.declared.option.Option.{Option}
 use Rattle.std.specs.Io.KnownBytes.{Consumes, IsAtEnd, Appends}
 use Rattle.streams.specs.declared.streams.Source.{Ghosts as Source}
 use Rattle.streams.specs.declared.streams.Sink.{Ghosts as Sink}
-use Rattle.section_text.specs.Feeds.{FeedView, text_limit}
+use Rattle.section_text.specs.Feeds.{FeedView}
+use Rattle.section_text.specs.Limits.{own_text_limit}
 use Rattle.answers.specs.declared.outcome.Outcome.{Outcome}
 use Rattle.check_main.specs.declared.fault.CheckFault.{CheckFault}
 use Rattle.check_main.specs.declared.fault.CheckFault.TheVariants.{Read, Write, TooLong}
@@ -14,13 +15,13 @@ use Rattle.check_main.specs.declared.fault.CheckFault.TheVariants.{Read, Write, 
 pub record ReadsAll (old new : Option (List ℕ)) (text : List ℕ) : Type 0 where
   pub given : Consumes old new text
   pub ended : IsAtEnd new
-  pub within : length text ≤ text_limit
+  pub within : length text ≤ own_text_limit text
 
--- the reader gave a byte past the limit
+-- the reader gave a byte past the limit of its text
 pub record GivesTooMuch (old new : Option (List ℕ)) : Type 0 where
   pub text : List ℕ
   pub given : Consumes old new text
-  pub beyond : text_limit < length text
+  pub beyond : own_text_limit text < length text
 
 -- the feed is all of a text, of which no line is taken
 abbrev pub closed_feed_of : List ℕ → FeedView

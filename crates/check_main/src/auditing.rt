@@ -10,6 +10,7 @@ ghost use Rattle.core_book.specs.Concluding.{AreJobsOfCertificate, modules};
 ghost use Rattle.core_book.specs.Replay.{has_closing};
 ghost use Rattle.core_book.specs.Filling.{shapes_of};
 ghost use Rattle.check_main.specs.Audits.{IsAuditOf, IsClosedOnce, IsFilledAndClosed, filings_in};
+ghost use Rattle.lemmas.specs.Bounds.{max_modules};
 
 use certificate::{Cert, Job, job_groups};
 use core_book::{BookState, fill_open_book};
@@ -154,7 +155,7 @@ fn audit_with_book<F: Filings + Sync, A: Ledger + Sync, G: Gate + Sync, R: Threa
         × (unopened.acceptances.parts ≡ A.parts)
         × (unopened.acceptances.parts ≡ unopened.workers) }
     requires workers { (0 < unopened.workers) × (unopened.workers ≤ 64) }
-    requires jobs { length jobs.now ≤ 1024 }
+    requires jobs { length jobs.now ≤ max_modules }
     requires groups { AreGroups (shapes_of (map arc_value jobs.now)) groups.now }
     requires ledger_names_book { (unopened.state.digest ≡ F.digest)
         × (unopened.state.jobs ≡ F.jobs) }

@@ -1,6 +1,9 @@
 //! Reads a bundle, and answers with its report.
 ghost use Rattle.std.specs.Prelude.{◌≡◌, ◌<◌, ◌≤◌, ◌↔◌, true, None, IfOk};
-ghost use Rattle.answers.specs.CheckText.{IsReportOf};
+ghost use Rattle.answers.specs.Answers.{AnswersOrRefuses};
+ghost use Rattle.answers.specs.BundleText.{bundle_with};
+ghost use Rattle.answers.specs.CheckText.{IsReportOf, SaysReport};
+ghost use Rattle.section_text.specs.Limits.{front_lines};
 ghost use Rattle.meaning.specs.Headline.{IsRight};
 ghost use Rattle.meaning.specs.Streams.{FourthLineSaysYes};
 ghost use Rattle.headline.specs.Stops.{HasRightStops};
@@ -10,14 +13,14 @@ ghost use Rattle.headline.specs.RightInFull.{IsRightInFull};
 ghost use Rattle.headline.specs.SmallDesigns.{IsNoSmallDesignText};
 
 use crate::check::report_on;
-use crate::digesting::read_with_digest;
+use crate::digesting::{Design, read_with_digest};
 use crate::preparing::prepare;
 use answers::{Answered, Outcome, refusal_answer};
 use certificate::laws::text_round_trips;
-use circuit::{port_names, read_circuit};
+use circuit::{port_names, read_circuit_within};
 use job_pool::Gate;
-use pattern::read_layout;
-use section_text::Feed;
+use pattern::read_layout_within;
+use section_text::{Feed, Limits};
 use std::alloc::{AllocError, Global};
 use std::sync::Wait;
 use std::thread::Threads;
@@ -83,6 +86,7 @@ pub fn check_text<G: Gate + Sync, R: Threads + Wait + Sync>(
 }
 
 // Reads a bundle up to the end of the text, drops the text, and has `workers` workers run the modules.
+#[tactic(auto, unfolding(answers::specs::BundleText::bundle_of))]
 fn report_of_text<G: Gate + Sync, R: Threads + Wait + Sync>(
     rt: &R,
     alloc: Global,
@@ -98,17 +102,44 @@ fn report_of_text<G: Gate + Sync, R: Threads + Wait + Sync>(
         answered.outcome) }
 {
     let mut feed = feed;
-    let circuit = match read_circuit(alloc, &mut feed) {
+    let limits = feed.take_limits();
+    report_after_front(rt, alloc, feed, limits, workers, gate)
+}
+
+// Reads a bundle with these limits, of which the lines before the first section were taken, up to the end of the text,
+// drops the text, and has `workers` workers run the modules.
+fn report_after_front<G: Gate + Sync, R: Threads + Wait + Sync>(
+    rt: &R,
+    alloc: Global,
+    feed: Feed,
+    limits: Limits,
+    workers: usize,
+    gate: &G,
+) -> Result<Answered, AllocError>
+    requires workers { (0 < workers) × (workers ≤ 64) }
+    requires text_closed { feed.closed ≡ true }
+    requires front_taken { feed.taken ≡ front_lines limits }
+    requires feed_not_stopped { feed.stop ≡ None }
+    ensures answered { IfOk result (λ answered. AnswersOrRefuses SaysReport
+        (bundle_with limits feed.text) answered.output.items answered.outcome) }
+{
+    let mut feed = feed;
+    let circuit = match read_circuit_within(alloc, &mut feed, limits) {
         Err(fault) => return refusal_answer(alloc, fault),
         Ok(circuit) => circuit,
     };
     let ports = port_names(alloc, &circuit)?;
-    let layout = match read_layout(alloc, &mut feed, &ports) {
+    let layout = match read_layout_within(alloc, &mut feed, limits, &ports) {
         Err(fault) => return refusal_answer(alloc, fault),
         Ok(layout) => layout,
     };
     let from = feed.taken_text().len();
-    let (digest, read) = read_with_digest(rt, alloc, &mut feed, &circuit, &layout, workers);
+    let design = Design {
+        limits,
+        circuit: &circuit,
+        layout: &layout,
+    };
+    let (digest, read) = read_with_digest(rt, alloc, &mut feed, &design, workers);
     let cert = match read {
         Err(fault) => return refusal_answer(alloc, fault),
         Ok(cert) => cert,

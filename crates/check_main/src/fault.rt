@@ -11,7 +11,7 @@ pub enum CheckFault {
     Read,
     /// The writer failed, or took no byte.
     Write,
-    /// The reader gave more than 16 MiB.
+    /// The reader gave more than 16 MiB, or 256 MiB behind the line `limits 2`.
     TooLong,
     /// There was no memory.
     Memory,

@@ -30,9 +30,9 @@ const MAX_READ_BYTES: usize = 65_536;
 
 /// Checks a bundle.
 ///
-/// It reads the whole text, at most 16 MiB. 1 to 64 workers run the modules of its certificate. It writes the report
-/// once it is complete. `Yes` and `No` are the verdict. The output is the same for every number of workers, every gate
-/// and every order in which they end.
+/// It reads the whole text, at most 16 MiB, or 256 MiB behind the line `limits 2`. 1 to 64 workers run the modules of
+/// its certificate. It writes the report once it is complete. `Yes` and `No` are the verdict. The output is the same
+/// for every number of workers, every gate and every order in which they end.
 ///
 /// If the verdict is `Yes`, or `verdict yes` is the fourth line of the output,
 ///
@@ -80,8 +80,8 @@ where
 
 /// Runs a layout under an assignment.
 ///
-/// It reads the whole text, at most 16 MiB, and writes the answer once it is complete. `No` is a ball that leaves the
-/// rectangle.
+/// It reads the whole text, at most 16 MiB, or 256 MiB behind the line `limits 2`, and writes the answer once it is
+/// complete. `No` is a ball that leaves the rectangle.
 pub fn run_stream<T: RandomSource, R: Source, W: Sink>(
     rt: &T,
     alloc: Global,
@@ -100,8 +100,8 @@ pub fn run_stream<T: RandomSource, R: Source, W: Sink>(
 
 /// Evaluates a circuit under an assignment.
 ///
-/// It reads the whole text, at most 16 MiB, and writes the answer once it is complete. `No` is a gate that has no row
-/// for its inputs.
+/// It reads the whole text, at most 16 MiB, or 256 MiB behind the line `limits 2`, and writes the answer once it is
+/// complete. `No` is a gate that has no row for its inputs.
 pub fn value_stream<T: RandomSource, R: Source, W: Sink>(
     rt: &T,
     alloc: Global,
@@ -120,8 +120,8 @@ pub fn value_stream<T: RandomSource, R: Source, W: Sink>(
 
 /// Lists the modules of a bundle's certificate.
 ///
-/// It reads the whole text, at most 16 MiB, and writes the answer once it is complete. The outcome is `Yes` or
-/// `Refused`.
+/// It reads the whole text, at most 16 MiB, or 256 MiB behind the line `limits 2`, and writes the answer once it is
+/// complete. The outcome is `Yes` or `Refused`.
 pub fn modules_stream<T: RandomSource, R: Source, W: Sink>(
     rt: &T,
     alloc: Global,
@@ -140,9 +140,9 @@ pub fn modules_stream<T: RandomSource, R: Source, W: Sink>(
 
 /// Writes a bundle in certificate version 2, without halo lines.
 ///
-/// It reads the whole text, at most 16 MiB, and writes the answer once it is complete. The outcome is `Yes` or
-/// `Refused`. A bundle of version 2 is written as it is. If `check` accepts a bundle, it accepts the migrated one
-/// (`headline/specs/Migration.antt`).
+/// It reads the whole text, at most 16 MiB, or 256 MiB behind the line `limits 2`, and writes the answer once it is
+/// complete. The outcome is `Yes` or `Refused`. A bundle of version 2 is written as it is. If `check` accepts a bundle,
+/// it accepts the migrated one (`headline/specs/Migration.antt`).
 pub fn migrate_stream<T: RandomSource, R: Source, W: Sink>(
     rt: &T,
     alloc: Global,

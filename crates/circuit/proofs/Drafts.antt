@@ -10,6 +10,7 @@ use Rattle.circuit.specs.DraftView.{IsDraft}
 use Rattle.circuit.proofs.Bridging.{gates_push, good_push, defined_push, count_append}
 use Rattle.circuit.proofs.Places.{found_number}
 use Rattle.circuit.proofs.WireMarks.{mark_read, marks_push}
+use Rattle.lemmas.specs.Bounds.{max_gates, max_wires}
 
 no_fault : (entries : List CircuitLine) (r : CircuitLine) → exceeds_limit entries r ≡ false →
     consume_fault (defined entries) (consumed entries) r.ins ≡ None → define_fault (defined entries) r.outs ≡ None →
@@ -34,11 +35,12 @@ pub record Added (a b : Inside) (r : CircuitLine) (numbers : List ℕ) : Type 0 
   pub gates : b.gates ≡ a.gates + cond (is_gate r.kind) 1 0
 
 few : (entries : List CircuitLine) (r : CircuitLine) → exceeds_limit entries r ≡ false →
-    (length (defined entries) + length r.outs ≤ 4096) × ((is_gate r.kind && nat_le 1024 (gate_count entries)) ≡ false)
+    (length (defined entries) + length r.outs ≤ max_wires)
+    × ((is_gate r.kind && nat_le max_gates (gate_count entries)) ≡ false)
 few entries r e = grind (arith, common_steps, or_parts, ltb-false)
 
-few_more : (b : Bool) (n : ℕ) → (b && nat_le 1024 n) ≡ false → n ≤ 1024 → n + cond b 1 0 ≤ 1024
-few_more true n e h = let l = leb-false 1024 n e in omega arith
+few_more : (b : Bool) (n : ℕ) → (b && nat_le max_gates n) ≡ false → n ≤ max_gates → n + cond b 1 0 ≤ max_gates
+few_more true n e h = let l = leb-false max_gates n e in omega arith
 few_more false n e h = omega arith
 
 pub added : (a b : Inside) (r : CircuitLine) (numbers : List ℕ) → IsDraft a → Added a b r numbers → IsDraft b

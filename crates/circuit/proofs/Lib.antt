@@ -16,3 +16,4 @@ pub mod GateLines
 pub mod WireMarks
 mod LoneNames
 pub mod Imports
+pub mod LimitLaws

@@ -12,14 +12,14 @@ use Rattle.circuit.proofs.Spelling.{form_line}
 
 pub prints_what_is_read : PrintsWhatIsRead
 unfolding circuit_text
-prints_what_is_read n ls entries e =
-    section_text_is circuit_grammar form_text form_line n ls tt entries e
+prints_what_is_read l n ls entries e =
+    section_text_is (circuit_grammar l) form_text form_line n ls tt entries e
     ∙ sym (append_assoc (form_text (Header tt)) (flat_map (λ i. form_text (Item i)) entries) (form_text End))
 
 pub reads_what_is_printed : ReadsWhatIsPrinted
-reads_what_is_printed text from n m entries e =
+reads_what_is_printed l text from n m entries e =
     let ls = drop from (lines_of text) in
-    let printed = prints_what_is_read n ls entries e in
-    ap (λ (t : List ℕ). section_of circuit_grammar m (lines_of t)) (sym printed)
-    ∙ ap (section_of circuit_grammar m) (lines_of_lines text from (length entries + 2))
-    ∙ section_again circuit_grammar n m ls tt entries e
+    let printed = prints_what_is_read l n ls entries e in
+    ap (λ (t : List ℕ). section_of (circuit_grammar l) m (lines_of t)) (sym printed)
+    ∙ ap (section_of (circuit_grammar l) m) (lines_of_lines text from (length entries + 2))
+    ∙ section_again (circuit_grammar l) n m ls tt entries e

@@ -10,10 +10,13 @@ use Rattle.circuit.specs.declared.circuit_line.Kind.TheVariants.{Input, Gate, Ou
 use Rattle.circuit.specs.declared.circuit_line.CircuitLine.{CircuitLine}
 use Rattle.section_text.specs.Words.{has}
 use Rattle.section_text.specs.Codes.{code_if, or_else}
+use Rattle.section_text.specs.Limits.{most_gates, most_wires}
+use Rattle.section_text.specs.declared.limits.Limits.{Limits}
 use Rattle.circuit.specs.Entries.{defined, rank_of}
 use Rattle.section_text.specs.declared.code.RefusalCode.{RefusalCode}
 use Rattle.section_text.specs.declared.code.RefusalCode.TheVariants.{PastLimit, UnknownName, DefinedTwice}
 use Rattle.section_text.specs.declared.code.RefusalCode.TheVariants.{ConsumedTwice, OutOfOrder}
+use Rattle.lemmas.specs.Bounds.{max_gates, max_wires}
 
 -- the wires that lines consume, in order
 abbrev pub consumed : List CircuitLine → List (List ℕ)
@@ -62,18 +65,28 @@ is_wrong_delay (Gate Uninteract) = false
 is_wrong_delay Output = false
 is_wrong_delay Spill = false
 
--- whether a delay, the count of wires or the count of gates is outside its limits
+-- whether a delay, the count of wires or the count of gates is outside the largest limits
 abbrev pub exceeds_limit : List CircuitLine → CircuitLine → Bool
 exceeds_limit entries r = is_wrong_delay r.kind
-    || (nat_lt 4096 (length (defined entries) + length r.outs) || (is_gate r.kind && nat_le 1024 (gate_count entries)))
+    || (nat_lt max_wires (length (defined entries) + length r.outs)
+    || (is_gate r.kind && nat_le max_gates (gate_count entries)))
 
--- the code of a line outside the limits
+-- whether the count of wires or the count of gates is outside these limits
+abbrev pub exceeds_text_limit : Limits → List CircuitLine → CircuitLine → Bool
+exceeds_text_limit l entries r = nat_lt (most_wires l) (length (defined entries) + length r.outs)
+    || (is_gate r.kind && nat_le (most_gates l) (gate_count entries))
+
+-- the code of a line outside the largest limits
 abbrev pub limit_fault : List CircuitLine → CircuitLine → Option RefusalCode
 limit_fault entries r = code_if (exceeds_limit entries r) PastLimit
 
--- the first of codes 2 to 5
+-- the first of codes 2 to 5, for the largest limits
 unfoldable pub add_fault : List CircuitLine → CircuitLine → Option RefusalCode
 add_fault entries r = or_else (limit_fault entries r) (name_fault entries r)
+
+-- the first of codes 2 to 5, for these limits
+abbrev pub add_fault_within : Limits → List CircuitLine → CircuitLine → Option RefusalCode
+add_fault_within l entries r = or_else (code_if (exceeds_text_limit l entries r) PastLimit) (add_fault entries r)
 
 -- ---- codes 6 and 11
 

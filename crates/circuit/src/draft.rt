@@ -5,12 +5,15 @@ ghost use Rattle.circuit.specs.Entries.{entry, defined};
 ghost use Rattle.circuit.specs.Gates.{uses, defines};
 ghost use Rattle.circuit.specs.declared.circuit_line.Kind.TheVariants.{Input, Gate, Output, Spill};
 ghost use Rattle.circuit.specs.declared.circuit_line.GateKind.TheVariants.{Source};
-ghost use Rattle.circuit.specs.Rules.{add_fault, exceeds_limit, is_wrong_delay, is_gate, gate_count, consumed, consume_fault, define_fault, first_unconsumed};
+ghost use Rattle.circuit.specs.Rules.{exceeds_limit, exceeds_text_limit, is_wrong_delay, is_gate, gate_count, consumed, consume_fault, define_fault, first_unconsumed};
+ghost use Rattle.circuit.specs.DraftView.{draft_fault, with_line};
 ghost use Rattle.circuit.specs.Wiring.{gate_of, gate_with_outs_from};
 ghost use Rattle.circuit.specs.Meaning.{number};
 ghost use Rattle.section_text.specs.Words.{has};
+ghost use Rattle.section_text.specs.declared.limits.Limits.TheVariants.{First};
 ghost use Rattle.section_text.specs.Adding.{HasRefusalCode};
 ghost use Rattle.circuit.specs.Bridge.{FitsKind, IsNoInputAfterGate};
+ghost use Rattle.lemmas.specs.Bounds.{max_wires};
 
 use crate::circuit_line::{CircuitLine, GateKind, Kind};
 use crate::netlist::{Circuit, is_name_at};
@@ -18,19 +21,18 @@ use crate::number::WireNo;
 use crate::sets::{define_wires, mark_wires};
 use crate::wiring::{GateWires, push_gate_of_line};
 use indexmap::IndexSet;
-use section_text::{LineFault, Name, NameHints, Names, RefusalCode, Seed};
+use section_text::{
+    Limits, LineFault, MAX_GATES, MAX_WIRES, Name, NameHints, Names, RefusalCode, Seed,
+};
 use std::alloc::{AllocError, Global};
 use std::marker::Model;
 
-// The most wires of a circuit.
-const MAX_WIRES: usize = 4096;
-
-// The most gates of a circuit.
-const MAX_GATES: usize = 1024;
-
-/// A circuit to which lines are added: inputs, then gates, outputs and spills. Contracts see the lines so far.
+/// A circuit to which lines are added: inputs, then gates, outputs and spills.
+///
+/// Contracts see the limits on its wires and gates, and the lines so far.
 #[derive(Drop)]
 pub struct Draft {
+    limits: Limits,
     wires: IndexSet<Name, Seed>,
     hints: NameHints,
     // for each wire, by its number, whether a line consumes it
@@ -41,14 +43,13 @@ pub struct Draft {
 }
 
 impl Model for Draft {
-    ghost use Rattle.std.specs.Prelude.{List};
-    ghost use Rattle.circuit.specs.declared.circuit_line.CircuitLine.{CircuitLine};
+    ghost use Rattle.circuit.specs.DraftView.{DraftView};
 
-    ghost Value = { List CircuitLine };
+    ghost Value = { DraftView };
 
-    ghost use Rattle.circuit.specs.DraftView.{draft_entries, IsDraft};
+    ghost use Rattle.circuit.specs.DraftView.{draft_view, IsDraft};
 
-    ghost view = { draft_entries };
+    ghost view = { draft_view };
 
     ghost invariant = { IsDraft };
 }
@@ -86,7 +87,7 @@ fn push_line_and_gate(
     ins: [WireNo; 4],
     first: u16,
 ) -> Result<(), AllocError>
-    requires { first ≤ 4096 }
+    requires { first ≤ max_wires }
     ensures line { OnOk result (entries.new.items ≡ entries.old.items ++ entry ∷ []) }
     ensures gate { OnOk result (map gate_of wired.new.items
         ≡ map gate_of wired.old.items ++ gate_with_outs_from entry.kind ins first) }
@@ -103,19 +104,24 @@ fn push_line_and_gate(
 }
 
 impl Draft {
-    /// Creates a draft without lines. For names that another person chose, use `seeded`.
+    /// Creates a draft without lines, of at most 4096 wires and 1024 gates.
+    ///
+    /// For more of them, and for names that another person chose, use `seeded`.
     pub fn new(alloc: Global) -> Draft
-        ensures { result ≡ [] }
+        ensures { result ≡ record { limits = First; lines = [] } }
     {
-        Draft::seeded(alloc, Seed::known())
+        Draft::seeded(alloc, Limits::First, Seed::known())
     }
 
-    /// Creates a draft without lines whose table of names hashes by the seed. The seed changes no result.
+    /// Creates a draft without lines, with these limits, whose table of names hashes by the seed.
+    ///
+    /// The seed changes no result.
     #[tactic(auto, unfolding(crate::proofs::Imports::AreGoodAfter))]
-    pub fn seeded(alloc: Global, seed: Seed) -> Draft
-        ensures { result ≡ [] }
+    pub fn seeded(alloc: Global, limits: Limits, seed: Seed) -> Draft
+        ensures { result ≡ record { limits = limits; lines = [] } }
     {
         Draft {
+            limits,
             wires: IndexSet::with_hasher(alloc, seed),
             hints: NameHints::new(alloc),
             consumed: Vec::new(alloc),
@@ -125,21 +131,29 @@ impl Draft {
         }
     }
 
-    // Whether the line would pass a limit.
+    // Whether a delay, the count of wires or the count of gates would pass the largest limit.
     fn exceeds_limit(&self, entry: &CircuitLine) -> bool
-        ensures { result ≡ exceeds_limit self.now entry.now }
+        ensures { result ≡ exceeds_limit self.now.lines entry.now }
     {
         has_wrong_delay(entry.kind)
             || self.wires.len() + entry.outs.as_slice().len() > MAX_WIRES
             || (is_gate_kind(entry.kind) && self.gates >= MAX_GATES)
     }
 
+    // Whether the count of wires or the count of gates would pass a limit of the draft.
+    fn exceeds_text_limit(&self, entry: &CircuitLine) -> bool
+        ensures { result ≡ exceeds_text_limit self.now.limits self.now.lines entry.now }
+    {
+        self.wires.len() + entry.outs.as_slice().len() > self.limits.most_wires()
+            || (is_gate_kind(entry.kind) && self.gates >= self.limits.most_gates())
+    }
+
     // The number of the wire of a name, if a line defines it.
     #[inline(always)]
     fn wire_number(&self, name: &Name) -> Option<usize>
-        ensures number { result ≡ position (bytes_eq name.now) (defined self.now) }
-        ensures found { is_some result ≡ has (defined self.now) name.now }
-        ensures within { IfSome result (λ i. i < length (defined self.now)) }
+        ensures number { result ≡ position (bytes_eq name.now) (defined self.now.lines) }
+        ensures found { is_some result ≡ has (defined self.now.lines) name.now }
+        ensures within { IfSome result (λ i. i < length (defined self.now.lines)) }
     {
         let likely = self.hints.guess(name);
         if is_name_at(self.wires.as_slice(), likely, name) {
@@ -151,11 +165,11 @@ impl Draft {
     // The wire of a name, if no line consumes it yet, else the code.
     #[tactic(auto, using(crate::proofs::Places::found_number, crate::proofs::Drafts::mark_of_line))]
     fn unconsumed_wire(&self, name: &Name) -> Result<WireNo, RefusalCode>
-        ensures is_defined { OnOk result (has (defined self.now) name.now ≡ true) }
-        ensures is_unconsumed { OnOk result (has (consumed self.now) name.now ≡ false) }
-        ensures wire { IfOk result (λ w. w ≡ number (defined self.now) name.now) }
-        ensures err { IfErr result (λ code.
-            consume_fault (defined self.now) (consumed self.now) (name.now ∷ []) ≡ Some code) }
+        ensures is_defined { OnOk result (has (defined self.now.lines) name.now ≡ true) }
+        ensures is_unconsumed { OnOk result (has (consumed self.now.lines) name.now ≡ false) }
+        ensures wire { IfOk result (λ w. w ≡ number (defined self.now.lines) name.now) }
+        ensures err { IfErr result (λ code. consume_fault (defined self.now.lines)
+            (consumed self.now.lines) (name.now ∷ []) ≡ Some code) }
     {
         let Some(index) = self.wire_number(name) else {
             return Err(RefusalCode::UnknownName);
@@ -169,12 +183,12 @@ impl Draft {
     // The wires that a line with these inputs consumes, else the code of the first input that it may not consume.
     fn unconsumed_wires(&self, names: &[Name]) -> Result<[WireNo; 4], RefusalCode>
         requires { length names.now ≤ 4 }
-        ensures ok { OnOk result (consume_fault (defined self.now) (consumed self.now) names.now
-            ≡ None) }
+        ensures ok { OnOk result (consume_fault (defined self.now.lines) (consumed self.now.lines)
+            names.now ≡ None) }
         ensures wires { IfOk result (λ ins.
-            take (length names.now) ins ≡ map (number (defined self.now)) names.now) }
-        ensures err { IfErr result (λ code.
-            consume_fault (defined self.now) (consumed self.now) names.now ≡ Some code) }
+            take (length names.now) ins ≡ map (number (defined self.now.lines)) names.now) }
+        ensures err { IfErr result (λ code. consume_fault (defined self.now.lines)
+            (consumed self.now.lines) names.now ≡ Some code) }
     {
         let mut ins = [WireNo::of(0); 4];
         for (place, name) in names.iter().enumerate() {
@@ -191,12 +205,15 @@ impl Draft {
     #[tactic(auto, unfolding(crate::specs::Rules::add_fault))]
     pub(crate) fn add(&mut self, entry: CircuitLine) -> Result<(), LineFault>
         requires fits { FitsKind entry }
-        requires inputs_first { IsNoInputAfterGate self.old entry }
-        ensures ok { OnOk result ((add_fault self.old entry ≡ None)
-            × (self.new ≡ self.old ++ entry ∷ [])) }
+        requires inputs_first { IsNoInputAfterGate self.old.lines entry }
+        ensures ok { OnOk result ((draft_fault self.old entry ≡ None)
+            × (self.new ≡ with_line self.old entry)) }
         ensures err { OnErr result (self.new ≡ self.old) }
-        ensures fault { IfErr result (λ e. HasRefusalCode e (add_fault self.old entry)) }
+        ensures fault { IfErr result (λ e. HasRefusalCode e (draft_fault self.old entry)) }
     {
+        if self.exceeds_text_limit(&entry) {
+            return Err(LineFault::Code(RefusalCode::PastLimit));
+        }
         if self.exceeds_limit(&entry) {
             return Err(LineFault::Code(RefusalCode::PastLimit));
         }
@@ -230,7 +247,7 @@ impl Draft {
 
     /// Returns whether inputs may still be added: no gate, and no source, was added yet.
     pub fn takes_inputs(&self) -> bool
-        ensures { result ≡ (gate_count self.now == 0) }
+        ensures { result ≡ (gate_count self.now.lines == 0) }
     {
         self.gates == 0
     }
@@ -241,15 +258,15 @@ impl Draft {
     ///
     /// An error changes nothing. The code is
     ///
-    /// - 2 if the wire would be the 4097th,
+    /// - 2 if there would be more wires than the limits allow,
     /// - 4 if the name is defined already.
     pub fn add_input(&mut self, name: Name) -> Result<(), LineFault>
-        requires { gate_count self.old ≡ 0 }
-        ensures ok { OnOk result ((add_fault self.old (entry Input [] (name ∷ [])) ≡ None)
-            × (self.new ≡ self.old ++ entry Input [] (name ∷ []) ∷ [])) }
+        requires { gate_count self.old.lines ≡ 0 }
+        ensures ok { OnOk result ((draft_fault self.old (entry Input [] (name ∷ [])) ≡ None)
+            × (self.new ≡ with_line self.old (entry Input [] (name ∷ [])))) }
         ensures err { OnErr result (self.new ≡ self.old) }
         ensures fault { IfErr result (λ e. HasRefusalCode e
-            (add_fault self.old (entry Input [] (name ∷ [])))) }
+            (draft_fault self.old (entry Input [] (name ∷ [])))) }
     {
         self.add(CircuitLine::of_one_name(Kind::Input, name))
     }
@@ -260,14 +277,14 @@ impl Draft {
     ///
     /// An error changes nothing. The code is
     ///
-    /// - 2 if the wire would be the 4097th or the gate the 1025th,
+    /// - 2 if there would be more wires or gates than the limits allow,
     /// - 4 if the name is defined already.
     pub fn add_source(&mut self, bit: bool, name: Name) -> Result<(), LineFault>
-        ensures ok { OnOk result ((add_fault self.old (entry (Gate (Source bit)) [] (name ∷ []))
-            ≡ None) × (self.new ≡ self.old ++ entry (Gate (Source bit)) [] (name ∷ []) ∷ [])) }
+        ensures ok { OnOk result ((draft_fault self.old (entry (Gate (Source bit)) [] (name ∷ []))
+            ≡ None) × (self.new ≡ with_line self.old (entry (Gate (Source bit)) [] (name ∷ [])))) }
         ensures err { OnErr result (self.new ≡ self.old) }
         ensures fault { IfErr result (λ e. HasRefusalCode e
-            (add_fault self.old (entry (Gate (Source bit)) [] (name ∷ [])))) }
+            (draft_fault self.old (entry (Gate (Source bit)) [] (name ∷ [])))) }
     {
         self.add(CircuitLine::source(bit, name))
     }
@@ -278,17 +295,17 @@ impl Draft {
     ///
     /// An error changes nothing. The code is that of the first test that fails:
     ///
-    /// - 2: a delay is not 1 to 4096, or there would be more than 4096 wires or 1024 gates;
+    /// - 2: a delay is not 1 to 4096, or there would be more wires or gates than the limits allow;
     /// - then, from left to right, 3: a name of `ins` is not defined, and 5: it is consumed already;
     /// - 4: a name of `outs` is defined already.
     pub fn add_gate(&mut self, kind: GateKind, ins: &[Name], outs: &[Name]) -> Result<(), LineFault>
         requires ins { length ins.now ≡ uses kind }
         requires outs { length outs.now ≡ defines kind }
-        ensures ok { OnOk result ((add_fault self.old (entry (Gate kind) ins.now outs.now) ≡ None)
-            × (self.new ≡ self.old ++ entry (Gate kind) ins.now outs.now ∷ [])) }
+        ensures ok { OnOk result ((draft_fault self.old (entry (Gate kind) ins.now outs.now) ≡ None)
+            × (self.new ≡ with_line self.old (entry (Gate kind) ins.now outs.now))) }
         ensures err { OnErr result (self.new ≡ self.old) }
         ensures fault { IfErr result (λ e. HasRefusalCode e
-            (add_fault self.old (entry (Gate kind) ins.now outs.now))) }
+            (draft_fault self.old (entry (Gate kind) ins.now outs.now))) }
     {
         let few_ins = kind.ins();
         let few_outs = kind.outs();
@@ -309,11 +326,11 @@ impl Draft {
     /// - 3 if the name is not defined,
     /// - 5 if the wire is consumed already.
     pub fn add_output(&mut self, name: Name) -> Result<(), LineFault>
-        ensures ok { OnOk result ((add_fault self.old (entry Output (name ∷ []) []) ≡ None)
-            × (self.new ≡ self.old ++ entry Output (name ∷ []) [] ∷ [])) }
+        ensures ok { OnOk result ((draft_fault self.old (entry Output (name ∷ []) []) ≡ None)
+            × (self.new ≡ with_line self.old (entry Output (name ∷ []) []))) }
         ensures err { OnErr result (self.new ≡ self.old) }
         ensures fault { IfErr result (λ e. HasRefusalCode e
-            (add_fault self.old (entry Output (name ∷ []) []))) }
+            (draft_fault self.old (entry Output (name ∷ []) []))) }
     {
         self.add(CircuitLine::of_one_name(Kind::Output, name))
     }
@@ -327,18 +344,18 @@ impl Draft {
     /// - 3 if the name is not defined,
     /// - 5 if the wire is consumed already.
     pub fn add_spill(&mut self, name: Name) -> Result<(), LineFault>
-        ensures ok { OnOk result ((add_fault self.old (entry Spill (name ∷ []) []) ≡ None)
-            × (self.new ≡ self.old ++ entry Spill (name ∷ []) [] ∷ [])) }
+        ensures ok { OnOk result ((draft_fault self.old (entry Spill (name ∷ []) []) ≡ None)
+            × (self.new ≡ with_line self.old (entry Spill (name ∷ []) []))) }
         ensures err { OnErr result (self.new ≡ self.old) }
         ensures fault { IfErr result (λ e. HasRefusalCode e
-            (add_fault self.old (entry Spill (name ∷ []) []))) }
+            (draft_fault self.old (entry Spill (name ∷ []) []))) }
     {
         self.add(CircuitLine::of_one_name(Kind::Spill, name))
     }
 
     // The first wire that nobody consumes.
     pub(crate) fn unconsumed_name(&self) -> Option<Name>
-        ensures { result ≡ first_unconsumed (consumed self.now) (defined self.now) }
+        ensures { result ≡ first_unconsumed (consumed self.now.lines) (defined self.now.lines) }
     {
         for (number, name) in self.wires.as_slice().iter().enumerate() {
             if !self.consumed[number] {
@@ -354,15 +371,16 @@ impl Draft {
     ///
     /// The first wire that no line consumes, if there is one, with the draft.
     pub fn finish(self) -> Result<Circuit, Unused>
-        ensures ok { IfOk result (λ c. (c ≡ self)
-            × (first_unconsumed (consumed self) (defined self) ≡ None)) }
+        ensures ok { IfOk result (λ c. (c ≡ self.lines)
+            × (first_unconsumed (consumed self.lines) (defined self.lines) ≡ None)) }
         ensures err { IfErr result (λ u. (u.draft ≡ self)
-            × (first_unconsumed (consumed self) (defined self) ≡ Some u.wire)) }
+            × (first_unconsumed (consumed self.lines) (defined self.lines) ≡ Some u.wire)) }
     {
         if let Some(wire) = self.unconsumed_name() {
             return Err(Unused { draft: self, wire });
         }
         let Draft {
+            limits: _,
             wires,
             hints,
             consumed: _,

@@ -5,6 +5,7 @@ ghost use Rattle.circuit.specs.Entries.{defined};
 ghost use Rattle.circuit.specs.Bridge.{AreValues, IsValuesFault, circuit_of, input_count, input_names, is_input, netlist_of, as_values};
 ghost use Rattle.circuit.specs.Meaning.{AreOrdered, wire_of, wires};
 ghost use Rattle.circuit.specs.Wiring.{gate_of};
+ghost use Rattle.lemmas.specs.Bounds.{max_gates, max_wires};
 
 use crate::circuit_line::{CircuitLine, Kind};
 use crate::number::{GateNo, WireNo};
@@ -16,8 +17,8 @@ use std::marker::Model;
 
 /// A circuit of conservative logic (Fredkin and Toffoli 1982). Contracts see its lines.
 ///
-/// Each wire is defined once and consumed once, and a gate uses wires that were defined before it. It has at most 4096
-/// wires and 1024 gates.
+/// Each wire is defined once and consumed once, and a gate uses wires that were defined before it. It has at most
+/// 65,000 wires and 16,384 gates.
 #[derive(Drop)]
 pub struct Circuit {
     pub(crate) wires: IndexSet<Name, Seed>,
@@ -116,12 +117,12 @@ impl Circuit {
         count_inputs(self.entries.as_slice())
     }
 
-    /// Returns how many wires the circuit has, at most 4096. They are numbered from 0 in order of definition.
+    /// Returns how many wires the circuit has, at most 65,000. They are numbered from 0 in order of definition.
     #[tactic(auto, using(crate::proofs::Naming::wires_are_named))]
     pub fn wires(&self) -> usize
         ensures count { result ≡ wires (netlist_of self.now) }
         ensures wires_named { result ≡ length (defined self.now) }
-        ensures at_most_4096 { result ≤ 4096 }
+        ensures at_most_max_wires { result ≤ max_wires }
     {
         self.wires.len()
     }
@@ -171,13 +172,13 @@ impl Circuit {
         self.wires.as_slice()[wire.number() as usize]
     }
 
-    /// Returns how many gates the circuit has, at most 1024, sources among them.
+    /// Returns how many gates the circuit has, at most 16,384, sources among them.
     ///
     /// They are numbered from 0 in the order of their lines. Each of them uses wires that inputs and earlier gates
     /// define.
     pub fn gates(&self) -> usize
         ensures count { result ≡ length (netlist_of self.now).gates }
-        ensures at_most_1024 { result ≤ 1024 }
+        ensures at_most_max_gates { result ≤ max_gates }
         ensures gates_ordered { AreOrdered (netlist_of self.now).given (netlist_of self.now).gates }
     {
         self.wired.len()
@@ -187,8 +188,8 @@ impl Circuit {
     #[tactic(auto, using(crate::proofs::Naming::inputs_are_first, crate::proofs::Naming::wires_are_named))]
     #[inline(always)]
     pub fn prove_valid(&self)
-        ensures at_most_1024_gates { length (netlist_of self.now).gates ≤ 1024 }
-        ensures at_most_4096_wires { wires (netlist_of self.now) ≤ 4096 }
+        ensures at_most_max_gates { length (netlist_of self.now).gates ≤ max_gates }
+        ensures at_most_max_wires { wires (netlist_of self.now) ≤ max_wires }
         ensures gates_ordered { AreOrdered (netlist_of self.now).given (netlist_of self.now).gates }
         ensures inputs_come_first { take (netlist_of self.now).given (defined self.now)
             ≡ input_names self.now }

@@ -2,13 +2,16 @@
 ghost use Rattle.std.specs.Prelude.{◌≡◌, ◌==◌, true, if◌then◌else◌};
 ghost use Rattle.section_text.specs.Section.{Reads};
 ghost use Rattle.circuit.specs.Rules.{last_rank, gate_count};
+ghost use Rattle.section_text.specs.declared.limits.Limits.TheVariants.{First};
 ghost use Rattle.circuit.specs.Grammars.{circuit_grammar, circuit_section};
 
 use crate::circuit_line::CircuitLine;
 use crate::draft::Draft;
 use crate::form::line_form;
 use crate::netlist::Circuit;
-use section_text::{Feed, Form, Line, LineFault, ReadFault, RefusalCode, Section, read_section};
+use section_text::{
+    Feed, Form, Limits, Line, LineFault, ReadFault, RefusalCode, Section, read_section,
+};
 use std::alloc::Global;
 
 // A circuit that is read: the lines so far, and the rank of the last one.
@@ -16,8 +19,8 @@ use std::alloc::Global;
 struct Reading {
     draft: Draft,
     rank: u8,
-    ghost ranked: { rank ≡ last_rank draft },
-    ghost no_gate: { (if rank == 0 then gate_count draft else 0) ≡ 0 },
+    ghost ranked: { rank ≡ last_rank draft.lines },
+    ghost no_gate: { (if rank == 0 then gate_count draft.lines else 0) ≡ 0 },
 }
 
 impl Section for Reading {
@@ -25,11 +28,11 @@ impl Section for Reading {
 
     type Item = CircuitLine;
 
-    ghost grammar = { λ _. circuit_grammar };
+    ghost grammar = { λ r. circuit_grammar r.draft.limits };
 
     ghost header = { λ _. tt };
 
-    ghost items = { λ r. r.draft };
+    ghost items = { λ r. r.draft.lines };
 
     fn form(&self, feed: &Feed, line: &Line) -> Option<Form<(), CircuitLine>> {
         line_form(feed, line)
@@ -61,13 +64,25 @@ impl Section for Reading {
     }
 }
 
-/// Reads a circuit section.
+/// Reads a circuit section, of at most 4096 wires and 1024 gates.
 pub fn read_circuit(alloc: Global, feed: &mut Feed) -> Result<Circuit, ReadFault>
     requires { feed.old.closed ≡ true }
-    ensures { Reads circuit_grammar circuit_section feed.old feed.new result }
+    ensures { Reads (circuit_grammar First) circuit_section feed.old feed.new result }
+{
+    read_circuit_within(alloc, feed, Limits::First)
+}
+
+/// Reads a circuit section of a text with these limits.
+pub fn read_circuit_within(
+    alloc: Global,
+    feed: &mut Feed,
+    limits: Limits,
+) -> Result<Circuit, ReadFault>
+    requires { feed.old.closed ≡ true }
+    ensures { Reads (circuit_grammar limits) circuit_section feed.old feed.new result }
 {
     let mut reading = Reading {
-        draft: Draft::seeded(alloc, feed.seed()),
+        draft: Draft::seeded(alloc, limits, feed.seed()),
         rank: 0,
     };
     match read_section(feed, &mut reading) {

@@ -5,6 +5,7 @@ ghost use Rattle.circuit.specs.Gates.{row, uses};
 ghost use Rattle.circuit.specs.Bridge.{as_values};
 ghost use Rattle.circuit.specs.Evaluate.{evaluate, IsGateEvaluationError};
 ghost use Rattle.circuit.specs.Wiring.{gate_of, gate_with_outs_from};
+ghost use Rattle.lemmas.specs.Bounds.{max_wires};
 
 use crate::circuit_line::{GateKind, Kind};
 use crate::netlist::ValuesFault;
@@ -45,7 +46,7 @@ impl GateWires {
 
 // Four wires, from this one on.
 fn four_wires_from(first: u16) -> [WireNo; 4]
-    requires { first ≤ 4096 }
+    requires { first ≤ max_wires }
     ensures { result ≡ range_with_len first 4 }
 {
     [
@@ -64,7 +65,7 @@ pub(crate) fn push_gate_of_line(
     ins: [WireNo; 4],
     first: u16,
 ) -> Result<(), AllocError>
-    requires { first ≤ 4096 }
+    requires { first ≤ max_wires }
     ensures ok { OnOk result (map gate_of gates.new.items
         ≡ map gate_of gates.old.items ++ gate_with_outs_from kind ins first) }
     ensures earlier_gates_stay { OnOk result (take (length gates.old.items) gates.new.items

@@ -37,7 +37,7 @@ macro_rules! help {
                 $("  ", $status, "\n",)+
                 "  2  the arguments are wrong\n",
                 "  3  the text was refused, with the line `refused LINE CODE`\n",
-                "  4  a read or a write failed, or the text is longer than 16 MiB\n",
+                "  4  a read or a write failed, or the text is longer than its limit\n",
                 "  5  memory ran out\n",
                 "\nUsage: ",
                 $usage,
@@ -53,11 +53,11 @@ macro_rules! help {
 
 /// The text that `--version` prints after the program's name.
 ///
-/// It has the program's number, the sections that it reads by their headers, and the kit that proved it, as `rt
-/// version` prints it.
+/// It has the program's number, the sections that it reads by their headers, the line of larger limits, and the kit
+/// that proved it, as `rt version` prints it.
 pub const VERSION: &str = concat!(
-    "1.0.0\n",
-    "reads circuit, layout, assign, certificate 1, certificate 2\n",
+    "1.1.0\n",
+    "reads circuit, layout, assign, certificate 1, certificate 2, limits 2\n",
     "proved by rattle-kit-13b logic dac8208d650f15bf",
 );
 
@@ -69,7 +69,7 @@ pub const WORKERS: &str =
 pub const PROGRAM: Help = help!(
     "Checks that a layout of the billiard ball automaton computes a circuit",
     "bbmcheck <COMMAND> < TEXT",
-    "one text, of at most 16 MiB, from standard input",
+    "one text, of at most 16 MiB, from standard input; 256 MiB if it begins with\n  the line `limits 2`",
     "the answer to standard output; messages about wrong arguments, and one\n  line for status 4 or 5, to standard error",
     [
         "0  the verdict is yes, another command is done, or help or the version was asked for",

@@ -3,6 +3,7 @@ ghost use Rattle.std.specs.Prelude.{◌≡◌, ◌<◌, ◌≤◌, ◌^◌, IfEr
 ghost use Rattle.std.specs.Arc.{arc_value};
 ghost use Rattle.core_book.specs.Claims.{claim_answer, draws_after_claim, next_after_claim, claim_answer_of_draw, is_seat_finished};
 ghost use Rattle.core_book.specs.CoreView.{lists_of};
+ghost use Rattle.lemmas.specs.Bounds.{max_draws, max_modules};
 
 use crate::book::{BookState, NotFiled};
 use crate::claim::Claim;
@@ -76,14 +77,14 @@ impl Core {
 
     /// Creates a core of these jobs, numbered from 0 in their order, and of seats that have drawn nothing.
     ///
-    /// There are at most 1024 jobs, and 1 to 64 seats.
+    /// There are at most 65536 jobs, and 1 to 64 seats.
     pub fn new(
         alloc: Global,
         digest: [u8; 32],
         jobs: Vec<Arc<Job>>,
         seats: usize,
     ) -> Result<Core, AllocError>
-        requires jobs { vec_len jobs ≤ 1024 }
+        requires jobs { vec_len jobs ≤ max_modules }
         requires seats { (0 < seats) × (seats ≤ 64) }
         ensures { IfOk result (λ c. c ≡ new_core digest (map arc_value jobs.items) seats) }
     {
@@ -153,10 +154,10 @@ impl Core {
         Ok(reply)
     }
 
-    /// Returns the next number: at most 1088.
+    /// Returns the next number: at most 65,600.
     pub fn next(&self) -> usize
         ensures value { result ≡ self.now.next }
-        ensures at_most { result ≤ 1088 }
+        ensures at_most { result ≤ max_draws }
     {
         self.next
     }

@@ -1,6 +1,7 @@
 -- The coordinates of the cells of a box and of the cells around it, counted from the box
 use Rattle.std.specs.Prelude.{ℕ, ℤ, pos, ◌+◌, ◌-ℤ◌, ◌≤◌}
 use Rattle.bbm_rule.specs.declared.block.Box2.{Box2}
+use Rattle.lemmas.specs.Bounds.{max_side}
 
 -- number k of the columns or rows of a box whose first is c
 unfoldable pub box_coord : ℕ → ℕ → ℤ
@@ -12,4 +13,4 @@ halo_coord c k = pos (c + k) -ℤ pos 1
 
 -- the box is near the plane's corner, and the place near the box's corner
 abbrev pub HasSmallCoordinates : Box2 → ℕ → ℕ → Type 0
-HasSmallCoordinates b x y = (b.x ≤ 512) × (b.y ≤ 512) × (x ≤ 66) × (y ≤ 66)
+HasSmallCoordinates b x y = (b.x ≤ max_side) × (b.y ≤ max_side) × (x ≤ 66) × (y ≤ 66)

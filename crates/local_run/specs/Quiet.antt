@@ -9,6 +9,7 @@ use Rattle.module_job.specs.Jobs.{JobView}
 use Rattle.module_job.specs.Shapes.{ShapeView}
 use Rattle.local_run.specs.Places.{halo_coord}
 use Rattle.bbm_rule.specs.Marks.{IsUnmarked}
+use Rattle.lemmas.specs.Bounds.{max_side}
 
 -- the number of a cell in its plane, for a column and row counted from the halo
 abbrev pub number_at : Box2 → ℕ → ℕ → ℕ
@@ -25,7 +26,8 @@ LacksCellMark b x y marks = IsUnmarked marks (number_at b x y) ⊎ IsUnmarked ma
 
 -- there is room for the numbers of all cells of a box and its halo
 abbrev pub HasRoomForCellNumbers : Box2 → List ℕ → Type 0
-HasRoomForCellNumbers b marks = (b.x ≤ 512) × (b.y ≤ 512) × (b.w ≤ 64) × (b.h ≤ 64) × (b.w % 2 ≡ 0) × (b.h % 2 ≡ 0)
+HasRoomForCellNumbers b marks =
+    (b.x ≤ max_side) × (b.y ≤ max_side) × (b.w ≤ 64) × (b.h ≤ 64) × (b.w % 2 ≡ 0) × (b.h % 2 ≡ 0)
     × ((b.w / 2 + 1) * (b.h / 2 + 1) + 4608 ≤ 64 * length marks)
 
 -- the cell has both marks, where it is in the box or its halo

@@ -5,6 +5,7 @@ ghost use Rattle.module_box.specs.Moments.{moment_cmp};
 ghost use Rattle.module_box.specs.Schedules.{IsRising, moment_of};
 ghost use Rattle.local_run.specs.Leaps.{HasNoEventsBetween, IsLeap, HasSameSignalsAtOddTimes, IsTimePlaceBetween};
 ghost use Rattle.local_run.specs.Scans.{IsNextStop};
+ghost use Rattle.lemmas.specs.Bounds.{max_steps};
 
 use module_box::{Schedule, TimedSignal};
 use module_job::{Job, Shape};
@@ -128,7 +129,7 @@ fn next_stop_time(job: &Job, next: usize, time: u32, end: u32) -> u32
 /// `steps` at most and no later than that stop. Before it the signals of ring and halo at odd times stay as they were
 /// at the odd step.
 pub fn next_time(job: &Job, time: u32, steps: u32, changed: bool, next: usize) -> u32
-    requires range { (time < steps) × (steps ≤ 65536) }
+    requires range { (time < steps) × (steps ≤ max_steps) }
     requires next { IsNextStop job.now (time + 1) next }
     ensures range { (time < result) × (result ≤ steps) }
     ensures leap { (result ≡ time + 1) ⊎ IsLeap job.now time changed result }

@@ -5,6 +5,7 @@ ghost use Rattle.module_job.specs.Shapes.{shape_of};
 ghost use Rattle.bbm_rule.specs.Marks.{IsUnmarked};
 ghost use Rattle.local_run.specs.Quiet.{AreStarredCellMarks, AreLineMarks, KeepsMarks};
 ghost use Rattle.std.specs.Prelude.{◌≡◌, ◌+◌, ◌*◌, ◌/◌, ◌%◌, ◌<◌, ◌≤◌, vec_len, IfOk, false};
+ghost use Rattle.lemmas.specs.Bounds.{max_steps};
 
 use crate::lines::{EventPlaces, LinePlaces, mark_lines, marks_of_starred_cells, own_mark_number};
 use lanes::{Planes, is_marked};
@@ -50,7 +51,7 @@ impl LineMarks {
     /// The marks of the time that was looked at before are taken off. Most times have none of their own.
     pub fn look_at(&mut self, job: &Job, time: u32)
         requires all_times { AreStarredCellMarks (shape_of job.now) self.old.all_times.items }
-        requires range { time < 65536 }
+        requires range { time < max_steps }
         ensures time { self.new.time ≡ time }
         ensures lines { AreLineMarks job.now time self.new.marks.items }
         ensures all_times { self.new.all_times ≡ self.old.all_times }

@@ -7,6 +7,7 @@ ghost use Rattle.module_box.specs.Schedules.{IsRising, all_times_at, event_at, m
 ghost use Rattle.local_run.specs.Quiet.{AreStarredCellMarks, AreStarredCellsMarked, AreLineMarks, box_at_origin, HasRoomForCellNumbers, IsCellMarked, IsZeroAtUnmarked, KeepsMarks};
 ghost use Rattle.local_run.specs.Places.{halo_coord};
 ghost use Rattle.std.specs.Prelude.{ℕ, nat_lt, ◌||◌, ◌≢◌, MatchOption, ◌≡◌, ◌<◌, ◌+◌, ◌*◌, ◌/◌, ◌%◌, ◌^◌, ◌≤◌, length, slice_index, slice_get, Some, IfOk, IfSome};
+ghost use Rattle.lemmas.specs.Bounds.{max_side, max_steps};
 
 use crate::leaps::first_event_place_from;
 use bbm_rule::Cell;
@@ -18,7 +19,7 @@ use std::alloc::{AllocError, Global};
 // The column or row of a coordinate, counted from the halo of a span of `count` numbers, if it is there.
 #[tactic(auto, unfolding(crate::specs::Places::halo_coord))]
 fn number_from_halo(coordinate: i32, first: u32, count: u32) -> Option<usize>
-    requires { (first ≤ 512) × (count ≤ 64) }
+    requires { (first ≤ max_side) × (count ≤ 64) }
     ensures { MatchOption result ((k : ℕ) → k < count + 2 → coordinate ≢ halo_coord first k)
         (λ k. (k < count + 2) × (coordinate ≡ halo_coord first k)) }
 {
@@ -94,7 +95,7 @@ fn mark_events_at(
 ) -> EventPlaces
     requires room_for_marks { HasRoomForCellNumbers area marks.old }
     requires rising_moments { IsRising moment_cmp moment_of list.now }
-    requires range { time < 65536 }
+    requires range { time < max_steps }
     ensures marks_kept { KeepsMarks marks.old marks.new }
     ensures marked { (i : ℕ) (e : TimedSignal) → slice_get list.now i ≡ Some e → e.at.time ≡ time →
         IsCellMarked area e.at.cell marks.new }
@@ -115,7 +116,7 @@ fn mark_schedule(
     time: u32,
 ) -> EventPlaces
     requires room_for_marks { HasRoomForCellNumbers area marks.old }
-    requires range { time < 65536 }
+    requires range { time < max_steps }
     requires all_times { AreStarredCellsMarked schedule.now area marks.old }
     ensures marks_kept { KeepsMarks marks.old marks.new }
     ensures unmarked_cells_zero { IsZeroAtUnmarked schedule.now area time marks.new }
@@ -227,7 +228,7 @@ pub fn signal_at_moment(schedule: &Schedule, moment: Moment, near: EventPlaces) 
 #[tactic(auto, using(crate::proofs::QuietLemmas::still_quiet, crate::proofs::QuietLemmas::quiet_moved))]
 pub fn mark_lines(marks: &mut [u64], places: &mut LinePlaces, job: &Job, time: u32)
     requires all_times { AreStarredCellMarks (shape_of job.now) marks.old }
-    requires range { time < 65536 }
+    requires range { time < max_steps }
     ensures marks_kept { KeepsMarks marks.old marks.new }
     ensures lines { AreLineMarks job.now time marks.new }
 {

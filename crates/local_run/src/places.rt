@@ -14,7 +14,7 @@ use module_job::{Demand, Job, Shape};
 
 /// Returns the cell at a column and row of the box.
 ///
-/// Columns and rows are below 67, and the box's corner has coordinates of at most 512.
+/// Columns and rows are below 67, and the box's corner has coordinates of at most 4096.
 #[tactic(auto, unfolding(crate::specs::Places::box_coord))]
 pub fn box_cell_at(area: Box2, x: usize, y: usize) -> Cell
     requires { HasSmallCoordinates area x y }

@@ -1,7 +1,8 @@
--- How a text prints a design: a circuit, and then a layout. Each line is as docs/FORMATS.md shows it. Three laws of the
--- crate `headline` are about it. A text begins with one design at most (`BeginsWithOneDesign`). It is the design that
--- the text is read as (`PrintedDesignIsRead`, `TextBeginsWithReadDesign`; `SaysDesign` in Design.antt).
-use Rattle.std.specs.Prelude.{◌≡◌, ◌<◌, ◌^◌, ℕ, ℤ, pos, List, [], ◌∷◌, ◌++◌, drop, length, map, codes, IsTrue}
+-- How a text prints a design: the line `limits 2` or none, a circuit, and then a layout. Each line is as
+-- docs/FORMATS.md shows it. Three laws of the crate `headline` are about it. A text begins with one design at most
+-- (`BeginsWithOneDesign`). It is the design that the text is read as (`PrintedDesignIsRead`,
+-- `TextBeginsWithReadDesign`; `SaysDesign` in Design.antt).
+use Rattle.std.specs.Prelude.{◌≡◌, ◌<◌, ◌^◌, ◌⊎◌, ℕ, ℤ, pos, List, [], ◌∷◌, ◌++◌, drop, length, map, codes, IsTrue}
 use Rattle.std.specs.Prelude.{if◌then◌else◌}
 use Rattle.std.specs.List.{All, flat_map}
 use Rattle.std.specs.Fmt.{decimal, signed_decimal}
@@ -76,9 +77,15 @@ layout_printed p = flat_map (λ l. printed (l.0 ∷ l.1 ++ map signed_decimal l.
 
 -- ---- both
 
--- the text begins with this circuit and this layout, and goes on in any way
+-- the text before a design: nothing, or the line that chooses the second limits
+abbrev pub IsFront : List ℕ → Type 0
+IsFront front = (front ≡ []) ⊎ (front ≡ printed (codes "limits" ∷ codes "2" ∷ []))
+
+-- the text begins with this circuit and this layout, behind such a front, and goes on in any way
 pub record BeginsWithDesign (text : List ℕ) (circuit : List CircuitLine) (layout : Pattern) : Type 0 where
+  pub front : List ℕ
+  pub is_front : IsFront front
   pub rest : List ℕ
-  pub begins : text ≡ circuit_printed circuit ++ (layout_printed layout ++ rest)
+  pub begins : text ≡ front ++ (circuit_printed circuit ++ (layout_printed layout ++ rest))
   pub circuit_lines : All IsLine circuit
   pub layout_lines : All IsForm (layout_forms layout)

@@ -7,6 +7,7 @@ use Rattle.bbm_rule.specs.declared.block.Box2.{Box2}
 use Rattle.bbm_rule.specs.declared.block.Cell.{Cell}
 use Rattle.module_box.specs.declared.tile.TileFault.{TileFault}
 use Rattle.module_box.specs.declared.tile.TileFault.TheVariants.{Outside, Overlap, Gap, Memory}
+use Rattle.lemmas.specs.Bounds.{max_owners, max_side}
 
 -- the corner of the block at a place, by blocks counted row by row
 abbrev pub block_corner_x : ℕ → ℕ → ℤ
@@ -72,8 +73,8 @@ IsTileFault w h boxes Memory = Unit {0}
 
 -- what `owner_table` asks of its caller
 pub record MayHaveOwnerTable (w h : ℕ) (boxes : List Box2) : Type 0 where
-  pub width : (2 ≤ w) × (w ≤ 512) × (w % 2 ≡ 0)
-  pub height : (2 ≤ h) × (h ≤ 512) × (h % 2 ≡ 0)
+  pub width : (2 ≤ w) × (w ≤ max_side) × (w % 2 ≡ 0)
+  pub height : (2 ≤ h) × (h ≤ max_side) × (h % 2 ≡ 0)
   pub even : (k : ℕ) (b : Box2) → slice_get boxes k ≡ Some b → IsEven b
   pub sides : (k : ℕ) (b : Box2) → slice_get boxes k ≡ Some b → (2 ≤ b.w) × (2 ≤ b.h)
 
@@ -97,8 +98,8 @@ owner_of o x y = slice_index o.numbers (block_index y * (o.width / 2) + block_in
 
 -- its sides, and one number for each block
 pub record IsOwnersTable (o : OwnersView) : Type 0 where
-  pub width : (2 ≤ o.width) × (o.width ≤ 512) × (o.width % 2 ≡ 0)
-  pub height : (2 ≤ o.height) × (o.height ≤ 512) × (o.height % 2 ≡ 0)
+  pub width : (2 ≤ o.width) × (o.width ≤ max_side) × (o.width % 2 ≡ 0)
+  pub height : (2 ≤ o.height) × (o.height ≤ max_side) × (o.height % 2 ≡ 0)
   pub sized : length o.numbers ≡ (o.height / 2) * (o.width / 2)
 
 -- the boxes tile the rectangle, and the number for each of its cells is that of the box that has the cell
@@ -128,7 +129,7 @@ AreEvenInside o boxes = (i : ℕ) (b : Box2) → slice_get boxes i ≡ Some b �
 
 -- the number at the blocks that no box has so far; each box has a lower one
 abbrev pub no_owner : ℕ
-no_owner = 65536
+no_owner = max_owners
 
 -- The boxes so far are even and inside the rectangle, and no two have a block in common. The number for each block is
 -- that of the box that has it, or `no_owner` if none has it.

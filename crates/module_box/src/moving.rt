@@ -7,7 +7,7 @@ ghost use Rattle.module_box.specs.Moves.{IsInShiftRange, IsSmallShift, moved_cel
 use crate::schedules::{AllTimesSignal, Moment, Schedule, TimedSignal};
 use bbm_rule::Cell;
 
-/// Returns the cell that lies `dx` columns and `dy` rows further. All these numbers are from -1024 to 1023.
+/// Returns the cell that lies `dx` columns and `dy` rows further. All these numbers are from -8192 to 8191.
 pub fn moved_cell(cell: Cell, dx: i32, dy: i32) -> Cell
     requires cell { IsInShiftRange cell }
     requires small_shift { IsSmallShift dx × IsSmallShift dy }
@@ -19,8 +19,8 @@ pub fn moved_cell(cell: Cell, dx: i32, dy: i32) -> Cell
     }
 }
 
-/// Returns the event at the cell that lies `dx` columns and `dy` rows further. All these numbers are from -1024 to
-/// 1023.
+/// Returns the event at the cell that lies `dx` columns and `dy` rows further. All these numbers are from -8192 to
+/// 8191.
 pub fn moved_event(event: TimedSignal, dx: i32, dy: i32) -> TimedSignal
     requires cell { IsInShiftRange event.at.cell }
     requires small_shift { IsSmallShift dx × IsSmallShift dy }
@@ -59,7 +59,7 @@ fn move_events(events: &mut Vec<TimedSignal>, dx: i32, dy: i32)
 
 impl Schedule {
     /// Returns the same signals at the cells that lie `dx` columns and `dy` rows further. All these numbers are from
-    /// -1024 to 1023. It takes no memory.
+    /// -8192 to 8191. It takes no memory.
     pub fn moved(self, dx: i32, dy: i32) -> Schedule
         requires all_times { All (λ h. IsInShiftRange h.cell) self.all_times }
         requires events { All (λ e. IsInShiftRange e.at.cell) self.events }

@@ -4,14 +4,15 @@ ghost use Rattle.std.specs.Prelude.{◌≡◌, ◌≤◌, ◌%◌, ◌↔◌, []
 ghost use Rattle.bbm_rule.specs.Boxes.{in_box, IsEven};
 ghost use Rattle.bbm_rule.specs.declared.block.Box2.{Box2};
 ghost use Rattle.module_box.specs.Tiling.{ArePartOwners, AreAllTaken, IsFreeBox, IsInside, IsOwnerOrNone, MayPut, PutsBox, owner_of, rectangle};
+ghost use Rattle.lemmas.specs.Bounds.{max_side};
 
 use crate::taking::{fill_box_until_taken, first_free_place, is_box_free};
 use bbm_rule::{Box2, Cell};
 use std::alloc::{AllocError, Global};
 use std::marker::Model;
 
-// A rectangle has at most 65,536 blocks, so no box that takes some of them has this number.
-const NO_OWNER: usize = 65_536;
+// A rectangle has at most 4,194,304 blocks, so no box that takes some of them has this number.
+const NO_OWNER: usize = 4_194_304;
 
 /// A table of the box that has each cell of a rectangle, whose upper left corner is the cell (0, 0).
 ///
@@ -40,8 +41,8 @@ impl Owners {
     /// Creates a table without boxes.
     #[tactic(auto, using(crate::proofs::PartOwners::no_box))]
     pub fn new(alloc: Global, width: u32, height: u32) -> Result<Owners, AllocError>
-        requires width { (2 ≤ width) × (width ≤ 512) × (width % 2 ≡ 0) }
-        requires height { (2 ≤ height) × (height ≤ 512) × (height % 2 ≡ 0) }
+        requires width { (2 ≤ width) × (width ≤ max_side) × (width % 2 ≡ 0) }
+        requires height { (2 ≤ height) × (height ≤ max_side) × (height % 2 ≡ 0) }
         ensures width { IfOk result (λ owners. owners.width ≡ width) }
         ensures height { IfOk result (λ owners. owners.height ≡ height) }
         ensures no_box { IfOk result (λ owners. ArePartOwners owners []) }

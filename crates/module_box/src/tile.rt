@@ -4,6 +4,7 @@ ghost use Rattle.std.specs.Prelude.{◌≡◌, ◌<◌, ◌≤◌, ◌+◌, ◌�
 ghost use Rattle.bbm_rule.specs.declared.block.Box2.{Box2};
 ghost use Rattle.module_box.specs.declared.tile.TileFault.TheVariants.{Memory};
 ghost use Rattle.module_box.specs.Tiling.{AreOwners, AreFirstBoxesInside, MayHaveOwnerTable, IsTileFault, IsInside, block_corner_x, block_corner_y};
+ghost use Rattle.lemmas.specs.Bounds.{max_blocks};
 
 use crate::owners::Owners;
 use crate::taking::{fill_box_until_taken, first_free_place};
@@ -60,8 +61,8 @@ fn first_box_outside(width: u32, height: u32, boxes: &[Box2]) -> usize
 
 // the upper left cell of the block at a place.
 fn block_corner(columns: usize, place: usize) -> Cell
-    requires columns { (0 < columns) × (columns ≤ 256) }
-    requires place { place < 256 * columns }
+    requires columns { (0 < columns) × (columns ≤ max_blocks) }
+    requires place { place < max_blocks * columns }
     ensures { (result.x ≡ block_corner_x columns place)
         × (result.y ≡ block_corner_y columns place) }
 {
@@ -73,7 +74,7 @@ fn block_corner(columns: usize, place: usize) -> Cell
 
 /// Returns which box has each cell of a rectangle, whose upper left corner is the cell (0, 0).
 ///
-/// Width and height are even, from 2 to 512 cells. Corners and sides of the boxes are even, and the sides are at least
+/// Width and height are even, from 2 to 4096 cells. Corners and sides of the boxes are even, and the sides are at least
 /// 2. Boxes are numbered from 0 in the order given. It takes some steps for each block and for each box, whether there
 /// is a fault or not.
 ///

@@ -15,6 +15,7 @@ use Rattle.module_job.specs.declared.job.Demand.{Demand}
 use Rattle.module_job.specs.declared.job.Demand.TheVariants as Demanded
 use Rattle.module_job.specs.declared.job.Stop.{Stop}
 use Rattle.module_box.specs.Places.{place_in}
+use Rattle.lemmas.specs.Bounds.{max_side, max_steps}
 
 -- Box and steps; the module's wires and gates by numbers of its own; what each cell of the box carries at time 0, and
 -- what it is to be at the last time, row by row; what the cells of ring and halo carry at odd times; its stops; and the
@@ -58,13 +59,13 @@ pub record IsStopOf (j : JobView) (s : Stop) : Type 0 where
 abbrev pub stop_moment : Stop → Moment
 stop_moment s = s.at
 
--- A job within the limits of a certificate: its box is even, has sides of 2 to 64 and lies in a rectangle of 512 by 512
--- cells. It has at most 65,536 steps, it names its own wires, and its stops rise by time, y and x.
+-- A job within the limits of a certificate: its box is even, has sides of 2 to 64 and lies in a rectangle of 4096 by
+-- 4096 cells. It has at most 65,536 steps, it names its own wires, and its stops rise by time, y and x.
 pub record IsJob (j : JobView) : Type 0 where
   pub even : IsEven j.area
-  pub width : (2 ≤ j.area.w) × (j.area.w ≤ 64) × (j.area.x + j.area.w ≤ 512)
-  pub height : (2 ≤ j.area.h) × (j.area.h ≤ 64) × (j.area.y + j.area.h ≤ 512)
-  pub steps : j.steps ≤ 65536
+  pub width : (2 ≤ j.area.w) × (j.area.w ≤ 64) × (j.area.x + j.area.w ≤ max_side)
+  pub height : (2 ≤ j.area.h) × (j.area.h ≤ 64) × (j.area.y + j.area.h ≤ max_side)
+  pub steps : j.steps ≤ max_steps
   pub own : NamesOwnWires j
   pub stops : All (IsStopOf j) j.stops
   pub stops_rise : IsRising moment_cmp stop_moment j.stops

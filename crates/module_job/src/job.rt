@@ -7,6 +7,7 @@ ghost use Rattle.module_box.specs.Moves.{IsInShiftRange, IsSmallShift};
 ghost use Rattle.module_box.specs.Schedules.{signal_at};
 ghost use Rattle.module_job.specs.Jobs.{IsJob, job_demand, job_start};
 ghost use Rattle.module_job.specs.Shapes.{shift_to_origin, shape_of};
+ghost use Rattle.lemmas.specs.Bounds.{max_side};
 
 use crate::shape::Shape;
 use crate::stops::moved_stop;
@@ -75,7 +76,7 @@ impl Model for Job {
 
 /// Returns how far to move the cells of a box with this corner so that its corner comes to (0, 0).
 pub fn shift_to_origin(corner: u32) -> i32
-    requires { corner ≤ 512 }
+    requires { corner ≤ max_side }
     ensures distance_is_exact { result ≡ shift_to_origin corner }
     ensures shift_small { IsSmallShift result }
 {
@@ -84,7 +85,7 @@ pub fn shift_to_origin(corner: u32) -> i32
 
 // How far they are moved to come from there to the box.
 fn shift_from_origin(corner: u32) -> i32
-    requires { corner ≤ 512 }
+    requires { corner ≤ max_side }
     ensures distance_is_exact { result ≡ pos corner }
     ensures shift_small { IsSmallShift result }
 {
@@ -94,7 +95,7 @@ fn shift_from_origin(corner: u32) -> i32
 impl Job {
     /// Returns the box of the module.
     ///
-    /// Its corner and sides are even, its sides 2 to 64, and it lies in a rectangle of 512 by 512 cells.
+    /// Its corner and sides are even, its sides 2 to 64, and it lies in a rectangle of 4096 by 4096 cells.
     pub fn area(&self) -> Box2
         ensures area { result ≡ self.now.area }
         ensures job_valid { IsJob self.now }
@@ -180,7 +181,7 @@ impl Job {
         self.shape.demand(place_in(area, cell))
     }
 
-    /// Returns what a cell of the ring carries at an odd time. Coordinates are from -1024 to 1023.
+    /// Returns what a cell of the ring carries at an odd time. Coordinates are from -8192 to 8191.
     #[tactic(auto, using(crate::proofs::ShapeParts::carried))]
     pub fn edge(&self, time: u32, cell: Cell) -> Signal
         requires { IsInShiftRange cell }
@@ -190,7 +191,7 @@ impl Job {
         self.shape.edges().at(time, own)
     }
 
-    /// Returns what a cell of the halo carries at an odd time. Coordinates are from -1024 to 1023.
+    /// Returns what a cell of the halo carries at an odd time. Coordinates are from -8192 to 8191.
     #[tactic(auto, using(crate::proofs::ShapeParts::carried))]
     pub fn halo(&self, time: u32, cell: Cell) -> Signal
         requires { IsInShiftRange cell }

@@ -8,7 +8,7 @@ use crate::job::Stop;
 use module_box::{Moment, moved_cell};
 use std::alloc::{AllocError, Global};
 
-/// Returns the stop at the cell that lies `dx` columns and `dy` rows further. All these numbers are from -1024 to 1023.
+/// Returns the stop at the cell that lies `dx` columns and `dy` rows further. All these numbers are from -8192 to 8191.
 pub(crate) fn moved_stop(stop: Stop, dx: i32, dy: i32) -> Stop
     requires cell { IsInShiftRange stop.at.cell }
     requires small_shift { IsSmallShift dx × IsSmallShift dy }

@@ -8,12 +8,13 @@ use Rattle.pattern.proofs.Imports.{zero, ℕ, ℤ, ◌%◌, ◌&&◌, ◌++◌, 
 use Rattle.lemmas.proofs.Common.{list_all-append, list_all-map, left_is_true, right_is_true}
 use Rattle.bbm_rule.specs.Boxes.{in_box}
 use Rattle.pattern.proofs.TakenLemmas.{mirror_fits}
+use Rattle.lemmas.specs.Bounds.{max_side}
 
 -- ---- the size
 
 pub record IsSideLength (n : ℕ) : Type 0 where
   pub least : 2 ≤ n
-  pub most : n ≤ 512
+  pub most : n ≤ max_side
   pub even : n % 2 ≡ 0
 
 no_code : (a : Bool) (n : RefusalCode) → code_if (not a) n ≡ None → a ≡ true
@@ -54,9 +55,9 @@ begins_inside p h =
     grind (arith, common_steps, parts_inside, list_all-append, right_is_true, list_all-map, left_is_true)
 
 pub mirrors_fit : (s : LayoutHeader) (rs : List Box2) → list_all (λ r. is_inside s (Mirror r)) rs ≡ true →
-    s.w ≤ 512 →
-    s.h ≤ 512 → (k : ℕ) (d : Box2) → k < length rs →
-    ((get_or rs k d).x + (get_or rs k d).w ≤ 512) × ((get_or rs k d).y + (get_or rs k d).h ≤ 512)
+    s.w ≤ max_side →
+    s.h ≤ max_side → (k : ℕ) (d : Box2) → k < length rs →
+    ((get_or rs k d).x + (get_or rs k d).w ≤ max_side) × ((get_or rs k d).y + (get_or rs k d).h ≤ max_side)
 mirrors_fit s [] e w h k d lt = absurd (omega arith)
 mirrors_fit s (r ∷ rs) e w h zero d lt = let f = mirror_fits s r (left_is_true _ _ e) in
     (omega (arith, f.0), omega (arith, f.1))

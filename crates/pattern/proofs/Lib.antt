@@ -13,3 +13,4 @@ pub mod Spelling
 pub mod RoundTrip
 pub mod PortLines
 pub mod Imports
+pub mod LimitLaws

@@ -2,6 +2,7 @@
 use Rattle.pattern.proofs.Imports.{AllByRecursion, AreNamed, LayoutHeader, LayoutLine, List, None, Option}
 use Rattle.pattern.proofs.Imports.{PortNameLists, [], arith, common_steps, layout_grammar, line_fault, name_fault, ◌++◌}
 use Rattle.pattern.proofs.Imports.{◌∷◌, ◌≡◌}
+use Rattle.section_text.specs.declared.limits.Limits.{Limits}
 use Rattle.section_text.proofs.Good.{AreFaultless, IsFaultless}
 use Rattle.pattern.specs.Lines.{layout_line_fault}
 use Rattle.pattern.proofs.ReadingLemmas.{no_code_first, no_code_second}
@@ -11,13 +12,15 @@ named_part : (ports : Option PortNameLists) (s : LayoutHeader) (before : List La
 unfolding layout_line_fault line_fault
 named_part ports s before part e = grind (arith, common_steps, no_code_first, no_code_second)
 
-named_parts : (ports : Option PortNameLists) (s : LayoutHeader) (before parts : List LayoutLine) →
-    AreFaultless (layout_grammar ports) s before parts → AllByRecursion (λ part. name_fault ports part ≡ None) parts
-named_parts ports s before [] good = tt
-named_parts ports s before (part ∷ parts) good =
-    (named_part ports s before part good.0, named_parts ports s (before ++ part ∷ []) parts good.1)
+named_parts : (l : Limits) (ports : Option PortNameLists) (s : LayoutHeader) (before parts : List LayoutLine) →
+    AreFaultless (layout_grammar l ports) s before parts → AllByRecursion (λ part. name_fault ports part ≡ None) parts
+named_parts l ports s before [] good = tt
+named_parts l ports s before (part ∷ parts) good = (
+  named_part ports s before part (no_code_second _ _ (no_code_second _ _ good.0)),
+  named_parts l ports s (before ++ part ∷ []) parts good.1,
+)
 
 -- where they have no fault
-pub faultless_named : (ports : Option PortNameLists) (s : LayoutHeader) (parts : List LayoutLine) →
-    IsFaultless (layout_grammar ports) s parts → AreNamed ports parts
-faultless_named ports s parts good = grind (arith, common_steps, named_parts)
+pub faultless_named : (l : Limits) (ports : Option PortNameLists) (s : LayoutHeader) (parts : List LayoutLine) →
+    IsFaultless (layout_grammar l ports) s parts → AreNamed ports parts
+faultless_named l ports s parts good = grind (arith, common_steps, named_parts)

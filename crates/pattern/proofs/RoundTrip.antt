@@ -11,14 +11,14 @@ use Rattle.pattern.proofs.Spelling.{form_line}
 
 pub prints_what_is_read : PrintsWhatIsRead
 unfolding layout_text
-prints_what_is_read ports n ls p e =
-    section_text_is (layout_grammar ports) form_text form_line n ls p.size (parts_of p) e
+prints_what_is_read l ports n ls p e =
+    section_text_is (layout_grammar l ports) form_text form_line n ls p.size (parts_of p) e
     ∙ sym (append_assoc (form_text (Header p.size)) (flat_map (λ i. form_text (Item i)) (parts_of p)) (form_text End))
 
 pub reads_what_is_printed : ReadsWhatIsPrinted
-reads_what_is_printed ports text from n m p e =
+reads_what_is_printed l ports text from n m p e =
     let ls = drop from (lines_of text) in
-    let printed = prints_what_is_read ports n ls p e in
-    ap (λ (t : List ℕ). section_of (layout_grammar ports) m (lines_of t)) (sym printed)
-    ∙ ap (section_of (layout_grammar ports) m) (lines_of_lines text from (length (parts_of p) + 2))
-    ∙ section_again (layout_grammar ports) n m ls p.size (parts_of p) e
+    let printed = prints_what_is_read l ports n ls p e in
+    ap (λ (t : List ℕ). section_of (layout_grammar l ports) m (lines_of t)) (sym printed)
+    ∙ ap (section_of (layout_grammar l ports) m) (lines_of_lines text from (length (parts_of p) + 2))
+    ∙ section_again (layout_grammar l ports) n m ls p.size (parts_of p) e

@@ -10,13 +10,14 @@ use Rattle.lemmas.proofs.Common.{if◌then◌else◌, All-from_recursion, and_pa
 use Rattle.pattern.specs.DraftBoards.{LiesOn}
 use Rattle.pattern.proofs.Added.{no_code, begun_push, ended_push}
 use Rattle.bbm_rule.specs.Board.{Board, live, is_inside as is_on_board}
+use Rattle.lemmas.specs.Bounds.{max_side, max_steps}
 
 -- ---- a size within its limits
 
 pub record IsSized (s : LayoutHeader) : Type 0 where
-  pub width : (2 ≤ s.w) × (s.w ≤ 512) × (s.w % 2 ≡ 0)
-  pub height : (2 ≤ s.h) × (s.h ≤ 512) × (s.h % 2 ≡ 0)
-  pub steps : s.steps ≤ 65536
+  pub width : (2 ≤ s.w) × (s.w ≤ max_side) × (s.w % 2 ≡ 0)
+  pub height : (2 ≤ s.h) × (s.h ≤ max_side) × (s.h % 2 ≡ 0)
+  pub steps : s.steps ≤ max_steps
 
 all_three : (a b c : Bool) → not (a && b && c) ≡ false → (a ≡ true) × (b ≡ true) × (c ≡ true)
 all_three true true true e = (refl, refl, refl)
@@ -24,7 +25,7 @@ all_three true true false e = absurd cc
 all_three true false c e = absurd cc
 all_three false b c e = absurd cc
 
-side : (n : ℕ) → is_layout_side n ≡ true → (2 ≤ n) × (n ≤ 512) × (n % 2 ≡ 0)
+side : (n : ℕ) → is_layout_side n ≡ true → (2 ≤ n) × (n ≤ max_side) × (n % 2 ≡ 0)
 side n e = grind (arith, nat_tests)
 
 pub is_sized : (s : LayoutHeader) → size_fault s ≡ None → IsSized s
@@ -117,7 +118,7 @@ one_lies_on b part c are on =
 
 -- where the corner of a mirror on a board is
 pub mirror_lies_on : (b : Board) (part : LayoutLine) (r : Box2) → part ≡ Mirror r → LiesOn b part →
-    ((r.x + r.w ≤ b.width) × (r.x + r.w ≤ 512)) × ((r.y + r.h ≤ b.height) × (r.y + r.h ≤ 512))
+    ((r.x + r.w ≤ b.width) × (r.x + r.w ≤ max_side)) × ((r.y + r.h ≤ b.height) × (r.y + r.h ≤ max_side))
 mirror_lies_on b part r is on =
     let size : LayoutHeader = record { w = b.width; h = b.height; steps = 0 } in
     let fits = mirror_fits size r (subst (λ (p : LayoutLine). is_inside size p ≡ true) is on.inside) in

@@ -8,6 +8,8 @@ use Rattle.bbm_rule.specs.Plane.{State, is_at}
 use Rattle.bbm_rule.specs.declared.block.Cell.{Cell}
 use Rattle.section_text.specs.Words.{has}
 use Rattle.section_text.specs.Codes.{code_if, or_else}
+use Rattle.section_text.specs.Limits.{most_side, most_steps}
+use Rattle.section_text.specs.declared.limits.Limits.{Limits}
 use Rattle.section_text.specs.Ports.{PortNameLists}
 use Rattle.pattern.specs.declared.layout_line.LayoutHeader.{LayoutHeader}
 use Rattle.pattern.specs.declared.layout_line.LayoutLine.{LayoutLine}
@@ -17,25 +19,36 @@ use Rattle.pattern.specs.Layout.{in_layout}
 use Rattle.section_text.specs.declared.code.RefusalCode.{RefusalCode}
 use Rattle.section_text.specs.declared.code.RefusalCode.TheVariants.{PastLimit, UnknownName, OutOfOrder, TakenCell}
 use Rattle.section_text.specs.declared.code.RefusalCode.TheVariants.{SomethingMissing}
+use Rattle.lemmas.specs.Bounds.{max_side, max_steps}
 
 -- ---- limits
 
 -- whether a side of the rectangle is within its limits
 abbrev pub is_layout_side : ℕ → Bool
-is_layout_side n = nat_le 2 n && nat_le n 512 && (n % 2 == 0)
+is_layout_side n = nat_le 2 n && nat_le n max_side && (n % 2 == 0)
 
--- width and height even, 2 to 512; at most 65,536 steps
+-- width and height even, 2 to 4096; at most 1,048,576 steps
 unfoldable pub size_fault : LayoutHeader → Option RefusalCode
-size_fault s = code_if (not (is_layout_side s.w && is_layout_side s.h && nat_le s.steps 65536)) PastLimit
+size_fault s = code_if (not (is_layout_side s.w && is_layout_side s.h && nat_le s.steps max_steps)) PastLimit
 
 -- whether a side of a mirror is within its limits
 abbrev pub is_mirror_side : ℕ → Bool
-is_mirror_side n = nat_le 1 n && nat_le n 512
+is_mirror_side n = nat_le 1 n && nat_le n max_side
 
--- the sides of a mirror are 1 to 512
+-- the sides of a mirror are 1 to 4096
 unfoldable pub limit_fault : LayoutLine → Option RefusalCode
 limit_fault (Mirror r) = code_if (not (is_mirror_side r.w && is_mirror_side r.h)) PastLimit
 limit_fault _ = None
+
+-- the code of a size outside the limits of its text
+unfoldable pub text_size_fault : Limits → LayoutHeader → Option RefusalCode
+text_size_fault l s =
+    code_if (nat_lt (most_side l) s.w || (nat_lt (most_side l) s.h || nat_lt (most_steps l) s.steps)) PastLimit
+
+-- the code of a mirror outside the limits of its text
+unfoldable pub text_limit_fault : Limits → LayoutLine → Option RefusalCode
+text_limit_fault l (Mirror r) = code_if (nat_lt (most_side l) r.w || nat_lt (most_side l) r.h) PastLimit
+text_limit_fault l _ = None
 
 -- ---- order
 

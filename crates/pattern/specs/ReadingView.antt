@@ -10,7 +10,7 @@ use Rattle.pattern.specs.Readings.{ReadingView}
 
 -- the view of a reader, from its fields
 abbrev pub reading_view : Inside → ReadingView
-reading_view a = record { ports = named_ports a.ports.now; layout = a.draft }
+reading_view a = record { limits = a.limits; ports = named_ports a.ports.now; layout = a.draft }
 
 -- the fields of every reader: its sets of names are those of its ports and of its lines
 pub record IsReading (a : Inside) : Type 0 where

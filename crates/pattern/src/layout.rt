@@ -11,7 +11,7 @@ use std::marker::Model;
 
 /// A layout: a rectangle of cells, and its contents. Contracts see its size and its lists, as a `Pattern`.
 ///
-/// Width and height are even, 2 to 512, and the steps are at most 65,536. All cells lie inside. Mirrors, balls and
+/// Width and height are even, 2 to 4096, and the steps are at most 1,048,576. All cells lie inside. Mirrors, balls and
 /// input cells share no cell. Mirrors, output cells and waste cells share no cell.
 #[derive(Drop)]
 pub struct Layout {
@@ -101,7 +101,7 @@ impl Layout {
         Ok(())
     }
 
-    /// Returns the width and the height, in cells, and the steps: even sides of 2 to 512, and at most 65,536 steps.
+    /// Returns the width and the height, in cells, and the steps: even sides of 2 to 4096, and at most 1,048,576 steps.
     pub fn size(&self) -> LayoutHeader
         ensures size { result ≡ self.now.size }
         ensures limits { size_fault result ≡ None }

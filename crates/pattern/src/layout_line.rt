@@ -1,7 +1,7 @@
 //! The parts of a layout: rectangles, ports, and its lines.
 //!
-//! In a layout the sides of the whole rectangle are even, 2 to 512, and the steps are at most 65,536. The sides of a
-//! mirror are 1 to 512, and all cells lie inside.
+//! In a layout the sides of the whole rectangle are even, 2 to 4096, and the steps are at most 1,048,576. The sides of
+//! a mirror are 1 to 4096, and all cells lie inside.
 //!
 //! - `Mirror`: cells that are live at the start and at the end.
 //! - `Ball`: a cell that is live at the start.
@@ -10,10 +10,10 @@
 //! - `Waste`: a cell that may be live or dead at the end.
 ghost use Rattle.std.specs.Prelude.{◌≡◌, ◌+◌, ◌&&◌, nat_le};
 ghost use Rattle.pattern.specs.Layout.{in_layout};
-ghost use Rattle.pattern.specs.Lines.{takes_at_start, takes_at_end, is_inside, is_layout_side, is_mirror_side, limit_fault, size_fault};
+ghost use Rattle.pattern.specs.Lines.{takes_at_start, takes_at_end, is_inside, is_layout_side, is_mirror_side, limit_fault, size_fault, text_limit_fault, text_size_fault};
 
 use bbm_rule::{Box2, Cell};
-use section_text::{Name, RefusalCode};
+use section_text::{Limits, MAX_SIDE, MAX_STEPS, Name, RefusalCode};
 
 /// A cell of an input or of an output, with the name of its wire. Several cells may have one name.
 #[derive(Clone, Copy)]
@@ -43,13 +43,13 @@ pub enum LayoutLine {
 fn is_side_in_limits(n: u32) -> bool
     ensures { result ≡ is_layout_side n }
 {
-    2 <= n && n <= 512 && n % 2 == 0
+    2 <= n && n <= MAX_SIDE && n % 2 == 0
 }
 
 fn are_mirror_sides_in_limits(r: Box2) -> bool
     ensures { result ≡ (is_mirror_side r.w && is_mirror_side r.h) }
 {
-    1 <= r.w && r.w <= 512 && 1 <= r.h && r.h <= 512
+    1 <= r.w && r.w <= MAX_SIDE && 1 <= r.h && r.h <= MAX_SIDE
 }
 
 fn fits(r: Box2, size: LayoutHeader) -> bool
@@ -65,10 +65,25 @@ impl LayoutHeader {
     pub(crate) fn limit_code(self) -> Option<RefusalCode>
         ensures { result ≡ size_fault self }
     {
-        if is_side_in_limits(self.w) && is_side_in_limits(self.h) && self.steps <= 65_536 {
+        if is_side_in_limits(self.w) && is_side_in_limits(self.h) && self.steps <= MAX_STEPS {
             None
         } else {
             Some(RefusalCode::PastLimit)
+        }
+    }
+
+    /// Returns code 2 if a side or the steps are outside the limits of the text.
+    #[tactic(auto, unfolding(crate::specs::Lines::text_size_fault))]
+    pub(crate) fn text_limit_code(self, limits: Limits) -> Option<RefusalCode>
+        ensures { result ≡ text_size_fault limits self }
+    {
+        if self.w > limits.most_side()
+            || self.h > limits.most_side()
+            || self.steps > limits.most_steps()
+        {
+            Some(RefusalCode::PastLimit)
+        } else {
+            None
         }
     }
 
@@ -125,6 +140,23 @@ impl LayoutLine {
                     None
                 } else {
                     Some(RefusalCode::PastLimit)
+                }
+            }
+            _ => None,
+        }
+    }
+
+    /// Returns code 2 if a side of a mirror is outside the limits of the text.
+    #[tactic(auto, unfolding(crate::specs::Lines::text_limit_fault))]
+    pub(crate) fn text_limit_code(&self, limits: Limits) -> Option<RefusalCode>
+        ensures { result ≡ text_limit_fault limits self.now }
+    {
+        match self {
+            LayoutLine::Mirror(r) => {
+                if r.w > limits.most_side() || r.h > limits.most_side() {
+                    Some(RefusalCode::PastLimit)
+                } else {
+                    None
                 }
             }
             _ => None,

@@ -20,5 +20,5 @@ pub use layout::Layout;
 pub use layout_line::{LayoutHeader, LayoutLine, Port};
 pub use names_on::are_on;
 pub use printing::{print_box, print_cell, print_layout};
-pub use reading::read_layout;
+pub use reading::{read_layout, read_layout_within};
 pub use run::{RunEnd, run_plain, start_cells};

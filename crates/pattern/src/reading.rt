@@ -6,6 +6,7 @@ ghost use Rattle.indexmap.specs.IndexSet.{spare};
 ghost use Rattle.section_text.specs.Section.{Reads};
 ghost use Rattle.section_text.specs.Ports.{named_ports};
 ghost use Rattle.section_text.specs.Words.{has};
+ghost use Rattle.section_text.specs.declared.limits.Limits.TheVariants.{First};
 ghost use Rattle.pattern.specs.Lines.{AreNamed, allows_any_name, is_in_line_named, is_out_line_named, may_name_input, may_name_output, line_fault, missing_fault, name_fault};
 ghost use Rattle.pattern.specs.Grammars.{layout_grammar, layout_section};
 
@@ -16,8 +17,8 @@ use crate::layout_line::{LayoutHeader, LayoutLine};
 use crate::names::{name_set, put_name_if_room};
 use indexmap::IndexSet;
 use section_text::{
-    Feed, Form, Line, LineFault, Name, NameHints, PortNames, ReadFault, RefusalCode, Section, Seed,
-    read_section,
+    Feed, Form, Limits, Line, LineFault, Name, NameHints, PortNames, ReadFault, RefusalCode,
+    Section, Seed, read_section,
 };
 use std::alloc::{AllocError, Global};
 use std::marker::Model;
@@ -26,6 +27,7 @@ use std::marker::Model;
 #[derive(Drop)]
 struct Reading<'a> {
     alloc: Global,
+    limits: Limits,
     ports: &'a PortNames,
     // the names that ports may have, where not all are good
     known_ins: IndexSet<Name, Seed>,
@@ -114,7 +116,13 @@ fn note_port_name_seen(
 impl<'a> Reading<'a> {
     // No lines. The size is that of the smallest layout, until the first line is read.
     #[tactic(auto, unfolding(crate::specs::Lines::size_fault))]
-    fn new(alloc: Global, seed: Seed, ports: &'a PortNames) -> Result<Reading<'a>, AllocError>
+    fn new(
+        alloc: Global,
+        limits: Limits,
+        seed: Seed,
+        ports: &'a PortNames,
+    ) -> Result<Reading<'a>, AllocError>
+        ensures limits { IfOk result (λ reading. reading.limits ≡ limits) }
         ensures ports { IfOk result (λ reading. reading.ports ≡ named_ports ports.now) }
         ensures parts { IfOk result (λ reading. parts_of reading.layout ≡ []) }
     {
@@ -130,6 +138,7 @@ impl<'a> Reading<'a> {
         let draft = Draft::new(alloc, smallest)?;
         Ok(Reading {
             alloc,
+            limits,
             ports,
             known_ins,
             known_outs,
@@ -146,6 +155,7 @@ impl<'a> Reading<'a> {
     {
         let Reading {
             alloc: _,
+            limits: _,
             ports: _,
             known_ins: _,
             known_outs: _,
@@ -234,7 +244,7 @@ impl<'a> Section for Reading<'a> {
 
     type Item = LayoutLine;
 
-    ghost grammar = { λ r. layout_grammar r.ports };
+    ghost grammar = { λ r. layout_grammar r.limits r.ports };
 
     ghost header = { λ r. r.layout.size };
 
@@ -245,6 +255,9 @@ impl<'a> Section for Reading<'a> {
     }
 
     fn begin(&mut self, size: LayoutHeader) -> Result<(), LineFault> {
+        if let Some(code) = size.text_limit_code(self.limits) {
+            return Err(LineFault::Code(code));
+        }
         if let Some(code) = size.limit_code() {
             return Err(LineFault::Code(code));
         }
@@ -257,6 +270,12 @@ impl<'a> Section for Reading<'a> {
 
     #[tactic(auto, using(crate::proofs::ReadingLemmas::in_order, crate::proofs::ReadingLemmas::in_limits), unfolding(crate::specs::Lines::layout_line_fault))]
     fn add(&mut self, part: LayoutLine) -> Result<(), LineFault> {
+        if let Some(code) = self.draft.order_code(&part) {
+            return Err(LineFault::Code(code));
+        }
+        if let Some(code) = part.text_limit_code(self.limits) {
+            return Err(LineFault::Code(code));
+        }
         if let Some(code) = self.line_code(&part) {
             return Err(LineFault::Code(code));
         }
@@ -292,7 +311,18 @@ impl<'a> Section for Reading<'a> {
     }
 }
 
-/// Reads a layout section: the size line, mirrors, balls, inputs, outputs and wastes in this order, and `end`.
+/// Reads a layout section as `read_layout_within` does, of at most 512 by 512 cells and 65,536 steps.
+pub fn read_layout(alloc: Global, feed: &mut Feed, ports: &PortNames) -> Result<Layout, ReadFault>
+    requires { feed.old.closed ≡ true }
+    ensures reads { Reads (layout_grammar First (named_ports ports.now)) layout_section
+        feed.old feed.new result }
+    ensures names { IfOk result (λ l. AreNamed (named_ports ports.now) (parts_of l)) }
+{
+    read_layout_within(alloc, feed, Limits::First, ports)
+}
+
+/// Reads a layout section of a text with these limits: the size line, mirrors, balls, inputs, outputs and wastes in
+/// this order, and `end`.
 ///
 /// If the names of ports are given, an input cell has the name of an input, and an output cell that of an output. Each
 /// of them has a cell.
@@ -309,13 +339,18 @@ impl<'a> Section for Reading<'a> {
 /// - 2: a number is outside its limits;
 /// - 3: a port may not have this name;
 /// - 7: a cell is outside the layout, or is taken.
-pub fn read_layout(alloc: Global, feed: &mut Feed, ports: &PortNames) -> Result<Layout, ReadFault>
+pub fn read_layout_within(
+    alloc: Global,
+    feed: &mut Feed,
+    limits: Limits,
+    ports: &PortNames,
+) -> Result<Layout, ReadFault>
     requires { feed.old.closed ≡ true }
-    ensures reads { Reads (layout_grammar (named_ports ports.now)) layout_section feed.old feed.new
-        result }
+    ensures reads { Reads (layout_grammar limits (named_ports ports.now)) layout_section
+        feed.old feed.new result }
     ensures names { IfOk result (λ l. AreNamed (named_ports ports.now) (parts_of l)) }
 {
-    let Ok(mut reading) = Reading::new(alloc, feed.seed(), ports) else {
+    let Ok(mut reading) = Reading::new(alloc, limits, feed.seed(), ports) else {
         return Err(feed.starve());
     };
     let read = read_section(feed, &mut reading);

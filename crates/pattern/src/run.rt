@@ -6,6 +6,7 @@ ghost use Rattle.bbm_rule.specs.CellLists.{in_cells, rectangle_cells, row_cells}
 ghost use Rattle.pattern.specs.Layout.{start};
 ghost use Rattle.section_text.specs.Words.{has};
 ghost use Rattle.pattern.specs.Run.{IsRunEnd, RunLeaves, RunsInside, live_cells, start_cells_by_kind};
+ghost use Rattle.lemmas.specs.Bounds.{max_side};
 
 use crate::layout::Layout;
 use crate::layout_line::{LayoutHeader, Port};
@@ -25,7 +26,7 @@ pub enum RunEnd {
 }
 
 fn push_mirror_cells(out: &mut Vec<Cell>, mirrors: &[Box2]) -> Result<(), AllocError>
-    requires { All (λ r. (r.x + r.w ≤ 512) × (r.y + r.h ≤ 512)) mirrors.now }
+    requires { All (λ r. (r.x + r.w ≤ max_side) × (r.y + r.h ≤ max_side)) mirrors.now }
     ensures { OnOk result (out.new.items ≡ out.old.items ++ flat_map rectangle_cells mirrors.now) }
 {
     for mirror in mirrors {
@@ -109,8 +110,8 @@ fn run_until_leaving(grid: &mut Grid, size: LayoutHeader) -> Option<u32>
 
 // Puts the live ones of the first w cells of row y behind the others.
 fn push_live_row(out: &mut Vec<Cell>, grid: &Grid, w: u32, y: u32) -> Result<(), AllocError>
-    requires columns { (w ≤ grid.now.width) × (w ≤ 512) }
-    requires row { (y < grid.now.height) × (y < 512) }
+    requires columns { (w ≤ grid.now.width) × (w ≤ max_side) }
+    requires row { (y < grid.now.height) × (y < max_side) }
     ensures { OnOk result (out.new.items
         ≡ out.old.items ++ filter (λ c. live grid.now c.x c.y) (row_cells 0 w y)) }
 {
@@ -134,7 +135,7 @@ fn live_cells_in_order(
     size: LayoutHeader,
 ) -> Result<Vec<Cell>, AllocError>
     requires same_size { (grid.now.width ≡ size.w) × (grid.now.height ≡ size.h) }
-    requires sides_at_most_512 { (size.w ≤ 512) × (size.h ≤ 512) }
+    requires sides_at_most_max_side { (size.w ≤ max_side) × (size.h ≤ max_side) }
     ensures { IfOk result (λ cells. cells.items ≡ live_cells size (live grid.now)) }
 {
     let mut cells = Vec::new(alloc);

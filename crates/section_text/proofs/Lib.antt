@@ -1,4 +1,5 @@
 pub mod LineFeeds
+pub mod FrontBytes
 pub mod Lines
 pub mod Digits
 pub mod NameLemmas

@@ -6,10 +6,6 @@ use Rattle.section_text.specs.Faults.{refusal}
 use Rattle.section_text.specs.declared.fault.ReadFault.{ReadFault}
 use Rattle.section_text.specs.declared.code.RefusalCode.TheVariants.{TextCut}
 
--- the most bytes of a text, 16 MiB
-abbrev pub text_limit : ℕ
-text_limit = 16777216
-
 -- a feed: its text, how many lines were taken, whether it is closed, and its fault
 pub record FeedView : Type 0 where
   -- the pieces so far, joined

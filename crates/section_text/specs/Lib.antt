@@ -10,6 +10,7 @@ pub mod Spelling
 pub mod Sections
 pub mod Laws
 pub mod Ports
+pub mod Limits
 pub mod Listed
 pub mod SaidSection
 pub mod Seeding

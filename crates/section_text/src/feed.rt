@@ -8,10 +8,14 @@ ghost use Rattle.section_text.specs.declared.fault.ReadFault.TheVariants.{Memory
 ghost use Rattle.section_text.specs.Listed.{list_of_three_words, list_of_four_words, list_of_five_words};
 ghost use Rattle.section_text.specs.Faults.{refusal};
 ghost use Rattle.section_text.specs.Section.{with_line_feed};
-ghost use Rattle.section_text.specs.Feeds.{FeedView, ahead, IsLine, line_bytes, text_limit, TakesLine, RunsOut};
+ghost use Rattle.section_text.specs.Limits.{front_bytes, front_lines, is_first_line, limits_of, own_text_limit};
+ghost use Rattle.section_text.specs.Feeds.{FeedView, ahead, feed_after_lines, IsLine, line_bytes, TakesLine, RunsOut};
+ghost use Rattle.std.specs.Str.{bytes_eq};
+ghost use Rattle.lemmas.specs.Bounds.{max_text};
 
 use crate::code::RefusalCode;
 use crate::fault::{PushFault, ReadFault, Refusal};
+use crate::limits::Limits;
 use crate::name::Name;
 use crate::names::Names;
 use crate::number::read_number;
@@ -25,13 +29,10 @@ use memchr::memchr;
 use std::alloc::Global;
 use std::marker::Model;
 
-/// The limit on the length of a text, in bytes: 16 MiB.
-pub const MAX_TEXT_BYTES: usize = 16_777_216;
-
 /// A text that comes in pieces and is then taken line by line.
 ///
 /// It takes pieces until it is closed, and readers take its lines after that. The text is the pieces joined, wherever
-/// it was cut. It has at most 16,777,216 bytes.
+/// it was cut. It has at most 16,777,216 bytes, or 268,435,456 if it begins with the line `limits 2`.
 ///
 /// A line ends at a line feed, which is not part of it. Its words are the parts between spaces: two spaces in a row,
 /// and a space at an end, make an empty word. After a reader has met a fault, every later one answers that same fault,
@@ -83,6 +84,35 @@ fn first_line_feed(bytes: &[u8]) -> Option<usize>
     memchr(b'\n', bytes)
 }
 
+// The byte at a place of two joined pieces.
+fn joined_byte(first: &[u8], second: &[u8], place: usize) -> Option<u8>
+    ensures { result ≡ slice_get (first.now ++ second.now) place }
+{
+    if place < first.len() {
+        return Some(first[place]);
+    }
+    second.get(place - first.len()).copied()
+}
+
+// Whether two joined pieces begin with the line that chooses the second limits.
+#[tactic(auto, using(crate::proofs::FrontBytes::all_bytes, crate::proofs::FrontBytes::other_byte, crate::proofs::FrontBytes::same_more))]
+fn begins_with_front(first: &[u8], second: &[u8]) -> bool
+    ensures { result ≡ bytes_eq (take 9 (first.now ++ second.now)) front_bytes }
+{
+    let front = b"limits 2\n";
+    for place in 0..9 {
+        match joined_byte(first, second, place) {
+            Some(byte) => {
+                if byte != front[place] {
+                    return false;
+                }
+            }
+            None => return false,
+        }
+    }
+    true
+}
+
 impl Feed {
     /// Creates the empty text, not closed. It takes no memory until the first piece.
     ///
@@ -111,18 +141,26 @@ impl Feed {
     ///
     /// # Errors
     ///
-    /// `TooLong` if the text would have more than 16,777,216 bytes, and `Memory` if there is no memory for it. Both
-    /// change nothing.
+    /// `TooLong` if the text would have more than 16,777,216 bytes, or 268,435,456 if it begins with the line
+    /// `limits 2`, and `Memory` if there is no memory for it. Both change nothing.
     pub fn push(&mut self, piece: &[u8]) -> Result<(), PushFault>
         requires { self.old.closed ≡ false }
         ensures ok { OnOk result (self.new
             ≡ record self.old { text = self.old.text ++ piece.now }) }
         ensures err { OnErr result (self.new ≡ self.old) }
         ensures too_long { (result ≡ Err PushFault.TooLong)
-            ↔ (text_limit < length self.old.text + length piece.now) }
-        ensures text_within_limit { length self.new.text ≤ text_limit }
+            ↔ (own_text_limit (self.old.text ++ piece.now)
+            < length self.old.text + length piece.now) }
+        ensures text_within_limit { length self.new.text ≤ own_text_limit self.new.text }
+        ensures text_within_all_limits { length self.new.text ≤ max_text }
     {
-        if piece.len() > MAX_TEXT_BYTES - self.bytes.len() {
+        let limits = if begins_with_front(&self.bytes, piece) {
+            Limits::Second
+        } else {
+            Limits::First
+        };
+        let limit = limits.most_bytes();
+        if self.bytes.len() > limit || piece.len() > limit - self.bytes.len() {
             return Err(PushFault::TooLong);
         }
         match self.bytes.extend_from_slice(piece) {
@@ -192,6 +230,33 @@ impl Feed {
                 self.stop = Some(fault);
                 Err(fault)
             }
+        }
+    }
+
+    // Whether the next line is this one.
+    #[tactic(auto, using(crate::proofs::Lines::first_line, crate::proofs::Lines::no_line, crate::proofs::Lines::next_ahead))]
+    fn is_next(&self, line: &[u8]) -> bool
+        ensures { result ≡ is_first_line line.now (ahead self.now) }
+    {
+        match line_length(&self.bytes, self.at) {
+            Some(len) => &self.bytes[self.at..self.at + len] == line,
+            None => false,
+        }
+    }
+
+    /// Takes the line `limits 2` if it comes next. Returns the limits of the text.
+    pub fn take_limits(&mut self) -> Limits
+        requires closed { self.old.closed ≡ true }
+        requires works { self.old.stop ≡ None }
+        ensures limits { result ≡ limits_of (ahead self.old) }
+        ensures feed { self.new ≡ feed_after_lines (front_lines result) self.old }
+    {
+        if !self.is_next(b"limits 2") {
+            return Limits::First;
+        }
+        match self.take() {
+            Ok(_) => Limits::Second,
+            Err(_) => unreachable!(),
         }
     }
 

@@ -13,6 +13,7 @@ use Rattle.pattern.specs.Lines.{limit_fault, cells_taken_at_start}
 use Rattle.certificate_lines.specs.declared.certificate_line.CertificateLine.{CertificateLine}
 use Rattle.certificate_lines.specs.declared.certificate_line.CertificateLine.TheVariants.{Module, Cut}
 use Rattle.certificate.specs.Grammars.{certificate_grammar}
+use Rattle.section_text.specs.declared.limits.Limits.TheVariants.{First}
 use Rattle.certificate.proofs.Soundness.{faultless_modules}
 use Rattle.local_run.specs.Runs.{local_step}
 use Rattle.soundness.specs.HeadlineLaws.{SomeAcceptedBundle}
@@ -54,11 +55,12 @@ modules = entries.modules_of certificate
 abbrev jobs : List JobView
 jobs = map (job_of (circuit_of lines) layout) modules
 
-is_faultless : IsFaultless (certificate_grammar (setting_of lines layout)) 1 certificate
+is_faultless : IsFaultless (certificate_grammar First (setting_of lines layout)) 1 certificate
 unfolding place_of number rectangle_cells in_box in_span orders.is_cut orders.may_precede orders.may_follow
     entries.change_last entries.last_of entries.add_line entries.modules_of rules.has_nonlocal_port
     rules.module_box_code
-    rules.module_line_code rules.cut_line_code rules.are_new_and_distinct rules.entry_fault rules.end_fault
+    rules.module_line_code rules.cut_line_code rules.are_new_and_distinct rules.entry_fault rules.module_limit_fault
+    rules.end_fault
 is_faultless = record { header = refl; each = (refl, (refl, tt)); end = refl }
 
 is_ordered : AreOrdered (netlist_of lines).given (netlist_of lines).gates
@@ -66,7 +68,7 @@ unfolding AreOrdered
 is_ordered = tt
 
 are_modules : AreModules (setting_of lines layout) modules
-are_modules = faultless_modules (setting_of lines layout) 1 certificate is_faultless
+are_modules = faultless_modules First (setting_of lines layout) 1 certificate is_faultless
 
 are_jobs : AreJobsOf (circuit_of lines) layout modules jobs
 are_jobs = are_jobs_of lines layout modules is_ordered (λ k m at. (are_modules.each k m at, are_modules.ports k m at))

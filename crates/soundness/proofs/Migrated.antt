@@ -289,15 +289,15 @@ without_halos_accepted lines p ms jobs good own ok = accepted_without lines p ms
 -- ---- certificates
 
 pub migration_accepted : MigrationKeepsAcceptance
-migration_accepted s jobs one section own ok =
+migration_accepted l s jobs one section own ok =
     let ms = modules_of s.entries in
     let same : modules s ≡ ms = meant_old s.version (setting s) ms (ap is_haloless_version one) in
-    let good : AreModules (setting s) ms = section_modules (setting s) 1 s.entries section in
+    let good : AreModules (setting s) ms = section_modules l (setting s) 1 s.entries section in
     let a = without_halos_accepted s.circuit s.layout ms jobs good
     (subst (λ ns. AreJobsOf (circuit_of s.circuit) s.layout ns jobs) same own)
     (subst (λ ns. Accepts (setting s) ns jobs) same ok) in
     record {
-      section = section_without_halos (setting s) s.entries section a.complete;
+      section = section_without_halos l (setting s) s.entries section a.complete;
       accepted = λ others are. subst (λ ns. Accepts (setting s) ns others)
           (sym (migrated_modules (setting s) s.entries))
           (a.accepted others (subst (λ ns. AreJobsOf (circuit_of s.circuit) s.layout ns others)

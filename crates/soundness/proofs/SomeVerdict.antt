@@ -34,6 +34,7 @@ use Rattle.soundness.proofs.SomeLeast.{Decided, both_decided, true_decided}
 use denote.RawPtr.{null_ptr}
 use Rattle.pattern.proofs.Added.{no_code}
 use Rattle.pattern.proofs.ReadingLemmas.{no_code_first}
+use Rattle.lemmas.specs.Bounds.{max_gates, max_side, max_steps, max_wires}
 
 -- ---- how many lines there are
 
@@ -78,33 +79,33 @@ few_meetings k ts = grind (arith, common_steps)
 two_each : (first last : ℕ → Option ℕ) (gs : List Gate) → length (time_lines_of_gates first last gs) ≤ 2 * length gs
 two_each first last gs = grind (arith, common_steps, line_each, few_delays, few_meetings, length-append)
 
--- ---- a circuit has at most 1024 gates
+-- ---- a circuit has at most 16,384 gates
 
 last_false : (a b c : Bool) → (a || (b || c)) ≡ false → c ≡ false
 last_false a b c e = grind arith
 
-one_gate_more : (b : Bool) (n : ℕ) → (b && nat_le 1024 n) ≡ false → n ≤ 1024 → cond b 1 0 + n ≤ 1024
+one_gate_more : (b : Bool) (n : ℕ) → (b && nat_le max_gates n) ≡ false → n ≤ max_gates → cond b 1 0 + n ≤ max_gates
 one_gate_more true n e le = grind (arith, nat_tests)
 one_gate_more false n e le = omega (arith, le)
 
-gates_below : (before rest : List CircuitLine) → AreGoodAfter before rest → gate_count before ≤ 1024 →
-    gate_count (before ++ rest) ≤ 1024
+gates_below : (before rest : List CircuitLine) → AreGoodAfter before rest → gate_count before ≤ max_gates →
+    gate_count (before ++ rest) ≤ max_gates
 unfolding AreGoodAfter add_fault
-gates_below before [] good h = subst (λ l. gate_count l ≤ 1024) (sym (append-nil before)) h
+gates_below before [] good h = subst (λ l. gate_count l ≤ max_gates) (sym (append-nil before)) h
 gates_below before (r ∷ rest) good h =
     let passes = no_code (exceeds_limit before r) _ (no_code_first _ _ good.0.adds) in
-    let last = last_false (is_wrong_delay r.kind) (nat_lt 4096 (length (defined before) + length r.outs))
-    (is_gate r.kind && nat_le 1024 (gate_count before)) passes in
+    let last = last_false (is_wrong_delay r.kind) (nat_lt max_wires (length (defined before) + length r.outs))
+    (is_gate r.kind && nat_le max_gates (gate_count before)) passes in
     let count : gate_count (before ++ r ∷ []) ≡ gate_count before + cond (is_gate r.kind) 1 0 =
     count_append (λ (r : CircuitLine). is_gate r.kind) before (r ∷ []) ∙ omega arith in
     let turned : gate_count before + cond (is_gate r.kind) 1 0 ≡ cond
     (is_gate r.kind) 1 0 + gate_count before = omega arith in
-    let more : gate_count (before ++ r ∷ []) ≤ 1024 =
-    subst (λ n. n ≤ 1024) (sym (count ∙ turned)) (one_gate_more (is_gate r.kind) (gate_count before) last h) in
-    subst (λ l. gate_count l ≤ 1024) (append_assoc before (r ∷ []) rest)
+    let more : gate_count (before ++ r ∷ []) ≤ max_gates =
+    subst (λ n. n ≤ max_gates) (sym (count ∙ turned)) (one_gate_more (is_gate r.kind) (gate_count before) last h) in
+    subst (λ l. gate_count l ≤ max_gates) (append_assoc before (r ∷ []) rest)
     (gates_below (before ++ r ∷ []) rest good.1 more)
 
-few_gates : (lines : List CircuitLine) → AreGoodCircuitLines lines → length (netlist_of lines).gates ≤ 1024
+few_gates : (lines : List CircuitLine) → AreGoodCircuitLines lines → length (netlist_of lines).gates ≤ max_gates
 few_gates lines good = grind (arith, common_steps, gates_below, gates_counted)
 
 -- ---- a vector of some elements
@@ -191,9 +192,11 @@ job_good lines p m j limits own is =
     let area = sym is.area in
     record {
       even = subst IsEven area own.even;
-      width = subst (λ (b : Box2). (2 ≤ b.w) × (b.w ≤ 64) × (b.x + b.w ≤ 512)) area (own.wide.0, own.wide.1, fits.0);
-      height = subst (λ (b : Box2). (2 ≤ b.h) × (b.h ≤ 64) × (b.y + b.h ≤ 512)) area (own.high.0, own.high.1, fits.1);
-      steps = subst (λ n. n ≤ 65536) (sym is.steps) fits.2;
+      width = subst (λ (b : Box2). (2 ≤ b.w) × (b.w ≤ 64) × (b.x + b.w ≤ max_side)) area
+          (own.wide.0, own.wide.1, fits.0);
+      height = subst (λ (b : Box2). (2 ≤ b.h) × (b.h ≤ 64) × (b.y + b.h ≤ max_side)) area
+          (own.high.0, own.high.1, fits.1);
+      steps = subst (λ n. n ≤ max_steps) (sym is.steps) fits.2;
       own = is.own;
       stops = λ k d lt. record {
         time = stops_stand (λ q. q.time ≤ j.steps) c j.locals (stops m) j.stops said

@@ -9,6 +9,7 @@ use Rattle.certificate_lines.specs.Settings.{setting_of}
 use Rattle.module_job.specs.Jobs.{JobView}
 use Rattle.certificate.specs.Jobs.{AreJobsOf}
 use Rattle.certificate.specs.Laws.{IsSectionOf}
+use Rattle.section_text.specs.declared.limits.Limits.{Limits}
 use Rattle.certificate_lines.specs.Modules.{AreModules}
 use Rattle.certificate_lines.specs.Versions.{lacks_edge_wire_beside, with_halos}
 use Rattle.core_book.specs.Concluding.{AreJobsOfCertificate, modules, setting}
@@ -30,13 +31,14 @@ AcceptedWithoutHalos = (lines : List CircuitLine) (p : Pattern) (ms : List Modul
 
 -- ---- certificates
 
--- A certificate without its halo lines is one of version 2, and its modules are accepted.
-pub record IsAcceptedMigration (c : CertView) : Type 0 where
-  pub section : IsSectionOf (setting c) 2 (migrated c).entries
+-- A certificate without its halo lines is one of version 2, with the same limits, and its modules are accepted.
+pub record IsAcceptedMigration (l : Limits) (c : CertView) : Type 0 where
+  pub section : IsSectionOf l (setting c) 2 (migrated c).entries
   pub accepted : (jobs : List JobView) → AreJobsOfCertificate (migrated c) jobs →
       Accepts (setting c) (modules (migrated c)) jobs
 
 -- what version 1 accepts, its migration accepts
 abbrev pub MigrationKeepsAcceptance : Type 0
-MigrationKeepsAcceptance = (c : CertView) (jobs : List JobView) → c.version ≡ 1 → IsSectionOf (setting c) 1 c.entries →
-    AreJobsOfCertificate c jobs → Accepts (setting c) (modules c) jobs → IsAcceptedMigration c
+MigrationKeepsAcceptance = (l : Limits) (c : CertView) (jobs : List JobView) → c.version ≡ 1 →
+    IsSectionOf l (setting c) 1 c.entries → AreJobsOfCertificate c jobs → Accepts (setting c) (modules c) jobs →
+    IsAcceptedMigration l c

@@ -4,7 +4,7 @@ use Rattle.pattern.specs.declared.layout_line.LayoutLine.{LayoutLine}
 use Rattle.pattern.specs.declared.layout_line.LayoutHeader.{LayoutHeader}
 use Rattle.pattern.specs.Layout.{Pattern}
 use Rattle.pattern.specs.Grammars.{layout_grammar, layout_section}
-use Rattle.answers.specs.RunText.{name_of_in_line, run_sections_of}
+use Rattle.answers.specs.RunText.{name_of_in_line, run_sections_with}
 use Rattle.answers.proofs.AskedLemmas.{first_failed, then_failed, then_read}
 use Rattle.answers.proofs.InNames.{in_names_are}
 use Rattle.answers.proofs.run.read_layout_and_assign.Goals as goal
@@ -16,25 +16,30 @@ names : LayoutHeader → List LayoutLine → List (List ℕ)
 names size parts = flat_map name_of_in_line parts
 
 pub returns-in-Err : goal.returns-in-Err
-unfolding run_sections_of lines names
+unfolding run_sections_with lines names
 returns-in-Err c = first_failed {A = Pattern}
-    (layout_grammar None) layout_section lines names c.args.feed.now c.read_layout.new.feed c.requires.unread
+    (layout_grammar c.args.limits None) layout_section lines names c.args.limits c.args.feed.now
+    c.read_layout_within.new.feed c.requires.front_taken
     c.requires.feed_not_stopped c.in-Err.fault c.in-Err.ensures.reads
 
 pub returns-in-Err-read_assign_and_end : goal.returns-in-Err-read_assign_and_end
-unfolding run_sections_of lines names
+unfolding run_sections_with lines names
 returns-in-Err-read_assign_and_end c =
-    then_failed {A = Pattern} (layout_grammar None) layout_section lines names c.args.feed.now c.read_layout.new.feed
-    c.requires.unread c.requires.feed_not_stopped c.in-Ok.layout c.deref.result.now c.in-Err-read_assign_and_end.fault
+    then_failed {A = Pattern} (layout_grammar c.args.limits None) layout_section lines names c.args.limits
+    c.args.feed.now c.read_layout_within.new.feed
+    c.requires.front_taken c.requires.feed_not_stopped c.in-Ok.layout c.deref.result.now
+    c.in-Err-read_assign_and_end.fault
     c.in-Ok.ensures.reads
     (c.deref.ensures.value ∙ c.in-Ok-input_cell_names.ensures ∙ sym (in_names_are c.in-Ok.layout))
     c.in-Err-read_assign_and_end.ensures
 
 pub returns-in-Ok-read_assign_and_end : goal.returns-in-Ok-read_assign_and_end
-unfolding run_sections_of lines names
+unfolding run_sections_with lines names
 returns-in-Ok-read_assign_and_end c =
-    then_read {A = Pattern} (layout_grammar None) layout_section lines names c.args.feed.now c.read_layout.new.feed
-    c.requires.unread c.requires.feed_not_stopped c.in-Ok.layout c.deref.result.now c.in-Ok-read_assign_and_end.on.items
+    then_read {A = Pattern} (layout_grammar c.args.limits None) layout_section lines names c.args.limits c.args.feed.now
+    c.read_layout_within.new.feed
+    c.requires.front_taken c.requires.feed_not_stopped c.in-Ok.layout c.deref.result.now
+    c.in-Ok-read_assign_and_end.on.items
     c.in-Ok.ensures.reads
     (c.deref.ensures.value ∙ c.in-Ok-input_cell_names.ensures ∙ sym (in_names_are c.in-Ok.layout))
     c.in-Ok-read_assign_and_end.ensures

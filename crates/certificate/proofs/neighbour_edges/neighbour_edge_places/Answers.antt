@@ -3,6 +3,7 @@ use Rattle.certificate.proofs.Imports.{length, length-map, map, module_lines, se
 use Rattle.certificate.proofs.Imports.{sym, ◌<◌, ◌∙◌, ◌≡◌, ◌≤◌}
 use Rattle.certificate.proofs.HaloTables.{all_placed, even_areas, few_edges, inner_edges, none_placed, stored_areas}
 use Rattle.certificate.proofs.neighbour_edges.neighbour_edge_places.Goals as goal
+use Rattle.lemmas.specs.Bounds.{max_modules}
 
 pub returns-then-size-le1 : goal.returns-then-size-le1
 returns-then-size-le1 c =
@@ -38,7 +39,7 @@ push_edge_places-requires-clause-inner c =
 
 pub push_edge_places-requires-clause-few_modules : goal.push_edge_places-requires-clause-few_modules
 push_edge_places-requires-clause-few_modules c =
-    subst (λ n. n ≤ 1024) (length-map c.args.modules.now (module_lines (circuit_of c.args.tables.now.circuit)))
+    subst (λ n. n ≤ max_modules) (length-map c.args.modules.now (module_lines (circuit_of c.args.tables.now.circuit)))
     c.requires.good.modules.few
 
 pub push_edge_places-requires-clause-few_lines : goal.push_edge_places-requires-clause-few_lines

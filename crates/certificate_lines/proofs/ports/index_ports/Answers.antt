@@ -8,9 +8,10 @@ use Rattle.certificate_lines.proofs.TableLemmas.{IsFilling, in_whole, few_entrie
 use Rattle.certificate_lines.proofs.TableLemmas.{none_outside}
 use Rattle.certificate_lines.proofs.ports.index_ports.Goals.{in-Some, in_default}
 use Rattle.certificate_lines.proofs.ports.index_ports.Goals as goal
+use Rattle.lemmas.specs.Bounds.{max_side}
 
 abbrev AreSmall : Box2 → Type 0
-AreSmall b = (b.w ≤ 512) × (b.h ≤ 512)
+AreSmall b = (b.w ≤ max_side) × (b.h ≤ max_side)
 
 small_sides : (s : LayoutHeader) → size_fault s ≡ None → (b : Box2) → b ≡ whole s → AreSmall b
 small_sides s limits b is = let sides = size_sides s limits in subst AreSmall (sym is) (sides.0.most, sides.1.most)

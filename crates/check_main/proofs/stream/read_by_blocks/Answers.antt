@@ -1,5 +1,5 @@
 -- The piece that does not fit has the byte past the limit.
-use Rattle.check_main.proofs.Imports.{Err, ap, length, length-append, take, text_limit, ◌++◌, ◌+◌, ◌<◌}
+use Rattle.check_main.proofs.Imports.{Err, ap, length, length-append, own_text_limit, take, ◌++◌, ◌+◌, ◌<◌}
 use Rattle.std.proofs.KnownBytes.{Consumes-trans}
 use Rattle.check_main.proofs.stream.read_by_blocks.Goals as goal
 
@@ -7,7 +7,7 @@ pub returns-in-Err-TooLong-clause-too_long : goal.returns-in-Err-TooLong-clause-
 returns-in-Err-TooLong-clause-too_long g c _ =
     let so_far = c.loop.feed.text in
     let more = take c.in-Ok.count c.read.new.buf in
-    let over : text_limit < length so_far + length more =
+    let over : own_text_limit (so_far ++ more) < length so_far + length more =
     c.in-Err-TooLong.ensures.too_long.0 (ap (λ e. Err e) c.in-Err-TooLong.field-0-is) in
     record {
       text = so_far ++ more;

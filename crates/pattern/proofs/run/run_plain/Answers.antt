@@ -13,8 +13,9 @@ returns-in-Some c =
     subst (λ (p : Pattern). LeavesAt p on c.in-Some.step) c.layout.view_is
     (leaves_at (pattern_of c.layout.inside) on g _ cells_taken_at_start c.in-Some.ensures.run)
 
-pub live_cells_in_order-requires-clause-sides_at_most_512 : goal.live_cells_in_order-requires-clause-sides_at_most_512
-live_cells_in_order-requires-clause-sides_at_most_512 c = grind (arith, common_steps, size_sides)
+pub live_cells_in_order-requires-clause-sides_at_most_max_side :
+    goal.live_cells_in_order-requires-clause-sides_at_most_max_side
+live_cells_in_order-requires-clause-sides_at_most_max_side c = grind (arith, common_steps, size_sides)
 
 pub returns : goal.returns
 returns c =

@@ -5,6 +5,7 @@ use Rattle.std.specs.List.{flat_map}
 use Rattle.pattern.proofs.InsideLemmas.{size_sides, begins_inside, mirrors_fit}
 use Rattle.pattern.proofs.StartLemmas.{in_start_list, start_list_made}
 use Rattle.pattern.proofs.run.start_cells.Goals as goal
+use Rattle.lemmas.specs.Bounds.{max_side}
 
 pub push_mirror_cells-requires : goal.push_mirror_cells-requires
 push_mirror_cells-requires c =
@@ -12,7 +13,7 @@ push_mirror_cells-requires c =
     let sides = size_sides p.size c.layout.invariant.size in
     let all = begins_inside p c.layout.invariant.parts in
     subst (λ (rs : List Box2). (k : ℕ) (d : Box2) → k < length rs →
-    ((get_or rs k d).x + (get_or rs k d).w ≤ 512) × ((get_or rs k d).y + (get_or rs k d).h ≤ 512))
+    ((get_or rs k d).x + (get_or rs k d).w ≤ max_side) × ((get_or rs k d).y + (get_or rs k d).h ≤ max_side))
     (sym c.as_slice.ensures.value)
     (mirrors_fit p.size p.mirrors all.mirrors sides.0.most sides.1.most)
 

@@ -3,12 +3,13 @@ use Rattle.border_match.proofs.Imports.{slice_get, subst, sym, ℕ, ◌+◌, ◌
 use Rattle.border_match.proofs.Cells.{job_at, owner_within}
 use Rattle.border_match.proofs.NearModules.{owner_holds, owner_noted, with_among, with_below, with_keeps}
 use Rattle.border_match.proofs.borders.Borders.add_other_owner.Goals as goal
+use Rattle.lemmas.specs.Bounds.{max_side}
 
 -- The cells of the box have one owner, whose number is there.
 -- the box of a job is within the limits
-within_limits : (j : JobView) (a : Box2) → a ≡ j.area → IsJob j → (a.x + a.w ≤ 512) × (a.y + a.h ≤ 512)
+within_limits : (j : JobView) (a : Box2) → a ≡ j.area → IsJob j → (a.x + a.w ≤ max_side) × (a.y + a.h ≤ max_side)
 within_limits j a same good =
-    let P : Box2 → Type 0 = λ a. (a.x + a.w ≤ 512) × (a.y + a.h ≤ 512) in
+    let P : Box2 → Type 0 = λ a. (a.x + a.w ≤ max_side) × (a.y + a.h ≤ max_side) in
     subst P (sym same) (good.width.2, good.height.2)
 
 pub returns : goal.returns
@@ -31,7 +32,7 @@ returns c =
           (with_among near new number is);
       holds = owner_holds b x y owner c.area.result c.requires.borders_ready c.requires.cell_inside same
           (subst (λ (n : ℕ). slice_get (jobs_of b) n ≡ Some owner) c.owner-number.ensures got);
-      fits_512 = within_limits owner c.area.result same c.area.ensures.job_valid;
+      fits_max_side = within_limits owner c.area.result same c.area.ensures.job_valid;
       numbers_kept = with_keeps near new number is;
       numbers_exist = with_below b near new number is c.requires.numbers_exist lt;
     }

@@ -16,7 +16,7 @@ push_in_last-requires-clause-line c =
     let good = good_line g _ c.args.entry (grind (arith, common_steps)) in
     may_store g good.module_lines c.args.entry c.wire_in-wire.result
     (last_good g _ _ _ _ _ _ c.self.invariant.tracked.kept good.module_lines good.last)
-    c.wire_in-wire.ensures.size_limits c.wire_in-wire.ensures.gates_at_most_1024 (c.requires) good.words
+    c.wire_in-wire.ensures.size_limits c.wire_in-wire.ensures.at_most_max_gates (c.requires) good.words
     (named_line g good.module_lines c.args.entry c.wire_in-wire.result good.words c.wire_in-wire.ensures.wire)
 
 pub invariant_of-self-in_err-push_in_last : goal.invariant_of-self-in_err-push_in_last

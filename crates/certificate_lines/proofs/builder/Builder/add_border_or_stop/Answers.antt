@@ -17,7 +17,7 @@ push_in_last-requires-clause-line c =
     let good = good_line g _ c.args.entry.now (grind (arith, common_steps)) in
     may_store g good.module_lines c.args.entry.now c.wire_in-wire.result
     (last_good g _ _ _ _ _ _ c.self.invariant.tracked.kept good.module_lines good.last)
-    c.wire_in-wire.ensures.size_limits c.wire_in-wire.ensures.gates_at_most_1024
+    c.wire_in-wire.ensures.size_limits c.wire_in-wire.ensures.at_most_max_gates
     (border_is_inner c.args.entry.now c.requires) good.words
     (named_line g good.module_lines c.args.entry.now c.wire_in-wire.result good.words c.wire_in-wire.ensures.wire)
 

@@ -5,12 +5,13 @@ use Rattle.certificate_lines.specs.declared.stored_module.StoredModule.{StoredMo
 use Rattle.std.proofs.Common.{Bor}
 use Rattle.certificate_lines.proofs.Keeping.{lacks, last_fits}
 use Rattle.certificate_lines.proofs.builder.Builder.has_nonlocal_port.Goals as goal
+use Rattle.lemmas.specs.Bounds.{max_side}
 
 pub has_nonlocal_port-requires : goal.has_nonlocal_port-requires
 has_nonlocal_port-requires c =
     let n = c.in-Some.last.now in
     subst (λ (s : BuilderView). last_module s.entries ≡ Some (module_lines s.setting.circuit n) →
-    (n.area.x + n.area.w ≤ 512) × (n.area.y + n.area.h ≤ 512)) c.self.view_is
+    (n.area.x + n.area.w ≤ max_side) × (n.area.y + n.area.h ≤ max_side)) c.self.view_is
     (λ l. last_fits _ _ _ _ _ _ _ c.self.invariant.tracked.kept (module_lines c.self.inside.tables.circuit n) l
     c.prove_valid.ensures)
     (sym c.last_module.ensures.module ∙ ap (option_map (λ (m : Bor StoredModule).

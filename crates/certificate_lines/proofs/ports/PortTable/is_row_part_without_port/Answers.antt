@@ -5,20 +5,21 @@ use Rattle.certificate_lines.proofs.Imports.{◌≡◌, ◌≤◌}
 use Rattle.certificate_lines.proofs.RowLemmas.{row_entry, row_inside}
 use Rattle.certificate_lines.proofs.TableLemmas.{part_zero, placed, unnumbered, unplaced}
 use Rattle.certificate_lines.proofs.ports.PortTable.is_row_part_without_port.Goals as goal
+use Rattle.lemmas.specs.Bounds.{max_side}
 
 -- the first cell of the row, whose numbers were cast
-cast_cell : (x y : ℕ) → x ≤ 512 → y < 512 → record { x = to_z w32 x; y = to_z w32 y } ≡ cell x y
+cast_cell : (x y : ℕ) → x ≤ max_side → y < max_side → record { x = to_z w32 x; y = to_z w32 y } ≡ cell x y
 cast_cell x y a b =
     let p : to_z w32 x ≡ pos x = omega (arith, ints) in
     let q : to_z w32 y ≡ pos y = omega (arith, ints) in
     λ i. record { x = p i; y = q i }
 
-inside_at : (b : Box2) (x y : ℕ) → x ≤ 512 → y < 512 → in_box b (to_z w32 x) (to_z w32 y) ≡ true →
+inside_at : (b : Box2) (x y : ℕ) → x ≤ max_side → y < max_side → in_box b (to_z w32 x) (to_z w32 y) ≡ true →
     in_box b (pos x) (pos y) ≡ true
 inside_at b x y l m h = sym (ap (λ (d : Cell). in_box b d.x d.y) (cast_cell x y l m)) ∙ h
 
 -- the place of the first cell's entry, whose rows were read
-place_at : (a : Inside) (x y : ℕ) (rows : List ℕ) (o : Option ℕ) → x ≤ 512 → y < 512 → rows ≡ a.rows.items →
+place_at : (a : Inside) (x y : ℕ) (rows : List ℕ) (o : Option ℕ) → x ≤ max_side → y < max_side → rows ≡ a.rows.items →
     o ≡ entry_place a.area rows (to_z w32 x) (to_z w32 y) → entry_place a.area a.rows.items (pos x) (pos y) ≡ o
 place_at a x y rows o l m are at =
     sym (grind (arith, common_steps, cast_cell))

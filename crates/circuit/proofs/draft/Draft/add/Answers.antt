@@ -2,6 +2,7 @@ use Rattle.circuit.proofs.Imports.{CircuitLine, IsNoInputAfterGate, List, None, 
 use Rattle.circuit.proofs.Imports.{consume_fault, consumed, define_fault, defined, exceeds_limit, false, gate_of}
 use Rattle.circuit.proofs.Imports.{gate_with_outs_from, length, length-map, map, number, rules, subst, sym, take}
 use Rattle.circuit.proofs.Imports.{with_marks_set, ℕ, ◌++◌, ◌∙◌, ◌∷◌, ◌≡◌}
+use Rattle.circuit.specs.DraftView.{DraftView}
 use Rattle.circuit.proofs.Drafts.{added}
 use Rattle.circuit.proofs.WireMarks.{marks_reach}
 use Rattle.circuit.proofs.draft.Draft.add.Goals as goal
@@ -20,12 +21,13 @@ invariant_of-self-then-is_gate c =
     ++ gate_with_outs_from c.args.entry.kind c.in-Ok.ins (length c.self.inside.wires.keys) = search rules in
     let used : c.mark_wires.new.consumed.items ≡ with_marks_set (take (length c.args.entry.ins) c.in-Ok.ins)
     (c.self.inside.consumed.items ++ map (λ (n : List ℕ). false) c.args.entry.outs) = search rules in
-    let entries_are = sym c.self.view_is in
+    let lines_are = ap (λ (d : DraftView). d.lines) c.self.view_is in
+    let entries_are = sym lines_are in
     added c.self.inside _ c.args.entry c.in-Ok.ins c.self.invariant (record {
       entries = entries;
       wires = wires;
       used = used;
-      limit = ap (λ (l : List CircuitLine). exceeds_limit l c.args.entry) c.self.view_is
+      limit = ap (λ (l : List CircuitLine). exceeds_limit l c.args.entry) lines_are
           ∙ sym c.if-exceeds_limit.ensures;
       ins_pass = subst (λ (l : List CircuitLine). consume_fault (defined l) (consumed l) c.args.entry.ins ≡ None)
           entries_are (search rules);
@@ -51,12 +53,13 @@ invariant_of-self-else-is_gate c =
     ++ gate_with_outs_from c.args.entry.kind c.in-Ok.ins (length c.self.inside.wires.keys) = search rules in
     let used : c.mark_wires.new.consumed.items ≡ with_marks_set (take (length c.args.entry.ins) c.in-Ok.ins)
     (c.self.inside.consumed.items ++ map (λ (n : List ℕ). false) c.args.entry.outs) = search rules in
-    let entries_are = sym c.self.view_is in
+    let lines_are = ap (λ (d : DraftView). d.lines) c.self.view_is in
+    let entries_are = sym lines_are in
     added c.self.inside _ c.args.entry c.in-Ok.ins c.self.invariant (record {
       entries = entries;
       wires = wires;
       used = used;
-      limit = ap (λ (l : List CircuitLine). exceeds_limit l c.args.entry) c.self.view_is
+      limit = ap (λ (l : List CircuitLine). exceeds_limit l c.args.entry) lines_are
           ∙ sym c.if-exceeds_limit.ensures;
       ins_pass = subst (λ (l : List CircuitLine). consume_fault (defined l) (consumed l) c.args.entry.ins ≡ None)
           entries_are (search rules);

@@ -3,5 +3,5 @@ use Rattle.circuit.specs.Rules.{first_unconsumed}
 use Rattle.circuit.proofs.draft.Draft.unconsumed_name.Given as goal
 
 abbrev pub invariant-loop-number : goal.invariant-loop-number
-invariant-loop-number l = first_unconsumed (consumed l.fn.self) (drop l.number (defined l.fn.self))
-    ≡ first_unconsumed (consumed l.fn.self) (defined l.fn.self)
+invariant-loop-number l = first_unconsumed (consumed l.fn.self.lines) (drop l.number (defined l.fn.self.lines))
+    ≡ first_unconsumed (consumed l.fn.self.lines) (defined l.fn.self.lines)

@@ -4,7 +4,7 @@ use Rattle.circuit.proofs.draft.Draft.unconsumed_wires.Goals as goal
 
 pub returns-then-contains-clause-err : goal.returns-then-contains-clause-err
 returns-then-contains-clause-err c =
-    let next : Next (defined c.args.self.now) (consumed c.args.self.now) c.args.names.now c.loop-place.place
+    let next : Next (defined c.args.self.now.lines) (consumed c.args.self.now.lines) c.args.names.now c.loop-place.place
     c.index-names-place.result c.in_ok-wire.wire (take c.loop-place.place c.loop-place.ins) = record {
       so_far = c.loop-place.invariant.so_far;
       here = omega arith;
@@ -17,7 +17,7 @@ returns-then-contains-clause-err c =
 
 pub loop-place-preserved : goal.loop-place-preserved
 loop-place-preserved c =
-    let next : Next (defined c.args.self.now) (consumed c.args.self.now) c.args.names.now c.loop-place.place
+    let next : Next (defined c.args.self.now.lines) (consumed c.args.self.now.lines) c.args.names.now c.loop-place.place
     c.index-names-place.result c.in_ok-wire.wire (take c.loop-place.place c.loop-place.ins) = record {
       so_far = c.loop-place.invariant.so_far;
       here = omega arith;

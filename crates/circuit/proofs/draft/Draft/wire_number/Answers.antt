@@ -2,6 +2,7 @@
 use Rattle.circuit.proofs.Imports.{AreGoodCircuitLines, CircuitLine, List, Some, ap, defined, has, number, refl}
 use Rattle.circuit.proofs.Imports.{slice_get}
 use Rattle.circuit.proofs.Imports.{subst, sym, true, ℕ, ◌∙◌, ◌≡◌}
+use Rattle.circuit.specs.DraftView.{DraftView}
 use Rattle.circuit.proofs.Naming.{wires_are_own}
 use Rattle.circuit.proofs.Places.{position_number}
 use Rattle.circuit.proofs.draft.Draft.wire_number.Goals as goal
@@ -16,14 +17,16 @@ own_at keys items lines place name are same good at =
 
 pub returns-then-is_name_at-clause-number : goal.returns-then-is_name_at-clause-number
 returns-then-is_name_at-clause-number c =
-    let own = own_at c.as_slice.result.now c.self.inside.entries.items c.args.self.now c.guess-likely.result
-    c.args.name.now (c.as_slice.ensures.keys ∙ c.self.invariant.wires) c.self.view_is c.self.invariant.good
+    let own = own_at c.as_slice.result.now c.self.inside.entries.items c.args.self.now.lines c.guess-likely.result
+    c.args.name.now (c.as_slice.ensures.keys ∙ c.self.invariant.wires)
+    (ap (λ (d : DraftView). d.lines) c.self.view_is) c.self.invariant.good
     (c.if-is_name_at.ensures.name refl) in
-    ap (λ k. Some k) (sym own.0) ∙ sym (position_number (defined c.args.self.now) c.args.name.now own.1)
+    ap (λ k. Some k) (sym own.0) ∙ sym (position_number (defined c.args.self.now.lines) c.args.name.now own.1)
 
 pub returns-then-is_name_at-clause-found : goal.returns-then-is_name_at-clause-found
 returns-then-is_name_at-clause-found c =
-    let own = own_at c.as_slice.result.now c.self.inside.entries.items c.args.self.now c.guess-likely.result
-    c.args.name.now (c.as_slice.ensures.keys ∙ c.self.invariant.wires) c.self.view_is c.self.invariant.good
+    let own = own_at c.as_slice.result.now c.self.inside.entries.items c.args.self.now.lines c.guess-likely.result
+    c.args.name.now (c.as_slice.ensures.keys ∙ c.self.invariant.wires)
+    (ap (λ (d : DraftView). d.lines) c.self.view_is) c.self.invariant.good
     (c.if-is_name_at.ensures.name refl) in
     sym own.1

@@ -10,7 +10,7 @@ add-requires c =
     record {
       fits = entry_fits c.requires.of_a_line.0 c.args.entry c.requires.of_a_line.1;
       inputs_first = no_gate_yet c.args.entry.kind c.args.self.now.rank
-          (gate_count c.args.self.now.draft) h c.args.self.now.no_gate;
+          (gate_count c.args.self.now.draft.lines) h c.args.self.now.no_gate;
     }
 
 pub invariant_of-self : goal.invariant_of-self

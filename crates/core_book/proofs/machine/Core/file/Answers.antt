@@ -3,6 +3,7 @@ use Rattle.core_book.proofs.Imports.{◌≡◌, ◌≤◌}
 use Rattle.core_book.specs.declared.machine.Event.TheVariants.{File}
 use Rattle.core_book.proofs.CoreSteps.{event-core}
 use Rattle.core_book.proofs.machine.Core.file.Goals as goal
+use Rattle.lemmas.specs.Bounds.{max_modules}
 
 pub invariant_of-self-2 : goal.invariant_of-self-2
 invariant_of-self-2 c =
@@ -13,6 +14,6 @@ invariant_of-self-2 c =
     record {
       core = subst (λ (b : BookView). IsCore (with_book b)) (sym after)
           (event-core (core_view c.self.inside) (File c.args.finding) tt is.core);
-      numbers = subst (λ (b : BookView). length b.jobs ≤ 1024) (sym after) is.numbers;
+      numbers = subst (λ (b : BookView). length b.jobs ≤ max_modules) (sym after) is.numbers;
       seats = is.seats;
     }

@@ -3,6 +3,7 @@ use Rattle.core_book.proofs.Imports.{map, new_book, new_core, rules, subst, sym,
 use Rattle.core_book.proofs.CoreSteps.{new-core}
 use Rattle.core_book.proofs.machine.Core.new.Goals.{In_ok-book}
 use Rattle.core_book.proofs.machine.Core.new.Goals as goal
+use Rattle.lemmas.specs.Bounds.{max_modules}
 
 view : (c : In_ok-book) → new_core c.args.digest (map arc_value c.args.jobs.items) c.args.seats
     ≡ record { next = 0; draws = lists_of c.in_ok-draws.draws.items; book = c.in_ok-book.book }
@@ -23,7 +24,7 @@ invariant_of-result c =
     ap length c.in_ok-draws.ensures ∙ length-replicate c.args.seats [] in
     let numbers : length c.in_ok-book.book.jobs ≡ length c.args.jobs.items =
     ap (λ b. length b.jobs) c.in_ok-book.ensures ∙ jobs d in
-    let few : length c.args.jobs.items ≤ 1024 = search rules in
+    let few : length c.args.jobs.items ≤ max_modules = search rules in
     record {
       core = subst IsCore (view d) (new-core c.args.digest (map arc_value c.args.jobs.items) c.args.seats);
       numbers = omega (arith, numbers, few);

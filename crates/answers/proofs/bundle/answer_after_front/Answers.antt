@@ -1,0 +1,146 @@
+-- The circuit, the layout, the certificate, and the end of the text.
+use Rattle.lemmas.proofs.Common.{IfOk-weaker, ap, ◌∙◌}
+use Rattle.section_text.specs.Ports.{named_ports}
+use Rattle.certificate_lines.specs.Settings.{setting_of}
+use Rattle.answers.specs.Questions.{AnswersQuestion}
+use Rattle.answers.specs.BundleText.{bundle_with}
+use Rattle.answers.proofs.Bundles.{bundle_answers, bundle_goes_on, bundle_read, certificate_failed, circuit_failed}
+use Rattle.answers.proofs.Bundles.{going_3, layout_failed, refusal_answers}
+use Rattle.answers.proofs.SectionLines.{bytes_taken, longer, section_lines}
+use Rattle.answers.proofs.bundle.answer_after_front.Goals as goal
+
+pub returns-in-Err : goal.returns-in-Err
+returns-in-Err c =
+    let fails = circuit_failed c.args.limits c.args.text.now c.read_circuit_within.new.feed c.requires.front_taken
+    c.requires.feed_not_stopped
+    c.in-Err.fault
+    c.in-Err.ensures in
+    IfOk-weaker c.refusal_answer.result _ _
+    (λ answered told. refusal_answers (AnswersQuestion c.args.limits c.args.question)
+    (bundle_with c.args.limits c.args.text.now.text) c.in-Err.fault answered.output.items answered.outcome fails told)
+    c.refusal_answer.ensures.refusal_told
+
+pub returns-in-Err-read_layout_within : goal.returns-in-Err-read_layout_within
+returns-in-Err-read_layout_within c =
+    let fails = layout_failed c.args.limits c.args.text.now c.read_circuit_within.new.feed c.requires.front_taken
+    c.requires.feed_not_stopped
+    c.in-Ok.circuit
+    c.in-Ok.ensures (named_ports c.in-Ok-port_names.ports) c.read_layout_within.new.feed
+    c.in-Ok-port_names.ensures.ports
+    c.in-Err-read_layout_within.fault c.in-Err-read_layout_within.ensures.reads in
+    IfOk-weaker c.refusal_answer-in-Err-read_layout_within.result _ _
+    (λ answered told. refusal_answers (AnswersQuestion c.args.limits c.args.question)
+    (bundle_with c.args.limits c.args.text.now.text) c.in-Err-read_layout_within.fault answered.output.items
+    answered.outcome fails told)
+    c.refusal_answer-in-Err-read_layout_within.ensures.refusal_told
+
+pub returns-in-Err-read_certificate_within : goal.returns-in-Err-read_certificate_within
+returns-in-Err-read_certificate_within c =
+    let fails = certificate_failed c.args.limits c.args.text.now c.read_circuit_within.new.feed c.requires.front_taken
+    c.requires.feed_not_stopped
+    c.in-Ok.circuit c.in-Ok.ensures
+    (named_ports c.in-Ok-port_names.ports) c.read_layout_within.new.feed c.in-Ok-port_names.ensures.ports
+    c.in-Ok-read_layout_within.layout c.in-Ok-read_layout_within.ensures.reads c.read_certificate_within.new.feed
+    c.in-Err-read_certificate_within.fault c.in-Err-read_certificate_within.ensures.reads in
+    IfOk-weaker c.refusal_answer-in-Err-read_certificate_within.result _ _
+    (λ answered told. refusal_answers (AnswersQuestion c.args.limits c.args.question)
+    (bundle_with c.args.limits c.args.text.now.text) c.in-Err-read_certificate_within.fault answered.output.items
+    answered.outcome fails told)
+    c.refusal_answer-in-Err-read_certificate_within.ensures.refusal_told
+
+pub returns-in-Err-finish : goal.returns-in-Err-finish
+returns-in-Err-finish c =
+    let going = going_3 c.args.limits c.args.text.now c.read_circuit_within.new.feed c.requires.front_taken
+    c.requires.feed_not_stopped
+    c.in-Ok.circuit
+    c.in-Ok.ensures (named_ports c.in-Ok-port_names.ports) c.read_layout_within.new.feed
+    c.in-Ok-port_names.ensures.ports
+    c.in-Ok-read_layout_within.layout c.in-Ok-read_layout_within.ensures.reads c.read_certificate_within.new.feed
+    c.in-Ok-read_certificate_within.cert c.in-Ok-read_certificate_within.ensures.reads in
+    let fails = bundle_goes_on c.args.limits c.args.text.now c.read_circuit_within.new.feed c.requires.front_taken
+    c.requires.feed_not_stopped
+    c.in-Ok.circuit c.in-Ok.ensures
+    (named_ports c.in-Ok-port_names.ports) c.read_layout_within.new.feed c.in-Ok-port_names.ensures.ports
+    c.in-Ok-read_layout_within.layout c.in-Ok-read_layout_within.ensures.reads c.read_certificate_within.new.feed
+    c.in-Ok-read_certificate_within.cert c.in-Ok-read_certificate_within.ensures.reads
+    c.in-Err-finish.fault (c.in-Err-finish.ensures.more_is_left going) (c.in-Err-finish.ensures.fault going).0 in
+    IfOk-weaker c.refusal_answer-in-Err-finish.result _ _
+    (λ answered told. refusal_answers (AnswersQuestion c.args.limits c.args.question)
+    (bundle_with c.args.limits c.args.text.now.text) c.in-Err-finish.fault answered.output.items answered.outcome fails
+    told)
+    c.refusal_answer-in-Err-finish.ensures.refusal_told
+
+-- the bytes that were taken of the certificate's section have its lines
+pub slice_bounds-answer-start : goal.slice_bounds-answer-start
+slice_bounds-answer-start c =
+    let going = going_3 c.args.limits c.args.text.now c.read_circuit_within.new.feed c.requires.front_taken
+    c.requires.feed_not_stopped
+    c.in-Ok.circuit
+    c.in-Ok.ensures (named_ports c.in-Ok-port_names.ports) c.read_layout_within.new.feed
+    c.in-Ok-port_names.ensures.ports
+    c.in-Ok-read_layout_within.layout c.in-Ok-read_layout_within.ensures.reads c.read_certificate_within.new.feed
+    c.in-Ok-read_certificate_within.cert c.in-Ok-read_certificate_within.ensures.reads in
+    let done = c.in_default.ensures.ok going in
+    longer c.args.limits
+    (setting_of c.in-Ok.circuit c.in-Ok-read_layout_within.layout) c.read_layout_within.new.feed
+    c.read_certificate_within.new.feed
+    c.in-Ok-read_certificate_within.cert c.in-Ok-read_certificate_within.ensures.reads c.taken_text-from.result.now
+    c.taken_text.result.now c.taken_text-from.ensures (c.taken_text.ensures ∙ ap bytes_taken done.2)
+
+pub slice_bounds-answer-count : goal.slice_bounds-answer-count
+slice_bounds-answer-count c =
+    let going = going_3 c.args.limits c.args.text.now c.read_circuit_within.new.feed c.requires.front_taken
+    c.requires.feed_not_stopped
+    c.in-Ok.circuit
+    c.in-Ok.ensures (named_ports c.in-Ok-port_names.ports) c.read_layout_within.new.feed
+    c.in-Ok-port_names.ensures.ports
+    c.in-Ok-read_layout_within.layout c.in-Ok-read_layout_within.ensures.reads c.read_certificate_within.new.feed
+    c.in-Ok-read_certificate_within.cert c.in-Ok-read_certificate_within.ensures.reads in
+    let done = c.in_default.ensures.ok going in
+    longer c.args.limits
+    (setting_of c.in-Ok.circuit c.in-Ok-read_layout_within.layout) c.read_layout_within.new.feed
+    c.read_certificate_within.new.feed
+    c.in-Ok-read_certificate_within.cert c.in-Ok-read_certificate_within.ensures.reads c.taken_text-from.result.now
+    c.taken_text.result.now c.taken_text-from.ensures (c.taken_text.ensures ∙ ap bytes_taken done.2)
+
+pub answer-requires : goal.answer-requires
+answer-requires c =
+    let going = going_3 c.args.limits c.args.text.now c.read_circuit_within.new.feed c.requires.front_taken
+    c.requires.feed_not_stopped
+    c.in-Ok.circuit
+    c.in-Ok.ensures (named_ports c.in-Ok-port_names.ports) c.read_layout_within.new.feed
+    c.in-Ok-port_names.ensures.ports
+    c.in-Ok-read_layout_within.layout c.in-Ok-read_layout_within.ensures.reads c.read_certificate_within.new.feed
+    c.in-Ok-read_certificate_within.cert c.in-Ok-read_certificate_within.ensures.reads in
+    let done = c.in_default.ensures.ok going in
+    record {
+      section = section_lines c.args.limits
+          (setting_of c.in-Ok.circuit c.in-Ok-read_layout_within.layout) c.read_layout_within.new.feed
+          c.read_certificate_within.new.feed
+          c.in-Ok-read_certificate_within.cert c.in-Ok-read_certificate_within.ensures.reads
+          c.taken_text-from.result.now
+          c.taken_text.result.now c.taken_text-from.ensures (c.taken_text.ensures ∙ ap bytes_taken done.2);
+    }
+
+pub returns : goal.returns
+returns c =
+    let going = going_3 c.args.limits c.args.text.now c.read_circuit_within.new.feed c.requires.front_taken
+    c.requires.feed_not_stopped
+    c.in-Ok.circuit
+    c.in-Ok.ensures (named_ports c.in-Ok-port_names.ports) c.read_layout_within.new.feed
+    c.in-Ok-port_names.ensures.ports
+    c.in-Ok-read_layout_within.layout c.in-Ok-read_layout_within.ensures.reads c.read_certificate_within.new.feed
+    c.in-Ok-read_certificate_within.cert c.in-Ok-read_certificate_within.ensures.reads in
+    let done = c.in_default.ensures.ok going in
+    let was_read = bundle_read c.args.limits c.args.text.now c.read_circuit_within.new.feed c.requires.front_taken
+    c.requires.feed_not_stopped
+    c.in-Ok.circuit c.in-Ok.ensures
+    (named_ports c.in-Ok-port_names.ports) c.read_layout_within.new.feed c.in-Ok-port_names.ensures.ports
+    c.in-Ok-read_layout_within.layout c.in-Ok-read_layout_within.ensures.reads c.read_certificate_within.new.feed
+    c.in-Ok-read_certificate_within.cert c.in-Ok-read_certificate_within.ensures.reads
+    c.in-Ok-read_certificate_within.ensures.circuit c.in-Ok-read_certificate_within.ensures.layout done.0 done.1 in
+    IfOk-weaker c.answer.result _ _
+    (λ answered says. bundle_answers (AnswersQuestion c.args.limits c.args.question)
+    (bundle_with c.args.limits c.args.text.now.text) c.in-Ok-read_certificate_within.cert answered.output.items
+    answered.outcome was_read says)
+    c.answer.ensures.says

@@ -1,0 +1,50 @@
+-- The first bytes of a text, one after the other.
+use Rattle.section_text.proofs.Imports.{List, None, Option, Some, [], ap, arith, bytes_eq, bytes_eq-Decides}
+use Rattle.section_text.proofs.Imports.{common_steps}
+use Rattle.section_text.proofs.Imports.{false, length, slice_get, suc, sym, take, true, zero, ℕ, ◌++◌, ◌+◌, ◌<◌, ◌∙◌}
+use Rattle.section_text.proofs.Imports.{◌∷◌, ◌≡◌}
+use Rattle.section_text.proofs.Imports.{Bool, subst, refl}
+use Rattle.lemmas.proofs.Common.{◌≢◌}
+use Rattle.section_text.specs.Limits.{front_bytes}
+
+same_first : (xs ys : List ℕ) (k b : ℕ) → take k xs ≡ take k ys → slice_get xs k ≡ Some b → slice_get ys k ≡ Some b →
+    take (suc k) xs ≡ take (suc k) ys
+same_first [] ys k b e g h = absurd cc
+same_first (x ∷ xs) [] k b e g h = absurd cc
+same_first (x ∷ xs) (y ∷ ys) zero b e g h =
+    let one : x ≡ b = cc in let two : y ≡ b = cc in ap (λ z. z ∷ []) (one ∙ sym two)
+same_first (x ∷ xs) (y ∷ ys) (suc k) b e g h =
+    let first : x ≡ y = cc in
+    let rest : take k xs ≡ take k ys = cc in
+    let more : take (suc k) xs ≡ take (suc k) ys = same_first xs ys k b rest g h in
+    λ i. first i ∷ more i
+
+-- one byte more
+pub same_more : (xs ys : List ℕ) (k b : ℕ) → take k xs ≡ take k ys → slice_get xs k ≡ Some b → slice_get ys k ≡ Some b →
+    take (k + 1) xs ≡ take (k + 1) ys
+same_more xs ys k b e g h =
+    let next : suc k ≡ k + 1 = omega arith in
+    subst (λ n. take n xs ≡ take n ys) next (same_first xs ys k b e g h)
+
+taken_at : (n k : ℕ) (xs : List ℕ) → k < n → slice_get (take n xs) k ≡ slice_get xs k
+taken_at zero k xs lt = absurd (omega (arith, lt))
+taken_at (suc n) k [] lt = refl
+taken_at (suc n) zero (x ∷ xs) lt = refl
+taken_at (suc n) (suc k) (x ∷ xs) lt = taken_at n k xs (omega (arith, lt))
+
+same_bytes : (a b : List ℕ) → bytes_eq a b ≡ true → a ≡ b
+same_bytes a b e = grind (arith, common_steps, bytes_eq-Decides)
+
+differs : (a b : List ℕ) (t : Bool) → bytes_eq a b ≡ t → (a ≡ b → ⊥) → false ≡ t
+differs a b false e apart = refl
+differs a b true e apart = absurd (apart (same_bytes a b e))
+
+-- another byte, or none
+pub other_byte : (xs : List ℕ) (k : ℕ) (o : Option ℕ) → k < 9 → slice_get xs k ≡ o → o ≢ slice_get front_bytes k →
+    false ≡ bytes_eq (take 9 xs) front_bytes
+other_byte xs k o lt at other =
+    differs (take 9 xs) front_bytes _ refl
+    (λ same. other (sym at ∙ sym (taken_at 9 k xs lt) ∙ ap (λ l. slice_get l k) same))
+
+pub all_bytes : (xs : List ℕ) → take 9 xs ≡ take 9 front_bytes → true ≡ bytes_eq (take 9 xs) front_bytes
+all_bytes xs same = sym (ap (λ l. bytes_eq l front_bytes) same)
