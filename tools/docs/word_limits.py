@@ -7,7 +7,7 @@ WORD = re.compile(r"\w")
 
 # The limits of pages.
 LIMITS = {
-    "CHANGELOG.md": 550,
+    "CHANGELOG.md": 900,
     "CONTRIBUTING.md": 1700,
     "README.md": 900,
     "SECURITY.md": 200,
@@ -15,10 +15,10 @@ LIMITS = {
     "bench/README.md": 1800,
     "conformance/README.md": 650,
     "docs/API.md": 900,
-    "docs/ARCHITECTURE.md": 2800,
-    "docs/ASSURANCE.md": 2600,
+    "docs/ARCHITECTURE.md": 3000,
+    "docs/ASSURANCE.md": 2900,
     "docs/CELLS.md": 3400,
-    "docs/FORMATS.md": 3600,
+    "docs/FORMATS.md": 3900,
     "docs/GLOSSARY.md": 900,
     "docs/GUIDE.md": 4600,
     "docs/JSON.md": 1000,
@@ -37,7 +37,7 @@ LIMITS |= dict.fromkeys([
 
 # What all pages together may take. Outside the sum are pages to look things up in, which nobody reads from end to end: the catalogue of
 # cells, the tables of balls and mirrors, and the licences of others.
-MAX_SUM = 28_000
+MAX_SUM = 32_000
 OUTSIDE_SUM = {"docs/CELLS.md", "docs/PHYSICS.md", "THIRD-PARTY.md"}
 
 
