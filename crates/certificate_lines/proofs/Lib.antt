@@ -30,3 +30,4 @@ pub mod RowLemmas
 pub mod StarLemmas
 pub mod TableLemmas
 pub mod Imports
+mod WireBounds

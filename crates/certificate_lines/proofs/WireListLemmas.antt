@@ -1,36 +1,84 @@
--- The entries of a table of wires
-use Rattle.certificate_lines.proofs.Imports.{List, [], arith, common_steps, false, get_or, get_or_default, is_among}
-use Rattle.certificate_lines.proofs.Imports.{length, refl, set, true}
-use Rattle.certificate_lines.proofs.Imports.{ℕ, ◌%◌, ◌++◌, ◌<◌, ◌∷◌, ◌≡◌, ◌≤◌}
-use Rattle.lemmas.proofs.Common.{false_from_ne_true, length-set}
-use Rattle.std.proofs.lemmas.List.{get_or-set_other, get_or-set_same}
-use Rattle.certificate_lines.specs.WireListView.{HasEntries, entry_of, no_place}
+-- The marks of a list of wires
+use Rattle.certificate_lines.proofs.Imports.{List, [], ap, arith, common_steps, false, get_or, is_among, length}
+use Rattle.certificate_lines.proofs.Imports.{length-replicate, refl, replicate, subst, suc, sym, take, take_more, true}
+use Rattle.certificate_lines.proofs.Imports.{zero, ℕ, ◌%◌, ◌++◌, ◌+◌, ◌<◌, ◌==◌, ◌||◌, ◌∙◌, ◌∷◌, ◌≡◌, ◌≤◌, false≢true}
+use Rattle.lemmas.proofs.Common.{◌/◌, eq_itself, or-true, false_from_ne_true, get_or-replicate, get_or_past}
+use Rattle.std.proofs.lemmas.List.{get_or-take, length-take-le}
+use Rattle.bbm_rule.specs.Rows.{SetsPlace}
+use Rattle.bbm_rule.specs.Bits.{bit}
+use Rattle.bbm_rule.specs.Rows.{cell_at}
+use Rattle.bbm_rule.proofs.BitLemmas.{by_lt_or_le, bit-zero}
 
--- a wire whose entry is no place is not in the list
-pub not_among : (entries wires : List ℕ) (w : ℕ) → HasEntries entries wires → entry_of entries w ≡ no_place →
-    is_among wires w ≡ false
-not_among entries wires w has at = false_from_ne_true _ (λ e. omega (arith, has w e, at))
+-- a number whose word is zero has no mark
+unmarked : (marks : List ℕ) (w : ℕ) → get_or marks (w / 64) 0 ≡ 0 → cell_at marks w ≡ false
+unfolding cell_at
+unmarked marks w e = ap (λ (n : ℕ). bit n (w % 64)) e ∙ bit-zero (w % 64)
 
--- the entry that the code reads
-pub no_table : (entries : List ℕ) (w : ℕ) → entries ≡ [] → no_place ≡ entry_of entries w
-no_table [] w none = refl
-no_table (e ∷ entries) w none = absurd cc
+-- nor has one past the words
+pub past_marks : (marks : List ℕ) (w : ℕ) → length marks ≤ w / 64 → cell_at marks w ≡ false
+past_marks marks w past = unmarked marks w (get_or_past marks (w / 64) 0 past)
 
-pub in_table : (entries : List ℕ) (w : ℕ) → 0 < length entries →
-    get_or entries (w % length entries) 0 ≡ entry_of entries w
-in_table entries w some = get_or_default entries (w % length entries) 0 no_place (omega (arith, some))
+-- no wire is marked at first
+pub none_marked : (w : ℕ) → cell_at [] w ≡ is_among [] w
+none_marked w = past_marks [] w (omega arith)
 
--- an entry that is written is a place
-pub entry_written : (entries : List ℕ) (w place : ℕ) → 0 < length entries → place < no_place →
-    entry_of (set entries (w % length entries) place) w < no_place
-entry_written entries w place some low = grind (arith, common_steps, get_or-set_same, length-set)
+-- the words that are added have no mark
+grown_word : (marks : List ℕ) (n k : ℕ) → get_or (marks ++ replicate n 0) k 0 ≡ get_or marks k 0
+grown_word [] n k = grind (arith, common_steps, by_lt_or_le, get_or-replicate, get_or_past, length-replicate)
+grown_word (m ∷ marks) n zero = refl
+grown_word (m ∷ marks) n (suc k) = grown_word marks n k
 
--- and no other entry is lost
-pub entry_kept : (entries : List ℕ) (w v place : ℕ) → 0 < length entries → place < no_place →
-    entry_of entries v < no_place → entry_of (set entries (w % length entries) place) v < no_place
-entry_kept entries w v place some low has = grind (arith, common_steps, get_or-set_same, get_or-set_other, length-set)
+take_all : (marks : List ℕ) (n : ℕ) → length marks ≤ n → take n marks ≡ marks
+take_all [] n few = grind (arith, common_steps)
+take_all (m ∷ marks) zero few = absurd (omega (arith, few))
+take_all (m ∷ marks) (suc n) few = ap (λ l. m ∷ l) (take_all marks n (omega (arith, few)))
 
--- a list with one more wire, whose place was written
-pub entries_push : (old new wires : List ℕ) (v : ℕ) → HasEntries old wires → entry_of new v < no_place →
-    ((w : ℕ) → entry_of old w < no_place → entry_of new w < no_place) → HasEntries new (wires ++ v ∷ [])
-entries_push old new wires v has noted kept w among = grind (arith, common_steps)
+pub grown_marks : (marks : List ℕ) (n k w : ℕ) → length marks ≤ n →
+    cell_at (take n marks ++ replicate k 0) w ≡ cell_at marks w
+unfolding cell_at
+grown_marks marks n k w few =
+    ap (λ (l : List ℕ). bit (get_or (l ++ replicate k 0) (w / 64) 0) (w % 64)) (take_all marks n few)
+    ∙ ap (λ (m : ℕ). bit m (w % 64)) (grown_word marks k (w / 64))
+
+-- marks that are truncated to their old length are the old ones
+pub same_marks_truncated : (old new : List ℕ) (n w : ℕ) → n ≡ length old → n ≤ length new →
+    ((v : ℕ) → cell_at new v ≡ cell_at old v) → cell_at (take n new) w ≡ cell_at old w
+unfolding cell_at
+same_marks_truncated old new n w is fits same = by_lt_or_le (w / 64) n
+    (λ within. ap (λ (m : ℕ). bit m (w % 64)) (get_or-take n new (w / 64) 0 within) ∙ same w)
+    (λ past. past_marks (take n new) w (omega (arith, past, length-take-le n new fits))
+    ∙ sym (past_marks old w (omega (arith, past, is))))
+
+-- ---- the marks are taken off
+
+-- a wire of the list is among its wires
+own_wire : (wires : List ℕ) (i d : ℕ) → i < length wires → is_among wires (get_or wires i d) ≡ true
+own_wire [] i d lt = absurd (omega (arith, lt))
+own_wire (v ∷ wires) zero d lt = ap (λ b. b || is_among wires v) (eq_itself v)
+own_wire (v ∷ wires) (suc i) d lt =
+    ap (λ b. (v == get_or wires i d) || b) (own_wire wires i d (omega (arith, lt))) ∙ or-true (v == get_or wires i d)
+
+-- so its mark lies in a word
+pub own_word : (marks wires : List ℕ) (i : ℕ) → ((w : ℕ) → cell_at marks w ≡ is_among wires w) → i < length wires →
+    get_or wires i 0 / 64 < length marks
+own_word marks wires i same lt =
+    let w = get_or wires i 0 in
+    by_lt_or_le (w / 64) (length marks) (λ within. within) (λ past.
+    absurd (false≢true (sym (past_marks marks w past) ∙ same w ∙ own_wire wires i 0 lt)))
+
+-- when the marks of the first wires are off, no wire has one if all are the first ones
+pub record AreUnmarked (marks wires : List ℕ) (count : ℕ) : Type 0 where
+  pub own : (w : ℕ) → cell_at marks w ≡ true → is_among wires w ≡ true
+  pub off : (w : ℕ) → is_among (take count wires) w ≡ true → cell_at marks w ≡ false
+
+pub one_more_off : (old new wires : List ℕ) (i w : ℕ) → i < length wires → w ≡ get_or wires i 0 →
+    SetsPlace w false old new → AreUnmarked old wires i → AreUnmarked new wires (i + 1)
+one_more_off old new wires i w lt is sets before = record {
+  own = λ v on. grind (arith, common_steps);
+  off = λ v among. grind (arith, common_steps, take_more);
+}
+
+pub all_off : (marks wires : List ℕ) → AreUnmarked marks wires (length wires) → (w : ℕ) → cell_at marks w ≡ false
+all_off marks wires off w = false_from_ne_true _ (λ on.
+    false≢true (sym (off.off w (subst (λ l. is_among l w ≡ true) (sym (take_all wires (length wires) (omega arith)))
+    (off.own w on))) ∙ on))

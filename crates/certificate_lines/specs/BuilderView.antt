@@ -133,7 +133,7 @@ pub record AreTrackedModules (g : Setting) (ms : List StoredModule) (o : OwnersV
 -- the fields of every builder: its tables are those of its lines, and the wires of its modules are the circuit's
 abbrev pub AreBuilderFields : Inside → Type 0
 AreBuilderFields a = AreTrackedModules a.tables a.modules.items a.owners a.last
-    (map (λ s. s.wires) a.earlier.items) a.known.wires
+    (map (λ s. s.items) a.earlier.items) a.known.wires
     a.edges.keys a.halos.keys
 
 -- those of the edge or halo lines that have a `*`

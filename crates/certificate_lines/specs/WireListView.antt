@@ -1,30 +1,27 @@
 -- The wires that are local in a module as a list, by the fields that keep them
-use Rattle.std.specs.Prelude.{◌≡◌, ℕ, ◌-◌, ◌<◌, ◌%◌, List, get_or, length, true, vec_len, vec_capacity}
+use Rattle.std.specs.Prelude.{◌≡◌, ℕ, ◌-◌, ◌*◌, List, vec_len, vec_capacity}
+use Rattle.bbm_rule.specs.Rows.{cell_at}
 use Rattle.module_box.specs.Locals.{is_among}
 use Rattle.certificate_lines.specs.declared.wire_list.WireList.TheInside.{Inside}
 
--- the wires in their order, and for how many more there is room
+-- the wires in their order, for how many more there is room, and below which number there is room for a wire
 pub record WireListView : Type 0 where
   pub wires : List ℕ
   pub spare : ℕ
+  pub limit : ℕ
 
 -- the view of a list, from its fields
 abbrev pub wire_list_view : Inside → WireListView
-wire_list_view a = record { wires = a.wires.items; spare = vec_capacity a.wires - vec_len a.wires }
+wire_list_view a = record {
+  wires = a.wires.items;
+  spare = vec_capacity a.wires - vec_len a.wires;
+  limit = 64 * vec_len a.marks;
+}
 
--- the entry for the numbers that no wire of the list has
-abbrev pub no_place : ℕ
-no_place = 65535
-
--- the entry of a table for a wire, by its number modulo the length
-abbrev pub entry_of : List ℕ → ℕ → ℕ
-entry_of entries w = get_or entries (w % length entries) no_place
-
--- the entry for each of these wires is a place
-abbrev pub HasEntries : List ℕ → List ℕ → Type 0
-HasEntries entries wires = (w : ℕ) → is_among wires w ≡ true → entry_of entries w < no_place
-
--- the fields of every list: its table has an entry for each wire, and there is a table once there is room for a wire
+-- the fields of every list: the mark of each number says whether it is in the list
 pub record IsWireList (a : Inside) : Type 0 where
-  pub noted : HasEntries a.entries.items a.wires.items
-  pub table : vec_len a.wires < vec_capacity a.wires → 0 < length a.entries.items
+  pub marked : (w : ℕ) → cell_at a.marks.items w ≡ is_among a.wires.items w
+
+-- the same numbers have a mark
+abbrev pub HasSameMarks : List ℕ → List ℕ → Type 0
+HasSameMarks old new = (w : ℕ) → cell_at new w ≡ cell_at old w

@@ -40,7 +40,7 @@ pub struct Builder<'a> {
     // which module so far has each cell
     pub(crate) owners: Owners,
     // the wires that are local in each module before the last, behind none
-    pub(crate) earlier: Vec<WireList>,
+    pub(crate) earlier: Vec<Vec<u16>>,
     // the key of the last line
     last: LineKey,
     // of the last module: its local wires, and its cells with a `*`

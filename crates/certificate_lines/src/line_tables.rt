@@ -151,6 +151,7 @@ impl<'a> LineTables<'a> {
     #[inline(always)]
     pub(crate) fn wire_in(&self, line: &CertificateLine) -> Option<u16>
         ensures wire { result ≡ option_and_then (wire_of self.now.circuit) (name_in line.now) }
+        ensures of_the_circuit { IfSome result (λ w. w < wires self.now.circuit.netlist) }
         ensures at_most_max_gates { length self.now.circuit.netlist.gates ≤ max_gates }
         ensures size_limits { size_fault self.now.size ≡ None }
     {
@@ -158,10 +159,22 @@ impl<'a> LineTables<'a> {
         Some(wire.number())
     }
 
+    /// Returns how many wires the circuit has.
+    #[inline(always)]
+    pub(crate) fn wire_count(&self) -> usize
+        ensures { result ≡ wires self.now.circuit.netlist }
+    {
+        self.circuit.wires()
+    }
+
     /// Returns the circuit's gate of this number.
     pub(crate) fn gate(&self, number: u32) -> Option<GateWires>
-        ensures { option_map gate_of result ≡ slice_get self.now.circuit.netlist.gates number }
+        ensures gate { option_map gate_of result
+            ≡ slice_get self.now.circuit.netlist.gates number }
+        ensures of_the_circuit { IfSome result (λ g. All (λ w. w < wires self.now.circuit.netlist)
+            (gate_of g).outs) }
     {
+        self.circuit.prove_valid();
         if number as usize >= self.circuit.gates() {
             return None;
         }

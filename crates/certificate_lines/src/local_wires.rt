@@ -5,7 +5,7 @@ ghost use Rattle.std.specs.Option.{option_and_then};
 ghost use Rattle.module_box.specs.Locals.{is_among};
 ghost use Rattle.certificate_lines.specs.BuilderView.{wires_made_local};
 ghost use Rattle.certificate_lines.specs.Entries.{name_in};
-ghost use Rattle.circuit.specs.Meaning.{wire_of};
+ghost use Rattle.circuit.specs.Meaning.{wire_of, wires};
 ghost use Rattle.certificate_lines.specs.Rules.{are_new_and_distinct};
 
 use crate::certificate_line::CertificateLine;
@@ -13,7 +13,6 @@ use crate::line_tables::LineTables;
 use crate::wire_list::WireList;
 use circuit::WireNo;
 use std::alloc::{AllocError, Global};
-use std::mem::swap;
 
 /// Returns whether all these wires are local.
 pub(crate) fn knows_all(known: &WireList, wires: &[WireNo]) -> bool
@@ -52,6 +51,7 @@ pub(crate) fn are_all_new_and_distinct(known: &WireList, wires: &[WireNo]) -> bo
 // Makes these wires local, where there is room for them.
 fn push_wires(known: &mut WireList, wires: &[WireNo])
     requires room_for_wires { length wires.now ≤ known.old.spare }
+    requires room_for_numbers { All (λ w. w < known.old.limit) wires.now }
     ensures { known.new.wires ≡ known.old.wires ++ wires.now }
 {
     for wire in wires {
@@ -68,20 +68,23 @@ pub(crate) fn make_room_for_wires(
     ensures wires { known.new.wires ≡ known.old.wires }
     ensures room_for_wires { OnOk result
         (length (wires_made_local tables.now.circuit entry.now) ≤ known.new.spare) }
+    ensures room_for_numbers { OnOk result (wires tables.now.circuit.netlist ≤ known.new.limit) }
 {
-    match entry {
-        CertificateLine::Cut(_) => known.reserve(1),
+    let count = match entry {
+        CertificateLine::Cut(_) => 1,
         CertificateLine::Use(number) => match tables.gate(*number) {
-            Some(gate) => known.reserve(gate.outs().len()),
-            None => Ok(()),
+            Some(gate) => gate.outs().len(),
+            None => 0,
         },
-        _ => Ok(()),
-    }
+        _ => 0,
+    };
+    known.reserve(count, tables.wire_count())
 }
 
 /// Makes the wires local that a line of a module makes local, where there is room for them.
 ///
 /// `wire` is the wire that the line names, if it names one.
+#[tactic(auto, using(module_box::proofs::LocalRows::all_below))]
 pub(crate) fn push_line_wires(
     known: &mut WireList,
     tables: &LineTables,
@@ -89,6 +92,8 @@ pub(crate) fn push_line_wires(
     wire: Option<u16>,
 )
     requires wire { wire ≡ option_and_then (wire_of tables.now.circuit) (name_in entry.now) }
+    requires of_the_circuit { IfSome wire (λ w. w < wires tables.now.circuit.netlist) }
+    requires room_for_numbers { wires tables.now.circuit.netlist ≤ known.old.limit }
     requires room_for_wires { length (wires_made_local tables.now.circuit entry.now) ≤
         known.old.spare }
     ensures { known.new.wires ≡ known.old.wires ++ wires_made_local tables.now.circuit entry.now }
@@ -111,17 +116,17 @@ pub(crate) fn push_line_wires(
 /// Puts the local wires of a module that has ended behind those of the earlier ones. The next module has none.
 pub(crate) fn move_wires_to_earlier(
     alloc: Global,
-    earlier: &mut Vec<WireList>,
+    earlier: &mut Vec<Vec<u16>>,
     known: &mut WireList,
 ) -> Result<(), AllocError>
-    ensures earlier { OnOk result (map (λ s. s.wires) earlier.new.items
-        ≡ map (λ s. s.wires) earlier.old.items ++ known.old.wires ∷ []) }
+    ensures earlier { OnOk result (map (λ s. s.items) earlier.new.items
+        ≡ map (λ s. s.items) earlier.old.items ++ known.old.wires ∷ []) }
     ensures known_emptied { OnOk result (known.new.wires ≡ []) }
     ensures unchanged_on_error { OnErr result ((earlier.new.items ≡ earlier.old.items)
         × (known.new ≡ known.old)) }
 {
-    earlier.push(WireList::new(alloc))?;
+    earlier.push(Vec::new(alloc))?;
     let last = earlier.len() - 1;
-    swap(known, &mut earlier[last]);
+    known.move_to(&mut earlier[last]);
     Ok(())
 }

@@ -3,29 +3,46 @@ ghost use Rattle.std.specs.Prelude.{◌≡◌, ◌<◌, List, map, ◌&&◌, Som
 ghost use Rattle.std.specs.List.{All, flat_map, list_any};
 ghost use Rattle.certificate_lines.specs.Entries.{ModuleLines, edges, known, modules_of};
 ghost use Rattle.certificate_lines.specs.StoredModules.{HasOwnWire, IsWithin, border_line};
-ghost use Rattle.certificate_lines.specs.Rules.{whole};
+ghost use Rattle.certificate_lines.specs.Rules.{is_local_wire, whole};
 ghost use Rattle.bbm_rule.specs.Boxes.{in_box};
+ghost use Rattle.module_box.specs.Locals.{is_among};
 ghost use Rattle.certificate_lines.specs.BuilderView.{does_neighbour_lack_wire, is_outside_and_nonlocal, is_nonlocal_in_neighbour, lacks_edge_wire};
 ghost use Rattle.certificate_lines.specs.Versions.{lacks_edge_wire_beside};
 
 use crate::builder::Builder;
-use crate::rules::{is_local_wire, whole_of};
+use crate::rules::whole_of;
 use crate::stored_module::StoredBorder;
-use crate::wire_list::WireList;
 use bbm_rule::{Cell, odd_partner};
+
+// Whether the wire is one of these.
+fn is_among(wires: &[u16], wire: u16) -> bool
+    ensures { result ≡ is_among wires.now wire }
+{
+    wires.iter().any(|w| *w == wire)
+}
+
+// Whether the wire is known, and one of these.
+fn is_one_of(wires: &[u16], wire: Option<u16>) -> bool
+    ensures { result ≡ is_local_wire wires.now wire }
+{
+    match wire {
+        Some(wire) => is_among(wires, wire),
+        None => false,
+    }
+}
 
 impl<'a> Builder<'a> {
     // The wires that are local in the module of this number.
-    fn local_wires_of_module(&self, number: usize) -> &WireList
+    fn local_wires_of_module(&self, number: usize) -> &[u16]
         requires { number < length (modules_of self.now.entries) }
         ensures { slice_get (map (known self.now.setting.circuit) (modules_of self.now.entries))
-            number ≡ Some result.now.wires }
+            number ≡ Some result.now }
     {
         let last = self.earlier.len();
         if number + 1 < last {
-            &self.earlier[number + 1]
+            self.earlier[number + 1].as_slice()
         } else {
-            &self.known
+            self.known.as_slice()
         }
     }
 }
@@ -41,7 +58,7 @@ impl<'a> Builder<'a> {
         if self.modules[number].area.holds(cell) {
             return false;
         }
-        !is_local_wire(self.local_wires_of_module(number), wire)
+        !is_one_of(self.local_wires_of_module(number), wire)
     }
 
     // Whether some module has the cell `beside` and not the cell, and the wire is unknown or not local in it.

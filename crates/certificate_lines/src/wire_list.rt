@@ -1,32 +1,26 @@
-//! The wires that are local in a module, in their order, with a table by which they are found.
-ghost use Rattle.std.specs.Prelude.{ℕ, ◌≡◌, ◌+◌, ◌<◌, ◌≤◌, ◌%◌, ◌++◌, ◌∷◌, [], length, true, vec_len, OnErr, OnOk};
-ghost use Rattle.std.specs.Bool.{OnTrue};
-ghost use Rattle.certificate_lines.specs.WireListView.{HasEntries, entry_of, no_place};
+//! The wires that are local in the last module, in their order, with a bit for each wire of the circuit.
+ghost use Rattle.std.specs.Prelude.{ℕ, ◌≡◌, false, ◌+◌, ◌<◌, ◌≤◌, ◌*◌, ◌++◌, ◌∷◌, [], length, true, vec_capacity, vec_len, ◌-◌, OnErr, OnOk};
+ghost use Rattle.bbm_rule.specs.Rows.{cell_at, SetsPlace};
+ghost use Rattle.certificate_lines.specs.WireListView.{HasSameMarks};
 ghost use Rattle.module_box.specs.Locals.{is_among};
 
+use bbm_rule::marks::unmark;
 use std::alloc::{AllocError, Global};
 use std::marker::Model;
+use std::mem::swap;
 
 // For how many wires the first allocation has room: most modules know fewer.
-const FIRST_CAPACITY: usize = 32;
-
-// How many entries the table has while there are so many wires at most, and how many after that.
-const FEW_ENTRIES: usize = 64;
-
-const MANY_ENTRIES: usize = 512;
-
-// The entry of the table for the numbers that no wire of the list has.
-const NO_PLACE: u16 = u16::MAX;
+const FIRST_CAPACITY: usize = 64;
 
 /// Wires of a circuit, in the order in which they were added.
 ///
-/// To look a wire up reads a table. Only if the wire shares its entry with another one, it is compared with each of the
-/// wires. The memory is in proportion to the count of wires, however many the circuit has.
+/// To look a wire up takes the same time however many there are, and computes no hash. The bits serve one module after
+/// the other. They take memory once there is room for a wire, for as many wires as the circuit has.
 #[derive(Drop)]
 pub(crate) struct WireList {
     wires: Vec<u16>,
-    // By a wire's number modulo the length, the place of a wire with this remainder, mostly that of the last one.
-    entries: Vec<u16>,
+    // The bit of a wire's number is set if the wire is in the list.
+    marks: Vec<u64>,
 }
 
 impl Model for WireList {
@@ -41,93 +35,64 @@ impl Model for WireList {
     ghost invariant = { IsWireList };
 }
 
-// The number of the entry for a wire. For the usual lengths this takes no division.
+// Whether the bit of a number is set. No number past the words has a bit.
 #[inline(always)]
-fn entry_number(wire: u16, count: usize) -> usize
-    requires { 0 < count }
-    ensures { result ≡ wire % count }
+#[tactic(auto, using(bbm_rule::proofs::CellLemmas::cell_is, crate::proofs::WireListLemmas::past_marks))]
+fn is_marked(marks: &[u64], number: usize) -> bool
+    ensures { result ≡ cell_at marks.now number }
 {
-    if count == FEW_ENTRIES {
-        wire as usize % FEW_ENTRIES
-    } else if count == MANY_ENTRIES {
-        wire as usize % MANY_ENTRIES
-    } else {
-        wire as usize % count
+    let word = number / 64;
+    if word >= marks.len() {
+        return false;
     }
+    (marks[word] >> (number % 64)) & 1 == 1
 }
 
-// The entry for a wire.
+// Sets the bit of a number.
 #[inline(always)]
-#[tactic(auto, using(crate::proofs::WireListLemmas::in_table, crate::proofs::WireListLemmas::no_table))]
-fn entry_of(entries: &[u16], wire: u16) -> u16
-    ensures { result ≡ entry_of entries.now wire }
+fn set_mark(marks: &mut [u64], number: usize)
+    requires { number < 64 * length marks.old }
+    ensures { SetsPlace number true marks.old marks.new }
 {
-    if entries.is_empty() {
-        return NO_PLACE;
-    }
-    entries[entry_number(wire, entries.len())]
+    marks[number / 64] |= 1u64 << (number % 64);
 }
 
-// Writes the place of a wire into its entry.
-#[tactic(auto, using(crate::proofs::WireListLemmas::entry_kept, crate::proofs::WireListLemmas::entry_written))]
-fn note_place(entries: &mut [u16], wire: u16, place: usize)
-    requires { 0 < length entries.old }
-    ensures length_kept { length entries.new ≡ length entries.old }
-    ensures wire_noted { entry_of entries.new wire < no_place }
-    ensures others_kept { (w : ℕ) → entry_of entries.old w < no_place →
-        entry_of entries.new w < no_place }
+// Makes room for the bits of this many numbers. The new ones are not set.
+#[tactic(auto, using(crate::proofs::WireListLemmas::grown_marks))]
+fn grow_marks(marks: &mut Vec<u64>, count: usize) -> Result<(), AllocError>
+    ensures same { HasSameMarks marks.old.items marks.new.items }
+    ensures room { OnOk result (count ≤ 64 * vec_len marks.new) }
+    ensures never_fewer { vec_len marks.old ≤ vec_len marks.new }
 {
-    let number = entry_number(wire, entries.len());
-    entries[number] = place.min(NO_PLACE as usize - 1) as u16;
-}
-
-// Writes the places of all wires into their entries.
-fn note_places(entries: &mut [u16], wires: &[u16])
-    requires { 0 < length entries.old }
-    ensures noted { HasEntries entries.new wires.now }
-    ensures length_kept { length entries.new ≡ length entries.old }
-{
-    for (place, wire) in wires.iter().enumerate() {
-        note_place(entries, *wire, place);
-    }
-}
-
-// Makes a table of at least this many entries for the wires.
-fn grow_table(entries: &mut Vec<u16>, wires: &[u16], count: usize) -> Result<(), AllocError>
-    requires some { 0 < count }
-    requires noted { HasEntries entries.old.items wires.now }
-    ensures still_noted { HasEntries entries.new.items wires.now }
-    ensures has_entries { OnOk result (0 < vec_len entries.new) }
-    ensures never_fewer { vec_len entries.old ≤ vec_len entries.new }
-{
-    let before = entries.len();
-    if before >= count {
+    let words = count / 64 + 1;
+    if marks.len() >= words {
         return Ok(());
     }
-    if entries.resize(count, NO_PLACE).is_err() {
-        entries.truncate(before);
-        return Err(AllocError);
-    }
-    note_places(entries.as_mut_slice(), wires);
-    Ok(())
+    marks.resize(words, 0)
 }
 
-// Whether the wire stands at this place of the list.
-#[inline(always)]
-fn is_wire_at(wires: &[u16], place: u16, wire: u16) -> bool
-    ensures { OnTrue result (is_among wires.now wire ≡ true) }
+// Makes room for `count` more wires.
+fn reserve_wires(wires: &mut Vec<u16>, count: usize) -> Result<(), AllocError>
+    ensures same { wires.new.items ≡ wires.old.items }
+    ensures room { OnOk result (count ≤ vec_capacity wires.new - vec_len wires.new) }
+    ensures unchanged_on_error { OnErr result (vec_capacity wires.new ≡ vec_capacity wires.old) }
 {
-    match wires.get(place as usize) {
-        Some(found) => *found == wire,
-        None => false,
+    let spare = wires.capacity().saturating_sub(wires.len());
+    if count <= spare {
+        return Ok(());
     }
+    wires.reserve(count.max(FIRST_CAPACITY))
 }
 
-// Whether the wire is in the list, by comparing it with each one.
-fn is_among(wires: &[u16], wire: u16) -> bool
-    ensures { result ≡ is_among wires.now wire }
+// Takes the marks off all wires of the list.
+#[tactic(auto, using(crate::proofs::WireListLemmas::all_off, crate::proofs::WireListLemmas::one_more_off))]
+fn unmark_all(marks: &mut [u64], wires: &[u16])
+    requires { (w : ℕ) → cell_at marks.old w ≡ is_among wires.now w }
+    ensures { (w : ℕ) → cell_at marks.new w ≡ false }
 {
-    wires.iter().any(|w| *w == wire)
+    for wire in wires {
+        unmark(marks, *wire as usize);
+    }
 }
 
 impl WireList {
@@ -137,56 +102,67 @@ impl WireList {
     {
         WireList {
             wires: Vec::new(alloc),
-            entries: Vec::new(alloc),
+            marks: Vec::new(alloc),
         }
     }
 
     /// Returns whether the wire is in the list.
     #[inline(always)]
-    #[tactic(auto, using(crate::proofs::WireListLemmas::not_among))]
     pub(crate) fn contains(&self, wire: u16) -> bool
         ensures { result ≡ is_among self.now.wires wire }
     {
-        let place = entry_of(&self.entries, wire);
-        if place == NO_PLACE {
-            return false;
-        }
-        if is_wire_at(&self.wires, place, wire) {
-            return true;
-        }
-        is_among(&self.wires, wire)
+        is_marked(self.marks.as_slice(), wire as usize)
     }
 
-    /// Makes room for `count` more wires.
-    pub(crate) fn reserve(&mut self, count: usize) -> Result<(), AllocError>
+    /// Makes room for `count` more wires, with numbers below `limit`.
+    #[tactic(auto, using(crate::proofs::WireListLemmas::same_marks_truncated))]
+    pub(crate) fn reserve(&mut self, count: usize, limit: usize) -> Result<(), AllocError>
         ensures wires { self.new.wires ≡ self.old.wires }
         ensures room { OnOk result (count ≤ self.new.spare) }
+        ensures room_for_numbers { OnOk result (limit ≤ self.new.limit) }
         ensures unchanged_on_error { OnErr result (self.new ≡ self.old) }
     {
-        let spare = self.wires.capacity().saturating_sub(self.wires.len());
-        if count <= spare {
-            return Ok(());
+        let before = self.marks.len();
+        if grow_marks(&mut self.marks, limit).is_err() {
+            self.marks.truncate(before);
+            return Err(AllocError);
         }
-        let entry_count = if self.wires.is_empty() {
-            FEW_ENTRIES
-        } else {
-            MANY_ENTRIES
-        };
-        grow_table(&mut self.entries, &self.wires, entry_count)?;
-        self.wires.reserve(count.max(FIRST_CAPACITY))
+        if reserve_wires(&mut self.wires, count).is_err() {
+            self.marks.truncate(before);
+            return Err(AllocError);
+        }
+        Ok(())
     }
 
     /// Adds a wire at the end of the list, which has room for it.
-    #[tactic(auto, using(crate::proofs::WireListLemmas::entries_push))]
     pub(crate) fn push(&mut self, wire: u16)
         requires room { 0 < self.old.spare }
+        requires room_for_number { wire < self.old.limit }
         ensures wires { self.new.wires ≡ self.old.wires ++ wire ∷ [] }
         ensures at_most_one_taken { self.old.spare ≤ self.new.spare + 1 }
+        ensures same_limit { self.new.limit ≡ self.old.limit }
     {
-        note_place(&mut self.entries, wire, self.wires.len());
+        set_mark(&mut self.marks, wire as usize);
         match self.wires.push(wire) {
             Ok(()) => {}
             Err(_) => unreachable!(),
         }
+    }
+
+    /// Returns the wires in their order.
+    pub(crate) fn as_slice(&self) -> &[u16]
+        ensures { result.now ≡ self.now.wires }
+    {
+        self.wires.as_slice()
+    }
+
+    /// Moves the wires to an empty list. This one is then empty. It takes no memory.
+    pub(crate) fn move_to(&mut self, others: &mut Vec<u16>)
+        requires { others.old.items ≡ [] }
+        ensures moved { others.new.items ≡ self.old.wires }
+        ensures emptied { self.new.wires ≡ [] }
+    {
+        unmark_all(&mut self.marks, &self.wires);
+        swap(&mut self.wires, others);
     }
 }

@@ -33,6 +33,7 @@ fn copy_of_rest(alloc: Global, feed: &Feed, workers: usize) -> Option<Vec<u8>>
 }
 
 /// The circuit and the layout that a certificate is for, and the limits of their text.
+#[derive(Drop)]
 pub(crate) struct Design<'a> {
     pub(crate) limits: Limits,
     pub(crate) circuit: &'a Circuit,

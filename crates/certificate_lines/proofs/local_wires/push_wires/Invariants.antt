@@ -6,4 +6,5 @@ abbrev pub invariant-loop-wire : goal.invariant-loop-wire
 invariant-loop-wire l = record {
   wires : l.known.wires ≡ l.fn.known.wires ++ take l.wire-index l.wires;
   room : length l.wires ≤ l.known.spare + l.wire-index;
+  limit : l.known.limit ≡ l.fn.known.limit;
 }

@@ -19,7 +19,7 @@ returns c m at =
     (λ a. area_at c.self.inside.tables.circuit c.self.inside.modules.items c.args.number m c.index.result.now a
     c.index.ensures) at in
     let g = c.args.self.now.setting.circuit in
-    let wires : c.local_wires_of_module.result.now.wires ≡ known g m =
+    let wires : c.local_wires_of_module.result.now ≡ known g m =
     some_is _ _ (sym c.local_wires_of_module.ensures
     ∙ slice_get-map (known g) (modules_of c.args.self.now.entries) c.args.number
     ∙ ap (option_map (known g)) at) in
