@@ -12,8 +12,8 @@ pub struct BorderFault {
 
 /// A cell that only one side names with `*`.
 struct Star {
+    line: BorderLine,
     is_here: bool,
-    signal: u16,
     /// The first time that no line of the other side matched.
     open: u32,
 }
@@ -25,14 +25,14 @@ pub fn border_fault(halos: &[BorderLine], beside: &[BorderLine], steps: u32) -> 
         return None;
     }
     let mut faults = Faults { least: None, steps };
-    let mut stars: FastMap<u64, Star> = FastMap::default();
+    let mut stars: FastMap<u32, Star> = FastMap::default();
     walk(halos, beside, |line, is_here, is_matched| {
         if is_matched {
             return;
         }
         match (line.time(), stars.get_mut(&line.cell())) {
             (None, None) => {
-                stars.insert(line.cell(), Star { is_here, signal: line.signal(), open: 1 });
+                stars.insert(line.cell(), Star { line, is_here, open: 1 });
             }
             // both sides have a line with `*`, of two signals
             (None, Some(star)) => {
@@ -40,7 +40,7 @@ pub fn border_fault(halos: &[BorderLine], beside: &[BorderLine], steps: u32) -> 
                 faults.add(1, line);
             }
             (Some(time), Some(star))
-                if star.is_here != is_here && star.signal == line.signal() && star.open == time =>
+                if star.is_here != is_here && star.line.signal() == line.signal() && star.open == time =>
             {
                 star.open += 2;
             }
@@ -48,8 +48,8 @@ pub fn border_fault(halos: &[BorderLine], beside: &[BorderLine], steps: u32) -> 
             (Some(time), None) => faults.add(time, line),
         }
     });
-    for (cell, star) in stars {
-        faults.add_cell(star.open, (cell & 1023) as usize, (cell >> 10) as usize);
+    for star in stars.into_values() {
+        faults.add(star.open, star.line);
     }
     faults.least.map(|(time, y, x)| BorderFault { time, x, y })
 }
@@ -61,12 +61,9 @@ struct Faults {
 
 impl Faults {
     fn add(&mut self, time: u32, line: BorderLine) {
-        self.add_cell(time, line.x(), line.y());
-    }
-
-    fn add_cell(&mut self, time: u32, x: usize, y: usize) {
-        if time < self.steps && self.least.is_none_or(|least| (time, y, x) < least) {
-            self.least = Some((time, y, x));
+        let fault = (time, line.y(), line.x());
+        if time < self.steps && self.least.is_none_or(|least| fault < least) {
+            self.least = Some(fault);
         }
     }
 }

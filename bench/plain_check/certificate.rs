@@ -4,10 +4,10 @@ use std::ops::Range;
 
 use crate::circuit::Circuit;
 use crate::layout::{Layout, Ports, places};
+use crate::limits::Limits;
 use crate::text::{Code, Lines, Refusal, ensure};
 
-const MAX_MODULES: usize = 1024;
-const MAX_SIDE: u32 = 64;
+const MAX_BOX_SIDE: u32 = 64;
 const MAX_CUTS: usize = 12;
 const MAX_USES: usize = 64;
 const MAX_BORDER_LINES: usize = 65_536;
@@ -18,46 +18,55 @@ const MAX_BORDER_LINES: usize = 65_536;
 pub struct BorderLine(u64);
 
 /// The signal `1`. Every other signal is the number of a wire.
-pub const ONE: u16 = 4096;
+pub const ONE: u16 = u16::MAX;
+
+// From the lowest bits on, a line has 16 bits of its signal, 13 of x, 13 of y, and the rest for the time.
+const X_AT: u32 = 16;
+const Y_AT: u32 = X_AT + 13;
+const TIME_AT: u32 = Y_AT + 13;
+/// Larger than any number of a cell inside a layout.
+const MAX_COORDINATE: u32 = (1 << 13) - 1;
+/// Later than the last time of a layout.
+const MAX_TIME: u32 = (1 << 21) - 2;
 
 impl BorderLine {
     /// Numbers that are too large for a line count as the largest of their field, so the order stays right.
     pub fn new(time: Option<u32>, x: u32, y: u32, signal: u16) -> Self {
-        let time = u64::from(time.map_or(0, |time| time.min(0x1_FFFF) + 1));
-        BorderLine(
-            time << 33 | u64::from(y.min(1023)) << 23 | u64::from(x.min(1023)) << 13 | u64::from(signal),
-        )
+        let time = u64::from(time.map_or(0, |time| time.min(MAX_TIME) + 1));
+        let [x, y] = [x, y].map(|number| u64::from(number.min(MAX_COORDINATE)));
+        BorderLine(time << TIME_AT | y << Y_AT | x << X_AT | u64::from(signal))
     }
 
     pub fn time(self) -> Option<u32> {
-        ((self.0 >> 33) as u32).checked_sub(1)
+        ((self.0 >> TIME_AT) as u32).checked_sub(1)
     }
 
     pub fn x(self) -> usize {
-        (self.0 >> 13 & 1023) as usize
+        (self.0 >> X_AT) as usize & MAX_COORDINATE as usize
     }
 
     pub fn y(self) -> usize {
-        (self.0 >> 23 & 1023) as usize
+        (self.0 >> Y_AT) as usize & MAX_COORDINATE as usize
     }
 
     pub fn signal(self) -> u16 {
-        (self.0 & 0x1FFF) as u16
+        self.0 as u16
     }
 
     /// Returns the line without its signal.
     pub fn place(self) -> u64 {
-        self.0 >> 13
+        self.0 >> X_AT
     }
 
-    /// Returns the line without its time and signal.
-    pub fn cell(self) -> u64 {
-        self.0 >> 13 & 0xF_FFFF
+    /// Returns the cell as one number.
+    pub fn cell(self) -> u32 {
+        (self.0 >> X_AT) as u32 & ((1 << (TIME_AT - X_AT)) - 1)
     }
 
     /// Returns the same line with another cell and signal.
     pub fn with(self, x: usize, y: usize, signal: u16) -> Self {
-        BorderLine(self.0 >> 33 << 33 | (y as u64) << 23 | (x as u64) << 13 | u64::from(signal))
+        let time = self.0 >> TIME_AT << TIME_AT;
+        BorderLine(time | (y as u64) << Y_AT | (x as u64) << X_AT | u64::from(signal))
     }
 }
 
@@ -75,7 +84,7 @@ impl Schedule {
 
     fn has_star(&self, line: BorderLine) -> bool {
         let stars = &self.lines[..self.star_count];
-        stars.binary_search_by_key(&line.cell(), |star| star.place()).is_ok()
+        stars.binary_search_by_key(&line.cell(), |star| star.cell()).is_ok()
     }
 
     fn push(&mut self, line: BorderLine) {
@@ -159,14 +168,14 @@ impl Locals {
     }
 }
 
-/// Which module has each block of two by two cells.
+/// Which module has each block of two by two cells: one more than its number.
 pub struct Owners {
     blocks_per_row: usize,
-    owners: Vec<u16>,
+    owners: Vec<u32>,
     covered: usize,
 }
 
-const NOBODY: u16 = u16::MAX;
+const NOBODY: u32 = 0;
 
 impl Owners {
     fn new(layout: &Layout) -> Self {
@@ -183,7 +192,7 @@ impl Owners {
             if owners.iter().any(|&owner| owner != NOBODY) {
                 return false;
             }
-            owners.fill(number as u16);
+            owners.fill(number as u32 + 1);
             self.covered += blocks;
         }
         true
@@ -204,12 +213,13 @@ impl Owners {
             let is_inside = (0..self.blocks_per_row as isize).contains(&u) && (0..rows).contains(&v);
             let number =
                 if is_inside { self.owners[v as usize * self.blocks_per_row + u as usize] } else { NOBODY };
-            if usize::from(number) == own { NOBODY } else { number }
+            if number as usize == own + 1 { NOBODY } else { number }
         };
         let [first, second, third] = [owner(aside, v), owner(u, beyond), owner(aside, beyond)];
         let second = if second == first { NOBODY } else { second };
         let third = if third == first || third == second { NOBODY } else { third };
-        [first, second, third].into_iter().filter(|&number| number != NOBODY).map(usize::from)
+        let others = [first, second, third].into_iter().filter(|&number| number != NOBODY);
+        others.map(|number| number as usize - 1)
     }
 }
 
@@ -264,6 +274,7 @@ fn parse_line<'a>(lines: &mut Lines<'a>) -> Option<Line<'a>> {
 
 /// Reads a certificate line by line.
 struct Reader<'r, 'a> {
+    limits: &'static Limits,
     circuit: &'r Circuit<'a>,
     layout: &'r Layout<'a>,
     version: u32,
@@ -282,6 +293,7 @@ impl Certificate {
         layout: &Layout<'a>,
     ) -> Result<Self, Refusal> {
         let mut reader = Reader {
+            limits: lines.limits,
             circuit,
             layout,
             version: 0,
@@ -330,8 +342,9 @@ impl<'a> Reader<'_, 'a> {
 
     fn begin_module(&mut self, [x, y, width, height]: [u32; 4]) -> Result<(), Code> {
         ensure(!self.lacks_a_port(), Code::Missing)?;
-        let is_side = |side: u32| (2..=MAX_SIDE).contains(&side) && side.is_multiple_of(2);
-        ensure(is_side(width) && is_side(height) && self.modules.len() < MAX_MODULES, Code::Limit)?;
+        let is_side = |side: u32| (2..=MAX_BOX_SIDE).contains(&side) && side.is_multiple_of(2);
+        let has_room = self.modules.len() < self.limits.modules;
+        ensure(is_side(width) && is_side(height) && has_room, Code::Limit)?;
         ensure(x % 2 == 0 && y % 2 == 0, Code::BadBox)?;
         let [x, y, width, height] = [x, y, width, height].map(|number| number as usize);
         ensure(x + width <= self.layout.width && y + height <= self.layout.height, Code::BadBox)?;

@@ -1,10 +1,9 @@
 //! Circuits, assign sections, and the values of a circuit (`docs/FORMATS.md`, "The circuit section",
 //! "`value`").
 
+use crate::limits::Limits;
 use crate::text::{Code, FastMap, Lines, Refusal, ensure};
 
-const MAX_WIRES: usize = 4096;
-const MAX_GATES: usize = 1024;
 const MAX_DELAY: u32 = 4096;
 
 #[derive(Clone, Copy, PartialEq, Eq, Hash)]
@@ -153,22 +152,27 @@ impl<'a> Circuit<'a> {
             }
             (is_begun, rank) = (true, line.rank());
             let is_end = matches!(line, Line::End);
-            circuit.take(line).map_err(|code| lines.refusal(code))?;
+            circuit.take(line, lines.limits).map_err(|code| lines.refusal(code))?;
             if is_end {
                 return Ok(circuit);
             }
         }
     }
 
-    fn take(&mut self, line: Line<'a>) -> Result<(), Code> {
+    fn take(&mut self, line: Line<'a>, limits: &Limits) -> Result<(), Code> {
         match line {
             Line::Header => Ok(()),
             Line::Input(name) => {
-                ensure(self.names.len() < MAX_WIRES, Code::Limit)?;
+                ensure(self.names.len() < limits.wires, Code::Limit)?;
                 self.input_count += 1;
                 self.define(name)
             }
-            Line::Gate { kind, number, inputs, outputs } => self.add_gate(kind, number, inputs, outputs),
+            Line::Gate { kind, number, inputs, outputs } => {
+                ensure(kind != Kind::Delay || (1..=MAX_DELAY).contains(&number), Code::Limit)?;
+                let wire_count = self.names.len() + kind.output_count();
+                ensure(wire_count <= limits.wires && self.gates.len() < limits.gates, Code::Limit)?;
+                self.add_gate(kind, number, inputs, outputs)
+            }
             Line::Output(name) => {
                 let wire = self.consume(name)?;
                 self.is_output[usize::from(wire)] = true;
@@ -187,8 +191,6 @@ impl<'a> Circuit<'a> {
         outputs: [&'a [u8]; 4],
     ) -> Result<(), Code> {
         let (input_count, output_count) = (kind.input_count(), kind.output_count());
-        ensure(kind != Kind::Delay || (1..=MAX_DELAY).contains(&number), Code::Limit)?;
-        ensure(self.names.len() + output_count <= MAX_WIRES && self.gates.len() < MAX_GATES, Code::Limit)?;
         let mut used = [0; 4];
         for (wire, name) in used.iter_mut().zip(&inputs[..input_count]) {
             *wire = self.consume(name)?;

@@ -1,10 +1,8 @@
 //! Layouts (`docs/FORMATS.md`, "The layout section").
 
 use crate::circuit::Circuit;
+use crate::limits::Limits;
 use crate::text::{Code, FastMap, Lines, Refusal, ensure};
-
-const MAX_SIDE: u32 = 512;
-const MAX_STEPS: u32 = 65_536;
 
 /// A set of cells, a bit each.
 #[derive(Default)]
@@ -66,22 +64,52 @@ pub fn places(mut bits: u64) -> impl Iterator<Item = usize> {
 #[derive(Default)]
 pub struct Ports {
     pub cells: Cells,
-    width: usize,
+    /// Each cell, as its word in `cells` and its place there, with its name.
+    named: Vec<(u32, u8, u32)>,
+    /// For each word of `cells`, how many cells come before it.
+    counts: Vec<u32>,
+    /// The names in the order of the cells, by y and then x.
     names: Vec<u32>,
 }
 
 impl Ports {
     fn new(width: usize, height: usize) -> Self {
-        Ports { cells: Cells::new(width, height), width, names: vec![0; width * height] }
+        Ports { cells: Cells::new(width, height), ..Ports::default() }
     }
 
     fn insert(&mut self, x: usize, y: usize, name: u32) {
         self.cells.insert(x, y, 1);
-        self.names[y * self.width + x] = name;
+        self.named.push(((y * self.cells.words_per_row + x / 64) as u32, (x % 64) as u8, name));
     }
 
+    /// Puts the names in order, when all cells have come.
+    fn finish(&mut self) {
+        if self.named.is_empty() {
+            return;
+        }
+        self.counts = Vec::with_capacity(self.cells.words.len());
+        let mut count = 0;
+        for word in &self.cells.words {
+            self.counts.push(count);
+            count += word.count_ones();
+        }
+        self.names = vec![0; self.named.len()];
+        for (word, place, name) in std::mem::take(&mut self.named) {
+            let at = self.index(word as usize, place.into());
+            self.names[at] = name;
+        }
+    }
+
+    /// Returns how many cells come before one.
+    fn index(&self, word: usize, place: usize) -> usize {
+        let before = self.cells.words[word] & ((1 << place) - 1);
+        (self.counts[word] + before.count_ones()) as usize
+    }
+
+    // Most rows of most modules have no port, and the loops over rows are shorter without this.
+    #[inline(never)]
     pub fn name(&self, x: usize, y: usize) -> u32 {
-        self.names[y * self.width + x]
+        self.names[self.index(y * self.cells.words_per_row + x / 64, x % 64)]
     }
 }
 
@@ -161,17 +189,29 @@ impl<'a> Layout<'a> {
             }
             (is_begun, rank) = (true, line.rank());
             let is_end = matches!(line, Line::End);
-            layout.take(line, names).map_err(|code| lines.refusal(code))?;
+            layout.take(line, names, lines.limits).map_err(|code| lines.refusal(code))?;
             if is_end {
+                layout.ins.finish();
+                layout.outs.finish();
                 return Ok(layout);
             }
         }
     }
 
-    fn take(&mut self, line: Line<'a>, names: Names) -> Result<(), Code> {
+    fn take(&mut self, line: Line<'a>, names: Names, limits: &Limits) -> Result<(), Code> {
         match line {
-            Line::Header(numbers) => self.take_header(numbers, names),
-            Line::Mirror(numbers) => self.add_mirror(numbers),
+            Line::Header(numbers) => {
+                let [width, height, steps] = numbers;
+                let is_side = |side: u32| (2..=limits.side).contains(&side) && side.is_multiple_of(2);
+                ensure(is_side(width) && is_side(height) && steps <= limits.steps, Code::Limit)?;
+                self.take_header(numbers, names);
+                Ok(())
+            }
+            Line::Mirror(numbers) => {
+                let is_side = |side| (1..=limits.side).contains(&side);
+                ensure(is_side(numbers[2]) && is_side(numbers[3]), Code::Limit)?;
+                self.add_mirror(numbers)
+            }
             Line::Ball(at) => {
                 let (x, y) = self.begin_cell(at)?;
                 self.live.insert(x, y, 1);
@@ -201,9 +241,7 @@ impl<'a> Layout<'a> {
         }
     }
 
-    fn take_header(&mut self, [width, height, steps]: [u32; 3], names: Names) -> Result<(), Code> {
-        let is_side = |side: u32| (2..=MAX_SIDE).contains(&side) && side.is_multiple_of(2);
-        ensure(is_side(width) && is_side(height) && steps <= MAX_STEPS, Code::Limit)?;
+    fn take_header(&mut self, [width, height, steps]: [u32; 3], names: Names) {
         let (width, height) = (width as usize, height as usize);
         let cells = || Cells::new(width, height);
         let has_port = match names {
@@ -227,12 +265,9 @@ impl<'a> Layout<'a> {
             in_names: FastMap::default(),
             has_port,
         };
-        Ok(())
     }
 
     fn add_mirror(&mut self, [x, y, width, height]: [u32; 4]) -> Result<(), Code> {
-        let is_side = |side| (1..=MAX_SIDE).contains(&side);
-        ensure(is_side(width) && is_side(height), Code::Limit)?;
         let [x, y, width, height] = [x, y, width, height].map(|number| number as usize);
         ensure(x + width <= self.width && y + height <= self.height, Code::Taken)?;
         for row in y..y + height {

@@ -10,6 +10,7 @@ mod circuit;
 mod digest;
 mod jobs;
 mod layout;
+mod limits;
 mod report;
 mod running;
 mod text;
@@ -21,9 +22,8 @@ use std::process::ExitCode;
 use certificate::Certificate;
 use circuit::Circuit;
 use layout::{Layout, Names};
+use limits::{FRONT_LINE, Limits};
 use text::{Lines, Refusal};
-
-const MAX_TEXT: usize = 16 << 20;
 
 const REJECTED: u8 = 1;
 const WRONG_WORDS: u8 = 2;
@@ -105,16 +105,27 @@ fn answer_of(words: &[&str], text: &[u8]) -> Option<Result<Answer, Refusal>> {
     })
 }
 
+/// Reads standard input to its end, or a byte further than its first bytes allow. Returns whether it is not
+/// too long.
+fn read_text(text: &mut Vec<u8>) -> std::io::Result<bool> {
+    let mut input = std::io::stdin().lock();
+    input.by_ref().take(FRONT_LINE.len() as u64).read_to_end(text)?;
+    let longest = Limits::of(text).text_bytes;
+    input.take((longest + 1 - text.len()) as u64).read_to_end(text)?;
+    Ok(text.len() <= longest)
+}
+
 fn main() -> ExitCode {
     let words: Vec<String> = std::env::args().skip(1).collect();
     let words: Vec<&str> = words.iter().map(String::as_str).collect();
     let mut text = Vec::new();
-    if std::io::stdin().lock().take(MAX_TEXT as u64 + 1).read_to_end(&mut text).is_err() {
-        eprintln!("bbmcheck: read fault");
-        return ExitCode::from(FAILED);
-    }
-    if text.len() > MAX_TEXT {
-        eprintln!("bbmcheck: text too long");
+    let fault = match read_text(&mut text) {
+        Err(_) => Some("read fault"),
+        Ok(false) => Some("text too long"),
+        Ok(true) => None,
+    };
+    if let Some(fault) = fault {
+        eprintln!("bbmcheck: {fault}");
         return ExitCode::from(FAILED);
     }
     let Some(answer) = answer_of(&words, &text) else {

@@ -4,6 +4,8 @@
 use std::collections::HashMap;
 use std::hash::{BuildHasherDefault, Hasher};
 
+use crate::limits::{FRONT_LINE, Limits};
+
 /// Why a line is refused (`docs/FORMATS.md`, "Refusals").
 #[derive(Clone, Copy)]
 pub enum Code {
@@ -34,6 +36,7 @@ pub fn ensure(holds: bool, code: Code) -> Result<(), Code> {
 
 /// Reads a text word by word. All lines before `end` are ended.
 pub struct Lines<'a> {
+    pub limits: &'static Limits,
     text: &'a [u8],
     end: usize,
     at: usize,
@@ -43,7 +46,8 @@ pub struct Lines<'a> {
 impl<'a> Lines<'a> {
     pub fn new(text: &'a [u8]) -> Self {
         let end = text.iter().rposition(|&byte| byte == b'\n').map_or(0, |last| last + 1);
-        Lines { text, end, at: 0, line: 0 }
+        let line = usize::from(text.starts_with(FRONT_LINE));
+        Lines { limits: Limits::of(text), text, end, at: line * FRONT_LINE.len(), line }
     }
 
     /// Returns how many bytes were read.

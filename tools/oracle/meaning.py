@@ -5,7 +5,7 @@ waste cells, of which nothing is said.
 """
 from itertools import product
 
-from reference import Assign, Circuit, Layout, Lines, ROWS, read_section  # noqa: F401
+from reference import FRONT_LINE, Circuit, Lines, ROWS, read_section
 
 
 def values_of(circuit, on):
@@ -17,10 +17,17 @@ def values_of(circuit, on):
 
 
 def sections(text):
-    """The circuit's and the layout's lines."""
+    """The circuit's and the layout's lines, each as a text of its own with the same limits."""
+    front = FRONT_LINE if text.startswith(FRONT_LINE) else b""
     circuit, rest = text.split(b"\nend\n", 1)
     layout = rest.split(b"\nend\n", 1)[0]
-    return circuit + b"\nend\n", layout + b"\nend\n"
+    return circuit + b"\nend\n", front + layout + b"\nend\n"
+
+
+def read_circuit(text):
+    """The circuit of a text that begins with it."""
+    lines = Lines(text)
+    return read_section(lines, Circuit(lines.limits))
 
 
 def cells_named(layout, word):
@@ -39,7 +46,7 @@ def cells_named(layout, word):
 
 def ends(text):
     circuit_text, layout = sections(text)
-    circuit = read_section(Lines(circuit_text), Circuit())
+    circuit = read_circuit(circuit_text)
     mirrors = {cell for _, cell in cells_named(layout, b"mirror")}
     wastes = {cell for _, cell in cells_named(layout, b"waste")}
     outs = list(cells_named(layout, b"out"))

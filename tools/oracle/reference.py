@@ -1,13 +1,38 @@
 """`run`, `value`, `modules` and `migrate` once more, in plain Python and straight from docs/FORMATS.md: no code is shared with the
 program.
 
-answer(command, text) gives the exit status and what is written for a text of bytes.
+answer(command, text) gives the exit status and what is written for a text of bytes. Reading takes time in proportion to the text and to
+the area of its layout.
 """
+import collections
 import re
+from typing import NamedTuple
 
 NUMBER = re.compile(rb"(0|[1-9][0-9]{0,8})\Z")
 NAME = re.compile(rb"[a-z][a-z0-9_]{0,31}\Z")
 HEADER, ITEM, END = "header", "item", "end"
+
+
+class Limits(NamedTuple):
+    """The largest numbers and counts of a text, as far as its first line decides them (docs/FORMATS.md, "Limits")."""
+
+    side: int
+    steps: int
+    modules: int
+    gates: int
+    wires: int
+    text_bytes: int
+
+
+FIRST_LIMITS = Limits(side=512, steps=65_536, modules=1024, gates=1024, wires=4096, text_bytes=16_777_216)
+SECOND_LIMITS = Limits(side=4096, steps=1_048_576, modules=65_536, gates=16_384, wires=65_000, text_bytes=268_435_456)
+# The line that chooses the second ones, if a text begins with it.
+FRONT_LINE = b"limits 2\n"
+
+
+def limits_of(text: bytes) -> Limits:
+    """Returns the limits that hold for a text, or for each text that begins with these bytes, if there are nine of them."""
+    return SECOND_LIMITS if text.startswith(FRONT_LINE) else FIRST_LIMITS
 
 
 class Refused(Exception):
@@ -21,8 +46,9 @@ def numbers(words):
 
 class Lines:
     def __init__(self, text):
+        self.limits = limits_of(text)
         self.parts = text.split(b"\n")
-        self.taken = 0
+        self.taken = 1 if text.startswith(FRONT_LINE) else 0
 
     def take(self):
         if self.taken == len(self.parts) - 1:
@@ -56,11 +82,31 @@ def read_section(lines, section):
 PARTS = [b"mirror", b"ball", b"in", b"out", b"waste"]
 
 
+class Area:
+    """The cells of a rectangle, each free or taken, in a byte each."""
+
+    def __init__(self, w: int, h: int) -> None:
+        self.w, self.cells = w, bytearray(w * h)
+
+    def take(self, x: int, y: int, w: int, h: int) -> bool:
+        """Takes the cells of a box inside the rectangle, if all of them are free. Returns whether they were."""
+        rows = [slice(v * self.w + x, v * self.w + x + w) for v in range(y, y + h)]
+        if any(any(self.cells[row]) for row in rows):
+            return False
+        for row in rows:
+            self.cells[row] = bytes([1]) * w
+        return True
+
+    def is_full(self) -> bool:
+        return 0 not in self.cells
+
+
 class Layout:
-    def __init__(self, known=None):
+    def __init__(self, limits, known=None):
         """known: which names an `in` and an `out` may have and must have, or None where any name is good."""
-        self.rank, self.known = 0, known
-        self.begun, self.ended, self.live, self.ports = set(), set(), set(), {b"in": [], b"out": []}
+        self.limits, self.rank, self.known = limits, 0, known
+        # live: the cells of mirrors and balls; ports: by kind the name of each cell
+        self.live, self.ports = set(), {b"in": {}, b"out": {}}
 
     def form(self, words):
         word, rest = words[0], words[1:]
@@ -79,32 +125,35 @@ class Layout:
 
     def header(self, w, h, steps):
         self.w, self.h, self.steps = w, h, steps
-        good = all(2 <= side <= 512 and side % 2 == 0 for side in (w, h)) and steps <= 65536
-        return None if good else 2
+        if not all(2 <= side <= self.limits.side and side % 2 == 0 for side in (w, h)) or steps > self.limits.steps:
+            return 2
+        # the cells that are taken at the start, and those that are at the end
+        self.begun, self.ended = Area(w, h), Area(w, h)
+        return None
 
     def item(self, rank, name, at):
         x, y, w, h = at if rank == 0 else (*at, 1, 1)
         if rank < self.rank:
             return 6
-        if not (1 <= w <= 512 and 1 <= h <= 512):
+        if not (1 <= w <= self.limits.side and 1 <= h <= self.limits.side):
             return 2
         if self.known and name and name not in self.known[PARTS[rank]]:
             return 3
         if x + w > self.w or y + h > self.h:
             return 7
-        cells = {(u, v) for u in range(x, x + w) for v in range(y, y + h)}
-        if cells & (self.begun if rank < 3 else self.ended):
+        if not (self.begun if rank < 3 else self.ended).take(x, y, w, h):
             return 7
         self.rank = rank
-        self.begun |= cells if rank < 3 else set()
-        self.ended |= cells if rank not in (1, 2) else set()
-        self.live |= cells if rank < 2 else set()
+        if rank == 0:
+            # no `out` and no waste cell comes before a mirror
+            self.ended.take(x, y, w, h)
+        self.live |= cells_of(x, y, w, h) if rank < 2 else set()
         if name:
-            self.ports[PARTS[rank]].append((name, (x, y)))
+            self.ports[PARTS[rank]][x, y] = name
         return None
 
     def end(self):
-        having = {kind: {name for name, _ in ports} for kind, ports in self.ports.items()}
+        having = {kind: set(ports.values()) for kind, ports in self.ports.items()}
         return 11 if self.known and any(self.known[kind] - having[kind] for kind in having) else None
 
 
@@ -126,11 +175,11 @@ def stepped(live, time):
 
 def run(text):
     lines = Lines(text)
-    layout = read_section(lines, Layout())
+    layout = read_section(lines, Layout(lines.limits))
     ins = layout.ports[b"in"]
-    on = read_section(lines, Assign({name for name, _ in ins})).on
+    on = read_section(lines, Assign(set(ins.values()))).on
     lines.finish()
-    live = layout.live | {cell for name, cell in ins if name in on}
+    live = layout.live | {cell for cell, name in ins.items() if name in on}
     for time in range(layout.steps):
         live = stepped(live, time)
         if any(not (0 <= x < layout.w and 0 <= y < layout.h) for x, y in live):
@@ -159,8 +208,10 @@ ROWS = {
 
 
 class Circuit:
-    def __init__(self):
-        self.rank, self.wires, self.used, self.inputs, self.gates, self.outputs = 0, [], set(), [], [], []
+    def __init__(self, limits):
+        self.limits = limits
+        # wires: each with its number, in order of definition
+        self.rank, self.wires, self.used, self.inputs, self.gates, self.outputs = 0, {}, set(), [], [], []
 
     def form(self, words):
         word, rest = words[0], words[1:]
@@ -192,7 +243,7 @@ class Circuit:
             return 6
         if word == b"delay" and not 1 <= number <= 4096:
             return 2
-        if len(self.wires) + len(outs) > 4096 or rank == 1 and len(self.gates) == 1024:
+        if len(self.wires) + len(outs) > self.limits.wires or rank == 1 and len(self.gates) == self.limits.gates:
             return 2
         for name in ins:
             if name not in self.wires:
@@ -203,7 +254,7 @@ class Circuit:
         for name in outs:
             if name in self.wires:
                 return 4
-            self.wires.append(name)
+            self.wires[name] = len(self.wires)
         self.rank = rank
         self.inputs += outs if rank == 0 else []
         self.gates += [(word, number, ins, outs)] if rank == 1 else []
@@ -216,7 +267,7 @@ class Circuit:
 
 def value(text):
     lines = Lines(text)
-    circuit = read_section(lines, Circuit())
+    circuit = read_section(lines, Circuit(lines.limits))
     on = read_section(lines, Assign(set(circuit.inputs))).on
     lines.finish()
     values = {name: name in on for name in circuit.inputs}
@@ -269,20 +320,41 @@ def cells_of(x, y, w, h):
 
 
 def ring_of(x, y, w, h):
-    return cells_of(x, y, w, h) - cells_of(x + 1, y + 1, w - 2, h - 2)
+    return {(u, v) for u in range(x, x + w) for v in (y, y + h - 1)} | {(u, v) for u in (x, x + w - 1) for v in range(y, y + h)}
+
+
+def grown(box, by):
+    """The box with so many more cells at each side."""
+    x, y, w, h = box
+    return x - by, y - by, w + 2 * by, h + 2 * by
+
+
+def has_cell(box, x, y):
+    left, top, w, h = box
+    return left <= x < left + w and top <= y < top + h
+
+
+def is_ring_cell(box, x, y):
+    return has_cell(box, x, y) and not has_cell(grown(box, -1), x, y)
 
 
 class Module:
-    def __init__(self, box, inside, rim):
-        x, y, w, h = box
-        self.box, self.cells = box, cells_of(*box)
-        # the cells that a line of the kind may name
-        self.places = {b"edge": ring_of(*box) - rim, b"halo": ring_of(x - 1, y - 1, w + 2, h + 2) & inside}
+    def __init__(self, box):
+        self.box = box
         # by kind what its lines say: names, gate numbers, and pairs of a place and a signal
         self.lines = {kind: [] for kind in KINDS}
         # the cells that * lines name
         self.held = {b"edge": set(), b"halo": set()}
         self.rank, self.local = 0, set()
+
+    @property
+    def cells(self):
+        return cells_of(*self.box)
+
+    @property
+    def halo(self):
+        """The cells outside the box that touch it, also those outside the rectangle."""
+        return ring_of(*grown(self.box, 1))
 
     def border_count(self):
         return sum(len(self.lines[kind]) for kind in (b"edge", b"halo", b"stop"))
@@ -290,12 +362,13 @@ class Module:
 
 class Certificate:
     def __init__(self, circuit, layout):
-        self.layout, self.wires = layout, set(circuit.wires)
+        self.limits, self.layout, self.wires = layout.limits, layout, circuit.wires
         self.gates = [(ins, outs) for _, _, ins, outs in circuit.gates]
         self.inverse = {number for number, (word, *_) in enumerate(circuit.gates) if word in INVERSE}
-        w, h = layout.w, layout.h
-        self.inside, self.rim = cells_of(0, 0, w, h), ring_of(0, 0, w, h)
-        self.version, self.modules, self.covered = None, [], set()
+        self.rectangle = 0, 0, layout.w, layout.h
+        self.version, self.modules, self.covered = None, [], Area(layout.w, layout.h)
+        # the edge lines of all modules for each cell
+        self.edges_at = collections.defaultdict(list)
 
     def form(self, words):
         word, rest = words[0], words[1:]
@@ -332,15 +405,13 @@ class Certificate:
         x, y, w, h = box
         if self.lacks_a_port():
             return 11
-        if any(side % 2 or not 2 <= side <= 64 for side in (w, h)) or len(self.modules) == 1024:
+        if any(side % 2 or not 2 <= side <= 64 for side in (w, h)) or len(self.modules) == self.limits.modules:
             return 2
         if x % 2 or y % 2 or x + w > self.layout.w or y + h > self.layout.h:
             return 8
-        module = Module(box, self.inside, self.rim)
-        if module.cells & self.covered:
+        if not self.covered.take(*box):
             return 8
-        self.covered |= module.cells
-        self.modules.append(module)
+        self.modules.append(Module(box))
         return None
 
     def is_out_of_place(self, kind):
@@ -384,6 +455,12 @@ class Certificate:
             return 9
         return self.take(b"keep", gate)
 
+    def is_place(self, module, kind, x, y):
+        """Whether an `edge` or `halo` line of the module may name the cell."""
+        if kind == b"edge":
+            return is_ring_cell(module.box, x, y) and not is_ring_cell(self.rectangle, x, y)
+        return has_cell(self.rectangle, x, y) and is_ring_cell(grown(module.box, 1), x, y)
+
     def border(self, kind, time, x, y, signal):
         # a * line comes before every line with a time
         place = (-1 if time is None else time, y, x)
@@ -396,7 +473,7 @@ class Certificate:
             return 6
         if module.border_count() == 65536:
             return 2
-        if (x, y) not in module.places[kind]:
+        if not self.is_place(module, kind, x, y):
             return 10
         if time is not None:
             if time % 2 == 0 or time >= self.layout.steps or (-1, y, x) in module.held[kind]:
@@ -408,6 +485,8 @@ class Certificate:
                 return 9
         if time is None:
             module.held[kind].add(place)
+        if kind == b"edge":
+            self.edges_at[x, y].append((place, signal))
         return self.take(kind, (place, signal))
 
     def stop(self, time, name, x, y):
@@ -419,7 +498,7 @@ class Certificate:
             return 6
         if module.border_count() == 65536:
             return 2
-        if time > self.layout.steps or (x, y) not in module.cells:
+        if time > self.layout.steps or not has_cell(module.box, x, y):
             return 10
         if name not in self.wires:
             return 3
@@ -434,15 +513,15 @@ class Certificate:
         return None
 
     def lacks_a_port(self):
-        ports = self.layout.ports[b"in"] + self.layout.ports[b"out"]
-        last = self.modules[-1:]
-        return any(cell in module.cells and name not in module.local for module in last for name, cell in ports)
+        """Whether the last module doesn't know the wire of a port in its box."""
+        ports = self.layout.ports.values()
+        return any(cell in kind and kind[cell] not in module.local for module in self.modules[-1:] for cell in module.cells for kind in ports)
 
     def beside(self, module):
         """The edge lines of all modules for the cells of this one's halo, in order. Without an odd time there are none."""
         if self.layout.steps < 2:
             return []
-        return sorted(line for other in self.modules for line in other.lines[b"edge"] if line[0][:0:-1] in module.places[b"halo"])
+        return sorted(line for cell in module.halo for line in self.edges_at.get(cell, ()))
 
     def lacks_a_wire(self):
         """Whether in version 2 a module doesn't know the wire of an edge line beside it."""
@@ -450,15 +529,15 @@ class Certificate:
             signal != b"1" and signal not in module.local for module in self.modules for _, signal in self.beside(module))
 
     def end(self):
-        return 11 if self.lacks_a_port() or self.covered != self.inside or self.lacks_a_wire() else None
+        return 11 if self.lacks_a_port() or not self.covered.is_full() or self.lacks_a_wire() else None
 
 
 def read_bundle(text):
     """The certificate, and the lines of its section."""
     lines = Lines(text)
-    circuit = read_section(lines, Circuit())
+    circuit = read_section(lines, Circuit(lines.limits))
     known = {b"in": set(circuit.inputs), b"out": set(circuit.outputs)}
-    layout = read_section(lines, Layout(known))
+    layout = read_section(lines, Layout(lines.limits, known))
     first = lines.taken
     certificate = read_section(lines, Certificate(circuit, layout))
     lines.finish()

@@ -4,6 +4,8 @@ assignment after another, its live cells are a set, and all of its faults are ma
 least_fault(circuit, layout, module) gives the time, the kind's number, y, x and the assignment, or None; least_keep(circuit, module)
 the number of a gate and the assignment, or None.
 """
+import collections
+
 from reference import PARTS, ROWS, Layout, cells_of, ring_of, stepped
 
 KINDS = ["edge", "stop", "end"]
@@ -12,8 +14,8 @@ KINDS = ["edge", "stop", "end"]
 class Pattern(Layout):
     """A layout with the cells of its mirrors and its waste cells."""
 
-    def __init__(self, known):
-        super().__init__(known)
+    def __init__(self, limits, known):
+        super().__init__(limits, known)
         self.cells = {part: set() for part in PARTS}
 
     def item(self, rank, name, at):
@@ -36,40 +38,52 @@ def local_values(circuit, module, assignment):
     return values | {b"1": True}, None
 
 
-def true_cells(module, kind, time, values):
-    """The cells whose edge or halo signal at an odd time is true."""
-    return {(x, y) for (when, y, x), signal in module.lines[kind] if when in (-1, time) and values[signal]}
+def by_time(lines):
+    """For each time the cells and signals of its lines; those of `*` lines have time -1."""
+    found = collections.defaultdict(list)
+    for (time, y, x), signal in lines:
+        found[time].append(((x, y), signal))
+    return found
+
+
+def true_cells(lines, time, values):
+    """The cells whose edge or halo signal at an odd time is true, by the lines of one kind."""
+    return {cell for when in (-1, time) for cell, signal in lines.get(when, ()) if values[signal]}
+
+
+def true_ports(ports, module, values):
+    """The ports of one kind in the module's box whose wire is true."""
+    return {cell for cell in module.cells if cell in ports and values[ports[cell]]}
 
 
 def start_of(layout, module, values):
-    ins = {cell for name, cell in layout.ports[b"in"] if cell in module.cells and values[name]}
-    return layout.live & module.cells | ins
+    return layout.live & module.cells | true_ports(layout.ports[b"in"], module, values)
 
 
 def wanted_at_end(layout, module, values):
-    outs = {cell for name, cell in layout.ports[b"out"] if cell in module.cells and values[name]}
-    return layout.cells[b"mirror"] & module.cells | outs
+    return layout.cells[b"mirror"] & module.cells | true_ports(layout.ports[b"out"], module, values)
 
 
-def stop_faults(module, values, time, live):
+def stop_faults(stops, values, time, live):
     """The stops of this time whose cell is not live exactly where the wire is true."""
-    for (when, y, x), name in module.lines[b"stop"]:
-        if when == time and ((x, y) in live) != values[name]:
+    for (x, y), name in stops.get(time, ()):
+        if ((x, y) in live) != values[name]:
             yield time, 1, y, x
 
 
 def faults_under(layout, module, values):
     """All faults under one assignment: the time, the kind's number, y and x."""
-    live, ring = start_of(layout, module, values), ring_of(*module.box)
+    live, ring, cells = start_of(layout, module, values), ring_of(*module.box), module.cells
+    edges, halos, stops = (by_time(module.lines[kind]) for kind in (b"edge", b"halo", b"stop"))
     for time in range(layout.steps):
-        yield from stop_faults(module, values, time, live)
+        yield from stop_faults(stops, values, time, live)
         if time % 2 == 0:
             live = stepped(live, time)
             continue
-        differ = live & ring ^ true_cells(module, b"edge", time, values)
+        differ = live & ring ^ true_cells(edges, time, values)
         yield from ((time, 0, y, x) for x, y in differ)
-        live = stepped(live | true_cells(module, b"halo", time, values), time) & module.cells
-    yield from stop_faults(module, values, layout.steps, live)
+        live = stepped(live | true_cells(halos, time, values), time) & cells
+    yield from stop_faults(stops, values, layout.steps, live)
     differ = (live ^ wanted_at_end(layout, module, values)) - layout.cells[b"waste"]
     yield from ((layout.steps, 2, y, x) for x, y in differ)
 

@@ -5,13 +5,8 @@ answer(text) gives the exit status and what is written for a text of bytes.
 """
 import hashlib
 
-from reference import INVERSE, Certificate, Circuit, Lines, Refused, read_section, ring_of
+from reference import INVERSE, Certificate, Circuit, Lines, Refused, read_section
 from reference_findings import KINDS, Pattern, least_fault, least_keep
-
-
-def signal_at(module, kind, time, cell):
-    """What the module's lines say of a cell at an odd time, or None."""
-    return next((signal for (when, y, x), signal in module.lines[kind] if (x, y) == cell and when in (-1, time)), None)
 
 
 def add_halos(certificate):
@@ -21,19 +16,21 @@ def add_halos(certificate):
             module.lines[b"halo"] = certificate.beside(module)
 
 
-def border_fault(layout, modules, module):
-    """The time, y and x of the least one, or None."""
-    x, y, w, h = module.box
-    halo = ring_of(x - 1, y - 1, w + 2, h + 2)
-    owners = [(v, u, other) for u, v in halo for other in modules if (u, v) in other.cells]
-    for time in range(1, layout.steps, 2):
-        for v, u, other in sorted(owners, key=lambda place: place[:2]):
-            if signal_at(module, b"halo", time, (u, v)) != signal_at(other, b"edge", time, (u, v)):
-                return time, v, u
-    return None
+def border_fault(certificate, module):
+    """The time, y and x of the least one, or None. A difference begins at time 1, at the time of a line, or right after it."""
+    halos, edges = dict(module.lines[b"halo"]), dict(certificate.beside(module))
+
+    def signal(lines, time, y, x):
+        return lines.get((time, y, x), lines.get((-1, y, x)))
+
+    named = halos.keys() | edges.keys()
+    places = {(1, y, x) for _, y, x in named} | {(time + 2 * late, y, x) for time, y, x in named if time > 0 for late in (0, 1)}
+    differ = (place for place in places if place[0] < certificate.layout.steps and signal(halos, *place) != signal(edges, *place))
+    return min(differ, default=None)
 
 
-def report(circuit, layout, modules):
+def report(circuit, certificate):
+    layout, modules = certificate.layout, certificate.modules
     for number, module in enumerate(modules):
         fault = least_fault(circuit, layout, module)
         if fault:
@@ -42,12 +39,13 @@ def report(circuit, layout, modules):
         fault = least_keep(circuit, module)
         if fault:
             yield b"keep %d %d %d\n" % (number, *fault)
-        fault = border_fault(layout, modules, module)
+        fault = border_fault(certificate, module)
         if fault:
             time, y, x = fault
             yield b"border %d %d %d %d\n" % (number, time, x, y)
+    kept = {number for module in modules for number in module.lines[b"keep"]}
     for number, (word, *_) in enumerate(circuit.gates):
-        if word in INVERSE and not any(number in module.lines[b"keep"] for module in modules):
+        if word in INVERSE and number not in kept:
             yield b"unkept %d\n" % number
 
 
@@ -78,8 +76,8 @@ def time_lines(circuit, modules):
 def answer(text):
     lines = Lines(text)
     try:
-        circuit = read_section(lines, Circuit())
-        layout = read_section(lines, Pattern({b"in": set(circuit.inputs), b"out": set(circuit.outputs)}))
+        circuit = read_section(lines, Circuit(lines.limits))
+        layout = read_section(lines, Pattern(lines.limits, {b"in": set(circuit.inputs), b"out": set(circuit.outputs)}))
         first = lines.taken
         certificate = read_section(lines, Certificate(circuit, layout))
         add_halos(certificate)
@@ -88,7 +86,7 @@ def answer(text):
     except Refused as refused:
         return 3, b"refused %d %d\n" % refused.args
     section = b"\n".join(lines.parts[first:last]) + b"\n"
-    faults = list(report(circuit, layout, certificate.modules))
+    faults = list(report(circuit, certificate))
     timing = list(time_lines(circuit, certificate.modules))
     digest = hashlib.sha256(section).hexdigest().encode()
     head = b"bbmcheck 1\ncertificate %s\nmodules %d\n" % (digest, len(certificate.modules))
