@@ -1,13 +1,15 @@
 #!/usr/bin/env python3
-"""conformance/run.py PROGRAM [FOLDER..] [--commands A,B] [--all] [--seconds N] [--jobs N]
+"""conformance/run.py PROGRAM [FOLDER..] [--commands A,B] [--all] [--huge] [--seconds N] [--jobs N]
 
 Runs PROGRAM on each worked case and compares the exit status and standard output. Prints a line for each case that does not hold, and last
 how many held. The status is 0 if all did.
 
-Without FOLDER the cases are those of the repository, with the large bundles of conformance/data. With it they are the case folders at or
-below each FOLDER, such as conformance/unpack.py writes. --commands takes the cases of these commands alone. --all also takes the cases
-that are about the words of a command and no text, unless --commands is given, and compares standard error if a case gives it: both are this
-project's own. A case has 120 seconds, or N. Two run at a time, or N.
+Without FOLDER the cases are those of the repository, with the large bundles of conformance/data, texts at each limit and one beyond it, and
+each case once more with the line `limits 2` in front of its text, if the line cannot change the answer. With FOLDER they are the case
+folders at or below each FOLDER, such as conformance/unpack.py writes. --commands takes the cases of these commands alone. --all also takes
+the cases that are about the words of a command and no text, unless --commands is given, and compares standard error if a case gives it:
+both are this project's own. --huge also takes texts of 16 and 256 MiB, which need some GB of memory for each case that runs. A case has
+120 seconds, or N. Two run at a time, or N.
 """
 import argparse
 import shutil
@@ -18,7 +20,7 @@ from pathlib import Path
 
 sys.dont_write_bytecode = True
 sys.path.insert(0, str(Path(__file__).resolve().parent))
-from cases import COMMANDS, all_cases, case_of_folder, is_about_texts  # noqa: E402
+from cases import COMMANDS, Case, all_cases, behind_the_line, case_of_folder, is_about_texts, limit_cases  # noqa: E402
 
 
 def short(line):
@@ -44,8 +46,8 @@ def fault_of(program, case, errors, seconds):
         return "it ended before it had read its text"
     if ended.returncode != case.status:
         return f"the status is {ended.returncode} and not {case.status}"
-    if case.output is not None and case.output != ended.stdout:
-        return difference("standard output", case.output, ended.stdout)
+    if not case.has_output(ended.stdout):
+        return "the output has another digest" if case.output is None else difference("standard output", case.output, ended.stdout)
     if errors and case.errors is not None and case.errors != ended.stderr:
         return difference("standard error", case.errors, ended.stderr)
     return None
@@ -62,9 +64,16 @@ def behind_wrapper(program):
     return Path(asked.stdout.decode().removesuffix("\n"))
 
 
+def cases_of_repository(with_huge: bool) -> list[Case]:
+    """Returns all cases, without or with those of huge texts."""
+    worked = all_cases()
+    behind = [case for case in map(behind_the_line, worked) if case]
+    return worked + behind + [case for case in limit_cases() if with_huge or not case.is_huge]
+
+
 def chosen(options):
     folders = sorted({path.parent for folder in options.folders for path in folder.glob("**/args")})
-    cases = [case_of_folder(folder) for folder in folders] if options.folders else all_cases()
+    cases = [case_of_folder(folder) for folder in folders] if options.folders else cases_of_repository(options.huge)
     if options.all and not options.commands:
         return cases
     return [case for case in cases if is_about_texts(case) and case.words[0] in (options.commands or COMMANDS)]
@@ -76,6 +85,7 @@ def main():
     parser.add_argument("folders", nargs="*", type=Path)
     parser.add_argument("--commands", type=lambda names: names.split(","), default=None)
     parser.add_argument("--all", action="store_true")
+    parser.add_argument("--huge", action="store_true")
     parser.add_argument("--seconds", type=int, default=120)
     parser.add_argument("--jobs", type=int, default=2)
     options = parser.parse_args()

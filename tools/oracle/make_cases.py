@@ -24,6 +24,7 @@ more: each is over a megabyte. tools/oracle/fuzz_texts makes such bundles itself
 import argparse
 import shutil
 import sys
+from collections.abc import Iterator
 from pathlib import Path
 
 sys.dont_write_bytecode = True
@@ -49,7 +50,7 @@ def number(path, default):
     return int(path.read_text()) if path.exists() else default
 
 
-def text_lines(text):
+def text_lines(text: bytes) -> Iterator[bytes]:
     """The lines that stand for a text, of which runs of equal lines are put in one."""
     lines = text.split(b"\n")
     last = lines.pop()
@@ -188,4 +189,5 @@ def main():
                     out.write(b"".join(line + b"\n" for line in run_lines(text, options.runs)))
 
 
-main()
+if __name__ == "__main__":
+    main()

@@ -557,7 +557,7 @@ def modules(text):
     return 0, b"".join(b"module %d %d %d %d %d cuts %d gates %d edges %d halos %d stops %d\n" % row for row in rows)
 
 
-def answer(command, text):
+def answer(command: str, text: bytes) -> tuple[int, bytes]:
     try:
         return {"run": run, "value": value, "modules": modules, "migrate": migrate}[command](text)
     except Refused as refused:

@@ -73,7 +73,7 @@ def time_lines(circuit, modules):
             yield b"meet %d %s\n" % (number, b"%d" % lasts[0] if met else b"differ"), met
 
 
-def answer(text):
+def answer(text: bytes) -> tuple[int, bytes]:
     lines = Lines(text)
     try:
         circuit = read_section(lines, Circuit(lines.limits))

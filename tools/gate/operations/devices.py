@@ -1,9 +1,13 @@
 """Tests of the program at devices: folders, full and closed ones, and reads and writes that fail or are interrupted."""
+import array
+import fcntl
 import os
 import re
 import signal
 import subprocess
 import tempfile
+import termios
+import time
 
 from operations.common import TOP, Given, Skipped, holds, need, same, text_of
 
@@ -73,6 +77,41 @@ def devices_pieces(_):
             running.send_signal(signal.SIGCONT)
     output, errors = running.communicate(timeout=60)
     same((running.returncode, output, errors), (whole.returncode, whole.stdout, b""))
+
+
+def is_empty(pipe):
+    """Whether all that was written to a pipe was read."""
+    count = array.array("i", [0])
+    fcntl.ioctl(pipe, termios.FIONREAD, count)
+    return count[0] == 0
+
+
+def result_in_pieces(command, pieces):
+    """What the program does over a text in pieces, each of which it reads by itself."""
+    running = subprocess.Popen([Given.program, command], stdin=subprocess.PIPE, stdout=subprocess.PIPE, stderr=subprocess.PIPE)
+    for piece in pieces:
+        running.stdin.write(piece)
+        running.stdin.flush()
+        ends = time.monotonic() + 10
+        while not is_empty(running.stdin):
+            holds(time.monotonic() < ends, f"{command}: a piece was not read")
+    output, errors = running.communicate(timeout=60)
+    return running.returncode, output, errors
+
+
+def devices_line_in_pieces(_):
+    """The line `limits 2` and what comes behind it in pieces of 1 to 9 bytes, by which the program still knows the text's limits."""
+    line, long = b"limits 2\n", b"x" * (16 << 20) + b"\n"
+    wide = b"layout 514 2 0\nball 513 1\nend\nassign\nend\n"
+    for size in range(1, 10):
+        for begin, text, wanted in ((line, wide, (0, b"cells 1\n513 1\n", b"")), (b"limits 3\n", wide, (3, b"refused 1 1\n", b"")),
+                                    (b"", wide, (3, b"refused 1 2\n", b"")), (line, line, (3, b"refused 2 1\n", b""))):
+            whole = begin + text
+            pieces = [whole[at:at + size] for at in range(0, len(whole), size)]
+            same(result_in_pieces("run", pieces), wanted, f"{whole[:12]!r} in pieces of {size} bytes")
+        # The line decides how long the text may be.
+        pieces = [line[at:at + size] for at in range(0, len(line), size)]
+        same(result_in_pieces("run", pieces + [long]), (3, b"refused 2 1\n", b""), f"a long text behind the line in pieces of {size} bytes")
 
 
 def devices_interrupts(_):
