@@ -1,5 +1,7 @@
 """Random bundles that `modules` takes: the same one each time for the same random numbers."""
 
+from reference import FRONT_LINE
+
 # how many wires a gate uses and makes
 GATES = {"source": (0, 1), "fredkin": (3, 3), "cswap": (3, 3), "interact": (2, 4), "switch": (2, 3), "delay": (1, 1)}
 # those that have no row at some inputs, and what each turns back
@@ -117,6 +119,32 @@ def second_version(text):
     """The text in version 2, without halo lines."""
     lines = text.replace(b"\ncertificate 1\n", b"\ncertificate 2\n").split(b"\n")
     return b"\n".join(line for line in lines if not line.startswith(b"halo "))
+
+
+def behind_line_or_not(rng, text):
+    """The text itself, or the text behind the line `limits 2`."""
+    return FRONT_LINE + text if rng.random() < 0.5 else text
+
+
+# For each line of a layout or a certificate with a cell, which word is its x.
+X_WORDS = {b"mirror": 1, b"ball": 1, b"in": 2, b"out": 2, b"waste": 1, b"module": 1, b"edge": 2, b"halo": 2, b"stop": 3}
+
+
+def moved(text, by):
+    """The same bundle so many columns to the right, and modules without lines to the left of it."""
+    found, height = [], 0
+    for line in text.splitlines():
+        words = line.split(b" ")
+        if words[0] == b"layout":
+            height = int(words[2])
+            words[1] = b"%d" % (int(words[1]) + by)
+        elif words[0] in X_WORDS and len(words) > 2:
+            at = X_WORDS[words[0]]
+            words[at] = b"%d" % (int(words[at]) + by)
+        found.append(b" ".join(words))
+        if words[0] == b"certificate":
+            found += [b"module %d 0 %d %d" % (x, min(64, by - x), height) for x in range(0, by, 64)]
+    return b"".join(line + b"\n" for line in found)
 
 
 def bundle(rng, width, height, boxes, steps, inputs, gates, mirrors, cuts, lines):
