@@ -1,15 +1,15 @@
 #!/usr/bin/env python3
-"""make_gates.py grid | channel: writes a bundle of 512 by 512 cells in 1024 modules of 16 by 16 cells, which gets a yes. It is the same
-bundle each time.
+"""make_gates.py grid [WIDTH HEIGHT] | channel: writes a bundle of 512 by 512 cells in 1024 modules of 16 by 16 cells, which gets a yes. It
+is the same bundle each time.
 
 grid: 256 collisions of two balls, each in the corner of four modules, 15 steps. channel: 16 channels of two long mirrors, in each of which
-three balls of two cells run to the right over the borders of modules, 440 steps.
+three balls of two cells run to the right over the borders of modules, 440 steps. A grid of up to 4096 by 4096 cells begins with the line
+`limits 2`, and has collisions at five of eight such corners, since more would make too many wires.
 """
 import sys
 from collections import defaultdict
 
 EXTENT, SIDE = 512, 16
-COUNT = EXTENT // SIDE
 
 
 def turned(live, time, mirrors):
@@ -39,20 +39,19 @@ def owner(x, y):
     return x // SIDE, y // SIDE
 
 
-def watchers(x, y):
-    """The other modules that have the cell in their halo."""
-    around = {owner(x + dx, y + dy) for dx in (-1, 0, 1) for dy in (-1, 0, 1)} - {owner(x, y)}
-    return [(u, v) for u, v in around if 0 <= u < COUNT and 0 <= v < COUNT]
-
-
 class Bundle:
     """A bundle in the making. A module's cuts, used gates and lines are kept by the module's place."""
 
-    def __init__(self, steps):
-        self.steps = steps
+    def __init__(self, steps, width=EXTENT, height=EXTENT):
+        self.steps, self.width, self.height = steps, width, height
         self.circuit, self.layout = defaultdict(list), defaultdict(list)
         self.cuts, self.uses = defaultdict(set), defaultdict(set)
         self.edges, self.halos = defaultdict(set), defaultdict(set)
+
+    def watchers(self, x, y):
+        """The other modules that have the cell in their halo."""
+        around = {owner(x + dx, y + dy) for dx in (-1, 0, 1) for dy in (-1, 0, 1)} - {owner(x, y)}
+        return [(u, v) for u, v in around if 0 <= u < self.width // SIDE and 0 <= v < self.height // SIDE]
 
     def know(self, module, wires, gate=None):
         self.cuts[module] |= set(wires)
@@ -61,7 +60,7 @@ class Bundle:
 
     def add_line(self, time, x, y, signal):
         """The edge line, the halo lines beside it, and the modules that have one."""
-        others = watchers(x, y)
+        others = self.watchers(x, y)
         if others:
             self.edges[owner(x, y)].add((time, y, x, signal))
         for other in others:
@@ -69,14 +68,15 @@ class Bundle:
         return [owner(x, y), *others] if others else []
 
     def lines(self):
+        yield from ["limits 2"] if max(self.width, self.height) > EXTENT else []
         yield "circuit"
         for part in ("input", "gate", "output"):
             yield from self.circuit[part]
-        yield from ("end", f"layout {EXTENT} {EXTENT} {self.steps}")
+        yield from ("end", f"layout {self.width} {self.height} {self.steps}")
         for part in ("mirror", "in", "out"):
             yield from self.layout[part]
         yield from ("end", "certificate 1")
-        for module in ((u, v) for v in range(COUNT) for u in range(COUNT)):
+        for module in ((u, v) for v in range(self.height // SIDE) for u in range(self.width // SIDE)):
             yield f"module {module[0] * SIDE} {module[1] * SIDE} {SIDE} {SIDE}"
             yield from (f"cut {name}" for name in sorted(self.cuts[module]))
             yield from (f"use {gate}" for gate in sorted(self.uses[module]))
@@ -86,11 +86,16 @@ class Bundle:
         yield "end"
 
 
-def grid():
+def corners(width, height):
+    """Where the collisions of a grid are."""
+    found = [(x, y) for y in range(SIDE, height, 2 * SIDE) for x in range(SIDE, width, 2 * SIDE)]
+    return found if max(width, height) <= EXTENT else [corner for number, corner in enumerate(found) if number % 8 < 5]
+
+
+def grid(width=EXTENT, height=EXTENT):
     """Each collision is at the corner of four modules, which all know its inputs and use its gate."""
-    bundle = Bundle(15)
-    pitch = 2 * SIDE
-    for gate, (x, y) in enumerate((x, y) for y in range(SIDE, EXTENT, pitch) for x in range(SIDE, EXTENT, pitch)):
+    bundle = Bundle(15, width, height)
+    for gate, (x, y) in enumerate(corners(width, height)):
         p, q = f"p{gate}", f"q{gate}"
         a, b, c, d = (f"{letter}{gate}" for letter in "abcd")
         starts = {p: (x - 2, y - 2), q: (x + 1, y + 1)}
@@ -142,6 +147,14 @@ def channel():
     return bundle
 
 
-if sys.argv[1:] not in (["grid"], ["channel"]):
-    sys.exit(__doc__)
-sys.stdout.write("".join(line + "\n" for line in (grid if sys.argv[1] == "grid" else channel)().lines()))
+def main(words):
+    if words == ["channel"]:
+        made = channel()
+    elif words[:1] == ["grid"] and len(words) in (1, 3):
+        made = grid(*map(int, words[1:]))
+    else:
+        sys.exit(__doc__)
+    sys.stdout.writelines(line + "\n" for line in made.lines())
+
+
+main(sys.argv[1:])
