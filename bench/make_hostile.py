@@ -340,6 +340,14 @@ def cuts_and_uses(scale):
     return bundle(scale, (scale.side, height, 1), [], modules, forked(names, 22))
 
 
+def one_wire_each(scale):
+    """check, migrate, modules: the most modules and the most wires, of which each module cuts one: not the first ones."""
+    names = [f"w{k}" for k in range(scale.fixed(4086, 64_998))]
+    last, height = len(names) - 1, scale.height
+    modules = (line for k, box in enumerate(boxes(scale.side, height, 16, 16)) for line in ["module %d %d %d %d" % box, f"cut w{last - k % 1000}"])
+    return bundle(scale, (scale.side, height, 1), [], modules, forked(names, 2))
+
+
 def alike_lines(scale):
     """check, migrate, modules: 14 MiB of lines that name the last of 4086 wires, whose hashes fall together."""
     names = alike_wires(scale, scale.fixed(4086, 64_998))
@@ -535,7 +543,8 @@ def many_long_runs(scale):
 
 
 KINDS = [run_names, run_alike_names, run_ports, run_mirrors, run_balls, one_line, spaces, value_wide, value_alike, borders, most_lines,
-         neighbours, near_edges, most_edges, stars, cuts_and_uses, alike_lines, most_stops, alike_stops, same_port, most_memory, alike_places, many_modules, long_runs, square_runs, flat_runs,
+         neighbours, near_edges, most_edges, stars, cuts_and_uses, one_wire_each, alike_lines, most_stops, alike_stops, same_port, most_memory, alike_places,
+         many_modules, long_runs, square_runs, flat_runs,
          long_runs_with_lines, never_defined, once_defined, longest_runs, many_long_runs]
 
 
