@@ -5,7 +5,10 @@ use Rattle.check_main.proofs.Imports.{[], ap, arith, subst, sym, ℕ, ◌++◌, 
 use Rattle.lemmas.proofs.Common.{◌↔◌, append-nil, IsAtEnd, append_cancel_left}
 use Rattle.meaning.specs.Streams.{FourthLineSaysYes}
 use Rattle.headline.proofs.FourthLines.{says_on}
-use Rattle.check_main.specs.Stream.{ReadsAll, AppendsProperPrefix}
+use Rattle.std.specs.Result.{IsErrOf}
+use Rattle.check_main.specs.Stream.{AppendsProperPrefix, BreaksOff, ReadsAll}
+use Rattle.check_main.specs.declared.fault.CheckFault.{CheckFault}
+use Rattle.check_main.specs.declared.fault.CheckFault.TheVariants.{Write}
 
 all_read : (left left' : Option (List ℕ)) (text known : List ℕ) → left ≡ Some known → Consumes left left' text →
     IsAtEnd left' → text ≡ known
@@ -123,3 +126,18 @@ outcome_tells P wanted left left' written_bytes written_bytes' text output outco
     (subst (P text) (sym own) (holds (sym same ∙ wanted_is)))
 outcome_tells P wanted left left' written_bytes written_bytes' text output outcome holds read (Err e') is same all
     known before more e f g = absurd cc
+
+-- an output was not written whole: its first bytes were
+pub broken_off : (R : List ℕ → List ℕ → Outcome → Type 0) (left left' written written' : Option (List ℕ))
+    (text output : List ℕ) (outcome : Outcome) (result : Result Outcome CheckFault) → ReadsAll left left' text →
+    R text output outcome → IfErr result (λ _. AppendsProperPrefix written written' output) → IsErrOf result Write →
+    BreaksOff R left left' written written'
+broken_off R left left' written written' text output outcome (Ok _) read right prefix is = absurd cc
+broken_off R left left' written written' text output outcome (Err fault) read right prefix is = record {
+  text = text;
+  output = output;
+  outcome = outcome;
+  read = read;
+  right = right;
+  written = prefix;
+}

@@ -11,17 +11,25 @@ use Rattle.answers.specs.declared.outcome.Outcome.{Outcome}
 use Rattle.check_main.specs.declared.fault.CheckFault.{CheckFault}
 use Rattle.check_main.specs.declared.fault.CheckFault.TheVariants.{Read, Write, TooLong}
 
+-- the text is no longer than it may be, with its first line
+unfoldable pub IsWithinLimit : List ℕ → Type 0
+IsWithinLimit text = length text ≤ own_text_limit text
+
+-- the text is longer
+unfoldable pub IsPastLimit : List ℕ → Type 0
+IsPastLimit text = own_text_limit text < length text
+
 -- the reader gave the text, and has no more
 pub record ReadsAll (old new : Option (List ℕ)) (text : List ℕ) : Type 0 where
   pub given : Consumes old new text
   pub ended : IsAtEnd new
-  pub within : length text ≤ own_text_limit text
+  pub within : IsWithinLimit text
 
 -- the reader gave a byte past the limit of its text
 pub record GivesTooMuch (old new : Option (List ℕ)) : Type 0 where
   pub text : List ℕ
   pub given : Consumes old new text
-  pub beyond : own_text_limit text < length text
+  pub beyond : IsPastLimit text
 
 -- the feed is all of a text, of which no line is taken
 abbrev pub closed_feed_of : List ℕ → FeedView

@@ -184,6 +184,7 @@ fn read_text<T: RandomSource, R: Source>(
 }
 
 // Reads up to the end, by reads that ask for as many bytes as the block has.
+#[tactic(auto, unfolding(crate::specs::Stream::IsWithinLimit))]
 fn read_by_blocks<R: Source>(
     empty: Feed,
     reader: &mut R,

@@ -1,5 +1,5 @@
 -- The text so far is what the reader gave, at least one byte a turn.
-use Rattle.check_main.proofs.Imports.{Consumes, None, false, length, own_text_limit, max_text, ◌≡◌, ◌≤◌}
+use Rattle.check_main.proofs.Imports.{Consumes, None, false, length, own_text_limit, ◌≡◌, ◌≤◌}
 use Rattle.check_main.proofs.stream.read_by_blocks.Given as goal
 use Rattle.lemmas.specs.Bounds.{max_text}
 
