@@ -11,7 +11,7 @@ from types import FrameType
 from typing import Iterable, Iterator, Protocol
 
 from .answering import WORDS, Result, timed_answer
-from .program import Running
+from .program import Executable, Running
 from .terminal import LabError, read_bytes
 
 __all__ = ["WORDS", "Checker", "Keeper", "Result", "counted", "exit_status", "summary", "text_files"]
@@ -61,7 +61,7 @@ class Keeper(Protocol):
 class Order:
     """What each worker does: run a program for at most `timeout` seconds a text, and keep the results."""
 
-    program: str
+    program: Executable
     timeout: float | None
     keeper: Keeper | None = None
 
@@ -146,7 +146,7 @@ class Worker:
 class Checker:
     """Checks files, some at a time. `stop` ends all that runs."""
 
-    def __init__(self, program: str, jobs: int = 1, timeout: float | None = None, keeper: Keeper | None = None) -> None:
+    def __init__(self, program: Executable, jobs: int = 1, timeout: float | None = None, keeper: Keeper | None = None) -> None:
         self.order, self.jobs = Order(program, timeout, keeper), jobs
         self.workers: list[Worker] = []
 

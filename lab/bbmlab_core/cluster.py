@@ -4,14 +4,13 @@ import importlib
 import os
 import queue
 import time
-from pathlib import Path
 from typing import Any, Iterable, Iterator
 
-from . import remote
+from . import remote, sealed
 from .answering import Result, result_of_report
 from .checking import Checker, kept
+from .program import Executable
 from .receipts import ReceiptFolder, sha256
-from .releases import program_at
 from .terminal import LabError, read_bytes
 
 # How many groups of texts are on their way for each thread of the workers, and seconds between two looks.
@@ -35,18 +34,19 @@ class Group:
         self.sent = 0
 
 
-def connected(address: str, jobs: int, program: str) -> Any:
+def connected(address: str, jobs: int, program: Executable) -> Any:
     """Returns a client of the scheduler at an address, or of a cluster of processes here if the address is empty, with the program."""
     try:
         cloudpickle, distributed = (importlib.import_module(name) for name in ("cloudpickle", "distributed"))
     except ImportError as error:
         raise LabError("--dask needs Dask: apt-get install python3-distributed, or pip install 'bbmlab[dask]'") from error
-    cloudpickle.register_pickle_by_value(remote)
+    for module in (remote, sealed):
+        cloudpickle.register_pickle_by_value(module)
     try:
         if address:
             client = distributed.Client(address, timeout=CONNECT_SECONDS)
         else:
-            os.environ["BBMCHECK"] = program
+            os.environ["BBMCHECK"] = program.path
             client = distributed.Client(n_workers=jobs, threads_per_worker=1, processes=True, dashboard_address=":0", host="127.0.0.1", silence_logs=50)
         client.wait_for_workers(1, timeout=CONNECT_SECONDS)
     except (OSError, TimeoutError, ValueError) as error:
@@ -67,9 +67,9 @@ def outcome(future: Any) -> tuple[list[remote.Said], str]:
 class ClusterChecker(Checker):
     """Checks files by the workers of a cluster. The texts and the receipts are read and written here."""
 
-    def __init__(self, program: str, address: str, jobs: int, timeout: float | None, folder: ReceiptFolder | None, sends: bool) -> None:
+    def __init__(self, program: Executable, address: str, jobs: int, timeout: float | None, folder: ReceiptFolder | None, sends: bool) -> None:
         super().__init__(program, jobs, timeout, folder)
-        self.digest = program_at(program).sha256
+        self.digest = program.sha256
         self.client = connected(address, jobs, program)
         self.said: dict[str, str] = {}
         # The groups that came back, how many are on their way, and what the texts of those that came back took.
@@ -77,8 +77,8 @@ class ClusterChecker(Checker):
         self.flying, self.answered, self.worked = 0, 0, 0.0
         self.thread_count, self.counted_until = 1, 0.0
         if sends:
-            self.client.run(remote.store_program, Path(program).read_bytes(), self.digest)
-        for complaint in sorted({complaint for _, complaint in self.client.run(remote.program_with, self.digest).values() if complaint}):
+            self.client.run(remote.store_program, program.data(), self.digest)
+        for complaint in sorted(set(self.client.run(remote.complaint_about, self.digest).values()) - {""}):
             self.stop()
             raise LabError(complaint)
 

@@ -6,7 +6,7 @@ from .answering import STATUS_OF
 from .documents import read_document
 from .own_report import own_report
 from .processor import processor_seconds
-from .program import ProgramError, ProgramTimeout, ask
+from .program import Executable, ProgramError, ProgramTimeout, ask, opened
 from .reports import Finding, Report, ReportError, parse_report
 
 # The most seconds for one run of the program.
@@ -26,8 +26,8 @@ class Budget:
 class Trial:
     """Asks the program about texts; without a program, the lab's reader and its own runs of the modules."""
 
-    def __init__(self, program: str | None, budget: Budget = Budget()) -> None:
-        self.program = program
+    def __init__(self, program: Executable | str | None, budget: Budget = Budget()) -> None:
+        self.program = None if program is None else opened(program)
         self.budget = budget
         self.tries = 0
         self.started = processor_seconds()

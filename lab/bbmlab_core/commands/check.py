@@ -6,7 +6,7 @@ from ..checking import Checker, exit_status, text_files
 from ..program import find_program
 from ..progress import Progress
 from ..receipts import ReceiptFolder
-from ..releases import program_at
+from ..releases import program_of
 from ..results import WRITERS, ResultWriter
 from ..sharding import in_shard
 from ..signals import Stopped
@@ -20,7 +20,7 @@ def source(options: argparse.Namespace) -> Checker:
         raise LabError("--again is for --receipts", 2)
     if options.send_program and options.dask is None:
         raise LabError("--send-program is for --dask", 2)
-    folder = ReceiptFolder(options.receipts, program_at(program), options.again) if options.receipts else None
+    folder = ReceiptFolder(options.receipts, program_of(program), options.again) if options.receipts else None
     if options.dask is None:
         return Checker(program, options.jobs, options.timeout, folder)
     from ..cluster import ClusterChecker

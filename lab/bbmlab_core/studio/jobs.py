@@ -11,6 +11,8 @@ import time
 from pathlib import Path
 from typing import Any
 
+from ..program import Executable, opened
+
 PACKAGE_PARENT = Path(__file__).resolve().parents[2]
 # How many seconds more than the program's limit a job may take, and how many a process may take to end.
 MORE_SECONDS, END_SECONDS = 10.0, 2.0
@@ -19,10 +21,11 @@ MORE_SECONDS, END_SECONDS = 10.0, 2.0
 class Worker:
     """A process that answers jobs."""
 
-    def __init__(self, program: str, seconds: float, memory: int) -> None:
-        words = [sys.executable, "-B", "-m", "bbmlab_core.studio.worker", program, str(seconds), str(memory)]
+    def __init__(self, program: Executable | str, seconds: float, memory: int) -> None:
+        self.program = program = opened(program)
+        words = [sys.executable, "-B", "-m", "bbmlab_core.studio.worker", program.path, str(program.descriptor), program.sha256, str(seconds), str(memory)]
         path = os.pathsep.join([str(PACKAGE_PARENT), *filter(None, [os.environ.get("PYTHONPATH")])])
-        self.process = subprocess.Popen(words, stdin=subprocess.PIPE, stdout=subprocess.PIPE, start_new_session=True,
+        self.process = subprocess.Popen(words, stdin=subprocess.PIPE, stdout=subprocess.PIPE, start_new_session=True, pass_fds=[program.descriptor],
                                         env={**os.environ, "PYTHONPATH": path})
         self.is_ended = False
 
@@ -67,8 +70,8 @@ class Worker:
 class Jobs:
     """The jobs of all tabs. A tab's newer job ends its older one; jobs of other tabs wait."""
 
-    def __init__(self, program: str, seconds: float, memory: int) -> None:
-        self.program, self.seconds, self.memory = program, seconds, memory
+    def __init__(self, program: Executable | str, seconds: float, memory: int) -> None:
+        self.program, self.seconds, self.memory = opened(program), seconds, memory
         self.turn, self.lock = threading.Lock(), threading.Lock()
         self.newest: dict[str, int] = {}
         self.count = 0

@@ -16,7 +16,7 @@ from ..explaining import explain_report, tried_words
 from ..fixing import Fix, Fixer, head_of, outcome_words
 from ..layouts import Cell, Layout
 from ..processor import processor_seconds
-from ..program import Answer, ProgramError, ProgramTimeout, ask
+from ..program import Answer, Executable, ProgramError, ProgramTimeout, ask
 from ..refusals import explain_code, explain_refusal
 from ..reports import Finding, Report, ReportError, parse_report
 from ..spelling import spelled
@@ -53,7 +53,7 @@ class Verdict:
 class Judge:
     """Asks the program about one text, within a number of seconds. `earlier` is a certificate that got a yes before the last edits."""
 
-    def __init__(self, text: str, program: str, seconds: float, earlier: str = "") -> None:
+    def __init__(self, text: str, program: Executable, seconds: float, earlier: str = "") -> None:
         self.source, self.program, self.seconds, self.earlier = text, program, seconds, earlier
         self.text = spelled(text).text
         self.head = head_of(self.text)
@@ -232,7 +232,7 @@ def fault_form(cuts: list[list[str]], inputs: list[str], finding: Finding) -> di
 # ---- explanations and fixes
 
 
-def explained(text: str, bundle: str, output: str, program: str, seconds: float) -> dict[str, Any]:
+def explained(text: str, bundle: str, output: str, program: Executable, seconds: float) -> dict[str, Any]:
     """Returns a no or a refusal in words, with fixes that were tried. `text` is the page's, `bundle` is what the program read."""
     trial, has_own = Trial(program, Budget(200, seconds)), head_of(spelled(text).text) != spelled(text).text
     report = parse_report(output)
@@ -266,7 +266,7 @@ def fix_form(fix: Fix | None, report: Report, has_own: bool) -> dict[str, Any] |
     return {"words": [*fix.words, outcome_words(report, fix)], "verdict": fix.report.verdict, "text": text}
 
 
-def fixes_of_design(text: str, program: str, seconds: float) -> dict[str, Any]:
+def fixes_of_design(text: str, program: Executable, seconds: float) -> dict[str, Any]:
     """Returns fixes of a text for which no certificate was found."""
     trial, head = Trial(program, Budget(200, seconds)), head_of(spelled(text).text)
     report = trial.report(head)
