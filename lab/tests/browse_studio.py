@@ -11,6 +11,7 @@ import sys
 import time
 from pathlib import Path
 
+from browse_page import open_browser, shown, wait
 from selenium.webdriver.common.by import By
 from selenium.webdriver.common.keys import Keys
 from studio_driver import Studio
@@ -417,7 +418,7 @@ def offer_draft_again(studio: Studio) -> None:
     (studio.folder / "draft.txt").write_text(example("not_gate"))
     (studio.folder / "other.txt").write_text(example("gate_and_mirror"))
     studio.start("draft.txt")
-    studio.script("localStorage.clear()")
+    studio.script("for (const key of Object.keys(localStorage)) if (key.startsWith('bbmlab draft')) localStorage.removeItem(key)")
     studio.click("#tool-mirror")
     studio.drag((9, 2), (10, 3))
     await_draft(studio)
@@ -505,6 +506,27 @@ def use_two_tabs(studio: Studio) -> None:
     assert "mirror 9 2" in (studio.folder / "tabs_2.txt").read_text() and "mirror 1 8" in (studio.folder / "tabs.txt").read_text()
 
 
+def let_in_once(studio: Studio) -> None:
+    """The address lets one browser in. The page takes it out of its own address, and another browser with it is told what to do."""
+    (studio.folder / "once.txt").write_text(example("not_gate"))
+    address = studio.serve("once.txt")
+    page = studio.folder / "once.html"
+    page.write_text(f'<!DOCTYPE html><meta http-equiv="refresh" content="0; url={address}">')
+    studio.browser.get(page.as_uri())
+    studio.wait(lambda: studio.script("return document.getElementById('name')?.textContent") == "once.txt", "the page that leads to the address opens the file")
+    assert studio.browser.current_url == address.split("#")[0], studio.browser.current_url
+    studio.browser.refresh()
+    studio.wait(lambda: studio.text("name") == "once.txt", "the page is loaded again")
+    other = open_browser("--window-size=1400,850")
+    try:
+        other.get(address)
+        wait(lambda: "does not let this page in" in shown(other, "notice"), "the other browser is not let in")
+        assert shown(other, "name") == "…", shown(other, "name")
+        other.save_screenshot(str(studio.folder / "not_let_in.png"))
+    finally:
+        other.quit()
+
+
 def choose_spelling(studio: Studio) -> None:
     """A text with comments is saved with them, or in the one spelling, as the user says."""
     text = "# by hand\n" + example("not_gate")
@@ -583,7 +605,7 @@ def see_dark(studio: Studio) -> None:
 
 USES = [draw_collision, drag_mirror, draw_by_keyboard, refuse_circuit, place_mirrors, change_selection, insert_cell, draw_not_gate, take_fix, see_ways, draw_by_touch,
         do_many_commands, choose_spelling, answer_late, see_dark, use_dialogs, keep_draft, offer_draft_again, keep_selection,
-        ask_twice, use_two_tabs]
+        ask_twice, use_two_tabs, let_in_once]
 
 
 def run_uses(studio: Studio, wanted: list[str]) -> list[str]:
@@ -599,13 +621,17 @@ def run_uses(studio: Studio, wanted: list[str]) -> list[str]:
         use(studio)
         print(f"{use.__name__}: done in {time.monotonic() - begun:.1f} s", file=sys.stderr, flush=True)
         logged = [entry["message"] for entry in studio.browser.get_log("browser") if entry["level"] == "SEVERE"]
-        errors += [message for message in logged if not is_of_killed_server(message)]
+        errors += [message for message in logged if not is_expected(message)]
     return errors
 
 
-def is_of_killed_server(message: str) -> bool:
-    """Whether an error says that no server answers, or that one ended in the middle of an answer: each `start` kills the one before."""
-    return "net::ERR_" in message or "NetworkError: Failed to execute 'importScripts'" in message
+def is_expected(message: str) -> bool:
+    """Whether an error says that no server answers, or that one ended in the middle of an answer: each `start` kills the one before.
+
+    A second tab with an address that was used is told that its token counts no more, and goes on with the key of the first.
+    """
+    is_of_killed_server = "net::ERR_" in message or "NetworkError: Failed to execute 'importScripts'" in message
+    return is_of_killed_server or "/api/enter - Failed to load resource: the server responded with a status of 403" in message
 
 
 def main() -> int:
