@@ -15,8 +15,9 @@ from urllib.parse import quote
 from .answering import STATUS_OF, Result, result_of_report
 from .checking import Contradiction
 from .releases import Program
+from .replacing import replace_file
 from .reports import parse_report
-from .terminal import LabError, read_bytes, replace_file
+from .terminal import LabError, read_bytes
 
 FORMAT = "bbmlab receipt 1"
 SECTIONS = ("circuit", "layout", "certificate")

@@ -83,7 +83,7 @@ def write_fix(text: str, command: str, program: Executable | None, options: argp
     data = (fix.text if fix else text).encode("latin-1")
     if options.in_place:
         if fix:
-            write_bytes(options.file, data)
+            write_bytes(options.file, data, before=text.encode("latin-1"))
     else:
         write_bytes(options.output, data, [options.file])
     return 0 if program and (fix is None or fix.report.verdict == "yes") else 1

@@ -8,7 +8,7 @@ import threading
 from pathlib import Path
 
 from ..lines import MAX_TEXT_BYTES
-from ..terminal import replace_file
+from ..replacing import ChangedFileError, replace_file
 
 # A name of a file of the folder: no path, no hidden file, no control character.
 FILE_NAME = re.compile(r"[^./\\\x00-\x1f\x7f][^/\\\x00-\x1f\x7f]{0,200}\.txt\Z")
@@ -101,7 +101,10 @@ class Folder:
             if now != known and now != digest_of(data) and not is_forced:
                 raise ChangedError(f"{name} {'is missing now' if now is None else 'changed meanwhile' if known else 'exists already'}", now)
             try:
-                replace_file(str(path), data)
+                replace_file(str(path), data, None if is_forced else old, follows=False)
+            except ChangedFileError as error:
+                os.unlink(error.kept)
+                raise ChangedError(f"{name} changed meanwhile", None) from error
             except OSError as error:
                 raise FolderError(f"{name}: {error.strerror or error}") from error
         return digest_of(data)
