@@ -66,7 +66,8 @@ def parse_finding(line: str) -> Finding:
 
 def parse_report(text: str) -> Report:
     """Reads what `check` wrote."""
-    lines = text.splitlines()
+    # Only LF ends a line: a report that other characters break into lines is none.
+    lines = text.removesuffix("\n").split("\n")
     refused = re.match(r"refused (\d+) (\d+)\Z", lines[0]) if len(lines) == 1 else None
     if refused:
         return Report(refused=(int(refused[1]), int(refused[2])))

@@ -25,11 +25,24 @@ class Spelling:
     comments: int = 0
 
 
+def free_words(line: str) -> list[str]:
+    """Returns the words of a line that was written freely, without its comment and leading zeros.
+
+    A line ends with LF or CR LF, and words are parted by spaces and tabs. All other characters belong to words. The studio's page reads lines
+    by the same rules (`circuit_text.js`): what it draws must be the text that the program reads.
+    """
+    code = line.removesuffix("\r").partition("#")[0].replace("->", " -> ").replace("\t", " ")
+    return [plain_number(word) for word in code.split(" ") if word]
+
+
+def mark_length(text: str) -> int:
+    """Returns how many characters the byte order mark takes with which a text begins."""
+    return 3 if text.startswith("\xef\xbb\xbf") else 1 if text.startswith("\ufeff") else 0
+
+
 def free_lines(text: str, spelling: Spelling) -> Iterator[str]:
     """Yields the lines that contain a word, with single spaces, and without comments, byte order mark and leading zeros."""
-    start = 3 if text.startswith("\xef\xbb\xbf") else 1 if text.startswith("\ufeff") else 0
-    if "\r" in text:
-        text = text.replace("\r\n", "\n").replace("\r", "\n")
+    start = mark_length(text)
     is_spelled, size = SPELLED.fullmatch, len(text)
     while start < size:
         end = text.find("\n", start)
@@ -38,11 +51,10 @@ def free_lines(text: str, spelling: Spelling) -> Iterator[str]:
         if is_spelled(line):
             yield line
             continue
-        code, mark, _ = line.partition("#")
-        spelling.comments += bool(mark)
-        words = code.replace("->", " -> ").split()
+        spelling.comments += "#" in line
+        words = free_words(line)
         if words:
-            yield " ".join(plain_number(word) for word in words)
+            yield " ".join(words)
 
 
 def plain_number(word: str) -> str:

@@ -527,6 +527,29 @@ def let_in_once(studio: Studio) -> None:
         other.quit()
 
 
+# The server says yes to the text of another file.
+OTHER_YES = """const { server } = bbmlab, { request } = server, other = arguments[0];
+window.askTruly = () => { server.request = request; };
+server.request = (name, body) => request(name, name === "verdict" ? { ...body, text: other } : body);"""
+
+
+def see_other_picture(studio: Studio) -> None:
+    """A yes to a text that is not the one that is drawn is none, and the page says so."""
+    studio.begin("drawn.txt", example("not_gate"))
+    studio.verdict("yes")
+    studio.script(OTHER_YES, example("not_gate"))
+    studio.click("#tool-mirror")
+    studio.drag((9, 2), (10, 3))
+    studio.verdict("no answer")
+    assert "is not the one of this picture" in studio.text("report"), studio.text("report")
+    studio.script("askTruly()")
+    studio.click("#tool-mirror")
+    studio.drag((1, 8), (2, 9))
+    studio.verdict("yes")
+    studio.begin("joined.txt", example("not_gate").replace("\nin ", "\rin ").replace("\nout ", "\rout "))
+    studio.verdict("refused")
+
+
 def choose_spelling(studio: Studio) -> None:
     """A text with comments is saved with them, or in the one spelling, as the user says."""
     text = "# by hand\n" + example("not_gate")
@@ -605,7 +628,7 @@ def see_dark(studio: Studio) -> None:
 
 USES = [draw_collision, drag_mirror, draw_by_keyboard, refuse_circuit, place_mirrors, change_selection, insert_cell, draw_not_gate, take_fix, see_ways, draw_by_touch,
         do_many_commands, choose_spelling, answer_late, see_dark, use_dialogs, keep_draft, offer_draft_again, keep_selection,
-        ask_twice, use_two_tabs, let_in_once]
+        ask_twice, use_two_tabs, let_in_once, see_other_picture]
 
 
 def run_uses(studio: Studio, wanted: list[str]) -> list[str]:

@@ -111,6 +111,12 @@ const fallen = (mirrors) => geometry.fallingMirrors(mirrors).map(({ box }) => bo
 const snapped = (boxes, width, height) => boxes.map((box) => geometry.snapMirror(box, width, height));
 const circuit = (text) => { const { isWhole, inputs, outputs, spills, gates } = bbmlab.circuitText.read(text); return { isWhole, inputs, outputs, spills, gates }; };
 
-const functions = { law, random, commands, moved, ends, parts, truth, timed, fallen, snapped, circuit };
+/** Returns the words of the lines that contain one, for each text. */
+const words = (texts) => texts.map((text) => bbmlab.circuitText.unmarked(text).split("\n").map(bbmlab.circuitText.wordsOf).filter((found) => found.length));
+
+/** Returns the text that is drawn, for each text. */
+const drawn = (texts) => texts.map((text) => new Model(text).drawnText);
+
+const functions = { words, drawn, law, random, commands, moved, ends, parts, truth, timed, fallen, snapped, circuit };
 const jobs = JSON.parse(fs.readFileSync(0, "utf8"));
 console.log(JSON.stringify(jobs.map(([name, ...words]) => functions[name](...words))));

@@ -7,18 +7,18 @@
 "use strict";
 
 {
-  const { circuitText, geometry } = bbmlab, { wordsOf } = circuitText;
+  const { circuitText, geometry } = bbmlab, { wordsOf, unmarked } = circuitText;
   const KINDS = ["mirror", "ball", "in", "out", "waste"];
   const FORMS = { mirror: 4, ball: 2, in: 2, out: 2, waste: 2 };
   const NAME = /^[a-z][a-z0-9_]{0,31}$/, NUMBER = /^(0|[1-9][0-9]{0,8})$/;
-  const LINE = /^(\s*)([^#]*?)(\s*(?:#.*)?)$/s;
+  const LINE = /^(\ufeff?[ \t]*)([^#]*?)([ \t]*(?:#.*)?\r?)$/s;
   const MAX_STEPS = 65536;
 
   /** A command that cannot be done. The message is for the user. */
   class Refusal extends Error {}
 
   /** Returns the first word of a line, without a comment. */
-  const firstWord = (line) => { const found = /^\s*([^\s#]+)/.exec(line); return found ? found[1] : ""; };
+  const firstWord = (line) => wordsOf(line)[0] ?? "";
 
   // The parts of the lines that were read, since an edit changes few of many lines.
   const knownParts = new Map(), MAX_KNOWN = 200000;
@@ -107,8 +107,8 @@
 
     /** Reads the lines: where the layout begins and ends, its header and its parts, and the circuit. Each time these are new objects. */
     read() {
-      const start = this.lines.findIndex((line) => line.includes("layout") && firstWord(line) === "layout");
-      const end = start < 0 ? -1 : this.lines.findIndex((line, index) => index > start && ["end", "certificate"].includes(firstWord(line)));
+      const start = this.lines.findIndex((line, index) => line.includes("layout") && firstWord(index ? line : unmarked(line)) === "layout");
+      const end = start < 0 ? -1 : this.lines.findIndex((line, index) => index > start && /end|certificate/.test(line) && ["end", "certificate"].includes(firstWord(line)));
       const isClosed = end >= 0 && firstWord(this.lines[end]) === "end";
       this.start = start;
       // The line behind the parts, and the first line that is no longer of the layout.
@@ -128,7 +128,7 @@
 
     /** Returns the size and the steps of the layout, or null if they are no numbers within the limits. */
     readHeader() {
-      const words = this.start < 0 ? [] : wordsOf(this.lines[this.start]);
+      const words = this.start < 0 ? [] : wordsOf(this.start ? this.lines[this.start] : unmarked(this.lines[0]));
       if (words.length !== 4 || !words.slice(1).every((word) => NUMBER.test(word))) return null;
       const [width, height, steps] = words.slice(1).map(Number), isSide = (side) => side % 2 === 0 && side >= 2 && side <= geometry.MAX_SIDE;
       return isSide(width) && isSide(height) && steps <= MAX_STEPS ? { width, height, steps } : null;
@@ -141,6 +141,18 @@
       const ports = (kind) => inside.filter((part) => part.kind === kind).map(({ name, box }) => ({ name, cell: [box[0], box[1]] }));
       return { ...this.header, mirrors: inside.filter(({ kind }) => kind === "mirror").map(({ box }) => box), balls: cells("ball"),
         ins: ports("in"), outs: ports("out"), wastes: cells("waste") };
+    }
+
+    /**
+     * The text of the circuit and the layout as they are drawn, in the one spelling. A verdict is of this picture only if the program read this
+     * text. Null if the circuit cannot be read.
+     */
+    get drawnText() {
+      const { layout, circuit } = this;
+      if (layout === null || !circuit.isWhole) return null;
+      const parts = [...layout.mirrors.map((box) => ["mirror", ...box]), ...layout.balls.map((cell) => ["ball", ...cell]), ...layout.ins.map(({ name, cell }) => ["in", name, ...cell]),
+        ...layout.outs.map(({ name, cell }) => ["out", name, ...cell]), ...layout.wastes.map((cell) => ["waste", ...cell])];
+      return [...circuitText.linesOf(circuit), `layout ${layout.width} ${layout.height} ${layout.steps}`, ...parts.map((words) => words.join(" ")), "end", ""].join("\n");
     }
 
     /** The lines before the layout, which hold the circuit. */

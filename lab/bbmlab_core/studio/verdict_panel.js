@@ -8,6 +8,9 @@
   const BY = { own: "with the certificate of the text", earlier: "with the last certificate that got a yes", plain: "with a certificate of one module",
     certify: "with a certificate that the lab made" };
 
+  const OTHER_PICTURE = { verdict: "unknown", faults: [], by: "", is_last: true,
+    words: ["The program says yes to a text that is not the one of this picture. This is an error of the studio: please report it with the text."] };
+
   class VerdictPanel {
     /** @param {bbmlab.Desk} desk @param {bbmlab.Sketch} sketch */
     constructor(desk, sketch) {
@@ -51,13 +54,19 @@
       const first = stage === "other" && this.isCurrent && this.verdict.verdict === "no" ? this.verdict : null;
       if (answer.error) this.verdict = { verdict: "unknown", words: [answer.error], faults: [], by: "", hints: [], is_last: true };
       else if (first && answer.verdict === "none") this.verdict = { ...first, words: [...first.words, "The lab found no other certificate:", ...answer.words], is_last: true };
-      else this.verdict = answer;
+      else this.verdict = answer.verdict === "yes" && !this.isOfPicture(answer.bundle) ? { ...answer, ...OTHER_PICTURE } : answer;
       this.checked = text;
       this.explanation = null;
       this.seconds = [...(stage === "first" ? [] : this.seconds), (performance.now() - this.editedAt) / 1000];
       if (this.verdict.verdict === "yes") this.earlier = this.verdict.bundle.slice(this.verdict.bundle.indexOf("\ncertificate ") + 1);
       this.showBadge();
       this.showReport();
+    }
+
+    /** Whether the text that the program read is, up to its certificate, that of the picture. */
+    isOfPicture(bundle) {
+      const drawn = this.desk.model.drawnText;
+      return drawn !== null && bundle.startsWith(`${drawn}certificate `);
     }
 
     /** Asks the server for words and fixes. */
