@@ -439,6 +439,94 @@ def offer_draft_again(studio: Studio) -> None:
     assert studio.script("return Object.keys(localStorage).filter((key) => key.startsWith('bbmlab draft')).length") == 0
 
 
+def draft_mirror(studio: Studio, name: str) -> None:
+    """Opens a file, draws a mirror until the browser keeps a draft with it, and leaves the page."""
+    studio.start(name)
+    studio.click("#tool-mirror")
+    studio.drag((9, 2), (10, 3))
+    await_draft(studio)
+    studio.browser.get("about:blank")
+
+
+def forget_old_draft(studio: Studio) -> None:
+    """A draft that was offered and left is gone after another text was saved over the version from which it began."""
+    (studio.folder / "old.txt").write_text(example("not_gate"))
+    draft_mirror(studio, "old.txt")
+    studio.start("old.txt")
+    studio.await_text("notice", "There is a draft of old.txt")
+    studio.click("#tool-mirror")
+    studio.drag((1, 8), (2, 9))
+    studio.click("#save")
+    studio.await_text("status", "Saved old.txt.")
+    studio.rest()
+    assert not studio.browser.find_element(By.ID, "notice").is_displayed(), studio.text("notice")
+    studio.browser.refresh()
+    studio.wait(lambda: studio.text("name") == "old.txt", "the file is opened again")
+    studio.rest()
+    assert not studio.browser.find_element(By.ID, "notice").is_displayed(), studio.text("notice")
+    assert studio.script("return Object.keys(localStorage).filter((key) => key.startsWith('bbmlab draft')).length") == 0
+    assert "mirror 1 8" in (studio.folder / "old.txt").read_text()
+
+
+def ask_about_draft(studio: Studio) -> None:
+    """A draft that began from another version of the file is offered as such, and saving it asks before it writes over the newer one."""
+    newer = example("not_gate").replace("ball", "mirror 1 8 2 2\nball", 1)
+    (studio.folder / "versions.txt").write_text(example("not_gate"))
+    draft_mirror(studio, "versions.txt")
+    (studio.folder / "versions.txt").write_text(newer)
+    studio.start("versions.txt")
+    studio.await_text("notice", "that began from another version of the file")
+    studio.click("#notice button")
+    assert "mirror 9 2" in studio.layout_text() and "mirror 1 8" not in studio.layout_text()
+    studio.click("#save")
+    studio.answer("The file is another one now", "cancel")
+    assert (studio.folder / "versions.txt").read_text() == newer
+
+
+def duplicate_tab(studio: Studio) -> None:
+    """A tab that is duplicated begins with the number of the other one, and takes a number and drafts of its own."""
+    (studio.folder / "twice.txt").write_text(example("not_gate"))
+    studio.start("twice.txt")
+    studio.click("#tool-mirror")
+    studio.drag((9, 2), (10, 3))
+    await_draft(studio)
+    first, number = studio.browser.current_window_handle, studio.script("return bbmlab.server.tab")
+    studio.script("window.open(location.href)")
+    studio.wait(lambda: len(studio.browser.window_handles) == 2, "the tab is open")
+    studio.browser.switch_to.window(next(handle for handle in studio.browser.window_handles if handle != first))
+    studio.wait(lambda: studio.text("name") == "twice.txt", "the second tab is open")
+    assert studio.script("return bbmlab.server.tab") != number
+    assert not studio.browser.find_element(By.ID, "notice").is_displayed(), "the draft of an open tab is not offered"
+    assert studio.layout_text() == example("not_gate")
+    studio.script("bbmlab.studio.desk.model.setText(arguments[0])", example("not_gate") + "# two\n")
+    studio.wait(lambda: studio.script("return Object.keys(localStorage).filter((key) => key.startsWith('bbmlab draft')).length") == 2, "each tab has a draft")
+    studio.script("bbmlab.studio.desk.model.undo()")
+    studio.wait(lambda: studio.script("return Object.keys(localStorage).filter((key) => key.startsWith('bbmlab draft')).length") == 1, "the other draft stays")
+    studio.browser.close()
+    studio.browser.switch_to.window(first)
+    studio.click("#save")
+    studio.await_text("status", "Saved twice.txt.")
+
+
+def say_what_is_kept(studio: Studio) -> None:
+    """Without a server the page says that the draft is kept only if it is, and nothing if there is none."""
+    (studio.folder / "kept.txt").write_text(example("not_gate"))
+    studio.start("kept.txt")
+    studio.verdict("yes")
+    studio.kill()
+    ask = "const done = arguments[0]; bbmlab.server.request('files').then(({ error }) => done(error))"
+    error = str(studio.browser.execute_async_script(ask))
+    assert "kept" not in error and "does not answer" in error, error
+    studio.click("#tool-mirror")
+    studio.drag((9, 2), (10, 3))
+    assert "is kept in this browser" in studio.browser.execute_async_script(ask)
+    studio.script("Storage.prototype.setItem = () => { throw new DOMException('full', 'QuotaExceededError'); }")
+    studio.drag((1, 8), (2, 9))
+    error = str(studio.browser.execute_async_script(ask))
+    assert "is not kept in this browser" in error, error
+    studio.script("bbmlab.studio.files.saved = bbmlab.studio.desk.model.text")
+
+
 def keep_selection(studio: Studio) -> None:
     """The selection stays on its part while lines are typed, and another file begins without one. Words of the page can be copied."""
     studio.begin("chosen.txt", example("not_gate"))
@@ -628,7 +716,8 @@ def see_dark(studio: Studio) -> None:
 
 USES = [draw_collision, drag_mirror, draw_by_keyboard, refuse_circuit, place_mirrors, change_selection, insert_cell, draw_not_gate, take_fix, see_ways, draw_by_touch,
         do_many_commands, choose_spelling, answer_late, see_dark, use_dialogs, keep_draft, offer_draft_again, keep_selection,
-        ask_twice, use_two_tabs, let_in_once, see_other_picture]
+        ask_twice, use_two_tabs, let_in_once, see_other_picture,
+        forget_old_draft, ask_about_draft, duplicate_tab, say_what_is_kept]
 
 
 def run_uses(studio: Studio, wanted: list[str]) -> list[str]:
