@@ -104,6 +104,28 @@ class HelpForm(argparse.RawDescriptionHelpFormatter):
         super().__init__(prog, width=max(HelpForm.width - 2, 10))
 
 
+class Parser(argparse.ArgumentParser):
+    """A parser whose help is written, or its process ends with status 4. argparse takes no notice of an output that is full or closed."""
+
+    def _print_message(self, message: str, file: Any = None) -> None:
+        """Writes a message."""
+        if file is not sys.stdout:
+            super()._print_message(message, file)
+            return
+        try:
+            if sys.stdout is None:
+                raise OSError("it is closed")
+            sys.stdout.write(message)
+            sys.stdout.flush()
+        except BrokenPipeError:
+            from .signals import end_by_pipe
+            end_by_pipe()
+        except OSError as error:
+            print(f"bbmlab: standard output: {error.strerror or error}", file=sys.stderr)
+            drop_output()
+            sys.exit(4)
+
+
 class ListedOnly(argparse.ArgumentParser):
     """A command that does not run: it needs no arguments, whose parsers would take most of the time of a start."""
 
@@ -126,11 +148,10 @@ class Commands:
 
     def __init__(self, wanted: str | None) -> None:
         self.wanted = wanted
-        self.parser = argparse.ArgumentParser(prog="bbmlab", description="See, explain, trace and check billiard-ball layouts.",
-                                              epilog=EPILOG, formatter_class=HelpForm)
+        self.parser = Parser(prog="bbmlab", description="See, explain, trace and check billiard-ball layouts.", epilog=EPILOG, formatter_class=HelpForm)
         self.parser.add_argument("--version", action="version", version=f"bbmlab {VERSION}")
         self.commands: argparse._SubParsersAction[argparse.ArgumentParser] = self.parser.add_subparsers(
-            dest="name", metavar="COMMAND", required=True, parser_class=argparse.ArgumentParser if wanted else ListedOnly)
+            dest="name", metavar="COMMAND", required=True, parser_class=Parser if wanted else ListedOnly)
         for adder in ADDERS:
             adder(self)
 
@@ -353,8 +374,25 @@ def answered(run: Callable[[argparse.Namespace], int], options: argparse.Namespa
         return signal.status
 
 
+def open_errors() -> None:
+    """Opens standard error if it is closed: otherwise `print` writes messages to standard output, and the next file that is opened gets them."""
+    if sys.stderr is None:
+        descriptor = os.open(os.devnull, os.O_WRONLY)
+        if descriptor != 2:
+            os.dup2(descriptor, 2)
+            os.close(descriptor)
+        sys.stderr = open(2, "w", encoding="utf-8")
+
+
+def drop_output() -> None:
+    """Drops what could not be written and is still in the buffer, so that the interpreter does not try once more."""
+    if sys.stdout is not None:
+        os.dup2(os.open(os.devnull, os.O_WRONLY), 1)
+
+
 def main(words: list[str] | None = None) -> int:
     """Runs a command and returns the exit status."""
+    open_errors()
     words = sys.argv[1:] if words is None else words
     commands = commands_for(words)
     options, unknown = commands.parser.parse_known_args(words)
@@ -367,7 +405,6 @@ def main(words: list[str] | None = None) -> int:
         if hasattr(stream, "reconfigure"):
             stream.reconfigure(errors="backslashreplace")
     status = answered(options.run, options)
-    if status == 4 and sys.stdout is not None:
-        # What could not be written is still in the buffer: it is dropped, so that the interpreter does not try once more.
-        os.dup2(os.open(os.devnull, os.O_WRONLY), 1)
+    if status == 4:
+        drop_output()
     return status

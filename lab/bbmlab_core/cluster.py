@@ -8,10 +8,11 @@ from typing import Any, Iterable, Iterator
 
 from . import remote, sealed
 from .answering import Result, result_of_report
-from .checking import Checker, kept
-from .program import Executable
+from .checking import KEPT, Checker, kept, read_in_time
+from .own_digest import foreign_report
+from .program import Executable, ProgramTimeout
 from .receipts import ReceiptFolder, sha256
-from .terminal import LabError, read_bytes
+from .terminal import LabError
 
 # How many groups of texts are on their way for each thread of the workers, and seconds between two looks.
 AHEAD, LOOK_SECONDS = 4, 0.2
@@ -110,9 +111,11 @@ class ClusterChecker(Checker):
     def added(self, file: str, group: Group) -> Result | None:
         """Adds a file to a group. Returns a result only if it can't be read."""
         try:
-            group.files.append((file, read_bytes(file)))
+            group.files.append((file, read_in_time(file, self.order.timeout)))
         except LabError as error:
             return Result(file, "missing", str(error).removeprefix(f"{file}: "), 0)
+        except ProgramTimeout as error:
+            return Result(file, "timeout", str(error), 0)
         return None
 
     def is_full(self, group: Group) -> bool:
@@ -152,12 +155,13 @@ class ClusterChecker(Checker):
         host, status, output, seconds, kind, complaint = said
         if kind:
             return Result(file, "timeout" if kind == "timeout" else "error", complaint, 0, is_fatal=kind == "other program")
-        result = result_of_report(file, status, output)
+        why = foreign_report(text, output)
+        result = Result(file, "error", f"on {host}: {why}", 0) if why else result_of_report(file, status, output)
         result.seconds = round(seconds, 3)
         other = self.said.setdefault(sha256(text), output)
         if other != output:
             return Result(file, "error", f"two answers to {file} by one program: {other!r} and {output!r} (on {host})", 0, is_fatal=True)
-        return kept(self.order.keeper, text, result, seconds) if self.order.keeper else result
+        return kept(self.order.keeper, text, result, seconds) if self.order.keeper and result.result in KEPT else result
 
     def stop(self) -> None:
         """Lets the cluster go: one that was started here ends."""

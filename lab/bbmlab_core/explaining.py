@@ -14,7 +14,8 @@ from .faults import Entry, assignment_words, explain_border, explain_keep, expla
 from .fixing import Fix, Fixer, outcome_words
 from .mirrors import falling_mirrors
 from .refusals import Explained, explain_code, explain_refusal, listed
-from .reports import Finding, Report, ReportError, parse_report
+from .reports import RUN_ANSWER, Finding, Report, ReportError, parse_report
+from .terminal import plain
 from .trials import Trial
 
 # Of how many modules the faults are told in full, with runs and pictures, and for how many lines of a report a fix is looked for.
@@ -23,7 +24,7 @@ MAX_DETAILED = 12
 MAX_MIRRORS = 3
 
 # What the other commands of the program write.
-ANSWERS = {"run": re.compile(r"cells \d+\n(\d+ \d+\n)*|left \d+\n"), "value": re.compile(r"([a-z]\w* [01]\n)*(undefined \d+\n)?"),
+ANSWERS = {"run": RUN_ANSWER, "value": re.compile(r"([a-z]\w* [01]\n)*(undefined \d+\n)?"),
            "modules": re.compile(r"(module .*\n)+"), "migrate": re.compile(r"circuit\n.*end\n", re.DOTALL)}
 
 
@@ -203,17 +204,11 @@ def tried_words(fixer: Fixer, trial: Trial) -> list[str]:
     return [f"No fix was found. {trial.tries} text{'s were' if trial.tries != 1 else ' was'} checked by {trial.judge}.{end}", *kinds]
 
 
-def is_on_rim(diagnosis: Diagnosis, finding: Finding) -> bool:
-    """Whether a finding is an edge fault at a cell of the rim."""
-    return finding.word == "local" and finding.values["kind"] == "edge" and diagnosis.layout.is_rim((finding.number("x"), finding.number("y")))
-
-
 def whole_run_words(diagnosis: Diagnosis, faults: list[Finding]) -> list[str]:
-    """Returns whether the whole run ends as the layout asks: a sentence for yes, no, and what was not found out."""
+    """Returns whether the whole run ends as the layout asks with a dead rim: a sentence for yes, no, and what was not found out."""
     outcome, values = diagnosis.outcome, diagnosis.values
     if outcome.is_right is Truth.NO:
-        return [f"The layout itself does not do what the circuit asks: {outcome.fault}. No certificate gets a yes before the layout or the "
-                "circuit is changed."]
+        return [outcome.words]
     if not diagnosis.can_run_whole():
         why = "it takes too long" if diagnosis.is_slow else f"it is longer than {MAX_STEPS} steps"
         return [f"The whole run was not tried to its end here: {why}."]
@@ -221,8 +216,6 @@ def whole_run_words(diagnosis: Diagnosis, faults: list[Finding]) -> list[str]:
         return [f"The circuit has no values under some choices of its inputs. Under the others that were tried ({diagnosis.scope}) the whole run "
                 "ends as the layout asks."]
     tried = f"The whole run was tried here {diagnosis.scope}: it ends as the layout asks"
-    if any(is_on_rim(diagnosis, finding) for finding in faults):
-        return [f"{tried}."]
     if outcome.is_right is Truth.UNKNOWN:
         return [f"{tried}. The other choices were not tried."]
     is_certificate = any(finding.word in ("local", "border") for finding in faults)
@@ -328,11 +321,11 @@ def as_json(explanation: Explanation) -> str:
 
 
 def as_gcc(explanation: Explanation) -> list[str]:
-    """Writes an explanation as `file:line: error: text` lines for editors."""
+    """Writes an explanation as `file:line: error: text` lines for editors. A control character, also one of the file's name, is an escape."""
     if explanation.refused:
         text = " ".join([*explanation.refused.what, *fix_words(explanation.fix.words if explanation.fix else [])])
-        return [f"{explanation.file}:{explanation.line}: error: {text} [code {explanation.code}]"]
-    return [f"{explanation.file}:{line_of(entry)}: error: {' '.join([*entry.what, *fix_words(entry.fixes)])} [{entry.report_line}]"
+        return [plain(f"{explanation.file}:{explanation.line}: error: {text} [code {explanation.code}]")]
+    return [plain(f"{explanation.file}:{line_of(entry)}: error: {' '.join([*entry.what, *fix_words(entry.fixes)])} [{entry.report_line}]")
             for entry in explanation.entries if entry.is_against]
 
 

@@ -11,6 +11,7 @@ from contextlib import suppress
 from dataclasses import dataclass
 from pathlib import Path
 
+from .own_digest import foreign_report
 from .sealed import path_of, sealed_copy
 
 HERE = Path(__file__).resolve().parent
@@ -176,4 +177,8 @@ def ask(program: Executable | str, command: str, text: bytes, timeout: float | N
     errors = written.decode("utf-8", "replace").strip()
     if process.returncode not in (0, 1, 3, 4, 5):
         raise ProgramError(f"{program} ended with status {process.returncode}: {errors.splitlines()[0] if errors else 'no message'}")
-    return Answer(process.returncode, output.decode("latin-1"), errors)
+    answer = Answer(process.returncode, output.decode("latin-1"), errors)
+    why = foreign_report(text, answer.output) if command == "check" else None
+    if why:
+        raise ProgramError(f"{program} gave the report of another text: {why}")
+    return answer

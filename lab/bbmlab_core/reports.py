@@ -11,6 +11,8 @@ FORMS = {
     "delay": r"delay (?P<gate>\d+) (?P<wanted>\d+) (?P<found>\d+|missing|before)",
     "meet": r"meet (?P<gate>\d+) (?P<found>\d+|differ)",
 }
+# What the program's `run` prints.
+RUN_ANSWER = re.compile(r"cells [0-9]{1,9}\n([0-9]{1,9} [0-9]{1,9}\n)*|left [0-9]{1,9}\n")
 PATTERNS = {word: re.compile(form + r"\Z") for word, form in FORMS.items()}
 
 

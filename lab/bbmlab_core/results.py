@@ -120,7 +120,7 @@ class JsonWriter(WholeWriter):
 
     def document(self, results: list[Result], stopped: str | None) -> str:
         """Returns the document. `stopped` is there only if a signal ended the run."""
-        is_all_yes = not stopped and set(counted(results)) <= {"yes"}
+        is_all_yes = not stopped and set(counted(results)) == {"yes"}
         more = {"stopped": stopped, "not_checked": len(self.files) - len(results)} if stopped else {}
         return json.dumps({"format": "bbmlab check 1", "all_yes": is_all_yes, **more, "results": [row(result) for result in results]}, indent=2) + "\n"
 

@@ -22,10 +22,20 @@ def memory_file() -> int:
         return os.memfd_create("bbmcheck", flags)
 
 
+def above_streams(descriptor: int) -> int:
+    """Returns another descriptor of a file that is none of the standard streams', which a child process gets pipes for."""
+    if descriptor > 2:
+        return descriptor
+    try:
+        return fcntl.fcntl(descriptor, fcntl.F_DUPFD_CLOEXEC, 3)
+    finally:
+        os.close(descriptor)
+
+
 def sealed_copy(data: bytes) -> int:
     """Returns the descriptor of a file with some bytes that cannot be changed: in memory, else a file without a name."""
     try:
-        descriptor = memory_file()
+        descriptor = above_streams(memory_file())
     except OSError:
         return nameless_copy(data)
     with open(descriptor, "wb", closefd=False) as file:
@@ -40,7 +50,7 @@ def nameless_copy(data: bytes) -> int:
         path = os.path.join(folder, "bbmcheck")
         with open(os.open(path, os.O_WRONLY | os.O_CREAT | os.O_EXCL, 0o700), "wb") as file:
             file.write(data)
-        return os.open(path, os.O_RDONLY | os.O_CLOEXEC)
+        return above_streams(os.open(path, os.O_RDONLY | os.O_CLOEXEC))
 
 
 def path_of(descriptor: int) -> str:

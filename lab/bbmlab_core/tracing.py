@@ -7,6 +7,7 @@ from typing import Any
 from .documents import Document
 from .layouts import Cell, Layout, row_order
 from .pictures import text_picture
+from .reports import RUN_ANSWER, ReportError
 from .simulation import ModuleRun, cell_of, run_layout
 from .terminal import LabError
 
@@ -115,13 +116,17 @@ def as_text(trace: Trace, mirrors: set[Cell], pictures: bool) -> str:
 
 
 def compare_with_run(trace: Trace, output: str) -> str | None:
-    """Returns how the program's `run` differs from the trace, or None where both are the same."""
+    """Returns how the program's `run` differs from the trace, or None where both are the same. Raises ReportError for no answer of `run`."""
+    if not RUN_ANSWER.fullmatch(output):
+        raise ReportError("this is no answer of `bbmcheck run`")
     lines = output.split("\n")
     if trace.left is not None:
         return None if lines[0] == f"left {trace.left}" else f"the program's run says `{lines[0]}`, the lab says `left {trace.left}`"
     cells = {tuple(map(int, line.split(" "))) for line in lines[1:] if line}
     if not lines[0].startswith("cells "):
         return f"the program's run says `{lines[0]}`, and the lab's run stays in the rectangle"
+    if lines[0] != f"cells {len(lines) - 2}":
+        raise ReportError(f"the program's run says `{lines[0]}`, and lists {len(lines) - 2}")
     differ = cells ^ (trace.last or set())
     return f"the program's run differs at {sorted(differ)[0]}" if differ else None
 

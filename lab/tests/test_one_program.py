@@ -16,7 +16,9 @@ from bbmlab_core.receipts import ReceiptFolder
 from bbmlab_core.releases import program_of
 from bbmlab_core.studio.jobs import Jobs
 
-LIE = "#!/bin/sh\ncat >/dev/null\nprintf 'bbmcheck 1\\ncertificate %064d\\nmodules 1\\nverdict yes\\n' 0\n"
+# It says yes to each text, with the digest of its certificate.
+LIE = ("#!/bin/sh\ndigest=$(sed -n '/^certificate /,$p' | sha256sum)\n"
+       "printf 'bbmcheck 1\\ncertificate %s\\nmodules 77\\nverdict yes\\n' ${digest%% *}\n")
 
 
 def digest(path: Path) -> str:
@@ -87,10 +89,10 @@ class Replaced(unittest.TestCase):
         job = {"kind": "verdict", "text": self.text.decode(), "stage": "first", "earlier": ""}
         first = jobs.run("a", job)
         self.assertTrue(self.was_replaced())
-        self.assertNotIn("0" * 64, first["report"] + jobs.run("a", job)["report"])
+        self.assertNotIn("modules 77", first["report"] + jobs.run("a", job)["report"])
         assert jobs.worker
         jobs.worker.end()
-        self.assertNotIn("0" * 64, jobs.run("a", job)["report"])
+        self.assertNotIn("modules 77", jobs.run("a", job)["report"])
 
     def test_worker_of_a_cluster(self) -> None:
         """A worker of a cluster answers a group of texts by the bytes whose digest it compared."""

@@ -24,7 +24,7 @@ def run(options: argparse.Namespace) -> int:
     notes: list[str] = []
     bundle = certified(document, chosen_boxes(options, document.layout), plan, notes)
     for note in notes:
-        print(f"bbmlab: {note}", file=sys.stderr)
+        print(f"bbmlab: {plain(note)}", file=sys.stderr)
     status = verdict_status(bundle, options)
     write_text(options.output, bundle, [options.file])
     return status

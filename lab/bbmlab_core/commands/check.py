@@ -1,6 +1,7 @@
 """Runs `bbmlab check`."""
 
 import argparse
+import sys
 
 from ..checking import Checker, exit_status, text_files
 from ..program import find_program
@@ -10,7 +11,7 @@ from ..releases import program_of
 from ..results import WRITERS, ResultWriter
 from ..sharding import in_shard
 from ..signals import Stopped
-from ..terminal import LabError
+from ..terminal import LabError, plain
 
 
 def source(options: argparse.Namespace) -> Checker:
@@ -29,7 +30,7 @@ def source(options: argparse.Namespace) -> Checker:
 
 def run(options: argparse.Namespace) -> int:
     """Checks all files. A signal ends all programs that run, and the results so far are written."""
-    files = [file for file in text_files(options.files) if in_shard(file, options.shard)]
+    files = [file for file in text_files(options.files, tell_of_left) if in_shard(file, options.shard)]
     checker = source(options)
     writer = WRITERS[options.format]()
     writer.begin(files)
@@ -41,6 +42,11 @@ def run(options: argparse.Namespace) -> int:
         return signal.status
     writer.end("a contradiction" if is_contradicted else None)
     return exit_status(counts)
+
+
+def tell_of_left(words: str) -> None:
+    """Says on standard error what is left out of a folder."""
+    print(f"bbmlab: {plain(words)}", file=sys.stderr)
 
 
 def write_results(checker: Checker, files: list[str], writer: ResultWriter, counts: dict[str, int]) -> bool:

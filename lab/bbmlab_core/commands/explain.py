@@ -76,7 +76,7 @@ def write_fix(text: str, command: str, program: Executable | None, options: argp
     fixer = Fixer(text, report, trial)
     fix = None if report.verdict == "yes" else fixer.find()
     if fix is None and report.verdict != "yes":
-        print("\n".join(f"bbmlab: {line}" for line in explaining.tried_words(fixer, trial)), file=sys.stderr)
+        print("\n".join(f"bbmlab: {plain(line)}" for line in explaining.tried_words(fixer, trial)), file=sys.stderr)
         return 1
     words = [*fix.words, outcome_words(report, fix)] if fix else [f"{trial.judge} says yes already: there is nothing to fix."]
     print("\n".join(f"bbmlab: {plain(line)}" for line in words), file=sys.stderr)

@@ -28,6 +28,8 @@ class Worker:
         self.process = subprocess.Popen(words, stdin=subprocess.PIPE, stdout=subprocess.PIPE, start_new_session=True, pass_fds=[program.descriptor],
                                         env={**os.environ, "PYTHONPATH": path})
         self.is_ended = False
+        # Whether the time for an answer was over.
+        self.is_late = False
 
     def answer(self, job: dict[str, Any], seconds: float) -> dict[str, Any] | None:
         """Returns the answer to a job, or None if the process ended or the time is over."""
@@ -42,6 +44,7 @@ class Worker:
             ready, _, _ = select.select([output], [], [], max(0.0, until - time.monotonic()))
             part = os.read(output, 1 << 20) if ready else b""
             if not part:
+                self.is_late = not ready
                 return None
             found += part
         answer: dict[str, Any] = json.loads(found)
@@ -56,6 +59,16 @@ class Worker:
         except subprocess.TimeoutExpired:
             self.process.kill()
             self.process.wait()
+
+    def how_ended(self) -> str:
+        """Says how the process ended, or that it is still there."""
+        try:
+            status = self.process.wait(END_SECONDS)
+        except subprocess.TimeoutExpired:
+            return "the lab's process closed its output"
+        if status < 0:
+            return f"the lab's process was ended by {signal.Signals(-status).name if -status in set(signal.Signals) else f'signal {-status}'}"
+        return f"the lab's process ended with status {status}, and standard error of `bbmlab studio` may say why"
 
     def release(self) -> None:
         """Closes the pipes. Only the thread that waits for an answer may do so: another one could be given the number of a closed pipe."""
@@ -115,11 +128,12 @@ class Jobs:
     def ended(self, worker: Worker, tab: str, ticket: int) -> dict[str, Any]:
         """Ends a process that gave no answer, and says why there is none."""
         was_replaced = worker.is_ended or self.newest[tab] != ticket
+        ended = "" if was_replaced or worker.is_late else worker.how_ended()
         worker.end()
         worker.release()
         if was_replaced:
             return {"replaced": True}
-        return {"error": f"There is no answer: the time limit of {self.seconds:g} seconds or the memory limit of {self.memory} MiB was reached."}
+        return {"error": f"There is no answer: the time limit of {self.seconds:g} seconds was reached." if worker.is_late else f"There is no answer: {ended}."}
 
     def close(self) -> None:
         """Ends the process. No job runs later."""

@@ -139,7 +139,7 @@ class Judge:
                 return quick
             outcome = Diagnosis(read_document(quick.bundle, "check")).outcome
             if outcome.is_right is Truth.NO:
-                quick.words.append(f"The layout itself does not do what the circuit asks: {outcome.fault}.")
+                quick.words.append(outcome.words)
                 return quick
             return self.judged(certified(design, None, Plan(until=self.until)), "certify")
         except LabError as error:
