@@ -7,7 +7,7 @@ from ..designs import read_design, report_for
 from ..documents import Document
 from ..layouts import Layout
 from ..reports import Report
-from ..terminal import LabError, write_text
+from ..terminal import write_text
 
 
 def picture_of(design: tuple[Document, Layout], names: str | None, time: int | None, report: Report | None = None) -> str:
@@ -20,10 +20,7 @@ def picture_of(design: tuple[Document, Layout], names: str | None, time: int | N
         picture.ways, picture.labels = drawing.ball_ways(document, on if names is not None else None, layout.steps)
         picture.title = "ways of the balls" + (under if names is not None else drawing.sampled_words(document))
     else:
-        trace = tracing.trace_layout(layout, on, time, time)
-        if not trace.states:
-            raise LabError(f"there is no time {time}: the run ends at {layout.steps if trace.left is None else trace.left - 1}", 2)
-        picture.live, picture.title = trace.states[0], f"time {time}{under}"
+        picture.live, picture.title = tracing.state_at(layout, on, time), f"time {time}{under}"
     for finding in report.faults if report else []:
         if "x" in finding.values:
             picture.faults.append(((finding.number("x"), finding.number("y")), finding.text))

@@ -58,7 +58,7 @@ def export(job: dict[str, Any], asked: Executable, seconds: float) -> dict[str, 
         return {"text": picture(document, document.layout, name)}
     if form == "golly":
         on = tracing.chosen_inputs(document, ",".join(job["on"]) or None)
-        start = tracing.trace_layout(document.layout, on, 0, 0).states[0]
+        start = tracing.state_at(document.layout, on, 0)
         return {"text": golly.golly_text(document.layout, start, on, tracing.layout_lines(document))}
     explanation = None
     if document.certificate:
