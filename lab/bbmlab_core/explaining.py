@@ -174,7 +174,7 @@ def mirror_words(diagnosis: Diagnosis) -> list[str]:
 
 def add_fixes(explanation: Explanation, diagnosis: Diagnosis, report: Report, trial: Trial) -> None:
     """Adds a fix of the whole text and fixes of lines of the report; each was tried."""
-    fixer = Fixer(diagnosis.document.text, report, trial)
+    fixer = Fixer(diagnosis.document.text, report, trial, diagnosis)
     whole = fixer.find()
     if whole:
         explanation.fix, explanation.fixed = fix_form(report, whole), whole.text
@@ -296,9 +296,12 @@ def require_answer(document: Document, output: str) -> None:
             raise ReportError("the answer is not of this text: it names a gate that the text does not have there")
 
 
-def explain_answer(text: str, command: str, output: str, file: str, trial: Trial | None = None) -> Explanation:
-    """Returns what a command of the program wrote, in words. Fixes are looked for only if there is a trial."""
-    document = read_document(text, command)
+def explain_answer(text: str, command: str, output: str, file: str, trial: Trial | None = None, known: Document | None = None) -> Explanation:
+    """Returns what a command of the program wrote, in words. Fixes are looked for only if there is a trial.
+
+    `known` is the text as it was read already, if it was.
+    """
+    document = known if known and (known.text, known.command) == (text, command) else read_document(text, command)
     if output.startswith("refused ") or command == "check":
         return explain_report(document, parse_report(output), file, trial)
     require_answer(document, output)

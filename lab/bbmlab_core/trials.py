@@ -60,7 +60,8 @@ class Trial:
         if self.program is None:
             return self.own_answer(text)
         try:
-            answer = ask(self.program, "check", text.encode("latin-1"), MAX_RUN_SECONDS)
+            # A second at least: a text that was made is worth an answer.
+            answer = ask(self.program, "check", text.encode("latin-1"), min(MAX_RUN_SECONDS, max(1.0, self.seconds_left())))
             report = parse_report(answer.output)
             return report if answer.status == STATUS_OF["refused" if report.refused else report.verdict] else None
         except (ProgramError, ProgramTimeout, ReportError):

@@ -11,11 +11,17 @@ from unittest import mock
 
 import support
 from bbmlab_core import tracing
+from bbmlab_core.certificates import CertificateReader
+from bbmlab_core.cli import main
 from bbmlab_core.diagnosis import Diagnosis
 from bbmlab_core.documents import Document
 from bbmlab_core.expected_lines import BorderCheck
+from bbmlab_core.explaining import explain_answer
+from bbmlab_core.fixing import Fixer
 from bbmlab_core.layouts import Layout, Part
+from bbmlab_core.program import ask
 from bbmlab_core.simulation import Fault, ModuleRun, WholeRun, key_of, lowest_bit, run_layout
+from bbmlab_core.trials import Budget, Trial
 
 # Memory in which the trace of a large layout fits.
 MEMORY = 400 << 20
@@ -118,6 +124,35 @@ def random_layout(chooser: random.Random) -> Layout:
     cells = chooser.sample(sorted(free), chooser.randrange(1, 12))
     parts += [Part("ball", None, *cell, 1, 1, 1) for cell in cells[::2]] + [Part("in", "pq"[x % 2], x, y, 1, 1, 1) for x, y in cells[1::2]]
     return Layout(20, 20, chooser.randrange(1, 30), parts)
+
+
+class Once(unittest.TestCase):
+    """Work that is done once."""
+
+    def test_one_reading_of_a_page(self) -> None:
+        """`view` reads the text once, and `explain` compares the borders of its text once."""
+        text = Path(support.example("wrong_edge")).read_text()
+        with tempfile.TemporaryDirectory() as room, mock.patch("bbmlab_core.certificates.CertificateReader.read", autospec=True, side_effect=CertificateReader.read) as reader:
+            out = str(Path(room) / "page.html")
+            with mock.patch("bbmlab_core.commands.view.trial_of", return_value=None):
+                self.assertEqual(main(["view", "--program", support.program(), support.example("wrong_edge"), "-o", out]), 0)
+            self.assertEqual(reader.call_count, 1)
+        with mock.patch("bbmlab_core.expected_lines.BorderCheck.groups", autospec=True, side_effect=BorderCheck.groups) as groups:
+            explain_answer(text, "check", ask(support.program(), "check", text.encode()).output, "text", Trial(support.program()))
+        own = [call for call in groups.call_args_list if call.args[0].diagnosis.document.text == text]
+        self.assertEqual(len(own), 1)
+
+    def test_effort_is_the_end(self) -> None:
+        """When the effort is used up nothing more is tried, for no line of the report."""
+        text = Path(support.example("wrong_edge")).read_text()
+        trial = Trial(support.program(), Budget(seconds=30))
+        report = trial.report(text)
+        assert report
+        fixer, diagnosis = Fixer(text, report, trial), Diagnosis(read(text))
+        trial.budget = Budget(seconds=0)
+        with mock.patch.object(fixer, "applied_or_none") as applied:
+            self.assertEqual([fixer.find_for(diagnosis, finding) for finding in report.faults], [None] * len(report.faults))
+        self.assertEqual(applied.call_count, 0)
 
 
 class Memory(unittest.TestCase):

@@ -23,7 +23,9 @@ class Worker:
 
     def __init__(self, program: Executable | str, seconds: float, memory: int) -> None:
         self.program = program = opened(program)
-        words = [sys.executable, "-B", "-m", "bbmlab_core.studio.worker", program.path, str(program.descriptor), program.sha256, str(seconds), str(memory)]
+        # Compiled modules are kept where this process keeps its own.
+        compiled = ["-X", f"pycache_prefix={sys.pycache_prefix}"] if sys.pycache_prefix and not sys.dont_write_bytecode else ["-B"]
+        words = [sys.executable, *compiled, "-m", "bbmlab_core.studio.worker", program.path, str(program.descriptor), program.sha256, str(seconds), str(memory)]
         path = os.pathsep.join([str(PACKAGE_PARENT), *filter(None, [os.environ.get("PYTHONPATH")])])
         self.process = subprocess.Popen(words, stdin=subprocess.PIPE, stdout=subprocess.PIPE, start_new_session=True, pass_fds=[program.descriptor],
                                         env={**os.environ, "PYTHONPATH": path})

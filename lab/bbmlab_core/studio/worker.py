@@ -63,7 +63,7 @@ def export(job: dict[str, Any], asked: Executable, seconds: float) -> dict[str, 
     explanation = None
     if document.certificate:
         answer = program.ask(asked, "check", document.text.encode("latin-1"), seconds)
-        explanation = explaining.explain_answer(document.text, "check", answer.output, name)
+        explanation = explaining.explain_answer(document.text, "check", answer.output, name, None, document)
     return {"text": viewing.page(document, explanation, name)}
 
 
