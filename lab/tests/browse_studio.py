@@ -112,6 +112,11 @@ def example(name: str) -> str:
     return (TOP / "examples" / f"{name}.txt").read_text()
 
 
+def cell_text(name: str) -> str:
+    """Returns the circuit and the layout of a standard cell."""
+    return (TOP / "lab" / "cells" / f"{name}.txt").read_text().split("certificate ")[0]
+
+
 def draw_by_keyboard(studio: Studio) -> None:
     """Draws the collision by keys alone, from the page's first element on, rotates it, and saves it."""
     studio.begin("keys.txt", "circuit\nend\nlayout 48 48 40\nend\n")
@@ -638,6 +643,85 @@ def see_other_picture(studio: Studio) -> None:
     studio.verdict("refused")
 
 
+def see_nothing_yet(studio: Studio) -> None:
+    """An empty layout with an empty circuit is no green yes."""
+    studio.begin("nothing.txt", EMPTY)
+    studio.verdict("nothing yet")
+    assert studio.script("return document.getElementById('badge').className") == "waiting"
+    studio.shoot("nothing")
+    studio.click("#tool-mirror")
+    studio.drag((9, 2), (10, 3))
+    studio.verdict("yes")
+
+
+def undo_numbers(studio: Studio) -> None:
+    """Ctrl-Z in a field of a number undoes what was typed, then commands: the field always shows the layout's number."""
+    studio.begin("numbers.txt", example("not_gate"))
+    field = studio.browser.find_element(By.ID, "width")
+    studio.click("#follow")
+    for number in ("14", "16"):
+        studio.script("arguments[0].focus(); arguments[0].select()", field)
+        field.send_keys(number, Keys.ENTER)
+    assert "layout 16 12 3" in studio.layout_text()
+    field.send_keys("9")
+    field.send_keys(Keys.CONTROL, "z")
+    assert (field.get_property("value"), "layout 16 12 3" in studio.layout_text()) == ("16", True), field.get_property("value")
+    for number, word in (("14", "z"), ("12", "z"), ("14", "y")):
+        field.send_keys(Keys.CONTROL, word)
+        assert (field.get_property("value"), f"layout {number} 12 3" in studio.layout_text()) == (number, True), (field.get_property("value"), studio.layout_text())
+    studio.click("#follow")
+
+
+def follow_turns(studio: Studio) -> None:
+    """Outputs that are where the balls end follow them around a mirror, to another number of steps and back, by one command each."""
+    studio.begin("turns.txt", cell_text("turn_left"))
+    studio.verdict("yes")
+    before, field = studio.layout_text(), studio.browser.find_element(By.ID, "steps")
+    steps = int(str(field.get_property("value")))
+    for number in (2, steps):
+        studio.script("arguments[0].focus(); arguments[0].select()", field)
+        field.send_keys(str(number), Keys.ENTER)
+        studio.verdict("yes")
+    assert sorted(studio.layout_text().split("\n")) == sorted(before.split("\n")), studio.layout_text()
+    studio.click("#undo")
+    studio.verdict("yes")
+    studio.click("#undo")
+    assert studio.layout_text() == before
+
+
+def see_kind_of_no(studio: Studio) -> None:
+    """The line of the badge says what kind of no it is, the explanation comes before the report's lines, and a fix has a button."""
+    for name, words in (("plain_rim", "the rim is live at ("), ("plain_no", "the end is wrong at (")):
+        studio.begin(f"{name}.txt", example(name))
+        studio.verdict("no")
+        studio.await_text("who", words)
+    studio.begin("kind.txt", example("not_gate").replace("out b 4 4\nwaste 7 4\n", "out b 7 4\nwaste 4 4\n"))
+    studio.verdict("no")
+    studio.wait(lambda: studio.browser.find_elements(By.CSS_SELECTOR, "#report .fix"), "a fix is found")
+    assert studio.script("return document.querySelector('#report .fix').textContent") == "apply this fix"
+    assert studio.script("const [fix, fault] = ['.fix-box', '.fault'].map((name) => document.querySelector(`#report ${name}`)); "
+                         "return Boolean(fix.compareDocumentPosition(fault) & Node.DOCUMENT_POSITION_FOLLOWING)")
+    top, height = studio.script("return [document.querySelector('#report .fix').getBoundingClientRect().bottom, innerHeight]")
+    assert top < height, (top, height)
+    studio.shoot("kind")
+    studio.click("#report .fix")
+    studio.verdict("yes")
+
+
+def enlarge_for_cell(studio: Studio) -> None:
+    """A cell that is larger than the layout is put after the user agrees to make the layout larger."""
+    studio.begin("enlarge.txt", EMPTY)
+    studio.script("const list = document.getElementById('cell-name'); list.value = 'not'; list.dispatchEvent(new Event('change'))")
+    studio.click("#tool-cell")
+    studio.press(9, 9)
+    studio.answer("The cell is larger than the layout", "cancel")
+    assert studio.layout_text() == EMPTY
+    studio.press(9, 9)
+    studio.answer("The cell is larger than the layout", "make the layout 44 by 44")
+    studio.verdict("yes")
+    assert "layout 44 44 37" in studio.layout_text()
+
+
 def choose_spelling(studio: Studio) -> None:
     """A text with comments is saved with them, or in the one spelling, as the user says."""
     text = "# by hand\n" + example("not_gate")
@@ -717,7 +801,8 @@ def see_dark(studio: Studio) -> None:
 USES = [draw_collision, drag_mirror, draw_by_keyboard, refuse_circuit, place_mirrors, change_selection, insert_cell, draw_not_gate, take_fix, see_ways, draw_by_touch,
         do_many_commands, choose_spelling, answer_late, see_dark, use_dialogs, keep_draft, offer_draft_again, keep_selection,
         ask_twice, use_two_tabs, let_in_once, see_other_picture,
-        forget_old_draft, ask_about_draft, duplicate_tab, say_what_is_kept]
+        forget_old_draft, ask_about_draft, duplicate_tab, say_what_is_kept, see_nothing_yet, undo_numbers, follow_turns, see_kind_of_no,
+        enlarge_for_cell]
 
 
 def run_uses(studio: Studio, wanted: list[str]) -> list[str]:

@@ -1,5 +1,6 @@
 """The studio's editing model and its runs, under node without a browser."""
 
+import itertools
 import json
 import random
 import re
@@ -241,11 +242,13 @@ class Runs(unittest.TestCase):
         self.assertIn("broken", node(["ends", "circuit\ninput p\noutput p\nend\nlayout 8 8 3\nmirror 4 4 1 1\nin p 2 2\nout p 5 5\nend\n"])[0]["marks"])
 
     def test_truth_tables(self) -> None:
-        """The table has what the circuit wants and what the lab's run finds."""
+        """The table has what the circuit wants and what the lab's run finds. Its rows count as in textbooks: the first input changes last."""
         for name in ("full_adder", "wrong_end", "plain_no", "machine_half_adder"):
             document, rows = support.read_document(example(name)), node(["truth", example(name)])[0]
+            inputs = document.circuit.inputs
+            self.assertEqual([row["inputs"] for row in rows], [list(values) for values in itertools.product((False, True), repeat=len(inputs))])
             for number, row in enumerate(rows):
-                on = {wire for index, wire in enumerate(document.circuit.inputs) if number >> index & 1}
+                on = {wire for wire, value in zip(inputs, row["inputs"]) if value}
                 run, values = run_layout(document.layout, on), values_under(document.circuit, on)[0]
                 run.run_to(document.layout.steps)
                 for output in row["outputs"]:

@@ -245,8 +245,10 @@
      */
     rows() {
       const { circuit, layout } = this, cells = new Map(circuit.outputs.map((name) => [name, layout.outs.filter((out) => out.name === name)]));
-      return this.choices.map((on, number) => {
-        const run = this.runs[Math.floor(number / LANES)], lane = number % LANES, values = circuitValues(circuit, on);
+      // As in textbooks the first input changes last, from row to row. A choice's number has it as the lowest bit.
+      const bits = circuit.inputs.length, order = this.choices.map((_, row) => [...Array(bits).keys()].reduce((number, bit) => number | (row >> bit & 1) << bits - 1 - bit, 0));
+      return order.map((number) => {
+        const on = this.choices[number], run = this.runs[Math.floor(number / LANES)], lane = number % LANES, values = circuitValues(circuit, on);
         const isLive = ({ cell }) => (run.live[keyOf(...cell)] >>> lane & 1) === 1;
         const outputs = circuit.outputs.map((name) => {
           const states = new Set(cells.get(name).map(isLive));
@@ -292,5 +294,13 @@
     return parts;
   }
 
-  Object.assign(bbmlab, { Survey, TruthTable, surveys: { allChoices, sampledChoices, endParts, CONSTANT, OTHER, LANES } });
+  /** Returns the ends of the balls of a layout as parts, or null if that takes too long, a ball leaves, or not all choices can be run at once. */
+  function endsOf(layout, circuit, milliseconds) {
+    if (!circuit.isWhole || circuit.inputs.length > 5) return null;
+    const run = new Survey(layout, circuit, allChoices(circuit.inputs)), until = performance.now() + milliseconds;
+    while (!run.isEnded && performance.now() < until) run.advance(4);
+    return run.isEnded && run.leftAt === null ? endParts(run, circuit.outputs, layout) : null;
+  }
+
+  Object.assign(bbmlab, { Survey, TruthTable, surveys: { endsOf, allChoices, sampledChoices, endParts, CONSTANT, OTHER, LANES } });
 }
