@@ -2,9 +2,9 @@
 
 import json
 import re
-from dataclasses import asdict, dataclass, field
+from dataclasses import asdict, dataclass, field, replace
 
-from .certificates import StopLine
+from .certificates import Certificate, StopLine
 from .circuits import Circuit
 from .designs import require_report_of
 from .diagnosis import MAX_STEPS, Diagnosis, Truth
@@ -222,6 +222,17 @@ def whole_run_words(diagnosis: Diagnosis, faults: list[Finding]) -> list[str]:
     return [f"{tried}, so the fault is in the certificate." if is_certificate else f"{tried}."]
 
 
+def missing_certificate_words(document: Document) -> list[str]:
+    """Returns whether a certificate would help a design that has none: the whole run shows it, whatever certificate there is."""
+    design = replace(document, certificate=Certificate(2, []))
+    if design.circuit is None or design.layout is None or document.certificate and document.certificate.modules:
+        return []
+    outcome = Diagnosis(design).outcome
+    if outcome.is_right is Truth.NO:
+        return [outcome.words]
+    return ["The text has no certificate. In the choices of the inputs that were tried the whole run ends as the layout asks."]
+
+
 def explain_refused(document: Document, report: Report, file: str, trial: Trial | None = None) -> Explanation:
     """Returns a refusal in words. Where the lab's reader does not come to the same line and code, only these are told."""
     assert report.refused
@@ -230,6 +241,8 @@ def explain_refused(document: Document, report: Report, file: str, trial: Trial 
     told = explain_refusal(document, refusal) if same and refusal else explain_code(line, code)
     explanation = Explanation(file, document.command, [f"The text was refused: line {line}, code {code}."], "refused", refused=told, line=line,
                               code=code, line_text=document.line(line))
+    if refusal and same and refusal.cause == "text_ended" and refusal.facts["section"] == "certificate":
+        explanation.headline += missing_certificate_words(document)
     if trial and same and document.command == "check":
         fixer = Fixer(document.text, report, trial)
         fix = fixer.find()
@@ -326,7 +339,8 @@ def as_json(explanation: Explanation) -> str:
 def as_gcc(explanation: Explanation) -> list[str]:
     """Writes an explanation as `file:line: error: text` lines for editors. A control character, also one of the file's name, is an escape."""
     if explanation.refused:
-        text = " ".join([*explanation.refused.what, *fix_words(explanation.fix.words if explanation.fix else [])])
+        hints = [] if explanation.fix else [f"Hint: {hint}" for hint in explanation.refused.hints[:1]]
+        text = " ".join([*explanation.refused.what, *fix_words(explanation.fix.words if explanation.fix else []), *hints])
         return [plain(f"{explanation.file}:{explanation.line}: error: {text} [code {explanation.code}]")]
     return [plain(f"{explanation.file}:{line_of(entry)}: error: {' '.join([*entry.what, *fix_words(entry.fixes)])} [{entry.report_line}]")
             for entry in explanation.entries if entry.is_against]

@@ -388,7 +388,7 @@ def _wire_defined(facts: Facts) -> Explained:
 def _wire_consumed(facts: Facts) -> Explained:
     """Explains a wire that is consumed already."""
     return Explained([f"The wire `{facts['name']}` is consumed already ({earlier(facts)}): no wire branches."],
-                     ["Use another wire, or copy the value by a gate, such as a `switch` with a source."], names=[facts["name"]], lines=[facts["at"]])
+                     ["To use a wire twice, copy it: the standard cell `fan_out` does, by a `switch` and a `source` (`bbmlab cells fan_out`)."], names=[facts["name"]], lines=[facts["at"]])
 
 
 @tells("cut_twice")
@@ -533,11 +533,11 @@ def explain_refusal(document: Document, refusal: Refusal) -> Explained:
     return explained
 
 
-def refusal_words(document: Document) -> str:
-    """Returns in one line where the lab's reader refuses a text, the code, and why."""
+def refusal_words(document: Document, line: int | None = None) -> str:
+    """Returns in one line where the lab's reader refuses a text, the code, and why. `line` is the line of a file that has another spelling."""
     assert document.refusal
     why = " ".join(explain_refusal(document, document.refusal).what)
-    return f"line {document.refusal.line} is refused with code {document.refusal.code}: {why}"
+    return f"line {line or document.refusal.line} is refused with code {document.refusal.code}: {why}"
 
 
 def explain_code(line: int, code: int) -> Explained:

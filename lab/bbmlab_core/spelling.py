@@ -137,6 +137,17 @@ def sorted_section(lines: list[str], spelling: Spelling) -> list[str]:
     return [lines[0], *after, *tail]
 
 
+def source_line(source: str, text: str, line: int) -> int | None:
+    """Returns the line of a freely written text that became a line of its one spelling, or None if the lines were sorted."""
+    if source == text:
+        return line
+    lines = source[mark_length(source):].split("\n")
+    kept = [(number, words) for number, words in enumerate(map(free_words, lines), 1) if words]
+    if [" ".join(words) for _, words in kept] != text.split("\n")[:len(kept)]:
+        return None
+    return kept[line - 1][0] if line <= len(kept) else len(lines)
+
+
 def spelled(text: str) -> Spelling:
     """Returns a text in its one spelling. What it can't change into a good line stays, for the program to refuse."""
     spelling = Spelling()

@@ -681,6 +681,7 @@ def follow_turns(studio: Studio) -> None:
     for number in (2, steps):
         studio.script("arguments[0].focus(); arguments[0].select()", field)
         field.send_keys(str(number), Keys.ENTER)
+        assert f"layout 22 18 {number}\n" in studio.layout_text(), studio.text("status")
         studio.verdict("yes")
     assert sorted(studio.layout_text().split("\n")) == sorted(before.split("\n")), studio.layout_text()
     studio.click("#undo")

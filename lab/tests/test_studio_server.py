@@ -20,7 +20,8 @@ from bbmlab_core.studio.folder import Folder
 from bbmlab_core.studio.guard import MAX_REQUEST_BYTES
 from bbmlab_core.studio.jobs import Jobs, Worker
 from bbmlab_core.studio.server import POLICY, Studio, studio
-from bbmlab_core.studio.verdicts import cuts_of, source_line
+from bbmlab_core.spelling import source_line
+from bbmlab_core.studio.verdicts import cuts_of
 
 MEMORY = 4096
 # A program that does not end, with a name that no other test has.

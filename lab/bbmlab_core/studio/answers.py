@@ -10,12 +10,11 @@ from ..documents import read_document
 from ..program import HERE, ProgramError
 from ..refusals import explain_refusal
 from ..releases import program_of
-from ..spelling import spelled
+from ..spelling import source_line, spelled
 from ..terminal import LabError
 from .folder import ChangedError, Folder, FolderError, bytes_of, digest_of, text_of
 from .guard import Denied
 from .jobs import Jobs
-from .verdicts import source_line
 
 # The folders of the examples, in a clone and in an installation.
 EXAMPLES = [HERE.parent.parent / "examples", HERE.parent.parent.parent / "share" / "doc" / "bbmcheck" / "examples"]

@@ -19,7 +19,7 @@ from ..processor import processor_seconds
 from ..program import Answer, Executable, ProgramError, ProgramTimeout, ask
 from ..refusals import explain_code, explain_refusal
 from ..reports import Finding, Report, ReportError, parse_report
-from ..spelling import free_words, mark_length, spelled
+from ..spelling import source_line, spelled
 from ..terminal import LabError
 from ..trials import Budget, Trial
 
@@ -170,17 +170,6 @@ class Judge:
         told = explain_refusal(document, document.refusal) if same and document.refusal else explain_code(line, code)
         return Verdict("refused", told.what, "own", bundle, output, line=source_line(self.source, self.text, line), code=code, rule=told.rule,
                        hints=told.hints)
-
-
-def source_line(source: str, text: str, line: int) -> int | None:
-    """Returns the line of a freely written text that became a line of its one spelling, or None if the lines were sorted."""
-    if source == text:
-        return line
-    lines = source[mark_length(source):].split("\n")
-    kept = [(number, words) for number, words in enumerate(map(free_words, lines), 1) if words]
-    if [" ".join(words) for _, words in kept] != text.split("\n")[:len(kept)]:
-        return None
-    return kept[line - 1][0] if line <= len(kept) else len(lines)
 
 
 def wrong_cell(circuit: Circuit, layout: Layout, on: set[str], live: set[Cell]) -> Cell | None:
