@@ -18,6 +18,7 @@ if TYPE_CHECKING:
 EPILOG = """Nothing here is proved, and nothing here is trusted: the verdict is always the program's.
 Exit statuses: 0 done or all yes, 1 a no or a refusal, 2 wrong arguments, 4 a file or the program is missing or failed."""
 FORMATS = ["json", "jsonl", "junit", "tap", "text"]
+RESULTS = ["yes", "no", "refused", "timeout", "missing", "error"]
 
 
 def late(module: str, function: str = "run") -> Callable[[argparse.Namespace], int]:
@@ -69,6 +70,15 @@ def seconds(word: str) -> float:
     if not 0 < number < 1e9:
         raise argparse.ArgumentTypeError("it is a number of seconds above 0")
     return number
+
+
+def result_words(words: str) -> list[str]:
+    """Returns names of results, with commas between."""
+    found = words.split(",")
+    unknown = [word for word in found if word not in RESULTS]
+    if unknown:
+        raise argparse.ArgumentTypeError(f"{unknown[0]!r} is no result: they are {', '.join(RESULTS)}")
+    return found
 
 
 def shard(word: str) -> Any:
@@ -177,6 +187,7 @@ def add_check(commands: Commands) -> None:
     parser.add_argument("files", nargs="+", metavar="FILE", help="a bundle, - for standard input, or a folder: all its .txt files")
     parser.add_argument("--jobs", type=positive, default=min(4, os.cpu_count() or 1), metavar="N", help="files at a time (default: %(default)s)")
     parser.add_argument("--format", choices=FORMATS, default="text", help="how results are written (default: text)")
+    parser.add_argument("--only", type=result_words, metavar="RESULTS", help="list only files with these results, such as no,refused; all are checked")
     parser.add_argument("--receipts", metavar="DIR", help="write a receipt of each answer here, and skip texts whose receipt holds")
     parser.add_argument("--again", action="store_true", help="with --receipts: check all texts")
     parser.add_argument("--shard", type=shard, metavar="K/N", help="check only part K of N, by the digests of the names")

@@ -6,6 +6,7 @@ from dataclasses import asdict, dataclass, field, replace
 
 from .certificates import Certificate, StopLine
 from .circuits import Circuit
+from .code_names import CODE_NAMES
 from .designs import require_report_of
 from .diagnosis import MAX_STEPS, Diagnosis, Truth
 from .documents import Document, read_document
@@ -333,6 +334,8 @@ def as_json(explanation: Explanation) -> str:
     """Writes an explanation as one JSON document."""
     members = asdict(explanation)
     del members["fixed"]
+    if explanation.refused:
+        members["code_name"] = CODE_NAMES.get(explanation.code, "")
     return json.dumps({"format": "bbmlab explanation 2", **members}, indent=2, ensure_ascii=True)
 
 

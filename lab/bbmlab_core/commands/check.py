@@ -8,7 +8,7 @@ from ..program import find_program
 from ..progress import Progress
 from ..receipts import ReceiptFolder
 from ..releases import program_of
-from ..results import WRITERS, ResultWriter
+from ..results import WRITERS, OnlyWriter, ResultWriter
 from ..sharding import in_shard
 from ..signals import Stopped
 from ..terminal import LabError, plain
@@ -32,7 +32,11 @@ def run(options: argparse.Namespace) -> int:
     """Checks all files. A signal ends all programs that run, and the results so far are written."""
     files = [file for file in text_files(options.files, tell_of_left) if in_shard(file, options.shard)]
     checker = source(options)
-    writer = WRITERS[options.format]()
+    writer: ResultWriter = WRITERS[options.format]()
+    if options.only:
+        if options.format in ("tap", "junit"):
+            raise LabError("--only is for the formats text, json and jsonl: TAP and JUnit count all files", 2)
+        writer = OnlyWriter(writer, options.only)
     writer.begin(files)
     counts: dict[str, int] = {}
     try:
