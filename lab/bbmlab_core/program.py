@@ -102,7 +102,8 @@ def find_program(given: str | None = None) -> Executable:
             return opened(behind_wrapper(os.path.abspath(found)))
     is_named = given or os.environ.get("BBMCHECK")
     where = f"there is no program at {tried[0]}" if is_named else "no program was found in the clone, next to bbmlab or on PATH"
-    raise ProgramError(f"{where}; name it with --program PATH or set BBMCHECK")
+    raise ProgramError(f"{where}; name it with --program PATH or set BBMCHECK. The checker has a Debian package and archives of its own: the Python package "
+                       "does not contain it")
 
 
 class Running:

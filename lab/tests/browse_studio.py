@@ -44,7 +44,7 @@ const some = [() => { tool("mirror"); const from = cell(); drag(from, near(from)
   () => key(["ArrowUp", "ArrowLeft", "ArrowDown", "ArrowRight"][draw(4)], { altKey: true }), () => key("c", { ctrlKey: true }),
   () => { key("v", { ctrlKey: true }); const at = cell(); drag(at, at); }, () => { tool("erase"); const at = partCell(); drag(at, near(at)); },
   () => { tool("cell"); const list = document.getElementById("cell-name"); list.selectedIndex = draw(list.length); list.dispatchEvent(new Event("change"));
-    const at = cell(); drag(at, at); },
+    const at = cell(); drag(at, at); document.getElementById("dialog").close(); },
   () => { const field = document.getElementById("steps"); field.value = desk.layout.steps + draw(5); field.dispatchEvent(new Event("change")); },
   () => key("z", { ctrlKey: true }), () => key("y", { ctrlKey: true })];
 while (done < 500) { const before = desk.model.text; some[draw(some.length)](); if (desk.model.text !== before) done += 1; }
