@@ -3,6 +3,7 @@
 import difflib
 import re
 
+from .limits import LINE
 from .lines import Form, NAME, NUMBER, word_value
 
 Hint = tuple[str, str]
@@ -107,6 +108,9 @@ def form_hint(words: list[str], form: Form, section: str) -> Hint:
 
 def keyword_hint(word: str, section: str, begun: bool, forms: dict[str, Form]) -> Hint:
     """Returns what is wrong with a first word that the section does not have."""
+    if word == "limits":
+        return (f"The only line that begins with `limits` is `{LINE}`, and it is the first line of a text.",
+                f"Remove the line, or write `{LINE}` before all sections.")
     if word == "halo" and section == "certificate":
         return ("`halo` lines belong to `certificate 1`; in version 2 there are none.",
                 "Remove the `halo` lines, or write `certificate 1` in the header.")

@@ -16,7 +16,7 @@ from .board import Board, Step, Waiting, box_of, tiles_in
 from .cells import PORTS, GateCell
 from .paths import Path, PathFinder
 from .settings import Settings
-from .world import AROUND, MARGIN, TILE, Item, path_item, tiles_of
+from .world import AROUND, MARGIN, ROW, TILE, Item, path_item, tiles_of
 
 # Largest side of a box in tiles: boxes have at most 64 by 64 cells.
 MOST_TILES = 4
@@ -24,7 +24,7 @@ MOST_TILES = 4
 NEAR = 100
 # The cells of the square in which `World.taken_around` counts.
 FULL = (2 * AROUND) ** 2
-EVEN_BITS = sum(1 << index for index in range(0, 1024, 2))
+EVEN_BITS = sum(1 << index for index in range(0, ROW, 2))
 
 
 @dataclass(frozen=True)

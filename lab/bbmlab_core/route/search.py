@@ -13,7 +13,7 @@ from multiprocessing.process import BaseProcess
 from typing import Callable, Iterator
 
 from ..circuits import Circuit
-from ..layouts import MAX_SIDE
+from ..limits import SECOND, limits_for, with_line
 from ..signals import Stopped
 from .attempt import Attempt, OutOfTimeError
 from .board import NoRouteError, Step
@@ -96,7 +96,7 @@ def estimated_side(netlist: Netlist) -> int:
     balls = max(len(netlist.free_roots()), len(netlist.circuit.outputs) + len(netlist.circuit.spills))
     area += balls * (steps + 16) * CELLS_PER_STEP
     side = LEAST_SIDE
-    while side < MAX_SIDE and side * side * FILL < area:
+    while side < SECOND.max_side and side * side * FILL < area:
         side += 2 * TILE
     return side
 
@@ -120,16 +120,17 @@ def attempts_of(netlists: list[Netlist], options: Options) -> Iterator[tuple[Net
         for _ in range(ATTEMPTS_PER_SIDE):
             yield netlists[index % len(netlists)], side, options.seed * 1_000_003 + index
             index += 1
-        side = side if options.side else min(MAX_SIDE, side + max(2 * TILE, side // 4 // TILE * TILE))
+        side = side if options.side else min(SECOND.max_side, side + max(2 * TILE, side // 4 // TILE * TILE))
 
 
 def routed_bundle(circuit_text: str, design: Design) -> Routed:
     """Returns the bundle of a design; raises NoRouteError if its certificate needs too much."""
-    certifier = Certifier(design)
-    text = bundle_text(circuit_text, certifier)
+    certifier, circuit = Certifier(design), design.circuit
+    text, gates, wires = bundle_text(circuit_text, certifier), len(circuit.gates), len(circuit.defined)
     layout = circuit_section(circuit_text) + "\n".join(certifier.layout) + "\n"
-    return Routed(text, layout, design.size, design.end, len(certifier.mirrors), len(certifier.modules), certifier.most_cuts,
-                  len(design.gates))
+    return Routed(with_line(text, limits_for(design.size, design.end, len(certifier.modules), gates, wires)),
+                  with_line(layout, limits_for(design.size, design.end, 0, gates, wires)),
+                  design.size, design.end, len(certifier.mirrors), len(certifier.modules), certifier.most_cuts, len(design.gates))
 
 
 class Search:

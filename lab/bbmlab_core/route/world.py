@@ -17,8 +17,9 @@ from .balls import BOUNCE_STEPS, Ball, Leg, Mirror, Turn, block_cells, bounce, m
 from .cells import GateCell
 
 # The number of a cell is its row times ROW plus its column, and that of a block at a time is STEP times the time plus its corner.
-ROW = 1 << 10
-STEP = 1 << 20
+ROW_BITS = 12
+ROW = 1 << ROW_BITS
+STEP = ROW * ROW
 # No ball comes nearer to the border than this many cells, and no mirror nearer than two cells less.
 MARGIN = 4
 # A certificate's boxes are squares of this side, or rectangles of such squares.
@@ -41,7 +42,7 @@ def number_cell(number: int) -> Cell:
 
 def tiles_of(cells: Iterable[int]) -> set[int]:
     """Returns the tiles of cells: the tile (i, j) is ROW times j plus i."""
-    return {(number >> 10 + TILE_BITS) * ROW + ((number & ROW - 1) >> TILE_BITS) for number in cells}
+    return {(number >> ROW_BITS + TILE_BITS) * ROW + ((number & ROW - 1) >> TILE_BITS) for number in cells}
 
 
 @dataclass
@@ -165,7 +166,7 @@ class World:
                 counts[number] += 1
             else:
                 counts[number] = 1
-                x, y = number & 1023, number >> 10
+                x, y = number & ROW - 1, number >> ROW_BITS
                 bit = bits[x]
                 rows[y] |= bit
                 falling[y - x + size] |= bit
@@ -185,7 +186,7 @@ class World:
                 counts[number] = count - 1
             else:
                 del counts[number]
-                x, y = number & 1023, number >> 10
+                x, y = number & ROW - 1, number >> ROW_BITS
                 bit = bits[x]
                 rows[y] ^= bit
                 falling[y - x + size] ^= bit
@@ -193,7 +194,7 @@ class World:
 
     def _flip(self, number: int, falling: list[int], rising: list[int]) -> None:
         """Adds a cell to the diagonals, or takes it away."""
-        x, y = number & ROW - 1, number >> 10
+        x, y = number & ROW - 1, number >> ROW_BITS
         falling[y - x + self.size] ^= 1 << x
         rising[y + x] ^= 1 << x
 

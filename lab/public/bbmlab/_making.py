@@ -15,7 +15,7 @@ from bbmlab_core.route.settings import Settings
 from bbmlab_core.terminal import LabError
 
 from ._errors import NotFoundError, RefusedError
-from ._reading import document_of, read
+from ._reading import document_of, read, text_of
 from ._sections import Bundle, Circuit
 
 # The status of a LabError for wrong arguments.
@@ -69,7 +69,7 @@ def route(circuit: Circuit, *, seed: int = 1, size: int | None = None, effort: f
     if min(seed, jobs) < 1 or effort <= 0:
         raise ValueError("seed and jobs are from 1, and effort is more than 0 seconds")
     text = str(circuit)
-    model = document_of(text, "circuit").circuit
+    model = document_of(text_of(circuit), "circuit").circuit
     assert model is not None
     try:
         check_side(size)
