@@ -10,9 +10,22 @@ from .reports import Finding, Report, ReportError, parse_report
 from .terminal import LabError, read_text
 
 
-def read_design(name: str) -> tuple[Document, Layout]:
-    """Returns a text and its layout; raises LabError if it is refused. Sections other than the layout may be missing."""
-    document = read_document(read_text(name))
+# Above so many bytes the certificate of a text that is drawn is not read.
+LONG_TEXT = 500_000
+
+
+def read_design(name: str, has_certificate: bool = True) -> tuple[Document, Layout]:
+    """Returns a text and its layout; raises LabError if it is refused. Sections other than the layout may be missing.
+
+    The certificate of a long text is not read if it is not needed.
+    """
+    text = read_text(name)
+    place = text.find("\ncertificate ") + 1
+    if place and not has_certificate and len(text) > LONG_TEXT:
+        document = read_document(text[:place], "design")
+        document.text = text
+    else:
+        document = read_document(text)
     if document.refusal:
         raise LabError(f"{name}: {refusal_words(document)}", 1)
     if document.layout is None:
