@@ -151,7 +151,7 @@ class Yes(Routing):
         text = gate_circuit("switch")
         plain, small = (read_document(self.route(text, *words)[1]).layout for words in ((), ("--compact",)))
         assert plain and small
-        self.assertLessEqual((small.width, small.steps), (plain.width, plain.steps))
+        self.assertLessEqual((small.width * small.height, small.steps), (plain.width * plain.height, plain.steps))
 
 
 class Mistakes(Routing):
@@ -196,7 +196,7 @@ class Mistakes(Routing):
 
         def wrong(*words: object) -> Item | None:
             item = right(*words)  # type: ignore[arg-type]
-            return Item(item.mirrors, set(), set()) if item else None
+            return Item(item.mirrors) if item else None
 
         with contextlib.ExitStack() as stack:
             for module in ("world", "paths", "board", "placement"):
@@ -255,7 +255,7 @@ class Hostile(Routing):
 
     def test_too_many_gates(self) -> None:
         """What does not fit gets a sentence that names a gate, and with `--keep-partial` a bundle of a part with a yes."""
-        status, bundle, said = self.route(made_circuit("any", 200, 12, 3), "--effort", "8", "--keep-partial")
+        status, bundle, said = self.route(made_circuit("forward", 200, 12, 3), "--effort", "8", "--keep-partial")
         self.assertEqual(status, 1)
         self.assertIn("no route", said)
         self.assertIn("kept a bundle", said)
@@ -264,7 +264,7 @@ class Hostile(Routing):
     def test_interrupt(self) -> None:
         """An interrupt ends the search in time, with one process and with two. It keeps a part with a yes, or says that it keeps none."""
         path, bundle = self.room / "large.txt", self.room / "part.txt"
-        path.write_text(made_circuit("any", 200, 12, 3))
+        path.write_text(made_circuit("forward", 200, 12, 3))
         for words in ((), ("--jobs", "2"), ("--keep-partial",), ("--keep-partial", "--jobs", "2")):
             bundle.unlink(missing_ok=True)
             command = [sys.executable, str(support.LAB / "bbmlab"), "route", str(path), "-o", str(bundle), "--program", self.program, *words]

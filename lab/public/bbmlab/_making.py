@@ -9,7 +9,7 @@ from bbmlab_core import boxes as core_boxes
 from bbmlab_core.certificates import StopLine
 from bbmlab_core.certify import Plan, certified, checked_boxes
 from bbmlab_core.documents import read_document
-from bbmlab_core.route.command import check_side
+from bbmlab_core.route.command import check_side, require_all_keeps
 from bbmlab_core.route.search import Options, Search
 from bbmlab_core.route.settings import Settings
 from bbmlab_core.terminal import LabError
@@ -73,8 +73,9 @@ def route(circuit: Circuit, *, seed: int = 1, size: int | None = None, effort: f
     assert model is not None
     try:
         check_side(size)
+        require_all_keeps("the circuit", model)
     except LabError as error:
-        raise ValueError(str(error)) from error
+        raise own_error(error) from error
     outcome = Search(model, text, Options(seed, size, effort, jobs, compact), Settings(), lambda *_: None).run()
     if outcome.is_interrupted:
         raise KeyboardInterrupt
