@@ -140,6 +140,20 @@ class Growth(unittest.TestCase):
         self.assertLessEqual(max(grown), 192)
 
 
+    def test_ends_get_room(self) -> None:
+        """Before balls are led to the last time the plane grows until their ways have room by estimate: here 30 balls for some 300 steps."""
+        names = [f"w{number}" for number in range(30)]
+        text = "\n".join(["circuit", *(f"input {name}" for name in names), *(f"delay 300 {name} -> {name}_late" for name in names),
+                          *(f"output {name}_late" for name in names), "end"]) + "\n"
+        for most, is_grown in ((4096, True), (160, False)):
+            attempt = Attempt(Netlist(read_circuit(text)), 160, 1, Settings(), most_size=most)
+            attempt.make_room_for_ends()
+            side, least = attempt.board.size, (30 * 300 * Settings().step_cells / Settings().end_fill) ** 0.5
+            self.assertEqual(side > 160, is_grown)
+            self.assertLess(side, 1.3 * least)
+            self.assertEqual(side >= least, is_grown)
+
+
 class Lanes(unittest.TestCase):
     """The way ahead of waiting balls."""
 

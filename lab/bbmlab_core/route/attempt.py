@@ -62,7 +62,7 @@ class Attempt:
         while True:
             self.check_time()
             if not self.todo:
-                why = self.lead_to_the_end()
+                why = self.led_to_the_end()
                 if why is None:
                     return self.design()
                 self.take_back(NO_GATE, why)
@@ -184,6 +184,27 @@ class Attempt:
             last = step.gate.time + step.gate.cell.length
             end = max([end, *(last + netlist.least_steps(netlist.chain(wire)[-1]) for wire in zeros)])
         return end | 1 if netlist.is_backward else end
+
+    def led_to_the_end(self) -> str | None:
+        """Leads all waiting balls on to the last time; returns a sentence if that failed.
+
+        The plane grows before, so that all these ways have room by estimate. If that was not enough it grows again.
+        """
+        self.make_room_for_ends()
+        why = self.lead_to_the_end()
+        for _ in range(self.settings.growths):
+            if why is None or not self.board.grow(self.settings.growth_part, self.most_size):
+                break
+            why = self.lead_to_the_end()
+        return why
+
+    def make_room_for_ends(self) -> None:
+        """Lets the plane grow until what is taken, and what the ways to the last time may take, is at most `end_fill` of it."""
+        board, end = self.board, self.end_time()
+        steps = sum(end - (waiting.ball.time if waiting.ball else 0) for waiting in board.waiting.values())
+        taken = sum(row.bit_count() for row in board.world.blocked) + self.settings.step_cells * steps
+        while taken > self.settings.end_fill * board.size ** 2 and board.grow(self.settings.growth_part, self.most_size):
+            pass
 
     def lead_to_the_end(self) -> str | None:
         """Leads all waiting balls on to the last time; returns a sentence if that failed, and then takes the paths back.

@@ -181,8 +181,11 @@ class Placer:
         if row + top < MARGIN or row + bottom > far or first > last:
             return None
         blocked, taken = self.board.world.blocked, 0
-        for x, y in cell.mirrors if not is_crowded else ():
-            taken |= blocked[row + y] >> first + x
+        for y, places in cell.mirror_rows if not is_crowded else ():
+            # A row of the plane has thousands of bits, so it is shifted once.
+            near = blocked[row + y] >> first + left & (1 << last - first + right - left + 1) - 1
+            for x in places:
+                taken |= near >> x - left
         free = ~taken & (EVEN_BITS << (first - row) % 2) & (1 << last - first + 1) - 1
         if not free:
             return None

@@ -61,6 +61,10 @@ class Settings:
     growths: int = 2
     growth_part: int = 24
     most_growth: float = 1.5
+    # The part of the plane that is taken at the end at most, and the cells that a ball newly touches in a step by estimate: the ways of 123
+    # balls to the last time took 2.35 cells a step, and had no room at 0.56 of the plane.
+    end_fill: float = 0.47
+    step_cells: float = 2.6
     # How often paths to the last time are taken back for others, and the tries for each of them.
     end_rips: int = 150
     end_tries: int = 6
