@@ -38,7 +38,7 @@ STYLE = """text{font:7px sans-serif;fill:#222}.name{font-weight:bold;font-size:8
 stroke-linejoin:round;paint-order:stroke}.leader{stroke:#222;stroke-width:.7}.in{fill:none;stroke:#222}
 .out{fill:none;stroke:#222;stroke-dasharray:2 1.5}.waste{stroke:#222;fill:none}.mirror{fill:#7f8691}.ball{fill:#111}
 .box{fill:none;stroke:#7a3db8;stroke-width:1.2;stroke-dasharray:5 3}.number{fill:#7a3db8;font-size:8px}
-.gate{fill:#7a3db8;fill-opacity:.18}.faint{stroke-width:1;stroke-dasharray:none;stroke-opacity:.2}.fault{fill:none;stroke:#d00000;stroke-width:2.5}
+.faint{stroke-width:1;stroke-dasharray:none;stroke-opacity:.2}.fault{fill:none;stroke:#d00000;stroke-width:2.5}
 .way{fill:none;stroke-width:2.2;stroke-linecap:round}.way[stroke-dasharray]{stroke-linecap:butt}
 .back{fill:#fff}.plane{fill:#f7f7f4}.line{stroke:#dcdcd6;stroke-width:.4}.w8{stroke:#777}
 @media(prefers-color-scheme:dark){text{fill:#eee}.name{stroke:#1e2126}.leader{stroke:#eee}.fault{stroke:#ff5a52}.in,.out,.waste{stroke:#eee}.mirror{fill:#7c828c}.ball{fill:#fff}
@@ -278,6 +278,7 @@ def svg(layout: Layout, drawing: Drawing, wires: list[str]) -> str:
         x, y = centre(cell)
         parts.append(f'<circle class="fault" cx="{short(x)}" cy="{short(y)}" r="{CELL * 0.75:.1f}"><title>{escape(about)}</title></circle>')
     letters = f"g.plan text{{font-size:{short(7 * scale)}px}}g.plan .name{{font-size:{short(8 * scale)}px}}" if scale > 1 else ""
+    letters += ".gate{fill:#7a3db8;fill-opacity:.18}" if drawing.gates else ""
     style = f"{STYLE}{LIGHT_WAYS}@media(prefers-color-scheme:dark){{{DARK_WAYS}}}{letters}"
     title = f'<g transform="scale({short(scale)})"><text x="{MARGIN}" y="12">{escape(drawing.title)}</text></g>'
     below = f'<g transform="translate(0 {short(bottom)}) scale({short(scale)})">' + "\n".join(keys) + "</g>"

@@ -127,7 +127,7 @@ def border_of(layout: Layout) -> Iterable[Cell]:
 
 
 def joined_pieces(pieces: Iterable[Piece]) -> list[Piece]:
-    """Joins pieces of one line that meet or share cells. Each goes from its left end to its right end."""
+    """Joins pieces of one line that meet or share cells. Each goes from its left end to its right end, and they are in order."""
     lines: dict[tuple[int, int], list[tuple[int, int]]] = {}
     for one, two in pieces:
         (x, y), (u, v) = (one, two) if one < two else (two, one)
@@ -142,7 +142,7 @@ def joined_pieces(pieces: Iterable[Piece]) -> list[Piece]:
                 joined.append(((first, slope * first + offset), (last, slope * last + offset)))
                 first, last = start, end
             last = max(last, end)
-    return joined
+    return sorted(joined)
 
 
 def ways_of(layout: Layout, tables: dict[str, Table], full: Table, until: int) -> dict[Table, list[Piece]]:

@@ -92,7 +92,7 @@ class Ways(unittest.TestCase):
     def test_joined_pieces(self) -> None:
         """Pieces of a line that meet are one, and others stay."""
         self.assertEqual(joined_pieces([((0, 0), (3, 3)), ((5, 5), (3, 3)), ((7, 7), (8, 8)), ((0, 3), (3, 0)), ((4, 2), (5, 2))]),
-                         [((0, 0), (5, 5)), ((7, 7), (8, 8)), ((0, 3), (3, 0)), ((4, 2), (5, 2))])
+                         [((0, 0), (5, 5)), ((0, 3), (3, 0)), ((4, 2), (5, 2)), ((7, 7), (8, 8))])
 
 
 class Large(unittest.TestCase):
