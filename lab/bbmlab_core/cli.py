@@ -340,7 +340,7 @@ def add_route(commands: Commands) -> None:
                           "Example: bbmlab route circuit.txt -o bundle.txt")
     add_file(parser, "a text that begins with a circuit, or a netlist in BLIF or in the JSON of yosys")
     parser.add_argument("--seed", type=positive, default=1, metavar="N", help="another seed gives another layout (default: 1)")
-    parser.add_argument("--size", type=positive, metavar="N", help="the side of the layout, a multiple of 16 up to 512 (default: as needed)")
+    parser.add_argument("--size", type=positive, metavar="N", help="the side of the layout, a multiple of 16 up to 4096 (default: as needed)")
     parser.add_argument("--effort", type=seconds, default=60.0, metavar="SECONDS", help="how long to search (default: 60)")
     parser.add_argument("--jobs", type=positive, default=1, metavar="N", help="attempts at a time, each in a process (default: 1)")
     parser.add_argument("--compact", action="store_true", help="make more attempts, and take the smallest layout with the fewest steps")

@@ -29,9 +29,22 @@ def read_free(name: str, text: str, command: str | None = None) -> Document:
     raise LabError(f"{name}: {refusal_words(free, line)}", 1)
 
 
-def read_design(name: str) -> tuple[Document, Layout]:
-    """Returns a text and its layout; raises LabError if it is refused. Sections other than the layout may be missing."""
-    document = read_free(name, read_text(name))
+# Above so many bytes the certificate of a text that is drawn is not read.
+LONG_TEXT = 500_000
+
+
+def read_design(name: str, has_certificate: bool = True) -> tuple[Document, Layout]:
+    """Returns a text and its layout; raises LabError if it is refused. Sections other than the layout may be missing.
+
+    The certificate of a long text is not read if it is not needed.
+    """
+    text = read_text(name)
+    place = text.find("\ncertificate ") + 1
+    if place and not has_certificate and len(text) > LONG_TEXT:
+        document = read_free(name, text[:place], "design")
+        document.text = text
+    else:
+        document = read_free(name, text)
     if document.layout is None:
         raise LabError(f"{name}: the text has no layout", 1)
     return document, document.layout

@@ -14,6 +14,7 @@ from urllib.parse import quote
 
 from .answering import STATUS_OF, Result, result_of_report
 from .checking import Contradiction
+from .limits import SECOND
 from .releases import Program
 from .replacing import replace_file
 from .reports import parse_report
@@ -39,7 +40,8 @@ def sha256(data: bytes) -> str:
 def section_digests(text: bytes) -> dict[str, str | None]:
     """Returns the digest of each section of a text, from its header through the line feed of its `end`, or None for one that is not there."""
     digests: dict[str, str | None] = dict.fromkeys(SECTIONS)
-    start = 0
+    front = SECOND.head.encode()
+    start = len(front) if text.startswith(front) else 0
     for name in SECTIONS:
         header = HEADER.match(text, start)
         end = text.find(b"\nend\n", start)

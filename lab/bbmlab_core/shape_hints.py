@@ -4,6 +4,7 @@ import difflib
 import re
 
 from .gates import GATE_SIZES
+from .limits import LINE
 from .lines import Form, NAME, NUMBER, word_value
 
 Hint = tuple[str, str]
@@ -130,6 +131,9 @@ def logic_hint(word: str) -> Hint | None:
 
 def keyword_hint(word: str, section: str, begun: bool, forms: dict[str, Form]) -> Hint:
     """Returns what is wrong with a first word that the section does not have."""
+    if word == "limits":
+        return (f"The only line that begins with `limits` is `{LINE}`, and it is the first line of a text.",
+                f"Remove the line, or write `{LINE}` before all sections.")
     if word == "halo" and section == "certificate":
         return ("`halo` lines belong to `certificate 1`; in version 2 there are none.",
                 "Remove the `halo` lines, or write `certificate 1` in the header.")

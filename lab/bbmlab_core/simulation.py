@@ -14,15 +14,16 @@ from .circuits import Circuit, Valuation, evaluate
 from .layouts import Cell, Layout
 
 Table = int
-# A cell as one number: y + 2 above the lowest ten bits, x + 2 in them. So a block's other cells are 1, 1024 and 1025 further.
-ROW = 1024
+# A cell as one number: y + 2 above the lowest 13 bits, x + 2 in them, which is enough for the largest side. So a block's other cells are 1,
+# ROW and DIAGONAL further.
+ROW = 8192
 DIAGONAL = ROW + 1
 # After so many steps without a change of a module, both kinds of steps with what it hears were tried twice.
 QUIET_STEPS = 4
 
 
 def key_of(cell: Cell) -> int:
-    """Returns the number of a cell with coordinates from -2 to 1021."""
+    """Returns the number of a cell with coordinates from -2 to 8189."""
     return (cell[1] + 2) * ROW + cell[0] + 2
 
 

@@ -8,6 +8,7 @@ from .certificates import ORDER as MODULE_ORDER
 from .circuits import ORDER as CIRCUIT_ORDER
 from .gates import GATE_SIZES
 from .layouts import ORDER as LAYOUT_ORDER
+from .limits import LINE
 
 LAST = 10 ** 9
 SECTION_ORDERS = {"circuit": CIRCUIT_ORDER, "layout": LAYOUT_ORDER}
@@ -161,6 +162,9 @@ def spelled(text: str) -> Spelling:
             section.clear()
 
     for line in free_lines(text, spelling):
+        if line == LINE and not parts and not section:
+            parts.append(f"{LINE}\n")
+            continue
         section.append(line)
         if line == "end":
             close()

@@ -189,7 +189,7 @@ def run_text(layout_lines: list[str], on: list[str]) -> bytes:
 
 
 def layout_lines(document: Document) -> list[str]:
-    """Returns the lines of the layout section."""
+    """Returns the lines of a text of the layout section alone, with the same limits."""
     lines = document.text.split("\n")
     first = next(index for index, line in enumerate(lines) if line.startswith("layout "))
-    return lines[first:lines.index("end", first) + 1]
+    return [*document.limits.head.splitlines(), *lines[first:lines.index("end", first) + 1]]

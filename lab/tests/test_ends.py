@@ -189,7 +189,7 @@ class Hostile(unittest.TestCase):
             file.flush()
             ended = support.lab("from-golly", file.name)
             self.assertEqual((ended.returncode, ended.stdout), (4, ""))
-            self.assertIn("4096 rows or columns", ended.stderr)
+            self.assertIn("4100 rows or columns; a layout takes 4096 at most", ended.stderr)
 
     def test_times_that_make_no_sense(self) -> None:
         """Negative times, and a first time behind the last, are wrong words."""

@@ -2,6 +2,7 @@
 "use strict";
 
 {
+  const { limits } = bbmlab;
   const NAME = /^[a-z][a-z0-9_]{0,31}$/;
   // The numbers of wires that a gate uses and defines (docs/FORMATS.md).
   const SIZES = { source: [0, 1], fredkin: [3, 3], cswap: [3, 3], interact: [2, 4], switch: [2, 3], delay: [1, 1], unswitch: [3, 2], uninteract: [4, 2] };
@@ -18,6 +19,12 @@
 
   /** Returns a text without the byte order mark with which it begins. */
   const unmarked = (text) => (text.startsWith("\ufeff") ? text.slice(1) : text);
+
+  /** Returns the words of each line of a text that has any, and the limits by the first of them, which is left out if it is a line of limits. */
+  function textLines(text) {
+    const lines = unmarked(text).split("\n").map(wordsOf).filter((words) => words.length), own = limits.limitsOf(lines[0] || []);
+    return { lines: own.line ? lines.slice(1) : lines, limits: own };
+  }
 
   /** Returns the gate that words name, or null. */
   function gateOf(words) {
@@ -51,7 +58,7 @@
    * @returns {{inputs: string[], gates: Gate[], outputs: string[], spills: string[], names: Set<string>, isWhole: boolean}}
    */
   function read(text) {
-    const circuit = { inputs: [], gates: [], outputs: [], spills: [] }, known = new Set(), lines = unmarked(text).split("\n").map(wordsOf).filter((words) => words.length);
+    const circuit = { inputs: [], gates: [], outputs: [], spills: [] }, known = new Set(), { lines } = textLines(text);
     const isWhole = lines.length > 0 && lines[0][0] === "circuit" && lines.map((words) => addLine(circuit, known, words)).every(Boolean);
     return { ...circuit, names: known, isWhole };
   }
@@ -96,5 +103,5 @@
     rows.splice(0, count, ...head);
   }
 
-  bbmlab.circuitText = { read, freshNames, join, wordsOf, unmarked, linesOf };
+  bbmlab.circuitText = { read, freshNames, join, wordsOf, unmarked, linesOf, textLines };
 }

@@ -86,7 +86,7 @@
   /** Shows what follows from the run's end. */
   function showEnd() {
     const results = desk.player.results();
-    sketch.good = results && new Map(results.flatMap(({ cells }) => cells.map(({ cell, isGood }) => [bbmlab.keyOf(...cell), isGood])));
+    sketch.good = results && new Map(results.flatMap(({ cells }) => cells.map(({ cell, isGood }) => [String(cell), isGood])));
     sketch.paint();
     sketch.paintWave();
   }
@@ -99,7 +99,7 @@
     element("hint").hidden = desk.model.parts.length > 0 || !desk.model.header;
     const why = desk.fallen.length ? bbmlab.geometry.fallReason(desk.fallen[0].box) : null;
     if (why) say(`The mirror ${desk.fallen[0].box.join(" ")} falls apart: ${why}.`, true);
-    else if (!desk.model.header) say("The line `layout W H STEPS` is missing or not allowed: W and H are even, 2 to 512.", true);
+    else if (!desk.model.header) say(`The line \`layout W H STEPS\` is missing or not allowed: W and H are even, 2 to ${desk.model.limits.maxSide}.${desk.model.needsLine(true)}`, true);
     showTime();
   }
 

@@ -9,9 +9,10 @@ from bbmlab_core import boxes as core_boxes
 from bbmlab_core.certificates import StopLine
 from bbmlab_core.certify import Plan, certified, checked_boxes
 from bbmlab_core.documents import read_document
+from bbmlab_core.limits import sections_after_line
 from bbmlab_core.netlists import NetlistError, map_netlist, netlist_format
 from bbmlab_core.route.certificate import circuit_section
-from bbmlab_core.route.command import check_side
+from bbmlab_core.route.command import check_side, require_all_keeps
 from bbmlab_core.route.search import Options, Search
 from bbmlab_core.route.settings import Settings
 from bbmlab_core.row_check import missing_row
@@ -19,7 +20,7 @@ from bbmlab_core.spelling import spelled
 from bbmlab_core.terminal import LabError
 
 from ._errors import NotFoundError, RefusedError
-from ._reading import document_of, read
+from ._reading import document_of, read, text_of
 from ._sections import Bundle, Circuit
 
 # The status of a LabError for wrong arguments.
@@ -93,16 +94,18 @@ def route(circuit: Circuit | str, *, seed: int = 1, size: int | None = None, eff
     """
     if min(seed, jobs) < 1 or effort <= 0:
         raise ValueError("seed and jobs are from 1, and effort is more than 0 seconds")
-    text = circuit_text(circuit)
-    model = document_of(text, "circuit").circuit
+    given = circuit_text(circuit)
+    model = document_of(text_of(circuit) if isinstance(circuit, Circuit) else given, "circuit").circuit
+    text = sections_after_line(given)
     assert model is not None
     try:
         check_side(size)
+        why = missing_row(model)
+        if why:
+            raise NotFoundError(why)
+        require_all_keeps("the circuit", model)
     except LabError as error:
-        raise ValueError(str(error).removeprefix("--")) from error
-    why = missing_row(model)
-    if why:
-        raise NotFoundError(why)
+        raise ValueError(str(error).removeprefix("--")) if error.status == WRONG_ARGUMENTS else own_error(error) from error
     is_cancelled = False
 
     def tell(attempt: int, side: int, placed: int, total: int) -> None:
