@@ -44,7 +44,7 @@ class Documents(unittest.TestCase):
             report = Path(room) / "report"
             report.write_text(ask(program, "check", Path(file).read_bytes()).output)
             for words, without in [(("json", "--report", str(report), file), {"assign", "limits"}), (("explain", "--json", file), set()),
-                                   (("check", "--format", "json", file), {"stopped", "not_checked"}), (("trace", "--json", file), set())]:
+                                   (("check", "--format", "json", file), {"stopped", "not_checked", "left_out"}), (("trace", "--json", file), set())]:
                 more = () if words[0] == "json" else ("--program", program)
                 document = json.loads(support.lab(*words, *more).stdout)
                 self.assertEqual(set(document) - {"format"}, self.members(document["format"]) - without, words[0])
