@@ -3,7 +3,7 @@
 import time
 from dataclasses import dataclass
 
-from .program import Answer, ProgramError, ProgramTimeout, Running, ask
+from .program import Answer, Executable, ProgramError, ProgramTimeout, Running, ask
 from .reports import ReportError, parse_report
 
 # The results, from best to worst, with the word that is shown.
@@ -55,7 +55,7 @@ def why_no_verdict(said: Answer) -> str | None:
     return result.detail if result.result == "error" else None
 
 
-def answer(program: str, file: str, text: bytes, timeout: float | None, running: Running) -> Result:
+def answer(program: Executable, file: str, text: bytes, timeout: float | None, running: Running) -> Result:
     """Returns what the program says of a text, without the time that it took."""
     try:
         said = ask(program, "check", text, timeout, running)
@@ -68,7 +68,7 @@ def answer(program: str, file: str, text: bytes, timeout: float | None, running:
     return result_of_report(file, said.status, said.output)
 
 
-def timed_answer(program: str, file: str, text: bytes, timeout: float | None, running: Running) -> Result:
+def timed_answer(program: Executable, file: str, text: bytes, timeout: float | None, running: Running) -> Result:
     """Returns what the program says of a text, and how many seconds it took."""
     started = time.monotonic()
     result = answer(program, file, text, timeout, running)

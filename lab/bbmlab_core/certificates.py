@@ -1,13 +1,15 @@
 """The certificate section: its model and its reader."""
 
+from bisect import bisect_left
 from dataclasses import dataclass, field
+from typing import Iterator
 
 from .boxes import Box
 from .circuits import Circuit
 from .layouts import Cell, Layout, Part
 from .lines import Form, Lines, SectionReader, forms_of
+from .owners import NOBODY, Owners
 
-MAX_MODULES = 1024
 MAX_BOX_SIDE = 64
 MAX_CUTS = 12
 MAX_USES = 64
@@ -103,28 +105,33 @@ class Certificate:
     modules: list[Module] = field(default_factory=list)
     first_line: int = 0
     last_line: int = 0
+    # The owners of the blocks of the modules up to now.
+    _owners: Owners | None = None
+
+    def owners(self) -> Owners:
+        """Returns which module owns each block. It is made once for the modules that there are."""
+        if self._owners is None or self._owners.module_count != len(self.modules):
+            boxes = [module.box for module in self.modules]
+            self._owners = Owners(max((box.x + box.width for box in boxes), default=0), max((box.y + box.height for box in boxes), default=0))
+            for number, box in enumerate(boxes):
+                self._owners.take(box, number)
+        return self._owners
 
     def owner(self, cell: Cell) -> Module | None:
         """Returns the module that has the cell."""
-        return next((module for module in self.modules if module.box.has(cell)), None)
+        number = self.owners().owner_at(cell)
+        return None if number == NOBODY else self.modules[number]
 
     def neighbours(self, module: Module) -> list[Module]:
         """Returns the modules whose boxes touch that of `module`."""
-        box = module.box
-        wide = Box(box.x - 1, box.y - 1, box.width + 2, box.height + 2)
-        return [other for other in self.modules if other is not module and overlaps(wide, other.box)]
+        others = (self.modules[number] for number in self.owners().near(module.box))
+        return [other for other in others if other is not module]
 
     def halo_lines(self, module: Module) -> list[BorderLine]:
         """Returns what the module hears: its halo lines, in version 2 the edge lines beside it."""
         if self.version == 1:
             return module.halos
         return [line for other in self.neighbours(module) for line in other.edges if module.box.has_in_halo(line.cell)]
-
-
-def overlaps(one: Box, two: Box) -> bool:
-    """Whether two boxes share a cell."""
-    return (one.x < two.x + two.width and two.x < one.x + one.width
-            and one.y < two.y + two.height and two.y < one.y + one.height)
 
 
 class CertificateReader(SectionReader):
@@ -134,23 +141,21 @@ class CertificateReader(SectionReader):
     all_forms = forms_of(
         "certificate VERSION", "module X Y W H", "cut NAME", "use GATE", "keep GATE", "edge TIME X Y SIGNAL",
         "halo TIME X Y SIGNAL", "stop T NAME X Y", "end")
+    forms_of_version_2 = {word: form for word, form in all_forms.items() if word != "halo"}
 
     def __init__(self, lines: Lines, circuit: Circuit, layout: Layout) -> None:
         super().__init__(lines)
         self.circuit, self.layout = circuit, layout
-        self.certificate = Certificate(first_line=lines.taken + 1)
-        # The `in` and `out` cells by the block that they lie in.
-        self.ports: dict[Cell, list[Part]] = {}
-        for port in layout.of_kind("in") + layout.of_kind("out"):
-            self.ports.setdefault((port.x // 2 * 2, port.y // 2 * 2), []).append(port)
-        # The module that has each block of two by two cells, by the block's place.
-        self.owners: dict[Cell, Module] = {}
+        self.owners = Owners(layout.width, layout.height)
+        self.certificate = Certificate(first_line=lines.taken + 1, _owners=self.owners)
+        # The `in` and `out` cells of each row, from left to right.
+        self.ports: dict[int, list[Part]] = {}
+        for port in sorted(layout.of_kind("in") + layout.of_kind("out"), key=lambda port: port.x):
+            self.ports.setdefault(port.y, []).append(port)
 
     def forms_now(self) -> dict[str, Form]:
         """Returns the forms, in version 2 without `halo`."""
-        if self.certificate.version != 2:
-            return self.all_forms
-        return {word: form for word, form in self.all_forms.items() if word != "halo"}
+        return self.forms_of_version_2 if self.certificate.version == 2 else self.all_forms
 
     @property
     def module(self) -> Module:
@@ -175,8 +180,8 @@ class CertificateReader(SectionReader):
         for what, side in (("width", width), ("height", height)):
             if side % 2 or not 2 <= side <= MAX_BOX_SIDE:
                 self.lines.refuse(2, "box_side", what=what, number=side)
-        if len(self.certificate.modules) == MAX_MODULES:
-            self.lines.refuse(2, "module_count")
+        if len(self.certificate.modules) == self.lines.limits.max_modules:
+            self.lines.refuse(2, "module_count", limits=self.lines.limits)
         box = Box(x, y, width, height)
         if x % 2 or y % 2:
             self.lines.refuse(8, "box_odd", box=box)
@@ -188,13 +193,11 @@ class CertificateReader(SectionReader):
 
     def take_box(self, module: Module) -> None:
         """Opens a module, whose box lies over no earlier one."""
-        box = module.box
-        blocks = [(u, v) for v in range(box.y, box.y + box.height, 2) for u in range(box.x, box.x + box.width, 2)]
-        for block in blocks:
-            other = self.owners.get(block)
-            if other is not None:
-                self.lines.refuse(8, "box_overlap", box=box, other=other.number, other_box=other.box, at=other.line, cell=block)
-        self.owners.update((block, module) for block in blocks)
+        taken = self.owners.taken_in(module.box)
+        if taken is not None:
+            cell, other = taken[0], self.certificate.modules[taken[1]]
+            self.lines.refuse(8, "box_overlap", box=module.box, other=other.number, other_box=other.box, at=other.line, cell=cell)
+        self.owners.take(module.box, module.number)
         self.certificate.modules.append(module)
 
     def read_cut(self, name: str) -> None:
@@ -327,13 +330,16 @@ class CertificateReader(SectionReader):
         self.require_local(name, "stop")
         stops.append(stop)
 
+    def ports_in(self, box: Box) -> Iterator[Part]:
+        """Yields the `in` and `out` cells of a box."""
+        for row in (self.ports[y] for y in range(box.y, box.y + box.height) if y in self.ports):
+            first = bisect_left(row, box.x, key=lambda port: port.x)
+            yield from row[first:bisect_left(row, box.x + box.width, first, key=lambda port: port.x)]
+
     def require_ports(self) -> None:
         """Refuses the end of a module that has a port whose wire it does not know."""
         for module in self.certificate.modules[-1:]:
-            box = module.box
-            blocks = ((u, v) for v in range(box.y, box.y + box.height, 2) for u in range(box.x, box.x + box.width, 2))
-            missing = sorted((port for block in blocks for port in self.ports.get(block, ()) if port.name not in module.local),
-                             key=lambda port: port.line)
+            missing = sorted((port for port in self.ports_in(module.box) if port.name not in module.local), key=lambda port: port.line)
             if missing:
                 makers = {port.name: self.circuit.maker.get(port.name or "") for port in missing}
                 self.lines.refuse(11, "port_not_local", module=module.number, at=module.line, ports=missing, makers=makers)
@@ -346,26 +352,10 @@ class CertificateReader(SectionReader):
         if not certificate.modules:
             self.lines.refuse(11, "no_module", size=(self.layout.width, self.layout.height))
         blocks = (self.layout.width // 2) * (self.layout.height // 2)
-        if len(self.owners) < blocks:
-            self.lines.refuse(11, "gap", gaps=self.gaps(), modules=len(certificate.modules))
+        if self.owners.owned_count < blocks:
+            self.lines.refuse(11, "gap", gaps=self.owners.gaps(), modules=len(certificate.modules))
         if certificate.version == 2 and self.layout.steps >= 2:
             self.require_heard_wires()
-
-    def gaps(self) -> list[Box]:
-        """Returns rectangles that together have all cells in no box."""
-        free = {(u, v) for v in range(0, self.layout.height, 2) for u in range(0, self.layout.width, 2)} - self.owners.keys()
-        gaps = []
-        for x, y in sorted(free, key=lambda block: (block[1], block[0])):
-            if (x, y) not in free:
-                continue
-            right, bottom = x, y
-            while (right, y) in free:
-                right += 2
-            while all((u, bottom) in free for u in range(x, right, 2)):
-                bottom += 2
-            free -= {(u, v) for v in range(y, bottom, 2) for u in range(x, right, 2)}
-            gaps.append(Box(x, y, right - x, bottom - y))
-        return gaps
 
     def require_heard_wires(self) -> None:
         """Refuses a module that does not know the wire of an edge line beside it."""

@@ -9,11 +9,12 @@ from dataclasses import dataclass, field
 from typing import Iterable
 
 from .boxes import Box
-from .certificates import MAX_BOX_SIDE, MAX_BORDER_LINES, MAX_CUTS, MAX_MODULES, MAX_USES, BorderLine, Certificate, Module, StopLine
+from .certificates import MAX_BOX_SIDE, MAX_BORDER_LINES, MAX_CUTS, MAX_USES, BorderLine, Certificate, Module, StopLine
 from .circuits import Circuit, Gate
 from .cones import fewest_cuts, keeping_cone
 from .documents import Document
 from .layouts import Cell, Layout, row_order
+from .limits import SECOND, limits_for, sections_after_line, with_line
 from .observing import Observer, perimeter
 from .processor import processor_seconds
 from .simulation import ModuleRun, Table, cell_of, key_of
@@ -71,8 +72,8 @@ class Maker:
     def certificate(self, boxes: list[Box] | None) -> Certificate:
         """Returns a certificate with given boxes, or with boxes of its own."""
         modules = [self.module(box) for box in boxes] if boxes else self.divided(Box(0, 0, self.layout.width, self.layout.height))
-        if len(modules) > MAX_MODULES:
-            raise LabError(f"the certificate takes {len(modules)} modules; {MAX_MODULES} is the most", 1)
+        if len(modules) > SECOND.max_modules:
+            raise LabError(f"the certificate takes {len(modules)} modules; {SECOND.max_modules} is the most", 1)
         for number, module in enumerate(modules):
             module.number = number
         self.add_keeps(modules)
@@ -317,8 +318,9 @@ def certified(document: Document, boxes: list[Box] | None, plan: Plan, notes: li
             notes += maker.notes
     except NoBoxError as error:
         raise LabError(f"no certificate was found: {error}", 1) from error
-    head = document.text.split("\nend\n")
-    return f"{head[0]}\nend\n{head[1]}\nend\n{certificate_text(certificate)}"
+    head = sections_after_line(document.text).split("\nend\n", 2)
+    limits = limits_for(max(layout.width, layout.height), layout.steps, len(certificate.modules), len(circuit.gates), len(circuit.defined))
+    return with_line(f"{head[0]}\nend\n{head[1]}\nend\n{certificate_text(certificate)}", limits)
 
 
 def checked_boxes(layout: Layout, width: int, height: int) -> list[Box]:

@@ -8,33 +8,48 @@ from dataclasses import dataclass
 from multiprocessing.connection import Connection, wait
 from pathlib import Path
 from types import FrameType
-from typing import Iterable, Iterator, Protocol
+from typing import Callable, Iterable, Iterator, Protocol
 
 from .answering import WORDS, Result, timed_answer
-from .program import Running
+from .program import Executable, ProgramTimeout, Running
 from .terminal import LabError, read_bytes
 
 __all__ = ["WORDS", "Checker", "Keeper", "Result", "counted", "exit_status", "summary", "text_files"]
 
 # Seconds between two looks whether a worker has a result, and how long a worker may take to end.
 LOOK_SECONDS, END_SECONDS = 0.2, 2.0
+# The results that are kept: what the program said.
+KEPT = ("yes", "no", "refused")
 
 
-def files_below(folder: str) -> list[str]:
-    """Returns the `.txt` files of a folder, at any depth. Raises LabError if a folder cannot be listed."""
+def files_below(folder: str, tell: Callable[[str], None] = lambda _: None) -> list[str]:
+    """Returns the `.txt` files of a folder, at any depth. Raises LabError if a folder cannot be listed.
+
+    A link to a folder is not followed, since links may make a circle. `tell` gets a sentence on each of them, and on what is no plain file.
+    """
     def stop(error: OSError) -> None:
         """Ends the search."""
         raise LabError(f"{error.filename}: {error.strerror or error}") from error
 
-    return sorted(str(Path(place) / name) for place, _, names in os.walk(folder, onerror=stop) for name in names if name.endswith(".txt"))
+    found = []
+    for place, folders, names in os.walk(folder, onerror=stop):
+        for name in sorted(name for name in folders if os.path.islink(os.path.join(place, name))):
+            tell(f"{Path(place) / name}: this link to a folder is left out; name it to check its files")
+        for name in (name for name in names if name.lower().endswith(".txt")):
+            path = Path(place) / name
+            if path.exists() and not path.is_file():
+                tell(f"{path}: this is no plain file, and is left out")
+            else:
+                found.append(str(path))
+    return sorted(found)
 
 
-def text_files(names: list[str]) -> list[str]:
-    """Returns the files of these names; a folder is all its `.txt` files, at any depth."""
+def text_files(names: list[str], tell: Callable[[str], None] = lambda _: None) -> list[str]:
+    """Returns the files of these names; a folder is all its `.txt` files, at any depth. `tell` gets a sentence on what is left out."""
     found: list[str] = []
     for name in names:
         if name != "-" and os.path.isdir(name):
-            inside = files_below(name)
+            inside = files_below(name, tell)
             if not inside:
                 raise LabError(f"{name}: no .txt file in this folder")
             found += inside
@@ -61,21 +76,41 @@ class Keeper(Protocol):
 class Order:
     """What each worker does: run a program for at most `timeout` seconds a text, and keep the results."""
 
-    program: str
+    program: Executable
     timeout: float | None
     keeper: Keeper | None = None
 
     def check(self, file: str, given: bytes | None, running: Running) -> Result:
         """Returns what the program says of a file, or of a text that was read already."""
         try:
-            text = read_bytes(file) if given is None else given
+            text = read_in_time(file, self.timeout) if given is None else given
         except LabError as error:
             return Result(file, "missing", str(error).removeprefix(f"{file}: "), 0)
+        except ProgramTimeout as error:
+            return Result(file, "timeout", str(error), 0)
         before = children_seconds()
         result = timed_answer(self.program, file, text, self.timeout, running)
-        if self.keeper and result.result in ("yes", "no", "refused"):
+        if self.keeper and result.result in KEPT:
             return kept(self.keeper, text, result, children_seconds() - before)
         return result
+
+
+def read_in_time(file: str, timeout: float | None) -> bytes:
+    """Returns the bytes of a file. Raises ProgramTimeout if it does not end in time, as a pipe to which nobody writes."""
+    if timeout is None or os.path.isfile(file):
+        return read_bytes(file)
+
+    def stop(_number: int, _frame: FrameType | None) -> None:
+        """Ends the reading."""
+        raise ProgramTimeout(f"the file did not end within {timeout:g} seconds")
+
+    old = signal.signal(signal.SIGALRM, stop)
+    signal.setitimer(signal.ITIMER_REAL, timeout)
+    try:
+        return read_bytes(file)
+    finally:
+        signal.setitimer(signal.ITIMER_REAL, 0)
+        signal.signal(signal.SIGALRM, old)
 
 
 def kept(keeper: Keeper, text: bytes, result: Result, seconds: float) -> Result:
@@ -93,7 +128,7 @@ def children_seconds() -> float:
 
 
 def serve(order: Order, own: Connection, others: list[Connection]) -> None:
-    """Checks one file after another, in a worker process, until the pipe is closed. SIGTERM ends the program that runs, and the worker."""
+    """Checks one file after another, in a worker process, until the pipe is closed. SIGTERM and SIGHUP end the program that runs, and the worker."""
     running = Running()
 
     def stop(_number: int, _frame: FrameType | None) -> None:
@@ -101,7 +136,9 @@ def serve(order: Order, own: Connection, others: list[Connection]) -> None:
         running.stop()
 
     signal.signal(signal.SIGINT, signal.SIG_IGN)
-    signal.signal(signal.SIGTERM, stop)
+    for number in (signal.SIGTERM, signal.SIGHUP):
+        if signal.getsignal(number) is not signal.SIG_IGN:
+            signal.signal(number, stop)
     for connection in others:
         connection.close()
     try:
@@ -146,7 +183,7 @@ class Worker:
 class Checker:
     """Checks files, some at a time. `stop` ends all that runs."""
 
-    def __init__(self, program: str, jobs: int = 1, timeout: float | None = None, keeper: Keeper | None = None) -> None:
+    def __init__(self, program: Executable, jobs: int = 1, timeout: float | None = None, keeper: Keeper | None = None) -> None:
         self.order, self.jobs = Order(program, timeout, keeper), jobs
         self.workers: list[Worker] = []
 

@@ -7,8 +7,6 @@ from typing import Iterable
 from .gates import GATE_SIZES, INVERSE_GATES, Table, gate_row, input_tables
 from .lines import Lines, SectionReader, forms_of
 
-MAX_WIRES = 4096
-MAX_GATES = 1024
 MAX_DELAY = 4096
 ORDER = ["input", "gate", "output", "spill"]
 
@@ -192,8 +190,8 @@ class CircuitReader(SectionReader):
         if word == "delay" and not 1 <= (parameter or 0) <= MAX_DELAY:
             self.lines.refuse(2, "delay_limit", number=parameter)
         self.require_room(outs)
-        if len(self.circuit.gates) == MAX_GATES:
-            self.lines.refuse(2, "gate_count")
+        if len(self.circuit.gates) == self.lines.limits.max_gates:
+            self.lines.refuse(2, "gate_count", limits=self.lines.limits)
         self.consume(ins)
         gate = Gate(len(self.circuit.gates), word, parameter, ins, outs, self.lines.taken)
         self.define(outs)
@@ -241,8 +239,8 @@ class CircuitReader(SectionReader):
 
     def require_room(self, outs: list[str]) -> None:
         """Refuses the line that would pass the limit of wires."""
-        if len(self.circuit.defined) + len(outs) > MAX_WIRES:
-            self.lines.refuse(2, "wire_count")
+        if len(self.circuit.defined) + len(outs) > self.lines.limits.max_wires:
+            self.lines.refuse(2, "wire_count", limits=self.lines.limits)
 
     def consume(self, names: list[str]) -> None:
         """Consumes wires from the left, each of which is defined and not yet consumed."""

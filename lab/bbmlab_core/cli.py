@@ -18,6 +18,7 @@ if TYPE_CHECKING:
 EPILOG = """Nothing here is proved, and nothing here is trusted: the verdict is always the program's.
 Exit statuses: 0 done or all yes, 1 a no or a refusal, 2 wrong arguments, 4 a file or the program is missing or failed."""
 FORMATS = ["json", "jsonl", "junit", "tap", "text"]
+RESULTS = ["yes", "no", "refused", "timeout", "missing", "error"]
 
 
 def late(module: str, function: str = "run") -> Callable[[argparse.Namespace], int]:
@@ -71,6 +72,15 @@ def seconds(word: str) -> float:
     return number
 
 
+def result_words(words: str) -> list[str]:
+    """Returns names of results, with commas between."""
+    found = words.split(",")
+    unknown = [word for word in found if word not in RESULTS]
+    if unknown:
+        raise argparse.ArgumentTypeError(f"{unknown[0]!r} is no result: they are {', '.join(RESULTS)}")
+    return found
+
+
 def shard(word: str) -> Any:
     """Returns a part of a set, written K/N."""
     from .sharding import shard as read_shard
@@ -104,6 +114,28 @@ class HelpForm(argparse.RawDescriptionHelpFormatter):
         super().__init__(prog, width=max(HelpForm.width - 2, 10))
 
 
+class Parser(argparse.ArgumentParser):
+    """A parser whose help is written, or its process ends with status 4. argparse takes no notice of an output that is full or closed."""
+
+    def _print_message(self, message: str, file: Any = None) -> None:
+        """Writes a message."""
+        if file is not sys.stdout:
+            super()._print_message(message, file)
+            return
+        try:
+            if sys.stdout is None:
+                raise OSError("it is closed")
+            sys.stdout.write(message)
+            sys.stdout.flush()
+        except BrokenPipeError:
+            from .signals import end_by_pipe
+            end_by_pipe()
+        except OSError as error:
+            print(f"bbmlab: standard output: {error.strerror or error}", file=sys.stderr)
+            drop_output()
+            sys.exit(4)
+
+
 class ListedOnly(argparse.ArgumentParser):
     """A command that does not run: it needs no arguments, whose parsers would take most of the time of a start."""
 
@@ -126,11 +158,10 @@ class Commands:
 
     def __init__(self, wanted: str | None) -> None:
         self.wanted = wanted
-        self.parser = argparse.ArgumentParser(prog="bbmlab", description="See, explain, trace and check billiard-ball layouts.",
-                                              epilog=EPILOG, formatter_class=HelpForm)
+        self.parser = Parser(prog="bbmlab", description="See, explain, trace and check billiard-ball layouts.", epilog=EPILOG, formatter_class=HelpForm)
         self.parser.add_argument("--version", action="version", version=f"bbmlab {VERSION}")
         self.commands: argparse._SubParsersAction[argparse.ArgumentParser] = self.parser.add_subparsers(
-            dest="name", metavar="COMMAND", required=True, parser_class=argparse.ArgumentParser if wanted else ListedOnly)
+            dest="name", metavar="COMMAND", required=True, parser_class=Parser if wanted else ListedOnly)
         for adder in ADDERS:
             adder(self)
 
@@ -156,6 +187,7 @@ def add_check(commands: Commands) -> None:
     parser.add_argument("files", nargs="+", metavar="FILE", help="a bundle, - for standard input, or a folder: all its .txt files")
     parser.add_argument("--jobs", type=positive, default=min(4, os.cpu_count() or 1), metavar="N", help="files at a time (default: %(default)s)")
     parser.add_argument("--format", choices=FORMATS, default="text", help="how results are written (default: text)")
+    parser.add_argument("--only", type=result_words, metavar="RESULTS", help="list only files with these results, such as no,refused; all are checked")
     parser.add_argument("--receipts", metavar="DIR", help="write a receipt of each answer here, and skip texts whose receipt holds")
     parser.add_argument("--again", action="store_true", help="with --receipts: check all texts")
     parser.add_argument("--shard", type=shard, metavar="K/N", help="check only part K of N, by the digests of the names")
@@ -308,7 +340,7 @@ def add_route(commands: Commands) -> None:
                           "Example: bbmlab route circuit.txt -o bundle.txt")
     add_file(parser, "a text that begins with a circuit, or a netlist in BLIF or in the JSON of yosys")
     parser.add_argument("--seed", type=positive, default=1, metavar="N", help="another seed gives another layout (default: 1)")
-    parser.add_argument("--size", type=positive, metavar="N", help="the side of the layout, a multiple of 16 up to 512 (default: as needed)")
+    parser.add_argument("--size", type=positive, metavar="N", help="the side of the layout, a multiple of 16 up to 4096 (default: as needed)")
     parser.add_argument("--effort", type=seconds, default=60.0, metavar="SECONDS", help="how long to search (default: 60)")
     parser.add_argument("--jobs", type=positive, default=1, metavar="N", help="attempts at a time, each in a process (default: 1)")
     parser.add_argument("--compact", action="store_true", help="make more attempts, and take the smallest layout with the fewest steps")
@@ -353,8 +385,25 @@ def answered(run: Callable[[argparse.Namespace], int], options: argparse.Namespa
         return signal.status
 
 
+def open_errors() -> None:
+    """Opens standard error if it is closed: otherwise `print` writes messages to standard output, and the next file that is opened gets them."""
+    if sys.stderr is None:
+        descriptor = os.open(os.devnull, os.O_WRONLY)
+        if descriptor != 2:
+            os.dup2(descriptor, 2)
+            os.close(descriptor)
+        sys.stderr = open(2, "w", encoding="utf-8")
+
+
+def drop_output() -> None:
+    """Drops what could not be written and is still in the buffer, so that the interpreter does not try once more."""
+    if sys.stdout is not None:
+        os.dup2(os.open(os.devnull, os.O_WRONLY), 1)
+
+
 def main(words: list[str] | None = None) -> int:
     """Runs a command and returns the exit status."""
+    open_errors()
     words = sys.argv[1:] if words is None else words
     commands = commands_for(words)
     options, unknown = commands.parser.parse_known_args(words)
@@ -367,7 +416,6 @@ def main(words: list[str] | None = None) -> int:
         if hasattr(stream, "reconfigure"):
             stream.reconfigure(errors="backslashreplace")
     status = answered(options.run, options)
-    if status == 4 and sys.stdout is not None:
-        # What could not be written is still in the buffer: it is dropped, so that the interpreter does not try once more.
-        os.dup2(os.open(os.devnull, os.O_WRONLY), 1)
+    if status == 4:
+        drop_output()
     return status

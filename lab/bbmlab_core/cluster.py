@@ -4,15 +4,15 @@ import importlib
 import os
 import queue
 import time
-from pathlib import Path
 from typing import Any, Iterable, Iterator
 
-from . import remote
+from . import remote, sealed
 from .answering import Result, result_of_report
-from .checking import Checker, kept
+from .checking import KEPT, Checker, kept, read_in_time
+from .own_digest import foreign_report
+from .program import Executable, ProgramTimeout
 from .receipts import ReceiptFolder, sha256
-from .releases import program_at
-from .terminal import LabError, read_bytes
+from .terminal import LabError
 
 # How many groups of texts are on their way for each thread of the workers, and seconds between two looks.
 AHEAD, LOOK_SECONDS = 4, 0.2
@@ -35,18 +35,19 @@ class Group:
         self.sent = 0
 
 
-def connected(address: str, jobs: int, program: str) -> Any:
+def connected(address: str, jobs: int, program: Executable) -> Any:
     """Returns a client of the scheduler at an address, or of a cluster of processes here if the address is empty, with the program."""
     try:
         cloudpickle, distributed = (importlib.import_module(name) for name in ("cloudpickle", "distributed"))
     except ImportError as error:
         raise LabError("--dask needs Dask: apt-get install python3-distributed, or pip install 'bbmlab[dask]'") from error
-    cloudpickle.register_pickle_by_value(remote)
+    for module in (remote, sealed):
+        cloudpickle.register_pickle_by_value(module)
     try:
         if address:
             client = distributed.Client(address, timeout=CONNECT_SECONDS)
         else:
-            os.environ["BBMCHECK"] = program
+            os.environ["BBMCHECK"] = program.path
             client = distributed.Client(n_workers=jobs, threads_per_worker=1, processes=True, dashboard_address=":0", host="127.0.0.1", silence_logs=50)
         client.wait_for_workers(1, timeout=CONNECT_SECONDS)
     except (OSError, TimeoutError, ValueError) as error:
@@ -67,9 +68,9 @@ def outcome(future: Any) -> tuple[list[remote.Said], str]:
 class ClusterChecker(Checker):
     """Checks files by the workers of a cluster. The texts and the receipts are read and written here."""
 
-    def __init__(self, program: str, address: str, jobs: int, timeout: float | None, folder: ReceiptFolder | None, sends: bool) -> None:
+    def __init__(self, program: Executable, address: str, jobs: int, timeout: float | None, folder: ReceiptFolder | None, sends: bool) -> None:
         super().__init__(program, jobs, timeout, folder)
-        self.digest = program_at(program).sha256
+        self.digest = program.sha256
         self.client = connected(address, jobs, program)
         self.said: dict[str, str] = {}
         # The groups that came back, how many are on their way, and what the texts of those that came back took.
@@ -77,8 +78,8 @@ class ClusterChecker(Checker):
         self.flying, self.answered, self.worked = 0, 0, 0.0
         self.thread_count, self.counted_until = 1, 0.0
         if sends:
-            self.client.run(remote.store_program, Path(program).read_bytes(), self.digest)
-        for complaint in sorted({complaint for _, complaint in self.client.run(remote.program_with, self.digest).values() if complaint}):
+            self.client.run(remote.store_program, program.data(), self.digest)
+        for complaint in sorted(set(self.client.run(remote.complaint_about, self.digest).values()) - {""}):
             self.stop()
             raise LabError(complaint)
 
@@ -110,9 +111,11 @@ class ClusterChecker(Checker):
     def added(self, file: str, group: Group) -> Result | None:
         """Adds a file to a group. Returns a result only if it can't be read."""
         try:
-            group.files.append((file, read_bytes(file)))
+            group.files.append((file, read_in_time(file, self.order.timeout)))
         except LabError as error:
             return Result(file, "missing", str(error).removeprefix(f"{file}: "), 0)
+        except ProgramTimeout as error:
+            return Result(file, "timeout", str(error), 0)
         return None
 
     def is_full(self, group: Group) -> bool:
@@ -152,12 +155,13 @@ class ClusterChecker(Checker):
         host, status, output, seconds, kind, complaint = said
         if kind:
             return Result(file, "timeout" if kind == "timeout" else "error", complaint, 0, is_fatal=kind == "other program")
-        result = result_of_report(file, status, output)
+        why = foreign_report(text, output)
+        result = Result(file, "error", f"on {host}: {why}", 0) if why else result_of_report(file, status, output)
         result.seconds = round(seconds, 3)
         other = self.said.setdefault(sha256(text), output)
         if other != output:
             return Result(file, "error", f"two answers to {file} by one program: {other!r} and {output!r} (on {host})", 0, is_fatal=True)
-        return kept(self.order.keeper, text, result, seconds) if self.order.keeper else result
+        return kept(self.order.keeper, text, result, seconds) if self.order.keeper and result.result in KEPT else result
 
     def stop(self) -> None:
         """Lets the cluster go: one that was started here ends."""

@@ -7,14 +7,44 @@ from .layouts import Layout
 from .own_report import certificate_digest
 from .refusals import refusal_words
 from .reports import Finding, Report, ReportError, parse_report
+from .spelling import source_line, spelled
 from .terminal import LabError, read_text
 
 
-def read_design(name: str) -> tuple[Document, Layout]:
-    """Returns a text and its layout; raises LabError if it is refused. Sections other than the layout may be missing."""
-    document = read_document(read_text(name))
-    if document.refusal:
+def read_free(name: str, text: str, command: str | None = None) -> Document:
+    """Returns a text that may be written freely, with comments, any spaces and unsorted lists: as it is in the one spelling.
+
+    Raises LabError if it is refused. The line is that of the file.
+    """
+    document = read_document(text, command)
+    if document.refusal is None:
+        return document
+    made = spelled(text).text
+    free = read_document(made, command) if made != text else document
+    if free.refusal is None:
+        return free
+    line = source_line(text, made, free.refusal.line)
+    if line is None or free is document:
         raise LabError(f"{name}: {refusal_words(document)}", 1)
+    raise LabError(f"{name}: {refusal_words(free, line)}", 1)
+
+
+# Above so many bytes the certificate of a text that is drawn is not read.
+LONG_TEXT = 500_000
+
+
+def read_design(name: str, has_certificate: bool = True) -> tuple[Document, Layout]:
+    """Returns a text and its layout; raises LabError if it is refused. Sections other than the layout may be missing.
+
+    The certificate of a long text is not read if it is not needed.
+    """
+    text = read_text(name)
+    place = text.find("\ncertificate ") + 1
+    if place and not has_certificate and len(text) > LONG_TEXT:
+        document = read_free(name, text[:place], "design")
+        document.text = text
+    else:
+        document = read_free(name, text)
     if document.layout is None:
         raise LabError(f"{name}: the text has no layout", 1)
     return document, document.layout

@@ -7,11 +7,12 @@ and so is that a wire differs from a cell in a sample. That no sample has a faul
 from dataclasses import dataclass, field
 from enum import Enum
 from functools import cached_property
+from typing import Callable
 
 from .certificates import Module
 from .circuits import Circuit, Valuation, evaluate, evaluate_samples
 from .documents import Document
-from .layouts import Cell, row_order
+from .layouts import Cell, Layout, row_order
 from .processor import processor_seconds
 from .reports import Finding
 from .simulation import Fault, Field, ModuleRun, Table, WholeRun, cell_of, end_tables, key_of, lowest_bit
@@ -74,10 +75,42 @@ class Signal:
 
 @dataclass(frozen=True)
 class WholeOutcome:
-    """Whether the whole run ends as the layout asks. `fault` says how it does not, where `is_right` is NO."""
+    """Whether some certificate may get a yes: the whole run ends as the layout asks, and its rim is dead at odd times before.
+
+    `fault` says what is wrong, where `is_right` is NO; `is_rim` that it is a live cell of the rim, whatever the circuit asks.
+    """
 
     is_right: Truth
     fault: str = ""
+    is_rim: bool = False
+
+    @property
+    def words(self) -> str:
+        """Why no certificate gets a yes, where `is_right` is NO."""
+        if self.is_rim:
+            return (f"In the whole run {self.fault}. At odd times before the end the outermost cells must be dead, so no certificate gets a yes "
+                    "before the layout is changed.")
+        return (f"The layout itself does not do what the circuit asks: {self.fault}. No certificate gets a yes before the layout or the circuit "
+                "is changed.")
+
+
+class RimWatch:
+    """Looks at each step of a whole run whether a cell of the rim is live at an odd time before the end, under assignments that count."""
+
+    def __init__(self, layout: Layout, defined: Table) -> None:
+        self.defined, self.steps = defined, layout.steps
+        self.keys = {key_of((x, y)) for x in range(layout.width) for y in (0, layout.height - 1)}
+        self.keys |= {key_of((x, y)) for y in range(layout.height) for x in (0, layout.width - 1)}
+        # The first time, the cell, and under which assignments.
+        self.found: tuple[int, Cell, Table] | None = None
+
+    def look(self, run: WholeRun) -> None:
+        """Looks at the present state. A cell that did not change in two steps was live at the odd time before."""
+        if self.found or run.time % 2 == 0 or run.time >= self.steps:
+            return
+        live = [key for keys in (run.field.changed, run.field.changed_before) for key in keys & self.keys if run.field.live.get(key, 0) & self.defined]
+        if live:
+            self.found = run.time, cell_of(min(live)), run.field.live[min(live)] & self.defined
 
 
 class Diagnosis:
@@ -187,12 +220,16 @@ class Diagnosis:
             self._fields[time] = run.field if run and run.left is None else None
         return self._fields[time]
 
-    def whole_run_to(self, time: int) -> WholeRun | None:
-        """Returns the whole run under the tried inputs at a time, or at the step that leaves the rectangle; None where it is too long."""
+    def whole_run_to(self, time: int, look: Callable[[WholeRun], None] = lambda _: None) -> WholeRun | None:
+        """Returns the whole run under the tried inputs at a time, or at the step that leaves the rectangle; None where it is too long.
+
+        `look` is called after each step.
+        """
         if not self.can_run_whole():
             return None
         run, end = WholeRun(self.layout, self.values.tables, self.values.full), processor_seconds() + MAX_SECONDS
         while run.time < time and run.step():
+            look(run)
             if processor_seconds() > end:
                 self.is_slow = True
                 return None
@@ -218,8 +255,9 @@ class Diagnosis:
 
     @cached_property
     def outcome(self) -> WholeOutcome:
-        """Whether the whole run ends as the layout asks, whatever the certificate says."""
-        values, run = self.values, self.whole_run_to(self.layout.steps)
+        """Whether the whole run ends as the layout asks with a dead rim, whatever the certificate says."""
+        values, rim = self.values, RimWatch(self.layout, self.values.defined)
+        run = self.whole_run_to(self.layout.steps, rim.look)
         if run is None:
             return WholeOutcome(Truth.UNKNOWN)
         if run.left is not None:
@@ -235,6 +273,9 @@ class Diagnosis:
                 is_live = run.field.live.get(key, 0) >> lowest_bit(differs) & 1
                 found, asked = ("live", "dead") if is_live else ("dead", "live")
                 return WholeOutcome(Truth.NO, f"with {inputs} the cell ({x}, {y}) is {found} at the end and should be {asked}")
+        if rim.found:
+            time, (x, y), table = rim.found
+            return WholeOutcome(Truth.NO, f"with {self.inputs_of(lowest_bit(table))} the cell ({x}, {y}) of the rim is live at time {time}", True)
         return WholeOutcome(Truth.YES if values.is_all else Truth.UNKNOWN)
 
     def inputs_of(self, column: int) -> str:

@@ -6,6 +6,7 @@ from .assigns import AssignReader
 from .certificates import Certificate, CertificateReader
 from .circuits import Circuit, CircuitReader
 from .layouts import Layout, LayoutReader
+from .limits import Limits, limits_of
 from .lines import Lines, Refusal, Refused
 
 BUNDLE_COMMANDS = ("check", "modules", "migrate")
@@ -23,6 +24,11 @@ class Document:
     certificate: Certificate | None = None
     on: list[str] | None = None
     refusal: Refusal | None = None
+
+    @property
+    def limits(self) -> Limits:
+        """The limits of the text."""
+        return limits_of(self.text)
 
     def line(self, number: int) -> str:
         """Returns a line of the text, counted from 1, or nothing."""

@@ -3,13 +3,15 @@
 from dataclasses import dataclass, field
 from html import escape
 
+from .boxes import Box
 from .certificates import Module
-from .circuits import evaluate, evaluate_samples, sampled_tables
+from .circuits import Circuit, evaluate, evaluate_samples, sampled_tables
 from .documents import Document
 from .gates import input_tables
 from .label_places import Name, Rect, leader, place_names
 from .layouts import Cell, Layout, Part
-from .simulation import DIAGONAL, ROW, Table, WholeRun, block_of, cell_of
+from .simulation import Table
+from .ways import Piece, joined_pieces, ways_of
 
 CELL = 12
 MARGIN = 30
@@ -17,10 +19,13 @@ NAME_SIZE = 8
 # Up to this many inputs all choices are tried, and else so many samples of them.
 MAX_INPUTS = 12
 SAMPLES = 256
-# Larger layouts get larger letters and wider ways, so that they can be read at the width of a page.
+# Larger layouts get larger letters and wider ways, so that they can be read at the width of a page. Above `LARGE_SIDE` ways stay as wide as
+# they are at that side in a picture of one size: balls of the router keep four cells apart.
 PLAIN_SIDE = 64
 MAX_WIDENING = 2.5
+LARGE_SIDE = 512
 MAX_LEGEND = 40
+MAX_MIRRORS = 2000
 # More modules have faint borders and no numbers, which would hide the ways.
 MAX_NUMBERED = 64
 # Colours that people with any sight tell apart (Okabe and Ito) on white and on black, and dashes for print.
@@ -47,9 +52,11 @@ class Drawing:
     """What a picture shows of a layout, apart from its parts. `labels` has the names of the wires that share a way with the key."""
 
     live: set[Cell] = field(default_factory=set)
-    ways: dict[tuple[Cell, Cell], set[str]] = field(default_factory=dict)
+    ways: dict[str, list[Piece]] = field(default_factory=dict)
     labels: dict[str, str] = field(default_factory=dict)
     modules: list[Module] = field(default_factory=list)
+    # The boxes of modules that use gates, with what is said of them: in a large layout in place of all modules.
+    gates: list[tuple[Box, str]] = field(default_factory=list)
     faults: list[tuple[Cell, str]] = field(default_factory=list)
     title: str = ""
 
@@ -77,7 +84,7 @@ def rectangle(kind: str, x: int, y: int, width: int, height: int) -> str:
 
 def number_step(size: int) -> int:
     """Returns how many cells lie between two numbers at the side."""
-    return 2 if size <= 40 else 8 if size <= 128 else 64
+    return 2 if size <= 40 else 8 if size <= 128 else 64 if size <= 1024 else 256
 
 
 def plane(layout: Layout) -> list[str]:
@@ -151,9 +158,17 @@ def port_labels(layout: Layout, scale: float) -> list[str]:
     return lines + parts
 
 
+def mirror_parts(mirrors: list[Part]) -> list[str]:
+    """Returns mirrors: each by itself, or one path for very many."""
+    if len(mirrors) <= MAX_MIRRORS:
+        return [rectangle("mirror", part.x, part.y, part.width, part.height) for part in mirrors]
+    boxes = (f"M{MARGIN + part.x * CELL} {MARGIN + part.y * CELL}h{part.width * CELL}v{part.height * CELL}h-{part.width * CELL}z" for part in mirrors)
+    return [f'<path class="mirror" d="{"".join(boxes)}"/>']
+
+
 def layout_parts(layout: Layout) -> list[str]:
     """Returns mirrors, ports and waste cells."""
-    parts = [rectangle("mirror", part.x, part.y, part.width, part.height) for part in layout.of_kind("mirror")]
+    parts = mirror_parts(layout.of_kind("mirror"))
     parts += [rectangle("out", part.x, part.y, 1, 1) for part in layout.of_kind("out")]
     parts += [f'<rect class="in" x="{MARGIN + part.x * CELL + 1.5}" y="{MARGIN + part.y * CELL + 1.5}" width="{CELL - 3}" height="{CELL - 3}"/>'
               for part in layout.of_kind("in")]
@@ -179,6 +194,11 @@ def module_parts(modules: list[Module]) -> list[str]:
     return parts
 
 
+def gate_parts(gates: list[tuple[Box, str]]) -> list[str]:
+    """Returns the boxes of modules that use gates, with what is said of them."""
+    return [f'<g><title>{escape(about)}</title>{rectangle("gate", box.x, box.y, box.width, box.height)}</g>' for box, about in gates]
+
+
 def ball_parts(layout: Layout, live: set[Cell]) -> list[str]:
     """Returns the live cells that are no mirror's as discs, and dead cells of mirrors as holes."""
     mirrors = layout.mirror_cells()
@@ -197,36 +217,9 @@ def wire_style(wires: list[str]) -> dict[str, tuple[int, str]]:
     return styles | {"": (SEVERAL, "1 2")}
 
 
-def runs_of(numbers: list[int]) -> list[tuple[int, int]]:
-    """Returns the first and the last number of each run of rising numbers without a gap."""
-    runs = [(numbers[0], numbers[0])]
-    for number in numbers[1:]:
-        if number == runs[-1][1] + 1:
-            runs[-1] = runs[-1][0], number
-        else:
-            runs.append((number, number))
-    return runs
-
-
-def merged(segments: list[tuple[Cell, Cell]]) -> list[tuple[Cell, Cell]]:
-    """Joins segments of one diagonal that meet. Each goes from its left end to its right end."""
-    lines: dict[tuple[int, int], list[int]] = {}
-    for (x, y), (u, v) in segments:
-        (x, y), (u, v) = sorted(((x, y), (u, v)))
-        slope = v - y
-        lines.setdefault((slope, y - slope * x), []).append(x)
-    joined = []
-    for (slope, offset), starts in lines.items():
-        ordered = sorted(set(starts))
-        for first, last in runs_of(ordered):
-            joined.append(((first, slope * first + offset), (last + 1, slope * (last + 1) + offset)))
-    return joined
-
-
 def way_order(drawing: Drawing, wires: list[str]) -> list[str]:
     """Returns the wires that have a way, in their order, then the constants, and then what is no wire's."""
-    present = {name for names in drawing.ways.values() for name in names}
-    return [wire for wire in [*wires, "1", ""] if wire in present]
+    return [wire for wire in [*wires, "1", ""] if wire in drawing.ways]
 
 
 def label_of(drawing: Drawing, wire: str) -> str:
@@ -236,10 +229,6 @@ def label_of(drawing: Drawing, wire: str) -> str:
 
 def way_parts(drawing: Drawing, wires: list[str], widening: float) -> list[str]:
     """Returns the ways of balls, a path for each wire."""
-    by_wire: dict[str, list[tuple[Cell, Cell]]] = {}
-    for segment, names in drawing.ways.items():
-        for name in names:
-            by_wire.setdefault(name, []).append(segment)
     order, parts = way_order(drawing, wires), []
     styles = wire_style(order)
     for index, wire in enumerate(order):
@@ -247,7 +236,7 @@ def way_parts(drawing: Drawing, wires: list[str], widening: float) -> list[str]:
         # Later ways are thinner, so that one below another is still seen. In a large layout the thinnest must still be seen itself.
         thinnest = 1.6 if widening == 1 else 2.6
         width = (5 - (5 - thinnest) * index / max(1, len(order) - 1)) * widening
-        path = "".join(f"M{point(first)}L{point(last)}" for first, last in merged(by_wire[wire]))
+        path = "".join(f"M{point(first)}L{point(last)}" for first, last in joined_pieces(drawing.ways[wire]))
         dashes = f' stroke-dasharray="{" ".join(short(int(part) * widening) for part in dash.split())}"' if dash else ""
         title = escape(label_of(drawing, wire))
         parts.append(f'<path class="way w{colour}" style="stroke-width:{short(width)}"{dashes} d="{path}"><title>{title}</title></path>')
@@ -275,18 +264,21 @@ def legend(drawing: Drawing, wires: list[str], y: int, width: float) -> tuple[li
 
 def svg(layout: Layout, drawing: Drawing, wires: list[str]) -> str:
     """Writes the picture. Above `PLAIN_SIDE` cells a side, letters and margins grow with the layout."""
-    scale = max(1.0, max(layout.width, layout.height) / PLAIN_SIDE)
-    widening, margin = min(scale, MAX_WIDENING), MARGIN * (scale - 1)
+    side = max(layout.width, layout.height)
+    scale = max(1.0, side / PLAIN_SIDE)
+    widening, margin = min(scale, MAX_WIDENING) * max(1.0, side / LARGE_SIDE), MARGIN * (scale - 1)
     width, bottom = 2 * MARGIN * scale + layout.width * CELL, MARGIN * scale + layout.height * CELL
     width = max(width, 2 * MARGIN + 256 if drawing.ways else 0)
     keys, key_height = legend(drawing, wires, 24, width / scale)
     height = bottom + (34 + key_height) * scale
-    parts = [*plane(layout), *layout_parts(layout), *module_parts(drawing.modules), *way_parts(drawing, wires, widening),
+    parts = [*plane(layout), *layout_parts(layout), *module_parts(drawing.modules), *gate_parts(drawing.gates),
+             *way_parts(drawing, wires, widening),
              *ball_parts(layout, drawing.live), *port_labels(layout, scale)]
     for cell, about in drawing.faults:
         x, y = centre(cell)
         parts.append(f'<circle class="fault" cx="{short(x)}" cy="{short(y)}" r="{CELL * 0.75:.1f}"><title>{escape(about)}</title></circle>')
     letters = f"g.plan text{{font-size:{short(7 * scale)}px}}g.plan .name{{font-size:{short(8 * scale)}px}}" if scale > 1 else ""
+    letters += ".gate{fill:#7a3db8;fill-opacity:.18}" if drawing.gates else ""
     style = f"{STYLE}{LIGHT_WAYS}@media(prefers-color-scheme:dark){{{DARK_WAYS}}}{letters}"
     title = f'<g transform="scale({short(scale)})"><text x="{MARGIN}" y="12">{escape(drawing.title)}</text></g>'
     below = f'<g transform="translate(0 {short(bottom)}) scale({short(scale)})">' + "\n".join(keys) + "</g>"
@@ -295,18 +287,6 @@ def svg(layout: Layout, drawing: Drawing, wires: list[str]) -> str:
             f"<title>{escape(drawing.title)}</title>\n<style>{style}</style>\n"
             f'<rect class="back" width="{short(width)}" height="{short(height)}"/>\n'
             f'<g class="plan" transform="translate({short(margin)} {short(margin)})">\n' + "\n".join(parts) + f"\n</g>\n{title}\n{below}\n</svg>\n")
-
-
-def block_moves(before: dict[int, Table], corner: int) -> list[tuple[int, int, Table]]:
-    """Returns the moves in a block: from where, to where, and under which assignments. A collision goes by the sides."""
-    a, b, c, d = corner, corner + 1, corner + ROW, corner + DIAGONAL
-    live = {key: before.get(key, 0) for key in (a, b, c, d)}
-    moves = []
-    for one, two, other in ((a, d, live[b] | live[c]), (b, c, live[a] | live[d])):
-        moves += [(one, two, live[one] & ~live[two] & ~other), (two, one, live[two] & ~live[one] & ~other)]
-    both, crossed = live[a] & live[d] & ~(live[b] | live[c]), live[b] & live[c] & ~(live[a] | live[d])
-    moves += [(a, b, both), (d, c, both), (b, a, crossed), (c, d, crossed)]
-    return [move for move in moves if move[2]]
 
 
 def wire_tables(document: Document, on: list[str]) -> tuple[dict[str, Table], Table, int]:
@@ -335,8 +315,8 @@ def sampled_words(document: Document) -> str:
     return f" in {SAMPLES} sampled choices of the {count} inputs" if count > MAX_INPUTS else ""
 
 
-def ball_ways(document: Document, on: list[str] | None, until: int) -> tuple[dict[tuple[Cell, Cell], set[str]], dict[str, str]]:
-    """Returns the ways of the balls: for each step from cell to cell the wires that are true if and only if a ball takes it.
+def ball_ways(document: Document, on: list[str] | None, until: int) -> tuple[dict[str, list[Piece]], dict[str, str]]:
+    """Returns the ways of the balls by the wires that are true if and only if a ball takes them, as straight pieces.
 
     With `on` only the ways under this choice of inputs are left. The empty name is for assignments that are no wire's. Of equal wires
     the first one has the way: the second result is the list of their names, by this wire.
@@ -349,16 +329,28 @@ def ball_ways(document: Document, on: list[str] | None, until: int) -> tuple[dic
     for name, table in tables.items():
         equal.setdefault(names.setdefault(table, name), []).append(name)
     names[full] = "1"
-    run, ways = WholeRun(layout, tables, full), dict[tuple[Cell, Cell], set[str]]()
-    for _ in range(until):
-        # Only blocks of the cells that changed in the last two steps can change: their cells are kept, and not all that are live.
-        live, is_odd = run.field.live, run.time % 2
-        looked = {block_of(key, is_odd) for key in run.field.changed | run.field.changed_before}
-        before = {key: live[key] for corner in looked for key in (corner, corner + 1, corner + ROW, corner + DIAGONAL) if key in live}
-        if not run.step():
-            break
-        for corner in {block_of(key, is_odd) for key in run.field.changed}:
-            for start, end, table in block_moves(before, corner):
-                if on is None or table >> chosen & 1:
-                    ways.setdefault((cell_of(start), cell_of(end)), set()).add(names.get(table, ""))
+    ways: dict[str, list[Piece]] = {}
+    for table, pieces in ways_of(layout, tables, full, until).items():
+        if on is None or table >> chosen & 1:
+            ways.setdefault(names.get(table, ""), []).extend(pieces)
     return ways, {name: ", ".join(same) for name, same in equal.items()}
+
+
+def by_levels(drawing: Drawing, circuit: Circuit) -> list[str]:
+    """Gives the ways of many wires to groups of levels, and returns the groups. A level counts the gates from the inputs to a wire."""
+    levels = dict.fromkeys(circuit.inputs, 0)
+    for gate in circuit.gates:
+        level = max((levels[wire] for wire in gate.ins), default=0) + (gate.word not in ("source", "delay"))
+        levels.update((wire, level) for wire in gate.outs)
+    present = [wire for wire in drawing.ways if wire in levels]
+    if len(present) <= MAX_LEGEND:
+        return list(levels)
+    most = max(levels[wire] for wire in present) + 1
+    size = -(-most // len(COLOURS))
+    lasts = {first: min(first + size, most) - 1 for first in range(0, most, size)}
+    groups = {first: f"level {first}" if first == last else f"levels {first} to {last}" for first, last in lasts.items()}
+    ways: dict[str, list[Piece]] = {}
+    for wire, pieces in drawing.ways.items():
+        ways.setdefault(groups[levels[wire] // size * size] if wire in levels else wire, []).extend(pieces)
+    drawing.ways = ways
+    return list(groups.values())

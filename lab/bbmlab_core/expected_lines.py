@@ -32,6 +32,39 @@ class UnnamedCell:
     time: int
 
 
+class LiveTimes:
+    """Notes at which odd times cells of a run are live, with their tables.
+
+    Most of them are mirrors: those that are live since the start are looked at only when they change, and share what is noted of them.
+    """
+
+    def __init__(self, live: dict[int, Table], keys: set[int], steps: int) -> None:
+        self.live, self.keys, self.steps = live, keys, steps
+        self.still = {key: live[key] for key in keys & live.keys()}
+        self.moving: set[int] = set()
+        self.seen: dict[int, dict[int, Table]] = {}
+
+    def note(self, time: int) -> None:
+        """Notes the present state, at an odd time."""
+        for key in self.moving:
+            self.seen.setdefault(key, {})[time] = self.live[key]
+
+    def follow(self, changed: set[int], time: int) -> None:
+        """Takes the cells that changed in the step to a time."""
+        for key in changed & self.keys:
+            if key in self.still:
+                self.seen[key] = dict.fromkeys(range(1, time, 2), self.still.pop(key))
+            if key in self.live:
+                self.moving.add(key)
+            else:
+                self.moving.discard(key)
+
+    def all_seen(self) -> dict[int, dict[int, Table]]:
+        """Returns the tables by cell and odd time, after the last step."""
+        shared = {table: dict.fromkeys(range(1, self.steps, 2), table) for table in set(self.still.values())}
+        return {**self.seen, **{key: shared[table] for key, table in self.still.items()}}
+
+
 class BorderCheck:
     """Compares the `edge` and `halo` lines of a certificate with the whole run."""
 
@@ -49,16 +82,15 @@ class BorderCheck:
             return None
         values = self.diagnosis.values
         run, end = WholeRun(self.layout, values.tables, values.full), processor_seconds() + MAX_SECONDS
-        keys = {key_of(cell) for cell in self.owners}
-        seen: dict[int, dict[int, Table]] = {}
+        watch = LiveTimes(run.field.live, {key_of(cell) for cell in self.owners}, self.layout.steps)
         while run.time < self.layout.steps:
             if run.time % 2:
-                for key in keys & run.field.live.keys():
-                    seen.setdefault(key, {})[run.time] = run.field.live[key]
+                watch.note(run.time)
             if not run.step() or processor_seconds() > end:
                 self.diagnosis.is_slow = run.left is None
                 return None
-        return {cell_of(key): times for key, times in seen.items()}
+            watch.follow(run.field.changed, run.time)
+        return {cell_of(key): times for key, times in watch.all_seen().items() if times}
 
     def table_of(self, signal: str) -> Table:
         """Returns the table of a signal."""

@@ -2,10 +2,11 @@
 
 import json
 import re
-from dataclasses import asdict, dataclass, field
+from dataclasses import asdict, dataclass, field, replace
 
-from .certificates import StopLine
+from .certificates import Certificate, StopLine
 from .circuits import Circuit
+from .code_names import CODE_NAMES
 from .designs import require_report_of
 from .diagnosis import MAX_STEPS, Diagnosis, Truth
 from .documents import Document, read_document
@@ -14,7 +15,8 @@ from .faults import Entry, assignment_words, explain_border, explain_keep, expla
 from .fixing import Fix, Fixer, outcome_words
 from .mirrors import falling_mirrors
 from .refusals import Explained, explain_code, explain_refusal, listed
-from .reports import Finding, Report, ReportError, parse_report
+from .reports import RUN_ANSWER, Finding, Report, ReportError, parse_report
+from .terminal import plain
 from .trials import Trial
 
 # Of how many modules the faults are told in full, with runs and pictures, and for how many lines of a report a fix is looked for.
@@ -23,7 +25,7 @@ MAX_DETAILED = 12
 MAX_MIRRORS = 3
 
 # What the other commands of the program write.
-ANSWERS = {"run": re.compile(r"cells \d+\n(\d+ \d+\n)*|left \d+\n"), "value": re.compile(r"([a-z]\w* [01]\n)*(undefined \d+\n)?"),
+ANSWERS = {"run": RUN_ANSWER, "value": re.compile(r"([a-z]\w* [01]\n)*(undefined \d+\n)?"),
            "modules": re.compile(r"(module .*\n)+"), "migrate": re.compile(r"circuit\n.*end\n", re.DOTALL)}
 
 
@@ -173,7 +175,7 @@ def mirror_words(diagnosis: Diagnosis) -> list[str]:
 
 def add_fixes(explanation: Explanation, diagnosis: Diagnosis, report: Report, trial: Trial) -> None:
     """Adds a fix of the whole text and fixes of lines of the report; each was tried."""
-    fixer = Fixer(diagnosis.document.text, report, trial)
+    fixer = Fixer(diagnosis.document.text, report, trial, diagnosis)
     whole = fixer.find()
     if whole:
         explanation.fix, explanation.fixed = fix_form(report, whole), whole.text
@@ -203,17 +205,11 @@ def tried_words(fixer: Fixer, trial: Trial) -> list[str]:
     return [f"No fix was found. {trial.tries} text{'s were' if trial.tries != 1 else ' was'} checked by {trial.judge}.{end}", *kinds]
 
 
-def is_on_rim(diagnosis: Diagnosis, finding: Finding) -> bool:
-    """Whether a finding is an edge fault at a cell of the rim."""
-    return finding.word == "local" and finding.values["kind"] == "edge" and diagnosis.layout.is_rim((finding.number("x"), finding.number("y")))
-
-
 def whole_run_words(diagnosis: Diagnosis, faults: list[Finding]) -> list[str]:
-    """Returns whether the whole run ends as the layout asks: a sentence for yes, no, and what was not found out."""
+    """Returns whether the whole run ends as the layout asks with a dead rim: a sentence for yes, no, and what was not found out."""
     outcome, values = diagnosis.outcome, diagnosis.values
     if outcome.is_right is Truth.NO:
-        return [f"The layout itself does not do what the circuit asks: {outcome.fault}. No certificate gets a yes before the layout or the "
-                "circuit is changed."]
+        return [outcome.words]
     if not diagnosis.can_run_whole():
         why = "it takes too long" if diagnosis.is_slow else f"it is longer than {MAX_STEPS} steps"
         return [f"The whole run was not tried to its end here: {why}."]
@@ -221,12 +217,21 @@ def whole_run_words(diagnosis: Diagnosis, faults: list[Finding]) -> list[str]:
         return [f"The circuit has no values under some choices of its inputs. Under the others that were tried ({diagnosis.scope}) the whole run "
                 "ends as the layout asks."]
     tried = f"The whole run was tried here {diagnosis.scope}: it ends as the layout asks"
-    if any(is_on_rim(diagnosis, finding) for finding in faults):
-        return [f"{tried}."]
     if outcome.is_right is Truth.UNKNOWN:
         return [f"{tried}. The other choices were not tried."]
     is_certificate = any(finding.word in ("local", "border") for finding in faults)
     return [f"{tried}, so the fault is in the certificate." if is_certificate else f"{tried}."]
+
+
+def missing_certificate_words(document: Document) -> list[str]:
+    """Returns whether a certificate would help a design that has none: the whole run shows it, whatever certificate there is."""
+    design = replace(document, certificate=Certificate(2, []))
+    if design.circuit is None or design.layout is None or document.certificate and document.certificate.modules:
+        return []
+    outcome = Diagnosis(design).outcome
+    if outcome.is_right is Truth.NO:
+        return [outcome.words]
+    return ["The text has no certificate. In the choices of the inputs that were tried the whole run ends as the layout asks."]
 
 
 def explain_refused(document: Document, report: Report, file: str, trial: Trial | None = None) -> Explanation:
@@ -237,6 +242,8 @@ def explain_refused(document: Document, report: Report, file: str, trial: Trial 
     told = explain_refusal(document, refusal) if same and refusal else explain_code(line, code)
     explanation = Explanation(file, document.command, [f"The text was refused: line {line}, code {code}."], "refused", refused=told, line=line,
                               code=code, line_text=document.line(line))
+    if refusal and same and refusal.cause == "text_ended" and refusal.facts["section"] == "certificate":
+        explanation.headline += missing_certificate_words(document)
     if trial and same and document.command == "check":
         fixer = Fixer(document.text, report, trial)
         fix = fixer.find()
@@ -303,9 +310,12 @@ def require_answer(document: Document, output: str) -> None:
             raise ReportError("the answer is not of this text: it names a gate that the text does not have there")
 
 
-def explain_answer(text: str, command: str, output: str, file: str, trial: Trial | None = None) -> Explanation:
-    """Returns what a command of the program wrote, in words. Fixes are looked for only if there is a trial."""
-    document = read_document(text, command)
+def explain_answer(text: str, command: str, output: str, file: str, trial: Trial | None = None, known: Document | None = None) -> Explanation:
+    """Returns what a command of the program wrote, in words. Fixes are looked for only if there is a trial.
+
+    `known` is the text as it was read already, if it was.
+    """
+    document = known if known and (known.text, known.command) == (text, command) else read_document(text, command)
     if output.startswith("refused ") or command == "check":
         return explain_report(document, parse_report(output), file, trial)
     require_answer(document, output)
@@ -324,15 +334,18 @@ def as_json(explanation: Explanation) -> str:
     """Writes an explanation as one JSON document."""
     members = asdict(explanation)
     del members["fixed"]
+    if explanation.refused:
+        members["code_name"] = CODE_NAMES.get(explanation.code, "")
     return json.dumps({"format": "bbmlab explanation 2", **members}, indent=2, ensure_ascii=True)
 
 
 def as_gcc(explanation: Explanation) -> list[str]:
-    """Writes an explanation as `file:line: error: text` lines for editors."""
+    """Writes an explanation as `file:line: error: text` lines for editors. A control character, also one of the file's name, is an escape."""
     if explanation.refused:
-        text = " ".join([*explanation.refused.what, *fix_words(explanation.fix.words if explanation.fix else [])])
-        return [f"{explanation.file}:{explanation.line}: error: {text} [code {explanation.code}]"]
-    return [f"{explanation.file}:{line_of(entry)}: error: {' '.join([*entry.what, *fix_words(entry.fixes)])} [{entry.report_line}]"
+        hints = [] if explanation.fix else [f"Hint: {hint}" for hint in explanation.refused.hints[:1]]
+        text = " ".join([*explanation.refused.what, *fix_words(explanation.fix.words if explanation.fix else []), *hints])
+        return [plain(f"{explanation.file}:{explanation.line}: error: {text} [code {explanation.code}]")]
+    return [plain(f"{explanation.file}:{line_of(entry)}: error: {' '.join([*entry.what, *fix_words(entry.fixes)])} [{entry.report_line}]")
             for entry in explanation.entries if entry.is_against]
 
 

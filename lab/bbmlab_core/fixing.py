@@ -80,8 +80,9 @@ def step_words(text: str, edits: list[Edit], remakes: bool) -> list[str]:
 class Fixer:
     """Looks for fixes of a text whose report is given."""
 
-    def __init__(self, text: str, report: Report, trial: Trial) -> None:
-        self.text, self.report, self.trial = text, report, trial
+    def __init__(self, text: str, report: Report, trial: Trial, diagnosis: Diagnosis | None = None) -> None:
+        # `own` is the diagnosis of the text itself, if there is one: its runs need not be made again.
+        self.text, self.report, self.trial, self.own = text, report, trial, diagnosis
         # The kinds of edits that were tried, in words.
         self.kinds: dict[str, None] = {}
         # Whether a limit ended some search before all edits of its kind were tried.
@@ -121,7 +122,7 @@ class Fixer:
             return self.accepted(step, document)
         if document.refusal or document.circuit is None or document.layout is None or document.certificate is None:
             return None
-        diagnosis = Diagnosis(document)
+        diagnosis = self.own if self.own and step.text == self.text else Diagnosis(document)
         if diagnosis.outcome.is_right is Truth.NO:
             return self.changed_design(step, document) or self.edited(step, diagnosis)
         return self.edited(step, diagnosis) or self.changed_design(step, document)
@@ -197,7 +198,7 @@ class Fixer:
 
     def edited(self, step: Step, diagnosis: Diagnosis) -> Step | None:
         """Returns a text with an edited certificate, or one that the lab made again: a yes if there is one, else one that is better."""
-        editor, best = CertificateEditor(diagnosis), None
+        editor, best = self.editor_of(diagnosis), None
         for proposal in editor.for_all(step.report.faults):
             self.kinds[proposal.kind] = None
             text = self.applied_or_none(step.text, proposal.edits)
@@ -214,6 +215,14 @@ class Fixer:
             return best
         made = self.remade(diagnosis.document)
         return made if made and removes(step.report, made.report, None) else None
+
+    def editor_of(self, diagnosis: Diagnosis) -> CertificateEditor:
+        """Returns the editor of a certificate. That of the text itself is kept, since it compares all borders with a run."""
+        if diagnosis is not self.own:
+            return CertificateEditor(diagnosis)
+        if self._editor is None:
+            self._editor = CertificateEditor(diagnosis)
+        return self._editor
 
     def applied_or_none(self, text: str, edits: tuple[Edit, ...]) -> str | None:
         """Returns a text after edits, or None if they do not go together."""
@@ -293,16 +302,17 @@ class Fixer:
 
     def find_for(self, diagnosis: Diagnosis, finding: Finding) -> Fix | None:
         """Returns a fix of one line of the report: after its edits the line is gone, and nothing new is against the text."""
-        if self._editor is None:
-            self._editor = CertificateEditor(diagnosis)
+        if self.trial.is_over():
+            return None
+        self.own = diagnosis
         best: Fix | None = None
-        for _, proposal in zip(range(MAX_TEXTS), self._editor.for_finding(finding)):
+        for _, proposal in zip(range(MAX_TEXTS), self.editor_of(diagnosis).for_finding(finding)):
             text = self.applied_or_none(self.text, proposal.edits)
             report = self.trial.report(text) if text else None
             if text and report and removes(self.report, report, finding) and (best is None or is_yes(report)):
                 edits = list(proposal.edits)
                 best = Fix(text, report, edits, False, self.trial.judge, step_words(self.text, edits, False))
-            if best and is_yes(best.report):
+            if best and is_yes(best.report) or self.trial.is_over():
                 break
         return best
 

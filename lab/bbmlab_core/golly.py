@@ -8,13 +8,14 @@ import re
 
 from .documents import read_document
 from .layouts import Cell, Layout, row_order
+from .limits import SECOND, limits_for
 from .terminal import LabError
 
 RULE = "BBM-Margolus-emulated"
 SIGNS = ".ABCD"
 MARGIN = 2
-# The most rows and columns of a file that are read, counted with those that are empty.
-MAX_REACH = 4096
+# The most rows and columns of a file that are read, counted with those that are empty: those of the largest layout with its margin.
+MAX_REACH = SECOND.max_side + 2 * MARGIN
 
 
 def state_of(cell: Cell, live: set[Cell]) -> int:
@@ -67,7 +68,7 @@ def unpacked(body: str, corner: Cell) -> dict[Cell, int]:
         if sign == "!":
             break
         if (y if sign == "$" else x) + number - corner[sign == "$"] > MAX_REACH:
-            raise LabError(f"the pattern takes more than {MAX_REACH} rows or columns; a layout takes 512 at most")
+            raise LabError(f"the pattern takes more than {MAX_REACH} rows or columns; a layout takes {SECOND.max_side} at most")
         if sign == "$":
             x, y = corner[0], y + number
             continue
@@ -111,7 +112,7 @@ def layout_from_golly(text: str) -> str:
     width = max((x for x, _ in live), default=0) - left + 3
     height = max((y for _, y in live), default=0) - top + 3
     width, height = width + width % 2, height + height % 2
-    if max(width, height) > 512:
-        raise LabError(f"the pattern takes {width} by {height} cells with its margin; 512 is the most")
+    if max(width, height) > SECOND.max_side:
+        raise LabError(f"the pattern takes {width} by {height} cells with its margin; {SECOND.max_side} is the most")
     balls = [f"ball {x - left} {y - top}" for x, y in sorted(live, key=row_order)]
-    return "\n".join([f"layout {width} {height} 0", *balls, "end"]) + "\n"
+    return limits_for(max(width, height)).head + "\n".join([f"layout {width} {height} 0", *balls, "end"]) + "\n"

@@ -8,6 +8,7 @@ from .circuits import Circuit
 from .documents import Document
 from .gates import GATE_SIZES
 from .layouts import Layout
+from .limits import FIRST, SECOND
 from .lines import NAME
 from .refusals import refusal_words
 from .reports import Report
@@ -54,6 +55,8 @@ def document_json(document: Document, report: Report | None) -> str:
     if document.refusal:
         raise LabError(f"the text is refused: {refusal_words(document)}", 1)
     parts: dict[str, Any] = {"format": FORMAT}
+    if document.limits is not FIRST:
+        parts["limits"] = document.limits.number
     if document.circuit:
         parts["circuit"] = circuit_json(document.circuit)
     if document.layout:
@@ -184,6 +187,11 @@ def text_from_json(text: str) -> str:
     if not isinstance(document.value, dict) or document.value.get("format") != FORMAT:
         raise LabError(f"the JSON document has not the format `{FORMAT}`")
     lines: list[str] = []
+    if document.has("limits"):
+        limits = document["limits"]
+        if type(limits.value) is not int or limits.value not in (FIRST.number, SECOND.number):
+            raise limits.wrong(f"{FIRST.number} or {SECOND.number}")
+        lines += SECOND.head.splitlines() if limits.value == SECOND.number else []
     if document.has("circuit"):
         lines += circuit_text(document["circuit"])
     if document.has("layout"):

@@ -11,7 +11,8 @@ from typing import Iterable, Iterator
 from .circuits import Circuit, Gate, Valuation, evaluate, evaluate_under, sampled_tables
 from .diagnosis import MAX_INPUTS, MAX_STEPS
 from .edits import Edit, add, delete, place_in_section, replace
-from .layouts import MAX_SIDE, Cell, Layout, Part, cells_of
+from .layouts import Cell, Layout, Part, cells_of
+from .limits import limits_of
 from .meeting_places import meeting_places, start_before
 from .processor import processor_seconds
 from .simulation import Table, WholeRun, cell_of, end_tables, key_of
@@ -67,7 +68,7 @@ class Bench:
     """A design, its run under few choices of the inputs, and the changes that are tried on it."""
 
     def __init__(self, text: str, circuit: Circuit, layout: Layout, seconds: float = 20.0, near: Cell | None = None) -> None:
-        self.circuit, self.layout, self.lines = circuit, layout, text.split("\n")
+        self.circuit, self.layout, self.lines, self.limits = circuit, layout, text.split("\n"), limits_of(text)
         self.end = processor_seconds() + seconds
         # The cell at which the first fault was found; what lies near it is tried first.
         self.near = near
@@ -294,7 +295,7 @@ def larger_changes(bench: Bench) -> Iterator[Change]:
     layout = bench.layout
     if not any(layout.is_rim(cell_of(key)) for key in bench.touched) and not any(layout.is_rim(cell) for cell in bench.taken[0]):
         return
-    if max(layout.width, layout.height) + 4 > MAX_SIDE:
+    if max(layout.width, layout.height) + 4 > bench.limits.max_side:
         return
     header = next(number for number, line in enumerate(bench.lines, 1) if line.startswith("layout "))
     parts = [moved(part, 2, 2) for part in layout.parts]

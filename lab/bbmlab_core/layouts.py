@@ -6,9 +6,10 @@ from typing import Iterator
 from .circuits import Circuit
 from .lines import Lines, SectionReader, forms_of
 
-MAX_SIDE = 512
-MAX_STEPS = 65_536
 ORDER = ["mirror", "ball", "in", "out", "waste"]
+# The kinds besides mirrors whose cells are taken at the start, and those whose cells are taken at the end.
+EARLY_KINDS = ("ball", "in")
+LATE_KINDS = ("out", "waste")
 
 Cell = tuple[int, int]
 
@@ -88,18 +89,20 @@ class LayoutReader(SectionReader):
         super().__init__(lines)
         self.circuit = circuit
         self.layout = Layout()
-        # The part that takes a cell at the start, and the one that takes it at the end.
-        self.starts: dict[Cell, Part] = {}
-        self.ends: dict[Cell, Part] = {}
+        self.known = {"in": set(circuit.inputs), "out": set(circuit.outputs)} if circuit else {}
+        # The cells of each row that parts take at the start, and those that they take at the end: bit x is the cell in column x.
+        self.starts: list[int] = []
+        self.ends: list[int] = []
 
     def read_layout(self, width: int, height: int, steps: int) -> None:
         """Reads the header."""
         self.layout.width, self.layout.height, self.layout.steps = width, height, steps
         for what, side in (("width", width), ("height", height)):
-            if side % 2 or not 2 <= side <= MAX_SIDE:
-                self.lines.refuse(2, "layout_side", what=what, number=side)
-        if steps > MAX_STEPS:
-            self.lines.refuse(2, "layout_steps", number=steps)
+            if side % 2 or not 2 <= side <= self.lines.limits.max_side:
+                self.lines.refuse(2, "layout_side", what=what, number=side, limits=self.lines.limits)
+        if steps > self.lines.limits.max_steps:
+            self.lines.refuse(2, "layout_steps", number=steps, limits=self.lines.limits)
+        self.starts, self.ends = [0] * height, [0] * height
 
     def read_mirror(self, x: int, y: int, width: int, height: int) -> None:
         """Reads a line `mirror`."""
@@ -126,33 +129,36 @@ class LayoutReader(SectionReader):
         self.require_kind_order(kind, ORDER)
         x, y, width, height = box
         for what, side in (("width", width), ("height", height)):
-            if not 1 <= side <= MAX_SIDE:
-                self.lines.refuse(2, "mirror_side", what=what, number=side)
+            if not 1 <= side <= self.lines.limits.max_side:
+                self.lines.refuse(2, "mirror_side", what=what, number=side, limits=self.lines.limits)
         self.require_port(kind, name)
         if x + width > self.layout.width or y + height > self.layout.height:
             self.lines.refuse(7, "cell_outside", kind=kind, box=box, size=(self.layout.width, self.layout.height))
         part = Part(kind, name, x, y, width, height, self.lines.taken)
-        if kind != "out" and kind != "waste":
-            self.take_cells(part, self.starts)
-        if kind in ("mirror", "out", "waste"):
-            self.take_cells(part, self.ends)
+        if kind not in LATE_KINDS:
+            self.take_cells(part, self.starts, EARLY_KINDS)
+        if kind not in EARLY_KINDS:
+            self.take_cells(part, self.ends, LATE_KINDS)
         self.layout.parts.append(part)
 
     def require_port(self, kind: str, name: str | None) -> None:
         """Refuses an `in` that is no input and an `out` that is no output of the circuit."""
-        if self.circuit is None or name is None:
+        if self.circuit is None or name is None or name in self.known[kind]:
             return
         known = self.circuit.inputs if kind == "in" else self.circuit.outputs
-        if name not in known:
-            self.lines.refuse(3, "port_unknown", kind=kind, name=name, known=list(known), is_wire=name in self.circuit.defined)
+        self.lines.refuse(3, "port_unknown", kind=kind, name=name, known=list(known), is_wire=name in self.circuit.defined)
 
-    def take_cells(self, part: Part, taken: dict[Cell, Part]) -> None:
-        """Takes the cells of a part, none of which is taken yet."""
-        for cell in part.cells():
-            other = taken.get(cell)
-            if other is not None:
+    def take_cells(self, part: Part, rows: list[int], kinds: tuple[str, ...]) -> None:
+        """Takes the cells of a part, none of which a part of these kinds or a mirror takes yet."""
+        mask = (1 << part.width) - 1 << part.x
+        for y in range(part.y, part.y + part.height):
+            if rows[y] & mask:
+                taken = rows[y] & mask
+                cell = (taken & -taken).bit_length() - 1, y
+                other = self.layout.part_at(cell, ("mirror", *kinds))
+                assert other is not None
                 self.lines.refuse(7, "cell_taken", kind=part.kind, cell=cell, other=other.kind, other_name=other.name, at=other.line)
-        taken.update((cell, part) for cell in part.cells())
+            rows[y] |= mask
 
     def read_end(self) -> None:
         """Reads the line `end`, at which each input and output of the circuit has a cell."""

@@ -4,7 +4,8 @@ import re
 from dataclasses import dataclass, field
 from typing import Any, NoReturn
 
-MAX_TEXT_BYTES = 16_777_216
+from .limits import FIRST, limits_of
+
 NUMBER = re.compile(r"(0|[1-9][0-9]{0,8})\Z")
 NAME = re.compile(r"[a-z][a-z0-9_]{0,31}\Z")
 
@@ -69,11 +70,12 @@ def match_form(words: list[str], forms: dict[str, Form]) -> tuple[str, Values] |
 
 
 class Lines:
-    """The lines of a text, taken one by one and counted from 1."""
+    """The lines of a text, taken one by one and counted from 1. A first line `limits 2` is taken already."""
 
     def __init__(self, text: str) -> None:
         self.parts = text.split("\n")
-        self.taken = 0
+        self.limits = limits_of(text)
+        self.taken = 0 if self.limits is FIRST else 1
 
     def refuse(self, code: int, cause: str, **facts: Any) -> NoReturn:
         """Refuses the line that was taken last."""

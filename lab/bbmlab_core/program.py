@@ -1,5 +1,6 @@
 """Finding the proved program and running it on a text."""
 
+import hashlib
 import os
 import shutil
 import signal
@@ -9,6 +10,9 @@ import threading
 from contextlib import suppress
 from dataclasses import dataclass
 from pathlib import Path
+
+from .own_digest import foreign_report
+from .sealed import path_of, sealed_copy
 
 HERE = Path(__file__).resolve().parent
 
@@ -28,6 +32,42 @@ class Answer:
     status: int
     output: str
     errors: str
+
+
+class Executable:
+    """A program that was opened once. All its runs execute a private copy of the bytes whose digest it has, whatever becomes of its file."""
+
+    def __init__(self, path: str, descriptor: int, sha256: str) -> None:
+        self.path, self.descriptor, self.sha256 = path, descriptor, sha256
+
+    def __str__(self) -> str:
+        """Returns the path from which it was opened."""
+        return self.path
+
+    def __del__(self) -> None:
+        """Closes the copy."""
+        with suppress(OSError):
+            os.close(self.descriptor)
+
+    def data(self) -> bytes:
+        """Returns the bytes."""
+        return os.pread(self.descriptor, os.fstat(self.descriptor).st_size, 0)
+
+    def start(self, *words: str) -> "subprocess.Popen[bytes]":
+        """Starts the program in a session of its own. A script gets the descriptor's path as its own name."""
+        return subprocess.Popen([self.path, *words], executable=path_of(self.descriptor), pass_fds=[self.descriptor], stdin=subprocess.PIPE,
+                                stdout=subprocess.PIPE, stderr=subprocess.PIPE, start_new_session=True)
+
+
+def opened(program: Executable | str) -> Executable:
+    """Opens the program at a path, unless it is open already. Raises ProgramError if it cannot be read."""
+    if isinstance(program, Executable):
+        return program
+    try:
+        data = Path(program).read_bytes()
+        return Executable(program, sealed_copy(data), hashlib.sha256(data).hexdigest())
+    except OSError as error:
+        raise ProgramError(f"{program} can't be run: {error.strerror or error}") from error
 
 
 def candidates(given: str | None) -> list[str]:
@@ -53,16 +93,17 @@ def behind_wrapper(found: str) -> str:
     return os.fsdecode(asked.stdout.removesuffix(b"\n"))
 
 
-def find_program(given: str | None = None) -> str:
-    """Returns the path of the program: `given`, else $BBMCHECK, else the repository's wrapper or that of the same installation, else PATH's."""
+def find_program(given: str | None = None) -> Executable:
+    """Opens the program: `given`, else $BBMCHECK, else the repository's wrapper or that of the same installation, else PATH's."""
     tried = candidates(given)
     for place in tried:
         found = shutil.which(place)
         if found and os.path.isfile(found):
-            return behind_wrapper(os.path.abspath(found))
+            return opened(behind_wrapper(os.path.abspath(found)))
     is_named = given or os.environ.get("BBMCHECK")
     where = f"there is no program at {tried[0]}" if is_named else "no program was found in the clone, next to bbmlab or on PATH"
-    raise ProgramError(f"{where}; name it with --program PATH or set BBMCHECK")
+    raise ProgramError(f"{where}; name it with --program PATH or set BBMCHECK. The checker has a Debian package and archives of its own: the Python package "
+                       "does not contain it")
 
 
 class Running:
@@ -74,12 +115,12 @@ class Running:
         self.processes: set[subprocess.Popen[bytes]] = set()
         self.is_stopped = False
 
-    def start(self, words: list[str]) -> "subprocess.Popen[bytes]":
-        """Starts a program in a session of its own."""
+    def start(self, program: Executable, command: str) -> "subprocess.Popen[bytes]":
+        """Starts a command of a program in a session of its own."""
         with self.lock:
             if self.is_stopped:
                 raise ProgramError("stopped")
-            process = subprocess.Popen(words, stdin=subprocess.PIPE, stdout=subprocess.PIPE, stderr=subprocess.PIPE, start_new_session=True)
+            process = program.start(command)
             self.processes.add(process)
             is_stopped = self.is_stopped
         if is_stopped:
@@ -120,11 +161,12 @@ def kill_session(process: "subprocess.Popen[bytes]") -> None:
         process.kill()
 
 
-def ask(program: str, command: str, text: bytes, timeout: float | None = None, running: Running | None = None) -> Answer:
-    """Runs a command of the program on a text."""
+def ask(program: Executable | str, command: str, text: bytes, timeout: float | None = None, running: Running | None = None) -> Answer:
+    """Runs a command of the program on a text. The program is opened already, or a path."""
     running = running or SHARED or Running()
+    program = opened(program)
     try:
-        process = running.start([program, command])
+        process = running.start(program, command)
     except OSError as error:
         raise ProgramError(f"{program} can't be run: {error.strerror or error}") from error
     try:
@@ -136,4 +178,8 @@ def ask(program: str, command: str, text: bytes, timeout: float | None = None, r
     errors = written.decode("utf-8", "replace").strip()
     if process.returncode not in (0, 1, 3, 4, 5):
         raise ProgramError(f"{program} ended with status {process.returncode}: {errors.splitlines()[0] if errors else 'no message'}")
-    return Answer(process.returncode, output.decode("latin-1"), errors)
+    answer = Answer(process.returncode, output.decode("latin-1"), errors)
+    why = foreign_report(text, answer.output) if command == "check" else None
+    if why:
+        raise ProgramError(f"{program} gave the report of another text: {why}")
+    return answer

@@ -14,9 +14,11 @@ from urllib.parse import quote
 
 from .answering import STATUS_OF, Result, result_of_report
 from .checking import Contradiction
+from .limits import SECOND
 from .releases import Program
+from .replacing import replace_file
 from .reports import parse_report
-from .terminal import LabError, read_bytes, replace_file
+from .terminal import LabError, read_bytes
 
 FORMAT = "bbmlab receipt 1"
 SECTIONS = ("circuit", "layout", "certificate")
@@ -38,7 +40,8 @@ def sha256(data: bytes) -> str:
 def section_digests(text: bytes) -> dict[str, str | None]:
     """Returns the digest of each section of a text, from its header through the line feed of its `end`, or None for one that is not there."""
     digests: dict[str, str | None] = dict.fromkeys(SECTIONS)
-    start = 0
+    front = SECOND.head.encode()
+    start = len(front) if text.startswith(front) else 0
     for name in SECTIONS:
         header = HEADER.match(text, start)
         end = text.find(b"\nend\n", start)
@@ -157,10 +160,14 @@ class ReceiptFolder:
         self.folder, self.program, self.again = folder, program, again
 
     def path(self, file: str) -> str:
-        """Returns the name of the receipt of a file: its own name, with `%2F` for `/`, or with a digest if it is long."""
-        name = quote(os.fsencode(os.path.normpath(file)) if file != "-" else b"standard input", safe=" ")
+        """Returns the name of the receipt of a file: its own name, with `%2F` for `/`, or with a digest if it is long.
+
+        The name is that seen from where the folder of receipts is. So a file has one receipt, wherever the lab runs, and two files have two.
+        """
+        seen = os.path.relpath(file, os.path.dirname(os.path.abspath(self.folder))) if file != "-" else "standard input"
+        name = quote(os.fsencode(seen), safe=" ")
         if len(name) > MAX_NAME:
-            name = f"{name[-MAX_NAME:].lstrip('%')}-{sha256(os.fsencode(file))[:16]}"
+            name = f"{name[-MAX_NAME:].lstrip('%')}-{sha256(os.fsencode(seen))[:16]}"
         return os.path.join(self.folder, f"{name}.json")
 
     def stored(self, file: str) -> Receipt | None:
@@ -172,7 +179,7 @@ class ReceiptFolder:
 
     def held(self, file: str) -> Result | None:
         """Returns the result of a file if its receipt is of the same bytes and the same program."""
-        if self.again or file == "-":
+        if self.again or not os.path.isfile(file):
             return None
         receipt = self.stored(file)
         if not receipt or receipt.program.sha256 != self.program.sha256:

@@ -6,6 +6,7 @@ from typing import Any, Callable, Iterable, Iterator
 from .circuits import Circuit
 from .documents import Document
 from .edits import Edit, add, delete, edits_between, place_in_module, replace
+from .limits import FIRST, LINE
 from .lines import match_form
 from .spelling import spelled
 
@@ -203,6 +204,14 @@ def no_module_edits(document: Document, number: int, facts: dict[str, Any]) -> I
         yield (add(number - 1, f"module 0 0 {width} {height}"), *cuts, *uses)
 
 
+def limit_edits(document: Document, number: int, facts: dict[str, Any]) -> Iterator[Edits]:
+    """Yields the text with the line that raises its limits, and then the line with another number."""
+    if facts["limits"] is FIRST:
+        yield (add(0, LINE),)
+    if "number" in facts:
+        yield from number_edits(document, number, facts)
+
+
 FINDERS: dict[str, Finder] = {
     "shape": shape_edits, "kind_after_later_kind": left_out, "gate_not_rising": left_out, "border_not_rising": left_out,
     "before_first_module": left_out, "first_not_header": header_edits, "second_header": left_out,
@@ -211,8 +220,9 @@ FINDERS: dict[str, Finder] = {
     "wire_not_defined": name_edits, "wire_unknown": name_edits, "port_unknown": name_edits, "gate_unknown": number_edits,
     "keep_not_inverse": number_edits, "wire_defined": left_out, "wire_consumed": consumer_edits, "cut_twice": left_out,
     "use_output_local": left_out, "border_place": number_edits, "box_odd": number_edits, "box_outside": number_edits,
-    "box_overlap": number_edits, "layout_side": number_edits, "box_side": number_edits, "certificate_version": number_edits,
-    "delay_limit": number_edits, "cell_outside": place_edits, "cell_taken": place_edits, "mirror_side": number_edits,
+    "box_overlap": number_edits, "layout_side": limit_edits, "box_side": number_edits, "certificate_version": number_edits,
+    "delay_limit": number_edits, "cell_outside": place_edits, "cell_taken": place_edits, "mirror_side": limit_edits,
+    "layout_steps": limit_edits, "wire_count": limit_edits, "gate_count": limit_edits, "module_count": limit_edits,
     "cut_count": left_out, "text_ended": ended_edits, "line_not_ended": ended_edits, "text_goes_on": rest_edits,
 }
 

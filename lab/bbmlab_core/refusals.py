@@ -5,6 +5,7 @@ from dataclasses import dataclass, field
 from typing import Any, Callable
 
 from .documents import Document
+from .limits import needs_line
 from .lines import Refusal
 from .shape_hints import shape_hints
 
@@ -239,23 +240,30 @@ def limit(what: str, hint: str) -> Explained:
 @tells("layout_side")
 def _layout_side(facts: Facts) -> Explained:
     """Explains a side of a layout that is odd or outside its limits."""
-    number = facts["number"]
-    why = "outside 2 to 512" if not 2 <= number <= 512 else "odd"
+    number, limits = facts["number"], facts["limits"]
+    most = limits.max_side
+    why = f"outside 2 to {most}" if not 2 <= number <= most else "odd"
+    size = {"width": "wider", "height": "higher"}[facts["what"]]
     return limit(f"The {facts['what']} of the layout is {number}, which is {why}.",
-                 f"Take an even {facts['what']} from 2 to 512" + (f", such as {number + 1}." if number % 2 and number < 512 else "."))
+                 f"Take an even {facts['what']} from 2 to {most}" + (f", such as {number + 1}." if number % 2 and number < most else ".")
+                 + (needs_line(f"A layout {size} than {most}", limits) if number > most else ""))
 
 
 @tells("layout_steps")
 def _layout_steps(facts: Facts) -> Explained:
     """Explains too many steps."""
-    return limit(f"The layout runs {facts['number']} steps; 65536 is the most.", "Take fewer steps.")
+    most = facts["limits"].max_steps
+    return limit(f"The layout runs {facts['number']} steps; {most} is the most.",
+                 f"Take fewer steps.{needs_line(f'A layout of more than {most} steps', facts['limits'])}")
 
 
 @tells("mirror_side")
 def _mirror_side(facts: Facts) -> Explained:
     """Explains a side of a mirror outside its limits."""
-    return limit(f"The {facts['what']} of the mirror is {facts['number']}; it is 1 to 512.",
-                 "A `mirror` line is `mirror X Y W H`: the cell, then width and height.")
+    most = facts["limits"].max_side
+    more = needs_line(f"A side of more than {most}", facts["limits"]) if facts["number"] > most else ""
+    return limit(f"The {facts['what']} of the mirror is {facts['number']}; it is 1 to {most}.",
+                 f"A `mirror` line is `mirror X Y W H`: the cell, then width and height.{more}")
 
 
 @tells("delay_limit")
@@ -265,15 +273,19 @@ def _delay_limit(facts: Facts) -> Explained:
 
 
 @tells("wire_count")
-def _wire_count(_facts: Facts) -> Explained:
+def _wire_count(facts: Facts) -> Explained:
     """Explains the line that makes too many wires."""
-    return limit("With this line the circuit has more than 4096 wires.", "Split the design into smaller circuits.")
+    most = facts["limits"].max_wires
+    return limit(f"With this line the circuit has more than {most} wires.",
+                 f"Split the design into smaller circuits.{needs_line(f'A circuit of more than {most} wires', facts['limits'])}")
 
 
 @tells("gate_count")
-def _gate_count(_facts: Facts) -> Explained:
+def _gate_count(facts: Facts) -> Explained:
     """Explains the line that makes too many gates."""
-    return limit("With this line the circuit has more than 1024 gates, sources among them.", "Split the design into smaller circuits.")
+    most = facts["limits"].max_gates
+    return limit(f"With this line the circuit has more than {most} gates, sources among them.",
+                 f"Split the design into smaller circuits.{needs_line(f'A circuit of more than {most} gates', facts['limits'])}")
 
 
 @tells("certificate_version")
@@ -291,9 +303,11 @@ def _box_side(facts: Facts) -> Explained:
 
 
 @tells("module_count")
-def _module_count(_facts: Facts) -> Explained:
+def _module_count(facts: Facts) -> Explained:
     """Explains one module too many."""
-    return limit("This is module 1024 from 0; a certificate has at most 1024 modules.", "Take larger boxes.")
+    most = facts["limits"].max_modules
+    return limit(f"This is module {most} from 0; a certificate has at most {most} modules.",
+                 f"Take larger boxes.{needs_line(f'A certificate of more than {most} modules', facts['limits'])}")
 
 
 @tells("cut_count")
@@ -388,7 +402,7 @@ def _wire_defined(facts: Facts) -> Explained:
 def _wire_consumed(facts: Facts) -> Explained:
     """Explains a wire that is consumed already."""
     return Explained([f"The wire `{facts['name']}` is consumed already ({earlier(facts)}): no wire branches."],
-                     ["Use another wire, or copy the value by a gate, such as a `switch` with a source."], names=[facts["name"]], lines=[facts["at"]])
+                     ["To use a wire twice, copy it: the standard cell `fan_out` does, by a `switch` and a `source` (`bbmlab cells fan_out`)."], names=[facts["name"]], lines=[facts["at"]])
 
 
 @tells("cut_twice")
@@ -533,11 +547,11 @@ def explain_refusal(document: Document, refusal: Refusal) -> Explained:
     return explained
 
 
-def refusal_words(document: Document) -> str:
-    """Returns in one line where the lab's reader refuses a text, the code, and why."""
+def refusal_words(document: Document, line: int | None = None) -> str:
+    """Returns in one line where the lab's reader refuses a text, the code, and why. `line` is the line of a file that has another spelling."""
     assert document.refusal
     why = " ".join(explain_refusal(document, document.refusal).what)
-    return f"line {document.refusal.line} is refused with code {document.refusal.code}: {why}"
+    return f"line {line or document.refusal.line} is refused with code {document.refusal.code}: {why}"
 
 
 def explain_code(line: int, code: int) -> Explained:

@@ -1,17 +1,16 @@
 """Which program answered: its digest, and what the release's MANIFEST says of it."""
 
-import hashlib
 import subprocess
 from dataclasses import dataclass
-from functools import lru_cache
-from pathlib import Path
 
-from .program import HERE, ProgramError
+from .program import HERE, Executable, ProgramError, kill_session
 from .terminal import LabError, read_bytes
 
 # Where a MANIFEST may be: in the repository, and in an installation.
 PLACES = [*(HERE.parent.parent / "release" / target / "MANIFEST" for target in ("x86_64-linux-gnu", "x86_64-v3-linux-gnu")),
           HERE.parent.parent.parent / "share" / "doc" / "bbmcheck" / "MANIFEST"]
+# How long `--version` may take.
+VERSION_SECONDS = 10.0
 
 
 @dataclass(frozen=True)
@@ -42,14 +41,23 @@ def known_releases(more: tuple[str, ...] = ()) -> dict[str, dict[str, str]]:
     return {lines["program_sha256"]: lines for lines in found if "program_sha256" in lines}
 
 
-@lru_cache(maxsize=None)
-def program_at(path: str) -> Program:
-    """Returns the program at a path."""
+def program_of(program: Executable) -> Program:
+    """Returns which program was opened: by the digest of its copy, of which the copy itself is asked for its version."""
+    release = known_releases().get(program.sha256, {})
+    return Program(program.sha256, version_of(program), release.get("kit"), release.get("sources_sha256"))
+
+
+def version_of(program: Executable) -> str | None:
+    """Returns the first line that `--version` prints, or None if it ends otherwise."""
     try:
-        digest = hashlib.sha256(Path(path).read_bytes()).hexdigest()
-        asked = subprocess.run([path, "--version"], stdin=subprocess.DEVNULL, capture_output=True, timeout=10, check=False)
-    except (OSError, subprocess.TimeoutExpired) as error:
-        raise ProgramError(f"{path} can't be run: {error}") from error
-    lines = asked.stdout.decode("utf-8", "replace").splitlines()
-    release = known_releases().get(digest, {})
-    return Program(digest, lines[0] if lines and not asked.returncode else None, release.get("kit"), release.get("sources_sha256"))
+        asked = program.start("--version")
+    except OSError as error:
+        raise ProgramError(f"{program} can't be run: {error.strerror or error}") from error
+    try:
+        output, _ = asked.communicate(timeout=VERSION_SECONDS)
+    except subprocess.TimeoutExpired as error:
+        kill_session(asked)
+        asked.communicate()
+        raise ProgramError(f"{program} can't be run: `--version` gave no answer within {VERSION_SECONDS:g} seconds") from error
+    lines = output.decode("utf-8", "replace").splitlines()
+    return lines[0] if lines and not asked.returncode else None

@@ -1,4 +1,5 @@
-"""What runs on the worker of a cluster. It goes there by value: the worker needs Python alone, so only the standard library is used."""
+"""What runs on the worker of a cluster. It goes there by value: the worker needs Python alone, so only the standard library is used, and
+`sealed`, which also goes there."""
 
 import hashlib
 import os
@@ -7,6 +8,8 @@ import signal
 import socket
 import subprocess
 import tempfile
+
+from .sealed import path_of, sealed_copy
 
 
 # What a program on a worker said of a text: the host, the status, the output, the processor seconds, and the kind of an error and its
@@ -44,35 +47,47 @@ def store_program(data: bytes, digest: str) -> str:
     return f"{socket.gethostname()}: {place}"
 
 
-def program_with(digest: str) -> tuple[str | None, str]:
-    """Returns the program with a digest that this worker has, or None, and a sentence about what it has."""
+def program_with(digest: str) -> tuple[str, bytes, str]:
+    """Returns the path and the bytes of the program with a digest that this worker has, and a sentence about what it has if it has none."""
     host = socket.gethostname()
-    place = sent_program(digest)
-    if os.path.isfile(place) and digest_of(place) == digest:
-        return place, ""
     own = own_program()
+    found = ""
+    for place in (sent_program(digest), own):
+        if place and os.path.isfile(place):
+            with open(place, "rb") as file:
+                data = file.read()
+            found = hashlib.sha256(data).hexdigest()
+            if found == digest:
+                return place, data, ""
     if not own:
-        return None, f"the worker on {host} has no program: set BBMCHECK there, or use --send-program"
-    found = digest_of(own)
-    if found == digest:
-        return own, ""
-    return None, f"the worker on {host} has another program: {own} with SHA-256 {found}, and not {digest}"
+        return "", b"", f"the worker on {host} has no program: set BBMCHECK there, or use --send-program"
+    return "", b"", f"the worker on {host} has another program: {own} with SHA-256 {found}, and not {digest}"
+
+
+def complaint_about(digest: str) -> str:
+    """Returns why this worker has no program with a digest, or nothing if it has one."""
+    return program_with(digest)[2]
 
 
 def answers(digest: str, texts: list[bytes], timeout: float | None) -> list[Said]:
-    """Runs the program with a digest on some texts, one after another."""
-    program, complaint = program_with(digest)
-    if not program:
+    """Runs the program with a digest on some texts, one after another. The bytes that have the digest are those that run."""
+    path, data, complaint = program_with(digest)
+    if complaint:
         return [(socket.gethostname(), 70, "", 0, "other program", complaint)]
-    return [answer(program, text, timeout) for text in texts]
+    copy = sealed_copy(data)
+    try:
+        return [answer(path, copy, text, timeout) for text in texts]
+    finally:
+        os.close(copy)
 
 
-def answer(program: str, text: bytes, timeout: float | None) -> Said:
-    """Runs the program on a text."""
+def answer(program: str, copy: int, text: bytes, timeout: float | None) -> Said:
+    """Runs the copy of a program on a text."""
     host = socket.gethostname()
     before = sum(os.times()[2:4])
     try:
-        process = subprocess.Popen([program, "check"], stdin=subprocess.PIPE, stdout=subprocess.PIPE, stderr=subprocess.PIPE, start_new_session=True)
+        process = subprocess.Popen([program, "check"], executable=path_of(copy), pass_fds=[copy], stdin=subprocess.PIPE, stdout=subprocess.PIPE,
+                                   stderr=subprocess.PIPE, start_new_session=True)
     except OSError as error:
         return host, 70, "", 0, "failed", f"{program} can't be run on {host}: {error.strerror or error}"
     try:

@@ -11,6 +11,8 @@ FORMS = {
     "delay": r"delay (?P<gate>\d+) (?P<wanted>\d+) (?P<found>\d+|missing|before)",
     "meet": r"meet (?P<gate>\d+) (?P<found>\d+|differ)",
 }
+# What the program's `run` prints.
+RUN_ANSWER = re.compile(r"cells [0-9]{1,9}\n([0-9]{1,9} [0-9]{1,9}\n)*|left [0-9]{1,9}\n")
 PATTERNS = {word: re.compile(form + r"\Z") for word, form in FORMS.items()}
 
 
@@ -66,7 +68,8 @@ def parse_finding(line: str) -> Finding:
 
 def parse_report(text: str) -> Report:
     """Reads what `check` wrote."""
-    lines = text.splitlines()
+    # Only LF ends a line: a report that other characters break into lines is none.
+    lines = text.removesuffix("\n").split("\n")
     refused = re.match(r"refused (\d+) (\d+)\Z", lines[0]) if len(lines) == 1 else None
     if refused:
         return Report(refused=(int(refused[1]), int(refused[2])))

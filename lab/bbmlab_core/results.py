@@ -2,10 +2,11 @@
 
 import json
 import sys
-from typing import Protocol
+from typing import Any, Protocol
 
 from .answering import WORDS, Result
 from .checking import counted, summary
+from .code_names import CODE_NAMES
 from .terminal import painted, plain
 
 COLOURS = {"yes": "green", "no": "red", "refused": "red"}
@@ -19,6 +20,9 @@ class ResultWriter(Protocol):
 
     def add(self, result: Result) -> None:
         """Takes one result."""
+
+    def leave(self, result: Result) -> None:
+        """Counts one result without listing it."""
 
     def end(self, stopped: str | None) -> None:
         """Ends the list."""
@@ -41,6 +45,11 @@ class TextWriter:
             return
         word = painted(WORDS[result.result].ljust(8), COLOURS.get(result.result, "yellow"))
         print(f"{plain(result.file).ljust(self.width)}  {word}  {result.seconds:7.2f} s  {plain(result.detail)}".rstrip(), flush=True)
+
+    def leave(self, result: Result) -> None:
+        """Counts one result without listing it."""
+        self.results[result.result] = self.results.get(result.result, 0) + 1
+        self.held += result.held
 
     def end(self, stopped: str | None) -> None:
         """Writes the summary."""
@@ -67,16 +76,28 @@ class TapWriter:
         else:
             print(f"not ok {self.number} - {file}: {WORDS[result.result]}, {plain(result.detail)}", flush=True)
 
+    def leave(self, result: Result) -> None:
+        """Lists the result: a plan counts all of them."""
+        self.add(result)
+
     def end(self, stopped: str | None) -> None:
         """Says whether the run was stopped."""
         if stopped:
             print(f"Bail out! stopped by {stopped}", flush=True)
 
 
-def row(result: Result) -> dict[str, str | int | float]:
+def row(result: Result) -> dict[str, Any]:
     """Returns a result as JSON values."""
     return {"file": result.file, "result": result.result, "detail": result.detail, "seconds": result.seconds, "modules": result.modules,
-            "output": result.output, **({"held": True} if result.held else {})}
+            "output": result.output, **({"held": True} if result.held else {}), **refusal_row(result)}
+
+
+def refusal_row(result: Result) -> dict[str, Any]:
+    """Returns the line, the code and the code's name of a refusal, so that nobody need parse them."""
+    if result.result != "refused":
+        return {}
+    line, code = map(int, result.output.split()[1:3])
+    return {"refusal": {"line": line, "code": code, "name": CODE_NAMES.get(code, "")}}
 
 
 class LinesWriter:
@@ -89,6 +110,9 @@ class LinesWriter:
         """Writes a line."""
         print(json.dumps(row(result)), flush=True)
 
+    def leave(self, result: Result) -> None:
+        """Writes nothing."""
+
     def end(self, stopped: str | None) -> None:
         """Writes nothing: a run that was stopped has fewer lines."""
 
@@ -100,10 +124,15 @@ class WholeWriter:
         """Keeps the order of the files."""
         self.files = files
         self.results: dict[str, Result] = {}
+        self.left: dict[str, int] = {}
 
     def add(self, result: Result) -> None:
         """Keeps a result."""
         self.results[result.file] = result
+
+    def leave(self, result: Result) -> None:
+        """Counts one result without listing it."""
+        self.left[result.result] = self.left.get(result.result, 0) + 1
 
     def end(self, stopped: str | None) -> None:
         """Writes the document."""
@@ -120,8 +149,10 @@ class JsonWriter(WholeWriter):
 
     def document(self, results: list[Result], stopped: str | None) -> str:
         """Returns the document. `stopped` is there only if a signal ended the run."""
-        is_all_yes = not stopped and set(counted(results)) <= {"yes"}
-        more = {"stopped": stopped, "not_checked": len(self.files) - len(results)} if stopped else {}
+        is_all_yes = not stopped and {*counted(results), *self.left} == {"yes"}
+        left = sum(self.left.values())
+        more: dict[str, Any] = {"stopped": stopped, "not_checked": len(self.files) - len(results) - left} if stopped else {}
+        more |= {"left_out": self.left} if left else {}
         return json.dumps({"format": "bbmlab check 1", "all_yes": is_all_yes, **more, "results": [row(result) for result in results]}, indent=2) + "\n"
 
 
@@ -148,6 +179,32 @@ class JunitWriter(WholeWriter):
             lines.append(f"{head}><{tag} type={quoteattr(result.result)} message={quoteattr(plain(result.detail))}>"
                          f"{escape(output)}</{tag}></testcase>")
         return "\n".join([*lines, "</testsuite>"]) + "\n"
+
+
+class OnlyWriter:
+    """Lists only some kinds of results. The summary and the status are those of all files."""
+
+    def __init__(self, writer: ResultWriter, words: list[str]) -> None:
+        self.writer, self.words = writer, words
+
+    def begin(self, files: list[str]) -> None:
+        """Begins the list."""
+        self.writer.begin(files)
+
+    def add(self, result: Result) -> None:
+        """Takes one result."""
+        if result.result in self.words:
+            self.writer.add(result)
+        else:
+            self.writer.leave(result)
+
+    def leave(self, result: Result) -> None:
+        """Counts a result without listing it."""
+        self.writer.leave(result)
+
+    def end(self, stopped: str | None) -> None:
+        """Ends the list."""
+        self.writer.end(stopped)
 
 
 WRITERS: dict[str, type[TextWriter | TapWriter | LinesWriter | JsonWriter | JunitWriter]] = {

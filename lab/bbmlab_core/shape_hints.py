@@ -3,6 +3,8 @@
 import difflib
 import re
 
+from .gates import GATE_SIZES
+from .limits import LINE
 from .lines import Form, NAME, NUMBER, word_value
 
 Hint = tuple[str, str]
@@ -13,6 +15,20 @@ SECTION_OF = {
     "certificate": "module cut use keep edge halo stop".split(),
 }
 SEVERAL = "`bbmlab fmt` fixes this."
+# How gates of ordinary logic are made. The standard cells named here have circuits of their own.
+LOGIC = {
+    "and": "The standard cell `and` makes one: `switch a b -> d y z` gives y = a and b (`bbmlab cells and`).",
+    "or": "The standard cell `or` makes one, of a `fredkin` and a `source` (`bbmlab cells or`).",
+    "xor": "The standard cell `xor` makes one (`bbmlab cells xor`).",
+    "not": "The standard cell `not` makes one, of a `switch` and a `source` (`bbmlab cells not`).",
+    "nand": "The standard cells `and` and `not` make one (`bbmlab cells and`).",
+    "nor": "The standard cells `or` and `not` make one (`bbmlab cells or`).",
+    "xnor": "The standard cells `xor` and `not` make one (`bbmlab cells xor`).",
+    "mux": "`fredkin c x y -> d e f` makes one: e is x if c is true, and y otherwise (`bbmlab cells fredkin`).",
+    "copy": "The standard cell `fan_out` makes one (`bbmlab cells fan_out`).",
+    "buf": "The standard cell `fan_out` copies a wire (`bbmlab cells fan_out`).",
+}
+LOGIC |= {"inv": LOGIC["not"], "fanout": LOGIC["copy"], "fan_out": LOGIC["copy"]}
 
 
 def character_hints(line: str) -> list[Hint]:
@@ -105,11 +121,25 @@ def form_hint(words: list[str], form: Form, section: str) -> Hint:
     return f"The line is no `{form[0]}` line of the {section} section.", f"Write it as `{shown}`."
 
 
+def logic_hint(word: str) -> Hint | None:
+    """Returns how a gate of ordinary logic is made of those of conservative logic, or None if a word names no such gate."""
+    if word not in LOGIC:
+        return None
+    gates = ", ".join(f"`{gate}`" for gate in GATE_SIZES)
+    return (f"There is no gate `{word}`: the gates of conservative logic are {gates}.", f"{LOGIC[word]} `bbmlab route` also takes a netlist with `{word}` (BLIF or yosys).")
+
+
 def keyword_hint(word: str, section: str, begun: bool, forms: dict[str, Form]) -> Hint:
     """Returns what is wrong with a first word that the section does not have."""
+    if word == "limits":
+        return (f"The only line that begins with `limits` is `{LINE}`, and it is the first line of a text.",
+                f"Remove the line, or write `{LINE}` before all sections.")
     if word == "halo" and section == "certificate":
         return ("`halo` lines belong to `certificate 1`; in version 2 there are none.",
                 "Remove the `halo` lines, or write `certificate 1` in the header.")
+    logic = logic_hint(word.lower()) if section == "circuit" else None
+    if logic:
+        return logic
     other = next((name for name, words in SECTION_OF.items() if word in words or word == name), None)
     if other and other != section:
         if word == other:

@@ -1,4 +1,4 @@
-"""Signals that end a command: SIGINT and SIGTERM become an exception, and a closed pipe ends the process as it ends `cat`."""
+"""Signals that end a command: SIGINT, SIGTERM and SIGHUP become an exception, and a closed pipe ends the process as it ends `cat`."""
 
 import os
 import signal
@@ -7,8 +7,12 @@ from types import FrameType
 from typing import NoReturn
 
 
+# SIGHUP comes when the terminal is closed. Without the exception the program would go on, since it has a session of its own.
+ENDING = (signal.SIGINT, signal.SIGTERM, signal.SIGHUP)
+
+
 class Stopped(KeyboardInterrupt):
-    """SIGINT or SIGTERM. `status` is the exit status that a shell gives for it."""
+    """One of `ENDING`. `status` is the exit status that a shell gives for it."""
 
     def __init__(self, number: int) -> None:
         super().__init__(number)
@@ -18,14 +22,14 @@ class Stopped(KeyboardInterrupt):
 
 def stop(number: int, _frame: FrameType | None) -> NoReturn:
     """Raises `Stopped`. A second signal ends the process at once."""
-    for own in (signal.SIGINT, signal.SIGTERM):
+    for own in ENDING:
         signal.signal(own, signal.SIG_DFL)
     raise Stopped(number)
 
 
 def listen() -> None:
-    """Makes SIGINT and SIGTERM raise `Stopped`, unless they are ignored."""
-    for number in (signal.SIGINT, signal.SIGTERM):
+    """Makes the signals of `ENDING` raise `Stopped`, unless they are ignored, as `nohup` does."""
+    for number in ENDING:
         if signal.getsignal(number) is not signal.SIG_IGN:
             signal.signal(number, stop)
 

@@ -4,6 +4,7 @@ Only blocks in which something changed are stepped: a block of one partition dep
 cells are as they were two steps before changes no more than it did then. Source of the rule: Margolus 1984.
 """
 
+from bisect import bisect_left
 from dataclasses import dataclass, field
 from typing import Iterable, Iterator
 
@@ -13,13 +14,16 @@ from .circuits import Circuit, Valuation, evaluate
 from .layouts import Cell, Layout
 
 Table = int
-# A cell as one number: y + 2 above the lowest ten bits, x + 2 in them. So a block's other cells are 1, 1024 and 1025 further.
-ROW = 1024
+# A cell as one number: y + 2 above the lowest 13 bits, x + 2 in them, which is enough for the largest side. So a block's other cells are 1,
+# ROW and DIAGONAL further.
+ROW = 8192
 DIAGONAL = ROW + 1
+# After so many steps without a change of a module, both kinds of steps with what it hears were tried twice.
+QUIET_STEPS = 4
 
 
 def key_of(cell: Cell) -> int:
-    """Returns the number of a cell with coordinates from -2 to 1021."""
+    """Returns the number of a cell with coordinates from -2 to 8189."""
     return (cell[1] + 2) * ROW + cell[0] + 2
 
 
@@ -247,6 +251,7 @@ class ModuleRun:
 
     def least_fault(self) -> Fault | None:
         """Makes steps up to the first time with a fault, and returns the least one."""
+        events, idle = self.event_times(), 0
         while True:
             found = [Fault(self.time, rank, cell[1], cell[0], lowest_bit(table)) for rank, cell, table in self.faults_now()]
             if found:
@@ -254,6 +259,16 @@ class ModuleRun:
             if self.time == self.layout.steps:
                 return None
             self.step()
+            idle = 0 if self.field.changed else idle + 1
+            if idle >= QUIET_STEPS:
+                # As long as the module hears and says the same, nothing changes, and no time has another fault than the last two.
+                self.field.time = events[bisect_left(events, self.time)]
+
+    def event_times(self) -> list[int]:
+        """Returns the times at which something is asked or heard that was not before: lines with a time, two steps after them, stops and the end."""
+        timed = self.edges.timed.keys() | self.halos.timed.keys()
+        times = {time for event in timed for time in (event, event + 2) if time < self.layout.steps}
+        return sorted(times | self.stops.keys() | {self.layout.steps})
 
 
 def local_values(circuit: Circuit, module: Module) -> Valuation:

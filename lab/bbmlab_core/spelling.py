@@ -8,6 +8,7 @@ from .certificates import ORDER as MODULE_ORDER
 from .circuits import ORDER as CIRCUIT_ORDER
 from .gates import GATE_SIZES
 from .layouts import ORDER as LAYOUT_ORDER
+from .limits import LINE
 
 LAST = 10 ** 9
 SECTION_ORDERS = {"circuit": CIRCUIT_ORDER, "layout": LAYOUT_ORDER}
@@ -25,11 +26,24 @@ class Spelling:
     comments: int = 0
 
 
+def free_words(line: str) -> list[str]:
+    """Returns the words of a line that was written freely, without its comment and leading zeros.
+
+    A line ends with LF or CR LF, and words are parted by spaces and tabs. All other characters belong to words. The studio's page reads lines
+    by the same rules (`circuit_text.js`): what it draws must be the text that the program reads.
+    """
+    code = line.removesuffix("\r").partition("#")[0].replace("->", " -> ").replace("\t", " ")
+    return [plain_number(word) for word in code.split(" ") if word]
+
+
+def mark_length(text: str) -> int:
+    """Returns how many characters the byte order mark takes with which a text begins."""
+    return 3 if text.startswith("\xef\xbb\xbf") else 1 if text.startswith("\ufeff") else 0
+
+
 def free_lines(text: str, spelling: Spelling) -> Iterator[str]:
     """Yields the lines that contain a word, with single spaces, and without comments, byte order mark and leading zeros."""
-    start = 3 if text.startswith("\xef\xbb\xbf") else 1 if text.startswith("\ufeff") else 0
-    if "\r" in text:
-        text = text.replace("\r\n", "\n").replace("\r", "\n")
+    start = mark_length(text)
     is_spelled, size = SPELLED.fullmatch, len(text)
     while start < size:
         end = text.find("\n", start)
@@ -38,11 +52,10 @@ def free_lines(text: str, spelling: Spelling) -> Iterator[str]:
         if is_spelled(line):
             yield line
             continue
-        code, mark, _ = line.partition("#")
-        spelling.comments += bool(mark)
-        words = code.replace("->", " -> ").split()
+        spelling.comments += "#" in line
+        words = free_words(line)
         if words:
-            yield " ".join(plain_number(word) for word in words)
+            yield " ".join(words)
 
 
 def plain_number(word: str) -> str:
@@ -125,6 +138,17 @@ def sorted_section(lines: list[str], spelling: Spelling) -> list[str]:
     return [lines[0], *after, *tail]
 
 
+def source_line(source: str, text: str, line: int) -> int | None:
+    """Returns the line of a freely written text that became a line of its one spelling, or None if the lines were sorted."""
+    if source == text:
+        return line
+    lines = source[mark_length(source):].split("\n")
+    kept = [(number, words) for number, words in enumerate(map(free_words, lines), 1) if words]
+    if [" ".join(words) for _, words in kept] != text.split("\n")[:len(kept)]:
+        return None
+    return kept[line - 1][0] if line <= len(kept) else len(lines)
+
+
 def spelled(text: str) -> Spelling:
     """Returns a text in its one spelling. What it can't change into a good line stays, for the program to refuse."""
     spelling = Spelling()
@@ -138,6 +162,9 @@ def spelled(text: str) -> Spelling:
             section.clear()
 
     for line in free_lines(text, spelling):
+        if line == LINE and not parts and not section:
+            parts.append(f"{LINE}\n")
+            continue
         section.append(line)
         if line == "end":
             close()

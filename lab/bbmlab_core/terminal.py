@@ -4,6 +4,8 @@ import os
 import sys
 from typing import IO, BinaryIO, Iterable
 
+from .replacing import replace_file
+
 CODES = {"red": "31", "green": "32", "yellow": "33", "bold": "1", "dim": "2"}
 
 
@@ -76,10 +78,11 @@ def standard_output() -> BinaryIO:
     return sys.stdout.buffer
 
 
-def write_bytes(name: str | None, data: bytes, sources: Iterable[str] = ()) -> None:
+def write_bytes(name: str | None, data: bytes, sources: Iterable[str] = (), before: bytes | None = None) -> None:
     """Writes bytes to a file, or to standard output for None and `-`.
 
-    A file keeps its old bytes until all new ones are written. It must be none of `sources`, the files that were read.
+    A file keeps its old bytes until all new ones are written. It must be none of `sources`, the files that were read. If `before` is given, a
+    file with other bytes stays as it is.
     """
     if name is None or name == "-":
         output = standard_output()
@@ -88,7 +91,7 @@ def write_bytes(name: str | None, data: bytes, sources: Iterable[str] = ()) -> N
         return
     require_other_file(name, sources)
     try:
-        replace_file(name, data)
+        replace_file(name, data, before)
     except OSError as error:
         raise LabError(f"{name}: {error.strerror or error}") from error
 
@@ -129,26 +132,3 @@ def is_same_file(one: str, other: str) -> bool:
         return os.path.samefile(one, other)
     except OSError:
         return os.path.realpath(one) == os.path.realpath(other)
-
-
-def replace_file(name: str, data: bytes) -> None:
-    """Writes a file beside the named one and renames it. A device or a pipe is written as it is."""
-    target = os.path.realpath(name)
-    if os.path.exists(target) and not os.path.isfile(target):
-        with open(target, "wb", buffering=0) as device:
-            device.write(data)
-        return
-    folder, base = os.path.split(target)
-    # A name of a file has at most 255 bytes.
-    beside = os.path.join(folder, f"{os.fsdecode(os.fsencode(base)[:200])}.{os.getpid()}.part")
-    mode = os.stat(target).st_mode & 0o7777 if os.path.exists(target) else None
-    try:
-        with open(os.open(beside, os.O_WRONLY | os.O_CREAT | os.O_EXCL, 0o666), "wb") as file:
-            file.write(data)
-        if mode is not None:
-            os.chmod(beside, mode)
-        os.replace(beside, target)
-    except BaseException:
-        if os.path.exists(beside):
-            os.unlink(beside)
-        raise

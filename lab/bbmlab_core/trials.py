@@ -6,7 +6,7 @@ from .answering import STATUS_OF
 from .documents import read_document
 from .own_report import own_report
 from .processor import processor_seconds
-from .program import ProgramError, ProgramTimeout, ask
+from .program import Executable, ProgramError, ProgramTimeout, ask, opened
 from .reports import Finding, Report, ReportError, parse_report
 
 # The most seconds for one run of the program.
@@ -26,8 +26,8 @@ class Budget:
 class Trial:
     """Asks the program about texts; without a program, the lab's reader and its own runs of the modules."""
 
-    def __init__(self, program: str | None, budget: Budget = Budget()) -> None:
-        self.program = program
+    def __init__(self, program: Executable | str | None, budget: Budget = Budget()) -> None:
+        self.program = None if program is None else opened(program)
         self.budget = budget
         self.tries = 0
         self.started = processor_seconds()
@@ -60,7 +60,8 @@ class Trial:
         if self.program is None:
             return self.own_answer(text)
         try:
-            answer = ask(self.program, "check", text.encode("latin-1"), MAX_RUN_SECONDS)
+            # A second at least: a text that was made is worth an answer.
+            answer = ask(self.program, "check", text.encode("latin-1"), min(MAX_RUN_SECONDS, max(1.0, self.seconds_left())))
             report = parse_report(answer.output)
             return report if answer.status == STATUS_OF["refused" if report.refused else report.verdict] else None
         except (ProgramError, ProgramTimeout, ReportError):

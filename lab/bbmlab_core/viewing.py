@@ -14,7 +14,7 @@ from .terminal import plain
 
 TEMPLATE = Path(__file__).resolve().parent / "view"
 # The scripts: the engine runs without a page, the others need one. The order is that in which they use each other.
-ENGINE = ["automaton.js"]
+ENGINE = ["automaton.js", "limits.js"]
 PAGE = ["svg_pen.js", "labels.js", "address.js", "painting.js", "waveform.js", "player.js", "stage.js", "panels.js", "controls.js"]
 
 

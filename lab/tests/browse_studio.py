@@ -11,6 +11,7 @@ import sys
 import time
 from pathlib import Path
 
+from browse_page import open_browser, shown, wait
 from selenium.webdriver.common.by import By
 from selenium.webdriver.common.keys import Keys
 from studio_driver import Studio
@@ -43,7 +44,7 @@ const some = [() => { tool("mirror"); const from = cell(); drag(from, near(from)
   () => key(["ArrowUp", "ArrowLeft", "ArrowDown", "ArrowRight"][draw(4)], { altKey: true }), () => key("c", { ctrlKey: true }),
   () => { key("v", { ctrlKey: true }); const at = cell(); drag(at, at); }, () => { tool("erase"); const at = partCell(); drag(at, near(at)); },
   () => { tool("cell"); const list = document.getElementById("cell-name"); list.selectedIndex = draw(list.length); list.dispatchEvent(new Event("change"));
-    const at = cell(); drag(at, at); },
+    const at = cell(); drag(at, at); document.getElementById("dialog").close(); },
   () => { const field = document.getElementById("steps"); field.value = desk.layout.steps + draw(5); field.dispatchEvent(new Event("change")); },
   () => key("z", { ctrlKey: true }), () => key("y", { ctrlKey: true })];
 while (done < 500) { const before = desk.model.text; some[draw(some.length)](); if (desk.model.text !== before) done += 1; }
@@ -109,6 +110,11 @@ def drag_mirror(studio: Studio) -> None:
 def example(name: str) -> str:
     """Returns the text of an example."""
     return (TOP / "examples" / f"{name}.txt").read_text()
+
+
+def cell_text(name: str) -> str:
+    """Returns the circuit and the layout of a standard cell."""
+    return (TOP / "lab" / "cells" / f"{name}.txt").read_text().split("certificate ")[0]
 
 
 def draw_by_keyboard(studio: Studio) -> None:
@@ -417,7 +423,7 @@ def offer_draft_again(studio: Studio) -> None:
     (studio.folder / "draft.txt").write_text(example("not_gate"))
     (studio.folder / "other.txt").write_text(example("gate_and_mirror"))
     studio.start("draft.txt")
-    studio.script("localStorage.clear()")
+    studio.script("for (const key of Object.keys(localStorage)) if (key.startsWith('bbmlab draft')) localStorage.removeItem(key)")
     studio.click("#tool-mirror")
     studio.drag((9, 2), (10, 3))
     await_draft(studio)
@@ -436,6 +442,94 @@ def offer_draft_again(studio: Studio) -> None:
     studio.click("#save")
     studio.wait(lambda: studio.text("status") == "Saved draft.txt.", "saved")
     assert studio.script("return Object.keys(localStorage).filter((key) => key.startsWith('bbmlab draft')).length") == 0
+
+
+def draft_mirror(studio: Studio, name: str) -> None:
+    """Opens a file, draws a mirror until the browser keeps a draft with it, and leaves the page."""
+    studio.start(name)
+    studio.click("#tool-mirror")
+    studio.drag((9, 2), (10, 3))
+    await_draft(studio)
+    studio.browser.get("about:blank")
+
+
+def forget_old_draft(studio: Studio) -> None:
+    """A draft that was offered and left is gone after another text was saved over the version from which it began."""
+    (studio.folder / "old.txt").write_text(example("not_gate"))
+    draft_mirror(studio, "old.txt")
+    studio.start("old.txt")
+    studio.await_text("notice", "There is a draft of old.txt")
+    studio.click("#tool-mirror")
+    studio.drag((1, 8), (2, 9))
+    studio.click("#save")
+    studio.await_text("status", "Saved old.txt.")
+    studio.rest()
+    assert not studio.browser.find_element(By.ID, "notice").is_displayed(), studio.text("notice")
+    studio.browser.refresh()
+    studio.wait(lambda: studio.text("name") == "old.txt", "the file is opened again")
+    studio.rest()
+    assert not studio.browser.find_element(By.ID, "notice").is_displayed(), studio.text("notice")
+    assert studio.script("return Object.keys(localStorage).filter((key) => key.startsWith('bbmlab draft')).length") == 0
+    assert "mirror 1 8" in (studio.folder / "old.txt").read_text()
+
+
+def ask_about_draft(studio: Studio) -> None:
+    """A draft that began from another version of the file is offered as such, and saving it asks before it writes over the newer one."""
+    newer = example("not_gate").replace("ball", "mirror 1 8 2 2\nball", 1)
+    (studio.folder / "versions.txt").write_text(example("not_gate"))
+    draft_mirror(studio, "versions.txt")
+    (studio.folder / "versions.txt").write_text(newer)
+    studio.start("versions.txt")
+    studio.await_text("notice", "that began from another version of the file")
+    studio.click("#notice button")
+    assert "mirror 9 2" in studio.layout_text() and "mirror 1 8" not in studio.layout_text()
+    studio.click("#save")
+    studio.answer("The file is another one now", "cancel")
+    assert (studio.folder / "versions.txt").read_text() == newer
+
+
+def duplicate_tab(studio: Studio) -> None:
+    """A tab that is duplicated begins with the number of the other one, and takes a number and drafts of its own."""
+    (studio.folder / "twice.txt").write_text(example("not_gate"))
+    studio.start("twice.txt")
+    studio.click("#tool-mirror")
+    studio.drag((9, 2), (10, 3))
+    await_draft(studio)
+    first, number = studio.browser.current_window_handle, studio.script("return bbmlab.server.tab")
+    studio.script("window.open(location.href)")
+    studio.wait(lambda: len(studio.browser.window_handles) == 2, "the tab is open")
+    studio.browser.switch_to.window(next(handle for handle in studio.browser.window_handles if handle != first))
+    studio.wait(lambda: studio.text("name") == "twice.txt", "the second tab is open")
+    assert studio.script("return bbmlab.server.tab") != number
+    assert not studio.browser.find_element(By.ID, "notice").is_displayed(), "the draft of an open tab is not offered"
+    assert studio.layout_text() == example("not_gate")
+    studio.script("bbmlab.studio.desk.model.setText(arguments[0])", example("not_gate") + "# two\n")
+    studio.wait(lambda: studio.script("return Object.keys(localStorage).filter((key) => key.startsWith('bbmlab draft')).length") == 2, "each tab has a draft")
+    studio.script("bbmlab.studio.desk.model.undo()")
+    studio.wait(lambda: studio.script("return Object.keys(localStorage).filter((key) => key.startsWith('bbmlab draft')).length") == 1, "the other draft stays")
+    studio.browser.close()
+    studio.browser.switch_to.window(first)
+    studio.click("#save")
+    studio.await_text("status", "Saved twice.txt.")
+
+
+def say_what_is_kept(studio: Studio) -> None:
+    """Without a server the page says that the draft is kept only if it is, and nothing if there is none."""
+    (studio.folder / "kept.txt").write_text(example("not_gate"))
+    studio.start("kept.txt")
+    studio.verdict("yes")
+    studio.kill()
+    ask = "const done = arguments[0]; bbmlab.server.request('files').then(({ error }) => done(error))"
+    error = str(studio.browser.execute_async_script(ask))
+    assert "kept" not in error and "does not answer" in error, error
+    studio.click("#tool-mirror")
+    studio.drag((9, 2), (10, 3))
+    assert "is kept in this browser" in studio.browser.execute_async_script(ask)
+    studio.script("Storage.prototype.setItem = () => { throw new DOMException('full', 'QuotaExceededError'); }")
+    studio.drag((1, 8), (2, 9))
+    error = str(studio.browser.execute_async_script(ask))
+    assert "is not kept in this browser" in error, error
+    studio.script("bbmlab.studio.files.saved = bbmlab.studio.desk.model.text")
 
 
 def keep_selection(studio: Studio) -> None:
@@ -503,6 +597,130 @@ def use_two_tabs(studio: Studio) -> None:
     studio.answer("The file is another one now", "save under this name")
     studio.wait(lambda: (studio.folder / "tabs_2.txt").exists(), "saved under the other name")
     assert "mirror 9 2" in (studio.folder / "tabs_2.txt").read_text() and "mirror 1 8" in (studio.folder / "tabs.txt").read_text()
+
+
+def let_in_once(studio: Studio) -> None:
+    """The address lets one browser in. The page takes it out of its own address, and another browser with it is told what to do."""
+    (studio.folder / "once.txt").write_text(example("not_gate"))
+    address = studio.serve("once.txt")
+    page = studio.folder / "once.html"
+    page.write_text(f'<!DOCTYPE html><meta http-equiv="refresh" content="0; url={address}">')
+    studio.browser.get(page.as_uri())
+    studio.wait(lambda: studio.script("return document.getElementById('name')?.textContent") == "once.txt", "the page that leads to the address opens the file")
+    assert studio.browser.current_url == address.split("#")[0], studio.browser.current_url
+    studio.browser.refresh()
+    studio.wait(lambda: studio.text("name") == "once.txt", "the page is loaded again")
+    other = open_browser("--window-size=1400,850")
+    try:
+        other.get(address)
+        wait(lambda: "does not let this page in" in shown(other, "notice"), "the other browser is not let in")
+        assert shown(other, "name") == "…", shown(other, "name")
+        other.save_screenshot(str(studio.folder / "not_let_in.png"))
+    finally:
+        other.quit()
+
+
+# The server says yes to the text of another file.
+OTHER_YES = """const { server } = bbmlab, { request } = server, other = arguments[0];
+window.askTruly = () => { server.request = request; };
+server.request = (name, body) => request(name, name === "verdict" ? { ...body, text: other } : body);"""
+
+
+def see_other_picture(studio: Studio) -> None:
+    """A yes to a text that is not the one that is drawn is none, and the page says so."""
+    studio.begin("drawn.txt", example("not_gate"))
+    studio.verdict("yes")
+    studio.script(OTHER_YES, example("not_gate"))
+    studio.click("#tool-mirror")
+    studio.drag((9, 2), (10, 3))
+    studio.verdict("no answer")
+    assert "is not the one of this picture" in studio.text("report"), studio.text("report")
+    studio.script("askTruly()")
+    studio.click("#tool-mirror")
+    studio.drag((1, 8), (2, 9))
+    studio.verdict("yes")
+    studio.begin("joined.txt", example("not_gate").replace("\nin ", "\rin ").replace("\nout ", "\rout "))
+    studio.verdict("refused")
+
+
+def see_nothing_yet(studio: Studio) -> None:
+    """An empty layout with an empty circuit is no green yes."""
+    studio.begin("nothing.txt", EMPTY)
+    studio.verdict("nothing yet")
+    assert studio.script("return document.getElementById('badge').className") == "waiting"
+    studio.shoot("nothing")
+    studio.click("#tool-mirror")
+    studio.drag((9, 2), (10, 3))
+    studio.verdict("yes")
+
+
+def undo_numbers(studio: Studio) -> None:
+    """Ctrl-Z in a field of a number undoes what was typed, then commands: the field always shows the layout's number."""
+    studio.begin("numbers.txt", example("not_gate"))
+    field = studio.browser.find_element(By.ID, "width")
+    studio.click("#follow")
+    for number in ("14", "16"):
+        studio.script("arguments[0].focus(); arguments[0].select()", field)
+        field.send_keys(number, Keys.ENTER)
+    assert "layout 16 12 3" in studio.layout_text()
+    field.send_keys("9")
+    field.send_keys(Keys.CONTROL, "z")
+    assert (field.get_property("value"), "layout 16 12 3" in studio.layout_text()) == ("16", True), field.get_property("value")
+    for number, word in (("14", "z"), ("12", "z"), ("14", "y")):
+        field.send_keys(Keys.CONTROL, word)
+        assert (field.get_property("value"), f"layout {number} 12 3" in studio.layout_text()) == (number, True), (field.get_property("value"), studio.layout_text())
+    studio.click("#follow")
+
+
+def follow_turns(studio: Studio) -> None:
+    """Outputs that are where the balls end follow them around a mirror, to another number of steps and back, by one command each."""
+    studio.begin("turns.txt", cell_text("turn_left"))
+    studio.verdict("yes")
+    before, field = studio.layout_text(), studio.browser.find_element(By.ID, "steps")
+    steps = int(str(field.get_property("value")))
+    for number in (2, steps):
+        studio.script("arguments[0].focus(); arguments[0].select()", field)
+        field.send_keys(str(number), Keys.ENTER)
+        assert f"layout 22 18 {number}\n" in studio.layout_text(), studio.text("status")
+        studio.verdict("yes")
+    assert sorted(studio.layout_text().split("\n")) == sorted(before.split("\n")), studio.layout_text()
+    studio.click("#undo")
+    studio.verdict("yes")
+    studio.click("#undo")
+    assert studio.layout_text() == before
+
+
+def see_kind_of_no(studio: Studio) -> None:
+    """The line of the badge says what kind of no it is, the explanation comes before the report's lines, and a fix has a button."""
+    for name, words in (("plain_rim", "the rim is live at ("), ("plain_no", "the end is wrong at (")):
+        studio.begin(f"{name}.txt", example(name))
+        studio.verdict("no")
+        studio.await_text("who", words)
+    studio.begin("kind.txt", example("not_gate").replace("out b 4 4\nwaste 7 4\n", "out b 7 4\nwaste 4 4\n"))
+    studio.verdict("no")
+    studio.wait(lambda: studio.browser.find_elements(By.CSS_SELECTOR, "#report .fix"), "a fix is found")
+    assert studio.script("return document.querySelector('#report .fix').textContent") == "apply this fix"
+    assert studio.script("const [fix, fault] = ['.fix-box', '.fault'].map((name) => document.querySelector(`#report ${name}`)); "
+                         "return Boolean(fix.compareDocumentPosition(fault) & Node.DOCUMENT_POSITION_FOLLOWING)")
+    top, height = studio.script("return [document.querySelector('#report .fix').getBoundingClientRect().bottom, innerHeight]")
+    assert top < height, (top, height)
+    studio.shoot("kind")
+    studio.click("#report .fix")
+    studio.verdict("yes")
+
+
+def enlarge_for_cell(studio: Studio) -> None:
+    """A cell that is larger than the layout is put after the user agrees to make the layout larger."""
+    studio.begin("enlarge.txt", EMPTY)
+    studio.script("const list = document.getElementById('cell-name'); list.value = 'not'; list.dispatchEvent(new Event('change'))")
+    studio.click("#tool-cell")
+    studio.press(9, 9)
+    studio.answer("The cell is larger than the layout", "cancel")
+    assert studio.layout_text() == EMPTY
+    studio.press(9, 9)
+    studio.answer("The cell is larger than the layout", "make the layout 44 by 44")
+    studio.verdict("yes")
+    assert "layout 44 44 37" in studio.layout_text()
 
 
 def choose_spelling(studio: Studio) -> None:
@@ -583,7 +801,9 @@ def see_dark(studio: Studio) -> None:
 
 USES = [draw_collision, drag_mirror, draw_by_keyboard, refuse_circuit, place_mirrors, change_selection, insert_cell, draw_not_gate, take_fix, see_ways, draw_by_touch,
         do_many_commands, choose_spelling, answer_late, see_dark, use_dialogs, keep_draft, offer_draft_again, keep_selection,
-        ask_twice, use_two_tabs]
+        ask_twice, use_two_tabs, let_in_once, see_other_picture,
+        forget_old_draft, ask_about_draft, duplicate_tab, say_what_is_kept, see_nothing_yet, undo_numbers, follow_turns, see_kind_of_no,
+        enlarge_for_cell]
 
 
 def run_uses(studio: Studio, wanted: list[str]) -> list[str]:
@@ -599,13 +819,17 @@ def run_uses(studio: Studio, wanted: list[str]) -> list[str]:
         use(studio)
         print(f"{use.__name__}: done in {time.monotonic() - begun:.1f} s", file=sys.stderr, flush=True)
         logged = [entry["message"] for entry in studio.browser.get_log("browser") if entry["level"] == "SEVERE"]
-        errors += [message for message in logged if not is_of_killed_server(message)]
+        errors += [message for message in logged if not is_expected(message)]
     return errors
 
 
-def is_of_killed_server(message: str) -> bool:
-    """Whether an error says that no server answers, or that one ended in the middle of an answer: each `start` kills the one before."""
-    return "net::ERR_" in message or "NetworkError: Failed to execute 'importScripts'" in message
+def is_expected(message: str) -> bool:
+    """Whether an error says that no server answers, or that one ended in the middle of an answer: each `start` kills the one before.
+
+    A second tab with an address that was used is told that its token counts no more, and goes on with the key of the first.
+    """
+    is_of_killed_server = "net::ERR_" in message or "NetworkError: Failed to execute 'importScripts'" in message
+    return is_of_killed_server or "/api/enter - Failed to load resource: the server responded with a status of 403" in message
 
 
 def main() -> int:

@@ -5,8 +5,7 @@ const fs = require("fs"), path = require("path"), vm = require("vm");
 const [folder, ...files] = process.argv.slice(2);
 const text = files.map((file) => fs.readFileSync(path.join(folder, file), "utf8")).join("\n");
 const bbmlab = vm.runInThisContext(`${text}\n;bbmlab`);
-const { WholeRun, Cells, Player, SvgPen, xOf, yOf, startKeys } = bbmlab;
-const cell = (key) => [xOf(key), yOf(key)];
+const { Grid, WholeRun, Cells, Player, SvgPen, startKeys } = bbmlab;
 
 /** Returns a run at a time. */
 function runAt(data, on, time) {
@@ -25,12 +24,12 @@ function ended(data, on) {
 }
 
 /** Returns the moves of each of the last steps, the latest first. */
-const trail = (data, on, time, length) => bbmlab.trail(runAt(data, on, time), length).map((moves) => moves.map(cell));
+const trail = (data, on, time, length) => bbmlab.trail(runAt(data, on, time), length).map((moves) => moves.map((key) => new Grid(data.layout).cellOf(key)));
 
 /** Returns what is watched, when the cells are live, and what the marks say. */
 function waves(data, on) {
   const { probes, recorder, layout, values } = ended(data, on);
-  return probes.map(({ wire, key, marks }) => ({ wire, cell: cell(key), marks: marks.map(({ time, kind }) => [time, kind]),
+  return probes.map(({ wire, cell, key, marks }) => ({ wire, cell, marks: marks.map(({ time, kind }) => [time, kind]),
     live: [...Array(layout.steps + 1).keys()].map((time) => recorder.isLive(key, time) ?? null), value: values ? values.get(wire) ?? null : null,
     spans: bbmlab.waveform.liveSpans(recorder.signalOf(key), recorder.until) }));
 }
@@ -39,8 +38,8 @@ function waves(data, on) {
 function scene(data, on, time, { scale, left, top, pointed }) {
   const measure = (words, font) => 0.6 * Number(font.match(/([\d.]+)px/)[1]) * words.length;
   const pen = new SvgPen(900, 600, measure), inks = new Proxy({}, { get: (_, name) => `var(--${String(name)})` }), run = runAt(data, on, time);
-  const mirrors = new Cells(startKeys({ mirrors: data.layout.mirrors, balls: [], ins: [] }, () => false));
-  const good = new Map(data.layout.outs.map((port) => [bbmlab.keyOf(...port.cell), true]));
+  const mirrors = new Cells(startKeys({ mirrors: data.layout.mirrors, balls: [], ins: [] }, () => false, run.grid), run.grid);
+  const good = new Map(data.layout.outs.map((port) => [String(port.cell), true]));
   bbmlab.painting.scene({ pen, scale, left, top, wide: 900, high: 600, inks }, { layout: data.layout, modules: [], live: run.live, mirrors,
     odd: time % 2, trail: bbmlab.trail(run, 8), chosen: null, lines: [], fault: null, mark: null, good, pointed });
   return pen.text("#fff", "a <title> & \"more\"");

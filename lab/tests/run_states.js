@@ -1,7 +1,7 @@
 // Reads a JSON list of jobs { data, on, times } and writes for each the live cells at these times, sought in this order.
 "use strict";
-const { WholeRun, ModuleRun, circuitValues, xOf, yOf } = require(process.argv[2]);
-const cells = (live) => [...live].map((key) => [xOf(key), yOf(key)]).sort((a, b) => a[1] - b[1] || a[0] - b[0]);
+const { WholeRun, ModuleRun, circuitValues } = require(process.argv[2]);
+const cells = (live) => [...live].map((key) => live.grid.cellOf(key)).sort((a, b) => a[1] - b[1] || a[0] - b[0]);
 
 const jobs = JSON.parse(require("fs").readFileSync(0, "utf8"));
 console.log(JSON.stringify(jobs.map(({ data, on, times, module, assignment }) => {

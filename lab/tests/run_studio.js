@@ -5,7 +5,7 @@ const fs = require("fs"), path = require("path"), vm = require("vm");
 const [folder, ...files] = process.argv.slice(2);
 const source = files.map((file) => fs.readFileSync(path.join(folder, file), "utf8")).join("\n");
 const bbmlab = vm.runInThisContext(`${source}\n;bbmlab`);
-const { Model, ModelRefusal, Survey, TruthTable, surveys, geometry, xOf, yOf, keyOf } = bbmlab;
+const { Model, ModelRefusal, Survey, TruthTable, surveys, geometry } = bbmlab;
 
 /** Returns whether text, model, text gives the same text, for each text. */
 const law = (texts) => texts.map((text) => new Model(text).text === text);
@@ -76,8 +76,8 @@ function moved(text, [name, ...words], lines) {
 function ends(text) {
   const { layout, circuit } = new Model(text), choices = surveys.allChoices(circuit.inputs), run = new Survey(layout, circuit, choices);
   run.advance(1e6);
-  const keys = [...Array(layout.width * layout.height).keys()].map((index) => keyOf(index % layout.width, Math.floor(index / layout.width)));
-  const states = choices.map((on, lane) => ({ on: [...on], live: keys.filter((key) => run.live[key] >>> lane & 1).map((key) => [xOf(key), yOf(key)]) }));
+  const keys = [...Array(layout.width * layout.height).keys()].map((index) => run.grid.keyOf(index % layout.width, Math.floor(index / layout.width)));
+  const states = choices.map((on, lane) => ({ on: [...on], live: keys.filter((key) => run.live[key] >>> lane & 1).map((key) => run.grid.cellOf(key)) }));
   return { states, leftAt: run.leftAt, marks: [...new Set(run.marks.filter((_, index) => index % 3 === 2))].sort() };
 }
 
@@ -111,6 +111,12 @@ const fallen = (mirrors) => geometry.fallingMirrors(mirrors).map(({ box }) => bo
 const snapped = (boxes, width, height) => boxes.map((box) => geometry.snapMirror(box, width, height));
 const circuit = (text) => { const { isWhole, inputs, outputs, spills, gates } = bbmlab.circuitText.read(text); return { isWhole, inputs, outputs, spills, gates }; };
 
-const functions = { law, random, commands, moved, ends, parts, truth, timed, fallen, snapped, circuit };
+/** Returns the words of the lines that contain one, for each text. */
+const words = (texts) => texts.map((text) => bbmlab.circuitText.unmarked(text).split("\n").map(bbmlab.circuitText.wordsOf).filter((found) => found.length));
+
+/** Returns the text that is drawn, for each text. */
+const drawn = (texts) => texts.map((text) => new Model(text).drawnText);
+
+const functions = { words, drawn, law, random, commands, moved, ends, parts, truth, timed, fallen, snapped, circuit };
 const jobs = JSON.parse(fs.readFileSync(0, "utf8"));
 console.log(JSON.stringify(jobs.map(([name, ...words]) => functions[name](...words))));

@@ -42,7 +42,10 @@ class Studio:
     def start(self, name: str) -> str:
         """Starts a server of a file, opens its page, and returns the address."""
         address = self.serve(name)
+        # A page of the same address is not loaded by a new part behind `#`: it loads itself again, which takes a moment.
+        self.script("window.isOld = true")
         self.browser.get(address)
+        self.wait(lambda: self.script("return window.isOld !== true && document.readyState === 'complete'"), "the page is loaded")
         self.wait(lambda: self.text("name").startswith(name), "the file is opened")
         self.wait(lambda: self.script("return bbmlab.studio.tools.cell !== null"), "the cells are there")
         return address

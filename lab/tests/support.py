@@ -39,6 +39,21 @@ def program() -> str:
     return found
 
 
+def program_of_limits_2() -> str:
+    """Returns the path of the program; skips the test if it refuses texts that begin with `limits 2`."""
+    path = program()
+    require_limits_of("limits 2\n", path)
+    return path
+
+
+def require_limits_of(text: str, path: str) -> None:
+    """Skips the test if a text begins with `limits 2` and the program at a path refuses this line."""
+    if text.startswith("limits 2\n"):
+        said = subprocess.run([path, "value"], input=b"limits 2\ncircuit\nend\nassign\nend\n", capture_output=True, check=False)
+        if said.returncode != 0:
+            raise unittest.SkipTest(f"the program refuses `limits 2`: {path}")
+
+
 def lab(*words: str, text: str | bytes = b"", **environment: str) -> subprocess.CompletedProcess[str]:
     """Runs the lab's executable."""
     data = text.encode("latin-1") if isinstance(text, str) else text

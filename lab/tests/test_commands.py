@@ -38,13 +38,13 @@ class Documents(unittest.TestCase):
             self.assertRegex(page, rf"`(lab/|)(bbmlab |){name}\b")
 
     def test_lists_are_whole(self) -> None:
-        """Each document has the members that the page lists, besides `format`. A bundle has no assign section."""
+        """Each document has the members that the page lists, besides `format`. A bundle has no assign section, and `limits` only with its line."""
         file, program = support.example("wrong_edge"), support.program()
         with tempfile.TemporaryDirectory() as room:
             report = Path(room) / "report"
             report.write_text(ask(program, "check", Path(file).read_bytes()).output)
-            for words, without in [(("json", "--report", str(report), file), {"assign"}), (("explain", "--json", file), set()),
-                                   (("check", "--format", "json", file), {"stopped", "not_checked"}), (("trace", "--json", file), set())]:
+            for words, without in [(("json", "--report", str(report), file), {"assign", "limits"}), (("explain", "--json", file), set()),
+                                   (("check", "--format", "json", file), {"stopped", "not_checked", "left_out"}), (("trace", "--json", file), set())]:
                 more = () if words[0] == "json" else ("--program", program)
                 document = json.loads(support.lab(*words, *more).stdout)
                 self.assertEqual(set(document) - {"format"}, self.members(document["format"]) - without, words[0])

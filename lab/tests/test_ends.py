@@ -16,7 +16,8 @@ import support
 from test_commands import fake_program
 
 LAB = [sys.executable, str(support.LAB / "bbmlab")]
-YES = r"printf 'bbmcheck 1\ncertificate %064d\nmodules 1\nverdict yes\n' 0" + "\n"
+# Says yes to a text of one line, $word, as if it were a certificate.
+YES = r"digest=$(printf '%s\n' $word | sha256sum); printf 'bbmcheck 1\ncertificate %s\nmodules 1\nverdict yes\n' ${digest%% *}" + "\n"
 
 
 def run(*words: str, **more: object) -> "subprocess.CompletedProcess[bytes]":
@@ -76,7 +77,7 @@ class Signals(unittest.TestCase):
         """Stops a check of five files, of which the first is quick and the others take a minute."""
         for name in "abcde":
             (room / f"{name}.txt").write_text("slow\n" if name > "a" else "quick\n")
-        body = f"cat >{room}/text.$$; grep -q slow {room}/text.$$ && {{ echo x >>{room}/begun; sleep 60; }}\n" + YES
+        body = f"read word; [ $word = slow ] && {{ echo x >>{room}/begun; sleep 60; }}\n" + YES
         program = fake_program(str(room), body)
         ran = subprocess.Popen([*LAB, "check", "--jobs", "2", "--format", form, "--program", program, str(room)],
                                stdout=subprocess.PIPE, stderr=subprocess.PIPE)
@@ -188,7 +189,7 @@ class Hostile(unittest.TestCase):
             file.flush()
             ended = support.lab("from-golly", file.name)
             self.assertEqual((ended.returncode, ended.stdout), (4, ""))
-            self.assertIn("4096 rows or columns", ended.stderr)
+            self.assertIn("4100 rows or columns; a layout takes 4096 at most", ended.stderr)
 
     def test_times_that_make_no_sense(self) -> None:
         """Negative times, and a first time behind the last, are wrong words."""

@@ -327,12 +327,14 @@ class Sentences(unittest.TestCase):
                 self.assertRaisesRegex(NetlistError, sentence, circuit_from_netlist, text)
 
     def test_a_circuit_too_large(self) -> None:
-        """A chain that needs more than 1024 gates is refused with the limit, and so are 2000 copies of one input."""
-        copies = [f"y{index}" for index in range(2000)]
+        """A chain that needs more than 16,384 gates is refused with the limit, and so are 20,000 copies of one input. Smaller ones get the line."""
+        copies = [f"y{index}" for index in range(20_000)]
         fan_out = f".model m\n.inputs a\n.outputs {' '.join(copies)}\n" + "".join(f".names a {name}\n1 1\n" for name in copies)
-        for text in (wide_xor(700), wide_xor(4000), fan_out):
+        for text in (wide_xor(4200), wide_xor(40_000), fan_out):
             with self.subTest(len(text)):
-                self.assertRaisesRegex(NetlistError, "A circuit has at most 1024", circuit_from_netlist, text)
+                self.assertRaisesRegex(NetlistError, "A circuit has at most 16384", circuit_from_netlist, text)
+        for count, front in ((250, "circuit\n"), (700, "limits 2\ncircuit\n")):
+            self.assertTrue(circuit_from_netlist(wide_xor(count)).startswith(front))
 
     def test_names(self) -> None:
         """Names become legal and stay different, and a note names each change."""

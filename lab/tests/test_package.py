@@ -27,16 +27,19 @@ class Package(unittest.TestCase):
         """The installed `bbmlab` lists and checks its cells, writes a page, and finds a program beside itself; so does the package."""
         if not Path(PYTHON).exists():
             self.skipTest(f"there is no {PYTHON}")
-        needs = subprocess.run([PYTHON, "-c", "import setuptools, wheel, venv, ensurepip"], capture_output=True, check=False)
+        needs = subprocess.run([PYTHON, "-c", "import venv, ensurepip"], capture_output=True, check=False)
         if needs.returncode:
-            self.skipTest("/usr/bin/python3 lacks setuptools, wheel or venv")
+            self.skipTest("/usr/bin/python3 lacks venv (Debian: python3-venv)")
         program = support.program()
         with tempfile.TemporaryDirectory() as name:
             room = Path(name)
-            # A copy, since the build writes next to its sources.
             shutil.copytree(support.LAB, room / "lab", ignore=shutil.ignore_patterns("tests", "__pycache__"))
-            output(PYTHON, "-m", "venv", "--system-site-packages", str(room / "env"))
-            output(str(room / "env" / "bin" / "pip"), "install", "--quiet", "--no-index", "--no-build-isolation", str(room / "lab"))
+            before = sorted(room.glob("lab/**/*"))
+            output(PYTHON, "-m", "venv", str(room / "env"))
+            output("env", "-u", "PYTHONDONTWRITEBYTECODE", str(room / "env" / "bin" / "pip"), "install", "--quiet", "--no-index", str(room / "lab"))
+            self.assertEqual(sorted(room.glob("lab/**/*")), before, "the build leaves nothing next to the sources")
+            self.assertIn("Only the checker `bbmcheck` gives verdicts, and it is not in this package", output(str(room / "env" / "bin" / "python3"), "-c",
+                          "from importlib.metadata import metadata; print(metadata('bbmlab').get_payload())"))
             shutil.rmtree(room / "lab")
             shutil.copy(program, room / "env" / "bin" / "bbmcheck")
             lab = str(room / "env" / "bin" / "bbmlab")
@@ -53,13 +56,13 @@ class Package(unittest.TestCase):
 
     def test_pipx(self) -> None:
         """pipx installs the wheel that pip builds, without a network, and the command runs."""
-        needs = subprocess.run([PYTHON, "-c", "import setuptools, wheel, venv, ensurepip"], capture_output=True, check=False) if Path(PYTHON).exists() else None
+        needs = subprocess.run([PYTHON, "-c", "import venv, ensurepip"], capture_output=True, check=False) if Path(PYTHON).exists() else None
         if not shutil.which("pipx") or not needs or needs.returncode:
-            self.skipTest("there is no pipx, or /usr/bin/python3 lacks setuptools, wheel or venv (Debian: pipx python3-wheel python3-venv)")
+            self.skipTest("there is no pipx, or /usr/bin/python3 lacks venv (Debian: pipx python3-venv)")
         with tempfile.TemporaryDirectory() as name:
             room = Path(name)
             shutil.copytree(support.LAB, room / "lab", ignore=shutil.ignore_patterns("tests", "__pycache__"))
-            output(PYTHON, "-m", "pip", "wheel", "--quiet", "--no-deps", "--no-index", "--no-build-isolation", "-w", str(room / "made"),
+            output(PYTHON, "-m", "pip", "wheel", "--quiet", "--no-deps", "--no-index", "-w", str(room / "made"),
                    str(room / "lab"))
             shutil.rmtree(room / "lab")
             [wheel] = (room / "made").iterdir()

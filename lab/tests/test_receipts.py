@@ -173,7 +173,9 @@ class Holding(InRoom):
         self.check()
         path = Path(self.program)
         body = path.read_bytes()
-        path.write_text("#!/bin/sh\n" + "printf 'bbmcheck 1\\ncertificate %064d\\nmodules 1\\nverdict yes\\n' 0\n")
+        # It says yes to each text, with the digest of its certificate.
+        path.write_text("#!/bin/sh\ndigest=$(sed -n '/^certificate /,$p' | sha256sum)\n"
+                        "printf 'bbmcheck 1\\ncertificate %s\\nmodules 9\\nverdict yes\\n' ${digest%% *}\n")
         for receipt in self.receipts.iterdir():
             receipt.write_text(receipt.read_text().replace(digest(body), digest(path.read_bytes())))
         ended = self.check("--again", "--jobs", "1")

@@ -68,7 +68,9 @@ class Routing(unittest.TestCase):
         bundle.unlink(missing_ok=True)
         with contextlib.redirect_stderr(said):
             status = main(["route", str(circuit), "-o", str(bundle), "--program", self.program, *words])
-        return status, bundle.read_text() if bundle.exists() else "", said.getvalue()
+        made = bundle.read_text() if bundle.exists() else ""
+        support.require_limits_of(made, self.program)
+        return status, made, said.getvalue()
 
     def verdict(self, bundle: str) -> str:
         """Returns what the program says about a bundle."""
@@ -81,7 +83,7 @@ class Routing(unittest.TestCase):
         self.assertEqual(status, 0, said)
         self.assertIn("verdict yes", said)
         self.assertIn("\nverdict yes\n", self.verdict(bundle))
-        self.assertTrue(bundle.startswith(text))
+        self.assertTrue(bundle.removeprefix("limits 2\n").startswith(text))
         document = read_document(bundle)
         self.assertIsNone(document.refusal)
         self.assert_same_values(document)
@@ -149,7 +151,7 @@ class Yes(Routing):
         text = gate_circuit("switch")
         plain, small = (read_document(self.route(text, *words)[1]).layout for words in ((), ("--compact",)))
         assert plain and small
-        self.assertLessEqual((small.width, small.steps), (plain.width, plain.steps))
+        self.assertLessEqual((small.width * small.height, small.steps), (plain.width * plain.height, plain.steps))
 
 
 class Mistakes(Routing):
@@ -194,7 +196,7 @@ class Mistakes(Routing):
 
         def wrong(*words: object) -> Item | None:
             item = right(*words)  # type: ignore[arg-type]
-            return Item(item.mirrors, set(), set()) if item else None
+            return Item(item.mirrors) if item else None
 
         with contextlib.ExitStack() as stack:
             for module in ("world", "paths", "board", "placement"):
@@ -207,12 +209,13 @@ class Hostile(Routing):
 
     def assert_ends(self, text: str, effort: float = 10.0) -> None:
         """Asserts that the command ends in time with a yes or a sentence, in less than 500 MB."""
-        path = self.room / "hostile.txt"
+        path, bundle = self.room / "hostile.txt", self.room / "bundle.txt"
         path.write_text(text)
         begun = time.monotonic()
-        ended = subprocess.run([sys.executable, str(support.LAB / "bbmlab"), "route", str(path), "-o", str(self.room / "bundle.txt"),
+        ended = subprocess.run([sys.executable, str(support.LAB / "bbmlab"), "route", str(path), "-o", str(bundle),
                                 "--program", self.program, "--effort", str(effort)], capture_output=True, check=False)
         said = ended.stderr.decode()
+        support.require_limits_of(bundle.read_text() if bundle.exists() else "", self.program)
         self.assertLess(time.monotonic() - begun, 2 * effort + 60)
         self.assertLess(resource.getrusage(resource.RUSAGE_CHILDREN).ru_maxrss, 500_000)
         self.assertIn(ended.returncode, (0, 1), said)
@@ -252,7 +255,7 @@ class Hostile(Routing):
 
     def test_too_many_gates(self) -> None:
         """What does not fit gets a sentence that names a gate, and with `--keep-partial` a bundle of a part with a yes."""
-        status, bundle, said = self.route(made_circuit("any", 200, 12, 3), "--effort", "8", "--keep-partial")
+        status, bundle, said = self.route(made_circuit("forward", 200, 12, 3), "--effort", "8", "--keep-partial")
         self.assertEqual(status, 1)
         self.assertIn("no route", said)
         self.assertIn("kept a bundle", said)
@@ -261,7 +264,7 @@ class Hostile(Routing):
     def test_interrupt(self) -> None:
         """An interrupt ends the search in time, with one process and with two. It keeps a part with a yes, or says that it keeps none."""
         path, bundle = self.room / "large.txt", self.room / "part.txt"
-        path.write_text(made_circuit("any", 200, 12, 3))
+        path.write_text(made_circuit("forward", 200, 12, 3))
         for words in ((), ("--jobs", "2"), ("--keep-partial",), ("--keep-partial", "--jobs", "2")):
             bundle.unlink(missing_ok=True)
             command = [sys.executable, str(support.LAB / "bbmlab"), "route", str(path), "-o", str(bundle), "--program", self.program, *words]
@@ -274,6 +277,7 @@ class Hostile(Routing):
             said = process.communicate(timeout=30)[1].decode()
             with self.subTest(words=words):
                 self.assertLess(time.monotonic() - begun, INTERRUPT_SECONDS)
+                support.require_limits_of(bundle.read_text() if bundle.exists() else "", self.program)
                 self.assertEqual(process.returncode, 130)
                 self.assertIn("interrupted", said)
                 self.assertNotIn("Traceback", said)
@@ -316,10 +320,10 @@ class Delays(Routing):
 
     def test_more_steps_than_a_layout_has(self) -> None:
         """Delays that need too many steps are refused at once."""
-        lines = "\n".join(f"delay 4096 w{number} -> w{number + 1}" for number in range(17))
-        status, _, said = self.route(f"circuit\ninput w0\n{lines}\noutput w17\nend\n")
+        lines = "\n".join(f"delay 4096 w{number} -> w{number + 1}" for number in range(257))
+        status, _, said = self.route(f"circuit\ninput w0\n{lines}\noutput w257\nend\n")
         self.assertEqual(status, 1)
-        self.assertIn("the delays need 69632 steps; a layout has at most 65536", said)
+        self.assertIn("the delays need 1052672 steps; a layout has at most 1048576", said)
 
 
 class Refusals(Routing):

@@ -17,7 +17,7 @@ from bbmlab_core.route.netlist import Netlist
 from bbmlab_core.route.paths import Path
 from bbmlab_core.route.ripup import WayMaker
 from bbmlab_core.route.search import routed_bundle
-from bbmlab_core.route.settings import Settings, for_growing
+from bbmlab_core.route.settings import Settings
 from bbmlab_core.route.world import World, path_item
 from test_route import LINES, circuit_text, gate_circuit
 
@@ -91,7 +91,9 @@ class Backward(unittest.TestCase):
             self.assertEqual(set(run.states[-1]), set(start.cells()))
             self.assertEqual(set(path.start.cells()), set(end.cells()))
             self.assertEqual(follow(path.start, reversed_legs(legs))[1], mirrors[::-1])
-            self.assertEqual(path_item(path.start, path.legs), path.item)
+            forward = path_item(path.start, path.legs)
+            assert forward
+            self.assertEqual((forward.mirrors, forward.touched, forward.claims), (path.item.mirrors, path.item.touched, path.item.claims))
             done += 1
 
 
@@ -117,7 +119,7 @@ class RipUp(unittest.TestCase):
 
         with mock.patch.object(WayMaker, "make_way", checked):
             for seed in range(40):
-                attempt = Attempt(Netlist(read_circuit(made_circuit("forward", 14, 8, 3))), 160, seed, for_growing(Settings()))
+                attempt = Attempt(Netlist(read_circuit(made_circuit("forward", 14, 8, 3))), 160, seed, Settings())
                 before = len(results)
                 try:
                     attempt.run(lambda placed, total: self.assert_books(attempt.board))

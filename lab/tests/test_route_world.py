@@ -58,7 +58,7 @@ def random_gate(chance: random.Random) -> Piece | None:
         if not plane.fits(part):
             return None
         plane.add(part)
-    item = Item(set(parts[0].mirrors), set().union(*(part.touched for part in parts)), set().union(*(part.claims for part in parts)))
+    item = Item(parts[0].mirrors, tuple(own for part in parts for own in part.touched_parts), tuple(own for part in parts for own in part.claim_parts))
     return Piece(item, {(u + x, v + y) for u, v in cell.mirrors}, [ball.at(0) for ball in ins])
 
 
@@ -130,7 +130,7 @@ class Claims(unittest.TestCase):
         chance.shuffle(items)
         for item in items:
             plane.remove(item)
-        self.assertFalse(plane.claims or plane.mirrors or plane.counts or any(plane.blocked) or any(plane.mirror_falling)
+        self.assertFalse(plane.claims or plane.mirrors or any(plane.counts) or any(plane.blocked) or any(plane.mirror_falling)
                          or any(plane.mirror_rising) or any(plane.blocked_falling) or any(plane.blocked_rising))
         self.assertGreater(plane.free_flight(ball, 400), 60)
 
@@ -142,7 +142,7 @@ class Claims(unittest.TestCase):
             other = random_path(chance)
             if other is None:
                 continue
-            mirrors = Item(other.item.mirrors, set(), set())
+            mirrors = Item(other.item.mirrors)
             plane.add(mirrors)
             steps = plane.free_flight(ball, 200)
             item = path_item(ball, [Leg(steps, None)])

@@ -1,8 +1,11 @@
 """What a start of the lab imports, and that it says the same however it starts."""
 
+import os
 import subprocess
 import sys
+import tempfile
 import unittest
+from pathlib import Path
 
 import support
 
@@ -29,6 +32,21 @@ class Start(unittest.TestCase):
                 own = support.lab(name, "--help")
                 self.assertEqual((own.returncode, own.stdout.split()[:3]), (0, ["usage:", "bbmlab", name]))
                 self.assertIn("Example: bbmlab", own.stdout)
+
+    def test_compiled_modules(self) -> None:
+        """Compiled modules are kept in the user's cache, and nothing of them next to the sources. Another user's cache is not used."""
+        with tempfile.TemporaryDirectory() as room:
+            for is_own in (True, False):
+                cache = Path(room) / str(is_own)
+                cache.mkdir()
+                if not is_own:
+                    if os.getuid():
+                        continue
+                    os.chown(cache, 12345, 12345)
+                ended = support.lab("cells", XDG_CACHE_HOME=str(cache), PYTHONDONTWRITEBYTECODE="")
+                self.assertEqual(ended.returncode, 0, ended.stderr)
+                self.assertEqual(any(path.name.startswith("standard_cells.") for path in cache.rglob("*.pyc")), is_own)
+        self.assertEqual(list(support.LAB.rglob("*.pyc")), [])
 
     def test_wrong_command(self) -> None:
         """A command that there is not is refused with the list of those that there are."""

@@ -1,5 +1,6 @@
 """The studio's editing model and its runs, under node without a browser."""
 
+import itertools
 import json
 import random
 import re
@@ -20,7 +21,7 @@ from bbmlab_core.studio import answers, server
 
 SCRIPT = support.LAB / "tests" / "run_studio.js"
 STUDIO = Path(server.__file__).resolve().parent
-FILES = ["view/automaton.js", *(f"studio/{name}.js" for name in ("circuit_text", "geometry", "model", "survey"))]
+FILES = ["view/automaton.js", "view/limits.js", *(f"studio/{name}.js" for name in ("circuit_text", "geometry", "model", "survey"))]
 MAX_FUNCTION_LINES = 40
 COMMENTED = """# A gate by hand.
 circuit  # begins
@@ -146,6 +147,27 @@ class Commands(unittest.TestCase):
         self.assertIsNone(support.read_document(made, "design").refusal)
         self.assertIn("\noutput b\nspill a\n", made)
 
+    def test_limits(self) -> None:
+        """A layout has sides of 512 and 65,536 steps, and behind the line `limits 2` 4096 and 1,048,576; one more is refused with a sentence."""
+        text = example("not_gate")
+        for front, side, steps in (("", 512, 65_536), ("limits 2\n", 4096, 1_048_576), ("# large\n\n limits  02 # two\n", 4096, 1_048_576)):
+            with self.subTest(front):
+                made = node(["commands", front + text, [["resize", side, side, steps]]])[0]
+                self.assertIn(f"\nlayout {side} {side} {steps}\n", made)
+                self.assertTrue(made.startswith(front))
+                self.assertTrue(node(["parts", made])[0]["isWhole"])
+                more = "" if front else " A larger layout needs `limits 2` as first line."
+                told = node(*[["commands", front + text, [["resize", *size]]] for size in ((side + 2, 12, 3), (12, side + 2, 3), (12, 12, steps + 1))])
+                self.assertEqual(told, [f"Width and height are even numbers from 2 to {side}.{more}"] * 2 + [f"The steps are a number from 0 to {steps}.{more}"])
+        self.assertEqual(node(["circuit", "limits 2\ncircuit\ninput a\noutput a\nend\n"])[0]["isWhole"], True)
+        self.assertEqual(node(["circuit", "limits 3\ncircuit\ninput a\noutput a\nend\n"])[0]["isWhole"], False)
+
+    def test_line_of_limits_stays_first(self) -> None:
+        """A text of the line and a layout gets its circuit between the two."""
+        made = node(["commands", "limits 2\nlayout 1024 12 0\nend\n", [["addCells", [part("in", 900, 4, name="p")]], ["addCells", [part("out", 900, 4, name="p")]]]])[0]
+        self.assertEqual(made, "limits 2\ncircuit\ninput p\noutput p\nend\nlayout 1024 12 0\nin p 900 4\nout p 900 4\nend\n")
+        self.assertIsNone(support.read_document(made, "design").refusal)
+
     def test_reasons(self) -> None:
         """What cannot be done says why, and changes nothing."""
         text = example("not_gate")
@@ -241,11 +263,13 @@ class Runs(unittest.TestCase):
         self.assertIn("broken", node(["ends", "circuit\ninput p\noutput p\nend\nlayout 8 8 3\nmirror 4 4 1 1\nin p 2 2\nout p 5 5\nend\n"])[0]["marks"])
 
     def test_truth_tables(self) -> None:
-        """The table has what the circuit wants and what the lab's run finds."""
+        """The table has what the circuit wants and what the lab's run finds. Its rows count as in textbooks: the first input changes last."""
         for name in ("full_adder", "wrong_end", "plain_no", "machine_half_adder"):
             document, rows = support.read_document(example(name)), node(["truth", example(name)])[0]
+            inputs = document.circuit.inputs
+            self.assertEqual([row["inputs"] for row in rows], [list(values) for values in itertools.product((False, True), repeat=len(inputs))])
             for number, row in enumerate(rows):
-                on = {wire for index, wire in enumerate(document.circuit.inputs) if number >> index & 1}
+                on = {wire for wire, value in zip(inputs, row["inputs"]) if value}
                 run, values = run_layout(document.layout, on), values_under(document.circuit, on)[0]
                 run.run_to(document.layout.steps)
                 for output in row["outputs"]:

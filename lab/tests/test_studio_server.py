@@ -4,6 +4,7 @@ import http.client
 import json
 import os
 import resource
+import stat
 import subprocess
 import sys
 import tempfile
@@ -19,7 +20,8 @@ from bbmlab_core.studio.folder import Folder
 from bbmlab_core.studio.guard import MAX_REQUEST_BYTES
 from bbmlab_core.studio.jobs import Jobs, Worker
 from bbmlab_core.studio.server import POLICY, Studio, studio
-from bbmlab_core.studio.verdicts import cuts_of, source_line
+from bbmlab_core.spelling import source_line
+from bbmlab_core.studio.verdicts import cuts_of
 
 MEMORY = 4096
 # A program that does not end, with a name that no other test has.
@@ -46,14 +48,14 @@ class Served(unittest.TestCase):
         self.addCleanup(self.server.server_close)
         self.addCleanup(self.server.shutdown)
 
-    def send(self, method: str, path: str, body: bytes = b"", secret: str | None = None, **headers: str) -> tuple[int, dict[str, str], bytes]:
+    def send(self, method: str, path: str, body: bytes = b"", **headers: str) -> tuple[int, dict[str, str], bytes]:
         """Returns the status, the headers and the body of an answer. Headers that are empty are left out."""
         guard = self.server.guard
         lines = {"Host": guard.host, "Origin": f"http://{guard.host}", "Content-Type": "application/json", "Content-Length": str(len(body)),
-                 **{name.replace("_", "-"): value for name, value in headers.items()}}
+                 "X-Bbmlab-Key": guard.key, **{name.replace("_", "-"): value for name, value in headers.items()}}
         link = http.client.HTTPConnection("127.0.0.1", self.server.server_address[1], timeout=60)
         try:
-            link.putrequest(method, f"/{guard.secret if secret is None else secret}/{path}", skip_host=True, skip_accept_encoding=True)
+            link.putrequest(method, f"/{path}", skip_host=True, skip_accept_encoding=True)
             for name, value in lines.items():
                 if value:
                     link.putheader(name, value)
@@ -79,15 +81,48 @@ class Security(Served):
         """The server listens at 127.0.0.1, at a free port."""
         self.assertEqual(self.server.socket.getsockname()[0], "127.0.0.1")
         self.assertGreater(self.server.server_address[1], 1023)
-        self.assertGreaterEqual(len(self.server.guard.secret), 32)
+        self.assertGreaterEqual(min(len(self.server.guard.key), len(self.server.guard.token)), 32)
 
-    def test_each_request_carries_the_secret(self) -> None:
-        """Without the secret, or with another one, the page, its scripts and its requests are refused."""
-        for secret in ("", "x", self.server.guard.secret[:-1], self.server.guard.secret + "x", "%00"):
-            for method, path in (("GET", ""), ("GET", "studio/model.js"), ("POST", "api/start")):
-                self.assertEqual(self.send(method, path, b"{}", secret=secret)[0], 403, (secret, path))
-        self.assertEqual(self.send("GET", "")[0], 200)
+    def test_each_request_carries_the_key(self) -> None:
+        """Without the key, or with another one, a request is refused, also one with the token or with the key in its path or in a cookie."""
+        guard = self.server.guard
+        for key in ("", "x", guard.key[:-1], guard.key + "x", guard.token, "\xff"):
+            for request in ("start", "open", "save", "files", "verdict", "quit"):
+                self.assertEqual(self.send("POST", f"api/{request}", b"{}", X_Bbmlab_Key=key)[0], 403, (key, request))
+        for path in (f"{guard.key}/api/start", f"api/start?key={guard.key}", f"api/start#{guard.key}"):
+            self.assertEqual(self.send("POST", path, b"{}", X_Bbmlab_Key="", Cookie=f"key={guard.key}")[0], 403, path)
         self.assertEqual(self.send("POST", "api/start", b"{}")[0], 200)
+
+    def test_a_token_counts_once(self) -> None:
+        """A token gives the key to the page once. The next one is another, and no other word gives it."""
+        entries: list[str] = []
+        self.server.on_entry = lambda: entries.append(self.server.address)
+        guard, token = self.server.guard, self.server.guard.token
+        self.assertEqual(self.server.address, f"http://{guard.host}/#{token}")
+        for wrong in ("", "x", token[:-1], guard.key, "\ud800"):
+            self.assertEqual(self.enter(wrong)[0], 403, wrong)
+        self.assertEqual(self.send("POST", "api/enter", json.dumps({"token": token}).encode(), X_Bbmlab_Key="", Origin="null")[0], 403)
+        self.assertEqual(self.send("POST", "api/enter", json.dumps({"token": "x" * 2000}).encode(), X_Bbmlab_Key="")[0], 413)
+        self.assertEqual(entries, [])
+        status, data = self.enter(token)
+        self.assertEqual((status, json.loads(data)), (200, {"key": guard.key}))
+        self.assertEqual(entries, [self.server.address])
+        self.assertEqual(self.enter(token)[0], 403)
+        self.assertNotEqual(guard.token, token)
+        self.assertEqual(self.enter(guard.token)[0], 200)
+
+    def enter(self, token: str) -> tuple[int, bytes]:
+        """Returns the status and the body of the answer to a token."""
+        status, _, data = self.send("POST", "api/enter", json.dumps({"token": token}).encode(), X_Bbmlab_Key="")
+        return status, data
+
+    def test_nothing_secret_is_served(self) -> None:
+        """The files of the page are for everybody: they contain neither the key nor the token."""
+        for path in ("", "studio/server_link.js", "studio/studio.js"):
+            status, headers, data = self.send("GET", path, X_Bbmlab_Key="")
+            self.assertEqual(status, 200)
+            for secret in (self.server.guard.key, self.server.guard.token):
+                self.assertNotIn(secret, data.decode() + str(headers))
 
     def test_other_hosts_and_pages(self) -> None:
         """A request for another host, as after DNS rebinding, and one from another page get 403."""
@@ -98,7 +133,9 @@ class Security(Served):
         for origin in ("https://evil.example", "null", f"https://127.0.0.1:{port}", f"http://127.0.0.1:{port + 1}", f"http://localhost:{port}", ""):
             self.assertEqual(self.send("POST", "api/start", b"{}", Origin=origin)[0], 403, origin)
         self.assertEqual(self.send("GET", "", Origin="https://evil.example")[0], 403)
-        self.assertEqual(self.send("GET", "studio/model.js", Sec_Fetch_Site="cross-site")[0], 403)
+        for path, mode, kind in (("studio/model.js", "", ""), ("studio/model.js", "navigate", "document"), ("", "navigate", "iframe"), ("", "cors", "empty")):
+            self.assertEqual(self.send("GET", path, Sec_Fetch_Site="cross-site", Sec_Fetch_Mode=mode, Sec_Fetch_Dest=kind)[0], 403, (path, kind))
+        self.assertEqual(self.send("GET", "", Sec_Fetch_Site="cross-site", Sec_Fetch_Mode="navigate", Sec_Fetch_Dest="document", Origin="")[0], 200)
         self.assertEqual(self.send("GET", "", Origin="")[0], 200)
 
     def test_requests_are_json(self) -> None:
@@ -122,8 +159,8 @@ class Security(Served):
 
     def test_headers(self) -> None:
         """Each answer forbids scripts of others, frames and guesses of types."""
-        for method, path, secret in (("GET", "", None), ("GET", "studio/model.js", None), ("POST", "api/files", None), ("GET", "", "wrong")):
-            _, headers, _ = self.send(method, path, b"{}", secret=secret)
+        for method, path, key in (("GET", "", ""), ("GET", "studio/model.js", ""), ("POST", "api/files", self.server.guard.key), ("POST", "api/files", "wrong")):
+            _, headers, _ = self.send(method, path, b"{}", X_Bbmlab_Key=key)
             self.assertEqual(headers["Content-Security-Policy"], POLICY)
             self.assertEqual((headers["X-Content-Type-Options"], headers["Referrer-Policy"]), ("nosniff", "no-referrer"))
             self.assertNotIn("Access-Control-Allow-Origin", headers)
@@ -384,7 +421,10 @@ class Command(unittest.TestCase):
     """The command."""
 
     def test_open(self) -> None:
-        """Without `--no-open` the browser gets the address that is printed."""
+        """Without `--no-open` the browser gets a page that only this user can read, and that leads to the address that is printed.
+
+        All users can list the arguments of a process, so they contain nothing of the address but the page's path.
+        """
         with tempfile.TemporaryDirectory() as room:
             browser, seen = Path(room) / "browser", Path(room) / "seen"
             browser.write_text(f'#!/bin/sh\nprintf %s "$1" >"{seen}.new" && mv "{seen}.new" "{seen}"\n')
@@ -398,8 +438,14 @@ class Command(unittest.TestCase):
             while not seen.exists():
                 self.assertLess(time.monotonic(), until)
                 time.sleep(0.05)
-            self.assertEqual(seen.read_text(), address)
+            page = Path(seen.read_text().removeprefix("file://"))
+            self.assertEqual([stat.S_IMODE(os.stat(path).st_mode) for path in (page, page.parent)], [0o600, 0o700])
+            self.assertIn(f'content="0; url={address}"', page.read_text())
+            self.assertNotIn(address.split("#")[1], str(page))
             process.stdout.close()
+            process.terminate()
+            process.wait(30)
+            self.assertFalse(page.exists())
 
     def test_no_open(self) -> None:
         """`--no-open` prints the address alone, and SIGTERM ends the server with its processes."""
@@ -407,7 +453,7 @@ class Command(unittest.TestCase):
             process = subprocess.Popen([sys.executable, str(support.LAB / "bbmlab"), "studio", f"{room}/a.txt", "--no-open"], stdout=subprocess.PIPE,
                                        stderr=subprocess.DEVNULL, text=True)
             address = process.stdout.readline().strip()
-            self.assertRegex(address, r"^http://127\.0\.0\.1:\d+/[\w-]{32}/$")
+            self.assertRegex(address, r"^http://127\.0\.0\.1:\d+/#[\w-]{32}$")
             process.terminate()
             self.assertEqual(process.wait(30), 143)
             process.stdout.close()

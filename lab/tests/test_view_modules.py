@@ -12,7 +12,7 @@ from typing import Any
 import support
 from bbmlab_core import json_form, tracing, viewing
 from bbmlab_core.documents import Document
-from bbmlab_core.drawing import block_moves
+from bbmlab_core.ways import block_moves
 from bbmlab_core.label_places import Name, Rect, place_names
 from bbmlab_core.simulation import block_of, cell_of, key_of
 

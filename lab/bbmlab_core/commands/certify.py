@@ -16,7 +16,9 @@ from ..terminal import LabError, plain, read_text, write_text
 def run(options: argparse.Namespace) -> int:
     """Makes a certificate, and has the program check it if there is one. An old certificate is left out, apart from stops that hold."""
     text = read_text(options.file)
-    document, plan = design_of(text, options.file), Plan(options.version_of_text, "safe" if options.plain else options.cuts)
+    document = design_of(text, options.file)
+    # A plain certificate has no cuts to choose: the program's no to it is about the layout, and shows where it is wrong.
+    plan = Plan(options.version_of_text, "safe" if options.plain else options.cuts, is_tried=not options.plain)
     old = read_document(text, "check")
     if old.certificate and not old.refusal:
         plan.stops = sorted((stop for module in old.certificate.modules for stop in module.stops), key=lambda stop: stop.place)
@@ -24,7 +26,7 @@ def run(options: argparse.Namespace) -> int:
     notes: list[str] = []
     bundle = certified(document, chosen_boxes(options, document.layout), plan, notes)
     for note in notes:
-        print(f"bbmlab: {note}", file=sys.stderr)
+        print(f"bbmlab: {plain(note)}", file=sys.stderr)
     status = verdict_status(bundle, options)
     write_text(options.output, bundle, [options.file])
     return status

@@ -1,16 +1,17 @@
 """Runs `bbmlab check`."""
 
 import argparse
+import sys
 
 from ..checking import Checker, exit_status, text_files
 from ..program import find_program
 from ..progress import Progress
 from ..receipts import ReceiptFolder
-from ..releases import program_at
-from ..results import WRITERS, ResultWriter
+from ..releases import program_of
+from ..results import WRITERS, OnlyWriter, ResultWriter
 from ..sharding import in_shard
 from ..signals import Stopped
-from ..terminal import LabError
+from ..terminal import LabError, plain
 
 
 def source(options: argparse.Namespace) -> Checker:
@@ -20,7 +21,7 @@ def source(options: argparse.Namespace) -> Checker:
         raise LabError("--again is for --receipts", 2)
     if options.send_program and options.dask is None:
         raise LabError("--send-program is for --dask", 2)
-    folder = ReceiptFolder(options.receipts, program_at(program), options.again) if options.receipts else None
+    folder = ReceiptFolder(options.receipts, program_of(program), options.again) if options.receipts else None
     if options.dask is None:
         return Checker(program, options.jobs, options.timeout, folder)
     from ..cluster import ClusterChecker
@@ -29,9 +30,13 @@ def source(options: argparse.Namespace) -> Checker:
 
 def run(options: argparse.Namespace) -> int:
     """Checks all files. A signal ends all programs that run, and the results so far are written."""
-    files = [file for file in text_files(options.files) if in_shard(file, options.shard)]
+    files = [file for file in text_files(options.files, tell_of_left) if in_shard(file, options.shard)]
     checker = source(options)
-    writer = WRITERS[options.format]()
+    writer: ResultWriter = WRITERS[options.format]()
+    if options.only:
+        if options.format in ("tap", "junit"):
+            raise LabError("--only is for the formats text, json and jsonl: TAP and JUnit count all files", 2)
+        writer = OnlyWriter(writer, options.only)
     writer.begin(files)
     counts: dict[str, int] = {}
     try:
@@ -41,6 +46,11 @@ def run(options: argparse.Namespace) -> int:
         return signal.status
     writer.end("a contradiction" if is_contradicted else None)
     return exit_status(counts)
+
+
+def tell_of_left(words: str) -> None:
+    """Says on standard error what is left out of a folder."""
+    print(f"bbmlab: {plain(words)}", file=sys.stderr)
 
 
 def write_results(checker: Checker, files: list[str], writer: ResultWriter, counts: dict[str, int]) -> bool:

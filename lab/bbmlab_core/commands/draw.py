@@ -1,39 +1,60 @@
 """Runs `bbmlab draw`."""
 
 import argparse
+import re
 
 from .. import drawing, tracing
+from ..boxes import Box
+from ..circuits import Circuit
 from ..designs import read_design, report_for
 from ..documents import Document
 from ..layouts import Layout
 from ..reports import Report
-from ..terminal import LabError, write_text
+from ..terminal import write_text
+
+
+# The numbers of a line `use` or `module`.
+MODULE_OR_USE = re.compile(r"\n(?:use (\d{1,9})|module ((?:\d{1,9} ){3}\d{1,9}))(?=\n)")
 
 
 def picture_of(design: tuple[Document, Layout], names: str | None, time: int | None, report: Report | None = None) -> str:
     """Returns the picture of a design at a time, or without a time the ways of its balls."""
     document, layout = design
+    is_large = max(layout.width, layout.height) > drawing.LARGE_SIDE
     on = tracing.chosen_inputs(document, names)
     under = f" with {' '.join(on) or 'no input'} on"
-    picture = drawing.Drawing(modules=document.certificate.modules if document.certificate else [])
+    picture = drawing.Drawing(modules=document.certificate.modules if document.certificate and not is_large else [])
+    if is_large and document.circuit:
+        picture.gates = gate_boxes(document.text, document.circuit)
     if time is None:
         picture.ways, picture.labels = drawing.ball_ways(document, on if names is not None else None, layout.steps)
         picture.title = "ways of the balls" + (under if names is not None else drawing.sampled_words(document))
     else:
-        trace = tracing.trace_layout(layout, on, time, time)
-        if not trace.states:
-            raise LabError(f"there is no time {time}: the run ends at {layout.steps if trace.left is None else trace.left - 1}", 2)
-        picture.live, picture.title = trace.states[0], f"time {time}{under}"
+        picture.live, picture.title = tracing.state_at(layout, on, time), f"time {time}{under}"
     for finding in report.faults if report else []:
         if "x" in finding.values:
             picture.faults.append(((finding.number("x"), finding.number("y")), finding.text))
-    wires = list(document.circuit.defined) if document.circuit else tracing.port_names(layout)
+    wires = drawing.by_levels(picture, document.circuit) if document.circuit else tracing.port_names(layout)
     return drawing.svg(layout, picture, wires)
 
 
+def gate_boxes(text: str, circuit: Circuit) -> list[tuple[Box, str]]:
+    """Returns the boxes of the modules of a certificate that use gates and are larger than the smallest module, with the gates in words."""
+    found: list[tuple[Box, list[str]]] = []
+    for line in MODULE_OR_USE.finditer(text, text.find("\ncertificate ") % (len(text) + 1)):
+        if line[2]:
+            found.append((Box(*map(int, line[2].split(" "))), []))
+        elif found and int(line[1]) < len(circuit.gates):
+            gate = circuit.gates[int(line[1])]
+            if gate.word not in ("source", "delay"):
+                found[-1][1].append(f"{gate.word} {gate.number}")
+    least = min((box.width * box.height for box, _ in found), default=0)
+    return [(box, f"a module that uses {', '.join(gates)}") for box, gates in found if gates and box.width * box.height > least]
+
+
 def run(options: argparse.Namespace) -> int:
-    """Draws a layout."""
-    design = read_design(options.file)
+    """Draws a layout. The certificate of a large one is read only for a report, since that takes longer than to draw."""
+    design = read_design(options.file, has_certificate=bool(options.report))
     report = report_for(options, design[0])
     write_text(options.output, picture_of(design, options.on, None if options.ways else options.time, report))
     return 0

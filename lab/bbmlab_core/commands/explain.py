@@ -10,7 +10,7 @@ from ..explaining import Explanation
 from ..fixing import Fixer, outcome_words
 from ..netlists import NetlistFormat, netlist_format
 from ..pictures import LEGEND
-from ..program import ProgramError, ask, find_program
+from ..program import Executable, ProgramError, ask, find_program
 from ..terminal import LabError, painted, plain, read_text, wrapped, write_bytes
 from ..trials import Budget, Trial
 
@@ -45,15 +45,15 @@ def run(options: argparse.Namespace) -> int:
     return show_explanation(explanation, options)
 
 
-def program_of(options: argparse.Namespace) -> str | None:
-    """Returns the path of the program, or None if it is not found."""
+def program_of(options: argparse.Namespace) -> Executable | None:
+    """Returns the program, or None if it is not found."""
     try:
         return find_program(options.program)
     except ProgramError:
         return None
 
 
-def asked(program: str, command: str, text: str, options: argparse.Namespace) -> str:
+def asked(program: Executable, command: str, text: str, options: argparse.Namespace) -> str:
     """Returns what a command of the program writes."""
     answer = ask(program, command, text.encode("latin-1"), options.timeout)
     if answer.status >= 4:
@@ -64,7 +64,7 @@ def asked(program: str, command: str, text: str, options: argparse.Namespace) ->
     return answer.output
 
 
-def write_fix(text: str, command: str, program: str | None, options: argparse.Namespace) -> int:
+def write_fix(text: str, command: str, program: Executable | None, options: argparse.Namespace) -> int:
     """Writes the text with a fix; what it changes goes to standard error. Returns 0 only if the program says yes to it."""
     if command != "check":
         raise LabError("--fix takes a text with a circuit and a layout", 2)
@@ -76,14 +76,14 @@ def write_fix(text: str, command: str, program: str | None, options: argparse.Na
     fixer = Fixer(text, report, trial)
     fix = None if report.verdict == "yes" else fixer.find()
     if fix is None and report.verdict != "yes":
-        print("\n".join(f"bbmlab: {line}" for line in explaining.tried_words(fixer, trial)), file=sys.stderr)
+        print("\n".join(f"bbmlab: {plain(line)}" for line in explaining.tried_words(fixer, trial)), file=sys.stderr)
         return 1
     words = [*fix.words, outcome_words(report, fix)] if fix else [f"{trial.judge} says yes already: there is nothing to fix."]
     print("\n".join(f"bbmlab: {plain(line)}" for line in words), file=sys.stderr)
     data = (fix.text if fix else text).encode("latin-1")
     if options.in_place:
         if fix:
-            write_bytes(options.file, data)
+            write_bytes(options.file, data, before=text.encode("latin-1"))
     else:
         write_bytes(options.output, data, [options.file])
     return 0 if program and (fix is None or fix.report.verdict == "yes") else 1

@@ -40,7 +40,7 @@ def write_in_place(file: str, spelling: Spelling, before: bytes, after: bytes, s
         count = f"{spelling.comments} comment{'s' if spelling.comments != 1 else ''}"
         raise LabError(f"{file}: its {count} would be lost, since the program takes no comments: use --strip-comments, or -o FILE", 1)
     if after != before:
-        write_bytes(file, after)
+        write_bytes(file, after, before=before)
         print(f"{plain(file)}: written again", file=sys.stderr)
 
 

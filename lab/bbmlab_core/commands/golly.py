@@ -11,7 +11,7 @@ def run(options: argparse.Namespace) -> int:
     """Writes the start of a layout for Golly."""
     document, layout = read_design(options.file)
     on = tracing.chosen_inputs(document, options.on)
-    start = tracing.trace_layout(layout, on, 0, 0).states[0]
+    start = tracing.state_at(layout, on, 0)
     write_text(options.output, golly.golly_text(layout, start, on, tracing.layout_lines(document)))
     return 0
 

@@ -1,15 +1,20 @@
 """Runs `bbmlab studio`."""
 
 import argparse
+import os
 import sys
+import tempfile
 import threading
 import webbrowser
+from contextlib import ExitStack
+from html import escape
+from pathlib import Path
 
 from ..program import ProgramError, find_program
 from ..studio.answers import Answers
 from ..studio.folder import Folder
 from ..studio.jobs import Jobs
-from ..studio.server import studio
+from ..studio.server import Studio, studio
 from ..terminal import LabError, plain
 
 
@@ -30,15 +35,41 @@ def run(options: argparse.Namespace) -> int:
     except OSError as error:
         raise LabError(f"port {options.port}: {error.strerror or error}") from error
     print(server.address, flush=True)
-    print("bbmlab: the studio runs until you press Ctrl-C. The address is a secret: who has it can change the files of this folder.", file=sys.stderr)
+    print("bbmlab: the studio runs until you press Ctrl-C. The address lets one browser in, which can change the files of this folder.", file=sys.stderr)
+    server.on_entry = lambda: tell_of_entry(server)
     if jobs:
         threading.Thread(target=jobs.warm, daemon=True).start()
-    if options.open:
-        threading.Thread(target=webbrowser.open, args=(server.address,), daemon=True).start()
-    try:
-        server.serve_forever(poll_interval=0.2)
-    finally:
-        server.server_close()
+    with ExitStack() as ending:
         if jobs:
-            jobs.close()
+            ending.callback(jobs.close)
+        ending.callback(server.server_close)
+        if options.open:
+            open_browser(server.address, ending)
+        server.serve_forever(poll_interval=0.2)
     return 0
+
+
+def open_browser(address: str, ending: ExitStack) -> None:
+    """Opens the browser by a page that leads to an address, and that is removed at the end.
+
+    Only this user can read the page. All users can list the arguments of a browser, so the address is none.
+    """
+    try:
+        page = private_page(Path(ending.enter_context(tempfile.TemporaryDirectory(prefix="bbmlab-"))), address)
+    except OSError as error:
+        print(f"bbmlab: no browser is opened, since no page can be written for it: {error.strerror or error}", file=sys.stderr)
+        return
+    threading.Thread(target=webbrowser.open, args=(page.as_uri(),), daemon=True).start()
+
+
+def private_page(folder: Path, address: str) -> Path:
+    """Writes a page that leads to an address, and returns its path. Its folder and the page are this user's alone."""
+    path = folder / "studio.html"
+    with open(os.open(path, os.O_WRONLY | os.O_CREAT | os.O_EXCL, 0o600), "w", encoding="utf-8") as file:
+        file.write(f'<!DOCTYPE html>\n<meta charset="utf-8"><title>bbmlab studio</title>\n<meta http-equiv="refresh" content="0; url={escape(address)}">\n')
+    return path
+
+
+def tell_of_entry(server: Studio) -> None:
+    """Says on standard error that a browser was let in, and which address lets the next one in."""
+    print(f"bbmlab: a browser has opened the studio. Another one gets in by {server.address}", file=sys.stderr, flush=True)

@@ -33,7 +33,7 @@ def warn_of_difference(options: argparse.Namespace, trace: tracing.Trace, text: 
     try:
         answer = ask(find_program(options.program), "run", text, options.timeout)
     except (ProgramError, ProgramTimeout) as error:
-        print(f"bbmlab: the last state was not compared: {error}", file=sys.stderr)
+        print(f"bbmlab: the last state was not compared: {plain(str(error))}", file=sys.stderr)
         return
     if answer.status >= 3:
         print(f"bbmlab: the last state was not compared: {plain(answer.errors or answer.output.strip())}", file=sys.stderr)

@@ -8,7 +8,7 @@ from ..answering import WORDS
 from ..checking import exit_status
 from ..program import Answer, ask, find_program
 from ..receipts import SECTIONS, Receipt, ReceiptError, parse_receipt, section_digests, sha256
-from ..releases import known_releases, program_at
+from ..releases import known_releases
 from ..terminal import LabError, plain, read_bytes
 
 
@@ -52,10 +52,10 @@ def run(options: argparse.Namespace) -> int:
 
 def checked_again(receipt: Receipt, text: bytes, options: argparse.Namespace) -> list[str]:
     """Runs the program again, and returns what differs from the receipt."""
-    path = find_program(options.program)
-    if program_at(path).sha256 != receipt.program.sha256:
-        raise LabError(f"{path} is not the program of the receipt, so its answer would show nothing; name that program with --program")
-    said: Answer = ask(path, "check", text, options.timeout)
+    program = find_program(options.program)
+    if program.sha256 != receipt.program.sha256:
+        raise LabError(f"{program} is not the program of the receipt, so its answer would show nothing; name that program with --program")
+    said: Answer = ask(program, "check", text, options.timeout)
     if (said.status, said.output) == (receipt.status, receipt.report):
         return []
     return [f"the program now says something else: status {said.status}, and the report\n{said.output}"]

@@ -5,7 +5,6 @@ Sources: Fredkin and Toffoli 1982 for the gates, and for constants and garbage; 
 
 from dataclasses import dataclass
 
-from ..lines import MAX_TEXT_BYTES
 from .blif import read_blif
 from .circuit_text import NamedCircuit
 from .graph import graph_of
@@ -15,6 +14,7 @@ from .yosys_json import read_yosys_json
 
 __all__ = ["MappedNetlist", "NetlistError", "NetlistFormat", "circuit_from_netlist", "map_netlist", "netlist_format", "read_netlist"]
 
+MAX_NETLIST_BYTES = 16_777_216
 # Some editors put these bytes before a text; each is a character here.
 BYTE_ORDER_MARK = "\xef\xbb\xbf"
 
@@ -45,8 +45,8 @@ def read_netlist(text: str) -> Netlist:
 
     Raises NetlistError with a sentence for the user if the text is not a combinational netlist.
     """
-    if len(text) > MAX_TEXT_BYTES:
-        raise NetlistError(f"The netlist is longer than {MAX_TEXT_BYTES} bytes.")
+    if len(text) > MAX_NETLIST_BYTES:
+        raise NetlistError(f"The netlist is longer than {MAX_NETLIST_BYTES} bytes.")
     text = text.removeprefix(BYTE_ORDER_MARK)
     form = netlist_format(text)
     if form is None:

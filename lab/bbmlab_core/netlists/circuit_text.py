@@ -2,6 +2,7 @@
 
 from dataclasses import dataclass
 
+from ..limits import limits_for
 from .graph import Graph
 from .mapping import GATE_COSTS, MappedGate, Wire, Wiring
 from .naming import NameBook
@@ -19,8 +20,10 @@ class NamedCircuit:
     counts: dict[str, int]
 
     def text(self) -> str:
-        """Returns the circuit section."""
-        lines = ["circuit", *(f"input {name}" for name in self.inputs), *self.gates, *(f"output {name}" for name in self.outputs)]
+        """Returns the circuit section, after the line that raises its limits if one asks for it."""
+        wires = len(self.inputs) + sum(len(line.partition(" -> ")[2].split()) for line in self.gates)
+        front = limits_for(gates=len(self.gates), wires=wires).head.splitlines()
+        lines = [*front, "circuit", *(f"input {name}" for name in self.inputs), *self.gates, *(f"output {name}" for name in self.outputs)]
         return "\n".join([*lines, *(f"spill {name}" for name in self.spills), "end", ""])
 
 

@@ -8,9 +8,10 @@ from enum import Enum
 from typing import Callable
 
 from ..gates import input_tables
+from ..limits import SECOND
 from .model import Cell, CellNode, Netlist, NetlistError, TableNode
 
-MAX_GRAPH_NODES = 20_000
+MAX_GRAPH_NODES = 200_000
 # Tables of more inputs become sums of products.
 MAX_TABLE_INPUTS = 8
 # How far a product is followed to find that two products exclude each other.
@@ -54,7 +55,7 @@ class Graph:
         node = GraphNode(kind, inputs)
         if node not in self.numbers:
             if len(self.nodes) >= MAX_GRAPH_NODES:
-                raise NetlistError(f"The logic has more than {MAX_GRAPH_NODES} nodes. A circuit has at most 1024 gates.")
+                raise NetlistError(f"The logic has more than {MAX_GRAPH_NODES} nodes. A circuit has at most {SECOND.max_gates} gates.")
             self.numbers[node] = len(self.nodes)
             self.nodes.append(node)
         return 2 * self.numbers[node]

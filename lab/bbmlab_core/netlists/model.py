@@ -3,11 +3,12 @@
 from dataclasses import dataclass, field
 from enum import Enum
 
+from ..limits import SECOND
 from ..terminal import LabError
 
-# A circuit section takes 1024 gates, and a gate makes at most three nodes of logic. More nets cannot be mapped.
+# A circuit section takes 16,384 gates, and a gate makes at most three nodes of logic. More nets cannot be mapped.
 MAX_NODES = 65_536
-MAX_PORTS = 4096
+MAX_PORTS = SECOND.max_wires
 
 
 class NetlistError(LabError):
@@ -92,7 +93,7 @@ class Netlist:
         if node.output in self.nodes:
             raise NetlistError(f"The net `{node.output}` has two drivers.")
         if len(self.nodes) >= MAX_NODES:
-            raise NetlistError(f"The netlist has more than {MAX_NODES} nodes. A circuit has at most 1024 gates.")
+            raise NetlistError(f"The netlist has more than {MAX_NODES} nodes. A circuit has at most {SECOND.max_gates} gates.")
         self.nodes[node.output] = node
 
     def sorted_nodes(self) -> list[Node]:

@@ -2,9 +2,10 @@
 
 import random
 
-from ..circuits import MAX_GATES, MAX_WIRES, Circuit
+from ..circuits import Circuit
 from ..documents import read_document
 from ..cones import keeping_cone
+from ..limits import SECOND
 from .circuit_text import NamedCircuit, named
 from .graph import Graph
 from .mapping import Mapper, Preferences, Wiring
@@ -15,12 +16,12 @@ MAX_TRIES = 1000
 # Tries times nodes and outputs: some seconds.
 TRY_BUDGET = 40_000
 # One interaction gate makes three products, and no gate makes more.
-MAX_NEEDED_NODES = 3 * MAX_GATES
+MAX_NEEDED_NODES = 3 * SECOND.max_gates
 
 
 def require_room(gate_count: int, wire_count: int) -> None:
     """Raises NetlistError if a circuit section cannot have so many gates or wires."""
-    for count, most, what in ((gate_count, MAX_GATES, "gates"), (wire_count, MAX_WIRES, "wires")):
+    for count, most, what in ((gate_count, SECOND.max_gates, "gates"), (wire_count, SECOND.max_wires, "wires")):
         if count > most:
             raise NetlistError(f"The circuit would need {count} {what}. A circuit has at most {most}.")
 
@@ -57,8 +58,8 @@ def map_graph(graph: Graph) -> NamedCircuit:
     """Maps a graph. Raises NetlistError if the circuit does not fit the limits of a circuit section."""
     needed = graph.needed()
     if len(needed) > MAX_NEEDED_NODES:
-        raise NetlistError(f"The netlist needs {len(needed)} nodes of logic, and so more than {MAX_GATES} gates. "
-                           f"A circuit has at most {MAX_GATES}.")
+        raise NetlistError(f"The netlist needs {len(needed)} nodes of logic, and so more than {SECOND.max_gates} gates. "
+                           f"A circuit has at most {SECOND.max_gates}.")
     separate: frozenset[int] = frozenset()
     while True:
         wiring = cheapest(graph, separate, len(needed) + len(graph.outputs))

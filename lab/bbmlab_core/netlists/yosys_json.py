@@ -106,11 +106,14 @@ class ModuleReader:
         """Reads a cell `$lut`: bit I of the parameter LUT is the output at the inputs that make the number I."""
         parameters = member(cell, "parameters", dict, f"the cell `{name}`")
         try:
-            width, table = (parameter_number(parameters[word]) for word in ("WIDTH", "LUT"))
+            width, table = parameter_number(parameters["WIDTH"]), parameter_number(parameters["LUT"])
+            bits = parameters["LUT"] if isinstance(parameters["LUT"], str) else f"{table:b}"
         except (KeyError, TypeError, ValueError) as error:
             raise NetlistError(f"The cell `{name}` needs the numbers WIDTH and LUT.") from error
         if not 0 <= width <= MAX_LUT_WIDTH:
             raise NetlistError(f"The table of the cell `{name}` has {width} inputs. At most {MAX_LUT_WIDTH} are read.")
+        if table < 0 or len(bits) > 1 << width or isinstance(parameters["LUT"], str) and len(bits) != 1 << width:
+            raise NetlistError(f"The table of the cell `{name}` has {len(bits)} bits, and {width} inputs make {1 << width}.")
         rows = tuple(f"{index:0{width}b}"[::-1] if width else "" for index in range(1 << width) if table >> index & 1)
         self.netlist.add(TableNode(self.bits(cell, name, "Y", 1)[0], tuple(self.bits(cell, name, "A", width)), rows, True))
 

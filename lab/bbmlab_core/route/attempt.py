@@ -3,18 +3,23 @@
 import random
 import time
 from collections import Counter
+from itertools import chain
 from typing import Callable
 
 from ..circuits import Gate
 from .balls import Ball, Leg
-from .board import Board, NoRouteError, Step, Waiting
+from .board import Board, Bound, NoRouteError, Step, Waiting
 from .design import Design, forward_design
 from .netlist import Netlist
 from .paths import Path
 from .placement import Placer
 from .ripup import WayMaker
 from .settings import Settings
-from .world import path_item, tiles_of
+from .world import path_item
+
+
+# The number that stands for the end in the counts of failures.
+NO_GATE = -1
 
 
 class OutOfTimeError(NoRouteError):
@@ -28,8 +33,10 @@ def no_progress(placed: int, total: int) -> None:
 class Attempt:
     """An attempt. It depends on circuit, size, seed and settings alone, unless the time is over."""
 
-    def __init__(self, netlist: Netlist, size: int, seed: int, settings: Settings, deadline: float = float("inf")) -> None:
+    def __init__(self, netlist: Netlist, size: int, seed: int, settings: Settings, deadline: float = float("inf"), most_size: int = 0) -> None:
         self.netlist = netlist
+        # The side up to which the plane may grow.
+        self.most_size = max(size, min(most_size, int(settings.most_growth * size)))
         self.board = Board(self.netlist, size, settings)
         self.chance = random.Random(seed)
         self.placer = Placer(self.board, self.chance)
@@ -47,7 +54,7 @@ class Attempt:
     def check_time(self) -> None:
         """Raises OutOfTimeError when the time is over, with what was done then."""
         if time.monotonic() > self.deadline:
-            raise OutOfTimeError(f"the time was over while {self.doing}")
+            raise OutOfTimeError(f"the time was over while {self.doing}", Bound.TIME)
 
     def run(self, progress: Callable[[int, int], None] = no_progress) -> Design:
         """Places all gates and leads all balls to the end; raises NoRouteError."""
@@ -55,14 +62,14 @@ class Attempt:
         while True:
             self.check_time()
             if not self.todo:
-                why = self.lead_to_the_end()
+                why = self.led_to_the_end()
                 if why is None:
                     return self.design()
-                self.take_back(-1, why)
+                self.take_back(NO_GATE, why)
                 continue
             gate = self.next_gate()
             self.doing = f"gate {gate.number} ({gate.word} {' '.join(gate.ins)}) was placed"
-            step = self.placer.place_gate(gate)
+            step = self.placed(gate)
             if step is not None:
                 self.board.commit(step)
             elif not self.settings.rips or not self.way_maker.make_way(gate):
@@ -75,6 +82,20 @@ class Attempt:
             if total - len(self.todo) > self.most_placed:
                 self.most_placed, self.best_steps = total - len(self.todo), [] if self.netlist.is_backward else list(self.board.steps)
             progress(total - len(self.todo), total)
+
+    def placed(self, gate: Gate) -> Step | None:
+        """Returns a way to place a gate, or None. If it found no room, the plane grows and it is tried again."""
+        step = self.placer.place_gate(gate)
+        for _ in range(self.settings.growths):
+            if step is not None or not self.is_crowded() or not self.board.grow(self.settings.growth_part, self.most_size):
+                break
+            step = self.placer.place_gate(gate)
+        return step
+
+    def is_crowded(self) -> bool:
+        """Whether the last gate found no place for want of room, and not since its inputs could not be led."""
+        reasons = self.placer.reasons
+        return 2 * reasons["no path"] <= reasons["tries"] or 2 * reasons["no room"] > reasons.total()
 
     def adopt(self, steps: list[Step]) -> None:
         """Adds gates that another attempt placed."""
@@ -105,11 +126,18 @@ class Attempt:
         main = max((name for name in reasons if name != "tries"), key=lambda name: reasons[name], default="no room")
         return f"gate {gate.number} ({gate.word} {' '.join(gate.ins)}) found no place: {main}"
 
+    def bound(self, number: int) -> Bound:
+        """Returns what kept a gate from its place, or a ball from the end if the number is that of no gate."""
+        if number == NO_GATE:
+            return Bound.END
+        reasons = self.placer.reasons
+        return Bound.PATH if 2 * reasons["no path"] > reasons["tries"] > 0 else Bound.ROOM
+
     def take_back(self, number: int, why: str) -> None:
         """Takes some of the last gates back, and moves the failed gate's makers; raises NoRouteError after too many failures."""
         self.failures[number] += 1
         if sum(self.failures.values()) > self.settings.failures or not self.board.steps:
-            raise NoRouteError(why)
+            raise NoRouteError(why, self.bound(number))
         count = self.chance.randint(1, min(8, 2 + self.failures[number]))
         blame = self.placer.blame
         if blame and self.chance.random() < 0.7 and self.take_maker_out(max(blame, key=lambda name: blame[name])):
@@ -156,6 +184,27 @@ class Attempt:
             last = step.gate.time + step.gate.cell.length
             end = max([end, *(last + netlist.least_steps(netlist.chain(wire)[-1]) for wire in zeros)])
         return end | 1 if netlist.is_backward else end
+
+    def led_to_the_end(self) -> str | None:
+        """Leads all waiting balls on to the last time; returns a sentence if that failed.
+
+        The plane grows before, so that all these ways have room by estimate. If that was not enough it grows again.
+        """
+        self.make_room_for_ends()
+        why = self.lead_to_the_end()
+        for _ in range(self.settings.growths):
+            if why is None or not self.board.grow(self.settings.growth_part, self.most_size):
+                break
+            why = self.lead_to_the_end()
+        return why
+
+    def make_room_for_ends(self) -> None:
+        """Lets the plane grow until what is taken, and what the ways to the last time may take, is at most `end_fill` of it."""
+        board, end = self.board, self.end_time()
+        steps = sum(end - (waiting.ball.time if waiting.ball else 0) for waiting in board.waiting.values())
+        taken = sum(row.bit_count() for row in board.world.blocked) + self.settings.step_cells * steps
+        while taken > self.settings.end_fill * board.size ** 2 and board.grow(self.settings.growth_part, self.most_size):
+            pass
 
     def lead_to_the_end(self) -> str | None:
         """Leads all waiting balls on to the last time; returns a sentence if that failed, and then takes the paths back.
@@ -226,7 +275,7 @@ class Attempt:
         self.board.ends.clear()
         for root, waiting in before.items():
             if not self.board.wait_again(root, waiting):
-                raise NoRouteError(f"the ball of wire {root} has no room to wait")
+                raise NoRouteError(f"the ball of wire {root} has no room to wait", Bound.ROOM)
 
     def ends_across(self, ball: Ball | None) -> list[Path]:
         """Returns the paths to the last time that cross or touch the straight way of a ball that waits."""
@@ -234,8 +283,8 @@ class Attempt:
             return []
         room = self.board.world.free_flight(ball, 70) + 6
         way = path_item(ball, [Leg(room, None)])
-        return [path for path in self.board.ends if way and not (way.touched.isdisjoint(path.item.touched)
-                                                                 and way.touched.isdisjoint(path.item.mirrors))]
+        touched = way.touched if way else set()
+        return [path for path in self.board.ends if not touched.isdisjoint(chain(path.item.mirrors, *path.item.touched_parts))]
 
     def begin(self, waiting: Waiting) -> tuple[bool, int]:
         """Returns the key by which balls are led to the end: those that wait since long come first."""
@@ -247,7 +296,7 @@ class Attempt:
         self.placer.enclosed = ""
         for _ in range(self.settings.end_tries if ball else 5 * self.settings.end_tries):
             path = finder.lead_on(root, ball or self.free_start(), end)
-            if path and board.has_room_for(root, tiles_of(path.item.touched | path.item.mirrors)):
+            if path and board.has_room_for(root, path.item.tiles):
                 board.add_path(path)
                 if self.placer.leaves_others([(mirror.x, mirror.y) for mirror in path.mirrors()]):
                     return path
@@ -265,4 +314,4 @@ class Attempt:
         board = self.board
         end = max([path.end.time for path in board.ends], default=self.end_time())
         paths = [path for step in board.steps for path in [*step.paths, *step.parked]] + board.ends
-        return forward_design(Design(self.netlist.circuit, self.netlist, board.size, end, [step.gate for step in board.steps], paths))
+        return forward_design(Design(self.netlist.circuit, self.netlist, board.size, board.size, end, [step.gate for step in board.steps], paths))

@@ -1,6 +1,7 @@
 """What an attempt has placed so far: gates, paths, waiting balls, and the wires that each box of the certificate needs."""
 
 from dataclasses import dataclass, field, replace
+from enum import Enum
 from typing import Iterable
 
 from ..certificates import MAX_CUTS
@@ -10,10 +11,31 @@ from .cells import GateCell
 from .netlist import Netlist
 from .paths import Path
 from .settings import Settings
-from .world import ROW, TILE, Item, World, cell_item, path_item, tiles_of
+from .world import ROW, TILE, Item, World, cell_item, path_item
+
+
+class Bound(Enum):
+    """What ended an attempt."""
+
+    TIME = "the time was over"
+    ROOM = "a gate found no room"
+    PATH = "an input could not be led to its gate"
+    END = "a ball could not be led to the last time"
+    WIRES = "a box needed too many wires"
+    KEEP = "an inverse gate could not be kept"
+    ERROR = "the router made an error"
+
 
 class NoRouteError(Exception):
     """An attempt found no route. The message names the gate or the wire, and the reason."""
+
+    def __init__(self, message: str, bound: Bound = Bound.ERROR) -> None:
+        super().__init__(message, bound)
+        self.bound = bound
+
+    def __str__(self) -> str:
+        """Returns the message."""
+        return str(self.args[0])
 
 
 TileBox = tuple[int, int, int, int]
@@ -50,7 +72,7 @@ class Waiting:
 
 @dataclass(eq=False)
 class Step:
-    """A gate that was placed, the paths to its inputs, and its outputs that wait; with its cost, and its inputs before.
+    """A gate that was placed, the paths to its inputs, and its outputs that wait; with its inputs before.
 
     `parked` has the first paths of outputs that no gate consumes: they lead away from the gate.
     """
@@ -60,7 +82,6 @@ class Step:
     outs: dict[str, Waiting] = field(default_factory=dict)
     parked: list[Path] = field(default_factory=list)
     before: dict[str, Waiting] = field(default_factory=dict)
-    cost: float = 0.0
 
     def with_number(self, number: int) -> "Step":
         """Returns the step for a gate with another number, before it is added."""
@@ -84,7 +105,7 @@ class Board:
     """The state of an attempt. Each change can be taken back."""
 
     def __init__(self, netlist: Netlist, size: int, settings: Settings) -> None:
-        self.netlist, self.size, self.settings = netlist, size, settings
+        self.netlist, self.settings = netlist, settings
         self.world = World(size)
         # The root wires that wait.
         self.waiting: dict[str, Waiting] = {root: Waiting() for root in netlist.free_roots()}
@@ -93,6 +114,19 @@ class Board:
         # For each tile the wires that its box needs, with the number of items for which it does; and the gate that owns it.
         self.names: dict[int, dict[str, int]] = {}
         self.owners: dict[int, PlacedGate] = {}
+
+    @property
+    def size(self) -> int:
+        """The side of the plane."""
+        return self.world.size
+
+    def grow(self, part: int, most: int) -> bool:
+        """Adds the given part of the side at the right and below, in whole pairs of tiles; returns whether that is at most `most` cells."""
+        cells = max(2 * TILE, self.size // part // (2 * TILE) * 2 * TILE)
+        if self.size + cells > most:
+            return False
+        self.world.grow(cells)
+        return True
 
     # --- wires of boxes ------------------------------------------------------------------------------------------------
 
@@ -115,7 +149,7 @@ class Board:
         """Returns the wires that some tiles need."""
         return {wire for tile in tiles for wire in self.names.get(tile, ())}
 
-    def has_room_for(self, root: str, tiles: set[int]) -> bool:
+    def has_room_for(self, root: str, tiles: frozenset[int]) -> bool:
         """Whether the boxes of tiles have room for the wires of a ball."""
         wires = self.wires_of(root)
         if not wires:
@@ -150,7 +184,7 @@ class Board:
         self.waiting[root] = waiting
         if waiting.item is not None:
             self.world.add(waiting.item)
-            self.count_names(self.wires_of(root), tiles_of(waiting.item.touched), 1)
+            self.count_names(self.wires_of(root), waiting.item.tiles, 1)
 
     def wait_again(self, root: str, before: Waiting) -> bool:
         """Makes a root wait as before, or with a shorter reservation if something is in the way; returns whether that was possible."""
@@ -167,7 +201,7 @@ class Board:
         waiting = self.waiting.pop(root)
         if waiting.item is not None:
             self.world.remove(waiting.item)
-            self.count_names(self.wires_of(root), tiles_of(waiting.item.touched), -1)
+            self.count_names(self.wires_of(root), waiting.item.tiles, -1)
         return waiting
 
     # --- paths and gates -----------------------------------------------------------------------------------------------
@@ -175,12 +209,12 @@ class Board:
     def add_path(self, path: Path) -> None:
         """Adds a path."""
         self.world.add(path.item)
-        self.count_names(self.wires_of(path.wire), tiles_of(path.item.touched | path.item.mirrors), 1)
+        self.count_names(self.wires_of(path.wire), path.item.tiles, 1)
 
     def remove_path(self, path: Path) -> None:
         """Removes a path."""
         self.world.remove(path.item)
-        self.count_names(self.wires_of(path.wire), tiles_of(path.item.touched | path.item.mirrors), -1)
+        self.count_names(self.wires_of(path.wire), path.item.tiles, -1)
 
     def place(self, x: int, y: int, time: int, cell: GateCell, number: int) -> PlacedGate:
         """Returns a gate's cell at a place and a time, without adding it."""
@@ -205,9 +239,9 @@ class Board:
             del self.owners[tile]
         self.count_names(self.gate_wires(gate), self.gate_tiles(gate), -1)
 
-    def gate_tiles(self, gate: PlacedGate) -> set[int]:
+    def gate_tiles(self, gate: PlacedGate) -> frozenset[int]:
         """Returns the tiles to which a gate's moving cells come."""
-        return tiles_of(gate.item.touched)
+        return gate.item.touched_tiles
 
     def commit(self, step: Step) -> None:
         """Adds a gate with its paths, and lets its outputs wait."""
@@ -238,7 +272,7 @@ class Board:
         self.remove_gate(step.gate)
         for wire, waiting in step.before.items():
             if not self.wait_again(wire, waiting):
-                raise NoRouteError(f"the ball of wire {wire} has no room to wait")
+                raise NoRouteError(f"the ball of wire {wire} has no room to wait", Bound.ROOM)
         step.before = {}
         return step
 

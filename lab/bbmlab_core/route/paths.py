@@ -6,9 +6,11 @@ a path lie on the two kinds of diagonals in turn. The last three legs follow fro
 
 import random
 from dataclasses import dataclass
+from itertools import islice
 from typing import Callable, Iterator, NamedTuple, Sequence
 
 from .balls import BOUNCE_STEPS, Ball, Leg, Mirror, Turn, bounce, bounce_before, follow
+from .bit_rows import Bend, BitJoiner
 from .settings import Settings
 from .world import Item, World, path_item
 
@@ -36,13 +38,11 @@ class Path:
 
 
 def joined_path(parts: list[Path]) -> Path:
-    """Returns the path of parts that follow one another."""
-    legs, items = list(parts[0].legs), [part.item for part in parts]
+    """Returns the path of parts that follow one another. What it takes is left out."""
+    legs = list(parts[0].legs)
     for part in parts[1:]:
         legs[-1:] = [Leg(legs[-1].steps + part.legs[0].steps, part.legs[0].turn), *part.legs[1:]]
-    item = Item(set().union(*(own.mirrors for own in items)), set().union(*(own.touched for own in items)),
-                set().union(*(own.claims for own in items)))
-    return Path(parts[0].wire, parts[0].start, parts[-1].end, tuple(legs), item)
+    return Path(parts[0].wire, parts[0].start, parts[-1].end, tuple(legs), Item(frozenset()))
 
 
 class Option(NamedTuple):
@@ -232,7 +232,7 @@ class PathFinder:
     def cost(self, path: Path) -> float:
         """Returns the cost of a path: the cells that it newly touches, and its mirrors."""
         counts = self.world.counts
-        new = sum(number not in counts for number in path.item.touched)
+        new = sum(not counts[number] for part in path.item.touched_parts for number in part)
         return new + self.settings.mirror_cost * (len(path.legs) - 1)
 
     def connect_once(self, wire: str, start: Ball, goal: Ball, tries: int) -> Path | None:
@@ -263,10 +263,7 @@ class PathFinder:
         return self.complete(wire, start, goal, legs) if legs else None
 
     def connect_short(self, start: Ball, goal: Ball, tries: int) -> list[Leg] | None:
-        """Returns legs from a ball to a ball.
-
-        The first and the last bounce are chosen where mirrors have room. The two bounces between follow from place and time.
-        """
+        """Returns legs from a ball to a ball: straight, by rows of bits if there is much time to spare, else by random bounces."""
         total = goal.time - start.time
         if total < 0 or not is_in_reach(start, goal):
             return None
@@ -274,6 +271,31 @@ class PathFinder:
             straight = [Leg(total, None)]
             if self.is_path(start, straight):
                 return straight
+        if total - max(abs(start.x - goal.x), abs(start.y - goal.y)) >= self.settings.bits_spare:
+            return next((legs for legs in self.bit_joins(start, goal) if self.is_path(start, legs)), None)
+        return self.random_join(start, goal, tries)
+
+    def bit_joins(self, start: Ball, goal: Ball) -> Iterator[list[Leg]]:
+        """Yields legs from a ball to a ball by rows of bits: with four bounces, and with one or two more before or behind these."""
+        joiner, settings = BitJoiner(self.world, self.chance, self.settings), self.settings
+        is_parallel = start.dx * start.dy == goal.dx * goal.dy
+        yield from joiner.joins(start, goal, 0, 3 * settings.bit_ends)
+        firsts = list(islice(joiner.first_bends(start, 0), settings.bit_bends))
+        lasts: list[Bend | None] = [*islice(joiner.last_bends(goal), settings.bit_bends)] if is_parallel else [None]
+        for first in firsts if lasts else ():
+            for _ in range(2 if is_parallel else 1):
+                last = lasts[int(self.chance.random() * len(lasts))]
+                end = last.ball if last else goal
+                if is_in_reach(first.ball, end):
+                    for legs in joiner.joins(first.ball, end, BOUNCE_STEPS, settings.bit_ends):
+                        yield [Leg(first.steps, first.turn), *(bent(legs, last) if last else legs)]
+
+    def random_join(self, start: Ball, goal: Ball, tries: int) -> list[Leg] | None:
+        """Returns legs from a ball to a ball.
+
+        The first and the last bounce are chosen where mirrors have room. The two bounces between follow from place and time.
+        """
+        total = goal.time - start.time
         key = start, total // 32
         first, last = self.known_departures.get(key) or self.departures(start, total), self.approaches(goal, total)
         self.known_departures[key] = first
@@ -345,6 +367,11 @@ class PathFinder:
                     return False
             begun = BOUNCE_STEPS
         return True
+
+
+def bent(legs: list[Leg], last: Bend) -> list[Leg]:
+    """Returns legs that end at a last bounce, and that go on behind it."""
+    return [*legs[:-1], Leg(legs[-1].steps, last.turn), Leg(last.steps, None)]
 
 
 def middle_legs(ball: Ball, goal: Ball, begun: int, is_return: bool, share: float) -> list[Leg] | None:

@@ -1,7 +1,7 @@
 """Placing gates: a place, an orientation and a time for a gate's cell, with paths from the balls that wait for it.
 
-Gates are placed one after another, about in the order of time. Each gets the cheapest of a few places to which all its
-inputs can be led. A failure takes some of the last gates back.
+Gates are placed one after another, about in the order of time. Each gets the first of the good places to which all its inputs can be led,
+and none is put on the way ahead of a ball that waits for another gate.
 """
 
 import random
@@ -16,7 +16,7 @@ from .board import Board, Step, Waiting, box_of, tiles_in
 from .cells import PORTS, GateCell
 from .paths import Path, PathFinder
 from .settings import Settings
-from .world import AROUND, MARGIN, TILE, Item, path_item, tiles_of
+from .world import AROUND, MARGIN, ROW, TILE, Item, path_item
 
 # Largest side of a box in tiles: boxes have at most 64 by 64 cells.
 MOST_TILES = 4
@@ -24,7 +24,9 @@ MOST_TILES = 4
 NEAR = 100
 # The cells of the square in which `World.taken_around` counts.
 FULL = (2 * AROUND) ** 2
-EVEN_BITS = sum(1 << index for index in range(0, 1024, 2))
+# The most steps to spare for the last input of a gate, however often inputs could not be led.
+MOST_SPARE = 130
+EVEN_BITS = sum(1 << index for index in range(0, ROW, 2))
 
 
 @dataclass(frozen=True)
@@ -75,29 +77,23 @@ class Placer:
         return found
 
     def place_gate(self, gate: Gate, spots: Iterable[Spot] | None = None) -> Step | None:
-        """Returns the cheapest of some ways to place a gate, at any spots or at given ones, or None. Nothing is added yet."""
+        """Returns the first way to place a gate, at any spots or at given ones, or None. Nothing is added yet."""
         self.reasons.clear()
         self.blame.clear()
         self.stuck.clear()
         self.finder.known_departures.clear()
         netlist = self.board.netlist
         self.least_time = max((netlist.least_steps(wire) for wire in gate.ins if netlist.is_zero(wire)), default=0)
-        best: Step | None = None
-        found, inlets = 0, self.inlets(gate)
+        inlets = self.inlets(gate)
         for spot in self.spots(gate, inlets) if spots is None else spots:
             self.reasons["tries"] += 1
             step = self.try_spot(gate, spot, inlets)
-            if step is None:
-                self.note_stuck()
-                if max(self.blame.values(), default=0) > self.settings.most_blame:
-                    break
-                continue
-            if best is None or step.cost < best.cost:
-                best = step
-            found += 1
-            if found >= self.settings.place_choices:
+            if step is not None:
+                return step
+            self.note_stuck()
+            if max(self.blame.values(), default=0) > self.settings.most_blame:
                 break
-        return best
+        return None
 
     # --- where and when ------------------------------------------------------------------------------------------------
 
@@ -134,11 +130,18 @@ class Placer:
             if not self.is_box_free(cell, column, row, chance.random() > growth):
                 self.reasons["box taken"] += 1
                 continue
+            if self.is_in_lane(cell, column, row, inlets):
+                self.reasons["ahead of a ball"] += 1
+                continue
             time = self.earliest(cell, column, row, inlets)
             if partner:
                 time = max(time, partner.time - cell.length)
-            time += chance.randint(2, min(110, chance.choice((12, 24, 50)) + 3 * max(self.blame.values(), default=0)))
+            time += chance.randint(self.settings.least_spare, self.most_spare())
             yield Spot(cell, column, row, time + (time - column) % 2)
+
+    def most_spare(self) -> int:
+        """Returns the most steps to spare for the last input of a gate: more if inputs could not be led."""
+        return min(MOST_SPARE, self.chance.choice(self.settings.most_spare) + 3 * max(self.blame.values(), default=0))
 
     def partner(self, gate: Gate, inlets: list[Inlet]) -> Ball | None:
         """Returns the ball that a gate's results wait for or meet later, if the gate's own inputs may all begin anywhere."""
@@ -178,8 +181,11 @@ class Placer:
         if row + top < MARGIN or row + bottom > far or first > last:
             return None
         blocked, taken = self.board.world.blocked, 0
-        for x, y in cell.mirrors if not is_crowded else ():
-            taken |= blocked[row + y] >> first + x
+        for y, places in cell.mirror_rows if not is_crowded else ():
+            # A row of the plane has thousands of bits, so it is shifted once.
+            near = blocked[row + y] >> first + left & (1 << last - first + right - left + 1) - 1
+            for x in places:
+                taken |= near >> x - left
         free = ~taken & (EVEN_BITS << (first - row) % 2) & (1 << last - first + 1) - 1
         if not free:
             return None
@@ -196,6 +202,23 @@ class Placer:
         owners, margin = self.board.owners, 1 if is_wide else 0
         around = (column - margin, row - margin, columns + 2 * margin, rows + 2 * margin)
         return not any(tile in owners for tile in tiles_in(around))
+
+    def is_in_lane(self, cell: GateCell, x: int, y: int, inlets: list[Inlet]) -> bool:
+        """Whether a cell comes near the way ahead of a waiting ball that it does not consume."""
+        margin, most = self.settings.lane_cells, self.settings.lane_steps
+        left, top, right, bottom = cell.bounds
+        left, top, right, bottom = x + left - margin, y + top - margin, x + right + margin, y + bottom + margin
+        own = {inlet.root for inlet in inlets}
+        for root, waiting in self.board.waiting.items():
+            ball = waiting.ball
+            if ball is None or root in own:
+                continue
+            # The steps at which the ball is in the columns, and those at which it is in the rows.
+            first_x, last_x = (left - ball.x, right - ball.x) if ball.dx > 0 else (ball.x - right, ball.x - left)
+            first_y, last_y = (top - ball.y, bottom - ball.y) if ball.dy > 0 else (ball.y - bottom, ball.y - top)
+            if max(first_x, first_y, 0) <= min(last_x, last_y, most):
+                return True
+        return False
 
     def earliest(self, cell: GateCell, x: int, y: int, inlets: list[Inlet]) -> int:
         """Returns the earliest time for a cell at which each input can be there."""
@@ -284,7 +307,7 @@ class Placer:
             path = self.finder.lead_here(inlet.root, goal)
         else:
             path = self.finder.connect(inlet.root, waiting.ball, goal, self.settings.path_tries)
-        if path and not board.has_room_for(inlet.root, tiles_of(path.item.touched | path.item.mirrors)):
+        if path and not board.has_room_for(inlet.root, path.item.tiles):
             self.reasons["cuts of a path"] += 1
             path = None
         if path is None:
@@ -292,14 +315,13 @@ class Placer:
             self.reasons["no path"] += 1
             self.blame[inlet.root] += 1
             return False
-        step.cost += self.finder.cost(path)
         board.add_path(path)
         step.before[inlet.root] = waiting
         step.paths.append(path)
         return True
 
     def leaves_escapes(self, step: Step) -> bool:
-        """Whether each waiting ball can still turn. Adds the cost of time to the step."""
+        """Whether each waiting ball can still turn."""
         places = [(step.gate.x, step.gate.y), *((mirror.x, mirror.y) for path in step.paths for mirror in path.mirrors())]
         if not self.leaves_others(places):
             self.reasons["encloses another"] += 1
@@ -307,8 +329,6 @@ class Placer:
         if not all(self.can_turn(own) for own in step.outs.values()):
             self.reasons["enclosed"] += 1
             return False
-        late = max(0, self.done(step) - self.horizon)
-        step.cost += 3 * len(self.board.waiting) * late + 0.3 * max((ball_of(own).time for own in step.outs.values()), default=0)
         return True
 
     def leaves_others(self, places: list[Cell]) -> bool:
@@ -345,7 +365,7 @@ class Placer:
         """Returns a path away from a gate and the ball that waits at its end, with the number of taken cells around this place."""
         board = self.board
         path = self.finder.lead_on(wire, ball, end)
-        if path is None or not board.has_room_for(wire, tiles_of(path.item.touched | path.item.mirrors)):
+        if path is None or not board.has_room_for(wire, path.item.tiles):
             return None
         board.add_path(path)
         waiting = board.waiting_ball(path.end)

@@ -4,6 +4,7 @@ Ends of such a path stay where they are, so all other gates and paths stay too.
 """
 
 from dataclasses import replace
+from itertools import chain
 from typing import Iterable, Iterator
 
 from ..circuits import Gate
@@ -11,11 +12,14 @@ from .balls import Ball, Leg, Turn, bounce
 from .board import Board, Step
 from .paths import Path
 from .placement import Inlet, Placer, Spot
-from .world import Item, cell_item, cell_number, path_item, tiles_of
+from .world import ROW, Item, cell_item, cell_number, number_cell, path_item
 
 # The steps ahead of a ball in which it should find places to turn, and the distance of the places that are looked at.
 STEPS_AHEAD = 70
 PLACE_STEPS = 4
+# The owner of what is not taken out, and the owners of a cell that nothing is on.
+FIXED = -1
+NOBODY: frozenset[int] = frozenset()
 
 
 class WayMaker:
@@ -53,10 +57,10 @@ class WayMaker:
 
     def paths_at(self, place: Item) -> list[Path]:
         """Returns the paths that an item would meet in space, those that it meets most first."""
-        found = []
+        found, touched = [], place.touched
         for index, path in enumerate(self.all_paths()):
             item = path.item
-            meets = len(place.mirrors & item.touched) + 4 * len(place.touched & item.mirrors) + len(place.mirrors & item.mirrors)
+            meets = len(item.touched & place.mirrors) + 4 * len(touched & item.mirrors) + len(place.mirrors & item.mirrors)
             if meets:
                 found.append((-meets, index, path))
         return [path for _, _, path in sorted(found, key=lambda own: own[:2])]
@@ -68,22 +72,26 @@ class WayMaker:
         mirrors = [bounce(ball.flown(steps), turn)[1] for steps in range(2, max(3, room), PLACE_STEPS) for turn in Turn]
         way = path_item(ball, [Leg(max(0, room), None)])
         cells = {cell_number(cell) for mirror in mirrors for cell in mirror.cells()}
-        return Item(cells, way.touched if way else set(), set())
+        return Item(frozenset(cells), way.touched_parts if way else ())
 
     def crowded_spots(self, gate: Gate, inlets: list[Inlet]) -> Iterator[tuple[list[Path], list[Spot]]]:
         """Yields spots for a gate at which only paths are in the way, with these paths: the fewest first."""
-        fixed = [own.gate.item for own in self.board.steps] + [path.item for own in self.board.steps for path in own.parked]
-        fixed += [own.item for own in self.board.waiting.values() if own.item]
-        found = []
-        for index, spot in enumerate(self.placer.random_spots(gate, inlets, is_crowded=True)):
-            item = cell_item(spot.cell, spot.x, spot.y, spot.time)
-            if any(meet(item, own) for own in fixed):
-                continue
-            paths = [path for path in self.all_paths() if meet(item, path.item)]
-            if len(paths) <= self.settings.rips[-1]:
-                found.append((len(paths) + spot.time / self.settings.rip_steps, index, spot, paths))
-        for _, _, spot, paths in sorted(found, key=lambda own: own[:2])[:self.settings.crowded_choices]:
-            yield paths, [replace(spot, time=spot.time + 2 * more) for more in range(0, 24, 2)]
+        spots = list(self.placer.random_spots(gate, inlets, is_crowded=True))
+        items = [cell_item(spot.cell, spot.x, spot.y, spot.time) for spot in spots]
+        paths, found = self.all_paths(), []
+        register = Register(items, paths, self.fixed_items())
+        for index, (spot, item) in enumerate(zip(spots, items)):
+            met = register.met_by(item)
+            if met is not None and len(met) <= self.settings.rips[-1]:
+                found.append((len(met) + spot.time / self.settings.rip_steps, index, spot, [paths[number] for number in sorted(met)]))
+        for _, _, spot, met_paths in sorted(found, key=lambda own: own[:2])[:self.settings.crowded_choices]:
+            yield met_paths, [replace(spot, time=spot.time + 2 * more) for more in range(0, 24, 2)]
+
+    def fixed_items(self) -> list[Item]:
+        """Returns what is not taken out for a gate: gates, parked paths, and what is reserved for waiting balls."""
+        steps = self.board.steps
+        fixed = [own.gate.item for own in steps] + [path.item for own in steps for path in own.parked]
+        return fixed + [own.item for own in self.board.waiting.values() if own.item]
 
     def place_without(self, gate: Gate, paths: list[Path], spots: list[Spot] | None) -> bool:
         """Places a gate while some paths are out, and leads them again; returns whether that was possible."""
@@ -128,7 +136,7 @@ class WayMaker:
         for _ in range(self.settings.end_tries):
             new = finder.lead_here(path.wire, path.end) if self.is_free(path) else \
                 finder.connect(path.wire, path.start, path.end, self.settings.path_tries)
-            if new and board.has_room_for(new.wire, tiles_of(new.item.touched | new.item.mirrors)):
+            if new and board.has_room_for(new.wire, new.item.tiles):
                 return new
         return None
 
@@ -145,7 +153,32 @@ class WayMaker:
                 steps[index] = replace(step, paths=[again.get(path, path) for path in step.paths])
 
 
-def meet(one: Item, other: Item) -> bool:
-    """Whether two items meet in space, at whatever times: a mirror of one is on a cell of the other."""
-    return not (one.mirrors.isdisjoint(other.touched) and one.touched.isdisjoint(other.mirrors)
-                and one.mirrors.isdisjoint(other.mirrors))
+class Register:
+    """Which paths have cells near some items, and which cells near them are fixed."""
+
+    def __init__(self, items: list[Item], paths: list[Path], fixed: list[Item]) -> None:
+        cells = [number_cell(number) for item in items for number in (*item.mirrors, *chain(*item.touched_parts))]
+        columns, rows = [x for x, _ in cells] or [0], [y for _, y in cells] or [0]
+        self.left, self.right, self.top, self.bottom = min(columns), max(columns), min(rows), max(rows)
+        # For touched cells and for those of mirrors the numbers of the paths that have them; FIXED stands for all that is fixed.
+        self.touched: dict[int, set[int]] = {}
+        self.mirrors: dict[int, set[int]] = {}
+        for number, item in [*((FIXED, item) for item in fixed), *((number, path.item) for number, path in enumerate(paths))]:
+            self.note(self.touched, chain(*item.touched_parts), number)
+            self.note(self.mirrors, item.mirrors, number)
+
+    def note(self, owners: dict[int, set[int]], cells: Iterable[int], owner: int) -> None:
+        """Notes the owner of those of some cells that are near."""
+        first, last = self.top * ROW, (self.bottom + 1) * ROW
+        for cell in cells:
+            if first <= cell < last and self.left <= cell & ROW - 1 <= self.right:
+                owners.setdefault(cell, set()).add(owner)
+
+    def met_by(self, item: Item) -> set[int] | None:
+        """Returns the paths that an item meets in space, at whatever times; None if it meets something fixed."""
+        met: set[int] = set()
+        for cell in item.mirrors:
+            met |= self.touched.get(cell, NOBODY) | self.mirrors.get(cell, NOBODY)
+        for cell in chain(*item.touched_parts):
+            met |= self.mirrors.get(cell, NOBODY)
+        return None if FIXED in met else met

@@ -7,31 +7,36 @@ that succeeds, whatever the number of processes. So the same seed gives the same
 import multiprocessing
 import signal
 import time
+from collections import Counter
 from dataclasses import dataclass, field, replace
 from multiprocessing.connection import Connection, wait
 from multiprocessing.process import BaseProcess
 from typing import Callable, Iterator
 
 from ..circuits import Circuit
-from ..layouts import MAX_SIDE
+from ..limits import SECOND, limits_for, with_line
 from ..signals import Stopped
 from .attempt import Attempt, OutOfTimeError
-from .board import NoRouteError, Step
+from .board import Bound, NoRouteError, Step
 from .certificate import Certifier, bundle_text, circuit_section
-from .design import Design
+from .design import Design, cropped
+from .estimate import Estimate, estimate_of
 from .netlist import Netlist
 from .partial import INTERRUPT_SECONDS, SECONDS, hurried_design, partial_design, partial_text
-from .settings import Settings, for_growing
+from .settings import Settings
 from .world import TILE
 
 # The least side of a layout that is tried, and the attempts with a side before a larger one is tried.
 LEAST_SIDE = 96
 ATTEMPTS_PER_SIDE = 2
-# The part of the layout's cells that paths and gates may touch by estimate, and the cells that a ball touches in a step.
-FILL = 0.16
+# The part of the first plane's cells that paths and gates may touch by estimate, and the cells that a ball touches in a step. Planes grow, so a
+# small first one gives tight layouts: with 0.16 in place of 0.3 six circuits of 5 to 48 gates took 1.6 times the area, and 0.7 of the time.
+FILL = 0.3
 CELLS_PER_STEP = 2.6
-# If more balls than this end beyond those that begin, attempts also run backward in time.
+# If more balls than this end beyond those that begin, attempts also run backward in time, and first if the circuit takes few steps by estimate:
+# two levels of 48 gates got 640 cells a side and 257 steps backward, and 704 and 370 forward.
 MOST_GROWTH = 20
+SHALLOW_STEPS = 200
 # The attempts that `--compact` makes at most.
 COMPACT_ATTEMPTS = 24
 
@@ -47,6 +52,11 @@ class Options:
     is_compact: bool = False
     keeps_partial: bool = False
 
+    @property
+    def most_side(self) -> int:
+        """The side up to which a plane may grow: not at all if a side is given."""
+        return self.side or SECOND.max_side
+
 
 @dataclass(frozen=True)
 class Routed:
@@ -54,7 +64,8 @@ class Routed:
 
     text: str
     layout_text: str
-    size: int
+    width: int
+    height: int
     steps: int
     mirrors: int
     modules: int
@@ -64,15 +75,19 @@ class Routed:
     @property
     def rank(self) -> tuple[int, int]:
         """The key by which a smaller and faster layout comes first."""
-        return self.size, self.steps
+        return self.width * self.height, self.steps
 
 
 @dataclass
 class Outcome:
-    """The result of a search: the bundle if there is one, else the reason, and the best part if it was asked for."""
+    """The result of a search: the bundle if there is one, else the reason, and the best part if it was asked for.
+
+    The reason is that of the attempt that placed most gates. `bounds` counts what ended each attempt that failed.
+    """
 
     routed: Routed | None = None
     reason: str = ""
+    bounds: Counter[Bound] = field(default_factory=Counter)
     attempts: int = 0
     placed: int = 0
     total: int = 0
@@ -96,21 +111,21 @@ def estimated_side(netlist: Netlist) -> int:
     balls = max(len(netlist.free_roots()), len(netlist.circuit.outputs) + len(netlist.circuit.spills))
     area += balls * (steps + 16) * CELLS_PER_STEP
     side = LEAST_SIDE
-    while side < MAX_SIDE and side * side * FILL < area:
+    while side < SECOND.max_side and side * side * FILL < area:
         side += 2 * TILE
     return side
 
 
 def netlists_of(circuit: Circuit, options: Options) -> list[Netlist]:
-    """Returns a circuit forward in time; and also backward, which comes first, if far more balls end than begin.
+    """Returns a circuit forward in time; and also backward if far more balls end than begin, which comes first if the circuit is shallow.
 
-    Balls that begin at any place are led more easily than balls to one last time. Parts are kept of forward netlists alone, so
-    these come first if parts are kept.
+    Balls that begin at any place are led more easily than balls to one last time. Parts are kept of forward netlists alone.
     """
     forward, backward = Netlist(circuit), Netlist(circuit, is_backward=True)
     if len(backward.free_roots()) - len(forward.free_roots()) <= MOST_GROWTH:
         return [forward]
-    return [forward, backward] if options.keeps_partial else [backward, forward]
+    is_shallow = max(forward.tails.values(), default=0) <= SHALLOW_STEPS
+    return [backward, forward] if is_shallow and not options.keeps_partial else [forward, backward]
 
 
 def attempts_of(netlists: list[Netlist], options: Options) -> Iterator[tuple[Netlist, int, int]]:
@@ -120,16 +135,31 @@ def attempts_of(netlists: list[Netlist], options: Options) -> Iterator[tuple[Net
         for _ in range(ATTEMPTS_PER_SIDE):
             yield netlists[index % len(netlists)], side, options.seed * 1_000_003 + index
             index += 1
-        side = side if options.side else min(MAX_SIDE, side + max(2 * TILE, side // 4 // TILE * TILE))
+        side = side if options.side else min(SECOND.max_side, side + max(2 * TILE, side // 4 // TILE * TILE))
 
 
-def routed_bundle(circuit_text: str, design: Design) -> Routed:
-    """Returns the bundle of a design; raises NoRouteError if its certificate needs too much."""
-    certifier = Certifier(design)
-    text = bundle_text(circuit_text, certifier)
+def routed_bundle(circuit_text: str, design: Design, is_cropped: bool = True) -> Routed:
+    """Returns the bundle of a design, cropped if that is asked for; raises NoRouteError if its certificate needs too much.
+
+    Inverse gates are kept by modules without a gate. If cropping left too few of them, the design stays as large as it was.
+    """
+    if is_cropped:
+        try:
+            return bundle_of(circuit_text, cropped(design))
+        except NoRouteError as error:
+            if error.bound is not Bound.KEEP:
+                raise
+    return bundle_of(circuit_text, design)
+
+
+def bundle_of(circuit_text: str, design: Design) -> Routed:
+    """Returns the bundle of a design as it is."""
+    certifier, circuit = Certifier(design), design.circuit
+    text, gates, wires = bundle_text(circuit_text, certifier), len(circuit.gates), len(circuit.defined)
     layout = circuit_section(circuit_text) + "\n".join(certifier.layout) + "\n"
-    return Routed(text, layout, design.size, design.end, len(certifier.mirrors), len(certifier.modules), certifier.most_cuts,
-                  len(design.gates))
+    side = max(design.width, design.height)
+    return Routed(with_line(text, limits_for(side, design.end, len(certifier.modules), gates, wires)),
+                  with_line(layout, limits_for(side, design.end, 0, gates, wires)), design.width, design.height, design.end, len(certifier.mirrors), len(certifier.modules), certifier.most_cuts, len(design.gates))
 
 
 class Search:
@@ -138,10 +168,14 @@ class Search:
     def __init__(self, circuit: Circuit, circuit_text: str, options: Options, settings: Settings, progress: Progress) -> None:
         self.circuit_text, self.options = circuit_text, options
         self.netlists = netlists_of(circuit, options)
-        self.settings = for_growing(settings) if len(self.netlists) > 1 else settings
+        self.settings = settings
         self.progress = progress
         self.deadline = time.monotonic() + options.effort
         self.outcome = Outcome(total=len(self.netlists[0].gates))
+
+    def estimate(self) -> Estimate:
+        """Returns what is known before the search begins."""
+        return estimate_of(self.netlists[0], self.options.side or estimated_side(self.netlists[0]))
 
     def run(self) -> Outcome:
         """Returns what the search found. An interrupt ends it with the best part so far."""
@@ -165,15 +199,15 @@ class Search:
             if index >= self.limit() or time.monotonic() > self.deadline:
                 break
             self.outcome.attempts = index + 1
-            attempt = Attempt(netlist, side, seed, self.settings, self.deadline)
+            attempt = Attempt(netlist, side, seed, self.settings, self.deadline, self.options.most_side)
             try:
-                design = attempt.run(lambda placed, total: self.progress(index + 1, side, placed, total))
-                if self.take(routed_bundle(self.circuit_text, design)):
+                design = attempt.run(lambda placed, total: self.progress(index + 1, attempt.board.size, placed, total))
+                if self.take(routed_bundle(self.circuit_text, design, not self.options.side)):
                     break
             except NoRouteError as error:
                 self.note_failure(error, attempt.most_placed)
             finally:
-                self.note_partial(attempt.most_placed, attempt.best_steps, side)
+                self.note_partial(attempt.most_placed, attempt.best_steps, attempt.board.size)
 
     def take(self, routed: Routed) -> bool:
         """Takes a bundle if it is the best so far, and returns whether the search is done."""
@@ -183,6 +217,7 @@ class Search:
 
     def note_failure(self, error: NoRouteError, placed: int) -> None:
         """Notes why an attempt failed. The reason that counts is that of the attempt that placed most gates."""
+        self.outcome.bounds[error.bound] += 1
         is_late = isinstance(error, OutOfTimeError)
         if not self.outcome.reason or placed >= self.outcome.placed and not is_late:
             self.outcome.reason = str(error)
@@ -194,8 +229,8 @@ class Search:
             self.outcome.partial, self.outcome.partial_size = steps, side
 
 
-# What a process sends: that it placed gates, with their steps if they are kept; its bundle; or why it failed.
-Message = tuple[str, int, object]
+# What a process sends: that it placed gates, the side, and their steps if they are kept; its bundle; or why it failed.
+Message = tuple[str, int, int, object]
 
 
 @dataclass(frozen=True)
@@ -209,22 +244,25 @@ class Task:
     settings: Settings
     deadline: float
     keeps_partial: bool
+    most_side: int
+    is_cropped: bool
 
 
 def work(connection: Connection, task: Task) -> None:
     """Makes one attempt, and sends messages on it. The process that started this one ends it."""
     signal.signal(signal.SIGINT, signal.SIG_IGN)
-    attempt = Attempt(task.netlist, task.side, task.seed, task.settings, task.deadline)
+    attempt = Attempt(task.netlist, task.side, task.seed, task.settings, task.deadline, task.most_side)
 
     def tell(placed: int, total: int) -> None:
         """Sends that gates were placed."""
         is_best = task.keeps_partial and placed == attempt.most_placed
-        connection.send(("placed", placed, attempt.best_steps if is_best else None))
+        connection.send(("placed", placed, attempt.board.size, attempt.best_steps if is_best else None))
 
     try:
-        connection.send(("routed", attempt.most_placed, routed_bundle(task.circuit_text, attempt.run(tell))))
+        design = attempt.run(tell)
+        connection.send(("routed", attempt.most_placed, attempt.board.size, routed_bundle(task.circuit_text, design, task.is_cropped)))
     except NoRouteError as error:
-        connection.send(("failed", attempt.most_placed, error))
+        connection.send(("failed", attempt.most_placed, attempt.board.size, error))
     finally:
         connection.close()
 
@@ -235,7 +273,6 @@ class Worker:
 
     process: BaseProcess
     index: int
-    side: int
 
 
 class Pool:
@@ -280,18 +317,19 @@ class Pool:
         """Starts the next attempt."""
         search, (index, (netlist, side, seed)) = self.search, next(self.attempts)
         here, there = multiprocessing.Pipe(duplex=False)
-        task = Task(netlist, search.circuit_text, side, seed, search.settings, search.deadline, search.options.keeps_partial)
+        task = Task(netlist, search.circuit_text, side, seed, search.settings, search.deadline, search.options.keeps_partial,
+                    search.options.most_side, not search.options.side)
         process = multiprocessing.get_context("fork").Process(target=work, args=(there, task), daemon=True)
         process.start()
         there.close()
-        self.workers[here] = Worker(process, index, side)
+        self.workers[here] = Worker(process, index)
         search.outcome.attempts = index + 1
 
     def receive(self, connection: Connection) -> None:
         """Takes a message of a process. A process that ended without one is dropped."""
         worker, search = self.workers[connection], self.search
         try:
-            kind, placed, content = connection.recv()
+            kind, placed, side, content = connection.recv()
         except EOFError:
             self.workers.pop(connection).process.join()
             return
@@ -301,9 +339,9 @@ class Pool:
                 self.drop_later(worker.index)
         elif isinstance(content, NoRouteError):
             search.note_failure(content, placed)
-        search.note_partial(placed, content if isinstance(content, list) else [], worker.side)
+        search.note_partial(placed, content if isinstance(content, list) else [], side)
         if kind == "placed":
-            search.progress(worker.index + 1, worker.side, placed, search.outcome.total)
+            search.progress(worker.index + 1, side, placed, search.outcome.total)
 
     def drop_later(self, index: int) -> None:
         """Ends the attempts that come after one that succeeded."""

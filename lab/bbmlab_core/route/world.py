@@ -4,12 +4,14 @@ An item is a path of one ball, or a gate's cell. It claims a block at a time if 
 this time. Items that claim no block in common, and whose mirrors are in no touched cell of another item, run as they run
 alone: in each block at most one of them moves, and mirrors alone stay (Margolus 1984: a block changes by itself).
 
-Cells and blocks are numbers here, so that sets of them are quick. A path's blocks are ranges of such numbers.
+Cells and blocks are numbers here, so that sets of them are quick. A straight flight takes ranges of such numbers, and items keep the
+ranges: a ball that flies 1000 steps touches 3000 cells.
 """
 
-import itertools
+from array import array
 from dataclasses import dataclass
-from functools import cache
+from functools import cache, cached_property
+from itertools import chain
 from typing import Iterable
 
 from ..layouts import Cell
@@ -17,8 +19,9 @@ from .balls import BOUNCE_STEPS, Ball, Leg, Mirror, Turn, block_cells, bounce, m
 from .cells import GateCell
 
 # The number of a cell is its row times ROW plus its column, and that of a block at a time is STEP times the time plus its corner.
-ROW = 1 << 10
-STEP = 1 << 20
+ROW_BITS = 12
+ROW = 1 << ROW_BITS
+STEP = ROW * ROW
 # No ball comes nearer to the border than this many cells, and no mirror nearer than two cells less.
 MARGIN = 4
 # A certificate's boxes are squares of this side, or rectangles of such squares.
@@ -41,16 +44,40 @@ def number_cell(number: int) -> Cell:
 
 def tiles_of(cells: Iterable[int]) -> set[int]:
     """Returns the tiles of cells: the tile (i, j) is ROW times j plus i."""
-    return {(number >> 10 + TILE_BITS) * ROW + ((number & ROW - 1) >> TILE_BITS) for number in cells}
+    return {(number >> ROW_BITS + TILE_BITS) * ROW + ((number & ROW - 1) >> TILE_BITS) for number in cells}
 
 
-@dataclass
+# Numbers, as parts that are ranges or lists. Parts may share numbers.
+Parts = tuple[Iterable[int], ...]
+
+
+@dataclass(frozen=True)
 class Item:
-    """What a path or a gate's cell takes: numbers of mirror cells, of touched cells, and of blocks at times."""
+    """What a path or a gate's cell takes: numbers of mirror cells, and in parts those of touched cells and of blocks at times."""
 
-    mirrors: set[int]
-    touched: set[int]
-    claims: set[int]
+    mirrors: frozenset[int]
+    touched_parts: Parts = ()
+    claim_parts: Parts = ()
+
+    @property
+    def touched(self) -> set[int]:
+        """The touched cells."""
+        return set().union(*self.touched_parts)
+
+    @property
+    def claims(self) -> set[int]:
+        """The blocks at times."""
+        return set().union(*self.claim_parts)
+
+    @cached_property
+    def tiles(self) -> frozenset[int]:
+        """The tiles of touched cells and of mirrors."""
+        return frozenset(tiles_of(chain(self.mirrors, *self.touched_parts)))
+
+    @cached_property
+    def touched_tiles(self) -> frozenset[int]:
+        """The tiles of touched cells."""
+        return frozenset(tiles_of(chain(*self.touched_parts)))
 
 
 @dataclass(frozen=True)
@@ -88,8 +115,11 @@ def add_flight(ball: Ball, steps: int, claims: list[Iterable[int]], touched: lis
     claims.append(range(lead, lead + steps * step, step))
     tail = lead - 2 * along
     claims.append(range(tail, tail + steps * step, step))
+    # Two cells of a block are on the diagonal of the flight, where one block's first cell is the last one's second; two are beside it.
     first, last = corner - 2 * along, corner + steps * along
-    touched += [range(first + other, last + other, along) for other in (0, 1, ROW, ROW + 1)]
+    before, after = sorted((0, ROW + 1) if dx == dy else (1, ROW), reverse=along < 0)
+    touched.append(range(first + before, last + after, along))
+    touched += [range(first + other, last + other, along) for other in ((1, ROW) if dx == dy else (0, ROW + 1))]
 
 
 def path_item(ball: Ball, legs: Iterable[Leg], begun: int = 0) -> Item | None:
@@ -113,94 +143,95 @@ def path_item(ball: Ball, legs: Iterable[Leg], begun: int = 0) -> Item | None:
         touched.append([base + number for number in shape.touched])
         mirrors += [base + number for number in shape.mirror]
         ball, begun = bounce(ball, turn)[0], BOUNCE_STEPS
-    item = Item(set(mirrors), set().union(*touched), set().union(*claims))
-    return item if item.touched.isdisjoint(item.mirrors) else None
+    item = Item(frozenset(mirrors), tuple(touched), tuple(claims))
+    return item if all(item.mirrors.isdisjoint(part) for part in touched) else None
 
 
 def cell_item(cell: GateCell, x: int, y: int, time: int) -> Item:
     """Returns what a gate's cell takes at a place and a time."""
-    shape, base = cell_shape(cell), y * ROW + x
+    mirrors, touched, claims = cell_shape(cell)
+    base = y * ROW + x
     start = time * STEP + base
-    return Item({base + number for number in shape.mirrors}, {base + number for number in shape.touched},
-                {start + number for number in shape.claims})
+    return Item(frozenset(base + number for number in mirrors), (array("q", [base + number for number in touched]),),
+                (array("q", [start + number for number in claims]),))
 
 
-_shapes: dict[int, Item] = {}
+# The numbers of mirrors, touched cells and blocks at times of each cell of the library, which lives as long as the process.
+_shapes: dict[int, tuple[list[int], list[int], list[int]]] = {}
 
 
-def cell_shape(cell: GateCell) -> Item:
-    """Returns what a gate's cell takes at place and time 0. The cells of the library live as long as the process."""
+def cell_shape(cell: GateCell) -> tuple[list[int], list[int], list[int]]:
+    """Returns what a gate's cell takes at place and time 0."""
     shape = _shapes.get(id(cell))
     if shape is None:
         claims = {time * STEP + cell_number(corner) for time, corners in enumerate(cell.blocks) for corner in corners}
-        shape = Item({cell_number(own) for own in cell.mirrors}, {cell_number(own) for own in cell.touched}, claims)
+        shape = [cell_number(own) for own in cell.mirrors], [cell_number(own) for own in cell.touched], list(claims)
         _shapes[id(cell)] = shape
     return shape
 
 
 class World:
-    """A square of cells with the items on it. Rows and diagonals of cells are bits of numbers."""
+    """A square of cells with the items on it, which can grow. Rows and diagonals of cells are bits of numbers."""
 
     def __init__(self, size: int) -> None:
         self.size = size
         self.claims: set[int] = set()
         self.mirrors: set[int] = set()
-        # How many items touch a cell or have a mirror there, and the same cells as bits of rows: no new mirror may be there.
-        self.counts: dict[int, int] = {}
-        self.blocked = [0] * (size + 8)
-        # The mirrors by falling diagonals (y - x + size) and rising ones (y + x), as bits of x; and so the blocked cells.
-        self.mirror_falling, self.mirror_rising = [0] * (2 * size + 8), [0] * (2 * size + 8)
-        self.blocked_falling, self.blocked_rising = [0] * (2 * size + 8), [0] * (2 * size + 8)
+        # How many parts of items touch a cell or have a mirror there, and the same cells as bits of rows: no new mirror may be there.
+        self.counts = array("H", bytes(2 * ROW * size))
+        self.blocked = [0] * (ROW + 8)
+        # The mirrors by falling diagonals (y - x + ROW) and rising ones (y + x), as bits of x; and so the blocked cells.
+        self.mirror_falling, self.mirror_rising = [0] * (2 * ROW + 8), [0] * (2 * ROW + 8)
+        self.blocked_falling, self.blocked_rising = [0] * (2 * ROW + 8), [0] * (2 * ROW + 8)
+
+    def grow(self, cells: int) -> None:
+        """Adds columns at the right and rows below. What is there stays."""
+        self.size += cells
+        self.counts.frombytes(bytes(2 * ROW * cells))
 
     def add(self, item: Item) -> None:
         """Adds an item."""
-        self.claims |= item.claims
+        self.claims.update(*item.claim_parts)
         self.mirrors |= item.mirrors
         for number in item.mirrors:
             self._flip(number, self.mirror_falling, self.mirror_rising)
-        counts, size, bits = self.counts, self.size, BITS
-        rows, falling, rising = self.blocked, self.blocked_falling, self.blocked_rising
-        for number in itertools.chain(item.touched, item.mirrors):
-            if number in counts:
-                counts[number] += 1
-            else:
-                counts[number] = 1
-                x, y = number & 1023, number >> 10
+        counts, bits, rows, falling, rising = self.counts, BITS, self.blocked, self.blocked_falling, self.blocked_rising
+        for number in chain(item.mirrors, *item.touched_parts):
+            counts[number] += 1
+            if counts[number] == 1:
+                x, y = number & ROW - 1, number >> ROW_BITS
                 bit = bits[x]
                 rows[y] |= bit
-                falling[y - x + size] |= bit
+                falling[y - x + ROW] |= bit
                 rising[y + x] |= bit
 
     def remove(self, item: Item) -> None:
-        """Removes an item that was added."""
-        self.claims -= item.claims
+        """Removes an item."""
+        self.claims.difference_update(*item.claim_parts)
         self.mirrors -= item.mirrors
         for number in item.mirrors:
             self._flip(number, self.mirror_falling, self.mirror_rising)
-        counts, size, bits = self.counts, self.size, BITS
-        rows, falling, rising = self.blocked, self.blocked_falling, self.blocked_rising
-        for number in itertools.chain(item.touched, item.mirrors):
-            count = counts[number]
-            if count > 1:
-                counts[number] = count - 1
-            else:
-                del counts[number]
-                x, y = number & 1023, number >> 10
+        counts, bits, rows, falling, rising = self.counts, BITS, self.blocked, self.blocked_falling, self.blocked_rising
+        for number in chain(item.mirrors, *item.touched_parts):
+            counts[number] -= 1
+            if counts[number] == 0:
+                x, y = number & ROW - 1, number >> ROW_BITS
                 bit = bits[x]
                 rows[y] ^= bit
-                falling[y - x + size] ^= bit
+                falling[y - x + ROW] ^= bit
                 rising[y + x] ^= bit
 
     def _flip(self, number: int, falling: list[int], rising: list[int]) -> None:
         """Adds a cell to the diagonals, or takes it away."""
-        x, y = number & ROW - 1, number >> 10
-        falling[y - x + self.size] ^= 1 << x
+        x, y = number & ROW - 1, number >> ROW_BITS
+        falling[y - x + ROW] ^= 1 << x
         rising[y + x] ^= 1 << x
 
     def fits(self, item: Item) -> bool:
         """Whether an item may be added: it meets nothing that is there, neither in space nor in time."""
-        return (self.mirrors.isdisjoint(item.touched) and self.counts.keys().isdisjoint(item.mirrors)
-                and self.claims.isdisjoint(item.claims))
+        counts, mirrors, claims = self.counts, self.mirrors, self.claims
+        return (not any(counts[number] for number in item.mirrors) and all(mirrors.isdisjoint(part) for part in item.touched_parts)
+                and all(claims.isdisjoint(part) for part in item.claim_parts))
 
     def is_inside(self, x: int, y: int) -> bool:
         """Whether a ball may be at a cell."""
@@ -226,7 +257,7 @@ class World:
         if most <= 0:
             return 0
         if dx == dy:
-            line, lines = y - x + self.size, self.mirror_falling
+            line, lines = y - x + ROW, self.mirror_falling
         else:
             line, lines = y + x, self.mirror_rising
         bits = lines[line - 1] | lines[line] | lines[line + 1]
@@ -244,7 +275,7 @@ class World:
         low, high = (x, x + steps) if dx > 0 else (x - steps, x)
         mask = (1 << high - low + 1) - 1
         if dx == dy:
-            line, lines = y - x + self.size, self.blocked_falling
+            line, lines = y - x + ROW, self.blocked_falling
         else:
             line, lines = y + x, self.blocked_rising
         taken = ((lines[line - 1] >> low & mask).bit_count() + (lines[line] >> low & mask).bit_count()

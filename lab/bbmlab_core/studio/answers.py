@@ -9,13 +9,12 @@ from .. import json_form, standard_cells
 from ..documents import read_document
 from ..program import HERE, ProgramError
 from ..refusals import explain_refusal
-from ..releases import program_at
-from ..spelling import spelled
+from ..releases import program_of
+from ..spelling import source_line, spelled
 from ..terminal import LabError
 from .folder import ChangedError, Folder, FolderError, bytes_of, digest_of, text_of
 from .guard import Denied
 from .jobs import Jobs
-from .verdicts import source_line
 
 # The folders of the examples, in a clone and in an installation.
 EXAMPLES = [HERE.parent.parent / "examples", HERE.parent.parent.parent / "share" / "doc" / "bbmcheck" / "examples"]
@@ -76,8 +75,8 @@ class Answers:
         try:
             if self.jobs is None:
                 raise ProgramError("it was not found")
-            asked = program_at(self.jobs.program)
-            program = {"path": self.jobs.program, "version": asked.version, "sha256": asked.sha256, "is_release": asked.kit is not None}
+            asked = program_of(self.jobs.program)
+            program = {"path": self.jobs.program.path, "version": asked.version, "sha256": asked.sha256, "is_release": asked.kit is not None}
         except ProgramError as error:
             program = {"path": None, "why": str(error)}
         opened = self.open({"name": self.folder.name})

@@ -2,16 +2,29 @@
 "use strict";
 
 {
+  const { limits } = bbmlab;
   const NAME = /^[a-z][a-z0-9_]{0,31}$/;
   // The numbers of wires that a gate uses and defines (docs/FORMATS.md).
   const SIZES = { source: [0, 1], fredkin: [3, 3], cswap: [3, 3], interact: [2, 4], switch: [2, 3], delay: [1, 1], unswitch: [3, 2], uninteract: [4, 2] };
   const ORDER = ["circuit", "input", "gate", "output", "spill", "end"];
 
-  /** Returns the words of a line, without a comment and leading zeros, as `spelling.py` reads them. */
+  /**
+   * Returns the words of a line, without a comment and leading zeros, by the rules of `free_words` in `spelling.py`: a line ends with LF or CR LF,
+   * and words are parted by spaces and tabs.
+   */
   const wordsOf = (line) => {
-    const code = line.split("#")[0].replaceAll("->", " -> ").trim();
-    return code === "" ? [] : code.split(/\s+/).map((word) => (/^\d+$/.test(word) ? word.replace(/^0+(?=\d)/, "") : word));
+    const [code] = (line.endsWith("\r") ? line.slice(0, -1) : line).split("#");
+    return code.replaceAll("->", " -> ").split(/[ \t]+/).filter((word) => word !== "").map((word) => (/^[0-9]+$/.test(word) ? word.replace(/^0+(?=[0-9])/, "") : word));
   };
+
+  /** Returns a text without the byte order mark with which it begins. */
+  const unmarked = (text) => (text.startsWith("\ufeff") ? text.slice(1) : text);
+
+  /** Returns the words of each line of a text that has any, and the limits by the first of them, which is left out if it is a line of limits. */
+  function textLines(text) {
+    const lines = unmarked(text).split("\n").map(wordsOf).filter((words) => words.length), own = limits.limitsOf(lines[0] || []);
+    return { lines: own.line ? lines.slice(1) : lines, limits: own };
+  }
 
   /** Returns the gate that words name, or null. */
   function gateOf(words) {
@@ -45,9 +58,18 @@
    * @returns {{inputs: string[], gates: Gate[], outputs: string[], spills: string[], names: Set<string>, isWhole: boolean}}
    */
   function read(text) {
-    const circuit = { inputs: [], gates: [], outputs: [], spills: [] }, known = new Set(), lines = text.split("\n").map(wordsOf).filter((words) => words.length);
+    const circuit = { inputs: [], gates: [], outputs: [], spills: [] }, known = new Set(), { lines } = textLines(text);
     const isWhole = lines.length > 0 && lines[0][0] === "circuit" && lines.map((words) => addLine(circuit, known, words)).every(Boolean);
     return { ...circuit, names: known, isWhole };
+  }
+
+  /** Returns the line of a gate. */
+  const gateLine = ({ gate, parameter, ins, outs }) => [gate, ...(parameter === null ? [] : [parameter]), ...ins, "->", ...outs].join(" ");
+
+  /** Returns the lines of a circuit in the one spelling. */
+  function linesOf({ inputs, gates, outputs, spills }) {
+    return ["circuit", ...inputs.map((name) => `input ${name}`), ...gates.map(gateLine), ...outputs.map((name) => `output ${name}`),
+      ...spills.map((name) => `spill ${name}`), "end"];
   }
 
   /** Returns a new name for each wire of some lines: its own, unless it is taken. */
@@ -81,5 +103,5 @@
     rows.splice(0, count, ...head);
   }
 
-  bbmlab.circuitText = { read, freshNames, join, wordsOf };
+  bbmlab.circuitText = { read, freshNames, join, wordsOf, unmarked, linesOf, textLines };
 }

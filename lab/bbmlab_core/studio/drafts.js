@@ -1,17 +1,13 @@
 /**
- * Keeps drafts in the browser: a draft for each file and tab. A draft whose tab is still open is not offered to other tabs: an open tab
- * holds a lock with its name. Adds `bbmlab.drafts`.
+ * Keeps drafts in the browser: a draft for each file and tab, with the digest of the file from which it began. A draft whose tab is still open
+ * is not offered to other tabs: an open tab holds a lock with its number. Adds `bbmlab.drafts`.
  */
 "use strict";
 
 {
   const { server } = bbmlab;
   const PREFIX = "bbmlab draft ";
-  const lockOf = (tab) => `bbmlab tab ${tab}`;
   const keyOf = (folder, name, tab) => `${PREFIX}${JSON.stringify([folder, name, tab])}`;
-
-  // The lock is held until the tab is closed.
-  if (navigator.locks) navigator.locks.request(lockOf(server.tab), () => new Promise(() => {}));
 
   /** Keeps a draft. Returns false if the browser has no room. */
   function keep(folder, name, text, digest) {
@@ -35,6 +31,11 @@
     if (JSON.parse(draft).text !== saved) localStorage.setItem(keyOf(folder, name, crypto.randomUUID()), draft);
   }
 
+  /** Forgets the drafts that began from the file with a digest, which was written over. Those of other open tabs stay, for them to ask about. */
+  async function forgetReplaced(folder, name, digest) {
+    for (const draft of await found(folder, name)) if (draft.digest === digest) forget(folder, name, draft.tab);
+  }
+
   /** Returns the drafts of a file that no other open tab is working on, the newest first. */
   async function found(folder, name) {
     const held = navigator.locks ? (await navigator.locks.query()).held.map((lock) => lock.name) : [];
@@ -44,12 +45,12 @@
       if (!key.startsWith(PREFIX)) continue;
       try {
         const [place, file, tab] = JSON.parse(key.slice(PREFIX.length)), draft = JSON.parse(localStorage.getItem(key));
-        const isOther = tab !== server.tab && held.includes(lockOf(tab));
+        const isOther = tab !== server.tab && held.includes(server.lockOf(tab));
         if (place === folder && file === name && !isOther && typeof draft.text === "string") drafts.push({ ...draft, tab });
       } catch { /* Somebody else's entry. */ }
     }
     return drafts.sort((one, other) => other.at - one.at);
   }
 
-  bbmlab.drafts = { keep, forget, setAside, found };
+  bbmlab.drafts = { keep, forget, forgetReplaced, setAside, found };
 }

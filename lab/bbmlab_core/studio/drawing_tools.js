@@ -15,7 +15,7 @@
   class Tools {
     /** @param {bbmlab.Desk} desk @param {bbmlab.Sketch} sketch @param {(text: string, isBad?: boolean) => void} say */
     constructor(desk, sketch, say) {
-      Object.assign(this, { desk, sketch, say, name: "mirror", wire: "a", isPair: true, cell: null, hasWires: true });
+      Object.assign(this, { desk, sketch, say, name: "mirror", wire: "a", isPair: true, cell: null, hasWires: true, askLarger: async () => false });
       Object.assign(this, { selection: new Set(), clipboard: [], pressed: null, at: null });
     }
 
@@ -127,7 +127,7 @@
       const { layout, ports, name } = this.cell, [x, y] = this.cornerFor(cell, this.cell), steps = Math.max(layout.steps, this.steps);
       const parts = cellParts(layout, x, y, this.hasWires ? (wire) => wire : null, steps);
       const isFit = layout.width <= this.desk.layout.width && layout.height <= this.desk.layout.height;
-      const reason = isFit ? this.model.whyNot(parts) : `The cell ${name} takes ${layout.width} by ${layout.height} cells: make the layout larger.`;
+      const reason = isFit ? this.model.whyNot(parts) : `The cell ${name} takes ${layout.width} by ${layout.height} cells. Press to make the layout larger.`;
       const shown = ports.map((port) => ({ ...port, cell: [port.cell[0] + x, port.cell[1] + y] }));
       this.show({ parts, reason, ports: shown, words: `${name} ${this.cell.about}; ${layout.steps} steps.` });
     }
@@ -177,10 +177,15 @@
       this.sketch.paintOver();
     }
 
-    /** Puts the standard cell at a place. */
-    placeCell(cell) {
+    /** Puts the standard cell at a place. If it is larger than the layout, asks first whether to make the layout larger. */
+    async placeCell(cell) {
       if (!this.cell) return;
-      const { layout, circuit } = this.cell;
+      const { layout, circuit, name } = this.cell, { width, height, steps } = this.desk.layout;
+      const size = [Math.max(width, layout.width), Math.max(height, layout.height)];
+      if (size[0] > width || size[1] > height) {
+        const isLarger = await this.askLarger(`The cell ${name} takes ${layout.width} by ${layout.height} cells, and the layout has ${width} by ${height}.`, size);
+        if (!isLarger || !this.attempt(() => this.model.resize(...size, steps))) return;
+      }
       this.attempt(() => this.model.insertCell({ layout, circuit }, ...this.cornerFor(cell, this.cell), this.hasWires));
     }
 

@@ -28,6 +28,7 @@
       for (const [id, action] of [["save", () => this.save()], ["open", () => this.chooseFile()], ["new", () => this.chooseTemplate()],
         ["export", () => this.chooseExport()]]) element(id).addEventListener("click", action);
       addEventListener("beforeunload", (event) => { this.keepDraft(); if (this.isChanged) event.preventDefault(); });
+      server.draftWords = () => this.draftWords();
     }
 
     /** Whether the text differs from the file. */
@@ -59,11 +60,20 @@
 
     // ---- drafts
 
-    /** Keeps the text in the browser while it differs from the file. */
+    /** Keeps the text in the browser while it differs from the file. Returns whether it is kept. */
     keepDraft() {
-      if (this.saved === null) return;
-      if (!this.isChanged) drafts.forget(this.folder, this.name);
-      else if (!drafts.keep(this.folder, this.name, this.desk.model.text, this.digest)) this.say("The browser has no room for a draft: save the file.", true);
+      if (this.saved === null) return false;
+      if (!this.isChanged) { drafts.forget(this.folder, this.name); return false; }
+      if (drafts.keep(this.folder, this.name, this.desk.model.text, this.digest)) return true;
+      this.say("The browser has no room for a draft: save the file.", true);
+      return false;
+    }
+
+    /** Says what becomes of the text if the server does not answer. */
+    draftWords() {
+      const isKept = this.keepDraft();
+      if (!this.isChanged) return "";
+      return isKept ? "Your draft is kept in this browser. " : "Your text is not kept in this browser, so copy it before you close the page. ";
     }
 
     /** Offers the newest draft that differs from the file. */
@@ -72,8 +82,15 @@
       if (!draft || opened !== this.opened) return;
       this.hasOffer = true;
       const forget = () => { this.hasOffer = false; drafts.forget(folder, name, draft.tab); };
-      notice(`There is a draft of ${name} from ${new Date(draft.at).toLocaleString()} that was not saved. `, [
-        ["take the draft", () => { forget(); this.desk.model.setText(draft.text, "draft"); }], ["throw it away", forget]]);
+      const what = draft.digest === this.digest ? "that was not saved" : "that began from another version of the file, which was written since";
+      notice(`There is a draft of ${name} from ${new Date(draft.at).toLocaleString()} ${what}. `, [
+        ["take the draft", () => { forget(); this.takeDraft(draft); }], ["throw it away", forget]]);
+    }
+
+    /** Takes the text of a draft. It goes on from the version of the file from which the draft began, so that saving it asks about a newer one. */
+    takeDraft({ text, digest }) {
+      this.digest = digest;
+      this.desk.model.setText(text, "draft");
     }
 
     // ---- save
@@ -107,11 +124,17 @@
       const answer = await server.request("save", { name, text, digest: name === this.name ? this.digest : null, force: isForced });
       if (answer.changed && opened === this.opened) { this.askAboutChange(name, answer); return; }
       if (answer.error) { this.say(answer.error, true); return; }
-      const old = this.name;
+      const { name: old, digest } = this;
       // If another file was opened meanwhile, the page shows that one.
       if (opened !== this.opened) return;
       Object.assign(this, { name, digest: answer.digest, saved: text });
-      if (old !== name) drafts.forget(this.folder, old);
+      drafts.forget(this.folder, old);
+      if (old === name) {
+        if (this.hasOffer) notice("");
+        this.hasOffer = false;
+        await drafts.forgetReplaced(this.folder, name, digest);
+        if (opened !== this.opened) return;
+      }
       this.keepDraft();
       this.showName();
       this.say(`Saved ${name}.`);

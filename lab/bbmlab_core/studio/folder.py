@@ -7,11 +7,13 @@ import stat
 import threading
 from pathlib import Path
 
-from ..lines import MAX_TEXT_BYTES
-from ..terminal import replace_file
+from ..limits import FIRST
+from ..replacing import ChangedFileError, replace_file
 
 # A name of a file of the folder: no path, no hidden file, no control character.
 FILE_NAME = re.compile(r"[^./\\\x00-\x1f\x7f][^/\\\x00-\x1f\x7f]{0,200}\.txt\Z")
+# A browser and the requests of its page take no longer texts, whatever their first line says.
+MAX_FILE_BYTES = FIRST.max_bytes
 
 
 class FolderError(Exception):
@@ -80,12 +82,12 @@ class Folder:
             with open(os.open(path, os.O_RDONLY | os.O_NOFOLLOW | os.O_NONBLOCK), "rb") as file:
                 if not stat.S_ISREG(os.fstat(file.fileno()).st_mode):
                     raise FolderError(f"{name} is no plain file")
-                data = file.read(MAX_TEXT_BYTES + 1)
+                data = file.read(MAX_FILE_BYTES + 1)
         except FileNotFoundError:
             return None
         except OSError as error:
             raise FolderError(f"{name}: {error.strerror or error}") from error
-        if len(data) > MAX_TEXT_BYTES:
+        if len(data) > MAX_FILE_BYTES:
             raise FolderError(f"{name} is larger than 16 MiB")
         return data
 
@@ -101,7 +103,10 @@ class Folder:
             if now != known and now != digest_of(data) and not is_forced:
                 raise ChangedError(f"{name} {'is missing now' if now is None else 'changed meanwhile' if known else 'exists already'}", now)
             try:
-                replace_file(str(path), data)
+                replace_file(str(path), data, None if is_forced else old, follows=False)
+            except ChangedFileError as error:
+                os.unlink(error.kept)
+                raise ChangedError(f"{name} changed meanwhile", None) from error
             except OSError as error:
                 raise FolderError(f"{name}: {error.strerror or error}") from error
         return digest_of(data)

@@ -6,8 +6,8 @@
 "use strict";
 
 {
-  const { keyOf } = bbmlab;
-  const MAX_SIDE = 512;
+  // The number of a cell that is at most two outside a layout.
+  const keyOf = (x, y) => (y + 2) * 8192 + x + 2;
 
   /** Whether a mirror by itself stays as it is: its sides are even, and its upper left cell has exactly one odd coordinate. */
   const stays = ([x, y, w, h]) => w % 2 === 0 && h % 2 === 0 && (x + y) % 2 === 1;
@@ -109,5 +109,5 @@
     });
   }
 
-  bbmlab.geometry = { MAX_SIDE, stays, fallReason, snapMirror, direction, pairCells, fallingMirrors, evenFrame, turned, moved, snapMove, followed };
+  bbmlab.geometry = { stays, fallReason, snapMirror, direction, pairCells, fallingMirrors, evenFrame, turned, moved, snapMove, followed };
 }

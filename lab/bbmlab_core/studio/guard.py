@@ -1,10 +1,16 @@
-"""Which requests the studio answers: those of its own page, with the secret, and not too long."""
+"""Which requests the studio answers: those of its own page, with the key, and not too long.
+
+The page gets the key for a token that counts once, and keeps it where only pages of this address find it. Neither stands in the arguments of a
+process, which all users of a machine can list, and no request's address contains it.
+"""
 
 import hmac
-from dataclasses import dataclass
+import secrets
+import threading
 from email.message import Message
 
 MAX_REQUEST_BYTES = 16_777_216
+KEY_HEADER = "X-Bbmlab-Key"
 
 
 class Denied(Exception):
@@ -15,37 +21,58 @@ class Denied(Exception):
         self.status, self.why = status, why
 
 
-@dataclass(frozen=True)
+def is_same(word: str, secret: str) -> bool:
+    """Whether a word is a secret, in a time that does not depend on where it differs."""
+    return hmac.compare_digest(word.encode("utf-8", "replace"), secret.encode())
+
+
 class Guard:
-    """Compares requests with the address of the server and its secret."""
+    """Compares requests with the address of the server, its key, and the token that is next."""
 
-    host: str
-    secret: str
+    def __init__(self, host: str) -> None:
+        self.host, self.key, self.token = host, secrets.token_urlsafe(24), secrets.token_urlsafe(24)
+        self.lock = threading.Lock()
 
-    def path_behind_secret(self, path: str) -> str:
-        """Returns a request's path behind the secret, without a query. Raises Denied if the secret is missing or wrong."""
-        parts = path.split("?")[0].split("/", 2)
-        if len(parts) != 3 or parts[0] or not hmac.compare_digest(parts[1].encode("utf-8", "replace"), self.secret.encode()):
-            raise Denied(403, "the address lacks the secret of this studio")
-        return parts[2]
+    @property
+    def address(self) -> str:
+        """The address that lets one browser in. Browsers send no request with what is behind `#`."""
+        return f"http://{self.host}/#{self.token}"
 
-    def require_own_page(self, headers: Message, is_post: bool) -> None:
-        """Raises Denied if a request names another host, as after DNS rebinding, or comes from a page of elsewhere."""
+    def key_for(self, token: str) -> str:
+        """Returns the key for the token, which then no longer counts: another one is next. Raises Denied for any other word."""
+        with self.lock:
+            if not is_same(token, self.token):
+                raise Denied(403, "this address was used already, or it is of another studio: `bbmlab studio` prints the next one")
+            self.token = secrets.token_urlsafe(24)
+        return self.key
+
+    def require_key(self, headers: Message) -> None:
+        """Raises Denied if a request does not carry the key."""
+        words: list[str] = headers.get_all(KEY_HEADER, [])
+        if len(words) != 1 or not is_same(words[0], self.key):
+            raise Denied(403, "open the address that `bbmlab studio` printed last")
+
+    def require_own_page(self, headers: Message, is_post: bool, is_first: bool = False) -> None:
+        """Raises Denied if a request names another host, as after DNS rebinding, or comes from a page of elsewhere.
+
+        `is_first`: any page may lead to this one, if the browser shows it by itself.
+        """
         if headers.get_all("Host", []) != [self.host]:
             raise Denied(403, "the request is meant for another host")
         origins: list[str] = headers.get_all("Origin", [])
         if origins != [f"http://{self.host}"] and (origins or is_post):
             raise Denied(403, "the request comes from another page")
-        if headers.get("Sec-Fetch-Site", "same-origin") not in ("same-origin", "none"):
+        is_shown = is_first and (headers.get("Sec-Fetch-Mode"), headers.get("Sec-Fetch-Dest")) == ("navigate", "document")
+        if headers.get("Sec-Fetch-Site", "same-origin") not in ("same-origin", "none") and not is_shown:
             raise Denied(403, "the request comes from another page")
         if is_post and headers.get("Content-Type", "").split(";")[0].strip() != "application/json":
             raise Denied(415, "a request is JSON")
 
-    def body_length(self, headers: Message) -> int:
+    def body_length(self, headers: Message, most: int = MAX_REQUEST_BYTES) -> int:
         """Returns the length of a request's body. Raises Denied if it is missing or too large."""
         word = headers.get("Content-Length", "")
         if headers.get("Transfer-Encoding") or not (word.isascii() and word.isdecimal() and len(word) <= 18):
             raise Denied(411, "the request does not say how long it is")
-        if int(word) > MAX_REQUEST_BYTES:
-            raise Denied(413, "the request is over 16 MiB")
+        if int(word) > most:
+            raise Denied(413, "the request is over 16 MiB" if most == MAX_REQUEST_BYTES else "this is no token")
         return int(word)

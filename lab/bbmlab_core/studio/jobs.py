@@ -11,6 +11,8 @@ import time
 from pathlib import Path
 from typing import Any
 
+from ..program import Executable, opened
+
 PACKAGE_PARENT = Path(__file__).resolve().parents[2]
 # How many seconds more than the program's limit a job may take, and how many a process may take to end.
 MORE_SECONDS, END_SECONDS = 10.0, 2.0
@@ -19,12 +21,17 @@ MORE_SECONDS, END_SECONDS = 10.0, 2.0
 class Worker:
     """A process that answers jobs."""
 
-    def __init__(self, program: str, seconds: float, memory: int) -> None:
-        words = [sys.executable, "-B", "-m", "bbmlab_core.studio.worker", program, str(seconds), str(memory)]
+    def __init__(self, program: Executable | str, seconds: float, memory: int) -> None:
+        self.program = program = opened(program)
+        # Compiled modules are kept where this process keeps its own.
+        compiled = ["-X", f"pycache_prefix={sys.pycache_prefix}"] if sys.pycache_prefix and not sys.dont_write_bytecode else ["-B"]
+        words = [sys.executable, *compiled, "-m", "bbmlab_core.studio.worker", program.path, str(program.descriptor), program.sha256, str(seconds), str(memory)]
         path = os.pathsep.join([str(PACKAGE_PARENT), *filter(None, [os.environ.get("PYTHONPATH")])])
-        self.process = subprocess.Popen(words, stdin=subprocess.PIPE, stdout=subprocess.PIPE, start_new_session=True,
+        self.process = subprocess.Popen(words, stdin=subprocess.PIPE, stdout=subprocess.PIPE, start_new_session=True, pass_fds=[program.descriptor],
                                         env={**os.environ, "PYTHONPATH": path})
         self.is_ended = False
+        # Whether the time for an answer was over.
+        self.is_late = False
 
     def answer(self, job: dict[str, Any], seconds: float) -> dict[str, Any] | None:
         """Returns the answer to a job, or None if the process ended or the time is over."""
@@ -39,6 +46,7 @@ class Worker:
             ready, _, _ = select.select([output], [], [], max(0.0, until - time.monotonic()))
             part = os.read(output, 1 << 20) if ready else b""
             if not part:
+                self.is_late = not ready
                 return None
             found += part
         answer: dict[str, Any] = json.loads(found)
@@ -54,6 +62,16 @@ class Worker:
             self.process.kill()
             self.process.wait()
 
+    def how_ended(self) -> str:
+        """Says how the process ended, or that it is still there."""
+        try:
+            status = self.process.wait(END_SECONDS)
+        except subprocess.TimeoutExpired:
+            return "the lab's process closed its output"
+        if status < 0:
+            return f"the lab's process was ended by {signal.Signals(-status).name if -status in set(signal.Signals) else f'signal {-status}'}"
+        return f"the lab's process ended with status {status}, and standard error of `bbmlab studio` may say why"
+
     def release(self) -> None:
         """Closes the pipes. Only the thread that waits for an answer may do so: another one could be given the number of a closed pipe."""
         for stream in (self.process.stdin, self.process.stdout):
@@ -67,8 +85,8 @@ class Worker:
 class Jobs:
     """The jobs of all tabs. A tab's newer job ends its older one; jobs of other tabs wait."""
 
-    def __init__(self, program: str, seconds: float, memory: int) -> None:
-        self.program, self.seconds, self.memory = program, seconds, memory
+    def __init__(self, program: Executable | str, seconds: float, memory: int) -> None:
+        self.program, self.seconds, self.memory = opened(program), seconds, memory
         self.turn, self.lock = threading.Lock(), threading.Lock()
         self.newest: dict[str, int] = {}
         self.count = 0
@@ -112,11 +130,12 @@ class Jobs:
     def ended(self, worker: Worker, tab: str, ticket: int) -> dict[str, Any]:
         """Ends a process that gave no answer, and says why there is none."""
         was_replaced = worker.is_ended or self.newest[tab] != ticket
+        ended = "" if was_replaced or worker.is_late else worker.how_ended()
         worker.end()
         worker.release()
         if was_replaced:
             return {"replaced": True}
-        return {"error": f"There is no answer: the time limit of {self.seconds:g} seconds or the memory limit of {self.memory} MiB was reached."}
+        return {"error": f"There is no answer: the time limit of {self.seconds:g} seconds was reached." if worker.is_late else f"There is no answer: {ended}."}
 
     def close(self) -> None:
         """Ends the process. No job runs later."""

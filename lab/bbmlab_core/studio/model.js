@@ -7,18 +7,17 @@
 "use strict";
 
 {
-  const { circuitText, geometry } = bbmlab, { wordsOf } = circuitText;
+  const { circuitText, geometry, limits } = bbmlab, { wordsOf, unmarked } = circuitText;
   const KINDS = ["mirror", "ball", "in", "out", "waste"];
   const FORMS = { mirror: 4, ball: 2, in: 2, out: 2, waste: 2 };
   const NAME = /^[a-z][a-z0-9_]{0,31}$/, NUMBER = /^(0|[1-9][0-9]{0,8})$/;
-  const LINE = /^(\s*)([^#]*?)(\s*(?:#.*)?)$/s;
-  const MAX_STEPS = 65536;
+  const LINE = /^(\ufeff?[ \t]*)([^#]*?)([ \t]*(?:#.*)?\r?)$/s;
 
   /** A command that cannot be done. The message is for the user. */
   class Refusal extends Error {}
 
   /** Returns the first word of a line, without a comment. */
-  const firstWord = (line) => { const found = /^\s*([^\s#]+)/.exec(line); return found ? found[1] : ""; };
+  const firstWord = (line) => wordsOf(line)[0] ?? "";
 
   // The parts of the lines that were read, since an edit changes few of many lines.
   const knownParts = new Map(), MAX_KNOWN = 200000;
@@ -107,13 +106,15 @@
 
     /** Reads the lines: where the layout begins and ends, its header and its parts, and the circuit. Each time these are new objects. */
     read() {
-      const start = this.lines.findIndex((line) => line.includes("layout") && firstWord(line) === "layout");
-      const end = start < 0 ? -1 : this.lines.findIndex((line, index) => index > start && ["end", "certificate"].includes(firstWord(line)));
+      const start = this.lines.findIndex((line, index) => line.includes("layout") && firstWord(index ? line : unmarked(line)) === "layout");
+      const end = start < 0 ? -1 : this.lines.findIndex((line, index) => index > start && /end|certificate/.test(line) && ["end", "certificate"].includes(firstWord(line)));
       const isClosed = end >= 0 && firstWord(this.lines[end]) === "end";
       this.start = start;
       // The line behind the parts, and the first line that is no longer of the layout.
       this.end = start < 0 ? this.lines.length : end < 0 ? this.lines.length - Number(this.lines.at(-1) === "") : end;
       this.after = this.end + Number(isClosed);
+      // The first lines of a long text are those of its circuit, so the first line with words is near.
+      this.limits = limits.limitsOf(wordsOf(unmarked(this.lines.find((line) => wordsOf(unmarked(line)).length > 0) || "")));
       this.parts = [];
       this.filed = null;
       for (let line = start + 1; start >= 0 && line < this.end; line += 1) {
@@ -128,10 +129,10 @@
 
     /** Returns the size and the steps of the layout, or null if they are no numbers within the limits. */
     readHeader() {
-      const words = this.start < 0 ? [] : wordsOf(this.lines[this.start]);
+      const words = this.start < 0 ? [] : wordsOf(this.start ? this.lines[this.start] : unmarked(this.lines[0]));
       if (words.length !== 4 || !words.slice(1).every((word) => NUMBER.test(word))) return null;
-      const [width, height, steps] = words.slice(1).map(Number), isSide = (side) => side % 2 === 0 && side >= 2 && side <= geometry.MAX_SIDE;
-      return isSide(width) && isSide(height) && steps <= MAX_STEPS ? { width, height, steps } : null;
+      const [width, height, steps] = words.slice(1).map(Number), isSide = (side) => side % 2 === 0 && side >= 2 && side <= this.limits.maxSide;
+      return isSide(width) && isSide(height) && steps <= this.limits.maxSteps ? { width, height, steps } : null;
     }
 
     /** Returns the layout for the engine, with the parts that lie in the rectangle. */
@@ -141,6 +142,18 @@
       const ports = (kind) => inside.filter((part) => part.kind === kind).map(({ name, box }) => ({ name, cell: [box[0], box[1]] }));
       return { ...this.header, mirrors: inside.filter(({ kind }) => kind === "mirror").map(({ box }) => box), balls: cells("ball"),
         ins: ports("in"), outs: ports("out"), wastes: cells("waste") };
+    }
+
+    /**
+     * The text of the circuit and the layout as they are drawn, in the one spelling. A verdict is of this picture only if the program read this
+     * text. Null if the circuit cannot be read.
+     */
+    get drawnText() {
+      const { layout, circuit } = this;
+      if (layout === null || !circuit.isWhole) return null;
+      const parts = [...layout.mirrors.map((box) => ["mirror", ...box]), ...layout.balls.map((cell) => ["ball", ...cell]), ...layout.ins.map(({ name, cell }) => ["in", name, ...cell]),
+        ...layout.outs.map(({ name, cell }) => ["out", name, ...cell]), ...layout.wastes.map((cell) => ["waste", ...cell])];
+      return [...(this.limits.line ? [this.limits.line] : []), ...circuitText.linesOf(circuit), `layout ${layout.width} ${layout.height} ${layout.steps}`, ...parts.map((words) => words.join(" ")), "end", ""].join("\n");
     }
 
     /** The lines before the layout, which hold the circuit. */
@@ -257,7 +270,7 @@
     rows() {
       if (!this.filed) {
         this.filed = new Map();
-        for (const part of this.parts) if (part.box[1] + part.box[3] <= geometry.MAX_SIDE) fileByRows(this.filed, part);
+        for (const part of this.parts) if (part.box[1] + part.box[3] <= this.limits.maxSide) fileByRows(this.filed, part);
       }
       return this.filed;
     }
@@ -280,7 +293,7 @@
     addCells(parts) {
       this.require(parts);
       const { kind, name } = parts[0], { names, inputs, outputs, spills, gates, isWhole } = this.circuit, lines = [];
-      const used = new Set([...outputs, ...spills, ...gates.flatMap(({ ins }) => ins)]), isRead = isWhole || this.headText.trim() === "";
+      const used = new Set([...outputs, ...spills, ...gates.flatMap(({ ins }) => ins)]), isRead = isWhole || circuitText.textLines(this.headText).lines.length === 0;
       if (isRead && kind === "in" && !names.has(name)) lines.push(`input ${name}`);
       if (isRead && kind === "out" && names.has(name) && !used.has(name)) lines.push(`output ${name}`);
       if (isRead && kind === "in" && names.has(name) && !inputs.includes(name)) throw new Refusal(`\`${name}\` is no input of the circuit.`);
@@ -346,10 +359,10 @@
 
     /** Sets size and steps. If `follows`, outputs and waste cells fly on by the change of the steps. */
     resize(width, height, steps, follows = false) {
-      const isSide = (side) => Number.isInteger(side) && side % 2 === 0 && side >= 2 && side <= geometry.MAX_SIDE;
+      const { maxSide, maxSteps } = this.limits, isSide = (side) => Number.isInteger(side) && side % 2 === 0 && side >= 2 && side <= maxSide;
       if (this.start < 0) throw new Refusal("The text has no line `layout W H STEPS`.");
-      if (!isSide(width) || !isSide(height)) throw new Refusal("Width and height are even numbers from 2 to 512.");
-      if (!Number.isInteger(steps) || steps < 0 || steps > MAX_STEPS) throw new Refusal(`The steps are a number from 0 to ${MAX_STEPS}.`);
+      if (!isSide(width) || !isSide(height)) throw new Refusal(`Width and height are even numbers from 2 to ${maxSide}.${this.needsLine(Math.max(width, height) > maxSide)}`);
+      if (!Number.isInteger(steps) || steps < 0 || steps > maxSteps) throw new Refusal(`The steps are a number from 0 to ${maxSteps}.${this.needsLine(steps > maxSteps)}`);
       const flying = follows && this.header ? this.parts.filter(({ kind }) => kind === "out" || kind === "waste") : [];
       const fresh = flying.length ? geometry.followed(flying, this.header.steps, steps - this.header.steps) : [], changed = new Set(flying);
       const all = [...this.parts.filter((part) => !changed.has(part)), ...fresh];
@@ -362,6 +375,9 @@
         return [];
       });
     }
+
+    /** Returns a sentence on the line that raises the limits if a number is above them, or nothing. */
+    needsLine(isAbove) { return isAbove ? limits.needsLine("A larger layout", this.limits) : ""; }
 
     /** Puts other lines in the place of those before the layout. */
     setHead(text, merge = null) {

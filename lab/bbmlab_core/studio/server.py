@@ -1,17 +1,19 @@
-"""The server of the studio: it answers its own page on the loopback address, and nobody else."""
+"""The server of the studio: it answers its own page on the loopback address, and nobody else.
+
+The files of the page are those of the lab, the same for everybody. All else needs the key.
+"""
 
 import hashlib
 import json
 import os
-import secrets
 import socket
 from http.server import BaseHTTPRequestHandler, ThreadingHTTPServer
 from pathlib import Path
-from typing import Any
+from typing import Any, Callable
 
 from .. import viewing
-from .answers import Answers
-from .guard import Denied, Guard
+from .answers import Answers, word
+from .guard import MAX_REQUEST_BYTES, Denied, Guard
 
 ADDRESS = "127.0.0.1"
 HERE = Path(__file__).resolve().parent
@@ -22,6 +24,8 @@ HEADERS = {"Content-Security-Policy": POLICY, "X-Content-Type-Options": "nosniff
            "Cross-Origin-Opener-Policy": "same-origin", "Cross-Origin-Resource-Policy": "same-origin"}
 # The first of the ports that no service has (RFC 6335), and how many of them are taken in turn.
 FIRST_PORT, PORTS = 49152, 16000
+# The request that gives the key for a token, and how long it is at most.
+ENTER, MAX_TOKEN_BYTES = "enter", 1000
 # How long a connection may be silent, in seconds.
 SILENCE = 60
 
@@ -46,13 +50,15 @@ class Studio(ThreadingHTTPServer):
     def __init__(self, port: int, answers: Answers) -> None:
         super().__init__((ADDRESS, port), Handler)
         self.answers = answers
-        self.guard = Guard(f"{ADDRESS}:{self.server_address[1]}", secrets.token_urlsafe(24))
+        self.guard = Guard(f"{ADDRESS}:{self.server_address[1]}")
         self.files = page_files()
+        # Called when a browser was let in.
+        self.on_entry: Callable[[], None] = lambda: None
 
     @property
     def address(self) -> str:
-        """The address of the page, with the secret."""
-        return f"http://{self.guard.host}/{self.guard.secret}/"
+        """The address that lets the next browser in."""
+        return self.guard.address
 
     def handle_error(self, request: Any, client_address: Any) -> None:
         """Says nothing if a page closed its connection."""
@@ -69,8 +75,8 @@ class Handler(BaseHTTPRequestHandler):
     def do_GET(self) -> None:
         """Sends a file of the page."""
         try:
-            path = self.server.guard.path_behind_secret(self.path)
-            self.server.guard.require_own_page(self.headers, False)
+            path = self.path.split("?")[0].removeprefix("/")
+            self.server.guard.require_own_page(self.headers, False, path == "")
             if path not in self.server.files:
                 raise Denied(404, "there is no such page")
             kind, data = self.server.files[path]
@@ -81,18 +87,25 @@ class Handler(BaseHTTPRequestHandler):
     def do_POST(self) -> None:
         """Answers a request of the page."""
         try:
-            path = self.server.guard.path_behind_secret(self.path)
-            self.server.guard.require_own_page(self.headers, True)
-            data = self.rfile.read(self.server.guard.body_length(self.headers))
-            body = json.loads(data)
+            guard, name = self.server.guard, self.path.removeprefix("/api/")
+            guard.require_own_page(self.headers, True)
+            if name != ENTER:
+                guard.require_key(self.headers)
+            body = json.loads(self.rfile.read(guard.body_length(self.headers, MAX_TOKEN_BYTES if name == ENTER else MAX_REQUEST_BYTES)))
             if not isinstance(body, dict):
                 raise Denied(400, "a request is a JSON object")
-            answer = self.server.answers.answer(path.removeprefix("api/") if path.startswith("api/") else "", body)
+            answer = self.entered(word(body, "token")) if name == ENTER else self.server.answers.answer("" if name == self.path else name, body)
             self.send(200, "application/json", json.dumps(answer).encode())
         except (ValueError, RecursionError):
             self.deny(Denied(400, "the request is no JSON"))
         except Denied as denied:
             self.deny(denied)
+
+    def entered(self, token: str) -> dict[str, str]:
+        """Lets a browser in."""
+        key = self.server.guard.key_for(token)
+        self.server.on_entry()
+        return {"key": key}
 
     def deny(self, denied: Denied) -> None:
         """Refuses a request, and ends the connection, since its body may be unread."""
@@ -112,7 +125,7 @@ class Handler(BaseHTTPRequestHandler):
         self.wfile.write(data)
 
     def log_message(self, format: str, *args: Any) -> None:  # pylint: disable=redefined-builtin
-        """Logs nothing: addresses contain the secret."""
+        """Logs nothing."""
 
 
 def studio(port: int | None, answers: Answers) -> Studio:

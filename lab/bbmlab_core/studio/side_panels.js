@@ -2,15 +2,32 @@
 "use strict";
 
 {
-  const { parts: { element, made, appendWords, delayed }, server, ModelRefusal, wireInks, surveys } = bbmlab;
-  const REFUSAL_DELAY = 80, MAX_LEGEND = 10;
+  const { parts: { element, made, appendWords, delayed }, server, Model, ModelRefusal, wireInks, surveys } = bbmlab;
+  const REFUSAL_DELAY = 80, MAX_LEGEND = 10, NUMBERS = ["width", "height", "steps"];
+  // How long the page may stand still for a run that puts the outputs where the balls end.
+  const MAX_FOLLOW_MILLISECONDS = 1500;
+
+  /** Returns the kinds and cells of parts, in an order of their own. */
+  const placesOf = (parts) => parts.map(({ kind, box }) => `${kind} ${box[0]} ${box[1]}`).sort().join("\n");
+
+  /** Returns why the model does not do a command, or null if it was done. */
+  function refusalOf(command) {
+    try { command(); return null; } catch (error) {
+      if (!(error instanceof ModelRefusal)) throw error;
+      return error.message;
+    }
+  }
 
   class SidePanels {
     /** @param {bbmlab.Desk} desk @param {bbmlab.Sketch} sketch @param {(text: string, isBad?: boolean) => void} say */
     constructor(desk, sketch, say) {
-      Object.assign(this, { desk, sketch, say, asked: 0, refusal: null });
+      Object.assign(this, { desk, sketch, say, asked: 0, refusal: null, typed: null });
       this.askSoon = delayed(REFUSAL_DELAY, () => this.askRefusal());
-      for (const id of ["width", "height", "steps"]) element(id).addEventListener("change", () => this.resize());
+      for (const id of NUMBERS) {
+        // The field in which a number is typed that is not taken yet.
+        element(id).addEventListener("input", () => { this.typed = id; });
+        element(id).addEventListener("change", () => this.resize());
+      }
       const pane = element("circuit");
       pane.addEventListener("input", () => desk.model.setHead(pane.value === "" ? "" : pane.value.replace(/\n$/, ""), "typing"));
       pane.addEventListener("blur", () => { desk.model.closeMerge(); this.showPane(true); });
@@ -23,27 +40,49 @@
 
     /** Shows what follows from the text. */
     show() {
-      const { width, height, steps } = this.desk.layout;
-      for (const [id, value] of Object.entries({ width, height, steps })) if (document.activeElement !== element(id)) element(id).value = value;
+      this.showNumbers();
       this.showPane(false);
       this.showInputs();
       this.askSoon();
     }
 
+    /** Shows the numbers of the layout, apart from one that is typed now. */
+    showNumbers() {
+      for (const id of NUMBERS) if (this.typed !== id) element(id).value = this.desk.layout[id];
+    }
+
+    /** Puts the layout's number into a field in which one was typed. Returns whether one was. */
+    cancelTyping(id) {
+      const wasTyped = this.typed === id;
+      if (wasTyped) this.typed = null;
+      this.showNumbers();
+      return wasTyped;
+    }
+
     /** Sets size and steps by the fields. */
     resize() {
-      const [width, height, steps] = ["width", "height", "steps"].map((id) => Number(element(id).value));
-      try {
-        this.desk.model.resize(width, height, steps, element("follow").checked);
-        this.say("");
-      } catch (error) {
-        if (!(error instanceof ModelRefusal)) throw error;
-        this.say(error.message, true);
-        const { layout } = this.desk;
-        Object.assign(element("width"), { value: layout.width });
-        Object.assign(element("height"), { value: layout.height });
-        Object.assign(element("steps"), { value: layout.steps });
-      }
+      const [width, height, steps] = NUMBERS.map((id) => Number(element(id).value)), { layout, model } = this.desk, isFollowed = element("follow").checked;
+      this.typed = null;
+      if (isFollowed && steps !== layout.steps && this.followRun(width, height, steps)) { this.say(""); return; }
+      const reason = refusalOf(() => model.resize(width, height, steps, isFollowed));
+      this.say(reason || "", reason !== null);
+      this.showNumbers();
+    }
+
+    /**
+     * Sets size and steps, and puts the outputs and waste cells where the balls end then, as one command. Returns whether it was done: only if
+     * they are where the balls end now. Else they are not drawn yet, and fly straight on.
+     */
+    followRun(width, height, steps) {
+      const { desk: { model } } = this, isEnd = ({ kind }) => kind === "out" || kind === "waste", ends = model.parts.filter(isEnd);
+      const now = model.layout && ends.length ? surveys.endsOf(model.layout, model.circuit, MAX_FOLLOW_MILLISECONDS) : null;
+      if (now === null || placesOf(now) !== placesOf(ends)) return false;
+      const made = new Model(model.text);
+      if (refusalOf(() => { made.remove(ends.map(({ line }) => line)); made.resize(width, height, steps); }) !== null) return false;
+      const parts = surveys.endsOf(made.layout, made.circuit, MAX_FOLLOW_MILLISECONDS);
+      if (parts === null || refusalOf(() => made.add(parts)) !== null) return false;
+      model.setText(made.text, "size");
+      return true;
     }
 
     /** Shows the lines before the layout, unless one types in them. */

@@ -2,7 +2,7 @@
 "use strict";
 
 {
-  const { Stage, Cells, startKeys, painting, geometry, surveys, placeNames } = bbmlab;
+  const { Stage, painting, geometry, surveys, placeNames } = bbmlab;
   const { RULER } = painting;
   const WIRE_INKS = 8, PORT_FONT = "600 12px system-ui, sans-serif";
 
@@ -27,7 +27,7 @@
       const { layout, player } = this.desk;
       const isOther = layout.width !== this.layout.width || layout.height !== this.layout.height;
       Object.assign(this, { player, layout, good: null });
-      this.mirrors = new Cells(startKeys({ mirrors: layout.mirrors, balls: [], ins: [] }, () => false));
+      this.takeMirrors();
       if (isOther && this.isFit) this.fit(); else this.paint();
     }
 

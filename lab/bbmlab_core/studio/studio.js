@@ -2,7 +2,7 @@
 "use strict";
 
 {
-  const { Desk, Sketch, Tools, SidePanels, VerdictPanel, Files, server, parts: { element, made, button, notice } } = bbmlab;
+  const { Desk, Sketch, Tools, SidePanels, VerdictPanel, Files, server, parts: { element, made, button, notice, ask } } = bbmlab;
   const TOOLS = { select: ["select", "v", "Press a part, or drag a frame. Drag the selection to move it."], mirror: ["mirror", "m", "Drag a mirror, or press for one of 4 by 2 cells."],
     ball: ["ball", "b", "Press to put a constant ball."], in: ["in", "i", "Press to put the ball of an input."],
     out: ["out", "o", "Press where the output's ball is at the last time."], waste: ["waste", "w", "Press where a left-over ball is at the last time."],
@@ -86,7 +86,7 @@
   /** Shows what follows from the run's end. */
   function showEnd() {
     const results = desk.player.results();
-    sketch.good = results && new Map(results.flatMap(({ cells }) => cells.map(({ cell, isGood }) => [bbmlab.keyOf(...cell), isGood])));
+    sketch.good = results && new Map(results.flatMap(({ cells }) => cells.map(({ cell, isGood }) => [String(cell), isGood])));
     sketch.paint();
     sketch.paintWave();
   }
@@ -99,7 +99,7 @@
     element("hint").hidden = desk.model.parts.length > 0 || !desk.model.header;
     const why = desk.fallen.length ? bbmlab.geometry.fallReason(desk.fallen[0].box) : null;
     if (why) say(`The mirror ${desk.fallen[0].box.join(" ")} falls apart: ${why}.`, true);
-    else if (!desk.model.header) say("The line `layout W H STEPS` is missing or not allowed: W and H are even, 2 to 512.", true);
+    else if (!desk.model.header) say(`The line \`layout W H STEPS\` is missing or not allowed: W and H are even, 2 to ${desk.model.limits.maxSide}.${desk.model.needsLine(true)}`, true);
     showTime();
   }
 
@@ -140,12 +140,14 @@
 
   function onKey(event) {
     const { target, key } = event, isField = ["INPUT", "TEXTAREA", "SELECT"].includes(target.tagName) && target.type !== "checkbox";
+    const isNumber = target.type === "number";
     if (element("dialog").open) return;
     if (event.ctrlKey || event.metaKey) {
-      if (!Object.hasOwn(CONTROL, key) || isField && key !== "s" && target.id !== "circuit" || target.id === "circuit" && !"szyZ".includes(key)) return;
+      if (!Object.hasOwn(CONTROL, key) || isField && !(target.id === "circuit" || isNumber ? "szyZ" : "s").includes(key)) return;
       // Words that are marked, as in the report, are for the browser to copy.
       if (key === "c" && target !== canvasParts.whole && !getSelection().isCollapsed) return;
-      CONTROL[key]();
+      // A number that is typed and not taken yet is the first thing to undo.
+      if (!(isNumber && "zyZ".includes(key) && panels.cancelTyping(target.id))) CONTROL[key]();
     } else if (isField) return;
     else if (ARROWS[key] && target === canvasParts.whole) onArrow(event, ARROWS[key]);
     else if (Object.hasOwn(PLAIN, key) && !(target.tagName === "BUTTON" && " Enter".includes(key)) && !(key === "Enter" && target !== canvasParts.whole)) PLAIN[key]();
@@ -227,6 +229,7 @@
     desk.listen("play", () => { element("play").textContent = desk.player.direction ? "■ stop" : "play ▶"; });
     Object.assign(sketch, { onPaint: showCell });
     tools.onTool = showTool;
+    tools.askLarger = (words, size) => ask("The cell is larger than the layout", [made("p", words)], [[`make the layout ${size.join(" by ")}`, () => true], ["cancel", () => null]]);
     verdicts.onInputs = () => panels.showInputs();
     new ResizeObserver(() => (sketch.isFit ? sketch.fit() : sketch.paint())).observe(canvasParts.whole);
     new ResizeObserver(() => sketch.paintWave()).observe(canvasParts.waveBox);

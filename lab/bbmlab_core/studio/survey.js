@@ -7,16 +7,10 @@
 "use strict";
 
 {
-  const { CELLS, keyOf, xOf, yOf, circuitValues, geometry } = bbmlab;
-  const ROW = 1024, LANES = 32;
+  const { Grid, circuitValues, geometry } = bbmlab;
+  const LANES = 32;
   // Colours: 1 to 250 are wires, and these two are a constant and what is no wire of the circuit.
   const CONSTANT = 251, OTHER = 252, MAX_WIRES = 250;
-
-  /** Returns the upper left cell of the block that has a cell. */
-  const blockOf = (key, odd) => {
-    const x = key & ROW - 1, y = key >> 10;
-    return (y - ((y ^ odd) & 1)) * ROW + x - ((x ^ odd) & 1);
-  };
 
   /** Returns all choices of some inputs: bit i of the number of a choice is input i. */
   const allChoices = (inputs) => [...Array(2 ** inputs.length).keys()].map((number) => new Set(inputs.filter((_, index) => number >> index & 1)));
@@ -50,23 +44,25 @@
       this.colours = new Map();
       [...this.tables].slice(0, MAX_WIRES).forEach(([, table], index) => { if (table && !this.colours.has(table)) this.colours.set(table, index + 1); });
       // Which ways of each block are noted, with the colours of those on its two diagonals; the ways by its sides; marks x, y, kind.
-      Object.assign(this, { noted: new Uint8Array(CELLS), down: new Uint8Array(CELLS), up: new Uint8Array(CELLS), blocks: [], sides: [], marks: [] });
-      Object.assign(this, { live: new Int32Array(CELLS), passes: new Int32Array(CELLS) });
+      this.grid = new Grid(layout);
+      const { count } = this.grid;
+      Object.assign(this, { noted: new Uint8Array(count), down: new Uint8Array(count), up: new Uint8Array(count), blocks: [], sides: [], marks: [] });
+      Object.assign(this, { live: new Int32Array(count), passes: new Int32Array(count) });
       // 1 is a cell of a mirror, and 2 one that changed.
-      this.isMirror = new Uint8Array(CELLS);
+      this.isMirror = new Uint8Array(count);
       this.begin();
     }
 
     /** Makes the cells live that are live at the start. */
     begin() {
-      const { layout, live, full } = this, first = [];
+      const { layout, live, full, grid } = this, { row } = grid, first = [];
       for (const [x, y, w, h] of layout.mirrors) {
-        for (let v = y; v < y + h; v += 1) for (let u = x; u < x + w; u += 1) first.push(keyOf(u, v));
+        for (let v = y; v < y + h; v += 1) for (let u = x; u < x + w; u += 1) first.push(grid.keyOf(u, v));
       }
       // Bit 6 of the note of a block: it contains a cell of a mirror.
-      for (const key of first) { this.isMirror[key] = 1; live[key] = full; for (const before of [0, 1, ROW, ROW + 1]) this.noted[key - before] |= 64; }
-      for (const cell of layout.balls) { live[keyOf(...cell)] = full; first.push(keyOf(...cell)); }
-      for (const { name, cell } of layout.ins) { live[keyOf(...cell)] |= this.tables.get(name) || 0; first.push(keyOf(...cell)); }
+      for (const key of first) { this.isMirror[key] = 1; live[key] = full; for (const before of [0, 1, row, row + 1]) this.noted[key - before] |= 64; }
+      for (const cell of layout.balls) { live[grid.keyOf(...cell)] = full; first.push(grid.keyOf(...cell)); }
+      for (const { name, cell } of layout.ins) { live[grid.keyOf(...cell)] |= this.tables.get(name) || 0; first.push(grid.keyOf(...cell)); }
       // The cells that the next step looks at, and those that it leaves for the step after it; and at which step a cell changed last.
       const most = first.length + (layout.width + 4) * (layout.height + 4);
       Object.assign(this, { now: new Int32Array(most), next: new Int32Array(most), nowCount: first.length, nextCount: 0, changedAt: 0 });
@@ -89,10 +85,10 @@
      * where it is. At the start these are all blocks, and so they are for the second step.
      */
     step() {
-      const odd = this.time & 1, pass = this.time + 1, { passes, now, nowCount } = this;
+      const odd = this.time & 1, pass = this.time + 1, { passes, now, nowCount, grid } = this;
       this.nextCount = 0;
       for (let index = 0; index < nowCount; index += 1) {
-        const key = now[index], block = key - ((key ^ odd) & 1) - (((key >> 10) ^ odd) & 1) * ROW;
+        const block = grid.blockOf(now[index], odd);
         if (passes[block] === pass) continue;
         passes[block] = pass;
         this.turn(block);
@@ -110,7 +106,7 @@
      * everything else stays (Margolus 1984, block rule).
      */
     turn(a) {
-      const { live, next } = this, b = a + 1, c = a + ROW, d = a + ROW + 1, la = live[a], lb = live[b], lc = live[c], ld = live[d], any = la | lb | lc | ld;
+      const { live, next } = this, b = a + 1, c = a + this.grid.row, d = c + 1, la = live[a], lb = live[b], lc = live[c], ld = live[d], any = la | lb | lc | ld;
       if (any === 0) return;
       const one = (la ^ ld) & ~lb & ~lc, other = (lb ^ lc) & ~la & ~ld, both = la & ld & ~lb & ~lc | lb & lc & ~la & ~ld, note = this.noted[a];
       const diagonal = one | both, across = other | both;
@@ -151,34 +147,34 @@
       if ((bits & 7) === 0) this.blocks.push(a);
       if (one && !(bits & 1)) this.down[a] = this.colourOf(one);
       if (other && !(bits & 2)) this.up[a] = this.colourOf(other);
-      if (both && !(bits & 4)) { this.sides.push(a, this.colourOf(both)); this.marks.push(xOf(a), yOf(a), "meet"); }
+      if (both && !(bits & 4)) { this.sides.push(a, this.colourOf(both)); this.marks.push(...this.grid.cellOf(a), "meet"); }
       noted[a] = bits | (one ? 1 : 0) | (other ? 2 : 0) | (both ? 4 : 0);
     }
 
     /** Notes that a step changed a cell of a mirror. */
     noteBroken(a) {
       if (this.noted[a] & 16) return;
-      const isHit = [a, a + 1, a + ROW, a + ROW + 1].some((key) => this.isMirror[key] && this.live[key] !== this.full);
+      const { row } = this.grid, isHit = [a, a + 1, a + row, a + row + 1].some((key) => this.isMirror[key] && this.live[key] !== this.full);
       if (!isHit) return;
       this.noted[a] |= 16;
-      this.marks.push(xOf(a), yOf(a), "broken");
+      this.marks.push(...this.grid.cellOf(a), "broken");
     }
 
     /** Notes that a ball is in a block with a mirror that does not let it pass. `bits` are the choices in which something in the block is live. */
     noteBounce(a, bits) {
       const { isMirror, live, noted } = this;
       if (noted[a] & 8 || bits === 0) return;
-      const cells = [a, a + 1, a + ROW, a + ROW + 1], mirrors = cells.filter((key) => isMirror[key]).length;
+      const { row } = this.grid, cells = [a, a + 1, a + row, a + row + 1], mirrors = cells.filter((key) => isMirror[key]).length;
       if (mirrors === 0 || mirrors === 4 || !cells.some((key) => !isMirror[key] && live[key])) return;
       noted[a] |= 8;
-      this.marks.push(xOf(a), yOf(a), "bounce");
+      this.marks.push(...this.grid.cellOf(a), "bounce");
     }
 
     /** Takes away what left the rectangle, and notes the first time. */
     drop() {
-      const { width, height } = this.layout, { live, now, nowCount } = this;
+      const { width, height } = this.layout, { live, now, nowCount, grid } = this;
       for (let index = 0; index < nowCount; index += 1) {
-        const key = now[index], x = (key & ROW - 1) - 2, y = (key >> 10) - 2;
+        const key = now[index], x = grid.xOf(key), y = grid.yOf(key);
         if (x >= 0 && y >= 0 && x < width && y < height || live[key] === 0) continue;
         this.leftLanes |= live[key];
         live[key] = 0;
@@ -188,19 +184,19 @@
 
     /** Returns the ways as lines: x, y, x, y and a colour for each. The ways of one colour that lie in a row are one line. */
     lines() {
-      const { blocks, sides, down, up } = this, lines = [];
-      for (const [colours, on, dx] of [[down, ROW + 1, 1], [up, ROW - 1, -1]]) {
+      const { blocks, sides, down, up, grid } = this, { row } = grid, lines = [];
+      for (const [colours, on, dx] of [[down, row + 1, 1], [up, row - 1, -1]]) {
         for (const block of blocks) {
           const colour = colours[block];
           if (colour === 0 || colours[block - on] === colour) continue;
           let last = block;
           while (colours[last + on] === colour) last += on;
-          const x = xOf(block) + (dx < 0 ? 1 : 0), y = yOf(block), far = yOf(last) - y + 1;
+          const x = grid.xOf(block) + (dx < 0 ? 1 : 0), y = grid.yOf(block), far = grid.yOf(last) - y + 1;
           lines.push(x, y, x + dx * far, y + far, colour);
         }
       }
       for (let index = 0; index < sides.length; index += 2) {
-        const x = xOf(sides[index]), y = yOf(sides[index]), colour = sides[index + 1];
+        const x = grid.xOf(sides[index]), y = grid.yOf(sides[index]), colour = sides[index + 1];
         lines.push(x, y, x + 1, y, colour, x, y + 1, x + 1, y + 1, colour);
       }
       return lines;
@@ -228,15 +224,24 @@
     /** @param {Layout} layout @param {Circuit} circuit */
     constructor(layout, circuit) {
       const choices = allChoices(circuit.inputs);
-      Object.assign(this, { layout, circuit, choices, runs: [] });
-      for (let first = 0; first < choices.length; first += LANES) this.runs.push(new Survey(layout, circuit, choices.slice(first, first + LANES)));
+      // The run of the next choices, and what those before it found: one run takes the memory of a whole layout.
+      Object.assign(this, { layout, circuit, choices, run: null, ends: [] });
     }
 
-    /** Runs for some milliseconds, and returns whether all runs are at their ends. */
+    /** Runs for some milliseconds, and returns whether all choices were run. */
     advance(milliseconds) {
       const until = performance.now() + milliseconds;
-      for (const run of this.runs) while (!run.isEnded && performance.now() < until) run.advance(4);
-      return this.runs.every((run) => run.isEnded);
+      while (this.ends.length * LANES < this.choices.length) {
+        const first = this.ends.length * LANES;
+        this.run ||= new Survey(this.layout, this.circuit, this.choices.slice(first, first + LANES));
+        while (!this.run.isEnded) {
+          if (performance.now() >= until) return false;
+          this.run.advance(4);
+        }
+        this.ends.push({ left: this.run.leftLanes, states: new Map(this.layout.outs.map((out) => [out, this.run.live[this.run.grid.keyOf(...out.cell)]])) });
+        this.run = null;
+      }
+      return true;
     }
 
     /**
@@ -245,13 +250,15 @@
      */
     rows() {
       const { circuit, layout } = this, cells = new Map(circuit.outputs.map((name) => [name, layout.outs.filter((out) => out.name === name)]));
-      return this.choices.map((on, number) => {
-        const run = this.runs[Math.floor(number / LANES)], lane = number % LANES, values = circuitValues(circuit, on);
-        const isLive = ({ cell }) => (run.live[keyOf(...cell)] >>> lane & 1) === 1;
+      // As in textbooks the first input changes last, from row to row. A choice's number has it as the lowest bit.
+      const bits = circuit.inputs.length, order = this.choices.map((_, row) => [...Array(bits).keys()].reduce((number, bit) => number | (row >> bit & 1) << bits - 1 - bit, 0));
+      return order.map((number) => {
+        const on = this.choices[number], { left, states: live } = this.ends[Math.floor(number / LANES)], lane = number % LANES, values = circuitValues(circuit, on);
+        const isLive = (out) => (live.get(out) >>> lane & 1) === 1;
         const outputs = circuit.outputs.map((name) => {
           const states = new Set(cells.get(name).map(isLive));
           // The run of a layout ends where a ball leaves: then nothing is known of the end.
-          const isWhole = (run.leftLanes >>> lane & 1) === 0;
+          const isWhole = (left >>> lane & 1) === 0;
           return { name, wanted: values.get(name) ?? null, found: isWhole && states.size === 1 ? [...states][0] : null };
         });
         return { inputs: circuit.inputs.map((name) => on.has(name)), outputs };
@@ -261,10 +268,10 @@
 
   /** Returns cells as balls: those of two cells first, and then the others. */
   function ballsOf(cells, time) {
-    const left = new Map(cells.map((cell) => [keyOf(...cell), cell])), balls = [];
+    const left = new Map(cells.map((cell) => [String(cell), cell])), balls = [];
     for (const cell of cells) {
-      const [, tail] = geometry.pairCells(cell, time), key = tail[0] < 0 || tail[1] < 0 ? -1 : keyOf(...tail);
-      if (left.has(keyOf(...cell)) && left.has(key)) { balls.push([cell, tail]); left.delete(key); left.delete(keyOf(...cell)); }
+      const [, tail] = geometry.pairCells(cell, time), key = String(tail);
+      if (left.has(String(cell)) && left.has(key)) { balls.push([cell, tail]); left.delete(key); left.delete(String(cell)); }
     }
     return [...balls, ...[...left.values()].map((cell) => [cell])];
   }
@@ -274,11 +281,11 @@
    * if and only if its wire is true, and else waste.
    */
   function endParts({ live, isMirror, tables }, outputs, { width, height, steps }) {
-    const wires = new Map(), cells = new Map(), parts = [];
+    const grid = new Grid({ width, height }), wires = new Map(), cells = new Map(), parts = [];
     for (const name of outputs) { const table = tables.get(name) || 0; wires.set(table, [...(wires.get(table) || []), name]); }
     for (let y = 0; y < height; y += 1) {
       for (let x = 0; x < width; x += 1) {
-        const key = keyOf(x, y), table = live[key];
+        const key = grid.keyOf(x, y), table = live[key];
         if (table !== 0 && !isMirror[key]) cells.set(table, [...(cells.get(table) || []), [x, y]]);
       }
     }
@@ -292,5 +299,13 @@
     return parts;
   }
 
-  Object.assign(bbmlab, { Survey, TruthTable, surveys: { allChoices, sampledChoices, endParts, CONSTANT, OTHER, LANES } });
+  /** Returns the ends of the balls of a layout as parts, or null if that takes too long, a ball leaves, or not all choices can be run at once. */
+  function endsOf(layout, circuit, milliseconds) {
+    if (!circuit.isWhole || circuit.inputs.length > 5) return null;
+    const run = new Survey(layout, circuit, allChoices(circuit.inputs)), until = performance.now() + milliseconds;
+    while (!run.isEnded && performance.now() < until) run.advance(4);
+    return run.isEnded && run.leftAt === null ? endParts(run, circuit.outputs, layout) : null;
+  }
+
+  Object.assign(bbmlab, { Survey, TruthTable, surveys: { endsOf, allChoices, sampledChoices, endParts, CONSTANT, OTHER, LANES } });
 }

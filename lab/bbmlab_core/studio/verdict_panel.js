@@ -8,6 +8,21 @@
   const BY = { own: "with the certificate of the text", earlier: "with the last certificate that got a yes", plain: "with a certificate of one module",
     certify: "with a certificate that the lab made" };
 
+  // What kind of no the lines of a report make, by their first words.
+  const KINDS = { "local end": "the end is wrong", "local edge": "an edge line is wrong or missing", "local stop": "a stop is wrong", keep: "an inverse gate has no row",
+    unkept: "an inverse gate has no `keep`", border: "two modules disagree", delay: "a delay takes another time", meet: "inputs do not meet" };
+
+  /** Says what kind of no a report makes, by its first line. */
+  function kindOf({ text, cell, time }, { width, height }) {
+    const words = text.split(" "), isRim = cell && (cell[0] % (width - 1) === 0 || cell[1] % (height - 1) === 0);
+    if (words[0] === "local" && words[2] === "edge" && isRim) return `the rim is live at (${cell.join(", ")}), time ${time}`;
+    const kind = KINDS[words[0] === "local" ? `local ${words[2]}` : words[0]] || "the report has a fault";
+    return cell ? `${kind} at (${cell.join(", ")}), time ${time}` : kind;
+  }
+
+  const OTHER_PICTURE = { verdict: "unknown", faults: [], by: "", is_last: true,
+    words: ["The program says yes to a text that is not the one of this picture. This is an error of the studio: please report it with the text."] };
+
   class VerdictPanel {
     /** @param {bbmlab.Desk} desk @param {bbmlab.Sketch} sketch */
     constructor(desk, sketch) {
@@ -51,13 +66,19 @@
       const first = stage === "other" && this.isCurrent && this.verdict.verdict === "no" ? this.verdict : null;
       if (answer.error) this.verdict = { verdict: "unknown", words: [answer.error], faults: [], by: "", hints: [], is_last: true };
       else if (first && answer.verdict === "none") this.verdict = { ...first, words: [...first.words, "The lab found no other certificate:", ...answer.words], is_last: true };
-      else this.verdict = answer;
+      else this.verdict = answer.verdict === "yes" && !this.isOfPicture(answer.bundle) ? { ...answer, ...OTHER_PICTURE } : answer;
       this.checked = text;
       this.explanation = null;
       this.seconds = [...(stage === "first" ? [] : this.seconds), (performance.now() - this.editedAt) / 1000];
       if (this.verdict.verdict === "yes") this.earlier = this.verdict.bundle.slice(this.verdict.bundle.indexOf("\ncertificate ") + 1);
       this.showBadge();
       this.showReport();
+    }
+
+    /** Whether the text that the program read is, up to its certificate, that of the picture. */
+    isOfPicture(bundle) {
+      const drawn = this.desk.model.drawnText;
+      return drawn !== null && bundle.startsWith(`${drawn}certificate `);
     }
 
     /** Asks the server for words and fixes. */
@@ -72,12 +93,19 @@
     /** Shows the verdict, grey if it is outdated. */
     showBadge() {
       const badge = element("badge"), { verdict, isCurrent } = this;
-      const isWaiting = !verdict || isCurrent && verdict.verdict === "none" && !verdict.is_last;
-      badge.className = isWaiting ? "waiting" : isCurrent ? verdict.verdict : "old";
-      badge.textContent = isWaiting ? "checking…" : isCurrent ? TITLES[verdict.verdict] : `${TITLES[verdict.verdict]}, outdated`;
-      const said = isCurrent && ["yes", "no", "refused"].includes(verdict.verdict);
-      element("who").textContent = said ? this.programWords() : "";
+      const isWaiting = !verdict || isCurrent && verdict.verdict === "none" && !verdict.is_last, isNothing = isCurrent && this.isNothing;
+      badge.className = isWaiting || isNothing ? "waiting" : isCurrent ? verdict.verdict : "old";
+      badge.textContent = isNothing ? "nothing yet" : isWaiting ? "checking…" : isCurrent ? TITLES[verdict.verdict] : `${TITLES[verdict.verdict]}, outdated`;
+      const said = isCurrent && !isNothing && ["yes", "no", "refused"].includes(verdict.verdict), [fault] = verdict ? verdict.faults : [];
+      const kind = said && verdict.verdict === "no" && fault ? `${kindOf(fault, this.desk.layout)}; ` : "";
+      element("who").textContent = said ? `${kind}${this.programWords()}` : "";
       element("who").title = this.program && this.program.path ? `${this.program.path}\nSHA-256 ${this.program.sha256}` : "";
+    }
+
+    /** Whether there is nothing that a verdict could be about: no wire and no part. */
+    get isNothing() {
+      const { circuit, model } = this.desk;
+      return circuit !== null && circuit.names.size === 0 && model.parts.length === 0;
     }
 
     /** Says which program gave the verdict. */
@@ -92,16 +120,17 @@
       const { verdict, explanation } = this, box = element("report");
       box.classList.toggle("old", !this.isCurrent);
       box.replaceChildren();
+      if (this.isCurrent && this.isNothing) { box.append(made("p", "The circuit is empty, and nothing is drawn.", "soft")); return; }
       const isEmpty = this.desk.circuit !== null && this.desk.circuit.outputs.length === 0;
       const yes = isEmpty ? "The layout ends as it should, but the circuit has no outputs yet." : "For all inputs the layout computes the circuit.";
       const title = { yes, no: "The layout does not compute the circuit with this certificate." }[verdict.verdict];
       if (title) box.append(made("p", title, verdict.verdict === "yes" ? "good" : "bad"));
       if (verdict.line) box.append(made("p", `Line ${verdict.line}: ${this.desk.model.lines[verdict.line - 1] ?? ""}`, "code"));
-      for (const words of [...verdict.words, ...(verdict.rule ? [`Rule: ${verdict.rule}`] : []), ...verdict.hints]) box.append(appendWords(made("p"), words));
       const isChecked = ["no", "refused", "none"].includes(verdict.verdict);
-      if (!verdict.is_last) box.append(made("p", "The lab makes a certificate…", "soft"));
-      else if (isChecked && !explanation) box.append(made("p", "Looking for fixes…", "soft"));
       if (explanation) this.showFix(box, explanation);
+      else if (verdict.is_last && isChecked) box.append(made("p", "Looking for fixes…", "soft"));
+      for (const words of [...verdict.words, ...(verdict.rule ? [`Rule: ${verdict.rule}`] : []), ...verdict.hints]) box.append(appendWords(made("p"), words));
+      if (!verdict.is_last) box.append(made("p", "The lab makes a certificate…", "soft"));
       for (const fault of verdict.faults) this.showFault(box, fault);
       this.sketch.faults = this.isCurrent ? verdict.faults.filter(({ cell }) => cell).slice(0, MAX_RINGS).map(({ cell }) => cell) : [];
       this.sketch.paint();
@@ -114,12 +143,13 @@
       for (const words of tried) box.append(appendWords(made("p", "", "soft"), words));
     }
 
-    /** Returns a button that takes a fix which was tried. */
+    /** Returns what a fix changes, with a button that takes it. It was tried. */
     fixButton({ words, text }) {
-      const found = button("", () => { if (this.isCurrent) this.desk.model.setText(text, "fix"); }, "fix");
-      found.append(made("strong", "Fix: "));
-      words.forEach((word, index) => appendWords(found, index ? ` ${word}` : word));
-      return found;
+      const box = made("div", "", "fix-box"), what = made("p");
+      what.append(made("strong", "Fix: "));
+      words.forEach((word, index) => appendWords(what, index ? ` ${word}` : word));
+      box.append(what, button("apply this fix", () => { if (this.isCurrent) this.desk.model.setText(text, "fix"); }, "fix"));
+      return box;
     }
 
     /** Shows a line of the report with its words and its fix. A press goes to its time and cell. */

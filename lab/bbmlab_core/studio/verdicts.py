@@ -16,10 +16,10 @@ from ..explaining import explain_report, tried_words
 from ..fixing import Fix, Fixer, head_of, outcome_words
 from ..layouts import Cell, Layout
 from ..processor import processor_seconds
-from ..program import Answer, ProgramError, ProgramTimeout, ask
+from ..program import Answer, Executable, ProgramError, ProgramTimeout, ask
 from ..refusals import explain_code, explain_refusal
 from ..reports import Finding, Report, ReportError, parse_report
-from ..spelling import spelled
+from ..spelling import source_line, spelled
 from ..terminal import LabError
 from ..trials import Budget, Trial
 
@@ -53,7 +53,7 @@ class Verdict:
 class Judge:
     """Asks the program about one text, within a number of seconds. `earlier` is a certificate that got a yes before the last edits."""
 
-    def __init__(self, text: str, program: str, seconds: float, earlier: str = "") -> None:
+    def __init__(self, text: str, program: Executable, seconds: float, earlier: str = "") -> None:
         self.source, self.program, self.seconds, self.earlier = text, program, seconds, earlier
         self.text = spelled(text).text
         self.head = head_of(self.text)
@@ -139,7 +139,7 @@ class Judge:
                 return quick
             outcome = Diagnosis(read_document(quick.bundle, "check")).outcome
             if outcome.is_right is Truth.NO:
-                quick.words.append(f"The layout itself does not do what the circuit asks: {outcome.fault}.")
+                quick.words.append(outcome.words)
                 return quick
             return self.judged(certified(design, None, Plan(until=self.until)), "certify")
         except LabError as error:
@@ -170,17 +170,6 @@ class Judge:
         told = explain_refusal(document, document.refusal) if same and document.refusal else explain_code(line, code)
         return Verdict("refused", told.what, "own", bundle, output, line=source_line(self.source, self.text, line), code=code, rule=told.rule,
                        hints=told.hints)
-
-
-def source_line(source: str, text: str, line: int) -> int | None:
-    """Returns the line of a freely written text that became a line of its one spelling, or None if the lines were sorted."""
-    if source == text:
-        return line
-    kept = [number for number, words in enumerate(source.replace("\r\n", "\n").split("\n"), 1) if words.split("#")[0].strip("\ufeff \t\r")]
-    free = [" ".join(source.replace("\r\n", "\n").split("\n")[number - 1].split("#")[0].replace("->", " -> ").split()) for number in kept]
-    if free != text.split("\n")[:len(free)]:
-        return None
-    return kept[line - 1] if line <= len(kept) else len(source.split("\n"))
 
 
 def wrong_cell(circuit: Circuit, layout: Layout, on: set[str], live: set[Cell]) -> Cell | None:
@@ -232,7 +221,7 @@ def fault_form(cuts: list[list[str]], inputs: list[str], finding: Finding) -> di
 # ---- explanations and fixes
 
 
-def explained(text: str, bundle: str, output: str, program: str, seconds: float) -> dict[str, Any]:
+def explained(text: str, bundle: str, output: str, program: Executable, seconds: float) -> dict[str, Any]:
     """Returns a no or a refusal in words, with fixes that were tried. `text` is the page's, `bundle` is what the program read."""
     trial, has_own = Trial(program, Budget(200, seconds)), head_of(spelled(text).text) != spelled(text).text
     report = parse_report(output)
@@ -266,7 +255,7 @@ def fix_form(fix: Fix | None, report: Report, has_own: bool) -> dict[str, Any] |
     return {"words": [*fix.words, outcome_words(report, fix)], "verdict": fix.report.verdict, "text": text}
 
 
-def fixes_of_design(text: str, program: str, seconds: float) -> dict[str, Any]:
+def fixes_of_design(text: str, program: Executable, seconds: float) -> dict[str, Any]:
     """Returns fixes of a text for which no certificate was found."""
     trial, head = Trial(program, Budget(200, seconds)), head_of(spelled(text).text)
     report = trial.report(head)

@@ -1,7 +1,7 @@
 """The process that makes verdicts, fixes and exports for the studio. It can be killed at any time, with the program that it runs.
 
-It reads a JSON document a line from standard input and writes one for each to standard output. Its arguments are the program, the seconds
-for one verdict and the memory in MiB.
+It reads a JSON document a line from standard input and writes one for each to standard output. Its arguments are the program's path, the
+descriptor and the digest of its copy, which it inherits, the seconds for one verdict and the memory in MiB.
 """
 
 import json
@@ -18,6 +18,7 @@ from typing import Any
 from .. import drawing, explaining, golly, program, tracing, viewing
 from ..documents import Document, read_document
 from ..layouts import Layout
+from ..program import Executable
 from ..reports import ReportError
 from ..spelling import spelled
 from ..terminal import LabError
@@ -33,21 +34,21 @@ def lab_text(text: str) -> str:
     return bytes_of(text).decode("latin-1")
 
 
-def verdict(job: dict[str, Any], path: str, seconds: float) -> dict[str, Any]:
+def verdict(job: dict[str, Any], asked: Executable, seconds: float) -> dict[str, Any]:
     """Returns the verdict on a text."""
-    judge = Judge(lab_text(job["text"]), path, seconds, lab_text(job.get("earlier", "")))
+    judge = Judge(lab_text(job["text"]), asked, seconds, lab_text(job.get("earlier", "")))
     return asdict(judge.verdict(job.get("stage", "")))
 
 
-def explain(job: dict[str, Any], path: str, seconds: float) -> dict[str, Any]:
+def explain(job: dict[str, Any], asked: Executable, seconds: float) -> dict[str, Any]:
     """Returns a verdict in words, with fixes. Without a report it is one of a text for which no certificate was found."""
     limit = min(FIX_SECONDS, seconds)
     if not job["report"]:
-        return fixes_of_design(lab_text(job["text"]), path, limit)
-    return explained(lab_text(job["text"]), job["bundle"], job["report"], path, limit)
+        return fixes_of_design(lab_text(job["text"]), asked, limit)
+    return explained(lab_text(job["text"]), job["bundle"], job["report"], asked, limit)
 
 
-def export(job: dict[str, Any], path: str, seconds: float) -> dict[str, Any]:
+def export(job: dict[str, Any], asked: Executable, seconds: float) -> dict[str, Any]:
     """Returns a text in another form: `svg`, `golly` or `page`."""
     document = read_document(spelled(lab_text(job["bundle"] or job["text"])).text)
     if document.refusal or document.layout is None:
@@ -57,12 +58,12 @@ def export(job: dict[str, Any], path: str, seconds: float) -> dict[str, Any]:
         return {"text": picture(document, document.layout, name)}
     if form == "golly":
         on = tracing.chosen_inputs(document, ",".join(job["on"]) or None)
-        start = tracing.trace_layout(document.layout, on, 0, 0).states[0]
+        start = tracing.state_at(document.layout, on, 0)
         return {"text": golly.golly_text(document.layout, start, on, tracing.layout_lines(document))}
     explanation = None
     if document.certificate:
-        answer = program.ask(path, "check", document.text.encode("latin-1"), seconds)
-        explanation = explaining.explain_answer(document.text, "check", answer.output, name)
+        answer = program.ask(asked, "check", document.text.encode("latin-1"), seconds)
+        explanation = explaining.explain_answer(document.text, "check", answer.output, name, None, document)
     return {"text": viewing.page(document, explanation, name)}
 
 
@@ -72,17 +73,17 @@ def picture(document: Document, layout: Layout, name: str) -> str:
     on = tracing.chosen_inputs(document, None)
     shown.ways, shown.labels = drawing.ball_ways(document, None, layout.steps)
     shown.title = f"{name}: ways of the balls{drawing.sampled_words(document)}"
-    return drawing.svg(layout, shown, list(document.circuit.defined) if document.circuit else on)
+    return drawing.svg(layout, shown, drawing.by_levels(shown, document.circuit) if document.circuit else on)
 
 
 JOBS = {"verdict": verdict, "explain": explain, "export": export}
 
 
-def answer(line: str, path: str, seconds: float) -> dict[str, Any]:
+def answer(line: str, asked: Executable, seconds: float) -> dict[str, Any]:
     """Returns the answer to one job."""
     try:
         job = json.loads(line)
-        return JOBS[job["kind"]](job, path, seconds)
+        return JOBS[job["kind"]](job, asked, seconds)
     except MemoryError:
         return {"error": "The memory limit was reached."}
     except RecursionError:
@@ -101,19 +102,27 @@ def stop(_number: int, _frame: FrameType | None) -> None:
     signal.setitimer(signal.ITIMER_REAL, 0.1)
 
 
+def limit_memory(memory: int) -> None:
+    """Limits the memory of this process and of the program, to less than is asked for if this user may not have as much."""
+    _, most = resource.getrlimit(resource.RLIMIT_AS)
+    limit = memory if most == resource.RLIM_INFINITY else min(memory, most)
+    resource.setrlimit(resource.RLIMIT_AS, (limit, limit))
+
+
 def main() -> int:
     """Answers jobs until the input ends."""
-    path, seconds, memory = sys.argv[1], float(sys.argv[2]), int(sys.argv[3]) * 2 ** 20
-    resource.setrlimit(resource.RLIMIT_AS, (memory, memory))
+    asked, seconds, memory = Executable(sys.argv[1], int(sys.argv[2]), sys.argv[3]), float(sys.argv[4]), int(sys.argv[5]) * 2 ** 20
+    limit_memory(memory)
     resource.setrlimit(resource.RLIMIT_CORE, (0, 0))
     program.SHARED = program.Running()
     signal.signal(signal.SIGTERM, stop)
+    signal.signal(signal.SIGHUP, stop)
     signal.signal(signal.SIGINT, signal.SIG_IGN)
     answers, sys.stdout = sys.stdout, sys.stderr
     jobs: "queue.SimpleQueue[str]" = queue.SimpleQueue()
     threading.Thread(target=read_jobs, args=(jobs,), daemon=True).start()
     while line := jobs.get():
-        answers.write(json.dumps(answer(line, path, seconds)) + "\n")
+        answers.write(json.dumps(answer(line, asked, seconds)) + "\n")
         answers.flush()
     return 0
 

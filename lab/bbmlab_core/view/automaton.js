@@ -16,36 +16,42 @@
 const bbmlab = {};
 
 {
-  // A cell is one number, so that a block's other cells are 1, 1024 and 1025 further. Sides are at most 512.
-  const ROW = 1024;
-  const CELLS = 520 * ROW;
+  /** The numbers of the cells of a layout and of those next to it, such that a block's other cells are 1, `row` and `row` + 1 further. */
+  class Grid {
+    /** @param {{width: number, height: number}} size that of the layout */
+    constructor({ width, height }) {
+      // The least power of two from 1024: a short row of numbers makes runs fast.
+      this.bits = Math.max(10, 32 - Math.clz32(width + 7));
+      Object.assign(this, { width, height, row: 1 << this.bits, count: (height + 8) << this.bits });
+    }
 
-  /** @type {(x: number, y: number) => number} */
-  const keyOf = (x, y) => (y + 2) * ROW + x + 2;
+    /** @type {(x: number, y: number) => number} */
+    keyOf(x, y) { return ((y + 2) << this.bits) + x + 2; }
 
-  /** @type {(key: number) => number} */
-  const xOf = (key) => key % ROW - 2;
+    /** @type {(key: number) => number} */
+    xOf(key) { return (key & this.row - 1) - 2; }
 
-  /** @type {(key: number) => number} */
-  const yOf = (key) => Math.floor(key / ROW) - 2;
+    /** @type {(key: number) => number} */
+    yOf(key) { return (key >> this.bits) - 2; }
 
-  /** Returns the upper left cell of the block that has a cell. Even steps take even blocks. */
-  const blockOf = (key, odd) => {
-    const x = key & ROW - 1, y = key >> 10;
-    return (y - ((y ^ odd) & 1)) * ROW + x - ((x ^ odd) & 1);
-  };
+    /** Returns a cell. @type {(key: number) => Cell} */
+    cellOf(key) { return [this.xOf(key), this.yOf(key)]; }
 
-  /** A set of cells with a byte for each possible cell: a step of many balls is several times faster than with a Set. */
+    /** Returns the upper left cell of the block that has a cell. Even steps take even blocks. */
+    blockOf(key, odd) { return key - ((key ^ odd) & 1) - ((((key >> this.bits) ^ odd) & 1) << this.bits); }
+  }
+
+  /** A set of cells of a layout with a byte for each possible cell: a step of many balls is several times faster than with a Set. */
   class Cells {
-    /** @param {Iterable<number>} keys */
-    constructor(keys) {
-      this.bytes = new Uint8Array(CELLS);
+    /** @param {Iterable<number>} keys @param {Grid} grid */
+    constructor(keys, grid) {
+      Object.assign(this, { grid, bytes: new Uint8Array(grid.count) });
       for (const key of keys) this.bytes[key] = 1;
     }
 
     /** @returns {Cells} */
     copy() {
-      const same = new Cells([]);
+      const same = new Cells([], this.grid);
       same.bytes.set(this.bytes);
       return same;
     }
@@ -70,15 +76,14 @@ const bbmlab = {};
   }
 
   // The number of the pass in which each block was last looked at.
-  const passes = new Int32Array(CELLS);
-  let pass = 0;
+  let passes = new Int32Array(0), pass = 0;
 
   /**
    * Applies the block rule to the block at `a`. One ball crosses the block; two on a diagonal go to the other diagonal;
    * everything else stays (Margolus 1984, block rule).
    */
-  function turnBlock(bytes, a, changed) {
-    const b = a + 1, c = a + ROW, d = a + ROW + 1, one = bytes[a] + bytes[d], other = bytes[b] + bytes[c], both = one + other;
+  function turnBlock(bytes, row, a, changed) {
+    const b = a + 1, c = a + row, d = c + 1, one = bytes[a] + bytes[d], other = bytes[b] + bytes[c], both = one + other;
     if (both !== 1 && (both !== 2 || one === 1)) return;
     if (both === 2 || one === 1) { bytes[a] ^= 1; bytes[d] ^= 1; changed.push(a, d); }
     if (both === 2 || other === 1) { bytes[b] ^= 1; bytes[c] ^= 1; changed.push(b, c); }
@@ -92,14 +97,15 @@ const bbmlab = {};
    * @returns {number[]}
    */
   function turnBlocks(live, lists, odd) {
-    const changed = [];
+    const changed = [], { bytes, grid } = live, { row } = grid;
+    if (passes.length < bytes.length) passes = new Int32Array(bytes.length);
     pass = pass === 0x7fffffff ? (passes.fill(0), 1) : pass + 1;
     for (const cells of lists) {
       for (let index = 0; index < cells.length; index += 1) {
-        const block = blockOf(cells[index], odd);
+        const block = grid.blockOf(cells[index], odd);
         if (passes[block] === pass) continue;
         passes[block] = pass;
-        turnBlock(live.bytes, block, changed);
+        turnBlock(bytes, row, block, changed);
       }
     }
     return changed;
@@ -109,15 +115,16 @@ const bbmlab = {};
    * Returns the cells that are live at the start.
    * @param {Layout} layout
    * @param {(name: string) => boolean} isOn whether a wire is true
+   * @param {Grid} grid
    * @returns {number[]}
    */
-  function startKeys(layout, isOn) {
+  function startKeys(layout, isOn, grid) {
     const keys = [];
     for (const [x, y, w, h] of layout.mirrors) {
-      for (let v = y; v < y + h; v += 1) for (let u = x; u < x + w; u += 1) keys.push(keyOf(u, v));
+      for (let v = y; v < y + h; v += 1) for (let u = x; u < x + w; u += 1) keys.push(grid.keyOf(u, v));
     }
-    for (const [x, y] of layout.balls) keys.push(keyOf(x, y));
-    for (const port of layout.ins) if (isOn(port.name)) keys.push(keyOf(...port.cell));
+    for (const [x, y] of layout.balls) keys.push(grid.keyOf(x, y));
+    for (const port of layout.ins) if (isOn(port.name)) keys.push(grid.keyOf(...port.cell));
     return keys;
   }
 
@@ -128,9 +135,9 @@ const bbmlab = {};
   class WholeRun {
     /** @param {Layout} layout @param {Set<string>} on the inputs that are true */
     constructor(layout, on) {
-      this.layout = layout;
-      const keys = startKeys(layout, (name) => on.has(name));
-      this.live = new Cells(keys);
+      Object.assign(this, { layout, grid: new Grid(layout) });
+      const keys = startKeys(layout, (name) => on.has(name), this.grid);
+      this.live = new Cells(keys, this.grid);
       this.time = 0;
       this.direction = 1;
       // What changed in the last two steps, or null where that is not known. At the start all live cells may.
@@ -149,7 +156,7 @@ const bbmlab = {};
 
     /** Whether a cell lies in the rectangle. */
     isInside(key) {
-      const x = xOf(key), y = yOf(key);
+      const x = this.grid.xOf(key), y = this.grid.yOf(key);
       return x >= 0 && y >= 0 && x < this.layout.width && y < this.layout.height;
     }
 
@@ -189,7 +196,7 @@ const bbmlab = {};
     jump(time) {
       const near = [...this.snapshots.keys()].reduce((best, at) => (Math.abs(at - time) < Math.abs(best - time) ? at : best), this.time);
       if (near === this.time) return;
-      this.live = new Cells(this.snapshots.get(near));
+      this.live = new Cells(this.snapshots.get(near), this.grid);
       this.time = near;
       this.recent = [null, null];
     }
@@ -282,14 +289,15 @@ const bbmlab = {};
     /** @param {Data} data @param {number} number @param {number} assignment */
     constructor(data, number, assignment) {
       const module = data.certificate.modules[number];
-      Object.assign(this, { data, module, number, assignment });
+      Object.assign(this, { data, module, number, assignment, grid: new Grid(data.layout) });
       this.values = addGates(data.circuit, module.uses, new Map(module.cuts.map((name, index) => [name, Boolean(assignment >> index & 1)])));
       this.values.set("1", true);
       this.every = snapshotStep(data.layout.steps);
       this.always = [];
       this.timed = new Map();
       for (const line of heardLines(data, number)) if (this.values.get(line[3])) this.hear(line);
-      this.live = new Cells(startKeys(data.layout, (name) => Boolean(this.values.get(name))).filter((key) => this.isInside(key)));
+      const keys = startKeys(data.layout, (name) => Boolean(this.values.get(name)), this.grid);
+      this.live = new Cells(keys.filter((key) => this.isInside(key)), this.grid);
       this.time = 0;
       this.recent = null;
       this.snapshots = new Map([[0, Int32Array.from(this.live.keys())]]);
@@ -298,13 +306,13 @@ const bbmlab = {};
     /** Files a line whose signal is true. */
     hear([time, x, y]) {
       if (time !== null && !this.timed.has(time)) this.timed.set(time, []);
-      (time === null ? this.always : this.timed.get(time)).push(keyOf(x, y));
+      (time === null ? this.always : this.timed.get(time)).push(this.grid.keyOf(x, y));
     }
 
     /** Whether a cell lies in the box. */
     isInside(key) {
-      const [x, y, w, h] = this.module.box;
-      return xOf(key) >= x && yOf(key) >= y && xOf(key) < x + w && yOf(key) < y + h;
+      const [x, y, w, h] = this.module.box, u = this.grid.xOf(key), v = this.grid.yOf(key);
+      return u >= x && v >= y && u < x + w && v < y + h;
     }
 
     /** Returns the cells around the box that the module is told to be live now. */
@@ -334,7 +342,7 @@ const bbmlab = {};
     seek(time) {
       const start = Math.max(...[...this.snapshots.keys()].filter((at) => at <= time));
       if (time < this.time || start > this.time) {
-        this.live = new Cells(this.snapshots.get(start));
+        this.live = new Cells(this.snapshots.get(start), this.grid);
         this.time = start;
         this.recent = null;
       }
@@ -342,7 +350,7 @@ const bbmlab = {};
     }
   }
 
-  Object.assign(bbmlab, { Cells, WholeRun, ModuleRun, circuitValues, startKeys, trail, keyOf, xOf, yOf, CELLS });
+  Object.assign(bbmlab, { Grid, Cells, WholeRun, ModuleRun, circuitValues, startKeys, trail });
 }
 
 if (typeof module !== "undefined") module.exports = bbmlab;

@@ -79,7 +79,7 @@
   /** Shows the outputs and what depends on the run's end. */
   function showEnd() {
     const results = player.results();
-    stage.good = results && new Map(results.flatMap(({ cells }) => cells.map(({ cell, isGood }) => [bbmlab.keyOf(...cell), isGood])));
+    stage.good = results && new Map(results.flatMap(({ cells }) => cells.map(({ cell, isGood }) => [String(cell), isGood])));
     panels.showResults(player, goToCell);
     showTime();
     stage.paint();

@@ -7,7 +7,7 @@
 "use strict";
 
 {
-  const { keyOf, xOf, yOf, placeNames } = bbmlab;
+  const { placeNames } = bbmlab;
   const INKS = ["ink", "soft", "paper", "plane", "grid", "border", "mirror", "ball", "box", "good", "bad", "edge", "halo", "stop", "wave"];
   const MARKS = { edge: "E", halo: "H", stop: "S" };
   const RULER = { wide: 32, high: 18 };
@@ -59,23 +59,23 @@
     pen.stroke();
   }
 
-  /** Returns the cells that can be seen: x0, y0, x1, y1, the ends not included. */
-  function seenRange({ left, top, wide, high, scale }) {
-    return [Math.max(-2, Math.floor(left)), Math.max(-2, Math.floor(top)), Math.min(514, Math.ceil(left + wide / scale)),
-      Math.min(514, Math.ceil(top + high / scale))];
+  /** Returns the cells of a layout and next to it that can be seen: x0, y0, x1, y1, the ends not included. */
+  function seenRange({ left, top, wide, high, scale }, { width, height }) {
+    return [Math.max(-2, Math.floor(left)), Math.max(-2, Math.floor(top)), Math.min(width + 2, Math.ceil(left + wide / scale)),
+      Math.min(height + 2, Math.ceil(top + high / scale))];
   }
 
   /** Returns the live cells that can be seen: mirrors as rectangles x, y, w, h, and balls as x, y, x, y… */
   function seenCells(place, live, mirrors) {
-    const [x0, y0, x1, y1] = seenRange(place), balls = [], bars = [], open = new Map(), bytes = live.bytes;
+    const [x0, y0, x1, y1] = seenRange(place, live.grid), balls = [], bars = [], open = new Map(), { bytes, grid } = live;
     for (let y = y0; y < y1; y += 1) {
-      for (let x = x0, key = keyOf(x0, y); x < x1; x += 1, key += 1) {
+      for (let x = x0, key = grid.keyOf(x0, y); x < x1; x += 1, key += 1) {
         if (bytes[key] === 0) continue;
         if (!mirrors.has(key)) { balls.push(x, y); continue; }
         const start = x;
         while (x + 1 < x1 && bytes[key + 1] === 1 && mirrors.has(key + 1)) { x += 1; key += 1; }
         // A row of mirror cells below an equal one makes that one higher: fewer rectangles take less time.
-        const size = start * 1024 + x + 1 - start, above = open.get(size);
+        const size = start * grid.row + x + 1 - start, above = open.get(size);
         if (above && above[1] + above[3] === y) above[3] += 1; else { open.set(size, [start, y, x + 1 - start, 1]); bars.push(open.get(size)); }
       }
     }
@@ -108,7 +108,7 @@
   }
 
   /** Draws the last moves of the balls, the latest step first. Older ones are fainter. */
-  function trails(place, steps) {
+  function trails(place, steps, cellsOf) {
     const { pen, scale, inks } = place;
     pen.strokeStyle = inks.ball;
     pen.lineWidth = Math.max(1, Math.min(4, scale * 0.16));
@@ -116,10 +116,10 @@
       pen.globalAlpha = 0.55 * (1 - age / steps.length);
       pen.beginPath();
       for (let index = 0; index < moves.length; index += 2) {
-        const from = moves[index], to = moves[index + 1];
-        if (!isSeen(place, xOf(from), yOf(from)) && !isSeen(place, xOf(to), yOf(to))) continue;
-        pen.moveTo(px(place, xOf(from) + 0.5), py(place, yOf(from) + 0.5));
-        pen.lineTo(px(place, xOf(to) + 0.5), py(place, yOf(to) + 0.5));
+        const x = cellsOf.xOf(moves[index]), y = cellsOf.yOf(moves[index]), u = cellsOf.xOf(moves[index + 1]), v = cellsOf.yOf(moves[index + 1]);
+        if (!isSeen(place, x, y) && !isSeen(place, u, v)) continue;
+        pen.moveTo(px(place, x + 0.5), py(place, y + 0.5));
+        pen.lineTo(px(place, u + 0.5), py(place, v + 0.5));
       }
       pen.stroke();
     });
@@ -176,7 +176,7 @@
 
   /** Returns the colour and the sign of an output at the last time. */
   const stateOf = (inks, good, cell) => {
-    const state = good ? good.get(keyOf(...cell)) : undefined;
+    const state = good ? good.get(String(cell)) : undefined;
     return state === undefined ? { ink: inks.ink, sign: "", width: 1.5 } : { ink: state ? inks.good : inks.bad, sign: state ? "✓ " : "✗ ", width: 3 };
   };
 
@@ -257,9 +257,9 @@
 
   /** Marks cells that differ: a cross where only this run has the cell live, an empty square where only the other has. */
   function differences(place, more, less) {
-    for (const key of less) outline(place, [xOf(key), yOf(key), 1, 1], place.inks.bad, [], 2, 2.5);
-    for (const key of more) outline(place, [xOf(key), yOf(key), 1, 1], place.inks.bad, [], 0, 2.5);
-    wastes(place, more.map((key) => [xOf(key), yOf(key)]), place.inks.bad);
+    for (const cell of less) outline(place, [...cell, 1, 1], place.inks.bad, [], 2, 2.5);
+    for (const cell of more) outline(place, [...cell, 1, 1], place.inks.bad, [], 0, 2.5);
+    wastes(place, more, place.inks.bad);
   }
 
   /** Writes a number of a ruler, on a plate if the pointer is there. */
@@ -294,7 +294,7 @@
     pen.moveTo(RULER.wide + 0.5, 0); pen.lineTo(RULER.wide + 0.5, high);
     pen.stroke();
     pen.font = "11px system-ui, sans-serif";
-    const [x0, y0, x1, y1] = seenRange(place);
+    const [x0, y0, x1, y1] = seenRange(place, { width, height });
     const numbers = (first, last, size, distance) => [...Array(Math.max(0, Math.min(last, size) - Math.max(0, first))).keys()]
       .map((index) => index + Math.max(0, first)).filter((number) => number % rulerStep(scale, distance) === 0);
     const columns = numbers(x0, x1, width, 30), rows = numbers(y0, y1, height, 18);
@@ -318,7 +318,7 @@
     const box = [0, 0, layout.width, layout.height];
     grid(place, box, odd);
     outline(place, box, place.inks.soft, [], 0, 1.5);
-    trails(place, trail);
+    trails(place, trail, live.grid);
     cells(place, live, mirrors);
     modules(place, boxes, chosen);
     lines(place, said);

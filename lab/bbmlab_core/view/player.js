@@ -2,7 +2,7 @@
 "use strict";
 
 {
-  const { WholeRun, ModuleRun, circuitValues, keyOf, waveform } = bbmlab;
+  const { WholeRun, ModuleRun, circuitValues, waveform } = bbmlab;
   // How long the runs may take before the page gets its turn, in milliseconds. `slice` of a player sets another time for the run to the end.
   const AHEAD_SLICE = 25, SEEK_SLICE = 40;
 
@@ -156,7 +156,7 @@
       if (!this.values || !this.isEnded) return null;
       const found = new Map(), isWhole = this.ahead.time === this.layout.steps;
       for (const { name, cell } of this.layout.outs) {
-        const wanted = this.values.get(name), isLive = this.ahead.live.has(keyOf(...cell));
+        const wanted = this.values.get(name), isLive = this.ahead.live.has(this.ahead.grid.keyOf(...cell));
         if (!found.has(name)) found.set(name, { name, wanted, isGood: true, cells: [] });
         const isGood = isWhole && isLive === wanted, result = found.get(name);
         result.cells.push({ cell, isLive, isGood });

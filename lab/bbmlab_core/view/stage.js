@@ -2,7 +2,7 @@
 "use strict";
 
 {
-  const { Cells, SvgPen, startKeys, trail, keyOf, xOf, yOf, painting, waveform, address } = bbmlab;
+  const { Grid, Cells, SvgPen, startKeys, trail, painting, waveform, address } = bbmlab;
   const { RULER } = painting;
   // A trail has so many steps, and fewer if the balls are many: 24,000 moves take 15 ms of a frame to draw without a graphics processor.
   const TRAIL_STEPS = 24, MAX_MOVES = 8000, FIT_SCALE = 60;
@@ -15,7 +15,13 @@
     constructor(player, parts) {
       Object.assign(this, { player, parts, layout: player.layout, fault: null, mark: null, module: null, pointed: null });
       Object.assign(this, { scale: 10, left: 0, top: 0, isFit: true, hasTrails: true, frame: null, good: null, axis: null });
-      this.mirrors = new Cells(startKeys({ mirrors: this.layout.mirrors, balls: [], ins: [] }, () => false));
+      this.takeMirrors();
+    }
+
+    /** Notes the cells of the layout's mirrors. */
+    takeMirrors() {
+      const grid = new Grid(this.layout);
+      this.mirrors = new Cells(startKeys({ mirrors: this.layout.mirrors, balls: [], ins: [] }, () => false, grid), grid);
     }
 
     /** Returns the size of the whole picture, and of its part beside the rulers, in pixels. */
@@ -87,7 +93,7 @@
 
     /** Says what there is at a cell now: "(99, 82): ball, in p, module 3". */
     wordsOf([x, y]) {
-      const { layout, mirrors, player } = this, key = keyOf(x, y), words = [], isLive = player.run.live.has(key);
+      const { layout, mirrors, player } = this, key = mirrors.grid.keyOf(x, y), words = [], isLive = player.run.live.has(key);
       if (mirrors.has(key)) words.push(isLive ? "mirror" : "dead mirror cell"); else if (isLive) words.push("ball");
       const isHere = ({ cell }) => cell[0] === x && cell[1] === y;
       for (const [kind, found] of [["in", layout.ins], ["out", layout.outs]]) words.push(...found.filter(isHere).map(({ name }) => `${kind} ${name}`));
@@ -149,7 +155,7 @@
       const canvas = this.parts.own, { own, run } = this.player, [x, y, w, h] = own.module.box, { clientWidth, clientHeight } = canvas;
       const scale = Math.min(48, clientWidth / (w + 4), clientHeight / (h + 4));
       const place = painting.placeOn(canvas, scale, x + w / 2 - clientWidth / scale / 2, y + h / 2 - clientHeight / scale / 2);
-      const heard = own.heardNow().map((key) => [xOf(key), yOf(key)]), { more, less } = this.differences();
+      const heard = own.heardNow().map((key) => own.grid.cellOf(key)), { more, less } = this.differences();
       painting.grid(place, own.module.box, own.time % 2);
       painting.outline(place, own.module.box, place.inks.box, [6, 4], 0, 1.5);
       painting.cells(place, own.live, this.mirrors);
@@ -160,11 +166,12 @@
       this.parts.note.textContent = own.time === run.time ? this.differenceWords() + told : "";
     }
 
-    /** Returns the cells that are live only in the module's own run, and those that are live only in the whole run. */
+    /** Returns the cells that are live only in the module's own run, and those that are live only in the whole run. @returns {{more: Cell[], less: Cell[]}} */
     differences() {
       const { own, run } = this.player;
       if (!own || own.time !== run.time) return { more: [], less: [] };
-      return { more: own.live.keys().filter((key) => !run.live.has(key)), less: run.live.keys().filter((key) => own.isInside(key) && !own.live.has(key)) };
+      const more = own.live.keys().filter((key) => !run.live.has(key)), less = run.live.keys().filter((key) => own.isInside(key) && !own.live.has(key));
+      return { more: more.map((key) => own.grid.cellOf(key)), less: less.map((key) => run.grid.cellOf(key)) };
     }
 
     /** Says how many cells differ. */

@@ -2,20 +2,20 @@
  * Records when the cells of ports and stops are live, and draws it: a row for each wire and cell. Adds `bbmlab.waveform`.
  *
  * @typedef {{time: number, kind: string}} Mark the time at which the cell has to be live if and only if the wire is true
- * @typedef {{wire: string, key: number, marks: Mark[]}} Probe
+ * @typedef {{wire: string, cell: Cell, key: number, marks: Mark[]}} Probe `key` is the number of the cell
  */
 "use strict";
 
 {
-  const { keyOf, xOf, yOf, CELLS } = bbmlab;
+  const { Grid } = bbmlab;
   const ROW_HEIGHT = 20, AXIS_HEIGHT = 18, MAX_NAMES = 260;
 
   /** Returns the cells to watch, in the order of the circuit's wires, and of one wire in the order of time. @type {(data: Data) => Probe[]} */
   function probesOf(data) {
-    const { layout, circuit, certificate } = data, found = new Map();
+    const { layout, circuit, certificate } = data, grid = new Grid(layout), found = new Map();
     const file = (wire, cell, time, kind) => {
-      const key = keyOf(...cell), id = `${wire} ${key}`;
-      if (!found.has(id)) found.set(id, { wire, key, marks: [] });
+      const key = grid.keyOf(...cell), id = `${wire} ${key}`;
+      if (!found.has(id)) found.set(id, { wire, cell, key, marks: [] });
       const { marks } = found.get(id);
       if (!marks.some((mark) => mark.time === time && mark.kind === kind)) marks.push({ time, kind });
     };
@@ -44,7 +44,7 @@
     /** @param {Probe[]} probes @param {WholeRun} run a run at time 0 */
     constructor(probes, run) {
       // The number of the signal of each cell, or null if no cell is watched.
-      this.at = probes.length ? new Int32Array(CELLS).fill(-1) : null;
+      this.at = probes.length ? new Int32Array(run.live.bytes.length).fill(-1) : null;
       this.signals = [];
       for (const { key } of probes) {
         if (this.at[key] >= 0) continue;
@@ -88,7 +88,7 @@
   }
 
   /** Writes what a row is of. */
-  const nameOf = ({ wire, key, marks }) => `${wire} ${[...new Set(marks.map((mark) => mark.kind))].join("/")} (${xOf(key)}, ${yOf(key)})`;
+  const nameOf = ({ wire, cell, marks }) => `${wire} ${[...new Set(marks.map((mark) => mark.kind))].join("/")} (${cell.join(", ")})`;
 
   /** Draws the times below the rows. */
   function paintAxis(place, { left, unit }, steps) {

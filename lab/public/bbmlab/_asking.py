@@ -83,15 +83,15 @@ class Explanation:
         return self.text
 
 
-def program_path(program: str | None) -> str:
-    """Returns the path of the program. Raises ProgramError if there is none."""
+def opened_program(program: str | None) -> programs.Executable:
+    """Opens the program. Raises ProgramError if there is none."""
     try:
         return programs.find_program(program)
     except programs.ProgramError as error:
         raise ProgramError(str(error)) from error
 
 
-def answer_of(program: str, command: str, text: str, timeout: float | None) -> programs.Answer:
+def answer_of(program: programs.Executable, command: str, text: str, timeout: float | None) -> programs.Answer:
     """Returns what the program answers. Raises ProgramError and TimeoutError if it gives no answer."""
     try:
         answer = programs.ask(program, command, text.encode("latin-1"), timeout)
@@ -119,7 +119,7 @@ def check(text: str | Bundle, *, program: str | None = None, timeout: float | No
     Raises RefusedError if the program refuses the text, TimeoutError after `timeout` seconds, and ProgramError if it gives no report.
     """
     data = characters(text)
-    answer = answer_of(program_path(program), "check", data, timeout)
+    answer = answer_of(opened_program(program), "check", data, timeout)
     try:
         report = parse_report(answer.output)
     except ReportError as error:
@@ -138,14 +138,14 @@ def explain(text: str | Bundle, *, effort: float = 30.0, program: str | None = N
     Raises ProgramError if the program gives no answer.
     """
     data = characters(text)
-    command, path = command_for(data), program_path(program)
+    command, asked = command_for(data), opened_program(program)
     command = COMMANDS.get(command, command)
-    answer = answer_of(path, command, data, None)
+    answer = answer_of(asked, command, data, None)
     why = why_no_verdict(answer) if command == "check" else None
     if why:
         raise ProgramError(f"the program gave no verdict: {why}")
     try:
-        explanation = explain_answer(data, command, answer.output, "text", Trial(path, Budget(seconds=effort)))
+        explanation = explain_answer(data, command, answer.output, "text", Trial(asked, Budget(seconds=effort)))
     except ReportError as error:
         raise ProgramError(str(error)) from error
     fixed = None if explanation.fixed is None else explanation.fixed.encode("latin-1").decode("utf-8", "replace")

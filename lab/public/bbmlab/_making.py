@@ -3,19 +3,24 @@
 from __future__ import annotations
 
 from dataclasses import replace
-from typing import Iterable
+from typing import Callable, Iterable
 
 from bbmlab_core import boxes as core_boxes
 from bbmlab_core.certificates import StopLine
 from bbmlab_core.certify import Plan, certified, checked_boxes
 from bbmlab_core.documents import read_document
-from bbmlab_core.route.command import check_side
+from bbmlab_core.limits import sections_after_line
+from bbmlab_core.netlists import NetlistError, map_netlist, netlist_format
+from bbmlab_core.route.certificate import circuit_section
+from bbmlab_core.route.command import check_side, require_all_keeps
 from bbmlab_core.route.search import Options, Search
 from bbmlab_core.route.settings import Settings
+from bbmlab_core.row_check import missing_row
+from bbmlab_core.spelling import spelled
 from bbmlab_core.terminal import LabError
 
 from ._errors import NotFoundError, RefusedError
-from ._reading import document_of, read
+from ._reading import document_of, read, text_of
 from ._sections import Bundle, Circuit
 
 # The status of a LabError for wrong arguments.
@@ -61,22 +66,61 @@ def certify(bundle: Bundle, *, grid: tuple[int, int] | None = None, boxes: Itera
         raise ValueError(f"the boxes give no certificate: {refused.reason}") from refused
 
 
-def route(circuit: Circuit, *, seed: int = 1, size: int | None = None, effort: float = 60.0, jobs: int = 1, compact: bool = False) -> Bundle:
+class Cancelled(KeyboardInterrupt):
+    """Ends a search, as an interrupt does."""
+
+
+def circuit_text(circuit: Circuit | str) -> str:
+    """Returns the text of a circuit: also of a netlist, which is mapped, and of a text that begins with a circuit."""
+    if isinstance(circuit, Circuit):
+        return str(circuit)
+    if netlist_format(circuit) is None:
+        return circuit_section(spelled(circuit).text)
+    try:
+        return map_netlist(circuit).text
+    except NetlistError as error:
+        raise ValueError(f"the netlist cannot be mapped: {error}") from error
+
+
+def route(circuit: Circuit | str, *, seed: int = 1, size: int | None = None, effort: float = 60.0, jobs: int = 1, compact: bool = False,
+          progress: Callable[[int, int, int, int], object] | None = None, cancel: Callable[[], bool] | None = None) -> Bundle:
     """Returns a circuit with a layout and a certificate, placed and routed by the lab. The program has not checked it.
 
-    Raises RefusedError if the circuit is refused, ValueError for a wrong number, and NotFoundError if no route is found in `effort` seconds.
+    A `str` is a netlist, in BLIF or the JSON of yosys, or a text that begins with a circuit. While gates are placed, `progress` is called with
+    the number of the attempt, its side, and how many gates of how many are placed, and a `cancel` that returns True ends the search.
+
+    Raises RefusedError if the circuit is refused, ValueError for a wrong number or a netlist that cannot be mapped, and NotFoundError if the
+    circuit has no values under some inputs, if no route is found in `effort` seconds, or if the search was cancelled.
     """
     if min(seed, jobs) < 1 or effort <= 0:
         raise ValueError("seed and jobs are from 1, and effort is more than 0 seconds")
-    text = str(circuit)
-    model = document_of(text, "circuit").circuit
+    given = circuit_text(circuit)
+    model = document_of(text_of(circuit) if isinstance(circuit, Circuit) else given, "circuit").circuit
+    text = sections_after_line(given)
     assert model is not None
     try:
         check_side(size)
+        why = missing_row(model)
+        if why:
+            raise NotFoundError(why)
+        require_all_keeps("the circuit", model)
     except LabError as error:
-        raise ValueError(str(error)) from error
-    outcome = Search(model, text, Options(seed, size, effort, jobs, compact), Settings(), lambda *_: None).run()
-    if outcome.is_interrupted:
+        raise ValueError(str(error).removeprefix("--")) if error.status == WRONG_ARGUMENTS else own_error(error) from error
+    is_cancelled = False
+
+    def tell(attempt: int, side: int, placed: int, total: int) -> None:
+        """Hands on how far the search is, and ends it if it is cancelled."""
+        nonlocal is_cancelled
+        if progress:
+            progress(attempt, side, placed, total)
+        if cancel and cancel():
+            is_cancelled = True
+            raise Cancelled
+
+    outcome = Search(model, text, Options(seed, size, effort, jobs, compact), Settings(), tell).run()
+    if is_cancelled and outcome.routed is None:
+        raise NotFoundError(f"the search was cancelled: {outcome.placed} of {outcome.total} gates were placed at most")
+    if outcome.is_interrupted and not is_cancelled:
         raise KeyboardInterrupt
     if outcome.routed is None:
         raise NotFoundError(outcome.reason or "the time was over before the first attempt ended")

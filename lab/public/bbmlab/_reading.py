@@ -8,7 +8,7 @@ from bbmlab_core import certificates, circuits, layouts
 from bbmlab_core.certificates import BorderLine
 from bbmlab_core.documents import Document, read_document
 from bbmlab_core.layouts import Part
-from bbmlab_core.lines import MAX_TEXT_BYTES
+from bbmlab_core.limits import limits_for, limits_of
 from bbmlab_core.refusals import explain_refusal
 
 from ._errors import RefusedError
@@ -25,8 +25,9 @@ def characters(text: str | Bundle) -> str:
     if not isinstance(text, str):
         raise TypeError(f"a text is a str or a Bundle, and not {type(text).__name__}")
     data = text if text.isascii() else text.encode("utf-8", "surrogatepass").decode("latin-1")
-    if len(data) > MAX_TEXT_BYTES:
-        raise OSError(errno.EFBIG, f"a text of {len(data)} bytes is longer than {MAX_TEXT_BYTES}")
+    most = limits_of(data).max_bytes
+    if len(data) > most:
+        raise OSError(errno.EFBIG, f"a text of {len(data)} bytes is longer than {most}")
     return data
 
 
@@ -37,6 +38,15 @@ def document_of(text: str, command: str | None = None) -> Document:
         refusal = document.refusal
         raise RefusedError(refusal.line, refusal.code, " ".join(explain_refusal(document, refusal).what))
     return document
+
+
+def text_of(section: Circuit | Layout) -> str:
+    """Returns the text of a circuit or a layout alone, after the line that raises its limits if one asks for it."""
+    if isinstance(section, Layout):
+        limits = limits_for(max(section.width, section.height), section.steps)
+    else:
+        limits = limits_for(gates=len(section.gates), wires=len(section.inputs) + sum(len(gate.outs) for gate in section.gates))
+    return limits.head + str(section)
 
 
 def circuit_of(circuit: circuits.Circuit) -> Circuit:
@@ -77,10 +87,10 @@ def certificate_of(certificate: certificates.Certificate) -> Certificate:
 def read(text: str) -> Bundle:
     """Reads a text with the sections of some command of the program, or with a circuit and a layout.
 
-    Raises RefusedError if the lab's reader refuses it, and OSError if it is longer than 16 MiB.
+    Raises RefusedError if the lab's reader refuses it, and OSError if it is longer than the program reads.
     """
     document = document_of(text)
     return Bundle(None if document.circuit is None else circuit_of(document.circuit),
                   None if document.layout is None else layout_of(document.layout),
                   None if document.certificate is None else certificate_of(document.certificate),
-                  None if document.on is None else tuple(document.on))
+                  None if document.on is None else tuple(document.on), document.limits.number)

@@ -6,7 +6,7 @@ from typing import Iterable, Iterator, NamedTuple
 
 from bbmlab_core.simulation import ModuleRun, WholeRun, run_layout
 
-from ._reading import document_of
+from ._reading import document_of, text_of
 from ._sections import Bundle, Cell, Layout
 
 
@@ -23,7 +23,7 @@ def simulate(layout: Layout, inputs: Iterable[str] = (), steps: int | None = Non
 
     Raises RefusedError for a layout that is refused, and ValueError for another name than that of an `in` cell or negative steps.
     """
-    model = document_of(str(layout), "layout").layout
+    model = document_of(text_of(layout), "layout").layout
     assert model is not None
     on, last = set(inputs), layout.steps if steps is None else steps
     unknown = sorted(on - {port.name for port in layout.ins})

@@ -7,6 +7,7 @@ from typing import NamedTuple
 
 from bbmlab_core.circuits import CircuitReader
 from bbmlab_core.gates import GATE_SIZES
+from bbmlab_core.limits import FIRST, SECOND
 from bbmlab_core.lines import match_form
 
 Cell = tuple[int, int]
@@ -219,14 +220,16 @@ class Certificate:
 
 @dataclass(frozen=True)
 class Bundle:
-    """The sections of a text; None for a section that it lacks. `on` is the assign section."""
+    """The sections of a text; None for a section that it lacks. `on` is the assign section, and `limits` 2 for a first line `limits 2`."""
 
     circuit: Circuit | None = None
     layout: Layout | None = None
     certificate: Certificate | None = None
     on: tuple[str, ...] | None = None
+    limits: int = FIRST.number
 
     def __str__(self) -> str:
         """Writes the text."""
+        front = SECOND.head if self.limits == SECOND.number else ""
         assign = None if self.on is None else section_text(["assign", *(f"on {name}" for name in self.on)])
-        return "".join(str(section) for section in (self.circuit, self.layout, assign, self.certificate) if section is not None)
+        return front + "".join(str(section) for section in (self.circuit, self.layout, assign, self.certificate) if section is not None)

@@ -1,0 +1,57 @@
+"""What is known of a search before it begins: the circuit's size, the side that is tried first, and how such circuits fared when measured."""
+
+from dataclasses import dataclass
+
+from .netlist import Netlist
+
+
+@dataclass(frozen=True)
+class Measured:
+    """Circuits that `bench/route` routed (bench/README.md): how many got a yes, and the median of their processor seconds.
+
+    `gates` is the most gates that one of them has.
+    """
+
+    gates: int
+    found: int
+    tried: int
+    seconds: int
+
+
+MEASURED: tuple[Measured, ...] = ()
+
+
+@dataclass(frozen=True)
+class Estimate:
+    """The gates, levels and ends of a circuit, and the side that is tried first. An end is a ball at the last time."""
+
+    gates: int
+    levels: int
+    ends: int
+    side: int
+
+    def words(self) -> str:
+        """Returns the estimate as sentences."""
+        size = f"{counted(self.gates, 'gate')} in {counted(self.levels, 'level')}, {counted(self.ends, 'ball')} at the end: first side {self.side}."
+        like = next((row for row in MEASURED if self.gates <= row.gates), None)
+        if like is None:
+            most = MEASURED[-1].gates if MEASURED else 0
+            return f"{size} No circuit of more than {most} gates was measured."
+        return (f"{size} Of {like.tried} circuits of up to {like.gates} gates {like.found} got a route when measured, in a median of "
+                f"{like.seconds} processor seconds.")
+
+
+def counted(count: int, noun: str) -> str:
+    """Returns a number with its noun."""
+    return f"{count} {noun}{'' if count == 1 else 's'}"
+
+
+def estimate_of(netlist: Netlist, side: int) -> Estimate:
+    """Returns the estimate for a circuit that is tried first with a side."""
+    levels: dict[str, int] = {}
+    for gate in netlist.circuit.gates:
+        own = 0 if gate.word in ("source", "delay") else 1
+        level = max((levels.get(wire, 0) for wire in gate.ins), default=0) + own
+        levels.update((wire, level) for wire in gate.outs)
+    ends = [wire for wire in (*netlist.circuit.outputs, *netlist.circuit.spills) if not netlist.is_zero(wire)]
+    return Estimate(len(netlist.gates), max(levels.values(), default=0), len(ends), side)

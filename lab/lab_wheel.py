@@ -1,0 +1,88 @@
+"""Builds the wheel of the lab for pip (PEP 517). It needs nothing but Python, so `pip install ./lab` works without a network, and it writes
+nothing next to the sources.
+
+The packages are pure Python, and what a wheel contains is written in `pyproject.toml`.
+"""
+
+import base64
+import hashlib
+import os
+import re
+import tomllib
+import zipfile
+from pathlib import Path
+from typing import Any, Iterator
+
+HERE = Path(__file__).resolve().parent
+# The date of all files of a wheel: the bytes depend on the sources alone.
+DATE = (1980, 1, 1, 0, 0, 0)
+
+
+def project() -> dict[str, Any]:
+    """Returns what `pyproject.toml` says."""
+    with open(HERE / "pyproject.toml", "rb") as file:
+        return tomllib.load(file)
+
+
+def version() -> str:
+    """Returns the version of the lab."""
+    found = re.search(r'^VERSION = "([^"]+)"$', (HERE / "bbmlab_core" / "__init__.py").read_text(encoding="utf-8"), re.MULTILINE)
+    assert found, "bbmlab_core/__init__.py has no line VERSION"
+    return found[1]
+
+
+def files_of(settings: dict[str, Any]) -> Iterator[tuple[str, Path]]:
+    """Yields the files of the packages with their names in the wheel."""
+    for package, place in settings["packages"].items():
+        for path in sorted((HERE / place).iterdir()):
+            if path.suffix == ".py" or any(path.match(pattern) for pattern in settings["data"].get(package, [])):
+                yield f"{package.replace('.', '/')}/{path.name}", path
+
+
+def metadata(about: dict[str, Any]) -> str:
+    """Returns the description of the package."""
+    lines = ["Metadata-Version: 2.1", f"Name: {about['name']}", f"Version: {version()}", f"Summary: {about['description']}",
+             f"License: {about['license']['text']}", f"Requires-Python: {about['requires-python']}"]
+    for extra, needed in about["optional-dependencies"].items():
+        lines += [f"Provides-Extra: {extra}", *(f'Requires-Dist: {name}; extra == "{extra}"' for name in needed)]
+    return "\n".join([*lines, "Description-Content-Type: text/markdown", "", about["readme"]["text"]])
+
+
+def contents() -> dict[str, bytes]:
+    """Returns the files of the wheel, without the list of them."""
+    settings = project()
+    about, folder = settings["project"], f"bbmlab-{version()}.dist-info"
+    scripts = "".join(f"{name} = {target}\n" for name, target in about["scripts"].items())
+    found = {name: path.read_bytes() for name, path in files_of(settings["tool"]["lab_wheel"])}
+    return {**found, f"{folder}/METADATA": metadata(about).encode(), f"{folder}/entry_points.txt": f"[console_scripts]\n{scripts}".encode(),
+            f"{folder}/WHEEL": b"Wheel-Version: 1.0\nGenerator: lab_wheel\nRoot-Is-Purelib: true\nTag: py3-none-any\n"}
+
+
+def build_wheel(wheel_directory: str, config_settings: Any = None, metadata_directory: Any = None) -> str:
+    """Writes the wheel to a folder, and returns its name."""
+    files, name = contents(), f"bbmlab-{version()}-py3-none-any.whl"
+    record = f"bbmlab-{version()}.dist-info/RECORD"
+    digests = {file: base64.urlsafe_b64encode(hashlib.sha256(data).digest()).rstrip(b"=").decode() for file, data in files.items()}
+    lines = [f"{file},sha256={digests[file]},{len(data)}" for file, data in files.items()]
+    files[record] = "\n".join([*lines, f"{record},,", ""]).encode()
+    with zipfile.ZipFile(Path(wheel_directory) / name, "w", zipfile.ZIP_DEFLATED) as wheel:
+        for file, data in files.items():
+            entry = zipfile.ZipInfo(file, DATE)
+            entry.external_attr = 0o100644 << 16
+            wheel.writestr(entry, data, zipfile.ZIP_DEFLATED)
+    forget_compiled()
+    return name
+
+
+def get_requires_for_build_wheel(config_settings: Any = None) -> list[str]:
+    """Returns what a build needs: nothing."""
+    return []
+
+
+def forget_compiled() -> None:
+    """Removes what Python wrote when pip imported this file."""
+    compiled = globals().get("__cached__")
+    if compiled and Path(compiled).is_relative_to(HERE):
+        Path(compiled).unlink(missing_ok=True)
+        if Path(compiled).parent.is_dir() and not os.listdir(Path(compiled).parent):
+            Path(compiled).parent.rmdir()

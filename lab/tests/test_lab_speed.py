@@ -1,0 +1,177 @@
+"""Runs that look only at what changes: they say what a plain run says, and take less time and memory."""
+
+import random
+import resource
+import subprocess
+import sys
+import tempfile
+import unittest
+from pathlib import Path
+from unittest import mock
+
+import support
+from bbmlab_core import tracing
+from bbmlab_core.certificates import CertificateReader
+from bbmlab_core.cli import main
+from bbmlab_core.diagnosis import Diagnosis
+from bbmlab_core.documents import Document
+from bbmlab_core.expected_lines import BorderCheck
+from bbmlab_core.explaining import explain_answer
+from bbmlab_core.fixing import Fixer
+from bbmlab_core.layouts import Layout, Part
+from bbmlab_core.program import ask
+from bbmlab_core.simulation import Fault, ModuleRun, WholeRun, key_of, lowest_bit, run_layout
+from bbmlab_core.trials import Budget, Trial
+
+# Memory in which the trace of a large layout fits.
+MEMORY = 400 << 20
+
+
+def read(text: str) -> Document:
+    """Returns a bundle."""
+    return support.read_document(text, "check")
+
+
+def bundles() -> dict[str, Document]:
+    """Returns the worked cases and examples that are read, with few steps, by their names."""
+    found = {case.name: read(case.input.decode("latin-1")) for case in support.worked_cases() if case.words[0] == "check" and len(case.input) < 9_000}
+    found |= {path.stem: read(path.read_text("latin-1")) for path in sorted(support.EXAMPLES.glob("*.txt"))}
+    return {name: document for name, document in found.items() if document.certificate and not document.refusal and document.layout and document.layout.steps <= 130}
+
+
+def plain_least_fault(run: ModuleRun) -> Fault | None:
+    """Returns the least fault of a module by a run that makes each step."""
+    while True:
+        found = [Fault(run.time, rank, cell[1], cell[0], lowest_bit(table)) for rank, cell, table in run.faults_now()]
+        if found or run.time == run.layout.steps:
+            return min(found, default=None)
+        run.step()
+
+
+class Runs(unittest.TestCase):
+    """What runs say."""
+
+    def test_least_faults(self) -> None:
+        """The least fault of each module is that of a run that makes each step, also where lines with times are left out or changed."""
+        count = faults = 0
+        chooser = random.Random(81)
+        for name, document in bundles().items():
+            circuit, layout, certificate = document.circuit, document.layout, document.certificate
+            assert circuit and layout and certificate
+            for module in certificate.modules:
+                for change in range(4):
+                    if change and (module.edges or module.halos or module.stops):
+                        lines = chooser.choice([kind for kind in (module.edges, module.halos, module.stops) if kind])
+                        del lines[chooser.randrange(len(lines))]  # type: ignore[attr-defined]
+                    wanted = plain_least_fault(ModuleRun(circuit, layout, certificate, module))
+                    self.assertEqual(ModuleRun(circuit, layout, certificate, module).least_fault(), wanted, (name, module.number))
+                    count, faults = count + 1, faults + (wanted is not None)
+        self.assertGreater(min(count, faults), 150)
+
+    def test_quiet_modules(self) -> None:
+        """A module in which nothing moves makes few of many steps."""
+        document = read("circuit\nsource 1 -> a\noutput a\nend\nlayout 16 16 65534\nmirror 2 5 4 2\nball 8 7\nball 9 7\nball 8 8\nball 9 8\nout a 8 7\nwaste 9 7\nwaste 8 8\n"
+                        "waste 9 8\nend\ncertificate 2\nmodule 0 0 16 16\nuse 0\nend\n")
+        self.assertIsNone(document.refusal)
+        assert document.circuit and document.layout and document.certificate
+        run = ModuleRun(document.circuit, document.layout, document.certificate, document.certificate.modules[0])
+        with mock.patch.object(run, "step", wraps=run.step) as step:
+            self.assertIsNone(run.least_fault())
+        self.assertLess(step.call_count, 20)
+
+    def test_traces(self) -> None:
+        """A trace has the live cells of each time, also where mirrors fall apart and balls leave."""
+        chooser = random.Random(82)
+        broken = 0
+        for _ in range(120):
+            layout = random_layout(chooser)
+            on = [name for name in "pq" if chooser.randrange(2)]
+            trace, run = tracing.trace_layout(layout, on, 0, layout.steps), run_layout(layout, on)
+            states = [run.field.state()]
+            while run.time < layout.steps and run.step():
+                states.append(run.field.state())
+            self.assertEqual(trace.states, states)
+            self.assertEqual(trace.left, run.left and run.left[0])
+            broken += any(moment.gone for moment in trace.moments)
+            time = chooser.randrange(len(states))
+            self.assertEqual(tracing.state_at(layout, on, time), states[time])
+        self.assertGreater(broken, 20)
+
+    def test_borders(self) -> None:
+        """The tables of ring cells by time are those of a run that looks at all cells at each odd time."""
+        for name, document in bundles().items():
+            diagnosis = Diagnosis(document)
+            check, run = BorderCheck(diagnosis), WholeRun(diagnosis.layout, diagnosis.values.tables, diagnosis.values.full)
+            wanted: dict[tuple[int, int], dict[int, int]] | None = {}
+            while wanted is not None and run.time < diagnosis.layout.steps:
+                if run.time % 2:
+                    for cell in check.owners:
+                        if key_of(cell) in run.field.live:
+                            wanted.setdefault(cell, {})[run.time] = run.field.live[key_of(cell)]
+                if not run.step():
+                    wanted = None
+            self.assertEqual(check.seen, wanted, name)
+
+
+def random_layout(chooser: random.Random) -> Layout:
+    """Returns a layout of mirrors, some of which fall apart, and of balls."""
+    free, parts = {(x, y) for x in range(20) for y in range(20)}, []
+    for _ in range(chooser.randrange(1, 6)):
+        part = Part("mirror", None, chooser.randrange(2, 14), chooser.randrange(2, 14), chooser.randrange(1, 5), chooser.randrange(1, 5), 1)
+        if set(part.cells()) <= free:
+            free -= set(part.cells())
+            parts.append(part)
+    cells = chooser.sample(sorted(free), chooser.randrange(1, 12))
+    parts += [Part("ball", None, *cell, 1, 1, 1) for cell in cells[::2]] + [Part("in", "pq"[x % 2], x, y, 1, 1, 1) for x, y in cells[1::2]]
+    return Layout(20, 20, chooser.randrange(1, 30), parts)
+
+
+class Once(unittest.TestCase):
+    """Work that is done once."""
+
+    def test_one_reading_of_a_page(self) -> None:
+        """`view` reads the text once, and `explain` compares the borders of its text once."""
+        text = Path(support.example("wrong_edge")).read_text()
+        with tempfile.TemporaryDirectory() as room, mock.patch("bbmlab_core.certificates.CertificateReader.read", autospec=True, side_effect=CertificateReader.read) as reader:
+            out = str(Path(room) / "page.html")
+            with mock.patch("bbmlab_core.commands.view.trial_of", return_value=None):
+                self.assertEqual(main(["view", "--program", support.program(), support.example("wrong_edge"), "-o", out]), 0)
+            self.assertEqual(reader.call_count, 1)
+        with mock.patch("bbmlab_core.expected_lines.BorderCheck.groups", autospec=True, side_effect=BorderCheck.groups) as groups:
+            explain_answer(text, "check", ask(support.program(), "check", text.encode()).output, "text", Trial(support.program()))
+        own = [call for call in groups.call_args_list if call.args[0].diagnosis.document.text == text]
+        self.assertEqual(len(own), 1)
+
+    def test_effort_is_the_end(self) -> None:
+        """When the effort is used up nothing more is tried, for no line of the report."""
+        text = Path(support.example("wrong_edge")).read_text()
+        trial = Trial(support.program(), Budget(seconds=30))
+        report = trial.report(text)
+        assert report
+        fixer, diagnosis = Fixer(text, report, trial), Diagnosis(read(text))
+        trial.budget = Budget(seconds=0)
+        with mock.patch.object(fixer, "applied_or_none") as applied:
+            self.assertEqual([fixer.find_for(diagnosis, finding) for finding in report.faults], [None] * len(report.faults))
+        self.assertEqual(applied.call_count, 0)
+
+
+class Memory(unittest.TestCase):
+    """What a large layout takes."""
+
+    def test_trace_of_many_mirrors(self) -> None:
+        """The trace of a hundred thousand mirror cells over 500 steps fits into 400 MB."""
+        mirrors = "".join(f"mirror 2 {y} 500 2\n" for y in range(5, 495, 4))
+        text = f"layout 512 512 500\n{mirrors}end\n"
+        with tempfile.TemporaryDirectory() as room:
+            path = Path(room) / "mirrors.txt"
+            path.write_text(text)
+            for more in ([], ["--from", "490"]):
+                ended = subprocess.run([sys.executable, str(support.LAB / "bbmlab"), "trace", *more, "--program", "/nonexistent", str(path)], capture_output=True,
+                                       text=True, check=False, preexec_fn=lambda: resource.setrlimit(resource.RLIMIT_AS, (MEMORY, MEMORY)))
+                self.assertIn(ended.returncode, (0, 1), ended.stderr)
+                self.assertNotIn("dead mirror cells", ended.stdout)
+                self.assertEqual(ended.stderr[:42], "bbmlab: the last state was not compared: t")
+
+
+if __name__ == "__main__":
+    unittest.main()

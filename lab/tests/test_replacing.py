@@ -1,0 +1,177 @@
+"""Files that are written again: what another program wrote meanwhile stays, and so do owner, mode, protection and links."""
+
+import os
+import stat
+import tempfile
+import unittest
+from pathlib import Path
+from unittest import mock
+
+import support
+from bbmlab_core.commands import fmt
+from bbmlab_core.spelling import spelled
+from bbmlab_core.studio.folder import ChangedError, Folder, digest_of
+from bbmlab_core.terminal import LabError, write_bytes
+
+OTHER = b"# of another editor\n"
+
+
+class Room(unittest.TestCase):
+    """Tests with a folder."""
+
+    def setUp(self) -> None:
+        room = tempfile.TemporaryDirectory()
+        self.addCleanup(room.cleanup)
+        self.room = Path(room.name)
+
+    def names(self) -> list[str]:
+        """Returns the names in the folder."""
+        return sorted(path.name for path in self.room.iterdir())
+
+
+class Meanwhile(Room):
+    """A file that another editor saves between the reading and the writing."""
+
+    def test_explain_in_place(self) -> None:
+        """`explain --fix -i` leaves the other editor's bytes and puts the fix beside them. A second result replaces no first one."""
+        file, program = self.room / "design.txt", self.room / "program"
+        program.write_text(f"#!/bin/sh\ncp '{self.room}/other' '{file}'\nexec '{support.program()}' \"$@\"\n")
+        program.chmod(0o755)
+        wrong = Path(support.example("not_gate")).read_bytes().replace(b"out b 4 4\nwaste 7 4\n", b"out b 7 4\nwaste 4 4\n")
+        (self.room / "other").write_bytes(wrong + OTHER)
+        for kept in ("design.txt.new", "design.txt.new2"):
+            file.write_bytes(wrong)
+            ended = support.lab("explain", "--fix", "-i", "--program", str(program), str(file))
+            self.assertEqual(file.read_bytes(), wrong + OTHER)
+            self.assertEqual(ended.returncode, 4, ended.stderr)
+            self.assertIn(f"another program changed it meanwhile, so it stays as it is; the result is in {self.room}/{kept}", ended.stderr)
+            self.assertEqual(support.lab("check", str(self.room / kept), BBMCHECK=support.program()).returncode, 0)
+        self.assertEqual(self.names(), ["design.txt", "design.txt.new", "design.txt.new2", "other", "program"])
+
+    def test_fmt_in_place(self) -> None:
+        """`fmt -i` compares the file with what it read."""
+        file = self.room / "free.txt"
+        before = b"circuit\n\nend\n"
+        file.write_bytes(before + OTHER)
+        spelling = spelled(before.decode())
+        with self.assertRaisesRegex(LabError, "another program changed it meanwhile"):
+            fmt.write_in_place(str(file), spelling, before, spelling.text.encode(), False)
+        self.assertEqual((file.read_bytes(), (self.room / "free.txt.new").read_bytes()), (before + OTHER, b"circuit\nend\n"))
+        file.write_bytes(before)
+        fmt.write_in_place(str(file), spelling, before, spelling.text.encode(), False)
+        self.assertEqual((file.read_bytes(), self.names()), (b"circuit\nend\n", ["free.txt", "free.txt.new"]))
+
+    def test_studio(self) -> None:
+        """A file that changes after the studio compared it is not written over, and nothing is left beside it."""
+        file = self.room / "design.txt"
+        file.write_bytes(b"old\n")
+        folder = Folder(str(file))
+        read = folder.read
+
+        def read_and_change(name: str) -> bytes | None:
+            """Reads a file, and lets another editor save it."""
+            data = read(name)
+            file.write_bytes(OTHER)
+            return data
+
+        with mock.patch.object(folder, "read", read_and_change), self.assertRaises(ChangedError):
+            folder.write("design.txt", b"new\n", digest_of(b"old\n"), False)
+        self.assertEqual((file.read_bytes(), self.names()), (OTHER, ["design.txt"]))
+
+
+class Kept(Room):
+    """What stays of a file whose bytes are replaced."""
+
+    def test_protected_files(self) -> None:
+        """A file without the right to write stays as it is, also for root and although its folder could be written."""
+        file = self.room / "free.txt"
+        file.write_bytes(b"circuit\n\nend\n")
+        file.chmod(0o444)
+        ended = support.lab("fmt", "-i", str(file))
+        self.assertEqual((ended.returncode, file.read_bytes()), (4, b"circuit\n\nend\n"))
+        self.assertIn("the file is protected against writing", ended.stderr)
+        self.assertEqual(self.names(), ["free.txt"])
+
+    def test_owner_and_mode(self) -> None:
+        """Owner, group and mode stay."""
+        if os.getuid():
+            self.skipTest("only root can give files to another user")
+        file = self.room / "free.txt"
+        file.write_bytes(b"circuit\n\nend\n")
+        os.chown(file, 12345, 12346)
+        file.chmod(0o640)
+        self.assertEqual(support.lab("fmt", "-i", str(file)).returncode, 0)
+        found = file.stat()
+        self.assertEqual((file.read_bytes(), found.st_uid, found.st_gid, stat.S_IMODE(found.st_mode)), (b"circuit\nend\n", 12345, 12346, 0o640))
+
+    def test_an_owner_that_cannot_be_given(self) -> None:
+        """A user who may write a file of another one, and cannot give it away, writes into it."""
+        if os.getuid():
+            self.skipTest("only root can give files to another user")
+        file = self.room / "free.txt"
+        file.write_bytes(b"a longer text than the new one\n")
+        os.chown(file, 12345, 12346)
+        with mock.patch("os.fchown", side_effect=PermissionError):
+            write_bytes(str(file), b"new\n")
+        self.assertEqual((file.read_bytes(), file.stat().st_uid, self.names()), (b"new\n", 12345, ["free.txt"]))
+
+    def test_private_until_the_end(self) -> None:
+        """While a private file is written again, nobody else may read the new bytes."""
+        file, seen = self.room / "free.txt", []
+        file.write_bytes(b"old")
+        file.chmod(0o600)
+
+        def look(_number: int) -> None:
+            """Notes the modes of all files."""
+            seen.extend(stat.S_IMODE(path.stat().st_mode) & 0o077 for path in self.room.iterdir())
+
+        opened = os.open
+
+        def open_and_look(path: str, flags: int, mode: int = 0o777) -> int:
+            """Opens a file, and notes the modes of all files."""
+            found = opened(path, flags, mode)
+            look(found)
+            return found
+
+        with mock.patch("os.open", open_and_look):
+            write_bytes(str(file), b"new")
+        self.assertGreater(len(seen), 1)
+        self.assertEqual(set(seen), {0})
+
+    def test_a_link_in_a_race(self) -> None:
+        """The studio does not follow a link that is put in the place of its file after it looked: the file behind the link stays."""
+        file, outside = self.room / "design.txt", self.room / "outside"
+        outside.write_bytes(b"old\n")
+        file.write_bytes(b"old\n")
+        folder = Folder(str(file))
+        read = folder.read
+
+        def read_and_link(name: str) -> bytes | None:
+            """Reads a file, and puts a link in its place."""
+            data = read(name)
+            file.unlink()
+            file.symlink_to(outside)
+            return data
+
+        for is_forced in (False, True):
+            with mock.patch.object(folder, "read", read_and_link):
+                try:
+                    folder.write("design.txt", b"new\n", digest_of(b"old\n"), is_forced)
+                except Exception as error:  # pylint: disable=broad-exception-caught  # Any of them is a refusal.
+                    self.assertIn("FolderError", [kind.__name__ for kind in type(error).__mro__])
+            self.assertEqual(outside.read_bytes(), b"old\n")
+            file.unlink()
+            file.write_bytes(b"old\n")
+
+    def test_through_to_the_disk(self) -> None:
+        """The bytes of a receipt are on the disk before it has its name."""
+        done: list[str] = []
+        replace, fsync = os.replace, os.fsync
+        with mock.patch("os.fsync", lambda number: (done.append("fsync"), fsync(number))), \
+                mock.patch("os.replace", lambda *names: (done.append("rename"), replace(*names))):
+            write_bytes(str(self.room / "receipt.json"), b"{}")
+        self.assertEqual(done, ["fsync", "rename"])
+
+
+if __name__ == "__main__":
+    unittest.main()
