@@ -14,11 +14,11 @@ from typing import Any
 from limit_texts import LIMITS, text_of
 
 DATA = Path(__file__).resolve().parent.parent / "crates" / "run_cases" / "data"
-# Large bundles: NAME.txt, and NAME.report, the report of `check`. Cases about the line `limits 2`, and the answers to those at limits.
+# Large bundles: NAME.txt, and NAME.report, the report of `check`. Cases about the line `limits 2`, and the answers to texts at limits.
 LARGE = Path(__file__).resolve().parent / "data"
-FRONT_CASES, LIMIT_ANSWERS = LARGE / "front_line.txt", LARGE / "limits.json"
+FRONT_CASES, LIMIT_ANSWERS = DATA / "front_line.txt", LARGE / "limits.json"
 # In this order: those of the specification, those that were written by hand, random bundles, those about the line.
-FILES = [*(DATA / name for name in ("cases.txt", "by_hand.txt", "reports.txt")), FRONT_CASES]
+FILES = [DATA / name for name in ("cases.txt", "by_hand.txt", "reports.txt", "front_line.txt")]
 COMMANDS = ("run", "value", "check", "modules", "migrate")
 FRONT_LINE = b"limits 2\n"
 TEXT = re.compile(rb"(?:([0-9]+) times )?(?:\| ?(?P<line>.*)|\\ (?P<piece>.*))\Z", re.DOTALL)

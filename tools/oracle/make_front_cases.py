@@ -1,5 +1,5 @@
 #!/usr/bin/env python3
-"""make_front_cases.py > conformance/data/front_line.txt
+"""make_front_cases.py > crates/run_cases/data/front_line.txt
 
 Writes small cases of every command about the line `limits 2`, in the form that crates/case_text/src/lib.rt describes: the line in front,
 lines that are nearly it, the line at every other place, and texts that end in it. The plain Python programs answer. Two rules of

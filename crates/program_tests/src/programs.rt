@@ -48,7 +48,7 @@ const HELP: &str = concat!(
 );
 
 // The last one reads nothing.
-const COMMANDS: [Command; 4] = [
+const COMMANDS: [Command; 7] = [
     Command {
         words: &["run"],
         text: RUN_TEXT,
@@ -73,6 +73,24 @@ const COMMANDS: [Command; 4] = [
         text: "",
         status: 0,
         answer: HELP,
+    },
+    Command {
+        words: &["run"],
+        text: "limits 2\nlayout 514 2 0\nball 513 1\nend\nassign\nend\n",
+        status: 0,
+        answer: "cells 1\n513 1\n",
+    },
+    Command {
+        words: &["run"],
+        text: "limits 3\nlayout 514 2 0\nball 513 1\nend\nassign\nend\n",
+        status: 3,
+        answer: "refused 1 1\n",
+    },
+    Command {
+        words: &["run"],
+        text: "layout 514 2 0\nball 513 1\nend\nassign\nend\n",
+        status: 3,
+        answer: "refused 1 2\n",
     },
 ];
 
@@ -100,7 +118,7 @@ fn result_in_pieces<T: Threads + Wait + RandomSource + Sync>(
 #[test]
 fn answers_however_the_text_is_cut(rt: HostRuntime) {
     for command in &COMMANDS {
-        for piece in [1, 2, 7, 4096] {
+        for piece in [1, 2, 3, 4, 5, 6, 7, 8, 9, 4096] {
             let seen = result_in_pieces(&rt, rt.alloc(), command, piece, 1_000);
             let answer = command.answer.as_bytes();
             assert!(rt; seen.is(command.status, answer, ""), "{piece}");

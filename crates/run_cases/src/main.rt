@@ -17,7 +17,7 @@ use std::thread::Threads;
 use trial::difference_of;
 
 // Worked cases, cases that were written by hand, and random bundles with their reports.
-const FILES: [&str; 3] = ["cases.txt", "by_hand.txt", "reports.txt"];
+const FILES: [&str; 4] = ["cases.txt", "by_hand.txt", "reports.txt", "front_line.txt"];
 
 fn main(rt: HostRuntime) -> ExitCode {
     let mut all_hold = true;
