@@ -23,7 +23,7 @@ LIMITS = {
     "docs/GUIDE.md": 4600,
     "docs/JSON.md": 1000,
     "docs/LAB.md": 900,
-    "docs/OPERATING.md": 2500,
+    "docs/OPERATING.md": 2800,
     "docs/PHYSICS.md": 1050,
     "docs/STUDIO.md": 900,
     "docs/TESTING.md": 1800,
