@@ -7,7 +7,7 @@ from unittest import mock
 
 from test_route import Routing, circuit_text, gate_circuit
 
-import support  # noqa: F401
+import support
 from bbmlab_core.circuits import Circuit
 from bbmlab_core.cones import keeping_cone
 from bbmlab_core.documents import read_document
@@ -225,6 +225,16 @@ class Words(Routing):
             require_keeps(read_circuit(text))
         self.assertIs(raised.exception.bound, Bound.KEEP)
         require_keeps(read_circuit(circuit_text("ab", "switch a b -> c d e\nunswitch c d e -> f g", "fg")))
+
+    def test_a_program_without_the_line(self) -> None:
+        """If the program does not know `limits 2`, that is said, and not that the router made an error."""
+        old, made = self.room / "old", self.room / "made.txt"
+        old.write_text("#!/bin/sh\ncat > /dev/null\necho 'refused 1 1'\nexit 3\n")
+        old.chmod(0o755)
+        for side, words in (("528", "does not read texts that begin with `limits 2`"), ("512", "this is an error of the router")):
+            ended = support.lab("route", support.example("half_adder"), "--size", side, "-o", str(made), "--program", str(old))
+            self.assertEqual(ended.returncode, 1)
+            self.assertIn(words, ended.stderr)
 
     def test_pickled_errors_keep_their_bound(self) -> None:
         """What ended an attempt in a process of its own is known to the others."""
