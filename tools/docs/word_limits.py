@@ -9,7 +9,7 @@ WORD = re.compile(r"\w")
 LIMITS = {
     "CHANGELOG.md": 900,
     "CONTRIBUTING.md": 1700,
-    "README.md": 900,
+    "README.md": 950,
     "SECURITY.md": 200,
     "THIRD-PARTY.md": 650,
     "bench/README.md": 1800,
