@@ -35,7 +35,7 @@ const HELP: &str = concat!(
     "  1  a gate has no row for its inputs\n",
     "  2  the arguments are wrong\n",
     "  3  the text was refused, with the line `refused LINE CODE`\n",
-    "  4  a read or a write failed, or the text is longer than 16 MiB\n",
+    "  4  a read or a write failed, or the text is longer than its limit\n",
     "  5  memory ran out\n",
     "\n",
     "Usage: bbmcheck value < CIRCUIT_AND_ASSIGN\n",
@@ -69,12 +69,6 @@ const COMMANDS: [Command; 7] = [
         answer: NO_REPORT,
     },
     Command {
-        words: &["value", "--help"],
-        text: "",
-        status: 0,
-        answer: HELP,
-    },
-    Command {
         words: &["run"],
         text: "limits 2\nlayout 514 2 0\nball 513 1\nend\nassign\nend\n",
         status: 0,
@@ -91,6 +85,12 @@ const COMMANDS: [Command; 7] = [
         text: "layout 514 2 0\nball 513 1\nend\nassign\nend\n",
         status: 3,
         answer: "refused 1 2\n",
+    },
+    Command {
+        words: &["value", "--help"],
+        text: "",
+        status: 0,
+        answer: HELP,
     },
 ];
 
@@ -128,7 +128,7 @@ fn answers_however_the_text_is_cut(rt: HostRuntime) {
 
 #[test]
 fn read_fault_is_reported(rt: HostRuntime) {
-    for command in &COMMANDS[..3] {
+    for command in &COMMANDS[..6] {
         // Pieces of eight bytes, and the end.
         let calls = command.text.len().div_ceil(8).min(1_000) as u32 + 1;
         for calls_left in 0..calls {
