@@ -29,10 +29,10 @@ class Spelling:
 def free_words(line: str) -> list[str]:
     """Returns the words of a line that was written freely, without its comment and leading zeros.
 
-    A line ends with LF or CR LF, and words are parted by spaces and tabs. All other characters belong to words. The studio's page reads lines
-    by the same rules (`circuit_text.js`): what it draws must be the text that the program reads.
+    A line ends with LF. Words are parted by spaces and tabs, and carriage returns behind the last word are dropped. All other characters
+    belong to words. The studio's page reads lines by the same rules (`circuit_text.js`): what it draws must be the text that the program reads.
     """
-    code = line.removesuffix("\r").partition("#")[0].replace("->", " -> ").replace("\t", " ")
+    code = line.partition("#")[0].rstrip(" \t\r").replace("->", " -> ").replace("\t", " ")
     return [plain_number(word) for word in code.split(" ") if word]
 
 

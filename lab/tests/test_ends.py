@@ -2,6 +2,7 @@
 
 import json
 import os
+import re
 import signal
 import subprocess
 import sys
@@ -216,11 +217,22 @@ class Hostile(unittest.TestCase):
                 self.assertIn(f"bbmlab: {name} is ", ended.stderr)
 
     def test_ways_of_many_inputs_are_sampled(self) -> None:
-        """With 360 inputs the ways are drawn from samples, and the picture says so."""
+        """With 360 inputs the ways are drawn from samples, the picture says so, and the ways of two levels of gates share a colour."""
         file = str(support.TOP / "conformance" / "data" / "trains_36_cut_v1.txt")
         picture = support.lab("draw", "--ways", file).stdout
         self.assertIn("in 256 sampled choices of the 360 inputs", picture)
-        self.assertGreater(picture.count('class="way'), 300)
+        levels = re.findall(r"<title>levels (\d+) to (\d+)</title>", picture)
+        self.assertEqual(levels, [(str(level), str(level + 1)) for level in range(0, self.deepest(Path(file)) + 1, 2)])
+
+    def deepest(self, file: Path) -> int:
+        """Returns the most gates one behind another in the circuit of a file."""
+        depth: dict[str, int] = {}
+        for words in map(str.split, file.read_text().partition("\nend\n")[0].splitlines()):
+            if "->" in words:
+                arrow = words.index("->")
+                below = max(depth.get(word, 0) for word in words[1:arrow])
+                depth.update(dict.fromkeys(words[arrow + 1:], below + 1))
+        return max(depth.values())
 
 
 if __name__ == "__main__":

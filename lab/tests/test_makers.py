@@ -15,12 +15,13 @@ from bbmlab_core import golly, json_form
 from bbmlab_core.boxes import Box
 from bbmlab_core.certificates import Module
 from bbmlab_core.certify import Plan, certified, checked_boxes
-from bbmlab_core.drawing import centre, merged, module_parts
+from bbmlab_core.drawing import centre, module_parts
 from bbmlab_core.program import ask
 from bbmlab_core.reports import parse_report
 from bbmlab_core.simulation import run_layout
 from bbmlab_core.spelling import spelled
 from bbmlab_core.terminal import LabError
+from bbmlab_core.ways import joined_pieces
 
 # Examples, and grids by which they have a certificate.
 GRIDS = [("fredkin_gate", (14, 14)), ("full_adder", (26, 34)), ("timed_modules", (4, 4)), ("gate_and_mirror", (8, 12)), ("not_gate", (6, 6)),
@@ -262,7 +263,8 @@ class Pictures(unittest.TestCase):
 
     def test_ways_join(self) -> None:
         """Segments of one diagonal that meet become one."""
-        self.assertEqual(merged([((0, 0), (1, 1)), ((2, 2), (1, 1)), ((4, 4), (5, 5))]), [((0, 0), (2, 2)), ((4, 4), (5, 5))])
+        pieces = [((0, 0), (1, 1)), ((2, 2), (1, 1)), ((4, 4), (5, 5))]
+        self.assertEqual(joined_pieces(pieces), [((0, 0), (2, 2)), ((4, 4), (5, 5))])
 
     def test_ring_and_halo(self) -> None:
         """The ring of a box of four by two cells has all of them, and its halo has sixteen."""

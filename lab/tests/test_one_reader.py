@@ -11,7 +11,7 @@ from bbmlab_core.studio.folder import bytes_of, text_of
 from test_studio_model import node
 
 # Bytes, and characters that JavaScript or Python take for spaces, ends of lines or digits.
-PIECES = [*(bytes([byte]) for byte in range(256)), *(char.encode() for char in "\x85\xa0\u2028\u2029\u3000\ufeff\u0661\u00b2"), b"\r\r", b"\t \t", b"\r#", b"#\r"]
+PIECES = [*(bytes([byte]) for byte in range(256)), *(char.encode() for char in "\x85\xa0\u2028\u2029\u3000\ufeff\u0661\u00b2"), b"\r\r", b"\t \t", b"\r#", b"#\r", b"\r ", b"\r\t#"]
 # The places of a piece in a text.
 PLACES = [b"%b", b"a%bb", b"a %bb", b"a%b b", b"%ba", b"a%b", b"a%b\nb", b"a\n%bb", b"# a%bb\nc", b"0%b01", b"layout%b8 8 3", b"->%b->", b"a%b->b"]
 
@@ -32,7 +32,9 @@ class OneReader(unittest.TestCase):
         for text, words in zip(texts, found):
             own = [[bytes_of(word).decode("latin-1") for word in line] for line in words]
             self.assertEqual(own, python_words(text), text)
-            self.assertEqual("".join(" ".join(line) + "\n" for line in own), spelled(text.decode("latin-1")).text, text)
+            once = spelled(text.decode("latin-1")).text
+            self.assertEqual("".join(" ".join(line) + "\n" for line in own), once, text)
+            self.assertEqual(spelled(once).text, once, text)
 
     def test_pictures(self) -> None:
         """What is drawn is the circuit and the layout that the program reads, whatever byte is where: as a space, in a word, or between parts."""

@@ -9,11 +9,11 @@
   const ORDER = ["circuit", "input", "gate", "output", "spill", "end"];
 
   /**
-   * Returns the words of a line, without a comment and leading zeros, by the rules of `free_words` in `spelling.py`: a line ends with LF or CR LF,
-   * and words are parted by spaces and tabs.
+   * Returns the words of a line, without a comment and leading zeros, by the rules of `free_words` in `spelling.py`: a line ends with LF, words
+   * are parted by spaces and tabs, and carriage returns behind the last word are dropped.
    */
   const wordsOf = (line) => {
-    const [code] = (line.endsWith("\r") ? line.slice(0, -1) : line).split("#");
+    const code = line.split("#")[0].replace(/[ \t\r]+$/, "");
     return code.replaceAll("->", " -> ").split(/[ \t]+/).filter((word) => word !== "").map((word) => (/^[0-9]+$/.test(word) ? word.replace(/^0+(?=[0-9])/, "") : word));
   };
 

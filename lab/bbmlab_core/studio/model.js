@@ -11,7 +11,7 @@
   const KINDS = ["mirror", "ball", "in", "out", "waste"];
   const FORMS = { mirror: 4, ball: 2, in: 2, out: 2, waste: 2 };
   const NAME = /^[a-z][a-z0-9_]{0,31}$/, NUMBER = /^(0|[1-9][0-9]{0,8})$/;
-  const LINE = /^(\ufeff?[ \t]*)([^#]*?)([ \t]*(?:#.*)?\r?)$/s;
+  const LINE = /^(\ufeff?[ \t]*)([^#]*?)([ \t\r]*(?:#.*)?)$/s;
 
   /** A command that cannot be done. The message is for the user. */
   class Refusal extends Error {}
