@@ -17,7 +17,7 @@ class Planted(unittest.TestCase):
         self.addCleanup(room.cleanup)
         self.top = Path(room.name)
         for folder in ("crates", "tools", "docs", "release"):
-            shutil.copytree(TOP / folder, self.top / folder, ignore=shutil.ignore_patterns("out", "data", "proofs", "must-*", "__pycache__", "bbmcheck"))
+            shutil.copytree(TOP / folder, self.top / folder, ignore=shutil.ignore_patterns("out", "data", "proofs", "must-*", "__pycache__"))
         for name in ("README.md", "crates.txt"):
             shutil.copy(TOP / name, self.top)
 
