@@ -1,5 +1,4 @@
 """Tests of limits: the stack, the size of a file, the memory, and a seccomp filter with the system calls of docs/OPERATING.md."""
-import os
 import re
 import resource
 import signal
@@ -52,12 +51,20 @@ def limits_statuses(_):
 MOST_MEMORY = {"most_edges": 78, "most_stops": 40}
 
 
+# Linux counts to the largest resident size of a process also that of its parent when it was started, so a small parent starts it.
+SMALL_PARENT = """
+import os, sys
+number = os.posix_spawn(sys.argv[1], sys.argv[1:], os.environ, file_actions=[(os.POSIX_SPAWN_OPEN, 1, os.devnull, os.O_WRONLY, 0)])
+_, status, used = os.wait4(number, 0)
+print(used.ru_maxrss, os.waitstatus_to_exitcode(status))
+"""
+
+
 def memory_of(words, text):
     """The largest resident size in MiB, and the status."""
-    number = os.posix_spawn(Given.program, [Given.program, *words], os.environ, file_actions=[
-        (os.POSIX_SPAWN_DUP2, text.fileno(), 0), (os.POSIX_SPAWN_OPEN, 1, os.devnull, os.O_WRONLY, 0)])
-    _, status, used = os.wait4(number, 0)
-    return used.ru_maxrss / 1024, os.waitstatus_to_exitcode(status)
+    ran = subprocess.run([sys.executable, "-c", SMALL_PARENT, Given.program, *words], stdin=text, stdout=subprocess.PIPE, check=True)
+    taken, status = map(int, ran.stdout.split())
+    return taken / 1024, status
 
 
 def limits_memory(_):
