@@ -89,7 +89,7 @@ class Installed(unittest.TestCase):
             self.assertIn("1 yes", output("env", "-u", "BBMCHECK", str(usr / "bin" / "bbmlab"), "check", bundle))
             code = "import sys, bbmlab; print(bbmlab.check(open(sys.argv[1]).read()).verdict)"
             self.assertEqual(output("env", "-u", "BBMCHECK", f"PYTHONPATH={usr / 'lib' / 'bbmlab'}", sys.executable, "-c", code, bundle), "yes\n")
-            self.assertIn("API.md", output("find", str(usr / "share")))
+            self.assertIn("bbmlab.1", output("find", str(usr / "share")))
             output(tool, "uninstall_lab", str(usr))
             self.assertEqual([path for path in usr.rglob("*") if not path.is_dir() and path.name != "bbmcheck"], [])
 

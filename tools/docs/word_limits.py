@@ -7,33 +7,30 @@ WORD = re.compile(r"\w")
 
 # The limits of pages.
 LIMITS = {
-    "CHANGELOG.md": 900,
-    "CONTRIBUTING.md": 1700,
-    "README.md": 950,
+    "CHANGELOG.md": 1100,
+    "CONTRIBUTING.md": 2250,
+    "README.md": 1000,
     "SECURITY.md": 200,
     "THIRD-PARTY.md": 650,
-    "bench/README.md": 1800,
+    "bench/README.md": 1700,
     "conformance/README.md": 690,
     "docs/API.md": 900,
     "docs/ARCHITECTURE.md": 3000,
-    "docs/ASSURANCE.md": 2900,
-    "docs/CELLS.md": 3400,
+    "docs/ASSURANCE.md": 3050,
+    "docs/CELLS.md": 3550,
+    "docs/FAQ.md": 850,
     "docs/FORMATS.md": 3900,
-    "docs/GLOSSARY.md": 900,
-    "docs/GUIDE.md": 4600,
-    "docs/JSON.md": 1000,
-    "docs/LAB.md": 900,
-    "docs/OPERATING.md": 2800,
+    "docs/GLOSSARY.md": 1050,
+    "docs/GUIDE.md": 5100,
+    "docs/JSON.md": 1050,
+    "docs/LAB.md": 1100,
+    "docs/OPERATING.md": 2550,
     "docs/PHYSICS.md": 1050,
-    "docs/STUDIO.md": 900,
-    "docs/TESTING.md": 1800,
-    "examples/README.md": 900,
+    "docs/STUDIO.md": 1000,
+    "docs/TESTING.md": 1500,
+    "examples/README.md": 920,
     "lab/README.md": 400,
 }
-# Pages that only say where their content is now.
-LIMITS |= dict.fromkeys([
-    "docs/CERTIFICATES.md", "docs/DECISIONS.md", "docs/GATE.md", "docs/LIMITS.md", "docs/PROOFS.md", "docs/SPEED.md", "docs/THEOREM.md",
-], 30)
 
 # What all pages together may take. Outside the sum are pages to look things up in, which nobody reads from end to end: the catalogue of
 # cells, the tables of balls and mirrors, and the licences of others.
