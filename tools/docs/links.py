@@ -4,6 +4,8 @@ from pathlib import Path
 from typing import Iterator
 
 LINK = re.compile(r"\[[^\]]*\]\(([^)#\s]*)(?:#([^)\s]*))?[^)]*\)")
+# The same in HTML, as of a picture with a width.
+TAG = re.compile(r'(?:href|src)="([^"#]*)(?:#([^"]*))?"')
 CODE = re.compile(r"`[^`]*`")
 
 
@@ -15,7 +17,8 @@ def anchors(text: str) -> set[str]:
 
 def dead_links(page: Path, text: str) -> Iterator[str]:
     """Yields each link of a part of a page that leads to no file, or to no heading of a page."""
-    for name, anchor in LINK.findall(CODE.sub("code", text)):
+    shown = CODE.sub("code", text)
+    for name, anchor in [*LINK.findall(shown), *TAG.findall(shown)]:
         if "://" in name or name.startswith("mailto:"):
             continue
         target = page.parent / name if name else page

@@ -25,7 +25,7 @@ LIMITS = {
     "docs/JSON.md": 1050,
     "docs/LAB.md": 1100,
     "docs/OPERATING.md": 2550,
-    "docs/PHYSICS.md": 1050,
+    "docs/PHYSICS.md": 1100,
     "docs/STUDIO.md": 1000,
     "docs/TESTING.md": 1500,
     "examples/README.md": 920,
