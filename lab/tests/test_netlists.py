@@ -264,7 +264,7 @@ REFUSED = {
     "a free row": (MODEL + "1 1\n.end\n", "is a row, and no `.names` line"),
     "an unknown word": (MODEL + ".nemas a y\n1 1\n.end\n", "no line of combinational BLIF"),
     "an input named twice": (".model m\n.inputs a a\n.outputs y\n.names a y\n1 1\n", "named twice"),
-    "no netlist": ("circuit\nend\n", "neither BLIF"),
+    "no netlist": ("circuit\nend\n", "none of the netlists that are read"),
     "a long text": (MODEL + "#" * 16_777_216, "longer than 16777216 bytes"),
     "no JSON": ("{", "not JSON"),
     "deep JSON": ('{"modules":' + "[" * 100_000, "not JSON"),

@@ -23,12 +23,12 @@ LIMITS = {
     "docs/GLOSSARY.md": 1050,
     "docs/GUIDE.md": 5100,
     "docs/JSON.md": 1050,
-    "docs/LAB.md": 1100,
+    "docs/LAB.md": 1250,
     "docs/OPERATING.md": 2550,
     "docs/PHYSICS.md": 1100,
     "docs/STUDIO.md": 1000,
     "docs/TESTING.md": 1500,
-    "examples/README.md": 920,
+    "examples/README.md": 980,
     "lab/README.md": 400,
 }
 

@@ -1,14 +1,24 @@
-"""Netlists of Boolean logic: reads BLIF and the JSON of yosys, and maps them to circuits of conservative logic.
+"""Netlists of Boolean logic and of reversible gates: reads their formats, and maps them to circuits of conservative logic.
 
 Sources: Fredkin and Toffoli 1982 for the gates, and for constants and garbage; Berkeley Logic Interchange Format (1992) for BLIF.
 """
 
+import re
 from dataclasses import dataclass
+from typing import Callable
 
+from .aiger import read_aiger
+from ..documents import read_document
 from .blif import read_blif
 from .circuit_text import NamedCircuit
+from .comparing import compared
+from .exchanging import map_exchanges
 from .graph import graph_of
 from .model import Netlist, NetlistError, NetlistFormat
+from .pla import read_pla
+from .qasm import read_qasm
+from .real import read_real
+from .reversible import LineNetlist
 from .search import map_graph
 from .yosys_json import read_yosys_json
 
@@ -17,6 +27,14 @@ __all__ = ["MappedNetlist", "NetlistError", "NetlistFormat", "circuit_from_netli
 MAX_NETLIST_BYTES = 16_777_216
 # Some editors put these bytes before a text; each is a character here.
 BYTE_ORDER_MARK = "\xef\xbb\xbf"
+AIGER_HEAD = re.compile(r"a[ai]g [0-9]+ [0-9]+ [0-9]+ [0-9]+ [0-9]+")
+QASM_HEAD = re.compile(r"OPENQASM\b|include\s*\"|qreg\b|qubit\b|creg\b|gate\s+\w+\s*[\w(].*\{")
+# A comment of OpenQASM at the beginning of a text.
+BLOCK_COMMENT = re.compile(r"\A(?:\s|//[^\n]*\n|/\*.*?\*/)+", re.DOTALL)
+READERS: dict[NetlistFormat, Callable[[str], Netlist]] = {
+    NetlistFormat.BLIF: read_blif, NetlistFormat.YOSYS_JSON: read_yosys_json, NetlistFormat.REAL: read_real, NetlistFormat.QASM: read_qasm,
+    NetlistFormat.PLA: read_pla, NetlistFormat.AIGER: read_aiger,
+}
 
 
 @dataclass(frozen=True)
@@ -29,36 +47,58 @@ class MappedNetlist:
 
 
 def netlist_format(text: str) -> NetlistFormat | None:
-    """Returns the format of a netlist by its first characters, or None if the text is no netlist."""
+    """Returns the format of a netlist by its first characters and its lines, or None if the text is no netlist."""
     text = text.removeprefix(BYTE_ORDER_MARK)
     if text.lstrip().startswith("{"):
         return NetlistFormat.YOSYS_JSON
-    for line in text.split("\n"):
-        word = line.split("#")[0].strip()
-        if word:
-            return NetlistFormat.BLIF if word.startswith(".") else None
-    return None
+    if AIGER_HEAD.match(text):
+        return NetlistFormat.AIGER
+    first = first_words(text)
+    if QASM_HEAD.match(first):
+        return NetlistFormat.QASM
+    if not first.startswith("."):
+        return None
+    keywords = set(re.findall(r"^[ \t]*(\.[a-z]+)", text, re.MULTILINE))
+    if keywords & {".numvars", ".variables", ".begin"}:
+        return NetlistFormat.REAL
+    return NetlistFormat.PLA if {".i", ".o"} <= keywords else NetlistFormat.BLIF
 
 
-def read_netlist(text: str) -> Netlist:
-    """Returns the netlist of a text.
+def first_words(text: str) -> str:
+    """Returns the first line with more than a comment, without spaces around it."""
+    for line in BLOCK_COMMENT.sub(" ", text).split("\n"):
+        words = line.split("#")[0].split("//")[0].strip()
+        if words:
+            return words
+    return ""
+
+
+def read_netlist(text: str, form: NetlistFormat | None = None) -> Netlist:
+    """Returns the netlist of a text, by its format or the one that the text seems to have.
 
     Raises NetlistError with a sentence for the user if the text is not a combinational netlist.
     """
     if len(text) > MAX_NETLIST_BYTES:
         raise NetlistError(f"The netlist is longer than {MAX_NETLIST_BYTES} bytes.")
     text = text.removeprefix(BYTE_ORDER_MARK)
-    form = netlist_format(text)
+    form = form or netlist_format(text)
     if form is None:
-        raise NetlistError("The text is neither BLIF, which begins with a line such as `.model`, nor the JSON of yosys.")
-    return read_blif(text) if form is NetlistFormat.BLIF else read_yosys_json(text)
+        raise NetlistError("The text is none of the netlists that are read: BLIF, the JSON of yosys, RevLib's .real, OpenQASM, PLA and AIGER.")
+    return READERS[form](text)
 
 
-def map_netlist(text: str) -> MappedNetlist:
+def map_netlist(text: str, form: NetlistFormat | None = None) -> MappedNetlist:
     """Maps a netlist to a circuit section. Raises NetlistError if it has none within the limits of the formats."""
-    netlist = read_netlist(text)
-    circuit = map_graph(graph_of(netlist))
-    return MappedNetlist(circuit.text(), [*netlist.notes, *circuit.notes], circuit)
+    netlist = read_netlist(text, form)
+    if isinstance(netlist, LineNetlist) and netlist.exchanges is not None:
+        circuit = map_exchanges(netlist)
+    else:
+        circuit = map_graph(graph_of(netlist))
+    document = read_document(circuit.text(), "circuit")
+    if document.circuit is None or document.refusal is not None:
+        raise NetlistError(f"The mapped circuit is wrong: {document.refusal}.")
+    scope = compared(netlist, document.circuit)
+    return MappedNetlist(circuit.text(), [*netlist.notes, *circuit.notes, f"The circuit has the outputs of the netlist in {scope}."], circuit)
 
 
 def circuit_from_netlist(text: str) -> str:

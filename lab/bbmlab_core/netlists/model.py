@@ -21,8 +21,12 @@ class NetlistError(LabError):
 class NetlistFormat(Enum):
     """The formats that are read."""
 
-    BLIF = "BLIF"
-    YOSYS_JSON = "yosys JSON"
+    BLIF = "blif"
+    YOSYS_JSON = "json"
+    REAL = "real"
+    QASM = "qasm"
+    PLA = "pla"
+    AIGER = "aiger"
 
 
 class Cell(Enum):

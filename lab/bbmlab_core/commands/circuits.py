@@ -1,0 +1,83 @@
+"""Runs `bbmlab circuit`, `table`, `stats` and `equal`."""
+
+import argparse
+import csv
+import io
+import sys
+from typing import Iterable
+
+from .. import truth
+from ..circuit_forms import WRITERS
+from ..circuits import Circuit
+from ..documents import read_document
+from ..limits import limits_for, with_line
+from ..netlists import NetlistFormat
+from ..route.command import circuit_of
+from ..terminal import LabError, read_text, write_text
+
+
+def asked_format(options: argparse.Namespace) -> NetlistFormat | None:
+    """Returns the format that `--from` names."""
+    return NetlistFormat(options.given) if getattr(options, "given", None) else None
+
+
+def run_circuit(options: argparse.Namespace) -> int:
+    """Writes the circuit of a file: in the one spelling, or in the form of another tool."""
+    text, circuit = circuit_of(options.file, asked_format(options))
+    if options.to is None:
+        text = with_line(text, limits_for(gates=len(circuit.gates), wires=len(circuit.defined)))
+    else:
+        text = WRITERS[options.to](circuit)
+    write_text(options.output, text)
+    return 0
+
+
+def run_table(options: argparse.Namespace) -> int:
+    """Writes the rows of a circuit's values."""
+    _, circuit = circuit_of(options.file, asked_format(options))
+    on = None if options.on is None else [name for name in options.on.split(",") if name]
+    rows = truth.rows(circuit, on)
+    write_text(options.output, csv_text(rows) if options.csv else table_text(circuit, [*rows]))
+    return 0
+
+
+def csv_text(rows: Iterable[list[str]]) -> str:
+    """Returns rows as comma-separated values."""
+    out = io.StringIO()
+    csv.writer(out, lineterminator="\n").writerows(rows)
+    return out.getvalue()
+
+
+def table_text(circuit: Circuit, rows: list[list[str]]) -> str:
+    """Returns rows in columns, with a bar between inputs and outputs."""
+    heads, count = rows[0], len(circuit.inputs)
+    lines = []
+    for row in rows:
+        cells = [word.rjust(len(head)) for word, head in zip(row, heads)] if len(row) == len(heads) else None
+        if cells is None:
+            cells = [word.rjust(len(head)) for word, head in zip(row[:count], heads)] + row[count:]
+        lines.append(" ".join([*cells[:count], "|", *cells[count:]]).strip())
+    return "\n".join(lines) + "\n"
+
+
+def run_stats(options: argparse.Namespace) -> int:
+    """Prints the figures of a text, or of the circuit of a netlist."""
+    text = read_text(options.file)
+    document = read_document(text, "check")
+    if document.circuit is None or document.layout is None or not document.layout.width:
+        found = truth.circuit_figures(circuit_of(options.file, asked_format(options))[1])
+    else:
+        found = truth.figures(document)
+    longest = max(len(name) for name, _ in found)
+    write_text(options.output, "".join(f"{name.ljust(longest)} {value}\n" for name, value in found))
+    return 0
+
+
+def run_equal(options: argparse.Namespace) -> int:
+    """Says whether two circuits have the same outputs, and returns 0 only if they have."""
+    if options.file == "-" and options.other == "-":
+        raise LabError("only one of two files can be standard input", 2)
+    one, other = circuit_of(options.file)[1], circuit_of(options.other)[1]
+    differs, scope = truth.difference(one, other)
+    print(f"not equal: {differs}" if differs else f"equal {scope}", file=sys.stdout)
+    return 1 if differs else 0

@@ -1,0 +1,170 @@
+"""`bbmlab circuit`, `table`, `stats` and `equal`, and the circuits of examples/circuits."""
+
+import itertools
+import random
+import shutil
+import subprocess
+import tempfile
+import unittest
+from pathlib import Path
+
+import support
+from bbmlab_core import circuit_forms, truth
+from bbmlab_core.circuits import Circuit, values_under
+from bbmlab_core.documents import read_document
+from bbmlab_core.gates import GATE_SIZES
+from bbmlab_core.netlists import map_netlist
+
+CIRCUITS = support.EXAMPLES / "circuits"
+
+
+def circuit_of(text: str) -> Circuit:
+    """Returns the circuit of a text."""
+    document = read_document(text, "circuit")
+    assert document.refusal is None and document.circuit is not None, document.refusal
+    return document.circuit
+
+
+def random_circuit(chance: random.Random, count: int, words: list[str]) -> Circuit:
+    """Returns a circuit of random gates."""
+    wires = [f"i{number}" for number in range(chance.randint(2, 5))]
+    lines, made = ["circuit", *(f"input {name}" for name in wires)], 0
+    for _ in range(count):
+        word = chance.choice(words)
+        uses, makes = GATE_SIZES[word]
+        if uses > len(wires):
+            continue
+        ins = chance.sample(wires, uses)
+        outs = [f"w{made + at}" for at in range(makes)]
+        made += makes
+        wires = [name for name in wires if name not in ins] + outs
+        number = f" {chance.choice((0, 1))}" if word == "source" else " 4" if word == "delay" else ""
+        lines.append(" ".join([f"{word}{number}", *ins, "->", *outs]))
+    outs = [name for name in wires if chance.random() < 0.6] or wires[:1]
+    spills = [name for name in wires if name not in outs]
+    return circuit_of("\n".join([*lines, *(f"output {name}" for name in outs), *(f"spill {name}" for name in spills), "end", ""]))
+
+
+class Forms(unittest.TestCase):
+    """A circuit in BLIF and Verilog is the same circuit, judged by others."""
+
+    FORWARD = ["source", "fredkin", "cswap", "interact", "switch", "delay"]
+
+    def test_blif_is_read_back(self) -> None:
+        """The BLIF of a random circuit, mapped back, has the same table."""
+        chance = random.Random(82)
+        for _ in range(20):
+            circuit = random_circuit(chance, 4, self.FORWARD)
+            if set(circuit.inputs) & set(circuit.outputs):
+                continue
+            back = circuit_of(map_netlist(circuit_forms.blif_text(circuit)).text)
+            for bits in itertools.product((False, True), repeat=len(circuit.inputs)):
+                mine, _ = values_under(circuit, {name for name, bit in zip(circuit.inputs, bits) if bit})
+                theirs, _ = values_under(back, {name for name, bit in zip(back.inputs, bits) if bit})
+                self.assertEqual([mine[name] for name in circuit.outputs], [theirs[name] for name in back.outputs])
+
+    def test_yosys_and_abc_agree(self) -> None:
+        """yosys reads the Verilog and the BLIF, and abc says that they are equivalent to the source."""
+        if not shutil.which("yosys") or not (shutil.which("berkeley-abc") or shutil.which("yosys-abc")):
+            self.skipTest("there is no yosys and abc (Debian: yosys berkeley-abc)")
+        abc = shutil.which("berkeley-abc") or "yosys-abc"
+        chance = random.Random(4)
+        with tempfile.TemporaryDirectory() as name:
+            room = Path(name)
+            for number in range(40):
+                circuit = random_circuit(chance, 6, self.FORWARD)
+                if set(circuit.inputs) & set(circuit.outputs):
+                    continue
+                (room / "a.blif").write_text(circuit_forms.blif_text(circuit))
+                (room / "b.v").write_text(circuit_forms.verilog_text(circuit))
+                subprocess.run(["yosys", "-q", "-p", "read_verilog b.v; synth -flatten -noabc; write_blif b.blif"], cwd=room, check=True)
+                said = subprocess.run([abc, "-c", "cec a.blif b.blif"], cwd=room, capture_output=True, text=True, check=False).stdout
+                self.assertIn("Networks are equivalent", said, (number, said))
+
+    def test_dot_has_each_wire(self) -> None:
+        """The graph has an arrow for each wire, and is read by dot where it is there."""
+        circuit = random_circuit(random.Random(3), 6, self.FORWARD)
+        text = circuit_forms.dot_text(circuit)
+        self.assertEqual(text.count(" -> "), len(circuit.defined))
+        if shutil.which("dot"):
+            subprocess.run(["dot", "-Tsvg"], input=text.encode(), check=True, stdout=subprocess.DEVNULL)
+
+
+class Commands(unittest.TestCase):
+    """What the commands print."""
+
+    def test_table_has_all_rows(self) -> None:
+        """The rows of a half adder, and one row."""
+        text = support.lab("table", support.example("half_adder")).stdout
+        self.assertEqual(text, "a b | sum carry\n0 0 |   0     0\n0 1 |   1     0\n1 0 |   1     0\n1 1 |   0     1\n")
+        self.assertEqual(support.lab("table", "--csv", "--on", "b", support.example("half_adder")).stdout, "a,b,sum,carry\n0,1,1,0\n")
+        failed = support.lab("table", "--on", "q", support.example("half_adder"))
+        self.assertEqual((failed.returncode, failed.stderr), (2, "bbmlab: q is no input\n"))
+
+    def test_rows_without_values_name_the_gate(self) -> None:
+        """An inverse gate outside of its rows."""
+        with tempfile.TemporaryDirectory() as room:
+            path = Path(room) / "c.txt"
+            path.write_text("circuit\ninput c\ninput y\ninput z\nunswitch c y z -> d x\noutput d\noutput x\nend\n")
+            lines = support.lab("table", str(path)).stdout.splitlines()
+        self.assertEqual(lines[3], "0 1 0 | gate 0 (unswitch) has no row")
+        self.assertEqual(lines[7], "1 1 0 | 1 1")
+
+    def test_stats(self) -> None:
+        """The figures of a circuit and of a bundle were counted by hand."""
+        figures = dict(line.rsplit(None, 1) for line in support.lab("stats", support.example("half_adder")).stdout.splitlines())
+        self.assertEqual({key.strip(): value for key, value in figures.items()}, {
+            "inputs": "2", "outputs": "2", "constants": "1", "garbage": "3", "gates": "3", "interact": "1", "switch": "1", "unswitch": "1",
+            "depth": "3", "width": "6"})
+        text = support.lab("stats", support.example("gate_and_mirror")).stdout
+        for line in ("layout           16 by 12", "area             192", "area times steps 1152", "mirror cells     8", "modules          2"):
+            self.assertIn(line, text)
+
+    def test_equal(self) -> None:
+        """Equal circuits, circuits that differ at one row, and other ports."""
+        with tempfile.TemporaryDirectory() as room:
+            own = Path(room) / "own.txt"
+            own.write_text(Path(support.example("half_adder")).read_text().replace("output sum\noutput carry\n", "output carry\noutput sum\n"))
+            done = support.lab("equal", support.example("half_adder"), str(own))
+            self.assertEqual((done.returncode, done.stdout), (0, "equal in all 4 choices of the inputs\n"))
+            own.write_text("circuit\ninput a\ninput b\nfredkin a b k -> x carry y\n".replace(" k ", " z ").replace("input b\n", "input b\nsource 0 -> z\n")
+                           + "output carry\noutput x\nspill y\nend\n")
+            done = support.lab("equal", support.example("half_adder"), str(own))
+            self.assertEqual((done.returncode, done.stdout), (1, "not equal: only one of them has the output sum\n"))
+            own.write_text("circuit\ninput a\ninput b\ndelay 1 a -> sum\ndelay 1 b -> carry\noutput sum\noutput carry\nend\n")
+            done = support.lab("equal", support.example("half_adder"), str(own))
+            self.assertEqual((done.returncode, done.stdout), (1, "not equal: with b on, sum differs\n"))
+
+    def test_depth_and_width(self) -> None:
+        """Figures of small circuits."""
+        circuit = circuit_of("circuit\ninput a\nsource 1 -> k\nswitch a k -> b c d\ninteract b c -> e f g h\n"
+                             + "".join(f"output {name}\n" for name in "efgh") + "spill d\nend\n")
+        self.assertEqual((truth.depth(circuit), truth.width(circuit)), (2, 5))
+
+
+class Examples(unittest.TestCase):
+    """The circuits of examples/circuits compute what their first lines say."""
+
+    def rows(self, name: str) -> list[tuple[list[int], list[int]]]:
+        """Returns the inputs and the outputs of each row."""
+        circuit = circuit_of(map_netlist((CIRCUITS / name).read_text()).text)
+        found = []
+        for bits in itertools.product((0, 1), repeat=len(circuit.inputs)):
+            values, _ = values_under(circuit, {name for name, bit in zip(circuit.inputs, bits) if bit})
+            found.append((list(bits), [int(values[name]) for name in circuit.outputs]))
+        return found
+
+    def test_functions(self) -> None:
+        """Counting, reversing, adding, and a majority."""
+        for ins, outs in self.rows("rd32.real"):
+            self.assertEqual(outs[0] + 2 * outs[1], sum(ins))
+        for ins, outs in self.rows("reverse_3.real"):
+            self.assertEqual(outs, [ins[0], *(ins[:0:-1] if ins[0] else ins[1:])])
+        for (a0, a1, b0, b1), (s0, s1, carry) in self.rows("adder_2.qasm"):
+            self.assertEqual(s0 + 2 * s1 + 4 * carry, a0 + 2 * a1 + b0 + 2 * b1)
+        for ins, outs in self.rows("majority_5.pla"):
+            self.assertEqual(outs, [int(sum(ins) >= 3)])
+
+
+if __name__ == "__main__":
+    unittest.main()
