@@ -6,8 +6,9 @@ import unittest
 import support  # noqa: F401
 from bbmlab_core.circuits import Gate
 from bbmlab_core.gates import gate_row, input_tables
-from bbmlab_core.route.balls import (BOUNCE_STEPS, Ball, Leg, Turn, bounce, bounce_before, follow, path_run, run_exactly,
-                                     start_state)
+from bbmlab_core.route.balls import (BOUNCE_STEPS, Ball, Leg, Turn, bounce, bounce_before, cells_at, follow, moving_cells, path_run,
+                                     run_exactly, start_state)
+from bbmlab_core.route.world import path_item
 from bbmlab_core.route.cells import PORTS, GateCell, base_cells, library
 
 EACH_DIRECTION = [Ball(40 + (dx < 0), 40 + (dy < 0), dx, dy, 0) for dx in (1, -1) for dy in (1, -1)]
@@ -33,6 +34,25 @@ class Balls(unittest.TestCase):
             for turn in Turn:
                 after, mirror = bounce(ball, turn)
                 self.assertEqual(bounce_before(after, turn), (ball, mirror))
+
+    def test_cells_of_paths(self) -> None:
+        """The moving cells of random paths by arithmetic are those of exact runs, at each time, in all directions and with any first time."""
+        seed = random.randrange(10**6)
+        chance, count = random.Random(seed), 0
+        for _ in range(300):
+            start = chance.choice(EACH_DIRECTION).moved(200, 200, 0).flown(chance.randint(0, 3))
+            legs = [Leg(chance.randint(0 if index == 0 else BOUNCE_STEPS, 20), chance.choice(list(Turn))) for index in range(chance.randint(0, 5))]
+            legs.append(Leg(chance.randint(BOUNCE_STEPS, 20), None))
+            if path_item(start, legs) is None:
+                continue
+            run, count = path_run(start, legs), count + 1
+            wanted = {run.first + index: set(state) for index, state in enumerate(run.states)}
+            self.assertEqual({time: set(cells_at(start, legs, time)) for time in wanted}, wanted, f"seed {seed}")
+            del wanted[max(wanted)]
+            found = {time: set(cells) for odd in (0, 1) for time, cells in moving_cells(start, legs, odd)}
+            self.assertEqual(found, wanted, f"seed {seed}")
+            self.assertTrue(all(time % 2 == odd for odd in (0, 1) for time, _ in moving_cells(start, legs, odd)))
+        self.assertGreater(count, 150)
 
     def test_free_flight(self) -> None:
         """A legal ball flies straight, and `reversed` gives the same way backwards."""

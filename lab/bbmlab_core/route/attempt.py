@@ -97,11 +97,11 @@ class Attempt:
         reasons = self.placer.reasons
         return 2 * reasons["no path"] <= reasons["tries"] or 2 * reasons["no room"] > reasons.total()
 
-    def adopt(self, steps: list[Step]) -> None:
-        """Adds gates that another attempt placed."""
+    def adopt(self, steps: list[Step]) -> str:
+        """Adds gates that another attempt placed, maybe with others; returns the wire of a ball that has no room to wait, or no name."""
         for step in steps:
-            self.board.commit(step)
             del self.todo[step.gate.number]
+        return self.board.adopt(steps)
 
     def next_gate(self) -> Gate:
         """Returns the gate to place next: its inputs are there early, and its results are needed early.
@@ -216,13 +216,16 @@ class Attempt:
         queue = sorted(board.waiting, key=lambda root: self.begin(board.waiting[root]))
         before: dict[str, Waiting] = {}
         first: set[str] = set()
-        left = self.settings.end_rips
+        left, ways = self.settings.end_rips, Counter[str]()
         self.placer.stuck.clear()
         while queue:
             self.check_time()
             root = queue.pop(0)
             before[root] = board.stop_waiting(root)
             path = self.last_path(root, before[root].ball, end)
+            if path is None and ways[root] < self.settings.end_ways:
+                ways[root] += 1
+                path = self.path_through(root, before[root].ball, end)
             if path is not None:
                 board.ends.append(path)
                 continue
@@ -303,6 +306,12 @@ class Attempt:
                 board.remove_path(path)
                 self.placer.note_stuck()
         return None
+
+    def path_through(self, root: str, ball: Ball | None, end: int) -> Path | None:
+        """Adds a path from a waiting ball to the last time for which paths to gates make way, and returns it."""
+        if ball is None or self.placer.enclosed:
+            return None
+        return self.way_maker.lead_through(ball, lambda: self.last_path(root, ball, end))
 
     def free_start(self) -> Ball:
         """Returns a ball at time 0 at a random place."""

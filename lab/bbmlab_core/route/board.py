@@ -255,6 +255,22 @@ class Board:
             self.wait(wire, waiting)
         self.steps.append(step)
 
+    def adopt(self, steps: list[Step]) -> str:
+        """Adds gates and paths, and lets the balls that are left wait; returns the root of a ball that has no room to wait, or no name.
+
+        What another board reserved for a ball that waited there may be taken by a path that was led later.
+        """
+        for step in steps:
+            self.add_gate(step.gate)
+            for path in step.paths:
+                step.before[path.wire] = self.waiting.pop(path.wire)
+            for path in [*step.paths, *step.parked]:
+                self.add_path(path)
+            self.waiting.update(step.outs)
+        self.steps += steps
+        left = {root: waiting for root, waiting in self.waiting.items() if waiting.ball}
+        return next((root for root, waiting in left.items() if not self.wait_again(root, waiting)), "")
+
     def park(self, step: Step, path: Path, waiting: Waiting) -> None:
         """Leads an output of the last gate on, to where it waits from then on."""
         self.add_path(path)

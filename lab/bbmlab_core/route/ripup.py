@@ -5,11 +5,11 @@ Ends of such a path stay where they are, so all other gates and paths stay too.
 
 from dataclasses import replace
 from itertools import chain
-from typing import Iterable, Iterator
+from typing import Callable, Iterable, Iterator
 
 from ..circuits import Gate
 from .balls import Ball, Leg, Turn, bounce
-from .board import Board, Step
+from .board import Board, Waiting
 from .paths import Path
 from .placement import Inlet, Placer, Spot
 from .world import ROW, Item, cell_item, cell_number, number_cell, path_item
@@ -101,7 +101,7 @@ class WayMaker:
         step = self.placer.place_gate(gate, spots)
         if step is not None:
             board.commit(step)
-            again = self.lead_again(step, paths)
+            again = self.lead_again(list(step.outs.values()), paths)
             if again is not None:
                 self.exchange(again)
                 return True
@@ -110,8 +110,29 @@ class WayMaker:
             board.add_path(path)
         return False
 
-    def lead_again(self, step: Step, paths: Iterable[Path]) -> dict[Path, Path] | None:
-        """Adds paths from and to the same balls as some that were taken out, or None if this is not possible."""
+    def lead_through(self, ball: Ball, lead: Callable[[], Path | None]) -> Path | None:
+        """Returns a path that was led and added while paths to gates on the way of its ball were out, which are led again; or None.
+
+        `lead` leads and adds the path. If that or the leading again fails, the board is as before.
+        """
+        found = self.paths_at(self.turning_places(ball))
+        for count in self.settings.rips if found else ():
+            paths = found[:count]
+            for path in paths:
+                self.board.remove_path(path)
+            new = lead()
+            again = self.lead_again([], paths) if new else None
+            if again is not None:
+                self.exchange(again)
+                return new
+            if new:
+                self.board.remove_path(new)
+            for path in paths:
+                self.board.add_path(path)
+        return None
+
+    def lead_again(self, outs: list[Waiting], paths: Iterable[Path]) -> dict[Path, Path] | None:
+        """Adds paths from and to the same balls as some that were taken out, or None if this is not possible. `outs` can still turn then."""
         board, placer = self.board, self.placer
         placer.finder.known_departures.clear()
         again: dict[Path, Path] = {}
@@ -122,7 +143,7 @@ class WayMaker:
             board.add_path(new)
             again[path] = new
         places = [(mirror.x, mirror.y) for path, new in again.items() if new is not path for mirror in new.mirrors()]
-        if len(again) == len(list(paths)) and placer.leaves_others(places) and all(placer.can_turn(own) for own in step.outs.values()):
+        if len(again) == len(list(paths)) and placer.leaves_others(places) and all(placer.can_turn(own) for own in outs):
             return again
         for new in again.values():
             board.remove_path(new)

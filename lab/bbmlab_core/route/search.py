@@ -22,7 +22,7 @@ from .certificate import Certifier, bundle_text, circuit_section
 from .design import Design, cropped
 from .estimate import Estimate, estimate_of
 from .netlist import Netlist
-from .partial import INTERRUPT_SECONDS, SECONDS, hurried_design, partial_design, partial_text
+from .partial import EFFORT_PART, INTERRUPT_SECONDS, SECONDS, Part, hurried_design, partial_design, partial_text
 from .settings import Settings
 from .world import TILE
 
@@ -223,10 +223,14 @@ class Search:
             self.outcome.reason = str(error)
 
     def note_partial(self, placed: int, steps: list[Step], side: int) -> None:
-        """Notes how many gates an attempt placed, and keeps the steps that placed them if they are the most."""
-        self.outcome.placed = max(placed, self.outcome.placed)
-        if steps and self.options.keeps_partial and len(steps) >= len(self.outcome.partial):
-            self.outcome.partial, self.outcome.partial_size = steps, side
+        """Notes how many gates an attempt placed, and keeps the steps that placed them if they are the most.
+
+        If a part is kept only its gates count: an attempt backward in time may place more, but leaves no part.
+        """
+        if not self.options.keeps_partial:
+            self.outcome.placed = max(placed, self.outcome.placed)
+        elif len(steps) > len(self.outcome.partial):
+            self.outcome.placed, self.outcome.partial, self.outcome.partial_size = len(steps), steps, side
 
 
 # What a process sends: that it placed gates, the side, and their steps if they are kept; its bundle; or why it failed.
@@ -352,10 +356,14 @@ class Pool:
                 del self.workers[connection]
 
 
-def partial_bundle(circuit: Circuit, outcome: Outcome, settings: Settings) -> tuple[str, int] | None:
+def partial_bundle(circuit: Circuit, outcome: Outcome, options: Options, settings: Settings) -> tuple[str, int] | None:
     """Returns a bundle of the part of a circuit that was placed, and its count of gates, or None if there is none."""
-    make, seconds = (hurried_design, INTERRUPT_SECONDS) if outcome.is_interrupted else (partial_design, SECONDS)
-    found = make(circuit, outcome.partial, outcome.partial_size, replace(settings, wander_tries=80), seconds)
+    part = Part(circuit, outcome.partial, outcome.partial_size, options.most_side)
+    costs = replace(settings, wander_tries=80)
+    if outcome.is_interrupted:
+        found = hurried_design(part, costs, INTERRUPT_SECONDS)
+    else:
+        found = partial_design(part, costs, max(SECONDS, EFFORT_PART * options.effort))
     if found is None:
         return None
     try:

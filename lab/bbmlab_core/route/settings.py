@@ -68,6 +68,8 @@ class Settings:
     # How often paths to the last time are taken back for others, and the tries for each of them.
     end_rips: int = 150
     end_tries: int = 6
+    # How often paths to gates make way for the same ball on its way to the last time.
+    end_ways: int = 2
     # The most gates that are taken back out of the others' order.
     most_taken_out: int = 4
     # Failures after which an attempt with a seed and a size is given up.

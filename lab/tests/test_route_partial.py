@@ -1,0 +1,151 @@
+"""Parts that are kept of a search without a route: all gates that are counted, with a yes."""
+
+import subprocess
+import sys
+import unittest
+from collections import Counter
+from unittest import mock
+
+import support
+from bbmlab_core.circuits import Circuit
+from bbmlab_core.documents import read_document
+from bbmlab_core.route import partial
+from bbmlab_core.route.attempt import Attempt, OutOfTimeError
+from bbmlab_core.route.balls import Ball, Leg
+from bbmlab_core.route.board import NoRouteError, Step, Waiting
+from bbmlab_core.route.netlist import Netlist
+from bbmlab_core.route.partial import Part, affordable_count, partial_circuit, partial_design, partial_text, steps_without
+from bbmlab_core.route.paths import Path
+from bbmlab_core.route.search import Options, Search, routed_bundle
+from bbmlab_core.route.settings import Settings
+from bbmlab_core.route.world import path_item
+from test_route import circuit_text
+from test_route_backward import read_circuit
+
+sys.path.insert(0, str(support.TOP / "bench"))
+from random_circuits import made_circuit  # noqa: E402
+
+
+def placed_part(text: str, side: int, seed: int, failures: int = 0) -> Part:
+    """Returns what an attempt on a plane of one side placed at most."""
+    circuit = read_circuit(text)
+    attempt = Attempt(Netlist(circuit), side, seed, Settings(failures=failures))
+    try:
+        attempt.run()
+    except NoRouteError:
+        pass
+    return Part(circuit, attempt.best_steps, side, side)
+
+
+class Parts(unittest.TestCase):
+    """Gates that an attempt placed before it failed."""
+
+    def assert_yes(self, part: Part, count: int) -> None:
+        """Asserts that so many gates of a part are kept, with a yes."""
+        design = partial_design(part, Settings(), 60)
+        assert design
+        self.assertEqual(len(design.gates), count)
+        bundle = routed_bundle(partial_text(design.circuit), design).text
+        ended = subprocess.run([support.program(), "check"], input=bundle.encode(), capture_output=True, check=False)
+        self.assertIn("\nverdict yes\n", ended.stdout.decode())
+
+    def test_all_gates_are_kept(self) -> None:
+        """On small planes too all placed gates are kept: where a ball has no way to the end, paths to gates make way for it."""
+        for kind, inputs, seed in (("inverse", 10, 1), ("forward", 8, 2), ("any", 6, 2)):
+            part = placed_part(made_circuit(kind, 40, inputs, seed), 256, 1)
+            with self.subTest(kind=kind):
+                self.assertGreater(len(part.steps), 4)
+                self.assert_yes(part, len(part.steps))
+
+    def test_paths_make_way(self) -> None:
+        """Some ball of these parts has a way to the end only since paths to gates were led again."""
+        made: Counter[bool] = Counter()
+        right = partial.Attempt.path_through
+
+        def counted(self: Attempt, root: str, ball: Ball | None, end: int) -> Path | None:
+            path = right(self, root, ball, end)
+            made[path is not None] += 1
+            return path
+
+        with mock.patch.object(partial.Attempt, "path_through", counted):
+            for seed in range(1, 30):
+                part = placed_part(made_circuit("inverse", 40, 10, 1), 256, seed)
+                self.assert_yes(part, len(part.steps))
+                if made[True]:
+                    break
+        self.assertTrue(made[True])
+
+    def test_short_time(self) -> None:
+        """If the time is over, the first half of the gates is tried."""
+        part, tried = placed_part(made_circuit("forward", 12, 8, 1), 512, 1), []
+        right = partial.led_design
+
+        def slow(own: Part, steps: list[Step], *words: object) -> object:
+            tried.append(len(steps))
+            if len(steps) > 3:
+                raise OutOfTimeError("the time was over")
+            return right(own, steps, *words)  # type: ignore[arg-type]
+
+        with mock.patch.object(partial, "led_design", slow):
+            self.assert_yes(part, 3)
+        self.assertEqual(tried, [12, 6, 3])
+
+    def test_affordable_count(self) -> None:
+        """Without time no gate is kept after an interrupt, with much time all are, and with more time never fewer."""
+        part = placed_part(made_circuit("forward", 12, 8, 1), 512, 1)
+        counts = [affordable_count(part.circuit, part.steps, seconds) for seconds in (0.0, 0.05, 0.1, 0.2, 100.0)]
+        self.assertEqual((counts[0], counts[-1], counts), (0, len(part.steps), sorted(counts)))
+
+    def test_which_gate_is_left_out(self) -> None:
+        """The maker of a wire if nothing follows from it, and else the last gate."""
+        part = placed_part(circuit_text("abc", "switch a b -> d e f\nswitch d c -> g h i", "efghi"), 384, 1)
+        first, second = part.steps
+        self.assertEqual(steps_without(part.steps, "g"), [first])
+        self.assertEqual(steps_without(part.steps, "e"), [first])
+        self.assertEqual(steps_without([second, first], "e"), [second])
+
+
+class Adopting(unittest.TestCase):
+    """Steps that another board made."""
+
+    def test_no_room_to_wait(self) -> None:
+        """A ball whose way was given to a path that was led later is named, and does not take it as well."""
+        part = placed_part(circuit_text("ab", "switch a b -> x y z", "xyz"), 384, 1)
+        step = part.steps[0]
+        ball = step.outs["x"].ball
+        assert ball
+        way = path_item(ball.flown(2), [Leg(20, None)])
+        assert way
+        other = Path("y", ball.flown(2), ball.flown(22), (Leg(20, None),), way)
+        own = Step(step.gate, step.paths, {"x": step.outs["x"]}, [*step.parked, other])
+        attempt = Attempt(Netlist(part.circuit), 384, 1, Settings())
+        self.assertEqual(attempt.adopt([own]), "x")
+        self.assertIsInstance(attempt.board.waiting["x"], Waiting)
+        again = Attempt(Netlist(part.circuit), 384, 1, Settings())
+        self.assertEqual(again.adopt([step]), "")
+
+
+class Counting(unittest.TestCase):
+    """What the summary counts."""
+
+    def test_only_parts_count(self) -> None:
+        """If a part is kept, an attempt backward in time, which leaves none, does not count; else it does."""
+        text = made_circuit("wide", 12, 16, 1)
+        circuit = read_document(text, "circuit").circuit
+        assert circuit
+        for keeps, count in ((True, 1), (False, 11)):
+            search = Search(circuit, text, Options(keeps_partial=keeps), Settings(), lambda *_: None)
+            search.note_partial(11, [], 384)
+            search.note_partial(1, placed_part(text, 384, 1).steps[:1], 384)
+            self.assertEqual(search.outcome.placed, count)
+
+    def test_what_no_gate_needs_is_left_out(self) -> None:
+        """A part has the inputs, sources and delays that its gates need, and no others."""
+        text = "circuit\ninput a\ninput b\ninput c\nsource 1 -> d\nsource 0 -> e\ndelay 5 a -> f\ndelay 7 b -> g\n" \
+               "switch f d -> h i j\nswitch g e -> k l m\noutput c\n" + "".join(f"output {name}\n" for name in "hijklm") + "end\n"
+        part: Circuit = partial_circuit(read_circuit(text), {4})
+        self.assertEqual((part.inputs, [gate.word for gate in part.gates], part.outputs), (["a"], ["source", "delay", "switch"], ["h", "i", "j"]))
+
+
+if __name__ == "__main__":
+    unittest.main()
