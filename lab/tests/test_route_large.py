@@ -9,8 +9,8 @@ from test_route import Routing, circuit_text, gate_circuit
 
 import support
 from bbmlab_core.circuits import Circuit
-from bbmlab_core.cones import keeping_cone
 from bbmlab_core.documents import read_document
+from bbmlab_core.keeps import kept_cone
 from bbmlab_core.route import bit_rows, search
 from bbmlab_core.route.attempt import Attempt
 from bbmlab_core.route.balls import BOUNCE_STEPS, Ball, Leg, Turn, bounce, follow
@@ -216,7 +216,7 @@ class Words(Routing):
     def test_no_keep_is_said_before_the_search(self) -> None:
         """A circuit with an inverse gate that nothing can keep is refused at once, with the gate and its line."""
         text = next(text for text in (made_circuit("any", 100, 8, seed) for seed in range(1, 200))
-                    if any(gate.is_inverse and keeping_cone(read_circuit(text), gate.number) is None for gate in read_circuit(text).gates))
+                    if any(gate.is_inverse and kept_cone(read_circuit(text), gate.number) is None for gate in read_circuit(text).gates))
         with mock.patch.object(search.Search, "run", side_effect=AssertionError("the search began")):
             status, _, said = self.route(text)
         self.assertEqual(status, 1)
