@@ -104,6 +104,7 @@ class RipUp(unittest.TestCase):
         """Asserts that the world has exactly the items of the board."""
         world = World(board.size)
         items = [item for step in board.steps for item in [step.gate.item, *(path.item for path in [*step.paths, *step.parked])]]
+        items += [path.item for path in board.ends]
         for item in [*items, *(own.item for own in board.waiting.values() if own.item)]:
             self.assertTrue(world.fits(item))
             world.add(item)
@@ -128,6 +129,38 @@ class RipUp(unittest.TestCase):
                 if set(results) == {True, False} and len(results) > before:
                     break
         self.assertEqual(set(results), {True, False})
+
+    def test_books_of_ends(self) -> None:
+        """If no ball finds its way to the last time at once, paths to gates make way for some, and the books agree in the end."""
+        right, lead, made, asked = Attempt.path_through, Attempt.last_path, [], set()
+
+        def unwilling(self: Attempt, root: str, ball: Ball | None, end: int) -> Path | None:
+            if root in asked:
+                return lead(self, root, ball, end)
+            asked.add(root)
+            return None
+
+        def counted(self: Attempt, root: str, ball: Ball | None, end: int) -> Path | None:
+            path = right(self, root, ball, end)
+            made.extend([path] if path else [])
+            return path
+
+        attempt = Attempt(Netlist(read_circuit(made_circuit("forward", 12, 8, 1))), 384, 1, Settings())
+        with mock.patch.object(Attempt, "path_through", counted), mock.patch.object(Attempt, "last_path", unwilling):
+            attempt.run()
+        self.assert_books(attempt.board)
+        self.assertEqual(len({path.end.time for path in attempt.board.ends}), 1)
+        self.assertGreater(len(made), 0)
+
+    def test_long_ways(self) -> None:
+        """A ball is led on for 9,000 steps, which take more legs than the tries of a short wander."""
+        attempt = Attempt(Netlist(read_circuit(circuit_text("a", "", "a"))), 1200, 1, Settings())
+        path = attempt.last_path("a", Ball(600, 600, 1, 1, 0), 9000)
+        assert path
+        self.assertEqual((path.end.time, follow(path.start, path.legs)[0]), (9000, path.end))
+        world = World(1200)
+        world.add(path.item)
+        self.assertEqual((world.claims, world.counts), (attempt.board.world.claims, attempt.board.world.counts))
 
 
 if __name__ == "__main__":

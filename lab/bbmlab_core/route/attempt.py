@@ -298,13 +298,17 @@ class Attempt:
         finder, board = self.placer.finder, self.board
         self.placer.enclosed = ""
         for _ in range(self.settings.end_tries if ball else 5 * self.settings.end_tries):
-            path = finder.lead_on(root, ball or self.free_start(), end)
-            if path and board.has_room_for(root, path.item.tiles):
-                board.add_path(path)
-                if self.placer.leaves_others([(mirror.x, mirror.y) for mirror in path.mirrors()]):
-                    return path
-                board.remove_path(path)
-                self.placer.note_stuck()
+            path = finder.lead_on(root, ball or self.free_start(), end, stays=True)
+            if path is None:
+                continue
+            if not board.has_room_for(root, path.item.tiles):
+                board.world.remove(path.item)
+                continue
+            board.add_path(path, is_there=True)
+            if self.placer.leaves_others([(mirror.x, mirror.y) for mirror in path.mirrors()]):
+                return path
+            board.remove_path(path)
+            self.placer.note_stuck()
         return None
 
     def path_through(self, root: str, ball: Ball | None, end: int) -> Path | None:

@@ -206,9 +206,10 @@ class Board:
 
     # --- paths and gates -----------------------------------------------------------------------------------------------
 
-    def add_path(self, path: Path) -> None:
-        """Adds a path."""
-        self.world.add(path.item)
+    def add_path(self, path: Path, is_there: bool = False) -> None:
+        """Adds a path, which may be in the world already."""
+        if not is_there:
+            self.world.add(path.item)
         self.count_names(self.wires_of(path.wire), path.item.tiles, 1)
 
     def remove_path(self, path: Path) -> None:

@@ -139,13 +139,16 @@ class PathFinder:
 
     # --- free ends -----------------------------------------------------------------------------------------------------
 
-    def lead_on(self, wire: str, ball: Ball, end: int) -> Path | None:
-        """Returns a path from a ball to any place at the time `end`."""
+    def lead_on(self, wire: str, ball: Ball, end: int, stays: bool = False) -> Path | None:
+        """Returns a path from a ball to any place at the time `end`. If it stays, it is in the world: what its legs took there is its item."""
         trail = Trail(self.world, ball)
         found = self.wander(trail, end)
         legs, last = trail.legs(), trail.ball
+        item = path_item(ball, legs) if found and stays else None
+        if item is not None:
+            return Path(wire, ball, last, tuple(legs), item)
         trail.clear()
-        return self.complete(wire, ball, last, legs) if found else None
+        return self.complete(wire, ball, last, legs) if found and not stays else None
 
     def lead_here(self, wire: str, goal: Ball) -> Path | None:
         """Returns a path that begins at any place at time 0 and comes to a ball."""
@@ -166,7 +169,7 @@ class PathFinder:
         """Leads a trail on up to a time, so that it takes few new cells; with a goal, it can still come to this ball."""
         ways: list[Iterator[Option]] = []
         self.check_time()
-        for _ in range(self.settings.wander_tries):
+        for _ in range(self.settings.wander_tries + (end - trail.ball.time) // self.settings.wander_steps):
             left = end - trail.ball.time
             if left == 0 and not trail.steps or self.can_end(trail, left, goal) and trail.push(left, None):
                 return True

@@ -150,9 +150,9 @@ class WayMaker:
         return None
 
     def led(self, path: Path) -> Path | None:
-        """Returns a path between the ends of another one: this path if it has room."""
+        """Returns a path between the ends of another one: this path if it, and the boxes' wires, have room."""
         board, finder = self.board, self.placer.finder
-        if board.world.fits(path.item):
+        if board.world.fits(path.item) and board.has_room_for(path.wire, path.item.tiles):
             return path
         for _ in range(self.settings.end_tries):
             new = finder.lead_here(path.wire, path.end) if self.is_free(path) else \

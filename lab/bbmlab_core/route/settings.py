@@ -27,8 +27,9 @@ class Settings:
     least_wander: int = 50
     wanders: int = 4
     wander_stop: tuple[int, int] = (50, 190)
-    # The tries of a wander, and the ways on that it weighs at each bounce.
+    # The tries of a wander, the steps of its way for each of which it has one try more, and the ways on that it weighs at each bounce.
     wander_tries: int = 160
+    wander_steps: int = 20
     wander_options: int = 6
     # The places that are tried for a gate: the first with all paths is taken. After the second number they are as far away as they may be.
     place_tries: int = 1200
