@@ -2,6 +2,7 @@
 
 import contextlib
 import io
+import itertools
 import os
 import random
 import re
@@ -20,6 +21,7 @@ from bbmlab_core.circuits import evaluate
 from bbmlab_core.cli import main
 from bbmlab_core.documents import Document, read_document
 from bbmlab_core.route import certificate, search, world
+from bbmlab_core.route.netlist import Netlist
 from bbmlab_core.route.settings import Settings
 from bbmlab_core.route.world import Item
 from bbmlab_core.signals import Stopped
@@ -147,11 +149,30 @@ class Yes(Routing):
         self.assertEqual(whole.split("certificate")[0], part)
 
     def test_compact(self) -> None:
-        """`--compact` ends with a layout that is not larger."""
-        text = gate_circuit("switch")
+        """`--compact` gives a layout of at most 0.7 of the area, with a yes, and the same one by two processes."""
+        text = gate_circuit("fredkin")
         plain, small = (read_document(self.route(text, *words)[1]).layout for words in ((), ("--compact",)))
         assert plain and small
-        self.assertLessEqual((small.width * small.height, small.steps), (plain.width * plain.height, plain.steps))
+        self.assertLessEqual(small.width * small.height, 0.7 * plain.width * plain.height)
+        self.assert_yes(text, "--compact")
+        self.assertEqual(*(self.route(gate_circuit("switch"), "--compact", *words)[1] for words in ((), ("--jobs", "2"))))
+
+    def test_compact_without_a_small_layout(self) -> None:
+        """If no attempt of `--compact` finds a route, others follow, and the first of them that does is taken."""
+        circuit = read_document(gate_circuit("switch"), "circuit").circuit
+        assert circuit
+        count = len(search.COMPACT_PARTS)
+        plans = list(itertools.islice(search.plans_of([Netlist(circuit)], search.Options(is_compact=True), Settings()), count + 2))
+        self.assertEqual([plan.side == plan.most_side for plan in plans], [False, *[True] * (count - 1), False, False])
+        self.assertEqual(len({plan.seed for plan in plans}), count + 2)
+        asked = search.Search(circuit, gate_circuit("switch"), search.Options(is_compact=True, jobs=2), Settings(), lambda *_: None)
+        pool = search.Pool(asked)
+        routed = asked.run().routed
+        assert routed
+        pool.found = {count + 1: routed, count: routed}
+        self.assertEqual(pool.counted(), [count])
+        pool.found = {7: routed, count: routed, 3: routed}
+        self.assertEqual(pool.counted(), [3, 7])
 
 
 class Mistakes(Routing):

@@ -37,8 +37,11 @@ CELLS_PER_STEP = 2.6
 # two levels of 48 gates got 640 cells a side and 257 steps backward, and 704 and 370 forward.
 MOST_GROWTH = 20
 SHALLOW_STEPS = 200
-# The attempts that `--compact` makes at most.
-COMPACT_ATTEMPTS = 24
+# The attempts of `--compact`: the parts of the first side that are tried. Only the first plane may grow.
+COMPACT_PARTS = (1.0, *[0.85] * 2, *[0.75] * 3, *[0.7] * 3, *[0.65] * 4, *[0.6] * 4, *[0.55] * 4, *[0.5] * 3)
+# Such an attempt is given up after fewer failures, and gates come nearer to waiting balls.
+COMPACT_FAILURES = 3
+COMPACT_LANE = 10
 
 
 @dataclass(frozen=True)
@@ -128,12 +131,29 @@ def netlists_of(circuit: Circuit, options: Options) -> list[Netlist]:
     return [backward, forward] if is_shallow and not options.keeps_partial else [forward, backward]
 
 
-def attempts_of(netlists: list[Netlist], options: Options) -> Iterator[tuple[Netlist, int, int]]:
-    """Yields netlists, sides and seeds in the order of attempts, without end."""
-    side, index = options.side or estimated_side(netlists[0]), 0
+@dataclass(frozen=True)
+class Plan:
+    """What an attempt is made with: the circuit, the first side and that up to which the plane may grow, the seed, and the costs."""
+
+    netlist: Netlist
+    side: int
+    most_side: int
+    seed: int
+    settings: Settings
+
+
+def plans_of(netlists: list[Netlist], options: Options, settings: Settings) -> Iterator[Plan]:
+    """Yields what attempts are made with, in their order, without end."""
+    first, index = options.side or estimated_side(netlists[0]), 0
+    tight = replace(settings, failures=COMPACT_FAILURES, lane_cells=COMPACT_LANE)
+    for part in COMPACT_PARTS if options.is_compact and not options.side else ():
+        side, seed = max(LEAST_SIDE // 2, int(part * first) // TILE * TILE), options.seed * 1_000_003 + index
+        yield Plan(netlists[0], side, options.most_side, seed, settings) if part == 1 else Plan(netlists[0], side, side, seed, tight)
+        index += 1
+    side = first
     while True:
         for _ in range(ATTEMPTS_PER_SIDE):
-            yield netlists[index % len(netlists)], side, options.seed * 1_000_003 + index
+            yield Plan(netlists[index % len(netlists)], side, options.most_side, options.seed * 1_000_003 + index, settings)
             index += 1
         side = side if options.side else min(SECOND.max_side, side + max(2 * TILE, side // 4 // TILE * TILE))
 
@@ -189,17 +209,17 @@ class Search:
             self.outcome.interrupt_status = interrupt.status if isinstance(interrupt, Stopped) else self.outcome.interrupt_status
         return self.outcome
 
-    def limit(self) -> int:
-        """Returns the number of attempts that are made at most."""
-        return COMPACT_ATTEMPTS if self.options.is_compact else 1_000_000
+    def limit(self, is_found: bool) -> int:
+        """Returns the number of attempts that are made at most: those of `--compact` if one of them found a route."""
+        return len(COMPACT_PARTS) if self.options.is_compact and is_found else 1_000_000
 
     def run_here(self) -> None:
         """Makes attempts in this process."""
-        for index, (netlist, side, seed) in enumerate(attempts_of(self.netlists, self.options)):
-            if index >= self.limit() or time.monotonic() > self.deadline:
+        for index, plan in enumerate(plans_of(self.netlists, self.options, self.settings)):
+            if index >= self.limit(self.outcome.routed is not None) or time.monotonic() > self.deadline:
                 break
             self.outcome.attempts = index + 1
-            attempt = Attempt(netlist, side, seed, self.settings, self.deadline, self.options.most_side)
+            attempt = Attempt(plan.netlist, plan.side, plan.seed, plan.settings, self.deadline, plan.most_side)
             try:
                 design = attempt.run(lambda placed, total: self.progress(index + 1, attempt.board.size, placed, total))
                 if self.take(routed_bundle(self.circuit_text, design, not self.options.side)):
@@ -241,21 +261,18 @@ Message = tuple[str, int, int, object]
 class Task:
     """An attempt for a process of its own."""
 
-    netlist: Netlist
+    plan: Plan
     circuit_text: str
-    side: int
-    seed: int
-    settings: Settings
     deadline: float
     keeps_partial: bool
-    most_side: int
     is_cropped: bool
 
 
 def work(connection: Connection, task: Task) -> None:
     """Makes one attempt, and sends messages on it. The process that started this one ends it."""
     signal.signal(signal.SIGINT, signal.SIG_IGN)
-    attempt = Attempt(task.netlist, task.side, task.seed, task.settings, task.deadline, task.most_side)
+    plan = task.plan
+    attempt = Attempt(plan.netlist, plan.side, plan.seed, plan.settings, task.deadline, plan.most_side)
 
     def tell(placed: int, total: int) -> None:
         """Sends that gates were placed."""
@@ -284,7 +301,7 @@ class Pool:
 
     def __init__(self, search: Search) -> None:
         self.search = search
-        self.attempts = enumerate(attempts_of(search.netlists, search.options))
+        self.plans = enumerate(plans_of(search.netlists, search.options, search.settings))
         self.workers: dict[Connection, Worker] = {}
         self.found: dict[int, Routed] = {}
 
@@ -306,23 +323,27 @@ class Pool:
             for worker in self.workers.values():
                 worker.process.join()
             # After an interrupt too.
-            for index in sorted(self.found):
+            for index in self.counted():
                 if search.take(self.found[index]):
                     break
+
+    def counted(self) -> list[int]:
+        """Returns the attempts that found a route and count: those that one process would have made, in order."""
+        found = sorted(self.found)
+        return [index for index in found if index < len(COMPACT_PARTS)] or found[:1] if self.search.options.is_compact else found
 
     def is_useful(self, index: int) -> bool:
         """Whether the attempt with an index can still count."""
         search = self.search
-        if time.monotonic() > search.deadline or index >= search.limit():
+        if time.monotonic() > search.deadline or index >= search.limit(bool(self.found)):
             return False
         return search.options.is_compact or not self.found or index < min(self.found)
 
     def start(self) -> None:
         """Starts the next attempt."""
-        search, (index, (netlist, side, seed)) = self.search, next(self.attempts)
+        search, (index, plan) = self.search, next(self.plans)
         here, there = multiprocessing.Pipe(duplex=False)
-        task = Task(netlist, search.circuit_text, side, seed, search.settings, search.deadline, search.options.keeps_partial,
-                    search.options.most_side, not search.options.side)
+        task = Task(plan, search.circuit_text, search.deadline, search.options.keeps_partial, not search.options.side)
         process = multiprocessing.get_context("fork").Process(target=work, args=(there, task), daemon=True)
         process.start()
         there.close()

@@ -22,8 +22,9 @@ from .cells import GateCell
 ROW_BITS = 12
 ROW = 1 << ROW_BITS
 STEP = ROW * ROW
-# No ball comes nearer to the border than this many cells, and no mirror nearer than two cells less.
+# No ball comes nearer to the border than this many cells, and no mirror nearer than the cells of the rim.
 MARGIN = 4
+RIM = 2
 # A certificate's boxes are squares of this side, or rectangles of such squares.
 TILE = 16
 TILE_BITS = 4
@@ -240,7 +241,7 @@ class World:
     def can_hold(self, mirror: Mirror) -> bool:
         """Whether a mirror may stand where nothing is and no ball passes."""
         x, y, width, height = mirror
-        low, high = MARGIN - 2, self.size - MARGIN + 2
+        low, high = RIM, self.size - RIM
         if x < low or y < low or x + width > high or y + height > high:
             return False
         blocked = self.blocked
