@@ -369,7 +369,7 @@ def add_route(commands: Commands) -> None:
     parser.add_argument("--size", type=positive, metavar="N", help="the side of the layout, a multiple of 16 up to 4096 (default: as needed)")
     parser.add_argument("--effort", type=seconds, default=60.0, metavar="SECONDS", help="how long to search (default: 60)")
     parser.add_argument("--jobs", type=positive, default=1, metavar="N", help="attempts at a time, each in a process (default: 1)")
-    parser.add_argument("--compact", action="store_true", help="make more attempts, and take the smallest layout with the fewest steps")
+    parser.add_argument("--compact", action="store_true", help="make attempts on ever smaller planes, and take the smallest layout with the fewest steps")
     parser.add_argument("--no-certificate", action="store_true", help="write the circuit and the layout alone")
     parser.add_argument("--circuit-only", action="store_true", help="write the circuit section to which a netlist is mapped, and route nothing")
     parser.add_argument("--keep-partial", action="store_true", help="if there is no route, write a bundle of the gates that were placed")

@@ -197,6 +197,19 @@ class Cropping(Routing):
             return None
 
 
+class Sides(Routing):
+    """Planes of sides below and above the first limit, up to the largest."""
+
+    def test_sides(self) -> None:
+        """On planes of given sides a circuit gets a yes, and the lab's run its values; the line of limits is there only if it is needed."""
+        for side, words in ((512, ()), (528, ("--seed", "2")), (2048, ()), (4096, ())):
+            with self.subTest(side=side):
+                document = self.assert_yes(gate_circuit("fredkin"), "--size", str(side), *words)
+                assert document.layout
+                self.assertEqual((document.layout.width, document.layout.height), (side, side))
+                self.assertEqual((self.room / "bundle.txt").read_text().startswith("limits 2\n"), side > 512)
+
+
 class Words(Routing):
     """What is said before a search and after it."""
 

@@ -38,9 +38,10 @@ CELLS_PER_STEP = 2.6
 MOST_GROWTH = 20
 SHALLOW_STEPS = 200
 # The attempts of `--compact`: the parts of the first side that are tried. Only the first plane may grow.
-COMPACT_PARTS = (1.0, *[0.85] * 2, *[0.75] * 3, *[0.7] * 3, *[0.65] * 4, *[0.6] * 4, *[0.55] * 4, *[0.5] * 3)
-# Such an attempt is given up after fewer failures, and gates come nearer to waiting balls.
+COMPACT_PARTS = (1.0, *(0.85, 0.75, 0.7, 0.65, 0.6, 0.55, 0.5) * 3, 0.65, 0.6)
+# Such an attempt is given up after fewer failures, each after fewer places, and gates come nearer to waiting balls.
 COMPACT_FAILURES = 3
+COMPACT_PLACES = 400
 COMPACT_LANE = 10
 
 
@@ -145,7 +146,7 @@ class Plan:
 def plans_of(netlists: list[Netlist], options: Options, settings: Settings) -> Iterator[Plan]:
     """Yields what attempts are made with, in their order, without end."""
     first, index = options.side or estimated_side(netlists[0]), 0
-    tight = replace(settings, failures=COMPACT_FAILURES, lane_cells=COMPACT_LANE)
+    tight = replace(settings, failures=COMPACT_FAILURES, place_tries=COMPACT_PLACES, lane_cells=COMPACT_LANE)
     for part in COMPACT_PARTS if options.is_compact and not options.side else ():
         side, seed = max(LEAST_SIDE // 2, int(part * first) // TILE * TILE), options.seed * 1_000_003 + index
         yield Plan(netlists[0], side, options.most_side, seed, settings) if part == 1 else Plan(netlists[0], side, side, seed, tight)
