@@ -12,6 +12,7 @@ from typing import Callable, Iterable, Iterator, Protocol
 
 from .answering import WORDS, Result, timed_answer
 from .program import Executable, ProgramTimeout, Running
+from .signals import beat
 from .terminal import LabError, read_bytes
 
 __all__ = ["WORDS", "Checker", "Keeper", "Result", "counted", "exit_status", "summary", "text_files"]
@@ -104,13 +105,12 @@ def read_in_time(file: str, timeout: float | None) -> bytes:
         """Ends the reading."""
         raise ProgramTimeout(f"the file did not end within {timeout:g} seconds")
 
-    old = signal.signal(signal.SIGALRM, stop)
+    signal.signal(signal.SIGALRM, stop)
     signal.setitimer(signal.ITIMER_REAL, timeout)
     try:
         return read_bytes(file)
     finally:
-        signal.setitimer(signal.ITIMER_REAL, 0)
-        signal.signal(signal.SIGALRM, old)
+        beat()
 
 
 def kept(keeper: Keeper, text: bytes, result: Result, seconds: float) -> Result:
@@ -139,6 +139,7 @@ def serve(order: Order, own: Connection, others: list[Connection]) -> None:
     for number in (signal.SIGTERM, signal.SIGHUP):
         if signal.getsignal(number) is not signal.SIG_IGN:
             signal.signal(number, stop)
+    beat()
     for connection in others:
         connection.close()
     try:

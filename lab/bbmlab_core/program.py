@@ -13,6 +13,7 @@ from pathlib import Path
 
 from .own_digest import foreign_report
 from .sealed import path_of, sealed_copy
+from .signals import held, let_in
 
 HERE = Path(__file__).resolve().parent
 
@@ -64,8 +65,9 @@ def opened(program: Executable | str) -> Executable:
     if isinstance(program, Executable):
         return program
     try:
-        data = Path(program).read_bytes()
-        return Executable(program, sealed_copy(data), hashlib.sha256(data).hexdigest())
+        path = behind_wrapper(program)
+        data = Path(path).read_bytes()
+        return Executable(path, sealed_copy(data), hashlib.sha256(data).hexdigest())
     except OSError as error:
         raise ProgramError(f"{program} can't be run: {error.strerror or error}") from error
 
@@ -87,7 +89,7 @@ def behind_wrapper(found: str) -> str:
     wrapper = HERE.parent.parent / "bbmcheck"
     if not wrapper.is_file() or not os.path.samefile(found, wrapper):
         return found
-    asked = subprocess.run([found, "--wrapper-program"], stdin=subprocess.DEVNULL, stdout=subprocess.PIPE, check=False)
+    asked = subprocess.run([os.path.abspath(found), "--wrapper-program"], stdin=subprocess.DEVNULL, stdout=subprocess.PIPE, check=False)
     if asked.returncode:
         raise ProgramError(f"{found} ended with status {asked.returncode}")
     return os.fsdecode(asked.stdout.removesuffix(b"\n"))
@@ -99,7 +101,7 @@ def find_program(given: str | None = None) -> Executable:
     for place in tried:
         found = shutil.which(place)
         if found and os.path.isfile(found):
-            return opened(behind_wrapper(os.path.abspath(found)))
+            return opened(os.path.abspath(found))
     is_named = given or os.environ.get("BBMCHECK")
     where = f"there is no program at {tried[0]}" if is_named else "no program was found in the clone, next to bbmlab or on PATH"
     raise ProgramError(f"{where}; name it with --program PATH or set BBMCHECK. The checker has a Debian package and archives of its own: the Python package "
@@ -161,24 +163,29 @@ def kill_session(process: "subprocess.Popen[bytes]") -> None:
         process.kill()
 
 
+def told(program: Executable, command: str, text: bytes, timeout: float | None, running: Running) -> Answer:
+    """Returns what a command of the program writes, whatever its status is. A signal is heard only when the program can be ended."""
+    with held():
+        try:
+            process = running.start(program, command)
+        except OSError as error:
+            raise ProgramError(f"{program} can't be run: {error.strerror or error}") from error
+        try:
+            with let_in():
+                output, written = process.communicate(text, timeout)
+        except subprocess.TimeoutExpired as late:
+            raise ProgramTimeout(f"no answer within {timeout:g} seconds") from late
+        finally:
+            running.end(process)
+    return Answer(process.returncode, output.decode("latin-1"), written.decode("utf-8", "replace").strip())
+
+
 def ask(program: Executable | str, command: str, text: bytes, timeout: float | None = None, running: Running | None = None) -> Answer:
     """Runs a command of the program on a text. The program is opened already, or a path."""
-    running = running or SHARED or Running()
     program = opened(program)
-    try:
-        process = running.start(program, command)
-    except OSError as error:
-        raise ProgramError(f"{program} can't be run: {error.strerror or error}") from error
-    try:
-        output, written = process.communicate(text, timeout)
-    except subprocess.TimeoutExpired as late:
-        raise ProgramTimeout(f"no answer within {timeout:g} seconds") from late
-    finally:
-        running.end(process)
-    errors = written.decode("utf-8", "replace").strip()
-    if process.returncode not in (0, 1, 3, 4, 5):
-        raise ProgramError(f"{program} ended with status {process.returncode}: {errors.splitlines()[0] if errors else 'no message'}")
-    answer = Answer(process.returncode, output.decode("latin-1"), errors)
+    answer = told(program, command, text, timeout, running or SHARED or Running())
+    if answer.status not in (0, 1, 3, 4, 5):
+        raise ProgramError(f"{program} ended with status {answer.status}: {answer.errors.splitlines()[0] if answer.errors else 'no message'}")
     why = foreign_report(text, answer.output) if command == "check" else None
     if why:
         raise ProgramError(f"{program} gave the report of another text: {why}")

@@ -10,6 +10,7 @@ import tempfile
 import time
 import unittest
 from pathlib import Path
+from typing import Callable
 
 import support
 from bbmlab_core.diagnosis import Diagnosis, Truth
@@ -185,30 +186,90 @@ class Programs(Room):
 
 
 class Signals(Room):
-    """A terminal that is closed."""
+    """A terminal that is closed, and other signals."""
 
-    def test_hang_up(self) -> None:
-        """After SIGHUP the program is gone too, for one text and for many."""
-        mark = f"987652.{os.getpid()}"
-        program = self.program(f"[ \"$1\" = check ] || exec \"$real\" \"$@\"\nexec sleep {mark}")
-        for words in (["explain", support.example("wrong_edge")], ["check", "--jobs", "2", support.example("wrong_edge"), support.example("full_adder")]):
-            running = subprocess.Popen([sys.executable, LAB, *words, "--program", program], stdout=subprocess.DEVNULL, stderr=subprocess.DEVNULL, start_new_session=True)
-            self.wait(lambda: f"sleep {mark}" in processes())
-            os.killpg(running.pid, signal.SIGHUP)
-            self.assertEqual(running.wait(20), 129, words)
-            self.wait(lambda: f"sleep {mark}" not in processes())
+    def setUp(self) -> None:
+        """Makes a program that says that it was started, and does not answer."""
+        super().setUp()
+        self.mark = f"sleep 987652.{os.getpid()}"
+        self.sleeper = self.program(f"[ \"$1\" = check ] || exec \"$real\" \"$@\"\n: >'{self.room}/started'\nexec {self.mark}")
 
-    def wait(self, test: object) -> None:
+    def wait(self, test: Callable[[], bool]) -> None:
         """Waits until something holds."""
-        until = time.monotonic() + 20
-        while not test():  # type: ignore[operator]
+        until = time.monotonic() + 60
+        while not test():
             self.assertLess(time.monotonic(), until)
             time.sleep(0.05)
 
+    def run_with(self, patch: str, *words: str) -> int:
+        """Returns the status of the lab after a patch. In it, `hang_up` sends a signal to the thread that calls it when the program runs.
 
-def processes() -> str:
-    """Returns the commands of all processes."""
-    return subprocess.run(["ps", "-eo", "args"], capture_output=True, text=True, check=True).stdout
+        The program must be gone then.
+        """
+        script = ("import os, signal, subprocess, sys, threading, time; sys.path.insert(0, sys.argv[1])\n"
+                  "from bbmlab_core import checking, cli, program\n"
+                  "def hang_up(number=signal.SIGHUP):\n"
+                  f"    while not os.path.exists('{self.room}/started'): time.sleep(0.01)\n"
+                  "    time.sleep(0.5)\n"
+                  "    signal.pthread_kill(threading.get_ident(), number)\n"
+                  f"{patch}\n"
+                  "sys.exit(cli.main(sys.argv[2:]))\n")
+        running = subprocess.Popen([sys.executable, "-c", script, str(support.LAB), *words, "--program", self.sleeper], stdout=subprocess.DEVNULL, stderr=subprocess.DEVNULL)
+        try:
+            status = running.wait(60)
+            self.wait(lambda: self.mark not in processes())
+        finally:
+            running.kill()
+            running.wait()
+            for line in processes("pid,args").splitlines():
+                if line.endswith(f" {self.mark}"):
+                    os.kill(int(line.split()[0]), signal.SIGKILL)
+        return status
+
+    def test_hang_up(self) -> None:
+        """After SIGHUP the program is gone too, for one text and for many."""
+        for words in (["explain", support.example("wrong_edge")], ["check", "--jobs", "2", support.example("wrong_edge"), support.example("full_adder")]):
+            running = subprocess.Popen([sys.executable, LAB, *words, "--program", self.sleeper], stdout=subprocess.DEVNULL, stderr=subprocess.DEVNULL, start_new_session=True)
+            self.wait(lambda: self.mark in processes())
+            os.killpg(running.pid, signal.SIGHUP)
+            self.assertEqual(running.wait(60), 129, words)
+            self.wait(lambda: self.mark not in processes())
+
+    def test_signal_just_before_a_call(self) -> None:
+        """A signal that does not interrupt the system call in which the main thread waits is obeyed, as if it had come just before the call."""
+        thread = "threading.Thread(target=hang_up, daemon=True).start()"
+        self.assertEqual(self.run_with(thread, "explain", support.example("wrong_edge")), 129)
+        worker = ("serve = checking.serve\n"
+                  "def patched(*rest):\n"
+                  "    threading.Thread(target=hang_up, args=(signal.SIGTERM,), daemon=True).start()\n"
+                  "    serve(*rest)\n"
+                  "checking.serve = patched")
+        (self.room / "started").unlink()
+        self.assertEqual(self.run_with(worker, "check", support.example("wrong_edge")), 4)
+
+    def test_signal_at_the_start_of_a_program(self) -> None:
+        """A signal that comes before the lab knows the number of the process that it started ends this one too."""
+        start = ("start = subprocess.Popen._execute_child\n"
+                 "def patched(*rest):\n"
+                 "    start(*rest)\n"
+                 "    hang_up()\n"
+                 "subprocess.Popen._execute_child = patched")
+        self.assertEqual(self.run_with(start, "explain", support.example("wrong_edge")), 129)
+
+    def test_two_signals(self) -> None:
+        """A second SIGHUP, as the shell sends it behind the kernel's, comes before the program is ended, and does not prevent that."""
+        again = ("end = program.kill_session\n"
+                 "def patched(process):\n"
+                 "    hang_up()\n"
+                 "    end(process)\n"
+                 "program.kill_session = patched\n"
+                 "threading.Thread(target=lambda: (hang_up(), os.kill(os.getpid(), signal.SIGHUP)), daemon=True).start()")
+        self.assertEqual(self.run_with(again, "explain", support.example("wrong_edge")), 129)
+
+
+def processes(columns: str = "args") -> str:
+    """Returns a line for each process, with its command last."""
+    return subprocess.run(["ps", "-eo", columns], capture_output=True, text=True, check=True).stdout
 
 
 class Words(Room):

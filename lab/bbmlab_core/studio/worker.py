@@ -20,6 +20,7 @@ from ..documents import Document, read_document
 from ..layouts import Layout
 from ..program import Executable
 from ..reports import ReportError
+from ..signals import beat
 from ..spelling import spelled
 from ..terminal import LabError
 from .folder import FolderError, bytes_of
@@ -118,6 +119,7 @@ def main() -> int:
     signal.signal(signal.SIGTERM, stop)
     signal.signal(signal.SIGHUP, stop)
     signal.signal(signal.SIGINT, signal.SIG_IGN)
+    beat()
     answers, sys.stdout = sys.stdout, sys.stderr
     jobs: "queue.SimpleQueue[str]" = queue.SimpleQueue()
     threading.Thread(target=read_jobs, args=(jobs,), daemon=True).start()
