@@ -16,7 +16,8 @@ from operations.common import FAST, FAST_MANIFEST, MANIFEST, RELEASED, TOP, Give
 ROOM = "crates/bbmcheck/out/wrapper"
 CRATES_TXT = "# Three crates and one of tests.\nlow: sha2\nmid: low\nbbmcheck may_wait=1: mid\ntests_only: low\n"
 KIT_LINE = "rattle-kit-fake logic 0123456789abcdef"
-# It reads the sources at its start, and builds a program that prints their digest. `pause` and `fail` are files beside it.
+# It reads the sources at its start, and builds a program that prints their digest. `pause`, `looks` and `fail` are files next to it. If
+# there is a file `looks`, to which the sleep below adds a byte after each look of the wrapper, a crate takes until its byte number `until`.
 FAKE_RT = r"""#!/bin/sh
 kit=${0%/bin/rt}
 top=../..
@@ -28,9 +29,14 @@ case $1 in
         for crate in low mid bbmcheck; do
             rm -rf "$top/crates/$crate/out/rlib"; mkdir -p "$top/crates/$crate/out/rlib"
             [ ! -e "$kit/pause" ] || { echo $$ >"$kit/pid"; /bin/sleep "$(cat "$kit/pause")"; }
+            [ ! -e "$kit/looks" ] || {
+                echo $(($(wc -c <"$kit/looks") + 2)) >"$kit/until.new"; mv "$kit/until.new" "$kit/until"
+                until [ "$(wc -c <"$kit/looks")" -ge "$(cat "$kit/until")" ]; do /bin/sleep 0.02; done
+            }
             [ ! -e "$kit/fail" ] || { echo 'error: this is not proved'; exit 1; }
             echo done >"$top/crates/$crate/out/rlib/stamp"; echo "== $crate"
-        done ;;
+        done
+        rm -f "$kit/until" ;;
     run)
         sum=$(all_sources); sum=${sum%% *}
         [ ! -e "$kit/during" ] || { sh "$kit/during"; rm -f "$kit/during"; }
@@ -42,8 +48,13 @@ case $1 in
         sum=$(sha256sum <out/bbmcheck); printf '%064d%s' 0 "${sum%% *}" >out/bbmcheck.stamp ;;
 esac
 """
-# The wrapper looks at rt each second: the tests do not wait so long.
-FAKE_SLEEP = "#!/bin/sh\nexec /bin/sleep 0.05\n"
+# The wrapper looks at rt each second: the tests do not wait so long. It does not look while rt goes from one crate to the next.
+FAKE_SLEEP = r"""#!/bin/sh
+kit=${0%/bin/sleep}
+[ ! -e "$kit/looks" ] || printf . >>"$kit/looks"
+while [ -e "$kit/until" ] && [ "$(wc -c <"$kit/looks")" -ge "$(cat "$kit/until" 2>/dev/null || echo 1000000)" ]; do /bin/sleep 0.02; done
+exec /bin/sleep 0.05
+"""
 
 
 class Tree:
@@ -472,7 +483,7 @@ def wrapper_two_calls(tree):
 def wrapper_progress(tree):
     """Plain lines elsewhere, one renewed line on a terminal, and the sum at the end."""
     tree.file().write_text("low src 1\n")
-    (tree.kit / "pause").write_text("0.4")
+    (tree.kit / "looks").write_text("")
     told = tree.run("check").stderr.splitlines()
     wanted = ["proving low (1 of 3), 0 min so far", "proving mid (2 of 3), 0 min so far", "proving bbmcheck (3 of 3), 0 min so far"]
     same([it for it in told if "proving " in it and " of 3)" in it], [f"bbmcheck: {it}" for it in wanted])
