@@ -70,7 +70,8 @@ class CertificateEditor:
         near = [group for group in self.groups if module.number in group.modules and group.time <= time]
         near.sort(key=lambda group: (group.cell != cell, group.time))
         for group in near[:6]:
-            yield Proposal("border lines as the whole run has them", tuple(group.edits))
+            for edits in (group.edits, *group.others):
+                yield Proposal("border lines as the whole run has them", tuple(edits))
         if len(near) > 1:
             yield Proposal("border lines as the whole run has them", tuple(dict.fromkeys(edit for group in near for edit in group.edits)))
         if self.diagnosis.occurring(module) != (1 << (1 << len(module.cuts))) - 1:
@@ -111,7 +112,8 @@ class CertificateEditor:
         owner = self.certificate.owner(cell)
         halo, edge = module.line_at("halo", time, cell), owner.line_at("edge", time, cell) if owner else None
         for group in (group for group in self.groups if group.cell == cell):
-            yield Proposal("border lines as the whole run has them", tuple(group.edits))
+            for edits in (group.edits, *group.others):
+                yield Proposal("border lines as the whole run has them", tuple(edits))
         for line, other, kind, place in ((edge, halo, "halo", module), (halo, edge, "edge", owner)):
             if line and place:
                 text = f"{kind}{str(line)[4:]}"

@@ -2,6 +2,7 @@
 
 from dataclasses import dataclass, field
 from functools import cached_property
+from typing import Iterable
 
 from .certificates import BorderLine, Module
 from .diagnosis import MAX_SECONDS, Diagnosis
@@ -10,8 +11,9 @@ from .layouts import Cell
 from .processor import processor_seconds
 from .simulation import Table, WholeRun, cell_of, key_of
 
-# The most lines that one cell gets.
+# The most lines that one cell gets, and how many wires with the values of a cell are proposed.
 MAX_LINES = 40
+MAX_WIRES = 4
 
 
 @dataclass
@@ -22,6 +24,8 @@ class Group:
     time: int
     modules: set[int]
     edits: list[Edit] = field(default_factory=list)
+    # Other edits, with other wires that have the values of the cell in the choices of the inputs that were tried.
+    others: list[list[Edit]] = field(default_factory=list)
 
 
 @dataclass(frozen=True)
@@ -30,6 +34,11 @@ class UnnamedCell:
 
     cell: Cell
     time: int
+
+
+def neighbours_of(cell: Cell) -> list[Cell]:
+    """Returns the cells around a cell."""
+    return [(cell[0] + dx, cell[1] + dy) for dx in (-1, 0, 1) for dy in (-1, 0, 1) if dx or dy]
 
 
 class LiveTimes:
@@ -100,12 +109,17 @@ class BorderCheck:
         """Returns the edits of all cells whose lines are wrong, in order of the first wrong time."""
         if self.seen is None:
             return []
+        found = [self.group(cell, self.lines_at.get(cell, [])) for cell in sorted(self.seen.keys() | self.lines_at.keys())]
+        return sorted((group for group in found if group), key=lambda group: group.time)
+
+    @cached_property
+    def lines_at(self) -> dict[Cell, list[tuple[Module, BorderLine]]]:
+        """The border lines of each cell, with their modules."""
         lines: dict[Cell, list[tuple[Module, BorderLine]]] = {}
         for module in self.certificate.modules:
             for line in (*module.edges, *module.halos):
                 lines.setdefault(line.cell, []).append((module, line))
-        found = [self.group(cell, lines.get(cell, [])) for cell in sorted(self.seen.keys() | lines.keys())]
-        return sorted((group for group in found if group), key=lambda group: group.time)
+        return lines
 
     def group(self, cell: Cell, lines: list[tuple[Module, BorderLine]]) -> Group | None:
         """Returns the edits for one cell, or None if its lines are right or no lines would be."""
@@ -119,17 +133,29 @@ class BorderCheck:
             wrong += [time for hearer in hearers for time in self.wrong_time(hearer, "halo", actual, lines)]
         if not wrong:
             return None
-        signals = self.signals(cell, actual, [owner, *hearers], lines)
-        if signals is None or len(signals) > MAX_LINES:
+        edits = [self.edits(cell, owner, hearers, signals) for signals in self.choices(cell, actual, [owner, *hearers], lines)]
+        if not edits:
             return None
-        group = Group(cell, min(wrong), {module.number for module in (owner, *hearers)})
-        self.write(group, owner, "edge", signals)
+        return Group(cell, min(wrong), {module.number for module in (owner, *hearers)}, edits[0], edits[1:])
+
+    def edits(self, cell: Cell, owner: Module, hearers: list[Module], signals: dict[int | None, str]) -> list[Edit]:
+        """Returns the edits after which all modules have just these signals of a cell, and know their wires."""
+        edits = self.written(cell, owner, "edge", signals)
         for hearer in hearers:
             if self.certificate.version == 1:
-                self.write(group, hearer, "halo", signals)
-            self.make_local(group, hearer, signals)
-        self.make_local(group, owner, signals)
-        return group
+                edits += self.written(cell, hearer, "halo", signals)
+            edits += self.made_local(hearer, signals)
+        return list(dict.fromkeys(edits + self.made_local(owner, signals)))
+
+    def choices(self, cell: Cell, actual: dict[int, Table], modules: list[Module], lines: list[tuple[Module, BorderLine]]) -> list[dict[int | None, str]]:
+        """Returns the signals that a cell may have, the likeliest first; none if no wire has its values, or if it needs too many lines."""
+        found: list[dict[int | None, str]] = []
+        for rank in range(MAX_WIRES):
+            signals = self.signals(cell, actual, modules, lines, rank)
+            if signals is None or len(signals) > MAX_LINES or signals in found:
+                break
+            found.append(signals)
+        return found
 
     def wrong_time(self, module: Module, kind: str, actual: dict[int, Table], lines: list[tuple[Module, BorderLine]]) -> list[int]:
         """Returns the first odd time at which the lines of a module about a cell differ from the run, in a list that may be empty."""
@@ -139,48 +165,65 @@ class BorderCheck:
         times = sorted(time for time in actual.keys() | own.keys() if time is not None)
         return next(([time] for time in times if actual.get(time, 0) != own.get(time, 0)), [])
 
-    def signals(self, cell: Cell, actual: dict[int, Table], modules: list[Module],
-                lines: list[tuple[Module, BorderLine]]) -> dict[int | None, str] | None:
-        """Returns the signals that a cell should have by time, or None if no wire has its values."""
+    def signals(self, cell: Cell, actual: dict[int, Table], modules: list[Module], lines: list[tuple[Module, BorderLine]],
+                rank: int) -> dict[int | None, str] | None:
+        """Returns the signals that a cell should have by time, or None if no wire has its values.
+
+        Where no line tells it, the wire is the one with this rank among those that have the values, or the last of them.
+        """
         full = self.diagnosis.values.full
         if actual and all(actual.get(time) == full for time in range(1, self.layout.steps, 2)):
             return {None: "1"}
         signals: dict[int | None, str] = {}
         for time, table in sorted(actual.items()):
             told = [line.signal for _, line in lines if line.time in (None, time) and self.table_of(line.signal) == table]
-            name = next(iter(told), None) or ("1" if table == full else self.best_wire(table, modules))
-            if name is None:
+            names = told[:1] or (["1"] if table == full else self.likely_wires(table, modules, cell, time))
+            if not names:
                 self.unnamed.append(UnnamedCell(cell, time))
                 return None
-            signals[time] = name
+            signals[time] = names[min(rank, len(names) - 1)]
         return signals
 
-    def best_wire(self, table: Table, modules: list[Module]) -> str | None:
-        """Returns the wire with a table that the most of some modules know."""
+    def likely_wires(self, table: Table, modules: list[Module], cell: Cell, time: int) -> list[str]:
+        """Returns the wires with a table. First comes that of the line about the cell at the nearest time, then those that most modules know.
+
+        Of those that as many know, first comes the one of the nearest line about a cell next to this one.
+        """
         wires = [name for name, other in self.diagnosis.values.tables.items() if other == table]
-        return max(wires, key=lambda name: sum(name in module.local for module in modules), default=None)
+        if len(wires) < 2:
+            return wires
+        here, around = self.near_times([cell], time), self.near_times(neighbours_of(cell), time)
+        far = self.layout.steps + 1
+        return sorted(wires, key=lambda name: (here.get(name, far), -sum(name in module.local for module in modules), around.get(name, far)))
 
-    def write(self, group: Group, module: Module, kind: str, signals: dict[int | None, str]) -> None:
-        """Adds the edits after which a module has just these lines about a cell."""
-        old = {line.time: line for line in module.border_lines(kind) if line.cell == group.cell}
-        for time, line in old.items():
-            if time not in signals:
-                group.edits.append(delete(line.line))
+    def near_times(self, cells: Iterable[Cell], time: int) -> dict[str, int]:
+        """Returns how far from a time the nearest line about one of some cells is, for each signal."""
+        found: dict[str, int] = {}
+        for line in (line for cell in cells for _, line in self.lines_at.get(cell, ())):
+            far = 0 if line.time is None else abs(line.time - time)
+            found[line.signal] = min(far, found.get(line.signal, far))
+        return found
+
+    def written(self, cell: Cell, module: Module, kind: str, signals: dict[int | None, str]) -> list[Edit]:
+        """Returns the edits after which a module has just these lines about a cell."""
+        old = {line.time: line for line in module.border_lines(kind) if line.cell == cell}
+        edits = [delete(line.line) for time, line in old.items() if time not in signals]
         for time, signal in signals.items():
-            text = str(BorderLine(kind, time, group.cell[0], group.cell[1], signal, 0))
+            text = str(BorderLine(kind, time, cell[0], cell[1], signal, 0))
             if time not in old:
-                group.edits.append(add(place_in_module(self.lines, module.line, text), text))
+                edits.append(add(place_in_module(self.lines, module.line, text), text))
             elif str(old[time]) != text:
-                group.edits.append(replace(old[time].line, text))
+                edits.append(replace(old[time].line, text))
+        return edits
 
-    def make_local(self, group: Group, module: Module, signals: dict[int | None, str]) -> None:
-        """Adds the edits after which a module knows the wires of some signals: a gate that it can use, or else a cut."""
+    def made_local(self, module: Module, signals: dict[int | None, str]) -> list[Edit]:
+        """Returns the edits after which a module knows the wires of some signals: a gate that it can use, or else a cut."""
+        edits = []
         for name in dict.fromkeys(signals.values()):
             if name == "1" or name in module.local:
                 continue
             gate = self.circuit.maker.get(name)
             is_made = gate is not None and all(wire in module.local for wire in gate.ins) and not any(wire in module.local for wire in gate.outs)
             text = f"use {gate.number}" if gate is not None and is_made else f"cut {name}"
-            edit = add(place_in_module(self.lines, module.line, text), text)
-            if edit not in group.edits:
-                group.edits.append(edit)
+            edits.append(add(place_in_module(self.lines, module.line, text), text))
+        return edits

@@ -56,6 +56,28 @@ class Edits(unittest.TestCase):
                 self.assertEqual(applied(one, edits_between(one, two)), two)
 
 
+class DeletedLines(unittest.TestCase):
+    """Lines that are left out of a certificate in which several wires have the same values."""
+
+    def test_one_edit(self) -> None:
+        """Each `edge` line of such a wire that is left out is put back by one edit: it names the wire of the nearest line, or else another is tried."""
+        for circuit in ("switch p q -> d y z\ndelay 40 d -> e\ndelay 30 y -> f\noutput e\noutput f\noutput z\n",
+                        "switch p q -> d y z\ndelay 40 d -> e\noutput e\noutput y\noutput z\n"):
+            bundle = support.lab("route", "-", "--program", support.program(), text=f"circuit\ninput p\ninput q\n{circuit}end\n").stdout
+            self.assertTrue(says_yes(bundle))
+            lines = bundle.split("\n")
+            numbers = [number for number, line in enumerate(lines) if line.startswith("edge ") and line[-1] in "def"]
+            self.assertGreater(len(numbers), 5)
+            for number in numbers:
+                text = "\n".join(lines[:number] + lines[number + 1:])
+                report = Trial(support.program()).report(text)
+                assert report
+                if not is_yes(report):
+                    fix = Fixer(text, report, Trial(support.program())).find()
+                    assert fix
+                    self.assertEqual((len(fix.edits), fix.remakes, is_yes(fix.report)), (1, False, True), (lines[number], fix.words))
+
+
 class Mirrors(unittest.TestCase):
     """Which mirrors fall apart."""
 
