@@ -34,7 +34,8 @@ class Box:
 
     def ring(self) -> set[Cell]:
         """Returns the outermost cells of the box."""
-        return set(self.cells()) - set(cells_of(self.x + 1, self.y + 1, self.width - 2, self.height - 2))
+        columns, rows = range(self.x, self.x + self.width), range(self.y, self.y + self.height)
+        return {(x, y) for x in columns for y in (rows[0], rows[-1])} | {(x, y) for y in rows for x in (columns[0], columns[-1])}
 
     def halo(self) -> set[Cell]:
         """Returns the cells around the box."""
@@ -48,7 +49,7 @@ class Box:
 def clipped(layout: Layout, box: Box) -> Layout:
     """Returns the layout with the parts that lie in the box, and of mirrors what lies in it."""
     parts = []
-    for part in layout.parts:
+    for part in layout.parts_near(box.x, box.y, box.width, box.height):
         left, top = max(part.x, box.x), max(part.y, box.y)
         right, bottom = min(part.x + part.width, box.x + box.width), min(part.y + part.height, box.y + box.height)
         if left < right and top < bottom:

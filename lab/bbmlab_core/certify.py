@@ -17,7 +17,7 @@ from .layouts import Cell, Layout, row_order
 from .limits import SECOND, limits_for, sections_after_line, with_line
 from .observing import Observer, perimeter
 from .processor import processor_seconds
-from .simulation import ModuleRun, Table, cell_of, key_of
+from .simulation import ModuleRun, Table, cell_of, key_of, keys_of
 from .terminal import LabError
 
 # How many steps back from the wires of a box to the gates that make them are tried, before all gates back to the inputs.
@@ -149,7 +149,7 @@ class Maker:
         if len(module.edges) + max(len(module.halos), len(module.stops)) > MAX_BORDER_LINES:
             raise NoBoxError(f"the box {box} takes more than {MAX_BORDER_LINES} lines")
         needed = {line.signal for line in (*module.edges, *module.halos)} - {"1"}
-        inside = [key_of(cell) for cell in box.cells()]
+        inside = keys_of(box)
         needed |= {self.ports[key] for key in inside if key in self.ports} | {stop.name for stop in module.stops}
         fault = None
         for wiring in self.wirings(box, needed, inside, halo):

@@ -2,6 +2,7 @@
 
 import random
 from dataclasses import dataclass, field
+from functools import cached_property
 from typing import Iterable
 
 from .gates import GATE_SIZES, INVERSE_GATES, Table, gate_row, input_tables
@@ -78,7 +79,7 @@ class Valuation:
         """Returns the free wires that are true in a column."""
         return [name for name in self.free if self.tables[name] >> column & 1]
 
-    @property
+    @cached_property
     def defined(self) -> Table:
         """The columns at which all gates have a row."""
         defined = self.full
@@ -107,13 +108,20 @@ def sampled_tables(names: list[str], count: int, first: Iterable[str] = (), seed
     """
     chance, number, all_on = random.Random(seed), len(names), (1 << len(names)) - 1
     chosen = set(first)
-    columns = [sum(1 << place for place, name in enumerate(names) if name in chosen), 0, all_on]
+    columns = [number_of("1" if name in chosen else "0" for name in names), 0, all_on]
     some = range(number) if number <= count // 8 else sorted(chance.sample(range(number), count // 8))
     columns += [flip ^ 1 << index for index in some for flip in (0, all_on)]
     for index in range(count - len(columns)):
         share = (0.5, 0.5, 0.25, 0.75, 0.1, 0.9, 0.03, 0.97)[index % 8]
-        columns.append(sum(1 << place for place in range(number) if chance.random() < share))
-    return {name: sum((column >> place & 1) << index for index, column in enumerate(columns)) for place, name in enumerate(names)}
+        columns.append(number_of("1" if chance.random() < share else "0" for _ in range(number)))
+    # The columns of a list of rows, by their digits: a shift for each bit would take quadratic time.
+    rows = [f"{column:0{number}b}"[::-1] for column in columns]
+    return dict(zip(names, map(number_of, zip(*rows))))
+
+
+def number_of(bits: Iterable[str]) -> int:
+    """Returns a number by its binary digits, from the lowest to the highest."""
+    return int("".join(bits)[::-1] or "0", 2)
 
 
 def evaluate_samples(circuit: Circuit, count: int, first: Iterable[str] = ()) -> Valuation:

@@ -18,21 +18,26 @@ MARGIN = 2
 MAX_REACH = SECOND.max_side + 2 * MARGIN
 
 
-def state_of(cell: Cell, live: set[Cell]) -> int:
-    """Returns Golly's state of a cell at an even time."""
-    return (1 if cell[0] % 2 == 0 and cell[1] % 2 == 0 else 2) + (2 if cell in live else 0)
+def row_of(y: int, columns: range, live: list[int]) -> str:
+    """Returns Golly's states of a row at an even time, as signs. `columns` begins at an even one; `live` are the columns of the live cells."""
+    row = list(SIGNS[1 if y % 2 == 0 else 2] + SIGNS[2]) * (len(columns) // 2)
+    for x in live:
+        row[x - columns[0]] = SIGNS[3 if x % 2 == 0 and y % 2 == 0 else 4]
+    return "".join(row)
 
 
 def packed(row: str) -> str:
     """Returns a row with runs of signs counted."""
-    return "".join((str(len(run[0])) if len(run[0]) > 1 else "") + run[1] for run in
-                   ((found[0], found[1]) for found in re.finditer(r"(.)\1*", row)))
+    return re.sub(r"(.)\1+", lambda run: f"{len(run[0])}{run[1]}", row)
 
 
 def golly_text(layout: Layout, live: set[Cell], on: list[str], lines: list[str]) -> str:
     """Returns the RLE file of the start with a dead margin. The layout's lines are kept as comments."""
     columns, rows = range(-MARGIN, layout.width + MARGIN), range(-MARGIN, layout.height + MARGIN)
-    body = "$\n".join(packed("".join(SIGNS[state_of((x, y), live)] for x in columns)) for y in rows)
+    live_of: dict[int, list[int]] = {}
+    for x, y in live:
+        live_of.setdefault(y, []).append(x)
+    body = "$\n".join(packed(row_of(y, columns, live_of.get(y, []))) for y in rows)
     comments = ["#C bbmlab: the start of a layout; states 1 and 3 are the upper left cells of blocks, 3 and 4 are live",
                 f"#C inputs on: {' '.join(on) or 'none'}", *(f"#C layout: {line}" for line in lines)]
     return "\n".join([f"#CXRLE Pos={-MARGIN},{-MARGIN}", *comments, f"x = {len(columns)}, y = {len(rows)}, rule = {RULE}", body + "!"]) + "\n"

@@ -10,6 +10,8 @@ ORDER = ["mirror", "ball", "in", "out", "waste"]
 # The kinds besides mirrors whose cells are taken at the start, and those whose cells are taken at the end.
 EARLY_KINDS = ("ball", "in")
 LATE_KINDS = ("out", "waste")
+# The side of the tiles by which the parts near a place are found.
+TILE = 64
 
 Cell = tuple[int, int]
 
@@ -24,6 +26,11 @@ def cells_of(x: int, y: int, width: int, height: int) -> Iterator[Cell]:
     for v in range(y, y + height):
         for u in range(x, x + width):
             yield u, v
+
+
+def tiles_of(x: int, y: int, width: int, height: int) -> Iterator[Cell]:
+    """Yields the tiles that a rectangle touches, by their column and row."""
+    return cells_of(x // TILE, y // TILE, (x + width - 1) // TILE - x // TILE + 1, (y + height - 1) // TILE - y // TILE + 1)
 
 
 @dataclass(frozen=True)
@@ -56,6 +63,19 @@ class Layout:
     height: int = 0
     steps: int = 0
     parts: list[Part] = field(default_factory=list)
+    # Which parts have cells in each tile, and how many parts there were when this was found out.
+    _tiles: dict[Cell, list[int]] = field(default_factory=dict, repr=False, compare=False)
+    _tiled_count: int = field(default=0, repr=False, compare=False)
+
+    def parts_near(self, x: int, y: int, width: int, height: int) -> list[Part]:
+        """Returns the parts that may have a cell in a rectangle, in order, without a look at all others."""
+        for number in range(self._tiled_count, len(self.parts)):
+            part = self.parts[number]
+            for tile in tiles_of(part.x, part.y, part.width, part.height):
+                self._tiles.setdefault(tile, []).append(number)
+        self._tiled_count = len(self.parts)
+        near = {number for tile in tiles_of(x, y, width, height) for number in self._tiles.get(tile, ())}
+        return [self.parts[number] for number in sorted(near)]
 
     def of_kind(self, kind: str) -> list[Part]:
         """Returns the parts of a kind, in order."""

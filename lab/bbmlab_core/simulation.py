@@ -8,7 +8,7 @@ from bisect import bisect_left
 from dataclasses import dataclass, field
 from typing import Iterable, Iterator
 
-from .boxes import clipped
+from .boxes import Box, clipped
 from .certificates import BorderLine, Certificate, Module
 from .circuits import Circuit, Valuation, evaluate
 from .layouts import Cell, Layout
@@ -37,6 +37,12 @@ def block_of(key: int, is_odd: int) -> int:
     if is_odd:
         return ((key - DIAGONAL) & ~DIAGONAL) + DIAGONAL
     return key & ~DIAGONAL
+
+
+def keys_of(box: Box) -> list[int]:
+    """Returns the numbers of the cells of a box, row by row."""
+    first = key_of((box.x, box.y))
+    return [key for row in range(first, first + box.height * ROW, ROW) for key in range(row, row + box.width)]
 
 
 class Field:
@@ -176,7 +182,7 @@ class ModuleRun:
             self.full &= table
         self.tables = {name: table & self.full for name, table in self.values.tables.items()} | {"1": self.full}
         self.field = Field(start_tables(self.layout, self.tables, self.full))
-        self.inside = {key_of(cell) for cell in module.box.cells()}
+        self.inside = set(keys_of(module.box))
         self.edges = self.borders(module.edges)
         self.halos = self.borders(certificate.halo_lines(module))
         self.ring = [key_of(cell) for cell in sorted(module.box.ring(), key=lambda cell: (cell[1], cell[0]))]
@@ -242,12 +248,13 @@ class ModuleRun:
 
     def end_faults(self) -> Iterator[tuple[int, Cell, Table]]:
         """Yields the faults of the last time against the layout."""
-        wanted = end_tables(self.layout, self.tables, self.full)
-        for cell in self.module.box.cells():
-            demand = wanted.get(cell, 0)
-            table = 0 if demand is None else self.field.live.get(key_of(cell), 0) ^ demand
+        live = self.field.live
+        wanted = {key_of(cell): table for cell, table in end_tables(self.layout, self.tables, self.full).items()}
+        for key in sorted(wanted.keys() | live.keys() & self.inside):
+            demand = wanted.get(key, 0)
+            table = 0 if demand is None else live.get(key, 0) ^ demand
             if table:
-                yield 2, cell, table
+                yield 2, cell_of(key), table
 
     def least_fault(self) -> Fault | None:
         """Makes steps up to the first time with a fault, and returns the least one."""

@@ -1,6 +1,7 @@
 """Runs that look only at what changes: they say what a plain run says, and take less time and memory."""
 
 import random
+import re
 import resource
 import subprocess
 import sys
@@ -11,13 +12,16 @@ from unittest import mock
 
 import support
 from bbmlab_core import tracing
+from bbmlab_core.boxes import Box, clipped
 from bbmlab_core.certificates import CertificateReader
+from bbmlab_core.circuits import Circuit, Gate, evaluate_samples, sampled_tables
 from bbmlab_core.cli import main
 from bbmlab_core.diagnosis import Diagnosis
 from bbmlab_core.documents import Document
 from bbmlab_core.expected_lines import BorderCheck
 from bbmlab_core.explaining import explain_answer
 from bbmlab_core.fixing import Fixer
+from bbmlab_core.golly import golly_text
 from bbmlab_core.layouts import Layout, Part
 from bbmlab_core.program import ask
 from bbmlab_core.simulation import Fault, ModuleRun, WholeRun, key_of, lowest_bit, run_layout
@@ -124,6 +128,51 @@ def random_layout(chooser: random.Random) -> Layout:
     cells = chooser.sample(sorted(free), chooser.randrange(1, 12))
     parts += [Part("ball", None, *cell, 1, 1, 1) for cell in cells[::2]] + [Part("in", "pq"[x % 2], x, y, 1, 1, 1) for x, y in cells[1::2]]
     return Layout(20, 20, chooser.randrange(1, 30), parts)
+
+
+class ManyModules(unittest.TestCase):
+    """What a layout of many modules asks for each of them."""
+
+    def test_parts_of_a_box(self) -> None:
+        """The parts in a box are those that a look at all parts finds, clipped, and the look is at few of many parts."""
+        chooser = random.Random(82)
+        parts = [Part("mirror", None, chooser.randrange(990), chooser.randrange(990), chooser.choice((1, 2, 9, 90)), chooser.choice((1, 2, 9, 90)), 1) for _ in range(90)]
+        layout = Layout(1000, 1000, 9, parts)
+        every = [set(part.cells()) for part in parts]
+        for _ in range(60):
+            box = Box(chooser.randrange(0, 990, 2), chooser.randrange(0, 990, 2), chooser.randrange(2, 66, 2), chooser.randrange(2, 66, 2))
+            inside = set(box.cells())
+            wanted = [sorted(cells & inside) for cells in every]
+            self.assertEqual([sorted(part.cells()) for part in clipped(layout, box).parts], [cells for cells in wanted if cells])
+            self.assertEqual(box.ring(), {(x, y) for x, y in box.cells() if {x - box.x, y - box.y} & {0} or x - box.x == box.width - 1 or y - box.y == box.height - 1})
+        grid = Layout(4096, 4096, 9, [Part("ball", None, x, y, 1, 1, 1) for x in range(0, 4096, 16) for y in range(0, 4096, 16)])
+        self.assertLess(len(grid.parts_near(640, 640, 64, 64)), 50)
+        grid.parts.append(Part("ball", None, 641, 641, 1, 1, 1))
+        self.assertEqual(clipped(grid, Box(640, 640, 4, 4)).parts, [grid.parts[640 // 16 * 256 + 640 // 16], grid.parts[-1]])
+
+    def test_samples(self) -> None:
+        """Column A of a table is bit A of its number, as in a sum of single bits; the columns with all rows are found once."""
+        names = [f"w{number}" for number in range(70)]
+        tables = sampled_tables(names, 64, names[::3])
+        columns = [{name for name in names if tables[name] >> column & 1} for column in range(64)]
+        self.assertEqual(columns[:3], [set(names[::3]), set(), set(names)])
+        chance = random.Random(1)
+        single = [names[place] for place in sorted(chance.sample(range(70), 8))]
+        self.assertEqual(columns[3:19], [wires for name in single for wires in ({name}, set(names) - {name})])
+        for column, share in zip(range(19, 64), (0.5, 0.5, 0.25, 0.75, 0.1, 0.9, 0.03, 0.97) * 9):
+            self.assertEqual(columns[column], {name for name in names if chance.random() < share}, column)
+        gate = Gate(0, "switch", None, names[:2], ["d", "y", "z"], 1)
+        values = evaluate_samples(Circuit(names, [gate]), 64)
+        self.assertIs(values.defined, values.defined)
+
+    def test_golly_rows(self) -> None:
+        """Each sign of a Golly file is the state of its cell: 1 and 2 dead, 3 and 4 live, 1 and 3 upper left in a block at even times."""
+        chooser = random.Random(83)
+        live = {(chooser.randrange(30), chooser.randrange(20)) for _ in range(200)}
+        body = golly_text(Layout(30, 20, 5), live, [], []).split("\n", 4)[-1].replace("\n", "").rstrip("!")
+        rows = ["".join(sign * int(count or 1) for count, sign in re.findall(r"(\d*)([A-D])", row)) for row in body.split("$")]
+        wanted = ["".join("ABCD"[(x % 2 or y % 2) + 2 * ((x, y) in live)] for x in range(-2, 32)) for y in range(-2, 22)]
+        self.assertEqual(rows, wanted)
 
 
 class Once(unittest.TestCase):
