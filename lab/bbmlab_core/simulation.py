@@ -185,7 +185,7 @@ class ModuleRun:
         self.inside = set(keys_of(module.box))
         self.edges = self.borders(module.edges)
         self.halos = self.borders(certificate.halo_lines(module))
-        self.ring = [key_of(cell) for cell in sorted(module.box.ring(), key=lambda cell: (cell[1], cell[0]))]
+        self.ring = {key_of(cell) for cell in module.box.ring()}
         self.stops: dict[int, list[tuple[Cell, str]]] = {}
         for stop in module.stops:
             self.stops.setdefault(stop.time, []).append((stop.cell, stop.name))
@@ -235,7 +235,7 @@ class ModuleRun:
         live, last = self.field.live, self.time == self.layout.steps
         if self.time % 2 and not last:
             said = self.edges.at(self.time)
-            for key in self.ring:
+            for key in said.keys() | live.keys() & self.ring:
                 table = live.get(key, 0) ^ said.get(key, 0)
                 if table:
                     yield 0, cell_of(key), table
