@@ -4,7 +4,7 @@ from dataclasses import dataclass
 from typing import Iterator
 
 from .certificates import MAX_CUTS, MAX_USES, Module, StopLine
-from .diagnosis import Diagnosis
+from .diagnosis import MAX_SECONDS, Diagnosis
 from .edits import Edit, add, delete, place_in_module, replace
 from .expected_lines import BorderCheck, Group
 from .layouts import Cell
@@ -29,11 +29,11 @@ class Proposal:
 class CertificateEditor:
     """Proposes edits of the certificate of a document for the faults of its report."""
 
-    def __init__(self, diagnosis: Diagnosis) -> None:
+    def __init__(self, diagnosis: Diagnosis, seconds: float = MAX_SECONDS) -> None:
         self.diagnosis = diagnosis
         self.circuit, self.certificate = diagnosis.circuit, diagnosis.certificate
         self.lines = diagnosis.document.text.split("\n")
-        self.check = BorderCheck(diagnosis)
+        self.check = BorderCheck(diagnosis, seconds)
         self.groups: list[Group] = self.check.groups()
 
     def for_all(self, findings: list[Finding]) -> Iterator[Proposal]:

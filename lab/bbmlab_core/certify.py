@@ -59,7 +59,7 @@ class Maker:
 
     def __init__(self, circuit: Circuit, layout: Layout, plan: Plan) -> None:
         self.circuit, self.layout, self.plan = circuit, layout, plan
-        self.observer = Observer(circuit, layout, bool(plan.stops))
+        self.observer = Observer(circuit, layout, bool(plan.stops), plan.until)
         self.observer.require_quiet_rim()
         # What the user should know of the certificate.
         self.notes: list[str] = []

@@ -77,8 +77,9 @@ class LiveTimes:
 class BorderCheck:
     """Compares the `edge` and `halo` lines of a certificate with the whole run."""
 
-    def __init__(self, diagnosis: Diagnosis) -> None:
-        self.diagnosis = diagnosis
+    def __init__(self, diagnosis: Diagnosis, seconds: float = MAX_SECONDS) -> None:
+        # `seconds` of the processor are what the run may take.
+        self.diagnosis, self.seconds = diagnosis, min(seconds, MAX_SECONDS)
         self.certificate, self.circuit, self.layout = diagnosis.certificate, diagnosis.circuit, diagnosis.layout
         self.lines = diagnosis.document.text.split("\n")
         self.unnamed: list[UnnamedCell] = []
@@ -90,7 +91,7 @@ class BorderCheck:
         if not self.diagnosis.can_run_whole():
             return None
         values = self.diagnosis.values
-        run, end = WholeRun(self.layout, values.tables, values.full), processor_seconds() + MAX_SECONDS
+        run, end = WholeRun(self.layout, values.tables, values.full), processor_seconds() + self.seconds
         watch = LiveTimes(run.field.live, {key_of(cell) for cell in self.owners}, self.layout.steps)
         while run.time < self.layout.steps:
             if run.time % 2:

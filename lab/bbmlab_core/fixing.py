@@ -219,9 +219,9 @@ class Fixer:
     def editor_of(self, diagnosis: Diagnosis) -> CertificateEditor:
         """Returns the editor of a certificate. That of the text itself is kept, since it compares all borders with a run."""
         if diagnosis is not self.own:
-            return CertificateEditor(diagnosis)
+            return CertificateEditor(diagnosis, self.trial.seconds_left())
         if self._editor is None:
-            self._editor = CertificateEditor(diagnosis)
+            self._editor = CertificateEditor(diagnosis, self.trial.seconds_left())
         return self._editor
 
     def applied_or_none(self, text: str, edits: tuple[Edit, ...]) -> str | None:

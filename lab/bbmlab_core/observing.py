@@ -5,6 +5,7 @@ from dataclasses import dataclass, field
 from .boxes import Box
 from .circuits import Circuit, evaluate, evaluate_samples
 from .layouts import Cell, Layout, row_order
+from .processor import processor_seconds
 from .refusals import listed
 from .simulation import Table, WholeRun, cell_of, key_of, lowest_bit
 from .terminal import LabError
@@ -29,8 +30,9 @@ class Observed:
 class Observer:
     """Runs a layout once, under all choices of the inputs or under samples of them, and tells the wires of its cells."""
 
-    def __init__(self, circuit: Circuit, layout: Layout, remembers: bool = False) -> None:
-        self.circuit, self.layout = circuit, layout
+    def __init__(self, circuit: Circuit, layout: Layout, remembers: bool = False, until: float | None = None) -> None:
+        # `until` is the processor time at which the run is given up.
+        self.circuit, self.layout, self.until = circuit, layout, until
         # Whether the cells are remembered at each time, for stops.
         self.remembers = remembers or any(gate.word == "delay" for gate in circuit.gates)
         if len(circuit.inputs) <= MAX_TRIED_INPUTS:
@@ -70,6 +72,8 @@ class Observer:
                     observed.seen.setdefault(key, []).append((time, table))
             if time == self.layout.steps:
                 return observed
+            if self.until is not None and processor_seconds() > self.until:
+                raise LabError("no certificate was found in the time that was given", 1)
             if not run.step():
                 on = values.names_of(lowest_bit(run.left[1])) if run.left else []
                 raise LabError(f"step {run.time} leaves the rectangle with {listed(on) or 'none of the inputs'} on: no certificate gets a yes", 1)

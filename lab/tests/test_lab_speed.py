@@ -14,6 +14,7 @@ import support
 from bbmlab_core import tracing
 from bbmlab_core.boxes import Box, clipped
 from bbmlab_core.certificates import CertificateReader
+from bbmlab_core.certify import Plan, certified
 from bbmlab_core.circuits import Circuit, Gate, evaluate_samples, sampled_tables
 from bbmlab_core.cli import main
 from bbmlab_core.diagnosis import Diagnosis
@@ -25,6 +26,7 @@ from bbmlab_core.golly import golly_text
 from bbmlab_core.layouts import Layout, Part
 from bbmlab_core.program import ask
 from bbmlab_core.simulation import Fault, ModuleRun, WholeRun, key_of, lowest_bit, run_layout
+from bbmlab_core.terminal import LabError
 from bbmlab_core.trials import Budget, Trial
 
 # Memory in which the trace of a large layout fits.
@@ -202,6 +204,22 @@ class Once(unittest.TestCase):
         with mock.patch.object(fixer, "applied_or_none") as applied:
             self.assertEqual([fixer.find_for(diagnosis, finding) for finding in report.faults], [None] * len(report.faults))
         self.assertEqual(applied.call_count, 0)
+
+
+    def test_no_run_goes_on_after_the_effort(self) -> None:
+        """No run of the search goes on when the time is over: the one that compares borders, and the one for another certificate, end at their first step."""
+        text = Path(support.example("wrong_edge")).read_text()
+        document = read(text)
+        diagnosis = Diagnosis(document)
+        self.assertTrue(diagnosis.can_run_whole())
+        with mock.patch("bbmlab_core.expected_lines.WholeRun.step", autospec=True, side_effect=WholeRun.step) as step:
+            self.assertIsNone(BorderCheck(diagnosis, -1.0).seen)
+            self.assertLessEqual(step.call_count, 1)
+            with self.assertRaises(LabError):
+                certified(document, None, Plan(until=0.0))
+            self.assertLessEqual(step.call_count, 2)
+            self.assertIsNotNone(BorderCheck(Diagnosis(document), 30.0).seen)
+            self.assertGreater(step.call_count, 5)
 
 
 class Memory(unittest.TestCase):
