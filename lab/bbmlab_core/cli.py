@@ -51,6 +51,17 @@ def from_zero(word: str) -> int:
     return whole_number(word, 0)
 
 
+def ball_size(word: str) -> float:
+    """Returns a size of a ball in cells."""
+    try:
+        size = float(word)
+    except ValueError:
+        size = 0.0
+    if not 0.1 <= size <= 1000:
+        raise argparse.ArgumentTypeError(f"{word} is no size from 0.1 to 1000 cells")
+    return size
+
+
 def port(word: str) -> int:
     """Returns the number of a port, or 0 for a free one."""
     number = whole_number(word, 0)
@@ -287,6 +298,11 @@ def add_draw(commands: Commands) -> None:
     which.add_argument("--time", type=from_zero, default=0, metavar="T", help="the time that is shown (default: 0)")
     which.add_argument("--ways", action="store_true", help="the ways of the balls over all times, coloured by wire")
     parser.add_argument("--report", metavar="FILE", help="mark the cells of the faults of this report")
+    parser.add_argument("--crop", type=from_zero, nargs=4, metavar=("X", "Y", "W", "H"), help="draw this part of the layout only")
+    parser.add_argument("--wires", metavar="NAMES", help="bring out the ways of these wires, with commas between")
+    parser.add_argument("--cone", metavar="NAME", help="bring out the ways of this wire and of all wires on which it depends")
+    parser.add_argument("--arrows", action="store_true", help="show where the balls go, on ways that are long enough")
+    parser.add_argument("--ball", type=ball_size, default=0.0, metavar="CELLS", help="the least size of a ball (default: by the layout)")
 
 
 def add_view(commands: Commands) -> None:

@@ -3,15 +3,16 @@
 from dataclasses import dataclass, field
 from html import escape
 
-from .boxes import Box
+from .boxes import Box, clipped
 from .certificates import Module
 from .circuits import Circuit, evaluate, evaluate_samples, sampled_tables
 from .documents import Document
 from .gates import input_tables
 from .label_places import Name, Rect, leader, place_names
 from .layouts import Cell, Layout, Part
+from .picture_parts import OTHERS, chevrons, pieces_within
 from .simulation import Table
-from .ways import Piece, joined_pieces, ways_of
+from .ways import Piece, directed_ways, joined_pieces, ways_of
 
 CELL = 12
 MARGIN = 30
@@ -26,13 +27,17 @@ MAX_WIDENING = 2.5
 LARGE_SIDE = 512
 MAX_LEGEND = 40
 MAX_MIRRORS = 2000
+# More names of ports would cover each other and take minutes to place.
+MAX_NAMES = 512
+# In a picture of a large layout a ball is at least this part of its side, and the name of a gate is at least this part of a port's name.
+LARGE_BALL, LEAST_NAME = 1 / 300, 0.5
 # More modules have faint borders and no numbers, which would hide the ways.
 MAX_NUMBERED = 64
 # Colours that people with any sight tell apart (Okabe and Ito) on white and on black, and dashes for print.
 COLOURS = ["#0072b2", "#d55e00", "#009e73", "#cc79a7", "#e69f00", "#56b4e9", "#8c510a", "#5e3c99"]
 DARK_COLOURS = ["#4aa8e0", "#f0803c", "#2cc79a", "#e3a1c4", "#f5b942", "#8fd0f5", "#c98f4e", "#a98be0"]
 DASHES = ["", "6 2", "2 2", "8 2 2 2", "4 4", "1 3", "10 3", "6 2 1 2 1 2"]
-SEVERAL = 8
+SEVERAL, FAINT = 8, 9
 
 STYLE = """text{font:7px sans-serif;fill:#222}.name{font-weight:bold;font-size:8px;stroke:#f7f7f4;stroke-width:2px;
 stroke-linejoin:round;paint-order:stroke}.leader{stroke:#222;stroke-width:.7}.in{fill:none;stroke:#222}
@@ -56,9 +61,17 @@ class Drawing:
     labels: dict[str, str] = field(default_factory=dict)
     modules: list[Module] = field(default_factory=list)
     # The boxes of modules that use gates, with what is said of them: in a large layout in place of all modules.
-    gates: list[tuple[Box, str]] = field(default_factory=list)
+    gates: list[tuple[Box, list[str]]] = field(default_factory=list)
     faults: list[tuple[Cell, str]] = field(default_factory=list)
     title: str = ""
+    # The part of the layout that is shown, or all of it; the cells that a ball takes at least; whether the ways have arrows.
+    view: Box | None = None
+    ball: float = 0.0
+    has_arrows: bool = False
+
+    def view_of(self, layout: Layout) -> Box:
+        """Returns the part of a layout that is shown."""
+        return self.view or Box(0, 0, layout.width, layout.height)
 
 
 def centre(cell: Cell) -> tuple[float, float]:
@@ -87,18 +100,24 @@ def number_step(size: int) -> int:
     return 2 if size <= 40 else 8 if size <= 128 else 64 if size <= 1024 else 256
 
 
-def plane(layout: Layout) -> list[str]:
+def multiples(first: int, count: int, step: int) -> range:
+    """Returns the multiples of a step among some numbers from a first one on."""
+    return range(-(-first // step) * step, first + count, step)
+
+
+def plane(view: Box) -> list[str]:
     """Returns the background with the lines of even blocks and the numbers of columns and rows."""
-    parts = [rectangle("plane", 0, 0, layout.width, layout.height)]
-    if max(layout.width, layout.height) <= 128:
-        right, bottom = MARGIN + layout.width * CELL, MARGIN + layout.height * CELL
-        lines = [f"M{MARGIN + x * CELL} {MARGIN}V{bottom}" for x in range(0, layout.width + 1, 2)]
-        lines += [f"M{MARGIN} {MARGIN + y * CELL}H{right}" for y in range(0, layout.height + 1, 2)]
+    parts = [rectangle("plane", view.x, view.y, view.width, view.height)]
+    left, top = MARGIN + view.x * CELL, MARGIN + view.y * CELL
+    if max(view.width, view.height) <= 128:
+        right, bottom = left + view.width * CELL, top + view.height * CELL
+        lines = [f"M{MARGIN + x * CELL} {top}V{bottom}" for x in multiples(view.x, view.width + 1, 2)]
+        lines += [f"M{left} {MARGIN + y * CELL}H{right}" for y in multiples(view.y, view.height + 1, 2)]
         parts.append(f'<path class="line" d="{"".join(lines)}"/>')
-    for x in range(0, layout.width, number_step(layout.width)):
-        parts.append(f'<text x="{short(centre((x, 0))[0])}" y="{MARGIN - 6}" text-anchor="middle">{x}</text>')
-    for y in range(0, layout.height, number_step(layout.height)):
-        parts.append(f'<text x="{MARGIN - 6}" y="{short(centre((0, y))[1] + 2.5)}" text-anchor="end">{y}</text>')
+    for x in multiples(view.x, view.width, number_step(view.width)):
+        parts.append(f'<text x="{short(centre((x, 0))[0])}" y="{top - 6}" text-anchor="middle">{x}</text>')
+    for y in multiples(view.y, view.height, number_step(view.height)):
+        parts.append(f'<text x="{left - 6}" y="{short(centre((0, y))[1] + 2.5)}" text-anchor="end">{y}</text>')
     return parts
 
 
@@ -133,11 +152,19 @@ def cell_rect(x: int, y: int, width: int = 1, height: int = 1) -> Rect:
     return Rect(MARGIN + x * CELL, MARGIN + y * CELL, width * CELL, height * CELL)
 
 
-def port_labels(layout: Layout, scale: float) -> list[str]:
+def left_out_words(layout: Layout) -> str:
+    """Says that the names of ports are left out, if they are."""
+    count = len(labelled_cells(layout))
+    return f"; the names of {count} ports are left out" if count > MAX_NAMES else ""
+
+
+def port_labels(layout: Layout, view: Box, scale: float) -> list[str]:
     """Returns the names of ports, inputs above and outputs below if they cover no other port there. Names of one cell are in one place."""
     size = NAME_SIZE * scale
     labels = [(cell_rect(*cell), kind, "→" + names[0] if kind == "in" else names[0] + "→")
               for (cell, kind), names in labelled_cells(layout).items()]
+    if len(labels) > MAX_NAMES:
+        return []
     names = [Name(cell, label_width(mark, size), size, kind == "in") for cell, kind, mark in labels]
     named = {(name.cell.x, name.cell.y) for name in names}
     # The second cell of a ball of two cells has no name of its own, and is a port too.
@@ -146,7 +173,7 @@ def port_labels(layout: Layout, scale: float) -> list[str]:
     signs = [cell_rect(*part.cell) for part in layout.parts if part.kind in ("waste", "ball")]
     walls = [cell_rect(part.x, part.y, part.width, part.height) for part in layout.of_kind("mirror")]
     room, lines, parts = MARGIN * scale, [], []
-    bounds = Rect(MARGIN - room, MARGIN - room, layout.width * CELL + 2 * room, layout.height * CELL + 2 * room)
+    bounds = Rect(MARGIN + view.x * CELL - room, MARGIN + view.y * CELL - room, view.width * CELL + 2 * room, view.height * CELL + 2 * room)
     for (cell, _, mark), place in zip(labels, place_names(names, signs + walls, bare, bounds)):
         line = leader(place, cell)
         if line:
@@ -194,18 +221,31 @@ def module_parts(modules: list[Module]) -> list[str]:
     return parts
 
 
-def gate_parts(gates: list[tuple[Box, str]]) -> list[str]:
+def gate_parts(gates: list[tuple[Box, list[str]]]) -> list[str]:
     """Returns the boxes of modules that use gates, with what is said of them."""
-    return [f'<g><title>{escape(about)}</title>{rectangle("gate", box.x, box.y, box.width, box.height)}</g>' for box, about in gates]
+    return [f'<g><title>a module that uses {escape(", ".join(names))}</title>{rectangle("gate", box.x, box.y, box.width, box.height)}</g>'
+            for box, names in gates]
 
 
-def ball_parts(layout: Layout, live: set[Cell]) -> list[str]:
-    """Returns the live cells that are no mirror's as discs, and dead cells of mirrors as holes."""
+def gate_names(gates: list[tuple[Box, list[str]]], scale: float) -> list[str]:
+    """Returns the first gate of each box, and how many others there are, where the box has room for these words."""
+    parts, largest = [], NAME_SIZE * scale
+    for box, names in gates:
+        shown = names[0] + (f" +{len(names) - 1}" if len(names) > 1 else "")
+        size = min(largest, box.width * CELL / (0.62 * len(shown)), box.height * CELL)
+        x, y = MARGIN + (box.x + box.width / 2) * CELL, MARGIN + (box.y + box.height / 2) * CELL + size / 3
+        if size >= LEAST_NAME * largest:
+            parts.append(f'<text class="gate-name" x="{short(x)}" y="{short(y)}" style="font-size:{short(size)}px">{escape(shown)}</text>')
+    return parts
+
+
+def ball_parts(layout: Layout, live: set[Cell], least: float) -> list[str]:
+    """Returns the live cells that are no mirror's as discs of a least size in cells, and dead cells of mirrors as holes."""
     mirrors = layout.mirror_cells()
-    parts = []
+    parts, radius = [], CELL * max(0.33, least / 2)
     for cell in sorted(live - mirrors):
         x, y = centre(cell)
-        parts.append(f'<circle class="ball" cx="{short(x)}" cy="{short(y)}" r="{CELL * 0.33:.1f}"/>')
+        parts.append(f'<circle class="ball" cx="{short(x)}" cy="{short(y)}" r="{radius:.1f}"/>')
     if live:
         parts += [rectangle("plane", *cell, 1, 1) for cell in sorted(mirrors - live)]
     return parts
@@ -213,13 +253,13 @@ def ball_parts(layout: Layout, live: set[Cell]) -> list[str]:
 
 def wire_style(wires: list[str]) -> dict[str, tuple[int, str]]:
     """Returns the number of a colour, and a dash, for each wire."""
-    styles = {wire: (index % 8, DASHES[index // 8 % 8]) for index, wire in enumerate(wire for wire in wires if wire)}
-    return styles | {"": (SEVERAL, "1 2")}
+    styles = {wire: (index % 8, DASHES[index // 8 % 8]) for index, wire in enumerate(wire for wire in wires if wire not in ("", OTHERS))}
+    return styles | {"": (SEVERAL, "1 2"), OTHERS: (FAINT, "")}
 
 
 def way_order(drawing: Drawing, wires: list[str]) -> list[str]:
-    """Returns the wires that have a way, in their order, then the constants, and then what is no wire's."""
-    return [wire for wire in [*wires, "1", ""] if wire in drawing.ways]
+    """Returns the wires that have a way: first those that are faint, then others in their order, then the constants, and then what is no wire's."""
+    return [wire for wire in [OTHERS, *wires, "1", ""] if wire in drawing.ways]
 
 
 def label_of(drawing: Drawing, wire: str) -> str:
@@ -240,6 +280,10 @@ def way_parts(drawing: Drawing, wires: list[str], widening: float) -> list[str]:
         dashes = f' stroke-dasharray="{" ".join(short(int(part) * widening) for part in dash.split())}"' if dash else ""
         title = escape(label_of(drawing, wire))
         parts.append(f'<path class="way w{colour}" style="stroke-width:{short(width)}"{dashes} d="{path}"><title>{title}</title></path>')
+        heads = chevrons(drawing.ways[wire], 3 * width / CELL) if drawing.has_arrows and wire != OTHERS else []
+        if heads:
+            path = "".join("M" + "L".join(f"{short(MARGIN + x * CELL)} {short(MARGIN + y * CELL)}" for x, y in head) for head in heads)
+            parts.append(f'<path class="way w{colour}" style="stroke-width:{short(width)}" d="{path}"/>')
     return parts
 
 
@@ -262,31 +306,62 @@ def legend(drawing: Drawing, wires: list[str], y: int, width: float) -> tuple[li
     return parts, top - y + 12 if parts else 0
 
 
+def shown_part(layout: Layout, drawing: Drawing) -> Layout:
+    """Returns what a picture shows of a layout, and takes away what it does not show of the drawing."""
+    view = drawing.view
+    if view is None:
+        return layout
+    drawing.ways = {wire: found for wire, pieces in drawing.ways.items() if (found := pieces_within(pieces, view))}
+    drawing.live = {cell for cell in drawing.live if view.has(cell)}
+    drawing.faults = [fault for fault in drawing.faults if view.has(fault[0])]
+    drawing.modules = [module for module in drawing.modules if overlaps(module.box, view)]
+    drawing.gates = [gate for gate in drawing.gates if overlaps(gate[0], view)]
+    return clipped(layout, view)
+
+
+def overlaps(one: Box, other: Box) -> bool:
+    """Returns whether two boxes share a cell."""
+    return (one.x < other.x + other.width and other.x < one.x + one.width and one.y < other.y + other.height and other.y < one.y + one.height)
+
+
+def more_style(drawing: Drawing, scale: float) -> str:
+    """Returns the style that only some pictures need: of larger letters, of gates and of faint ways."""
+    letters = f"g.plan text{{font-size:{short(7 * scale)}px}}g.plan .name{{font-size:{short(8 * scale)}px}}" if scale > 1 else ""
+    if drawing.gates:
+        letters += (".gate{fill:#7a3db8;fill-opacity:.18}.gate-name{fill:#5c2a92;text-anchor:middle;font-weight:bold;"
+                    f"stroke:#f7f7f4;stroke-width:{short(2 * scale)}px;stroke-linejoin:round;paint-order:stroke}}"
+                    "@media(prefers-color-scheme:dark){.gate-name{fill:#d3b3ff;stroke:#1e2126}}")
+    if OTHERS in drawing.ways:
+        letters += f".w{FAINT}{{stroke:#cfcfc9}}@media(prefers-color-scheme:dark){{.w{FAINT}{{stroke:#3d424b}}}}"
+    return letters
+
+
 def svg(layout: Layout, drawing: Drawing, wires: list[str]) -> str:
-    """Writes the picture. Above `PLAIN_SIDE` cells a side, letters and margins grow with the layout."""
-    side = max(layout.width, layout.height)
+    """Writes the picture. Above `PLAIN_SIDE` cells a side, letters and margins grow with the part of the layout that is shown."""
+    view, layout = drawing.view_of(layout), shown_part(layout, drawing)
+    side = max(view.width, view.height)
     scale = max(1.0, side / PLAIN_SIDE)
     widening, margin = min(scale, MAX_WIDENING) * max(1.0, side / LARGE_SIDE), MARGIN * (scale - 1)
-    width, bottom = 2 * MARGIN * scale + layout.width * CELL, MARGIN * scale + layout.height * CELL
+    width, bottom = 2 * MARGIN * scale + view.width * CELL, MARGIN * scale + view.height * CELL
     width = max(width, 2 * MARGIN + 256 if drawing.ways else 0)
     keys, key_height = legend(drawing, wires, 24, width / scale)
     height = bottom + (34 + key_height) * scale
-    parts = [*plane(layout), *layout_parts(layout), *module_parts(drawing.modules), *gate_parts(drawing.gates),
-             *way_parts(drawing, wires, widening),
-             *ball_parts(layout, drawing.live), *port_labels(layout, scale)]
+    ball = drawing.ball or (side * LARGE_BALL if side > LARGE_SIDE else 0.0)
+    parts = [*plane(view), *layout_parts(layout), *module_parts(drawing.modules), *gate_parts(drawing.gates),
+             *way_parts(drawing, wires, widening), *gate_names(drawing.gates, scale), *ball_parts(layout, drawing.live, ball), *port_labels(layout, view, scale)]
     for cell, about in drawing.faults:
         x, y = centre(cell)
-        parts.append(f'<circle class="fault" cx="{short(x)}" cy="{short(y)}" r="{CELL * 0.75:.1f}"><title>{escape(about)}</title></circle>')
-    letters = f"g.plan text{{font-size:{short(7 * scale)}px}}g.plan .name{{font-size:{short(8 * scale)}px}}" if scale > 1 else ""
-    letters += ".gate{fill:#7a3db8;fill-opacity:.18}" if drawing.gates else ""
-    style = f"{STYLE}{LIGHT_WAYS}@media(prefers-color-scheme:dark){{{DARK_WAYS}}}{letters}"
-    title = f'<g transform="scale({short(scale)})"><text x="{MARGIN}" y="12">{escape(drawing.title)}</text></g>'
+        parts.append(f'<circle class="fault" cx="{short(x)}" cy="{short(y)}" r="{CELL * max(0.75, ball):.1f}"><title>{escape(about)}</title></circle>')
+    style = f"{STYLE}{LIGHT_WAYS}@media(prefers-color-scheme:dark){{{DARK_WAYS}}}{more_style(drawing, scale)}"
+    words = escape(drawing.title + left_out_words(layout))
+    title = f'<g transform="scale({short(scale)})"><text x="{MARGIN}" y="12">{words}</text></g>'
     below = f'<g transform="translate(0 {short(bottom)}) scale({short(scale)})">' + "\n".join(keys) + "</g>"
     size = f"{short(width)} {short(height)}"
     return (f'<svg xmlns="http://www.w3.org/2000/svg" viewBox="0 0 {size}" width="{short(width)}" height="{short(height)}" role="img">'
-            f"<title>{escape(drawing.title)}</title>\n<style>{style}</style>\n"
+            f"<title>{words}</title>\n<style>{style}</style>\n"
             f'<rect class="back" width="{short(width)}" height="{short(height)}"/>\n'
-            f'<g class="plan" transform="translate({short(margin)} {short(margin)})">\n' + "\n".join(parts) + f"\n</g>\n{title}\n{below}\n</svg>\n")
+            f'<g class="plan" transform="translate({short(margin - view.x * CELL)} {short(margin - view.y * CELL)})">\n' + "\n".join(parts)
+            + f"\n</g>\n{title}\n{below}\n</svg>\n")
 
 
 def wire_tables(document: Document, on: list[str]) -> tuple[dict[str, Table], Table, int]:
@@ -315,11 +390,11 @@ def sampled_words(document: Document) -> str:
     return f" in {SAMPLES} sampled choices of the {count} inputs" if count > MAX_INPUTS else ""
 
 
-def ball_ways(document: Document, on: list[str] | None, until: int) -> tuple[dict[str, list[Piece]], dict[str, str]]:
+def ball_ways(document: Document, on: list[str] | None, until: int, is_directed: bool = False) -> tuple[dict[str, list[Piece]], dict[str, str]]:
     """Returns the ways of the balls by the wires that are true if and only if a ball takes them, as straight pieces.
 
     With `on` only the ways under this choice of inputs are left. The empty name is for assignments that are no wire's. Of equal wires
-    the first one has the way: the second result is the list of their names, by this wire.
+    the first one has the way: the second result is the list of their names, by this wire. Pieces go from left to right, or as the balls fly.
     """
     layout = document.layout
     assert layout is not None
@@ -330,7 +405,7 @@ def ball_ways(document: Document, on: list[str] | None, until: int) -> tuple[dic
         equal.setdefault(names.setdefault(table, name), []).append(name)
     names[full] = "1"
     ways: dict[str, list[Piece]] = {}
-    for table, pieces in ways_of(layout, tables, full, until).items():
+    for table, pieces in (directed_ways if is_directed else ways_of)(layout, tables, full, until).items():
         if on is None or table >> chosen & 1:
             ways.setdefault(names.get(table, ""), []).extend(pieces)
     return ways, {name: ", ".join(same) for name, same in equal.items()}

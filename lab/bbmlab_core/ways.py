@@ -1,7 +1,8 @@
 """The ways of the balls of a layout over all times, as straight pieces.
 
 A run of a large layout makes millions of moves, and most of them are of a ball that flies by itself: it moves to the opposite cell of its
-block. Such a move costs a microsecond here. All other blocks follow the block rule in full (Margolus 1984).
+block. Such a move costs a microsecond here, and nothing where a ball flies for many steps at once. All other blocks follow the block rule in
+full (Margolus 1984).
 """
 
 from typing import Iterable, Iterator
@@ -15,6 +16,12 @@ Piece = tuple[Cell, Cell]
 DIRECTIONS = (DIAGONAL, -DIAGONAL, ROW - 1, 1 - ROW, 1, -1)
 FALLING, BACK_FALLING, RISING, BACK_RISING = range(4)
 DIRECTION_OF = {step: number for number, step in enumerate(DIRECTIONS)}
+# By whether x and y of a ball differ from the parity of the time, the direction in which it flies.
+FLYING = ((FALLING, BACK_RISING), (RISING, BACK_FALLING))
+# How many steps a ball may fly at once, and the bits of the side of squares: 2 * steps + 2 cells. If no ball of another direction is in the square
+# of a ball or next to it, they do not meet in these steps, since nothing spreads by more than a cell a step.
+FLIGHTS = ((31, 6), (7, 4))
+ROW_BITS = ROW.bit_length() - 1
 
 
 def block_moves(before: dict[int, Table], corner: int) -> list[tuple[int, int, Table]]:
@@ -38,6 +45,8 @@ class WayRun:
         self.steady = {key_of(cell) for part in layout.of_kind("mirror") for cell in part.cells()}
         self.near = {key + side + across for key in self.steady for side in (-1, 0, 1) for across in (-ROW, 0, ROW)}
         self.outside = {key_of(cell) for cell in border_of(layout)}
+        # Where no ball flies for many steps at once.
+        self.stops = self.near | self.outside
         # The cells whose blocks the next step looks at: moving ones, and ones that were left near a mirror in the last two steps.
         self.moving: list[int] = list(self.live)
         self.left: tuple[list[int], list[int]] = (list(self.live), [])
@@ -80,6 +89,51 @@ class WayRun:
             self.note(start, end, direction, table)
         self.moving, self.left, self.time = moving, (left, self.left[0]), self.time + 1
         return self.outside.isdisjoint(moving)
+
+    def fly(self, count: int, level: int = 0) -> bool:
+        """Makes steps up to a number of them, and returns whether everything stays in the rectangle: as `step`, but in fewer moves."""
+        if level == len(FLIGHTS):
+            return all(self.step() for _ in range(count))
+        until, (most, bits) = self.time + count, FLIGHTS[level]
+        while self.time < until:
+            start, steps = self.time, min(most, until - self.time)
+            flying = self.taken_off(steps, bits)
+            is_inside = self.fly(steps, level + 1)
+            self.land(flying, self.time - start)
+            if not is_inside:
+                return False
+        return True
+
+    def taken_off(self, steps: int, bits: int) -> list[tuple[int, int, Table]]:
+        """Takes the balls away that meet nothing in some steps, and returns them with their directions and tables."""
+        odd, stops, masks = self.time & 1, self.stops, dict[int, int]()
+        found, rest = list[tuple[int, int, int]](), list[int]()
+        for key in self.moving:
+            direction = FLYING[key & 1 ^ odd][key >> ROW_BITS & 1 ^ odd]
+            step, square = DIRECTIONS[direction], key >> ROW_BITS + bits << ROW_BITS | (key & ROW - 1) >> bits
+            if stops.isdisjoint(range(key, key + step * (steps + 1), step)):
+                found.append((key, direction, square))
+                masks[square] = masks.get(square, 0) | 1 << direction
+            else:
+                rest.append(key)
+                masks[square] = 15
+        wide: dict[int, int] = {}
+        for square in masks:
+            mask = 0
+            for near in (square - ROW, square, square + ROW):
+                mask |= masks.get(near - 1, 0) | masks.get(near, 0) | masks.get(near + 1, 0)
+            wide[square] = mask
+        rest += [key for key, direction, square in found if wide[square] != 1 << direction]
+        self.moving = rest
+        return [(key, direction, self.live.pop(key)) for key, direction, square in found if wide[square] == 1 << direction]
+
+    def land(self, flying: list[tuple[int, int, Table]], count: int) -> None:
+        """Puts balls back that flew for a number of steps."""
+        for key, direction, table in flying:
+            end = key + DIRECTIONS[direction] * count
+            self.live[end] = table
+            self.moving.append(end)
+            self.note(key, end, direction, table)
 
     def turn(self, corner: int, moving: list[int], left: list[int]) -> None:
         """Applies the block rule to a block with more than one live cell."""
@@ -145,12 +199,25 @@ def joined_pieces(pieces: Iterable[Piece]) -> list[Piece]:
     return sorted(joined)
 
 
-def ways_of(layout: Layout, tables: dict[str, Table], full: Table, until: int) -> dict[Table, list[Piece]]:
-    """Returns the pieces of the ways of balls up to a time by the assignments under which a ball takes them, joined."""
+def all_pieces(layout: Layout, tables: dict[str, Table], full: Table, until: int) -> dict[Table, list[Piece]]:
+    """Returns the pieces of the ways of balls up to a time, as they fly, by the assignments under which a ball takes them."""
     run = WayRun(layout, tables, full)
-    while run.time < until and run.step():
-        pass
+    run.fly(until)
     found: dict[Table, list[Piece]] = {}
     for start, end, table in run.pieces():
         found.setdefault(table, []).append((cell_of(start), cell_of(end)))
-    return {table: joined_pieces(pieces) for table, pieces in found.items()}
+    return found
+
+
+def ways_of(layout: Layout, tables: dict[str, Table], full: Table, until: int) -> dict[Table, list[Piece]]:
+    """Returns the pieces of the ways of balls up to a time by the assignments under which a ball takes them, joined."""
+    return {table: joined_pieces(pieces) for table, pieces in all_pieces(layout, tables, full, until).items()}
+
+
+def directed_ways(layout: Layout, tables: dict[str, Table], full: Table, until: int) -> dict[Table, list[Piece]]:
+    """Returns the same ways with their directions: each piece goes as its ball flies."""
+    found = {}
+    for table, pieces in all_pieces(layout, tables, full, until).items():
+        on = joined_pieces(piece for piece in pieces if piece[0] < piece[1])
+        found[table] = on + [(last, first) for first, last in joined_pieces(piece for piece in pieces if piece[0] >= piece[1])]
+    return found

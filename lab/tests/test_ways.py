@@ -10,8 +10,9 @@ from bbmlab_core.commands.draw import gate_boxes, picture_of
 from bbmlab_core.designs import read_design
 from bbmlab_core.documents import Document, read_document
 from bbmlab_core.layouts import Cell
+from bbmlab_core.picture_parts import OTHERS, Look, bring_out, chevrons, cone_of, piece_within
 from bbmlab_core.simulation import DIAGONAL, ROW, Table, WholeRun, block_of, cell_of
-from bbmlab_core.ways import Piece, block_moves, joined_pieces, ways_of
+from bbmlab_core.ways import Piece, WayRun, block_moves, directed_ways, joined_pieces, ways_of
 
 Step = tuple[Cell, Cell]
 
@@ -43,19 +44,19 @@ def moves_by_rule(document: Document, tables: dict[str, Table], full: Table) -> 
     return found
 
 
-def random_layout(chance: random.Random) -> str:
+def random_layout(chance: random.Random, side: int = 48) -> str:
     """Returns a layout of balls, inputs and mirrors at random, some of which fall apart."""
     cells: set[Cell] = set()
     lines: list[str] = []
     for kind, count in (("mirror", 6), ("ball", 8), ("in a", 4), ("in b", 4)):
         for _ in range(count):
-            x, y = chance.randrange(8, 40), chance.randrange(8, 40)
+            x, y = chance.randrange(8, side - 8), chance.randrange(8, side - 8)
             width, height = chance.choice(((2, 2), (4, 2), (1, 1), (3, 2))) if kind == "mirror" else (1, 1)
             own = {(x + i, y + j) for i in range(width) for j in range(height)}
             if cells.isdisjoint(own):
                 cells |= own
                 lines.append(f"{kind} {x} {y}" + (f" {width} {height}" if kind == "mirror" else ""))
-    return "\n".join([f"layout 48 48 {chance.randint(1, 60)}", *lines, "end"]) + "\n"
+    return "\n".join([f"layout {side} {side} {chance.randint(1, side + 12)}", *lines, "end"]) + "\n"
 
 
 class Ways(unittest.TestCase):
@@ -88,6 +89,47 @@ class Ways(unittest.TestCase):
             with self.subTest(seed=seed, text=text):
                 count += self.assert_same(read_document(text))
         self.assertGreater(count, 20_000)
+
+    def test_wide_layouts(self) -> None:
+        """The ways of layouts in which most balls fly for many steps at once, and some meet on the way."""
+        seed, flown, stepped = random.randrange(10**6), 0, 0
+        chance = random.Random(seed)
+        for _ in range(40):
+            text = random_layout(chance, chance.choice((120, 240)))
+            with self.subTest(seed=seed, text=text):
+                document = read_document(text)
+                stepped += self.assert_same(document)
+                flown += self.flown_steps(document)
+        self.assertGreater(flown, 500)
+        self.assertGreater(stepped, flown)
+
+    def flown_steps(self, document: Document) -> int:
+        """Returns how many steps balls of a layout fly at once with others."""
+        layout, counts = document.layout, list[int]()
+        assert layout
+
+        class Counted(WayRun):
+            """A run that counts steps of flights."""
+
+            def land(self, flying: list[tuple[int, int, Table]], count: int) -> None:
+                counts.append(len(flying) * count)
+                super().land(flying, count)
+
+        tables, full, _ = drawing.wire_tables(document, [])
+        Counted(layout, tables, full).fly(layout.steps)
+        return sum(counts)
+
+    def test_directed_ways(self) -> None:
+        """Directed ways are the same steps, and each piece goes as a ball flies: one goes to and fro between two mirrors."""
+        document = read_document("layout 24 24 30\nmirror 2 1 2 2\nmirror 12 9 2 2\nball 4 2\nend\n")
+        assert document.layout
+        tables, full, _ = drawing.wire_tables(document, [])
+        plain, directed = (of(document.layout, tables, full, 30) for of in (ways_of, directed_ways))
+        self.assertEqual({table: steps_of([(min(piece), max(piece)) for piece in pieces]) for table, pieces in directed.items()},
+                         {table: steps_of(pieces) for table, pieces in plain.items()})
+        pieces = [piece for found in directed.values() for piece in found]
+        self.assertIn(((4, 2), (11, 9)), pieces)
+        self.assertIn((11, 9), [first for first, last in pieces if last < first] + [last for first, last in pieces if last < first])
 
     def test_joined_pieces(self) -> None:
         """Pieces of a line that meet are one, and others stay."""
@@ -129,14 +171,100 @@ class Large(unittest.TestCase):
         text = self.text(2)
         circuit = read_document(text.split("certificate")[0], "design").circuit
         assert circuit
-        self.assertEqual(gate_boxes(text, circuit), [(Box(16, 0, 32, 32), "a module that uses switch 1")])
+        self.assertEqual(gate_boxes(text, circuit), [(Box(16, 0, 32, 32), ["switch 1"])])
         self.assertEqual(gate_boxes("circuit\nend\n", circuit), [])
+
+    def test_gates_are_named(self) -> None:
+        """A box with room for it shows its gate, and how many others its module uses; a small one does not."""
+        shown = drawing.gate_names([(Box(0, 0, 64, 64), ["switch 1", "interact 2"]), (Box(64, 0, 4, 4), ["switch 3"])], 16)
+        self.assertEqual(len(shown), 1)
+        self.assertIn(">switch 1 +1<", shown[0])
+
+    def test_names_of_many_ports_are_left_out(self) -> None:
+        """More names than can be read are left out, and the title says so."""
+        lines = [f"in a{number} {2 * (number % 200)} {8 * (number // 200)}" for number in range(drawing.MAX_NAMES + 1)]
+        for count, words in ((drawing.MAX_NAMES, False), (drawing.MAX_NAMES + 1, True)):
+            layout = read_document("\n".join(["layout 512 512 0", *lines[:count], "end"]) + "\n").layout
+            assert layout
+            picture = drawing.svg(layout, drawing.Drawing(title="all"), [])
+            self.assertEqual(f"; the names of {count} ports are left out" in picture, words)
+            self.assertEqual('class="name"' in picture, not words)
+
+    def test_balls_have_a_least_size(self) -> None:
+        """A ball of a large layout can be seen in a small picture; the reader's size counts before it."""
+        layout = read_document("limits 2\nlayout 1200 1200 0\nball 600 600\nend\n", "layout").layout
+        assert layout
+        for size, radius in ((0.0, "24.0"), (10.0, "60.0")):
+            self.assertIn(f'class="ball" cx="7236" cy="7236" r="{radius}"', drawing.svg(layout, drawing.Drawing(live={(600, 600)}, ball=size), []))
 
     def test_small_pictures_show_modules(self) -> None:
         """A small layout has the borders of its modules, and no outlined gates."""
         picture = picture_of(read_design(support.example("four_modules")), None, None)
         self.assertIn('class="box"', picture)
         self.assertNotIn('class="gate"', picture)
+
+
+class Chosen(unittest.TestCase):
+    """Parts of a picture that a reader asks for."""
+
+    def test_piece_within(self) -> None:
+        """A piece is cut at the borders of a box, in its direction."""
+        box = Box(10, 10, 10, 10)
+        self.assertEqual(piece_within(((0, 0), (40, 40)), box), ((10, 10), (19, 19)))
+        self.assertEqual(piece_within(((40, 40), (0, 0)), box), ((19, 19), (10, 10)))
+        self.assertEqual(piece_within(((8, 20), (20, 8)), box), ((9 + 1, 18), (18, 10)))
+        self.assertEqual(piece_within(((12, 12), (13, 12)), box), ((12, 12), (13, 12)))
+        self.assertIsNone(piece_within(((12, 9), (13, 9)), box))
+        self.assertIsNone(piece_within(((0, 20), (20, 40)), box))
+
+    def test_crop(self) -> None:
+        """A cropped picture has the size of its part, and the parts that lie in it."""
+        design = read_design(support.example("four_modules"))
+        whole, part = (picture_of(design, None, None, None, Look(crop=crop)) for crop in (None, Box(0, 0, 6, 4)))
+        self.assertIn('<rect class="plane" x="30" y="30" width="72" height="48"/>', part)
+        self.assertLess(part.count('class="box"'), whole.count('class="box"'))
+        self.assertLess(len(part), len(whole))
+
+    def test_crop_outside(self) -> None:
+        """A part outside the layout is an error, and no picture."""
+        ended = support.lab("draw", support.example("four_modules"), "--crop", "4000", "0", "8", "8")
+        self.assertEqual((ended.returncode, ended.stdout), (4, ""))
+        self.assertIn("lies outside the layout", ended.stderr)
+
+    def test_wires_are_brought_out(self) -> None:
+        """The ways of a wire, or of an equal one, keep their colour, and all others are faint."""
+        ways = {"a": [((0, 0), (3, 3))], "b": [((5, 0), (8, 3))], "": [((9, 9), (8, 8))]}
+        found = bring_out(ways, {"a": "a, c"}, {"c"})
+        self.assertEqual(found, {"a": ways["a"], OTHERS: ways["b"] + ways[""]})
+        picture = picture_of(read_design(support.example("full_adder")), None, None, None, Look(wires=("a",)))
+        self.assertIn("<title>other wires</title>", picture)
+        self.assertLess(picture.index("<title>other wires</title>"), picture.index('class="way w0"'))
+
+    def test_cone(self) -> None:
+        """A cone is a wire with all on which it depends."""
+        circuit = read_document("circuit\ninput p\ninput q\ninput r\nswitch p q -> a b c\nswitch a r -> d e f\noutput d\nspill b\nspill c\nspill e\nspill f\nend\n",
+                                "circuit").circuit
+        assert circuit
+        self.assertEqual(set(cone_of(circuit, "e")), {"e", "a", "r", "p", "q"})
+        self.assertEqual(set(cone_of(circuit, "b")), {"b", "p", "q"})
+
+    def test_unknown_wire(self) -> None:
+        """A name that is no wire's is said, and so are options that need --ways."""
+        for words, told in ((["--ways", "--wires", "nobody"], "there is no wire `nobody`"), (["--ways", "--cone", "none"], "there is no wire `none`"),
+                            (["--arrows"], "need --ways")):
+            ended = support.lab("draw", support.example("full_adder"), *words)
+            self.assertEqual(ended.returncode, 4)
+            self.assertIn(told, ended.stderr)
+
+    def test_arrows(self) -> None:
+        """An arrow is on each piece that is long enough, with its tip ahead of its arms."""
+        (one, tip, other), = chevrons([((0, 0), (20, 20)), ((5, 0), (6, 1))], 2)
+        self.assertEqual(tip, (12.5, 12.5))
+        self.assertEqual((one, other), ((10.5, 12.5), (12.5, 10.5)))
+        (one, tip, other), = chevrons([((20, 0), (0, 20))], 2)
+        self.assertTrue(one[0] > tip[0] and other[1] < tip[1])
+        with_arrows, without = (picture_of(read_design(support.example("fredkin_gate")), None, None, None, Look(has_arrows=has)) for has in (True, False))
+        self.assertGreater(with_arrows.count('class="way'), without.count('class="way'))
 
 
 if __name__ == "__main__":

@@ -9,28 +9,33 @@ from ..circuits import Circuit
 from ..designs import read_design, report_for
 from ..documents import Document
 from ..layouts import Layout
+from ..picture_parts import Look, bring_out, wanted_wires
 from ..reports import Report
-from ..terminal import write_text
+from ..terminal import LabError, write_text
 
 
 # The numbers of a line `use` or `module`.
 MODULE_OR_USE = re.compile(r"\n(?:use (\d{1,9})|module ((?:\d{1,9} ){3}\d{1,9}))(?=\n)")
 
 
-def picture_of(design: tuple[Document, Layout], names: str | None, time: int | None, report: Report | None = None) -> str:
+def picture_of(design: tuple[Document, Layout], names: str | None, time: int | None, report: Report | None = None, look: Look = Look()) -> str:
     """Returns the picture of a design at a time, or without a time the ways of its balls."""
     document, layout = design
     is_large = max(layout.width, layout.height) > drawing.LARGE_SIDE
     on = tracing.chosen_inputs(document, names)
     under = f" with {' '.join(on) or 'no input'} on"
-    picture = drawing.Drawing(modules=document.certificate.modules if document.certificate and not is_large else [])
+    picture = drawing.Drawing(modules=list(document.certificate.modules) if document.certificate and not is_large else [], view=view_of(look, layout),
+                              ball=look.ball, has_arrows=look.has_arrows)
     if is_large and document.circuit:
         picture.gates = gate_boxes(document.text, document.circuit)
     if time is None:
-        picture.ways, picture.labels = drawing.ball_ways(document, on if names is not None else None, layout.steps)
+        picture.ways, picture.labels = drawing.ball_ways(document, on if names is not None else None, layout.steps, look.has_arrows)
         picture.title = "ways of the balls" + (under if names is not None else drawing.sampled_words(document))
     else:
         picture.live, picture.title = tracing.state_at(layout, on, time), f"time {time}{under}"
+    wanted = wanted_wires(look, document.circuit, tracing.port_names(layout))
+    if wanted:
+        picture.ways = bring_out(picture.ways, picture.labels, wanted)
     for finding in report.faults if report else []:
         if "x" in finding.values:
             picture.faults.append(((finding.number("x"), finding.number("y")), finding.text))
@@ -38,8 +43,19 @@ def picture_of(design: tuple[Document, Layout], names: str | None, time: int | N
     return drawing.svg(layout, picture, wires)
 
 
-def gate_boxes(text: str, circuit: Circuit) -> list[tuple[Box, str]]:
-    """Returns the boxes of the modules of a certificate that use gates and are larger than the smallest module, with the gates in words."""
+def view_of(look: Look, layout: Layout) -> Box | None:
+    """Returns the part of the layout that is asked for, as far as it lies in the layout."""
+    if look.crop is None:
+        return None
+    box = look.crop
+    right, bottom = min(box.x + box.width, layout.width), min(box.y + box.height, layout.height)
+    if right <= box.x or bottom <= box.y:
+        raise LabError(f"the part {box} lies outside the layout of {layout.width} by {layout.height} cells")
+    return Box(box.x, box.y, right - box.x, bottom - box.y)
+
+
+def gate_boxes(text: str, circuit: Circuit) -> list[tuple[Box, list[str]]]:
+    """Returns the boxes of the modules of a certificate that use gates and are larger than the smallest module, with the gates."""
     found: list[tuple[Box, list[str]]] = []
     for line in MODULE_OR_USE.finditer(text, text.find("\ncertificate ") % (len(text) + 1)):
         if line[2]:
@@ -49,12 +65,16 @@ def gate_boxes(text: str, circuit: Circuit) -> list[tuple[Box, str]]:
             if gate.word not in ("source", "delay"):
                 found[-1][1].append(f"{gate.word} {gate.number}")
     least = min((box.width * box.height for box, _ in found), default=0)
-    return [(box, f"a module that uses {', '.join(gates)}") for box, gates in found if gates and box.width * box.height > least]
+    return [(box, gates) for box, gates in found if gates and box.width * box.height > least]
 
 
 def run(options: argparse.Namespace) -> int:
     """Draws a layout. The certificate of a large one is read only for a report, since that takes longer than to draw."""
+    look = Look(Box(*options.crop) if options.crop else None, tuple(options.wires.split(",")) if options.wires else (), options.cone, options.arrows,
+                options.ball)
+    if (look.wires or look.cone or look.has_arrows) and not options.ways:
+        raise LabError("--wires, --cone and --arrows need --ways")
     design = read_design(options.file, has_certificate=bool(options.report))
     report = report_for(options, design[0])
-    write_text(options.output, picture_of(design, options.on, None if options.ways else options.time, report))
+    write_text(options.output, picture_of(design, options.on, None if options.ways else options.time, report, look))
     return 0
