@@ -10,19 +10,22 @@ from pathlib import Path
 from . import json_form
 from .documents import Document
 from .explaining import Explanation
+from .page_ways import page_ways
 from .terminal import plain
 
 TEMPLATE = Path(__file__).resolve().parent / "view"
 # The scripts: the engine runs without a page, the others need one. The order is that in which they use each other.
 ENGINE = ["automaton.js", "limits.js"]
-PAGE = ["svg_pen.js", "labels.js", "address.js", "painting.js", "waveform.js", "player.js", "stage.js", "panels.js", "controls.js"]
+PAGE = ["svg_pen.js", "labels.js", "address.js", "tiles.js", "wires.js", "painting.js", "waveform.js", "player.js", "stage.js", "minimap.js", "panels.js",
+        "controls.js"]
 
 
 def page_data(document: Document, explanation: Explanation | None) -> str:
     """Returns what the page shows, as JSON that may stand in a script element."""
     parts = json.loads(json_form.document_json(document, None))
     parts["explanation"] = asdict(explanation) if explanation else None
-    return json.dumps(parts).replace("<", "\\u003c")
+    parts["ways"] = page_ways(document)
+    return json.dumps(parts, separators=(",", ":")).replace("<", "\\u003c")
 
 
 def piece(*names: str) -> str:

@@ -51,9 +51,9 @@ class WayRun:
         self.moving: list[int] = list(self.live)
         self.left: tuple[list[int], list[int]] = (list(self.live), [])
         self.time = 0
-        # By the number of its last cell and its direction, the first cell of a piece and its table; and pieces that ended.
-        self.open: dict[int, tuple[int, Table]] = {}
-        self.ended: list[tuple[int, int, Table]] = []
+        # By the number of its last cell and its direction, the first cell of a piece, its table and when it begins; and pieces that ended.
+        self.open: dict[int, tuple[int, Table, int]] = {}
+        self.ended: list[tuple[int, int, Table, int]] = []
 
     def step(self) -> bool:
         """Makes a step, and returns whether everything stays in the rectangle."""
@@ -86,7 +86,7 @@ class WayRun:
             if start in near:
                 left.append(start)
                 steady.discard(start)
-            self.note(start, end, direction, table)
+            self.note(start, end, direction, table, self.time)
         self.moving, self.left, self.time = moving, (left, self.left[0]), self.time + 1
         return self.outside.isdisjoint(moving)
 
@@ -133,7 +133,7 @@ class WayRun:
             end = key + DIRECTIONS[direction] * count
             self.live[end] = table
             self.moving.append(end)
-            self.note(key, end, direction, table)
+            self.note(key, end, direction, table, self.time - count)
 
     def turn(self, corner: int, moving: list[int], left: list[int]) -> None:
         """Applies the block rule to a block with more than one live cell."""
@@ -145,7 +145,7 @@ class WayRun:
         flip, flip_other = one & ~other | both_other, other & ~one | both
         if flip or flip_other:
             for start, end, table in block_moves(dict(zip(keys, before)), corner):
-                self.note(start, end, DIRECTION_OF[end - start], table)
+                self.note(start, end, DIRECTION_OF[end - start], table, self.time)
         for key, old, change in zip(keys, before, (flip, flip_other, flip_other, flip)):
             if change:
                 self.steady.discard(key)
@@ -156,21 +156,22 @@ class WayRun:
             if key in live and key not in self.steady:
                 moving.append(key)
 
-    def note(self, start: int, end: int, direction: int, table: Table) -> None:
-        """Notes a move."""
+    def note(self, start: int, end: int, direction: int, table: Table, time: int) -> None:
+        """Notes moves in a direction that begin at a time. They go on with a piece only if it comes to their start just then."""
         piece, number = self.open.pop(start * 8 + direction, None), end * 8 + direction
-        if piece is not None and piece[1] != table:
-            self.ended.append((piece[0], start, piece[1]))
+        if piece is not None and (piece[1] != table or piece[2] + (start - piece[0]) // DIRECTIONS[direction] != time):
+            self.ended.append((piece[0], start, piece[1], piece[2]))
             piece = None
-        if number in self.open:
-            self.ended.append((self.open[number][0], end, self.open[number][1]))
-        self.open[number] = piece or (start, table)
+        old = self.open.get(number)
+        if old is not None:
+            self.ended.append((old[0], end, old[1], old[2]))
+        self.open[number] = piece or (start, table, time)
 
-    def pieces(self) -> Iterator[tuple[int, int, Table]]:
-        """Returns all pieces: the first and the last cell, and under which assignments a ball takes them. They end in the rectangle."""
-        for number, (start, table) in self.open.items():
+    def pieces(self) -> Iterator[tuple[int, int, Table, int]]:
+        """Returns all pieces: the first and the last cell, under which assignments a ball takes them, and when. They end in the rectangle."""
+        for number, (start, table, time) in self.open.items():
             end, direction = divmod(number, 8)
-            yield start, end - DIRECTIONS[direction] if end in self.outside else end, table
+            yield start, end - DIRECTIONS[direction] if end in self.outside else end, table, time
         yield from self.ended
 
 
@@ -204,7 +205,7 @@ def all_pieces(layout: Layout, tables: dict[str, Table], full: Table, until: int
     run = WayRun(layout, tables, full)
     run.fly(until)
     found: dict[Table, list[Piece]] = {}
-    for start, end, table in run.pieces():
+    for start, end, table, _ in run.pieces():
         found.setdefault(table, []).append((cell_of(start), cell_of(end)))
     return found
 

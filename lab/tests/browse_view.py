@@ -1,14 +1,17 @@
 #!/usr/bin/python3
-"""browse_view.py FOLDER: uses FOLDER/fault.html (of wrong_border.txt), FOLDER/wrong.html and FOLDER/large.html in headless Chromium.
+"""browse_view.py FOLDER: uses FOLDER/fault.html (of wrong_border.txt), FOLDER/wrong.html, FOLDER/machine.html (of the machine adder_4) and
+FOLDER/large.html in headless Chromium.
 
 It runs with Debian's python3-selenium, and writes screenshots of two sizes, light and dark, to FOLDER.
 """
+import re
 import sys
 import time
 from pathlib import Path
 from typing import Callable
 
 from browse_page import is_of_size, is_still, open_browser
+from selenium.webdriver.common.action_chains import ActionChains
 from selenium.webdriver.common.by import By
 from selenium.webdriver.common.keys import Keys
 
@@ -51,7 +54,7 @@ class Page:
         """Presses keys on the picture."""
         self.browser.find_element(By.ID, "whole").send_keys(*keys)
 
-    def wait(self, test: Callable[[], bool], what: str, seconds: float = 60) -> None:
+    def wait(self, test: Callable[[], object], what: str, seconds: float = 60) -> None:
         """Waits until something holds."""
         until = time.monotonic() + seconds
         while not test():
@@ -113,6 +116,59 @@ def use_wrong(page: Page) -> None:
     page.shoot("wrong")
 
 
+# Returns the middle cell of the longest piece of a wire, and the time there.
+PIECE = """const wire = JSON.parse(document.getElementById('data').textContent).ways.wires.find(({ name, equal }) => [name, ...equal].includes(arguments[0]));
+let best = [0];
+for (let at = 0; at < wire.pieces.length; at += 5) {
+  const [x, y, u, v, time] = wire.pieces.slice(at, at + 5), far = Math.abs(u - x), half = far >> 1;
+  if (far > best[0]) best = [far, x + Math.sign(u - x) * half, y + Math.sign(v - y) * half, time + half];
+}
+return best.slice(1);"""
+# Returns what is not clear among the pixels of the picture: the ways are seen at once.
+SEEN = """const { width, height } = document.getElementById('whole'), pen = document.getElementById('whole').getContext('2d');
+return new Set(new Uint32Array(pen.getImageData(40, 30, width - 50, height - 40).data.buffer)).size;"""
+
+
+def zoom_of(page: Page) -> list[float] | None:
+    """Returns the scale and the middle that the address says, or None."""
+    found = [part for part in page.browser.execute_script("return location.hash").lstrip("#").split("&") if part.startswith("z=")]
+    return [float(number) for number in found[0][2:].split(",")] if found else None
+
+
+def use_machine(page: Page) -> None:
+    """Looks for a wire, goes to it by the small picture and by its cell, points at it, and plays at the highest speed."""
+    page.open("machine")
+    page.wait(lambda: is_still(page.browser), "the machine is drawn")
+    assert page.browser.find_element(By.ID, "ways").is_selected(), "a large layout shows its ways"
+    assert page.browser.execute_script(SEEN) > 100, "the ways are drawn at once"
+    assert not page.browser.find_element(By.ID, "map").is_displayed(), "all is shown, so there is no small picture"
+    page.browser.find_element(By.ID, "find-wire-name").send_keys("s2", Keys.ENTER)
+    page.wait(lambda: "made by" in page.text("wire-words") and "an output" in page.text("wire-words"), "the wire's gate is told")
+    page.click("#in")
+    page.click("#in")
+    page.wait(lambda: page.browser.find_element(By.ID, "map").is_displayed(), "the small picture shows where one is")
+    page.shoot("machine")
+    page.wait(lambda: (zoom_of(page) or [9.0])[1] > 100, "the address says the place")
+    page.click("#map")
+    ActionChains(page.browser).move_to_element_with_offset(page.browser.find_element(By.ID, "map"), -60, -60).click().perform()
+    page.wait(lambda: all(part < 200 for part in (zoom_of(page) or [0, 999, 999])[1:]), "a press on the small picture goes there")
+    x, y, time = page.browser.execute_script(PIECE, "s2")
+    page.browser.find_element(By.ID, "go-to-cell").send_keys(f"{x}, {y}", Keys.ENTER)
+    page.wait(lambda: f"({x}, {y})" in page.text("cell"), "it goes to the cell")
+    # The cell is in the middle of the picture beside its rulers.
+    ActionChains(page.browser).move_to_element_with_offset(page.browser.find_element(By.ID, "whole"), 16, 9).perform()
+    page.wait(lambda: f"({x}, {y})" in page.text("cell") and "s2" in page.text("wire-words") and re.search(rf"here at time .*\b{time}\b", page.text("wire-words")),
+              "the way under the pointer tells its wire and time")
+    page.scheme("dark")
+    page.shoot("machine_dark")
+    page.scheme("light")
+    page.browser.execute_script("const s = document.getElementById('speed'); s.value = s.max; s.dispatchEvent(new Event('input'));")
+    page.click("#play")
+    steps = page.text("time").split(" of ")[1]
+    page.wait(lambda: page.text("time") == f"{steps} of {steps}", "it plays to the end at the highest speed", END_SECONDS)
+    page.wait(lambda: "outputs are as the circuit says" in page.text("outputs-count"), "the outputs are there")
+
+
 FRAMES = """const done = arguments[arguments.length - 1], start = performance.now();
 let count = 0;
 const next = () => { count += 1; if (performance.now() - start < 3000) requestAnimationFrame(next); else done(count / 3); };
@@ -160,7 +216,7 @@ def main() -> int:
     """Uses the pages, and returns the exit status: 1 where the console has an error."""
     page = Page(Path(sys.argv[1]))
     try:
-        for use in (use_controls, use_report, use_wrong, use_large):
+        for use in (use_controls, use_report, use_wrong, use_machine, use_large):
             use(page)
         logged = [entry for entry in page.browser.get_log("browser") if entry["level"] in ("SEVERE", "WARNING")]
     finally:

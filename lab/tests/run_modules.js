@@ -50,6 +50,44 @@ const read = (hash, limits) => bbmlab.address.read(hash, limits);
 const write = (shown) => bbmlab.address.write(shown);
 const places = (names, signs, ports) => bbmlab.placeNames(names, signs, ports).map(({ box, away }) => [box.x, box.y, away]);
 
-const functions = { trail, waves, scene, results, read, write, places };
+/** Returns for each time, sought in this order, what differs from the mirrors, as the run knows it and as its cells say. */
+function different(data, on, times) {
+  const run = new WholeRun(data.layout, new Set(on)), { cells } = bbmlab.mirrorsOf(data.layout), found = [];
+  for (const time of times) {
+    run.seek(time);
+    const wanted = [...cells.bytes.keys()].filter((key) => cells.bytes[key] !== run.live.bytes[key]);
+    found.push([[...run.different()].sort((a, b) => a - b), wanted]);
+  }
+  return found;
+}
+
+/** Returns the numbers of the rectangles and pieces that are filed under a range, in order. */
+function filed(boxes, pieces, range) {
+  const found = new bbmlab.Buckets(), numbers = [];
+  for (const box of boxes) found.addBox(...box);
+  for (const piece of pieces) found.addPiece(...piece);
+  found.visit(range, (number) => numbers.push(number));
+  return numbers.sort((a, b) => a - b);
+}
+
+/** Returns what is said of the wire at a place, and the time there, or null. */
+function wireAt(ways, circuit, [x, y], most) {
+  const wires = new bbmlab.Wires(ways, circuit), found = wires.at(x, y, most);
+  return found && [wires.wordsOf(found.wire), found.times, wires.boxOf(found.wire), wires.groupOf(found.wire)];
+}
+
+/** Returns how many tiles a place needs, which of them are made at first, and after it was drawn often. A tile takes some milliseconds to draw. */
+function tiles(size, place, milliseconds) {
+  const drawn = [], canvas = { getContext: () => ({}) };
+  globalThis.document = { createElement: () => ({ ...canvas }) };
+  const made = new bbmlab.Tiles(size, ({ scale, left, top }) => { drawn.push([scale, left, top]); for (const end = performance.now() + milliseconds; performance.now() < end;); });
+  const shown = { pen: { drawImage: () => { copies += 1; } }, ...place };
+  let copies = 0, frames = 1;
+  const isFirst = made.paint(shown), first = drawn.length, firstCopies = copies;
+  while (!made.paint(shown)) frames += 1;
+  return { level: made.levelOf(place.scale), wanted: made.shown(place, made.levelOf(place.scale)).length, isFirst, first, firstCopies, drawn: drawn.length, frames };
+}
+
+const functions = { different, filed, wireAt, tiles, trail, waves, scene, results, read, write, places };
 const jobs = JSON.parse(fs.readFileSync(0, "utf8"));
 console.log(JSON.stringify(jobs.map(([name, ...words]) => functions[name](...words))));

@@ -1,8 +1,9 @@
-"""The page in headless Chromium: controls, the report, wrong outputs, and a layout of 512 by 512 cells and 65,536 steps.
+"""The page in headless Chromium: controls, the report, wrong outputs, a routed machine, and a layout of 512 by 512 cells and 65,536 steps.
 
 BBMLAB_SHOTS names a folder that keeps the screenshots.
 """
 
+import lzma
 import os
 import shutil
 import subprocess
@@ -55,9 +56,11 @@ class Browser(unittest.TestCase):
         program = support.program()
         with tempfile.TemporaryDirectory() as room:
             folder = os.environ.get("BBMLAB_SHOTS", room)
-            for name, text in (("wrong", WRONG), ("large", large_layout().text)):
+            machine = lzma.decompress((support.EXAMPLES / "machines" / "adder_4.txt.xz").read_bytes()).decode("ascii")
+            for name, text in (("wrong", WRONG), ("large", large_layout().text), ("machine", machine)):
                 Path(room, f"{name}.txt").write_text(text)
-            for name, file in (("fault", support.example("wrong_border")), ("wrong", f"{room}/wrong.txt"), ("large", f"{room}/large.txt")):
+            for name, file in (("fault", support.example("wrong_border")), ("wrong", f"{room}/wrong.txt"), ("large", f"{room}/large.txt"),
+                               ("machine", f"{room}/machine.txt")):
                 made = support.lab("view", file, "-o", f"{folder}/{name}.html", "--program", program)
                 self.assertEqual((made.returncode, made.stderr), (0, ""))
             ended = subprocess.run(["/usr/bin/python3", str(SCRIPT), folder], capture_output=True, text=True, check=False, timeout=540)

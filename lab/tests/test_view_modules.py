@@ -17,7 +17,7 @@ from bbmlab_core.label_places import Name, Rect, place_names
 from bbmlab_core.simulation import block_of, cell_of, key_of
 
 SCRIPT = support.LAB / "tests" / "run_modules.js"
-FILES = [*viewing.ENGINE, "svg_pen.js", "labels.js", "address.js", "painting.js", "waveform.js", "player.js"]
+FILES = [*viewing.ENGINE, "svg_pen.js", "labels.js", "address.js", "tiles.js", "wires.js", "painting.js", "waveform.js", "player.js"]
 SVG = "{http://www.w3.org/2000/svg}"
 LIMITS = {"steps": 30, "names": ["p", "q", "constructor"], "faults": 2}
 MAX_FUNCTION_LINES = 40
@@ -195,6 +195,58 @@ class Runs(unittest.TestCase):
         found = node([["results", data_of(document), document.circuit.inputs]])[0]
         self.assertEqual(found[:4], [["w5", False], ["w17", False], ["w40", False], ["w0", True]])
         self.assertEqual(len(found), 48)
+
+
+class Large(unittest.TestCase):
+    """What makes pages of large layouts quick: what is still is in tiles, and runs know what differs from it."""
+
+    def test_what_differs_from_the_mirrors(self) -> None:
+        """A run knows it after steps, jumps and steps back, in layouts whose mirrors fall apart too."""
+        layouts = [(example(name), []) for name in ("fredkin_gate", "head_on")] + [
+            (support.read_document("layout 20 20 200\nmirror 6 6 1 1\nmirror 10 4 3 2\nball 4 2\nball 12 12\nend\n"), []),
+            (support.read_document("layout 24 24 300\nmirror 2 1 2 2\nmirror 12 9 2 2\nball 4 2\nend\n"), [])]
+        for document, on in layouts:
+            times = [3, 4, 2, document.layout.steps, 1, document.layout.steps // 2, 0, 130, 64, 65]
+            found = node([["different", data_of(document), on, times]])[0]
+            self.assertEqual([known for known, _ in found], [wanted for _, wanted in found])
+            self.assertTrue(any(wanted for _, wanted in found) or not document.layout.of_kind("ball"))
+
+    def test_filed_by_squares(self) -> None:
+        """Each rectangle and each piece is found in each range that has one of its cells."""
+        chance = random.Random(random.randrange(10**6))
+        boxes = [[chance.randrange(1000), chance.randrange(1000), chance.randrange(1, 300), chance.randrange(1, 300)] for _ in range(12)]
+        pieces = []
+        for _ in range(12):
+            x, y, far, dx, dy = chance.randrange(400, 600), chance.randrange(400, 600), chance.randrange(400), chance.choice((-1, 1)), chance.choice((-1, 1))
+            pieces.append([x, y, x + dx * far, y + dy * far])
+        cells = [[(x, y), (x + w - 1, y + h - 1)] for x, y, w, h in boxes]
+        cells += [[(x + (u > x) * k - (u < x) * k, y + (v > y) * k - (v < y) * k) for k in range(0, abs(u - x) + 1, 37)] + [(u, v)] for x, y, u, v in pieces]
+        jobs = [(number, cell) for number, found in enumerate(cells) for cell in found]
+        for (number, cell), found in zip(jobs, node([["filed", boxes, pieces, [*cell, *cell]] for _, cell in jobs])):
+            self.assertIn(number, found, (cell, boxes, pieces))
+        self.assertEqual(node([["filed", boxes, pieces, [3000, 3000, 3100, 3100]]])[0], [])
+
+    def test_wire_at_a_place(self) -> None:
+        """The nearest way is found with its wire, its gates and the time; far from all ways there is none."""
+        circuit = {"inputs": ["p", "q"], "outputs": ["c"], "gates": [{"gate": "switch", "parameter": None, "ins": ["p", "q"], "outs": ["c", "y", "z"]}]}
+        ways = {"sampled": "", "wires": [{"name": "p", "equal": ["c"], "level": 0, "pieces": [10, 10, 200, 200, 5, 200, 200, 190, 210, 195]},
+                                         {"name": "y", "equal": [], "level": 1, "pieces": [10, 200, 200, 10, 0]}]}
+        near, crossing, far = node([["wireAt", ways, circuit, [50.4, 49.8], 2], ["wireAt", ways, circuit, [12, 198], 2], ["wireAt", ways, circuit, [60, 30], 2]])
+        self.assertEqual(near, ["p, c: an input, made by switch 0, goes to switch 0, an output, level 0; flies from time 5 to 205", [45], [10, 10, 191, 201], 0])
+        self.assertEqual(crossing, ["y: made by switch 0, level 1; flies from time 0 to 190", [2], [10, 10, 191, 191], 1])
+        self.assertIsNone(far)
+
+    def test_tiles_take_their_time(self) -> None:
+        """A first frame makes what there is time for, and shows the coarsest tile where the others are missing; later frames make each once."""
+        place = {"scale": 1.0, "left": 0, "top": 0, "wide": 1200, "high": 900}
+        found = node([["tiles", {"width": 4096, "height": 4096}, place, 5]])[0]
+        self.assertEqual((found["level"], found["wanted"]), (0, 6))
+        self.assertFalse(found["isFirst"])
+        self.assertEqual(found["firstCopies"], 6)
+        self.assertLess(found["first"], 7)
+        self.assertEqual(found["drawn"], 7)
+        quick = node([["tiles", {"width": 4096, "height": 4096}, place, 0]])[0]
+        self.assertEqual((quick["isFirst"], quick["drawn"], quick["frames"]), (True, 7, 1))
 
 
 class Sources(unittest.TestCase):

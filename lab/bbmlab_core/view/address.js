@@ -9,7 +9,7 @@
 
 {
   const MAX_LENGTH = 65536;
-  const MIN_SCALE = 0.5, MAX_SCALE = 80, MAX_PLACE = 2 * bbmlab.limits.SECOND.maxSide;
+  const MIN_SCALE = 0.05, MAX_SCALE = 80, MAX_PLACE = 2 * bbmlab.limits.SECOND.maxSide;
 
   /** Returns a number that is written plainly and lies in a range, or undefined. */
   function numberIn(text, least, most) {

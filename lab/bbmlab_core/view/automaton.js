@@ -128,6 +128,32 @@ const bbmlab = {};
     return keys;
   }
 
+  // The cells of the mirrors of layouts, and those that cannot stay as they are by themselves. Runs of one layout share them, and do not change them.
+  const mirrorSets = new WeakMap();
+
+  /** Returns the cells of a layout's mirrors, and the cells of the blocks in which mirrors alone change. @returns {{cells: Cells, restless: number[]}} */
+  function mirrorsOf(layout) {
+    if (!mirrorSets.has(layout)) {
+      const grid = new Grid(layout), keys = startKeys({ mirrors: layout.mirrors, balls: [], ins: [] }, () => false, grid), cells = new Cells(keys, grid);
+      const copy = cells.copy(), restless = [0, 1].flatMap((odd) => { const found = turnBlocks(copy, [keys], odd); for (const key of found) copy.bytes[key] ^= 1; return found; });
+      mirrorSets.set(layout, { cells, restless });
+    }
+    return mirrorSets.get(layout);
+  }
+
+  /** Returns the cells that differ in two sets of one grid. */
+  function differing(one, other) {
+    const found = [], { buffer } = one.bytes, words = buffer.byteLength >> 2, left = new Uint32Array(buffer, 0, words), right = new Uint32Array(other.bytes.buffer, 0, words);
+    for (let word = 0; word < words; word += 1) {
+      if (left[word] === right[word]) continue;
+      for (let key = word << 2; key < (word + 1) << 2; key += 1) if (one.bytes[key] !== other.bytes[key]) found.push(key);
+    }
+    return found;
+  }
+
+  // How many changes a run notes between two looks at what differs from the mirrors. Above it a look compares all cells.
+  const MAX_PENDING = 100000;
+
   /** Returns how many steps lie between two snapshots. */
   const snapshotStep = (steps) => Math.max(64, Math.ceil(steps / 64));
 
@@ -135,15 +161,15 @@ const bbmlab = {};
   class WholeRun {
     /** @param {Layout} layout @param {Set<string>} on the inputs that are true */
     constructor(layout, on) {
-      Object.assign(this, { layout, grid: new Grid(layout) });
-      const keys = startKeys(layout, (name) => on.has(name), this.grid);
-      this.live = new Cells(keys, this.grid);
+      const { cells, restless } = mirrorsOf(layout), keys = startKeys({ ...layout, mirrors: [] }, (name) => on.has(name), cells.grid);
+      Object.assign(this, { layout, grid: cells.grid, mirrors: cells, restless, live: cells.copy() });
+      for (const key of keys) this.live.add(key);
       this.time = 0;
       this.direction = 1;
-      // What changed in the last two steps, or null where that is not known. At the start all live cells may.
-      this.recent = [keys, keys];
       this.every = snapshotStep(layout.steps);
-      this.snapshots = new Map([[0, Int32Array.from(keys)]]);
+      // Snapshots are the cells that differ from the mirrors.
+      this.snapshots = new Map([[0, Int32Array.from(differing(this.live, cells))]]);
+      this.know(this.snapshots.get(0));
       this.leftAt = null;
       // The moves of some steps, which `trail` notes.
       this.moves = new Map();
@@ -151,7 +177,21 @@ const bbmlab = {};
 
     /** Returns a run that goes its own way from here. The snapshots are shared. @returns {WholeRun} */
     copy() {
-      return Object.assign(Object.create(WholeRun.prototype), this, { live: this.live.copy(), recent: [...this.recent] });
+      return Object.assign(Object.create(WholeRun.prototype), this, { live: this.live.copy(), recent: [...this.recent], differ: null, pending: null });
+    }
+
+    /** Takes the cells that differ from the mirrors now, without the steps before: balls, and cells of mirrors that fell apart, are among them. */
+    know(keys) {
+      const first = [...keys, ...this.restless];
+      Object.assign(this, { recent: [first, first], differ: new Set(keys), pending: [], pendingCount: 0 });
+    }
+
+    /** Returns the cells that differ from the mirrors: live ones that are no mirror's, and dead ones of mirrors. @returns {Set<number>} */
+    different() {
+      if (this.pending === null) this.differ = new Set(differing(this.live, this.mirrors));
+      else for (const changed of this.pending) for (const key of changed) if (!this.differ.delete(key)) this.differ.add(key);
+      Object.assign(this, { pending: [], pendingCount: 0 });
+      return this.differ;
     }
 
     /** Whether a cell lies in the rectangle. */
@@ -164,8 +204,12 @@ const bbmlab = {};
     turn(odd, direction) {
       if (this.direction !== direction) this.recent = [this.recent[1], this.recent[0]];
       this.direction = direction;
-      const lists = this.recent.includes(null) ? [this.live.keys()] : this.recent;
-      this.recent = [this.recent[1], turnBlocks(this.live, lists, odd)];
+      const changed = turnBlocks(this.live, this.recent, odd);
+      this.recent = [this.recent[1], changed];
+      if (this.pending === null) return;
+      this.pending.push(changed);
+      this.pendingCount += changed.length;
+      if (this.pendingCount > MAX_PENDING) Object.assign(this, { pending: null, differ: null });
     }
 
     /** Makes the next step, and returns whether there is one and it stays in the rectangle. */
@@ -180,7 +224,7 @@ const bbmlab = {};
           return false;
         }
       }
-      if (this.time % this.every === 0 && !this.snapshots.has(this.time)) this.snapshots.set(this.time, Int32Array.from(this.live.keys()));
+      if (this.time % this.every === 0 && !this.snapshots.has(this.time)) this.snapshots.set(this.time, Int32Array.from(this.different()));
       return true;
     }
 
@@ -196,9 +240,11 @@ const bbmlab = {};
     jump(time) {
       const near = [...this.snapshots.keys()].reduce((best, at) => (Math.abs(at - time) < Math.abs(best - time) ? at : best), this.time);
       if (near === this.time) return;
-      this.live = new Cells(this.snapshots.get(near), this.grid);
+      const now = this.different(), then = new Set(this.snapshots.get(near));
+      for (const key of now) if (!then.has(key)) this.live.bytes[key] ^= 1;
+      for (const key of then) if (!now.has(key)) this.live.bytes[key] ^= 1;
       this.time = near;
-      this.recent = [null, null];
+      this.know(then);
     }
 
     /** Goes to a time, or to the last time before a ball leaves the rectangle. */
@@ -237,6 +283,12 @@ const bbmlab = {};
     const until = moves.has(time - 1) ? Math.max(0, missing.at(-1) - length) : missing.at(-1), past = run.copy();
     while (past.time > until && past.backward()) if (!moves.has(past.time)) moves.set(past.time, movesOf(past.recent[1], past.live));
     for (const step of moves.keys()) if (Math.abs(step - time) > 3 * length) moves.delete(step);
+  }
+
+  /** Returns the moves of the step that a run has just made forwards: the cells were live before it if they are not now. */
+  function movesNow(run) {
+    const { live, recent } = run;
+    return movesOf(recent[1], { has: (key) => !live.has(key) });
   }
 
   /** Returns the moves of the last steps up to the present, the latest step first. @type {(run: WholeRun, length: number) => number[][]} */
@@ -350,7 +402,7 @@ const bbmlab = {};
     }
   }
 
-  Object.assign(bbmlab, { Grid, Cells, WholeRun, ModuleRun, circuitValues, startKeys, trail });
+  Object.assign(bbmlab, { Grid, Cells, WholeRun, ModuleRun, circuitValues, startKeys, mirrorsOf, trail, movesNow });
 }
 
 if (typeof module !== "undefined") module.exports = bbmlab;

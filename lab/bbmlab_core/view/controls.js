@@ -2,19 +2,21 @@
 "use strict";
 
 {
-  const { Player, Stage, counted, panels, address } = bbmlab;
+  const { Player, Stage, Minimap, counted, panels, address } = bbmlab;
   const { element } = panels;
   const data = JSON.parse(element("data").textContent);
   const player = new Player(data), { layout } = player;
   const parts = Object.fromEntries(Object.entries({ whole: "whole", own: "own", note: "beside-note", wave: "wave", waveBox: "wave-box",
     waveRest: "wave-rest", waveCursor: "wave-cursor" }).map(([name, id]) => [name, element(id)]));
-  const stage = new Stage(player, parts);
+  const stage = new Stage(player, parts), minimap = new Minimap(stage, element("map"));
   const entries = data.explanation ? data.explanation.entries : [];
   const limits = { steps: layout.steps, names: player.names, faults: entries.length };
   // The buttons of the report, which of them is shown, and timers.
   const shown = { buttons: [], entry: null, addressTimer: 0, speechTimer: 0, place: null };
   // How long the page waits after a change before it is spoken, and before it is written to the address, in milliseconds.
   const SPEECH_DELAY = 600, ADDRESS_DELAY = 250, PAN_STEP = 40;
+  // Larger layouts show the ways at first: their cells are too small to be seen.
+  const LARGE_SIDE = 512, MAX_TIMES = 6;
 
   /** Says the state to who can't see it: when it has been still for a while, and not while it plays. */
   function speakSoon() {
@@ -89,7 +91,27 @@
   /** Shows the cell under the pointer with what there is. */
   function showCell() {
     stage.pointed = shown.place ? stage.cellAt(...shown.place) : stage.mark;
+    const found = stage.pointed && shown.place ? stage.wireAt(...shown.place) : null;
+    stage.pointedWire = found && found.wire;
     element("cell").textContent = stage.pointed ? stage.wordsOf(stage.pointed) : "";
+    showWireWords(found);
+  }
+
+  /** Says what is known of the wire under the pointer, or else of the one that was looked for. */
+  function showWireWords(found) {
+    const wire = found ? found.wire : stage.wire, words = element("wire-words");
+    words.textContent = wire ? `${stage.wires.wordsOf(wire)}${found ? `; here at time ${found.times.slice(0, MAX_TIMES).join(", ")}` : ""}.` : "";
+  }
+
+  /** Shows all ways of the wire whose name was typed. */
+  function findWire() {
+    const name = element("find-wire-name").value.trim(), wire = stage.wires.byName.get(name);
+    shown.place = null;
+    if (name === "") { stage.showWire(null); showWireWords(null); return; }
+    if (!wire) { stage.showWire(null); element("wire-words").textContent = `No ball flies for a wire \u201c${name}\u201d.`; return; }
+    stage.showWire(wire);
+    showWireWords(null);
+    writeAddressSoon();
   }
 
   /** Goes to a cell, and marks it. */
@@ -185,6 +207,23 @@
     writeAddressSoon();
   }
 
+  /** Shows or hides the ways. */
+  function setWays(isOn) {
+    element("ways").checked = isOn;
+    stage.setWays(isOn);
+  }
+
+  /** Prepares what shows the ways, if the page has them. */
+  function beginWays() {
+    const { names, list } = stage.wires;
+    element("ways-part").hidden = element("find-wire").hidden = element("wire-words").hidden = list.length === 0;
+    element("wire-names").replaceChildren(...names.map((name) => Object.assign(document.createElement("option"), { value: name })));
+    if (list.length > 0) setWays(Math.max(layout.width, layout.height) > LARGE_SIDE);
+    element("ways").addEventListener("change", (event) => setWays(event.target.checked));
+    element("find-wire").addEventListener("submit", (event) => { event.preventDefault(); findWire(); });
+    if (stage.wires.sampled) element("ways-part").title += `, ${stage.wires.sampled}`;
+  }
+
   /** Makes one step. */
   const step = (direction) => { player.play(0); player.seek(player.target + direction); };
 
@@ -205,12 +244,13 @@
     " ": () => player.play(player.direction ? 0 : 1), b: () => toggle(-1), ArrowRight: () => step(1), ArrowLeft: () => step(-1),
     Home: () => player.seek(0), End: () => player.seek(layout.steps), 0: () => stage.fit(), "+": () => stage.zoom(1.25), "=": () => stage.zoom(1.25),
     "-": () => stage.zoom(0.8), n: () => nextFault(1), p: () => nextFault(-1), t: () => setTrails(!stage.hasTrails),
+    w: () => { if (stage.wires.list.length) setWays(!stage.hasWays); },
   };
 
   /** Whether the element that has the focus uses a key itself. */
   function isTaken(target, key) {
     if (target.type === "text") return true;
-    if (target.type === "range") return !" bnpt".includes(key);
+    if (target.type === "range") return !" bnptw".includes(key);
     return ["INPUT", "BUTTON", "SUMMARY"].includes(target.tagName) && key === " ";
   }
 
@@ -306,10 +346,10 @@
     player.listen("progress", () => { panels.showResults(player, goToCell); stage.good = null; stage.paintWave(); });
     player.listen("end", () => { showEnd(); speakSoon(); });
     player.listen("play", () => { showPlay(); speakSoon(); writeAddressSoon(); });
-    Object.assign(stage, { onMove: writeAddressSoon, onPaint: showCell });
+    Object.assign(stage, { onMove: writeAddressSoon, onPaint: showCell, onPainted: () => minimap.paint() });
     new ResizeObserver(() => (stage.isFit ? stage.fit() : stage.paint())).observe(parts.whole);
     new ResizeObserver(() => stage.paintWave()).observe(parts.waveBox);
-    matchMedia("(prefers-color-scheme: dark)").addEventListener("change", () => { stage.paint(); stage.paintWave(); });
+    matchMedia("(prefers-color-scheme: dark)").addEventListener("change", () => { stage.redraw(); stage.paintWave(); });
     addEventListener("hashchange", readAddress);
     document.addEventListener("keydown", onKey);
   }
@@ -317,6 +357,7 @@
   panels.makeInputs(player);
   panels.showSigns(player.modules.length > 0);
   element("wave-part").hidden = player.probes.length === 0;
+  beginWays();
   listenToPointers();
   listenToButtons();
   listenToChanges();

@@ -7,10 +7,14 @@
 "use strict";
 
 {
-  const { placeNames } = bbmlab;
+  const { placeNames, Buckets } = bbmlab;
   const INKS = ["ink", "soft", "paper", "plane", "grid", "border", "mirror", "ball", "box", "good", "bad", "edge", "halo", "stop", "wave"];
   const MARKS = { edge: "E", halo: "H", stop: "S" };
-  const RULER = { wide: 32, high: 18 };
+  const RULER = { wide: 32, high: 18 }, WIRE_INKS = 8;
+  // Below this scale tiles show what is still. Where modules are more than a few, borders that are closer, or more, hide what is in them.
+  const TILE_SCALE = 4, CLOSE_BORDERS = 20, FEW_MODULES = 64, MANY_BORDERS = 3000;
+  // A mirror so many cells from all ports does not matter for the places of their names.
+  const NEAR_PORT = 48;
   // How many lines of text a name may be away from its cell, and the scales from which a few and many ports have names: 2,520 names take
   // 200 ms to place at scale 6, and 15 ms at scale 10.
   const MAX_AWAY = 2, NAMED_SCALE = 6, MANY_PORTS = 400, MANY_SCALE = 10;
@@ -21,13 +25,20 @@
     return Object.fromEntries(INKS.map((name) => [name, style.getPropertyValue(`--${name}`).trim()]));
   }
 
+  /** Returns the colours of wires as the page is shown now, and that of what is no wire's. */
+  function wireInks() {
+    const style = getComputedStyle(document.documentElement);
+    return [...Array(WIRE_INKS).keys(), "none"].map((index) => style.getPropertyValue(`--wire-${index}`).trim());
+  }
+
   /** Clears a canvas with its real number of pixels. @returns {Place} */
   function placeOn(canvas, scale, left, top) {
     const ratio = window.devicePixelRatio || 1, wide = canvas.clientWidth, high = canvas.clientHeight;
-    canvas.width = Math.max(1, wide * ratio);
-    canvas.height = Math.max(1, high * ratio);
-    const pen = canvas.getContext("2d");
+    const size = { width: Math.max(1, Math.floor(wide * ratio)), height: Math.max(1, Math.floor(high * ratio)) }, pen = canvas.getContext("2d");
+    // A canvas that gets a size, even its own, takes new memory.
+    if (canvas.width !== size.width || canvas.height !== size.height) Object.assign(canvas, size);
     pen.setTransform(ratio, 0, 0, ratio, 0, 0);
+    pen.clearRect(0, 0, wide, high);
     return { pen, scale, left, top, wide, high, inks: inksNow() };
   }
 
@@ -82,13 +93,34 @@
     return { bars, balls };
   }
 
+  /** Draws mirrors, given as rectangles. */
+  function bars(place, found, least) {
+    const { pen, scale } = place;
+    pen.fillStyle = place.inks.mirror;
+    pen.beginPath();
+    for (const [x, y, w, h] of found) pen.rect(px(place, x), py(place, y), Math.max(least, w * scale), Math.max(least, h * scale));
+    pen.fill();
+  }
+
+  /** Draws what differs from the mirrors, by the numbers of cells: a dot for each ball, and holes where cells of mirrors are dead. */
+  function changes(place, different, mirrors) {
+    const { pen, scale } = place, balls = [], { grid } = mirrors;
+    pen.fillStyle = place.inks.plane;
+    for (const key of different) {
+      const x = grid.xOf(key), y = grid.yOf(key);
+      if (!isSeen(place, x, y)) continue;
+      if (mirrors.has(key)) pen.fillRect(px(place, x), py(place, y), Math.max(1, scale), Math.max(1, scale)); else balls.push(x, y);
+    }
+    discs(place, balls);
+  }
+
   /** Draws the live cells that can be seen: mirrors, and a disc or a dot for each ball. */
   function cells(place, live, mirrors) {
-    const { pen, scale, inks } = place, { bars, balls } = seenCells(place, live, mirrors);
+    const { pen, scale, inks } = place, { bars: found, balls } = seenCells(place, live, mirrors);
     pen.fillStyle = inks.mirror;
     pen.beginPath();
     // Half a pixel more, so that no seam shows between the parts of one mirror.
-    for (const [x, y, w, h] of bars) pen.rect(px(place, x), py(place, y), Math.max(1.5, w * scale + 0.5), Math.max(1.5, h * scale + 0.5));
+    for (const [x, y, w, h] of found) pen.rect(px(place, x), py(place, y), Math.max(1.5, w * scale + 0.5), Math.max(1.5, h * scale + 0.5));
     pen.fill();
     discs(place, balls);
   }
@@ -100,7 +132,7 @@
     pen.beginPath();
     for (let index = 0; index < balls.length; index += 2) {
       const x = px(place, balls[index]), y = py(place, balls[index + 1]);
-      if (scale < 3) { pen.rect(x, y, Math.max(1.5, scale), Math.max(1.5, scale)); continue; }
+      if (scale < 3) { const side = Math.max(scale < 1 ? 2.5 : 1.5, scale); pen.rect(x, y, side, side); continue; }
       pen.moveTo(x + scale / 2 + radius, y + scale / 2);
       pen.arc(x + scale / 2, y + scale / 2, radius, 0, 2 * Math.PI);
     }
@@ -148,6 +180,26 @@
   // that was changed has to be another object.
   let placed = { layout: null, scale: 0, places: [] };
 
+  // The mirrors of layouts that matter for the names of ports, which are looked for once.
+  const nearMirrors = new WeakMap();
+
+  /** Returns the mirrors of a layout that are near a port. */
+  function mirrorsNearPorts(layout) {
+    if (layout.mirrors.length <= MANY_PORTS) return layout.mirrors;
+    if (!nearMirrors.has(layout)) {
+      const filed = new Buckets(), near = new Set();
+      for (const box of layout.mirrors) filed.addBox(...box);
+      for (const { cell: [x, y] } of [...layout.ins, ...layout.outs]) {
+        filed.visit([x - NEAR_PORT, y - NEAR_PORT, x + NEAR_PORT, y + NEAR_PORT], (number) => {
+          const [u, v, w, h] = layout.mirrors[number];
+          if (u <= x + NEAR_PORT && u + w >= x - NEAR_PORT && v <= y + NEAR_PORT && v + h >= y - NEAR_PORT) near.add(layout.mirrors[number]);
+        });
+      }
+      nearMirrors.set(layout, [...near]);
+    }
+    return nearMirrors.get(layout);
+  }
+
   /** Returns the places of the names of ports in pixels from cell (0, 0). There is room for a sign before the name of an output. */
   function namePlaces(place, layout, size) {
     if (placed.layout === layout && placed.scale === place.scale) return placed.places;
@@ -157,7 +209,7 @@
     const port = (cell) => { const { x, y, width, height } = rect(cell); return { x: x - 2, y: y - 2, width: width + 4, height: height + 4 }; };
     const names = portNames(layout).map(({ name, cell, isIn }) => ({ cell: port(cell), isAbove: isIn, height: size + 3,
       width: place.pen.measureText(isIn ? name : `✓ ${name}`).width + 4 }));
-    const signs = [...layout.wastes, ...layout.balls].map((cell) => rect(cell)).concat(layout.mirrors.map(([x, y, w, h]) => rect([x, y], w, h)));
+    const signs = [...layout.wastes, ...layout.balls].map((cell) => rect(cell)).concat(mirrorsNearPorts(layout).map(([x, y, w, h]) => rect([x, y], w, h)));
     placed = { layout, scale: side, places: placeNames(names, signs, []) };
     return placed.places;
   }
@@ -183,9 +235,9 @@
   /** Draws ports with their names, and waste cells. `good` says of out cells whether they are as they should be, at the last time. */
   function ports(place, layout, good) {
     const { inks, scale } = place, isSmall = scale < 4;
-    const outs = layout.outs.map(({ cell }) => ({ cell, ...stateOf(inks, good, cell) }));
+    const outs = layout.outs.filter(({ cell }) => isSeen(place, ...cell)).map(({ cell }) => ({ cell, ...stateOf(inks, good, cell) }));
     const show = ({ cell, ink, width }) => outline(place, [...cell, 1, 1], ink, isSmall ? [] : [4, 3], isSmall ? 0 : -1, width);
-    for (const { cell } of layout.ins) outline(place, [...cell, 1, 1], inks.ink, [], isSmall ? 0 : 1, isSmall ? scale / 3 : 1.5);
+    for (const { cell } of layout.ins) if (isSeen(place, ...cell)) outline(place, [...cell, 1, 1], inks.ink, [], isSmall ? 0 : 1, isSmall ? scale / 3 : 1.5);
     // Where cells are small, thick outlines would cover each other: only those that differ are thick, and come last.
     for (const out of outs.filter(({ ink }) => ink !== inks.bad)) show(isSmall ? { ...out, width: scale / 3 } : out);
     for (const out of outs.filter(({ ink }) => ink === inks.bad)) show(out);
@@ -222,14 +274,32 @@
     pen.stroke();
   }
 
-  /** Draws the borders of modules with their numbers; the chosen one is thick. */
-  function modules(place, found, chosen) {
-    const { pen, inks, scale } = place;
-    pen.font = "600 11px system-ui, sans-serif";
-    found.forEach(({ box }, number) => {
-      outline(place, box, inks.box, scale < 4 ? [] : [6, 4], 0, number === chosen ? 2.5 : scale < 2 ? 0.5 : 1);
-      if (box[2] * scale > 26) label(place, String(number), px(place, box[0]) + 5, py(place, box[1]) + 14, inks.box, "left");
+  /** Returns the numbers of the modules whose borders can be seen. */
+  function seenModules(place, found) {
+    const [x0, y0, x1, y1] = [place.left, place.top, place.left + place.wide / place.scale, place.top + place.high / place.scale], numbers = [];
+    const least = found.length > FEW_MODULES ? CLOSE_BORDERS / place.scale : 0;
+    found.forEach(({ box: [x, y, w, h] }, number) => {
+      if (Math.min(w, h) >= least && x <= x1 && y <= y1 && x + w >= x0 && y + h >= y0) numbers.push(number);
     });
+    return numbers.length > MANY_BORDERS ? [] : numbers;
+  }
+
+  /** Draws the borders of modules with their numbers; the chosen one is thick. Where they are very close they are left out. */
+  function modules(place, found, chosen) {
+    const { pen, inks, scale } = place, shown = seenModules(place, found);
+    pen.font = "600 11px system-ui, sans-serif";
+    pen.strokeStyle = inks.box;
+    pen.lineWidth = scale < 2 ? 0.5 : 1;
+    pen.setLineDash(scale < 4 ? [] : [6, 4]);
+    pen.beginPath();
+    for (const number of shown) { const [x, y, w, h] = found[number].box; pen.rect(px(place, x), py(place, y), w * scale, h * scale); }
+    pen.stroke();
+    pen.setLineDash([]);
+    if (chosen !== null && found[chosen]) outline(place, found[chosen].box, inks.box, scale < 4 ? [] : [6, 4], 0, 2.5);
+    for (const number of shown) {
+      const [x, y, w] = found[number].box;
+      if (w * scale > 26) label(place, String(number), px(place, x) + 5, py(place, y) + 14, inks.box, "left");
+    }
   }
 
   /** Draws the cells of lines of the certificate, with a letter for the kind and the wire where there is room. */
@@ -312,14 +382,20 @@
    * Draws all that is seen of a layout.
    * @param {Place} place
    * @param {Object} scene layout, modules, live (cells), mirrors (cells), odd, trail (moves by steps), chosen (a module), lines, fault and
-   *   mark (cells or null), good (a map of out cells or null), pointed (a cell or null)
+   *   mark (cells or null), good (a map of out cells or null), pointed (a cell or null); where they are not too large, `ways` draws the ways of
+   *   the balls, and below that scale `still` draws these and the mirrors from tiles, with what differs from the mirrors over them; `over` draws
+   *   what stands out
    */
-  function scene(place, { layout, modules: boxes, live, mirrors, odd, trail, chosen, lines: said, fault, mark, good, pointed }) {
-    const box = [0, 0, layout.width, layout.height];
+  function scene(place, shown) {
+    const { layout, modules: boxes, live, mirrors, odd, trail, chosen, lines: said, fault, mark, good, pointed } = shown;
+    const { ways = null, still = null, different = null, over = null } = shown;
+    const box = [0, 0, layout.width, layout.height], hasTiles = still !== null && place.scale < TILE_SCALE;
     grid(place, box, odd);
     outline(place, box, place.inks.soft, [], 0, 1.5);
+    if (hasTiles) still(place); else if (ways) ways(place, seenRange(place, layout));
     trails(place, trail, live.grid);
-    cells(place, live, mirrors);
+    if (hasTiles) changes(place, different(), mirrors); else cells(place, live, mirrors);
+    if (over) over(place);
     modules(place, boxes, chosen);
     lines(place, said);
     if (fault) ring(place, fault);
@@ -328,5 +404,5 @@
     rulers(place, layout, pointed);
   }
 
-  bbmlab.painting = { placeOn, inksNow, scene, outline, grid, cells, ports, modules, lines, ring, differences, rulers, rulerStep, trails, RULER };
+  bbmlab.painting = { placeOn, inksNow, scene, outline, grid, cells, ports, modules, lines, ring, differences, rulers, rulerStep, trails, bars, wireInks, seenRange, RULER };
 }

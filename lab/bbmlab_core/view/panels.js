@@ -42,7 +42,7 @@
 
   /** Appends a text in which each cell, "(99, 82)", is a link. */
   function appendCells(parent, text, action) {
-    text.split(/(\(\d{1,3}, \d{1,3}\))/).forEach((part, index) => {
+    text.split(/(\(\d{1,4}, \d{1,4}\))/).forEach((part, index) => {
       const [x, y] = (part.match(/\d+/g) || []).map(Number);
       parent.append(index % 2 ? link(part, () => action(x, y)) : part);
     });

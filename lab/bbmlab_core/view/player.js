@@ -2,9 +2,11 @@
 "use strict";
 
 {
-  const { WholeRun, ModuleRun, circuitValues, waveform } = bbmlab;
+  const { WholeRun, ModuleRun, circuitValues, movesNow, waveform } = bbmlab;
   // How long the runs may take before the page gets its turn, in milliseconds. `slice` of a player sets another time for the run to the end.
   const AHEAD_SLICE = 25, SEEK_SLICE = 40;
+  // The moves of so many steps before the time to which a run goes are noted on the way: their trail needs no other run then.
+  const NOTED = 32;
 
   /** Returns the edge, halo and stop lines of modules by their times; lines for all odd times are at "*". */
   function linesByTime(modules) {
@@ -85,7 +87,11 @@
       const until = performance.now() + SEEK_SLICE, { run, target } = this;
       let moved = true;
       for (let count = 1; moved && run.time !== target && (count % 16 || performance.now() < until); count += 1) {
-        moved = run.time < target ? run.forward() : run.backward();
+        const isForward = run.time < target;
+        moved = isForward ? run.forward() : run.backward();
+        if (!moved || !isForward || target - run.time > NOTED) continue;
+        run.moves.set(run.time - 1, movesNow(run));
+        run.moves.delete(run.time - 1 - 3 * NOTED);
       }
       this.isSeeking = moved && run.time !== target;
       if (this.isSeeking) this.seekTimer = setTimeout(() => { run.jump(target); this.seekOn(); }, 0);

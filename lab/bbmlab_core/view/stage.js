@@ -2,7 +2,7 @@
 "use strict";
 
 {
-  const { Grid, Cells, SvgPen, startKeys, trail, painting, waveform, address } = bbmlab;
+  const { mirrorsOf, Buckets, Tiles, Wires, SvgPen, trail, painting, waveform, address } = bbmlab;
   const { RULER } = painting;
   // A trail has so many steps, and fewer if the balls are many: 24,000 moves take 15 ms of a frame to draw without a graphics processor.
   const TRAIL_STEPS = 24, MAX_MOVES = 8000, FIT_SCALE = 60;
@@ -15,13 +15,57 @@
     constructor(player, parts) {
       Object.assign(this, { player, parts, layout: player.layout, fault: null, mark: null, module: null, pointed: null });
       Object.assign(this, { scale: 10, left: 0, top: 0, isFit: true, hasTrails: true, frame: null, good: null, axis: null });
+      // The ways of the balls, whether they are shown, and the wires that stand out: the one that was looked for, and the one under the pointer.
+      Object.assign(this, { wires: new Wires(player.data.ways, player.data.circuit), hasWays: false, wire: null, pointedWire: null });
       this.takeMirrors();
     }
 
-    /** Notes the cells of the layout's mirrors. */
+    /** Notes the cells of the layout's mirrors, and begins new tiles. */
     takeMirrors() {
-      const grid = new Grid(this.layout);
-      this.mirrors = new Cells(startKeys({ mirrors: this.layout.mirrors, balls: [], ins: [] }, () => false, grid), grid);
+      const { layout } = this, filed = new Buckets();
+      this.mirrors = mirrorsOf(layout).cells;
+      for (const box of layout.mirrors) filed.addBox(...box);
+      this.tiles = new Tiles(layout, (place, range) => {
+        const found = [], inks = painting.inksNow();
+        filed.visit(range, (number) => found.push(layout.mirrors[number]));
+        this.drawWays({ ...place, inks }, range);
+        painting.bars({ ...place, inks }, found, 1);
+      });
+    }
+
+    /** Draws the ways of a range of cells, if they are shown. */
+    drawWays(place, range) { if (this.hasWays) this.wires.draw(place, range, painting.wireInks()); }
+
+    /** Shows or hides the ways. */
+    setWays(isOn) {
+      this.hasWays = isOn;
+      this.redraw();
+    }
+
+    /** Draws everything again at the next frame, since colours or ways have changed. */
+    redraw() {
+      this.tiles.clear();
+      this.paint();
+    }
+
+    /** Returns the range of places that is seen: x, y, x, y. */
+    seen() {
+      const { wide, high } = this.room(), x = this.left + RULER.wide / this.scale, y = this.top + RULER.high / this.scale;
+      return [x, y, x + wide / this.scale, y + high / this.scale];
+    }
+
+    /** Returns the wire whose ball flies at a place of the canvas, with the time there, or null. */
+    wireAt(x, y) { return this.wires.at(this.left + x / this.scale - 0.5, this.top + y / this.scale - 0.5, Math.max(1, 5 / this.scale)); }
+
+    /** Shows all ways of a wire, and lets them stand out; null lets none stand out. */
+    showWire(wire) {
+      this.wire = wire;
+      if (wire) {
+        const [x, y, w, h] = this.wires.boxOf(wire), { wide, high } = this.room();
+        this.centre(x + w / 2, y + h / 2, Math.min(28, wide / (w + 8), high / (h + 8)));
+        this.moved();
+      }
+      this.paint();
     }
 
     /** Returns the size of the whole picture, and of its part beside the rulers, in pixels. */
@@ -109,8 +153,12 @@
       this.frame = requestAnimationFrame(() => {
         this.frame = null;
         if (this.onPaint) this.onPaint();
+        this.isWhole = true;
         this.paintWhole(painting.placeOn(this.parts.whole, this.scale, this.left, this.top));
         if (this.player.own) this.paintOwn();
+        if (this.onPainted) this.onPainted();
+        // Tiles for which there was no time come with the next frames.
+        if (!this.isWhole) this.paint();
       });
     }
 
@@ -124,9 +172,15 @@
     /** Draws the whole layout with a pen. */
     paintWhole(place, pointed = this.pointed) {
       const { run, modules, layout } = this.player, { mirrors, fault, mark, module } = this;
+      const wire = this.pointedWire || this.wire;
       painting.scene(place, { layout, modules, live: run.live, mirrors, odd: run.time % 2, trail: this.trails(), chosen: module,
-        lines: this.player.linesNow(module), fault, mark, good: run.time === layout.steps ? this.good : null, pointed });
+        lines: this.player.linesNow(module), fault, mark, good: run.time === layout.steps ? this.good : null, pointed,
+        ways: (where, range) => this.drawWays(where, range), still: place.pen instanceof SvgPen ? null : (where) => this.drawStill(where),
+        different: () => run.different(), over: wire ? (where) => this.wires.bring(where, wire) : null });
     }
+
+    /** Draws what is still from tiles. */
+    drawStill(place) { if (!this.tiles.paint(place, window.devicePixelRatio || 1)) this.isWhole = false; }
 
     /** Returns what is seen as the text of an SVG file. */
     svg(title) {

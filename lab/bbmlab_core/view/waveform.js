@@ -43,13 +43,13 @@
   class Recorder {
     /** @param {Probe[]} probes @param {WholeRun} run a run at time 0 */
     constructor(probes, run) {
-      // The number of the signal of each cell, or null if no cell is watched.
-      this.at = probes.length ? new Int32Array(run.live.bytes.length).fill(-1) : null;
-      this.signals = [];
+      // Whether a cell is watched, or null if none is; and the signals by their cells.
+      this.watched = probes.length ? new Uint8Array(run.live.bytes.length) : null;
+      this.signals = new Map();
       for (const { key } of probes) {
-        if (this.at[key] >= 0) continue;
-        this.at[key] = this.signals.length;
-        this.signals.push({ isLive: run.live.has(key), changes: [] });
+        if (this.watched[key] === 1) continue;
+        this.watched[key] = 1;
+        this.signals.set(key, { isLive: run.live.has(key), changes: [] });
       }
       this.until = 0;
     }
@@ -57,12 +57,12 @@
     /** Notes the step that a run has just made. */
     note(run) {
       this.until = run.time;
-      if (this.at === null) return;
-      for (const key of run.recent[1]) if (this.at[key] >= 0) this.signals[this.at[key]].changes.push(run.time);
+      if (this.watched === null) return;
+      for (const key of run.recent[1]) if (this.watched[key] === 1) this.signals.get(key).changes.push(run.time);
     }
 
     /** Returns what was noted of a cell: whether it is live at the start, and the times at which it changes. */
-    signalOf(key) { return this.signals[this.at[key]]; }
+    signalOf(key) { return this.signals.get(key); }
 
     /** Whether a cell is live at a time, or undefined if the run did not come so far. */
     isLive(key, time) {
