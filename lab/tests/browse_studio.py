@@ -5,6 +5,7 @@ It starts servers for files of FOLDER, and writes screenshots of two sizes, ligh
 BBMLAB_USES names the uses to run, all if it is missing.
 """
 import json
+import lzma
 import os
 import subprocess
 import sys
@@ -799,11 +800,79 @@ def see_dark(studio: Studio) -> None:
     studio.scheme("light")
 
 
+def enlarge_at_sides(studio: Studio) -> None:
+    """Adds columns and rows at the sides by the dialog: the parts move by them, and the verdict is asked again."""
+    studio.begin("wider.txt", example("fredkin_gate"))
+    studio.verdict("yes")
+    width, height = (int(studio.script(f"return document.getElementById('{name}').value")) for name in ("width", "height"))
+    studio.click("#enlarge")
+    studio.script("const sides = [...document.querySelectorAll('#dialog input')]; [4, 6, 8, 2].forEach((count, index) => { sides[index].value = count; });")
+    studio.answer("Enlarge the layout", "enlarge")
+    studio.await_text("status", "Enlarged.")
+    assert f"layout {width + 12} {height + 8} " in studio.layout_text()
+    studio.verdict("yes")
+    studio.click("#undo")
+    assert studio.layout_text() == example("fredkin_gate"), "undo takes it back"
+
+
+def route_circuit(studio: Studio) -> None:
+    """Routes the circuit of a text in the background: a cancelled search changes nothing, and a found layout gets a yes and can be undone."""
+    text = "circuit\ninput p\ninput q\nswitch p q -> a b c\noutput a\noutput b\nspill c\nend\nlayout 48 48 40\nend\n"
+    studio.begin("routed.txt", text)
+    studio.script("bbmlab.studio.router.begin(600, 3)")
+    studio.wait(lambda: "Routing since" in studio.text("routing") or "Begins" in studio.text("routing"), "the search is shown")
+    studio.script("bbmlab.server.request('unroute')")
+    studio.wait(lambda: not studio.browser.find_element(By.ID, "routing").is_displayed(), "the search has ended", 120)
+    if "cancelled" in studio.text("status"):
+        assert studio.layout_text() == text, "nothing was taken"
+    else:
+        # It was found before it was cancelled.
+        studio.click("#undo")
+    studio.click("#route")
+    studio.answer("Route the circuit", "route")
+    studio.wait(lambda: "Routed." in studio.text("status"), "the layout is found", 240)
+    studio.verdict("yes", 120)
+    assert "switch p q -> a b c" in studio.layout_text() and "mirror" in studio.layout_text()
+    studio.rest()
+    studio.browser.save_screenshot(str(studio.folder / "routed.png"))
+    studio.click("#undo")
+    assert studio.layout_text() == text, "undo brings the old text back"
+
+
+def see_large(studio: Studio) -> None:
+    """A machine of 832 by 832 cells: the fit shows all of it with its ways, the small picture leads elsewhere, and an edit changes the picture there."""
+    studio.begin("machine.txt", lzma.decompress((TOP / "examples" / "machines" / "adder_4.txt.xz").read_bytes()).decode("ascii"))
+    studio.verdict("yes", 120)
+    studio.still()
+    studio.rest()
+    count = "const { width, height } = document.getElementById('whole'); return new Set(new Uint32Array(document.getElementById('whole').getContext('2d').getImageData(40, 30, width - 50, height - 40).data.buffer)).size"
+    assert studio.script(count) > 50, "the ways are there"
+    assert not studio.browser.find_element(By.ID, "map").is_displayed(), "everything is shown"
+    for _ in range(12):
+        studio.click("#in")
+    studio.rest()
+    assert studio.browser.find_element(By.ID, "map").is_displayed(), "the small picture shows where one is"
+    before = studio.script("return bbmlab.studio.sketch.seen()")
+    studio.browser.find_element(By.ID, "map").click()
+    studio.script("bbmlab.studio.sketch.tiles.made.clear(); bbmlab.studio.sketch.centre(100, 100, bbmlab.studio.sketch.scale)")
+    studio.rest()
+    assert studio.script("return bbmlab.studio.sketch.seen()") != before
+    studio.script("bbmlab.studio.sketch.centre(300, 300, 1)")
+    studio.rest()
+    made = studio.script("return [...bbmlab.studio.sketch.tiles.made.values()].length")
+    kept = studio.script("const { sketch, desk } = bbmlab.studio, old = new Set(sketch.tiles.made.values()); desk.model.add([{ kind: 'mirror', name: null, box: [1, 2, 2, 2], line: -1 }]); "
+                         "return [...sketch.tiles.made.values()].filter((tile) => old.has(tile)).length")
+    assert 0 < kept < made, f"{kept} of {made} tiles are kept after an edit at a corner"
+    studio.still()
+    studio.rest()
+    studio.browser.save_screenshot(str(studio.folder / "large.png"))
+
+
 USES = [draw_collision, drag_mirror, draw_by_keyboard, refuse_circuit, place_mirrors, change_selection, insert_cell, draw_not_gate, take_fix, see_ways, draw_by_touch,
         do_many_commands, choose_spelling, answer_late, see_dark, use_dialogs, keep_draft, offer_draft_again, keep_selection,
         ask_twice, use_two_tabs, let_in_once, see_other_picture,
         forget_old_draft, ask_about_draft, duplicate_tab, say_what_is_kept, see_nothing_yet, undo_numbers, follow_turns, see_kind_of_no,
-        enlarge_for_cell]
+        enlarge_for_cell, enlarge_at_sides, route_circuit, see_large]
 
 
 def run_uses(studio: Studio, wanted: list[str]) -> list[str]:

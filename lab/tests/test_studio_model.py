@@ -147,6 +147,17 @@ class Commands(unittest.TestCase):
         self.assertIsNone(support.read_document(made, "design").refusal)
         self.assertIn("\noutput b\nspill a\n", made)
 
+    def test_enlarge(self) -> None:
+        """Columns and rows at the sides move all parts by those at the left and above, and a side above the first limits gets the line for it."""
+        text = "circuit\ninput p\noutput p\nend\nlayout 12 12 3 # here\nmirror 5 2 2 2\nin p 2 2\nout p 5 5\nend\n"
+        made, large, odd, most = node(["commands", text, [["enlarge", 2, 4, 6, 8]]], ["commands", text, [["enlarge", 0, 0, 502, 0]]],
+                                      ["commands", text, [["enlarge", 1, 0, 0, 0]]], ["commands", text, [["enlarge", 0, 0, 0, 4086]]])
+        self.assertEqual(made, text.replace("layout 12 12 3", "layout 20 24 3").replace("mirror 5 2", "mirror 7 6").replace("in p 2 2", "in p 4 6")
+                         .replace("out p 5 5", "out p 7 9"))
+        self.assertEqual(large, "limits 2\n" + text.replace("layout 12 12 3", "layout 514 12 3"))
+        self.assertIn("even numbers", odd)
+        self.assertIn("at most 4096", most)
+
     def test_limits(self) -> None:
         """A layout has sides of 512 and 65,536 steps, and behind the line `limits 2` 4096 and 1,048,576; one more is refused with a sentence."""
         text = example("not_gate")

@@ -18,6 +18,7 @@ import support
 from bbmlab_core.studio.answers import EMPTY, Answers
 from bbmlab_core.studio.folder import Folder
 from bbmlab_core.studio.guard import MAX_REQUEST_BYTES
+from bbmlab_core.studio import routes
 from bbmlab_core.studio.jobs import Jobs, Worker
 from bbmlab_core.studio.server import POLICY, Studio, studio
 from bbmlab_core.spelling import source_line
@@ -151,7 +152,7 @@ class Security(Served):
         self.assertEqual(self.send("POST", "api/quit", b"{}")[0], 404)
 
     def test_large_requests(self) -> None:
-        """A request over 16 MiB, and one that does not say how long it is, are refused before their bodies are read."""
+        """A request over the most of all, and one that does not say how long it is, are refused before their bodies are read."""
         self.assertEqual(self.send("POST", "api/start", b"", Content_Length=str(MAX_REQUEST_BYTES + 1))[0], 413)
         for length in ("", "-1", "x", "1e3", "9" * 40):
             self.assertEqual(self.send("POST", "api/start", b"", Content_Length=length)[0], 411, length)
@@ -348,6 +349,78 @@ class Verdicts(Served):
         for thread in asks:
             thread.join()
         self.assertEqual(("text" in answers["export"], answers["verdict"].get("verdict")), (True, "yes"))
+
+
+class Searches(Served):
+    """Routes in the background."""
+
+    CIRCUIT = "circuit\ninput p\ninput q\nswitch p q -> a b c\noutput a\noutput b\nspill c\nend\n"
+
+    def setUp(self) -> None:
+        """Starts the server with searches."""
+        super().setUp()
+        self.routes = routes.Routes(support.program(), MEMORY)
+        self.server.answers.routes = self.routes
+        self.addCleanup(self.routes.close)
+
+    def long_circuit(self) -> str:
+        """Returns a circuit whose search takes its whole time on a plane without room: so many inputs that no ball finds a way for minutes."""
+        names = [f"p{number}" for number in range(60)]
+        lines = [f"fredkin p{number} p{number + 1} p{number + 2} -> a{number} b{number} c{number}" for number in range(0, 60, 3)]
+        outs = [f"output {letter}{number}" for number in range(0, 60, 3) for letter in "abc"]
+        return "\n".join(["circuit", *(f"input {name}" for name in names), *lines, *outs, "end"]) + "\n"
+
+    def ended(self, tab: str) -> dict[str, Any]:
+        """Asks until a search has ended, and returns what became of it."""
+        until = time.monotonic() + 240
+        while (told := self.ask("routed", tab=tab))["state"] == "runs":
+            self.assertLess(time.monotonic(), until)
+        return told
+
+    def test_a_route_is_found(self) -> None:
+        """A search ends with a bundle of the circuit, which gets a yes; it is told once."""
+        self.assertEqual(self.ask("route", tab="a", text=self.CIRCUIT, seconds=60, seed=1)["state"], "runs")
+        told = self.ended("a")
+        self.assertEqual(told["state"], "found", told)
+        self.assertIn("switch p q -> a b c", told["text"])
+        self.assertIn("verdict yes", told["said"])
+        self.assertEqual(subprocess.run([support.program(), "check"], input=told["text"].encode(), stdout=subprocess.DEVNULL, check=False).returncode, 0)
+        self.assertEqual(self.ask("routed", tab="a")["state"], "none")
+
+    def test_a_search_is_cancelled(self) -> None:
+        """A cancelled search ends with its processes, and another one can begin then; while it runs, no other one can."""
+        self.ask("route", tab="a", text=self.long_circuit(), seconds=600, seed=1)
+        self.assertIn("Another search is running", self.ask("route", tab="b", text=self.CIRCUIT, seconds=60, seed=1)["error"])
+        self.assertEqual(self.ask("routed", tab="b")["state"], "none")
+        process, room = self.routes.found["a"].process, Path(self.routes.found["a"].room.name)
+        self.assertEqual(self.ask("unroute", tab="a")["state"], "cancelled")
+        self.assertIsNotNone(process.poll())
+        self.assertFalse(room.exists())
+        self.assertEqual(self.ask("unroute", tab="a")["state"], "none")
+        self.ask("route", tab="b", text=self.CIRCUIT, seconds=60, seed=1)
+        self.assertEqual(self.ended("b")["state"], "found")
+
+    def test_why_there_is_no_route(self) -> None:
+        """A circuit that is refused is told with its line."""
+        self.ask("route", tab="a", text="circuit\ninput p\noutput q\nend\n", seconds=60, seed=1)
+        told = self.ended("a")
+        self.assertEqual(told["state"], "failed")
+        self.assertIn("q", " ".join(told["said"]))
+
+    def test_a_page_that_is_gone(self) -> None:
+        """The search of a page that no longer asks is ended."""
+        old, routes.SILENCE = routes.SILENCE, 0.0
+        self.addCleanup(setattr, routes, "SILENCE", old)
+        self.ask("route", tab="a", text=self.long_circuit(), seconds=600, seed=1)
+        self.routes.found["a"].process.wait(60)
+
+    def test_numbers(self) -> None:
+        """Numbers that are none, or out of their range, begin no search."""
+        for seconds, seed in ((0, 1), (3601, 1), (60, -1), (60, 2**31)):
+            self.assertIn("error", self.ask("route", tab="a", text=self.CIRCUIT, seconds=seconds, seed=seed))
+        for words in ({"seconds": "60", "seed": 1}, {"seconds": 60, "seed": 1.5}, {"seconds": True, "seed": 1}, {"seconds": 60}):
+            self.assertEqual(self.send("POST", "api/route", json.dumps({"tab": "a", "text": self.CIRCUIT, **words}).encode())[0], 400)
+        self.assertEqual(self.routes.found, {})
 
 
 class Limits(unittest.TestCase):

@@ -14,6 +14,7 @@ from ..program import ProgramError, find_program
 from ..studio.answers import Answers
 from ..studio.folder import Folder
 from ..studio.jobs import Jobs
+from ..studio.routes import Routes
 from ..studio.server import Studio, studio
 from ..terminal import LabError, plain
 
@@ -25,13 +26,14 @@ def run(options: argparse.Namespace) -> int:
         raise LabError(f"{options.file}: there is no folder {folder.place}")
     if (folder.place / folder.name).is_dir():
         raise LabError(f"{options.file}: this is a folder")
-    jobs = None
+    jobs = routes = None
     try:
-        jobs = Jobs(find_program(options.program), options.timeout or 20.0, options.memory)
+        program = find_program(options.program)
+        jobs, routes = Jobs(program, options.timeout or 20.0, options.memory), Routes(str(program), options.memory)
     except ProgramError as error:
         print(f"bbmlab: the studio gives no verdicts: {plain(str(error))}", file=sys.stderr)
     try:
-        server = studio(options.port, Answers(folder, jobs))
+        server = studio(options.port, Answers(folder, jobs, routes))
     except OSError as error:
         raise LabError(f"port {options.port}: {error.strerror or error}") from error
     print(server.address, flush=True)
@@ -42,6 +44,8 @@ def run(options: argparse.Namespace) -> int:
     with ExitStack() as ending:
         if jobs:
             ending.callback(jobs.close)
+        if routes:
+            ending.callback(routes.close)
         ending.callback(server.server_close)
         if options.open:
             open_browser(server.address, ending)

@@ -15,11 +15,13 @@ from ..terminal import LabError
 from .folder import ChangedError, Folder, FolderError, bytes_of, digest_of, text_of
 from .guard import Denied
 from .jobs import Jobs
+from .routes import Routes
 
 # The folders of the examples, in a clone and in an installation.
 EXAMPLES = [HERE.parent.parent / "examples", HERE.parent.parent.parent / "share" / "doc" / "bbmcheck" / "examples"]
 EMPTY = "circuit\nend\nlayout 48 48 40\nend\n"
 Answer = dict[str, Any]
+NO_PROGRAM: Answer = {"error": "The program was not found: name it with --program PATH or set BBMCHECK."}
 
 
 def word(body: Answer, name: str) -> str:
@@ -57,12 +59,14 @@ class Answers:
 
     folder: Folder
     jobs: Jobs | None
+    routes: Routes | None = None
 
     def answer(self, name: str, body: Answer) -> Answer:
         """Returns the answer to a request."""
         known: dict[str, Callable[[Answer], Answer]] = {
             "start": self.start, "open": self.open, "save": self.save, "files": self.files, "refusal": self.refusal, "spelling": self.spelling,
-            "cells": self.cells, "template": self.template, "verdict": self.job, "explain": self.job, "export": self.job}
+            "cells": self.cells, "template": self.template, "verdict": self.job, "explain": self.job, "export": self.job, "route": self.route,
+            "routed": self.routed, "unroute": self.unroute}
         if name not in known:
             raise Denied(404, "there is no such request")
         try:
@@ -136,10 +140,26 @@ class Answers:
             return {"text": text_of(path.read_bytes())}
         return {"text": standard_cells.read_cell(name).document.text}
 
+    def route(self, body: Answer) -> Answer:
+        """Begins a search for a layout of the circuit of a text."""
+        seconds, seed = body.get("seconds"), body.get("seed")
+        if isinstance(seconds, bool) or not isinstance(seconds, (int, float)) or isinstance(seed, bool) or not isinstance(seed, int):
+            raise Denied(400, "the request has no numbers `seconds` and `seed`")
+        text, tab = word(body, "text"), word(body, "tab")
+        return self.routes.begin(tab, text, seconds, seed) if self.routes else NO_PROGRAM
+
+    def routed(self, body: Answer) -> Answer:
+        """Returns what became of the search of a tab."""
+        return self.routes.state(word(body, "tab")) if self.routes else NO_PROGRAM
+
+    def unroute(self, body: Answer) -> Answer:
+        """Ends the search of a tab."""
+        return self.routes.cancel(word(body, "tab")) if self.routes else NO_PROGRAM
+
     def job(self, body: Answer) -> Answer:
         """Runs a job that may take a while."""
         if self.jobs is None:
-            return {"error": "The program was not found: name it with --program PATH or set BBMCHECK."}
+            return NO_PROGRAM
         body = {"stage": "", "earlier": "", **body}
         for name in ("text", "tab", *{"verdict": ("stage", "earlier"), "explain": ("bundle", "report"), "export": ("bundle", "form", "name")}[body["kind"]]):
             word(body, name)

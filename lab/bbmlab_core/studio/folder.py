@@ -7,13 +7,13 @@ import stat
 import threading
 from pathlib import Path
 
-from ..limits import FIRST
 from ..replacing import ChangedFileError, replace_file
 
 # A name of a file of the folder: no path, no hidden file, no control character.
 FILE_NAME = re.compile(r"[^./\\\x00-\x1f\x7f][^/\\\x00-\x1f\x7f]{0,200}\.txt\Z")
-# A browser and the requests of its page take no longer texts, whatever their first line says.
-MAX_FILE_BYTES = FIRST.max_bytes
+# A page takes some 30 bytes of memory for each byte of a text, whose lines it keeps for undo, and sends the whole text after each edit. Texts may be
+# eight times as long by their limits (docs/FORMATS.md).
+MAX_FILE_BYTES = 32 << 20
 
 
 class FolderError(Exception):
@@ -88,7 +88,8 @@ class Folder:
         except OSError as error:
             raise FolderError(f"{name}: {error.strerror or error}") from error
         if len(data) > MAX_FILE_BYTES:
-            raise FolderError(f"{name} is larger than 16 MiB")
+            raise FolderError(f"{name} is larger than {MAX_FILE_BYTES >> 20} MiB, which is the most that the studio takes: the page keeps all of a text, and sends it "
+                              "after each edit. `bbmlab view`, `draw` and `explain` take larger ones")
         return data
 
     def write(self, name: str, data: bytes, known: str | None, is_forced: bool) -> str:

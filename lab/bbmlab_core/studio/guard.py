@@ -9,7 +9,10 @@ import secrets
 import threading
 from email.message import Message
 
-MAX_REQUEST_BYTES = 16_777_216
+from .folder import MAX_FILE_BYTES
+
+# A request has at most a text, a bundle with its certificate and a report, in JSON.
+MAX_REQUEST_BYTES = 4 * MAX_FILE_BYTES
 KEY_HEADER = "X-Bbmlab-Key"
 
 
@@ -74,5 +77,5 @@ class Guard:
         if headers.get("Transfer-Encoding") or not (word.isascii() and word.isdecimal() and len(word) <= 18):
             raise Denied(411, "the request does not say how long it is")
         if int(word) > most:
-            raise Denied(413, "the request is over 16 MiB" if most == MAX_REQUEST_BYTES else "this is no token")
+            raise Denied(413, f"the request is over {MAX_REQUEST_BYTES >> 20} MiB" if most == MAX_REQUEST_BYTES else "this is no token")
         return int(word)

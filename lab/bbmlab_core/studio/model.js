@@ -376,6 +376,28 @@
       });
     }
 
+    /**
+     * Adds columns and rows at the sides, and moves all parts by those at the left and above. A layout above the first limits gets the line that
+     * raises them.
+     */
+    enlarge(left, above, right, below) {
+      if (!this.header) throw new Refusal("The text has no layout whose size is allowed.");
+      if (![left, above, right, below].every((count) => Number.isInteger(count) && count >= 0 && count % 2 === 0)) {
+        throw new Refusal("Columns and rows are added by even numbers, so that all balls keep their directions.");
+      }
+      const { width, height, steps } = this.header, wide = width + left + right, high = height + above + below, most = Math.max(wide, high);
+      if (most > limits.SECOND.maxSide) throw new Refusal(`A side is at most ${limits.SECOND.maxSide} cells.`);
+      this.edit("enlarge", (rows) => {
+        rows[this.start].text = reworded(rows[this.start].text, `layout ${wide} ${high} ${steps}`);
+        for (const part of geometry.moved(this.parts, left, above)) rows[part.line].text = reworded(rows[part.line].text, lineOf(part));
+        if (most > this.limits.maxSide) {
+          rows[0].text = unmarked(rows[0].text);
+          rows.unshift({ text: limits.SECOND.line });
+        }
+        return [];
+      });
+    }
+
     /** Returns a sentence on the line that raises the limits if a number is above them, or nothing. */
     needsLine(isAbove) { return isAbove ? limits.needsLine("A larger layout", this.limits) : ""; }
 

@@ -2,7 +2,7 @@
 "use strict";
 
 {
-  const { parts: { element, made, appendWords, delayed }, server, Model, ModelRefusal, wireInks, surveys } = bbmlab;
+  const { parts: { element, made, ask, appendWords, delayed }, server, Model, ModelRefusal, wireInks, surveys } = bbmlab;
   const REFUSAL_DELAY = 80, MAX_LEGEND = 10, NUMBERS = ["width", "height", "steps"];
   // How long the page may stand still for a run that puts the outputs where the balls end.
   const MAX_FOLLOW_MILLISECONDS = 1500;
@@ -28,6 +28,7 @@
         element(id).addEventListener("input", () => { this.typed = id; });
         element(id).addEventListener("change", () => this.resize());
       }
+      element("enlarge").addEventListener("click", () => this.chooseRoom());
       const pane = element("circuit");
       pane.addEventListener("input", () => desk.model.setHead(pane.value === "" ? "" : pane.value.replace(/\n$/, ""), "typing"));
       pane.addEventListener("blur", () => { desk.model.closeMerge(); this.showPane(true); });
@@ -57,6 +58,18 @@
       if (wasTyped) this.typed = null;
       this.showNumbers();
       return wasTyped;
+    }
+
+    /** Asks how many columns and rows are added at each side, and adds them. */
+    async chooseRoom() {
+      const fields = ["left", "above", "right", "below"].map((side) => Object.assign(made("input"), { type: "number", min: 0, max: 4096, step: 2, value: 16, ariaLabel: side }));
+      const box = made("p");
+      fields.forEach((field) => { const label = made("label", `${field.ariaLabel} `); label.append(field); box.append(label, " "); });
+      const sides = await ask("Enlarge the layout", [made("p", "Columns and rows that are added at each side: even numbers. The parts keep their distances."), box],
+        [["enlarge", () => fields.map((field) => Number(field.value))], ["cancel", () => null]]);
+      if (!sides) return;
+      const reason = refusalOf(() => this.desk.model.enlarge(...sides));
+      this.say(reason || "Enlarged.", reason !== null);
     }
 
     /** Sets size and steps by the fields. */
@@ -150,7 +163,7 @@
         legend.append(item);
       }
       if (seen.length > MAX_LEGEND) legend.append(`and ${seen.length - MAX_LEGEND} more`);
-      if (this.desk.waysMode === "all" && !isExact) legend.append(`under ${survey.choiceCount} of 2^${survey.inputCount} choices`);
+      if (this.desk.waysMode === "all" && !isExact) legend.append(` under ${survey.choiceCount} of 2^${survey.inputCount} choices`);
       if (survey.leftAt !== null) legend.append(made("span", `A ball leaves at step ${survey.leftAt}.`, "bad"));
     }
 

@@ -2,9 +2,10 @@
 "use strict";
 
 {
-  const { Stage, painting, geometry, surveys, placeNames } = bbmlab;
+  const { Stage, Buckets, changedPlaces, painting, geometry, surveys, placeNames } = bbmlab;
   const { RULER } = painting;
-  const WIRE_INKS = 8, PORT_FONT = "600 12px system-ui, sans-serif";
+  // A way in a survey has five numbers: x, y, x, y and a colour.
+  const WIRE_INKS = 8, WAY = 5, PORT_FONT = "600 12px system-ui, sans-serif";
 
   /** Returns the colours of wires as the page is shown now. */
   function wireInks() {
@@ -18,8 +19,8 @@
       super(desk.player, parts);
       // What a tool would do: parts, why they cannot be, ports of a cell; the selected parts, a frame, the keyboard's cell, faults' cells.
       Object.assign(this, { desk, ghost: null, selected: [], frame2: null, cursor: null, faults: [], hasTrails: false });
-      // The canvas that holds the layout with its ways, and whether they changed since.
-      Object.assign(this, { base: document.createElement("canvas"), isStale: true });
+      // The canvas that holds the layout with its ways, whether they changed since the last frame, and whether since the canvas was drawn.
+      Object.assign(this, { base: document.createElement("canvas"), isStale: true, isBaseStale: true });
     }
 
     /** Shows the desk's layout as it is now. */
@@ -49,11 +50,19 @@
     /** Draws at the next frame what changes while one draws: only what lies over the layout. */
     paintOver() { super.paint(); }
 
-    /** Draws the layout with its ways, from a canvas that holds it until it changes, and what lies over it. */
+    /**
+     * Draws the layout with its ways, and what lies over it. While only that changes, the layout comes from a canvas that holds it. While the picture
+     * moves, such a canvas would be drawn in vain.
+     */
     paintWhole(place, pointed = this.pointed) {
       const { pen, wide, high } = place, { width, height } = pen.canvas;
-      if (this.isStale || this.base.width !== width || this.base.height !== height) this.paintBase(place);
-      pen.drawImage(this.base, 0, 0, wide, high);
+      if (this.isStale) this.paintLayout(place);
+      else {
+        if (this.isBaseStale || this.base.width !== width || this.base.height !== height) this.paintBase(place);
+        pen.drawImage(this.base, 0, 0, wide, high);
+      }
+      this.isBaseStale ||= this.isStale;
+      this.isStale = false;
       pen.save();
       pen.beginPath();
       pen.rect(RULER.wide, RULER.high, place.wide, place.high);
@@ -71,42 +80,60 @@
       Object.assign(this.base, { width: shown.pen.canvas.width, height: shown.pen.canvas.height });
       const place = { ...shown, pen: this.base.getContext("2d") };
       place.pen.setTransform(shown.pen.getTransform());
-      this.isStale = false;
+      this.isBaseStale = false;
+      this.paintLayout(place);
+    }
+
+    /** Draws the layout with its ways and marks. */
+    paintLayout(place) {
       super.paintWhole(place, null);
-      if (this.desk.survey) { this.paintWays(place); this.paintMarks(place); }
+      if (this.desk.survey) this.paintMarks(place);
       for (const { box } of this.desk.fallen) painting.outline(place, box, place.inks.bad, [], -2, 2.5);
       for (const cell of this.faults) painting.ring(place, cell);
     }
 
-    /** Returns the ways as one path for each colour, in cells, made once for each survey. */
-    wayPaths() {
+    /** Files the ways by the squares of the layout, once for each survey. */
+    fileWays() {
       const { ways } = this.desk.survey;
-      if (this.pathsOf === ways) return this.paths;
-      this.paths = new Map();
-      for (let index = 0; index < ways.length; index += 5) {
-        const colour = ways[index + 4];
-        if (!this.paths.has(colour)) this.paths.set(colour, new Path2D());
-        const path = this.paths.get(colour);
-        path.moveTo(ways[index] + 0.5, ways[index + 1] + 0.5);
-        path.lineTo(ways[index + 2] + 0.5, ways[index + 3] + 0.5);
-      }
-      this.pathsOf = ways;
-      return this.paths;
+      if (this.filedOf === ways) return;
+      this.filed = new Buckets();
+      for (let index = 0; index < ways.length; index += WAY) this.filed.addPiece(ways[index], ways[index + 1], ways[index + 2], ways[index + 3]);
+      this.filedOf = ways;
     }
 
-    /** Draws the ways of the balls in the colours of their wires. */
-    paintWays(place) {
-      const { pen, scale, left, top } = place, inks = wireInks();
-      pen.save();
-      pen.translate(-left * scale, -top * scale);
-      pen.scale(scale, scale);
-      pen.lineWidth = Math.max(1.2 / scale, Math.min(0.16, 3 / scale));
+    /** Draws new ways at the next frame, and only the tiles again that show another way. */
+    takeWays() {
+      const { survey } = this.desk, fresh = survey ? survey.ways : [], old = this.shownWays || [], changed = new Buckets();
+      if (fresh === old) return;
+      const { gone, added } = changedPlaces(old, fresh, WAY);
+      for (const [list, places] of [[old, gone], [fresh, added]]) for (const at of places) changed.addPiece(list[at], list[at + 1], list[at + 2], list[at + 3]);
+      this.shownWays = fresh;
+      this.tiles.forget(changed);
+      this.paint();
+    }
+
+    /** Draws the ways of the balls in a range of cells, in the colours of their wires. */
+    drawWays({ pen, scale, left, top, inks: shown }, range) {
+      if (!this.desk.survey) return;
+      const { ways } = this.desk.survey, inks = wireInks(), paths = new Map();
+      this.fileWays();
+      this.filed.visit(range, (number) => {
+        const colour = ways[WAY * number + 4];
+        if (!paths.has(colour)) paths.set(colour, []);
+        paths.get(colour).push(WAY * number);
+      });
+      pen.lineWidth = Math.max(1.2, Math.min(0.16 * scale, 3));
       pen.globalAlpha = 0.75;
-      for (const [colour, path] of this.wayPaths()) {
-        pen.strokeStyle = this.inkOf(colour, inks, place);
-        pen.stroke(path);
+      for (const [colour, places] of paths) {
+        pen.strokeStyle = this.inkOf(colour, inks, { inks: shown });
+        pen.beginPath();
+        for (const index of places) {
+          pen.moveTo((ways[index] + 0.5 - left) * scale, (ways[index + 1] + 0.5 - top) * scale);
+          pen.lineTo((ways[index + 2] + 0.5 - left) * scale, (ways[index + 3] + 0.5 - top) * scale);
+        }
+        pen.stroke();
       }
-      pen.restore();
+      pen.globalAlpha = 1;
     }
 
     /** Marks where balls meet, where one meets a mirror, where one breaks a mirror, and where one leaves. */

@@ -2,7 +2,7 @@
 "use strict";
 
 {
-  const { Desk, Sketch, Tools, SidePanels, VerdictPanel, Files, server, parts: { element, made, button, notice, ask } } = bbmlab;
+  const { Desk, Sketch, Minimap, Tools, SidePanels, VerdictPanel, Files, RouterPanel, server, parts: { element, made, button, notice, ask } } = bbmlab;
   const TOOLS = { select: ["select", "v", "Press a part, or drag a frame. Drag the selection to move it."], mirror: ["mirror", "m", "Drag a mirror, or press for one of 4 by 2 cells."],
     ball: ["ball", "b", "Press to put a constant ball."], in: ["in", "i", "Press to put the ball of an input."],
     out: ["out", "o", "Press where the output's ball is at the last time."], waste: ["waste", "w", "Press where a left-over ball is at the last time."],
@@ -13,11 +13,11 @@
   const PAN_STEP = 40;
   const canvasParts = { whole: element("whole"), wave: element("wave"), waveBox: element("wave-box"), waveRest: element("wave-rest"), waveCursor: element("wave-cursor") };
   const desk = new Desk("circuit\nend\nlayout 48 48 40\nend\n", new Worker("studio/survey_worker.js"));
-  const sketch = new Sketch(desk, canvasParts);
+  const sketch = new Sketch(desk, canvasParts), minimap = new Minimap(sketch, element("map"));
   const tools = new Tools(desk, sketch, say);
   const panels = new SidePanels(desk, sketch, say);
   const verdicts = new VerdictPanel(desk, sketch);
-  const files = new Files(desk, verdicts, say);
+  const files = new Files(desk, verdicts, say), router = new RouterPanel(desk, say);
   const buttons = {};
 
   /** Says something below the picture. */
@@ -225,9 +225,9 @@
     desk.listen("change", showChange);
     desk.listen("time", showTime);
     desk.listen("end", showEnd);
-    desk.listen("ways", () => sketch.paint());
+    desk.listen("ways", () => sketch.takeWays());
     desk.listen("play", () => { element("play").textContent = desk.player.direction ? "■ stop" : "play ▶"; });
-    Object.assign(sketch, { onPaint: showCell });
+    Object.assign(sketch, { onPaint: showCell, onPainted: () => minimap.paint() });
     tools.onTool = showTool;
     tools.askLarger = (words, size) => ask("The cell is larger than the layout", [made("p", words)], [[`make the layout ${size.join(" by ")}`, () => true], ["cancel", () => null]]);
     verdicts.onInputs = () => panels.showInputs();
@@ -236,7 +236,7 @@
     element("wave-part").addEventListener("toggle", () => desk.setWave(element("wave-part").open));
     const { wave } = canvasParts, seek = (event) => { if (event.buttons & 1) desk.player.seek(sketch.timeAt(event.offsetX)); };
     for (const name of ["pointerdown", "pointermove"]) wave.addEventListener(name, seek);
-    matchMedia("(prefers-color-scheme: dark)").addEventListener("change", () => { sketch.paint(); sketch.paintWave(); panels.showLegend(); });
+    matchMedia("(prefers-color-scheme: dark)").addEventListener("change", () => { sketch.redraw(); sketch.paintWave(); panels.showLegend(); });
     document.addEventListener("keydown", onKey);
   }
 
@@ -268,5 +268,5 @@
   choose("mirror");
   begin();
   // What the tests and the console may look at.
-  bbmlab.studio = { desk, sketch, tools, verdicts, files };
+  bbmlab.studio = { desk, sketch, tools, verdicts, files, router };
 }

@@ -168,7 +168,7 @@ const bbmlab = {};
       this.direction = 1;
       this.every = snapshotStep(layout.steps);
       // Snapshots are the cells that differ from the mirrors.
-      this.snapshots = new Map([[0, Int32Array.from(differing(this.live, cells))]]);
+      this.snapshots = new Map([[0, Int32Array.from(new Set(keys.filter((key) => !cells.has(key))))]]);
       this.know(this.snapshots.get(0));
       this.leftAt = null;
       // The moves of some steps, which `trail` notes.

@@ -47,8 +47,8 @@
       const { data, layout, on } = this;
       this.values = data.circuit ? circuitValues(data.circuit, on) : null;
       this.run = new WholeRun(layout, on);
-      this.ahead = new WholeRun(layout, on);
-      this.ahead.snapshots = this.run.snapshots;
+      // The snapshots are shared.
+      this.ahead = this.run.copy();
       this.recorder = new waveform.Recorder(this.probes, this.ahead);
       this.isEnded = false;
       clearTimeout(this.aheadTimer);

@@ -2,7 +2,7 @@
 "use strict";
 
 {
-  const { mirrorsOf, Buckets, Tiles, Wires, SvgPen, trail, painting, waveform, address } = bbmlab;
+  const { mirrorsOf, Buckets, Tiles, changedPlaces, Wires, SvgPen, trail, painting, waveform, address } = bbmlab;
   const { RULER } = painting;
   // A trail has so many steps, and fewer if the balls are many: 24,000 moves take 15 ms of a frame to draw without a graphics processor.
   const TRAIL_STEPS = 24, MAX_MOVES = 8000, FIT_SCALE = 60;
@@ -20,17 +20,26 @@
       this.takeMirrors();
     }
 
-    /** Notes the cells of the layout's mirrors, and begins new tiles. */
+    /** Notes the cells of the layout's mirrors. Tiles of a layout of the same size are kept where its mirrors are the same. */
     takeMirrors() {
-      const { layout } = this, filed = new Buckets();
+      const { layout, tiles, boxes } = this;
       this.mirrors = mirrorsOf(layout).cells;
-      for (const box of layout.mirrors) filed.addBox(...box);
-      this.tiles = new Tiles(layout, (place, range) => {
-        const found = [], inks = painting.inksNow();
-        filed.visit(range, (number) => found.push(layout.mirrors[number]));
-        this.drawWays({ ...place, inks }, range);
-        painting.bars({ ...place, inks }, found, 1);
-      });
+      this.boxes = layout.mirrors;
+      this.filedBoxes = new Buckets();
+      for (const box of layout.mirrors) this.filedBoxes.addBox(...box);
+      if (!tiles || tiles.width !== layout.width || tiles.height !== layout.height) { this.tiles = new Tiles(layout, (place, range) => this.drawTile(place, range)); return; }
+      const { gone, added } = changedPlaces(boxes.flat(), layout.mirrors.flat(), 4), changed = new Buckets();
+      for (const at of gone) changed.addBox(...boxes[at / 4]);
+      for (const at of added) changed.addBox(...layout.mirrors[at / 4]);
+      tiles.forget(changed);
+    }
+
+    /** Draws what is still in a range of cells: the ways, if they are shown, and the mirrors over them. */
+    drawTile(place, range) {
+      const found = [], shown = { ...place, inks: painting.inksNow() };
+      this.filedBoxes.visit(range, (number) => found.push(this.boxes[number]));
+      this.drawWays(shown, range);
+      painting.bars(shown, found, 1);
     }
 
     /** Draws the ways of a range of cells, if they are shown. */

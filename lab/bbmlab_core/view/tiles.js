@@ -59,6 +59,22 @@
     }
   }
 
+  /** Returns the places in two flat lists of the groups of numbers that are only in one of them. A group has at most five numbers below 8192. */
+  function changedPlaces(old, fresh, size) {
+    const keysOf = (list) => {
+      const keys = new Map();
+      for (let at = 0; at < list.length; at += size) {
+        let key = 0;
+        for (let index = 0; index < Math.min(4, size); index += 1) key = key * 8192 + list[at + index];
+        // Four numbers fill what a number can hold: the fifth one tells apart what is at one place.
+        keys.set(size > 4 ? `${key} ${list[at + 4]}` : key, at);
+      }
+      return keys;
+    };
+    const before = keysOf(old), after = keysOf(fresh);
+    return { gone: [...before].filter(([key]) => !after.has(key)).map(([, at]) => at), added: [...after].filter(([key]) => !before.has(key)).map(([, at]) => at) };
+  }
+
   /** Writes the number of a tile. */
   const nameOf = (level, column, row) => `${level} ${column} ${row}`;
 
@@ -73,6 +89,16 @@
 
     /** Forgets all tiles: what they show has changed. */
     clear() { this.made.clear(); }
+
+    /** Forgets the tiles that show something of what is filed. @param {Buckets} changed */
+    forget(changed) {
+      for (const name of [...this.made.keys()]) {
+        const [level, column, row] = name.split(" ").map(Number), cells = SIDE / 2 ** level;
+        let isTouched = false;
+        changed.visit([column * cells, row * cells, (column + 1) * cells - 1, (row + 1) * cells - 1], () => { isTouched = true; });
+        if (isTouched) this.made.delete(name);
+      }
+    }
 
     /** Returns the level whose scale is the next at or above one. */
     levelOf(scale) { return Math.max(this.coarsest, Math.min(FINEST, Math.ceil(Math.log2(scale)))); }
@@ -130,5 +156,5 @@
     }
   }
 
-  Object.assign(bbmlab, { Tiles, Buckets });
+  Object.assign(bbmlab, { Tiles, Buckets, changedPlaces });
 }
