@@ -411,14 +411,14 @@ def ball_ways(document: Document, on: list[str] | None, until: int, is_directed:
     return ways, {name: ", ".join(same) for name, same in equal.items()}
 
 
-def by_levels(drawing: Drawing, circuit: Circuit) -> list[str]:
-    """Gives the ways of many wires to groups of levels, and returns the groups. A level counts the gates from the inputs to a wire."""
+def by_levels(drawing: Drawing, circuit: Circuit, most_wires: int = MAX_LEGEND) -> list[str]:
+    """Gives the ways of more wires than some to groups of levels, and returns the groups. A level counts the gates from the inputs to a wire."""
     levels = dict.fromkeys(circuit.inputs, 0)
     for gate in circuit.gates:
         level = max((levels[wire] for wire in gate.ins), default=0) + (gate.word not in ("source", "delay"))
         levels.update((wire, level) for wire in gate.outs)
     present = [wire for wire in drawing.ways if wire in levels]
-    if len(present) <= MAX_LEGEND:
+    if len(present) <= most_wires:
         return list(levels)
     most = max(levels[wire] for wire in present) + 1
     size = -(-most // len(COLOURS))

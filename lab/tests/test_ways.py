@@ -1,7 +1,10 @@
 """The ways of the balls in pictures: those of the block rule, step by step, and how many wires of a large layout are shown."""
 
 import random
+import re
+import tempfile
 import unittest
+from pathlib import Path
 
 import support
 from bbmlab_core import drawing
@@ -165,6 +168,18 @@ class Large(unittest.TestCase):
             self.assertLessEqual(len([name for name in names if name.startswith("level")]), 8)
             self.assertEqual(sum(len(steps_of(pieces)) for pieces in shown.ways.values()), steps)
             self.assertEqual(set(shown.ways) - set(names) - {"1", ""}, set())
+
+    def test_large_pictures_have_no_dashes(self) -> None:
+        """In a large layout nine wires are grouped by levels, since dashes could not be told apart there; what is no wire's is dotted."""
+        text = self.text(9).split("certificate")[0]
+        with tempfile.TemporaryDirectory() as room:
+            path = Path(room, "nine.txt")
+            path.write_text(text)
+            large = picture_of(read_design(str(path)), None, None)
+        self.assertIn(">level 0<", large)
+        self.assertNotIn(">w1<", large)
+        # The ways of wires have no dashes: those of what is no wire's have class w8.
+        self.assertEqual(re.findall(r'class="way w[0-7]"[^>]*stroke-dasharray', large), [])
 
     def test_gates_are_outlined(self) -> None:
         """In a large layout the modules that use gates are outlined, but for the smallest ones, and borders of modules are left out."""

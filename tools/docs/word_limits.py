@@ -23,13 +23,13 @@ LIMITS = {
     "docs/GLOSSARY.md": 1050,
     "docs/GUIDE.md": 5100,
     "docs/JSON.md": 1050,
-    "docs/LAB.md": 1250,
+    "docs/LAB.md": 1500,
     "docs/OPERATING.md": 2550,
     "docs/PHYSICS.md": 1100,
-    "docs/STUDIO.md": 1000,
+    "docs/STUDIO.md": 1100,
     "docs/TESTING.md": 1500,
     "examples/README.md": 980,
-    "lab/README.md": 400,
+    "lab/README.md": 440,
 }
 
 # What all pages together may take. Outside the sum are pages to look things up in, which nobody reads from end to end: the catalogue of

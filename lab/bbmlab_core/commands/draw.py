@@ -39,7 +39,9 @@ def picture_of(design: tuple[Document, Layout], names: str | None, time: int | N
     for finding in report.faults if report else []:
         if "x" in finding.values:
             picture.faults.append(((finding.number("x"), finding.number("y")), finding.text))
-    wires = drawing.by_levels(picture, document.circuit) if document.circuit else tracing.port_names(layout)
+    # In a large layout dashes cannot be told apart.
+    most = len(drawing.COLOURS) if is_large else drawing.MAX_LEGEND
+    wires = drawing.by_levels(picture, document.circuit, most) if document.circuit else tracing.port_names(layout)
     return drawing.svg(layout, picture, wires)
 
 

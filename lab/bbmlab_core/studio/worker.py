@@ -74,7 +74,8 @@ def picture(document: Document, layout: Layout, name: str) -> str:
     on = tracing.chosen_inputs(document, None)
     shown.ways, shown.labels = drawing.ball_ways(document, None, layout.steps)
     shown.title = f"{name}: ways of the balls{drawing.sampled_words(document)}"
-    return drawing.svg(layout, shown, drawing.by_levels(shown, document.circuit) if document.circuit else on)
+    most = len(drawing.COLOURS) if max(layout.width, layout.height) > drawing.LARGE_SIDE else drawing.MAX_LEGEND
+    return drawing.svg(layout, shown, drawing.by_levels(shown, document.circuit, most) if document.circuit else on)
 
 
 JOBS = {"verdict": verdict, "explain": explain, "export": export}
