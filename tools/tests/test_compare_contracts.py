@@ -46,7 +46,7 @@ class CompareContracts(planted.Planted):
         self.assert_listed("the type or constant Finding", "was: pub struct Finding", "ghost honest:")
 
     def test_ghost_item_that_is_always_false(self) -> None:
-        path = "crates/streams/src/watched.rt"
+        path = "crates/streams/src/over.rt"
         text = (self.top / path).read_text()
         (self.top / path).write_text(text.replace("ghost has_failed = { λ s. failed_of s };", "ghost has_failed = { λ s. false };"))
         self.assert_listed("the ghost item has_failed of", "now: ghost has_failed = { λ s. false }")

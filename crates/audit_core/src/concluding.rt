@@ -191,7 +191,7 @@ fn faults_in_full_book(alloc: Global, book: &BookState) -> Result<Vec<LeastFault
 fn least_faults_of(finding: &Finding) -> LeastFaults
     ensures { AreLeastFaultsOfJob (job_of finding.now) result }
 {
-    let keep = match finding.keep_fault() {
+    let keep = match finding.keep() {
         Some(keep) => Some(KeepFault {
             gate: finding.job().gate_number(keep.gate) as usize,
             assignment: keep.assignment,

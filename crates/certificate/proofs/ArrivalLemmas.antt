@@ -16,7 +16,7 @@ use Rattle.certificate.specs.Laws.{ObeyedLinesAreOnTime, TimeLinesAreTrue}
 use Rattle.certificate.specs.Times.{common_time, delay_line_of_kind, first_seen, gap_between, is_obeyed, last_seen}
 use Rattle.certificate.specs.Times.{meet_line_of_times, first_wire_time}
 use Rattle.certificate.specs.declared.times.StopGap.{StopGap}
-use Rattle.certificate.specs.declared.times.StopGap.TheVariants.{Steps, NoStop, Before}
+use Rattle.certificate.specs.declared.times.StopGap.TheVariants.{Steps, Missing, Before}
 use Rattle.certificate.proofs.SeenLaws.{first_is_least, last_is_greatest}
 use Rattle.certificate.specs.declared.times.TimeLine.TheVariants as line
 
@@ -81,12 +81,12 @@ gap_steps (Some l) None m e = absurd cc
 gap_steps (Some l) (Some f) m e = let parts = if_before (nat_lt f l) (f - l) m e in
     (l, refl, ap Some (later_by l f m parts.0 parts.1))
 
-gap_missing : (last first : Option ℕ) (l f : ℕ) → gap_between last first ≡ NoStop → last ≡ Some l → first ≡ Some f → ⊥
+gap_missing : (last first : Option ℕ) (l f : ℕ) → gap_between last first ≡ Missing → last ≡ Some l → first ≡ Some f → ⊥
 gap_missing None first l f e p q = absurd cc
 gap_missing (Some k) None l f e p q = absurd cc
 gap_missing (Some k) (Some g) l f e p q = by_case (nat_lt g k) e
   where
-    by_case : (b : Bool) → (if b then Before else Steps (g - k)) ≡ NoStop → ⊥
+    by_case : (b : Bool) → (if b then Before else Steps (g - k)) ≡ Missing → ⊥
     by_case true e = cc
     by_case false e = cc
 
@@ -114,7 +114,7 @@ takes c ss m a b e = grind (arith, common_steps, gap_steps, is_last, is_first)
 gap_tells : (c : Circuit) (ss : List StopLine) (a b : ℕ) (gap : StopGap) →
     gap_between (last_seen c ss a) (first_seen c ss b) ≡ gap → IsDelayGapTrue c ss gap a b
 gap_tells c ss a b (Steps m) e = takes c ss m a b e
-gap_tells c ss a b NoStop e = λ s t last first. gap_missing _ _ s t e (last_is c ss a s last) (first_is c ss b t first)
+gap_tells c ss a b Missing e = λ s t last first. gap_missing _ _ s t e (last_is c ss a s last) (first_is c ss b t first)
 gap_tells c ss a b Before e = grind (arith, common_steps, gap_before, is_last, is_first)
 
 -- ---- meetings

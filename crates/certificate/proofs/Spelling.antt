@@ -12,7 +12,8 @@ use Rattle.section_text.specs.Spelling.{line_text}
 use Rattle.section_text.proofs.Spellings.{chosen, passed, number_at_spelled, one_word, two_words, five_words}
 use Rattle.section_text.proofs.WordPlaces.{is_at_is, name_at_is, line_from_words}
 use Rattle.pattern.specs.Text.{natural_or_zero, box_words}
-use Rattle.certificate_lines.specs.Forms.{Line, star_or_time_at_word, one_or_name_at_word, border_of_five_words}
+use Rattle.certificate_lines.specs.Forms.{CertificateForm, star_or_time_at_word, one_or_name_at_word}
+use Rattle.certificate_lines.specs.Forms.{border_of_five_words}
 use Rattle.certificate_lines.specs.Forms.{border_of, stop_of_five_words, stop_of, form_of}
 use Rattle.pattern.proofs.Spelling.{cell_spelled, box_spelled}
 use Rattle.certificate.specs.Text.{star_or_time_word, one_or_name_word, border_words, stop_words}
@@ -73,7 +74,7 @@ unfolding name_after_keyword
 name_spelled ws v n at e = grind (arith, common_steps, passed, two_words, eqb-true, is_at_is, name_at_is)
 
 -- the first word of a form, and the others
-spelled : Line → List ℕ × List (List ℕ)
+spelled : CertificateForm → List ℕ × List (List ℕ)
 spelled (Header version) = (codes "certificate", decimal version ∷ [])
 spelled (Item (Module b)) = (codes "module", box_words b)
 spelled (Item (Cut n)) = (codes "cut", n ∷ [])
@@ -84,15 +85,15 @@ spelled (Item (Halo b)) = (codes "halo", border_words b)
 spelled (Item (Stop s)) = (codes "stop", stop_words s)
 spelled End = (codes "end", [])
 
-abbrev SpelledAs : List (List ℕ) → Line → Type 0
+abbrev SpelledAs : List (List ℕ) → CertificateForm → Type 0
 SpelledAs ws f = ws ≡ (spelled f).0 ∷ (spelled f).1
 
-by_test : {Q : Type 0} (b : Bool) (x y : Option Line) (f : Line) → (if b then x else y) ≡ Some f →
+by_test : {Q : Type 0} (b : Bool) (x y : Option CertificateForm) (f : CertificateForm) → (if b then x else y) ≡ Some f →
     (b ≡ true → x ≡ Some f → Q) → (y ≡ Some f → Q) → Q
 by_test true x y f e here later = here refl e
 by_test false x y f e here later = later e
 
-form_words : (ws : List (List ℕ)) (f : Line) → form_of ws ≡ Some f → SpelledAs ws f
+form_words : (ws : List (List ℕ)) (f : CertificateForm) → form_of ws ≡ Some f → SpelledAs ws f
 unfolding form_of if_one_word spelled
 form_words ws f e =
     by_test (is_word_at ws 0 (codes "edge")) _ _ f e
@@ -122,11 +123,11 @@ form_words ws f e =
       is_at_is,
     ))))))))
 
-text_of : (f : Line) → form_text f ≡ line_text (spelled f).0 (spelled f).1
+text_of : (f : CertificateForm) → form_text f ≡ line_text (spelled f).0 (spelled f).1
 unfolding spelled
 text_of (Item (Module b)) = refl
 text_of _ = refl
 
-pub form_line : (l : List ℕ) (f : Line) → form_of (words_of l) ≡ Some f → with_line_feed l ≡ form_text f
+pub form_line : (l : List ℕ) (f : CertificateForm) → form_of (words_of l) ≡ Some f → with_line_feed l ≡ form_text f
 form_line l f e =
     rw (text_of f) (ap with_line_feed (line_from_words l (spelled f).0 (spelled f).1 (form_words (words_of l) f e)))

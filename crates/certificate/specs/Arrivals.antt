@@ -6,7 +6,7 @@ use Rattle.circuit.specs.Meaning.{Circuit, Gate}
 use Rattle.certificate.specs.Times.{stop_times_of_wire}
 use Rattle.certificate_lines.specs.declared.certificate_line.StopLine.{StopLine}
 use Rattle.certificate.specs.declared.times.StopGap.{StopGap}
-use Rattle.certificate.specs.declared.times.StopGap.TheVariants.{Steps, NoStop, Before}
+use Rattle.certificate.specs.declared.times.StopGap.TheVariants.{Steps, Missing, Before}
 use Rattle.certificate.specs.declared.times.TimeLine.{TimeLine}
 use Rattle.certificate.specs.declared.times.TimeLine.TheVariants as line
 
@@ -44,7 +44,7 @@ pub record AreOnTime (c : Circuit) (ss : List StopLine) : Type 0 where
 -- that one of them has no stop, or that the first time of the second comes before the last of the first
 abbrev pub IsDelayGapTrue : Circuit → List StopLine → StopGap → (a b : ℕ) → Type 0
 IsDelayGapTrue c ss (Steps m) a b = TakesSteps c ss m a b
-IsDelayGapTrue c ss NoStop a b = (s t : ℕ) → IsLastTime c ss a s → ¬ IsFirstTime c ss b t
+IsDelayGapTrue c ss Missing a b = (s t : ℕ) → IsLastTime c ss a s → ¬ IsFirstTime c ss b t
 IsDelayGapTrue c ss Before a b = (s : ℕ) × (t : ℕ) × IsLastTime c ss a s × IsFirstTime c ss b t × (t < s)
 
 -- what is told of a gate's inputs: the time at which they meet, or that there is none

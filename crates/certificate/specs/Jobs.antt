@@ -19,7 +19,9 @@ use Rattle.certificate_lines.specs.declared.certificate_line.StopLine.{StopLine}
 use Rattle.module_job.specs.declared.job.Demand.{Demand}
 use Rattle.module_job.specs.declared.job.Demand.TheVariants as Demanded
 use Rattle.module_job.specs.declared.job.Stop.{Stop}
+use Rattle.module_job.specs.Groups.{AreGroups}
 use Rattle.module_job.specs.Jobs.{JobView, job_start, job_demand, NamesOwnWires}
+use Rattle.module_job.specs.Shapes.{shape_of}
 use Rattle.certificate_lines.specs.PortTables.{port_at}
 
 -- ---- what a layout and the lines of a module ask for, by the wires of the circuit
@@ -118,3 +120,9 @@ pub record AreJobsOf (c : Circuit) (p : Pattern) (ms : List ModuleLines) (js : L
   pub count : length js ≡ length ms
   pub each : (k : ℕ) (m : ModuleLines) (j : JobView) → slice_get ms k ≡ Some m → slice_get js k ≡ Some j →
       IsJobOf c p m j
+
+-- the groups of the modules by the shapes of their jobs: for each module the first whose job has the same shape
+pub record HasGroups (c : Circuit) (p : Pattern) (ms : List ModuleLines) (groups : List ℕ) : Type 0 where
+  pub jobs : List JobView
+  pub are_jobs : AreJobsOf c p ms jobs
+  pub are_groups : AreGroups (map shape_of jobs) groups

@@ -10,7 +10,7 @@ use Rattle.certificate_lines.specs.declared.certificate_line.CertificateLine.{Ce
 use Rattle.certificate_lines.specs.declared.certificate_line.StopLine.{StopLine}
 use Rattle.certificate_lines.specs.declared.certificate_line.CertificateLine.TheVariants.{Module, Cut, Use, Keep, Edge}
 use Rattle.certificate_lines.specs.declared.certificate_line.CertificateLine.TheVariants.{Halo, Stop}
-use Rattle.certificate_lines.specs.Forms.{Line}
+use Rattle.certificate_lines.specs.Forms.{CertificateForm}
 use Rattle.certificate.specs.Grammars.{CertView}
 
 -- a time, or `*` for every odd time
@@ -42,7 +42,7 @@ entry_text (Halo e) = line_text (codes "halo") (border_words e)
 entry_text (Stop s) = line_text (codes "stop") (stop_words s)
 
 -- the text of a line, by its form
-abbrev pub form_text : Line → List ℕ
+abbrev pub form_text : CertificateForm → List ℕ
 form_text (Header version) = line_text (codes "certificate") (decimal version ∷ [])
 form_text (Item entry) = entry_text entry
 form_text End = line_text (codes "end") []

@@ -9,7 +9,7 @@ use Rattle.circuit.specs.Meaning.{Circuit, Gate, wire_of}
 use Rattle.certificate_lines.specs.Entries.{ModuleLines, stops}
 use Rattle.certificate_lines.specs.declared.certificate_line.StopLine.{StopLine}
 use Rattle.certificate.specs.declared.times.StopGap.{StopGap}
-use Rattle.certificate.specs.declared.times.StopGap.TheVariants.{Steps, NoStop, Before}
+use Rattle.certificate.specs.declared.times.StopGap.TheVariants.{Steps, Missing, Before}
 use Rattle.certificate.specs.declared.times.TimeLine.{TimeLine}
 use Rattle.certificate.specs.declared.times.TimeLine.TheVariants as line
 
@@ -49,8 +49,8 @@ last_seen c ss w = fold later None (stop_times_of_wire c ss w)
 
 -- from the last time of one wire to the first time of another
 abbrev pub gap_between : Option ℕ → Option ℕ → StopGap
-gap_between None first = NoStop
-gap_between (Some last) None = NoStop
+gap_between None first = Missing
+gap_between (Some last) None = Missing
 gap_between (Some last) (Some first) = if nat_lt first last then Before else Steps (first - last)
 
 -- the time of the first of these wires
@@ -111,7 +111,7 @@ delay_and_meet_lines c ms = time_lines_of_gates (first_seen c (all_stops ms))
 -- a delay takes as many steps as it says, and inputs meet at one time
 abbrev pub is_obeyed : TimeLine → Bool
 is_obeyed (line.Delay k n (Steps m)) = m == n
-is_obeyed (line.Delay k n NoStop) = false
+is_obeyed (line.Delay k n Missing) = false
 is_obeyed (line.Delay k n Before) = false
 is_obeyed (line.Meet k (Some t)) = true
 is_obeyed (line.Meet k None) = false

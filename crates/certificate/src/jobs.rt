@@ -10,7 +10,7 @@ ghost use Rattle.certificate.specs.Grammars.{modules_in, version_number};
 ghost use Rattle.certificate_lines.specs.Entries.{areas};
 ghost use Rattle.certificate_lines.specs.Settings.{setting_of};
 ghost use Rattle.certificate.specs.GoodModules.{AreGoodModules, AreOwnersOf, IsGoodModule, with_lines};
-ghost use Rattle.certificate.specs.Jobs.{AreJobsOf, IsJobOf};
+ghost use Rattle.certificate.specs.Jobs.{AreJobsOf, HasGroups, IsJobOf};
 ghost use Rattle.certificate_lines.specs.BuilderView.{IsWithinMaxSize};
 ghost use Rattle.certificate_lines.specs.StoredModules.{cell_at, module_lines_with};
 ghost use Rattle.module_job.specs.Shapes.{signals_in_plane, stops_in_plane};
@@ -30,7 +30,7 @@ use crate::stops::stops_of;
 use crate::version::Version;
 use certificate_lines::{StoredBorder, StoredModule, StoredStop};
 use module_box::{Box2, Locals, Owners, Schedule};
-use module_job::{Job, Shape, Stop, moved_stops, shift_to_origin};
+use module_job::{Job, Shape, Stop, job_groups, moved_stops, shift_to_origin};
 use std::alloc::{AllocError, Global};
 use std::sync::Arc;
 
@@ -216,5 +216,16 @@ impl<'a> Cert<'a> {
     {
         let tables = LayoutTables::new(alloc, self.circuit, self.layout, &self.ports)?;
         jobs_of_version(alloc, &tables, self.version, &self.owners, &self.modules)
+    }
+
+    /// Returns for each module the number of the first whose job has the same shape.
+    ///
+    /// It makes the jobs for it. If you have them, [`job_groups`] is cheaper.
+    pub fn groups(&self, alloc: Global) -> Result<Vec<usize>, AllocError>
+        ensures { IfOk result (λ groups. HasGroups (circuit_of self.now.circuit) self.now.layout
+            (modules_in self.now) groups.items) }
+    {
+        let jobs = self.jobs(alloc)?;
+        job_groups(alloc, &jobs)
     }
 }

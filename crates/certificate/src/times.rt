@@ -21,7 +21,7 @@ pub enum StopGap {
     /// The number of steps.
     Steps(u32),
     /// One of the two wires has no stop.
-    NoStop,
+    Missing,
     /// The first stop comes before the last one.
     Before,
 }
@@ -143,7 +143,7 @@ fn gap_between(last: Option<u32>, first: Option<u32>) -> StopGap
     match (last, first) {
         (Some(last), Some(first)) if first < last => StopGap::Before,
         (Some(last), Some(first)) => StopGap::Steps(first - last),
-        _ => StopGap::NoStop,
+        _ => StopGap::Missing,
     }
 }
 

@@ -9,9 +9,9 @@ use Rattle.section_text.specs.Listed.{list_of_five_words}
 use Rattle.section_text.specs.Words.{words_of_five, is_word, if_one_word, name_after_keyword, number_after_keyword}
 use Rattle.section_text.specs.declared.words.FiveWords.{FiveWords}
 use Rattle.section_text.specs.declared.section.Form.TheVariants.{Header, End}
-use Rattle.certificate_lines.specs.Forms.{Line, form_of_not_five_words}
+use Rattle.certificate_lines.specs.Forms.{CertificateForm, form_of_not_five_words}
 
-same_none : (b : Bool) (x : Option Line) → x ≡ None → (if b then None else x) ≡ None
+same_none : (b : Bool) (x : Option CertificateForm) → x ≡ None → (if b then None else x) ≡ None
 same_none true x e = refl
 same_none false x e = e
 

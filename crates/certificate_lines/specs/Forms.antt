@@ -12,8 +12,8 @@ use Rattle.certificate_lines.specs.declared.certificate_line.BorderLine.{BorderL
 use Rattle.certificate_lines.specs.declared.certificate_line.StopLine.{StopLine}
 
 -- the header is its version
-abbrev pub Line : Type 0
-Line = Form ℕ CertificateLine
+abbrev pub CertificateForm : Type 0
+CertificateForm = Form ℕ CertificateLine
 
 -- `*`, or a time
 unfoldable pub star_or_time_at_word : List (List ℕ) → ℕ → Option (Option ℕ)
@@ -48,7 +48,7 @@ unfoldable pub stop_of : List (List ℕ) → Option StopLine
 stop_of ws = if length ws == 5 then stop_of_five_words ws else None
 
 -- the form of a line by its words, if it has one
-unfoldable pub form_of : List (List ℕ) → Option Line
+unfoldable pub form_of : List (List ℕ) → Option CertificateForm
 form_of ws =
     if is_word_at ws 0 (codes "edge") then (border_of ws >>= λ e. Some (Item (Edge e)))
     else if is_word_at ws 0 (codes "halo") then (border_of ws >>= λ e. Some (Item (Halo e)))
@@ -62,7 +62,7 @@ form_of ws =
     else None
 
 -- the line that words mean which are not five, and which begin with no word of a line about a cell
-unfoldable pub form_of_not_five_words : List (List ℕ) → Option Line
+unfoldable pub form_of_not_five_words : List (List ℕ) → Option CertificateForm
 form_of_not_five_words ws =
     if is_word_at ws 0 (codes "cut") then (name_after_keyword ws >>= λ n. Some (Item (Cut n)))
     else if is_word_at ws 0 (codes "use") then (number_after_keyword ws >>= λ k. Some (Item (Use k)))

@@ -5,7 +5,7 @@ ghost use Rattle.std.specs.Str.{bytes_eq};
 ghost use Rattle.section_text.specs.Listed.{list_of_five_words};
 ghost use Rattle.section_text.specs.Words.{words_of, if_one_word};
 ghost use Rattle.section_text.specs.Feeds.{IsLine, line_bytes};
-ghost use Rattle.certificate_lines.specs.Forms.{Line as FormLine, border_of, form_of, form_of_not_five_words, stop_of};
+ghost use Rattle.certificate_lines.specs.Forms.{CertificateForm, border_of, form_of, form_of_not_five_words, stop_of};
 ghost use Rattle.certificate_lines.specs.BorderWords.{leading_star_or_time, one_or_name_from_word};
 
 use crate::certificate_line::{BorderLine, CertificateLine, OneOrName, StopLine};
@@ -77,7 +77,7 @@ fn stop_of_words(words: &FiveWords) -> Option<StopLine>
 fn end_form(feed: &Feed, line: &Line) -> Option<Form<u32, CertificateLine>>
     requires { IsLine feed.now line.now }
     ensures { result
-        ≡ if_one_word {A = FormLine} (words_of (line_bytes feed.now line.now)) Form.End }
+        ≡ if_one_word {A = CertificateForm} (words_of (line_bytes feed.now line.now)) Form.End }
 {
     if feed.words(line) == 1 {
         Some(Form::End)

@@ -176,6 +176,7 @@ fn may_line_have_time(steps: u32, starred: bool, time: Option<u32>) -> bool
 }
 
 /// Returns whether an edge line may have its cell and time.
+#[inline(always)]
 #[tactic(auto, unfolding(crate::specs::Rules::is_edge_place_and_time))]
 pub(crate) fn may_edge_be_there(
     size: LayoutHeader,
@@ -195,6 +196,7 @@ pub(crate) fn may_edge_be_there(
 }
 
 /// Returns whether a halo line may have its cell and time.
+#[inline(always)]
 #[tactic(auto, unfolding(crate::specs::Rules::is_halo_place_and_time))]
 pub(crate) fn may_halo_be_there(
     size: LayoutHeader,

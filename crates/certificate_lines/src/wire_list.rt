@@ -14,8 +14,8 @@ const FIRST_CAPACITY: usize = 64;
 
 /// Wires of a circuit, in the order in which they were added.
 ///
-/// To look a wire up takes the same time however many there are, and computes no hash. The bits serve one module after
-/// the other. They take memory once there is room for a wire, for as many wires as the circuit has.
+/// To look a wire up takes the same time however many there are, and computes no hash. The list serves one module after
+/// the other. Its bits, one for each wire of the circuit, take memory when room for a first wire is made.
 #[derive(Drop)]
 pub(crate) struct WireList {
     wires: Vec<u16>,

@@ -11,7 +11,7 @@ use Rattle.answers.specs.declared.outcome.Outcome.{Outcome}
 use Rattle.check_main.specs.declared.fault.CheckFault.{CheckFault}
 use Rattle.check_main.specs.declared.fault.CheckFault.TheVariants.{Read, Write, TooLong}
 
--- the text is no longer than it may be, with its first line
+-- the text is no longer than its first line allows
 unfoldable pub IsWithinLimit : List ℕ → Type 0
 IsWithinLimit text = length text ≤ own_text_limit text
 

@@ -59,7 +59,8 @@ pub struct Streams<R, W, E> {
 /// - 1: the verdict is no, a ball left the rectangle, or a gate has no row for its inputs
 /// - 2: the words were refused
 /// - 3: the text was refused, and `writer` has the line and the code
-/// - 4: `reader` or `writer` failed, or the text is longer than 16 MiB
+/// - 4: `reader` or `writer` failed, or the text is longer than 16 MiB, or than 256 MiB if it begins with the line
+///   `limits 2`
 /// - 5: memory ran out
 ///
 /// `errors` gets what is wrong with the words, and a line for a status of 4 or 5. A write to it that fails changes

@@ -19,4 +19,4 @@ pub use front::{Streams, WORDS_REFUSED, program, status_of};
 pub use job_pool::{Gate, OpenGate};
 pub use section_text::{Feed, PushFault};
 pub use stream::{check_stream, migrate_stream, modules_stream, run_stream, value_stream};
-pub use streams::{Prompting, Retrying, Sink, Source, Watched};
+pub use streams::{Over, Prompting, Retrying, Sink, Source};

@@ -1,6 +1,7 @@
 -- The gates of good lines are ordered.
 use Rattle.circuit.proofs.Imports.{All, AreGoodAfter, AreGoodCircuitLines, AreOrdered, Bool, CircuitLine, Gate}
-use Rattle.circuit.proofs.Imports.{GateKind, Kind, List, None, Option, RefusalCode, Some, [], add_fault, ap, append-nil}
+use Rattle.circuit.proofs.Imports.{GateKind, Kind, List, None, Option, RefusalCode, Some, [], added_line_code, ap}
+use Rattle.circuit.proofs.Imports.{append-nil}
 use Rattle.circuit.proofs.Imports.{append_assoc, ap₂, arith, cases_Bool, common_steps, cond, consume_fault, consumed}
 use Rattle.circuit.proofs.Imports.{define_fault, defined, false, flat_map-append, gate_count, gate_of_line_kind}
 use Rattle.circuit.proofs.Imports.{gate_with_outs_from, gates_of, has, inl, input_count, inr, is_gate, is_input, length}
@@ -18,9 +19,9 @@ or_else_none : (a b : Option RefusalCode) → or_else a b ≡ None → (a ≡ No
 or_else_none None b e = (refl, e)
 or_else_none (Some c) b e = grind (arith, common_steps)
 
-pub names_pass : (before : List CircuitLine) (r : CircuitLine) → add_fault before r ≡ None →
+pub names_pass : (before : List CircuitLine) (r : CircuitLine) → added_line_code before r ≡ None →
     (consume_fault (defined before) (consumed before) r.ins ≡ None) × (define_fault (defined before) r.outs ≡ None)
-unfolding add_fault
+unfolding added_line_code
 names_pass before r e = or_else_none _ _ (or_else_none (limit_fault before r) (name_fault before r) e).1
 
 -- ---- names that are newly defined

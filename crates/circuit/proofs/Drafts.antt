@@ -1,5 +1,6 @@
 -- A draft with one more line.
-use Rattle.circuit.proofs.Imports.{Bool, CircuitLine, FitsKind, IsNoInputAfterGate, List, None, Some, [], add_fault}
+use Rattle.circuit.proofs.Imports.{Bool, CircuitLine, FitsKind, IsNoInputAfterGate, List, None, Some, []}
+use Rattle.circuit.proofs.Imports.{added_line_code}
 use Rattle.circuit.proofs.Imports.{arith, bytes_eq, common_steps, cond, consume_fault, consumed, define_fault, defined}
 use Rattle.circuit.proofs.Imports.{exceeds_limit, false, gate_count, gate_of, gate_with_outs_from, get_or, has, is_gate}
 use Rattle.circuit.proofs.Imports.{length, map, number, position, take, true, with_marks_set, ℕ, ◌++◌, ◌+◌, ◌∷◌, ◌≡◌}
@@ -14,8 +15,8 @@ use Rattle.lemmas.specs.Bounds.{max_gates, max_wires}
 
 no_fault : (entries : List CircuitLine) (r : CircuitLine) → exceeds_limit entries r ≡ false →
     consume_fault (defined entries) (consumed entries) r.ins ≡ None → define_fault (defined entries) r.outs ≡ None →
-    add_fault entries r ≡ None
-unfolding add_fault
+    added_line_code entries r ≡ None
+unfolding added_line_code
 no_fault entries r limit ins outs = rw (limit, ins) outs
 
 -- what is known of the new fields

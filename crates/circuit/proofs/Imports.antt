@@ -13,7 +13,7 @@ unfoldable pub use Rattle.circuit.specs.Gates.{row}
 pub use Rattle.circuit.specs.Meaning.{Gate, HasRow, Netlist, Satisfies, Valuation, wires}
 unfoldable pub use Rattle.circuit.specs.Meaning.{AreOrdered, number, wires_after}
 pub use Rattle.circuit.specs.Rules.{consume_fault, consumed, define_fault, exceeds_limit, gate_count, is_gate}
-unfoldable pub use Rattle.circuit.specs.Rules.{add_fault}
+unfoldable pub use Rattle.circuit.specs.Rules.{added_line_code}
 pub use Rattle.circuit.specs.Text.{Line, form_text}
 unfoldable pub use Rattle.circuit.specs.Text.{entry_text, value_lines}
 pub use Rattle.circuit.specs.Wiring.{gate_of, gate_with_outs_from, with_marks_set}

@@ -1,5 +1,5 @@
 -- The first limits are those of old, and the second ones let in more.
-use Rattle.circuit.proofs.Imports.{Bool, None, Option, RefusalCode, Some, add_fault, arith, common_steps, defined}
+use Rattle.circuit.proofs.Imports.{Bool, None, Option, RefusalCode, Some, added_line_code, arith, common_steps, defined}
 use Rattle.circuit.proofs.Imports.{false}
 use Rattle.circuit.proofs.Imports.{gate_count, is_gate, length, or_else, refl, true, ℕ, ◌+◌, ◌≡◌}
 use Rattle.lemmas.proofs.Common.{false≢true, nat_le, nat_lt, ◌&&◌, ◌||◌}
@@ -24,7 +24,7 @@ past_first : (g : Bool) (x y : ℕ) → (nat_lt 65000 x || (g && nat_le 16384 y)
 past_first g x y e = grind (arith, common_steps)
 
 pub first_limits_are_kept : FirstLimitsAreKept
-unfolding add_fault
+unfolding added_line_code
 first_limits_are_kept entries r = nested (is_wrong_delay r.kind) _ _ (name_fault entries r)
     (past_first (is_gate r.kind) (length (defined entries) + length r.outs) (gate_count entries))
 
@@ -40,6 +40,6 @@ second_passes None b e = e
 second_passes (Some code) b e = absurd cc
 
 pub second_limits_are_wider : SecondLimitsAreWider
-unfolding add_fault
+unfolding added_line_code
 second_limits_are_wider entries r e =
     twice (is_wrong_delay r.kind) _ (name_fault entries r) (second_passes _ _ e)

@@ -10,7 +10,7 @@ use Rattle.circuit.specs.declared.circuit_line.CircuitLine.{CircuitLine}
 use Rattle.circuit.specs.declared.netlist.ValuesFault.{ValuesFault}
 use Rattle.circuit.specs.declared.netlist.ValuesFault.TheVariants.{OutOfDomain, Memory}
 use Rattle.circuit.specs.Gates.{row, uses, defines}
-use Rattle.circuit.specs.Rules.{gate_count, add_fault}
+use Rattle.circuit.specs.Rules.{gate_count, added_line_code}
 use Rattle.circuit.specs.Meaning.{Gate, Netlist, Circuit, Valuation, Satisfies, first_gates, number, wires}
 
 -- whether the line is an input
@@ -78,7 +78,7 @@ IsNoInputAfterGate before r = is_input r.kind ≡ true → gate_count before ≡
 
 -- the line is good after those before it
 pub record IsGoodAfter (before : List CircuitLine) (r : CircuitLine) : Type 0 where
-  pub adds : add_fault before r ≡ None
+  pub adds : added_line_code before r ≡ None
   pub fits : FitsKind r
   pub inputs_first : IsNoInputAfterGate before r
 

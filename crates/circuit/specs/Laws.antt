@@ -1,7 +1,6 @@
 -- Laws of the circuit section.
 use Rattle.std.specs.Prelude.{◌≡◌, ℕ, ◌+◌, ◌<◌, ◌&&◌, ◌||◌, Bool, List, length, map, take, drop, None, Some, Ok}
-use Rattle.std.specs.Prelude.{slice_get}
-use Rattle.std.specs.Prelude.{IsTrue, nat_le, nat_lt}
+use Rattle.std.specs.Prelude.{IsTrue, nat_le, nat_lt, slice_get}
 use Rattle.section_text.specs.Words.{lines_of}
 use Rattle.circuit.specs.declared.circuit_line.GateKind.{GateKind}
 use Rattle.circuit.specs.declared.circuit_line.GateKind.TheVariants.{Source, Switch, Unswitch, Interact, Uninteract}
@@ -16,7 +15,7 @@ use Rattle.circuit.specs.Text.{circuit_text}
 use Rattle.circuit.specs.Meaning.{Netlist, Valuation, Satisfies, AreOrdered, AreNonInverse, IsUndefined, wires, wire_of}
 use Rattle.circuit.specs.Bridge.{AreGoodCircuitLines, AreValues, ValuesStopAt, input_count, input_names, gates_of}
 use Rattle.circuit.specs.Bridge.{circuit_of, netlist_of}
-use Rattle.circuit.specs.Rules.{add_fault_within, gate_count, is_gate, is_wrong_delay, name_fault}
+use Rattle.circuit.specs.Rules.{added_line_code_within, gate_count, is_gate, is_wrong_delay, name_fault}
 use Rattle.section_text.specs.Codes.{code_if, or_else}
 use Rattle.section_text.specs.declared.code.RefusalCode.TheVariants.{PastLimit}
 use Rattle.section_text.specs.declared.limits.Limits.TheVariants.{First, Second}
@@ -121,11 +120,11 @@ pub record InverseGatesUndo : Type 0 where
 -- wires and 1024 gates, and then the names.
 abbrev pub FirstLimitsAreKept : Type 0
 FirstLimitsAreKept = (entries : List CircuitLine) (r : CircuitLine) →
-    add_fault_within First entries r ≡ or_else (code_if (is_wrong_delay r.kind
+    added_line_code_within First entries r ≡ or_else (code_if (is_wrong_delay r.kind
     || (nat_lt 4096 (length (defined entries) + length r.outs) || (is_gate r.kind && nat_le 1024 (gate_count entries))))
     PastLimit) (name_fault entries r)
 
 -- a line that passes the first limits passes the second ones
 abbrev pub SecondLimitsAreWider : Type 0
-SecondLimitsAreWider = (entries : List CircuitLine) (r : CircuitLine) → add_fault_within First entries r ≡ None →
-    add_fault_within Second entries r ≡ None
+SecondLimitsAreWider = (entries : List CircuitLine) (r : CircuitLine) → added_line_code_within First entries r ≡ None →
+    added_line_code_within Second entries r ≡ None

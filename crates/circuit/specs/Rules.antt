@@ -81,12 +81,13 @@ abbrev pub limit_fault : List CircuitLine → CircuitLine → Option RefusalCode
 limit_fault entries r = code_if (exceeds_limit entries r) PastLimit
 
 -- the first of codes 2 to 5, for the largest limits
-unfoldable pub add_fault : List CircuitLine → CircuitLine → Option RefusalCode
-add_fault entries r = or_else (limit_fault entries r) (name_fault entries r)
+unfoldable pub added_line_code : List CircuitLine → CircuitLine → Option RefusalCode
+added_line_code entries r = or_else (limit_fault entries r) (name_fault entries r)
 
 -- the first of codes 2 to 5, for these limits
-abbrev pub add_fault_within : Limits → List CircuitLine → CircuitLine → Option RefusalCode
-add_fault_within l entries r = or_else (code_if (exceeds_text_limit l entries r) PastLimit) (add_fault entries r)
+abbrev pub added_line_code_within : Limits → List CircuitLine → CircuitLine → Option RefusalCode
+added_line_code_within l entries r =
+    or_else (code_if (exceeds_text_limit l entries r) PastLimit) (added_line_code entries r)
 
 -- ---- codes 6 and 11
 

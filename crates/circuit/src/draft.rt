@@ -202,7 +202,7 @@ impl Draft {
     }
 
     // Adds a line, whatever the kinds of the lines before it. A fault changes nothing.
-    #[tactic(auto, unfolding(crate::specs::Rules::add_fault))]
+    #[tactic(auto, unfolding(crate::specs::Rules::added_line_code))]
     pub(crate) fn add(&mut self, entry: CircuitLine) -> Result<(), LineFault>
         requires fits { FitsKind entry }
         requires inputs_first { IsNoInputAfterGate self.old.lines entry }

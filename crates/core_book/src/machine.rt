@@ -77,7 +77,7 @@ impl Core {
 
     /// Creates a core of these jobs, numbered from 0 in their order, and of seats that have drawn nothing.
     ///
-    /// There are at most 65536 jobs, and 1 to 64 seats.
+    /// There are at most 65,536 jobs, and 1 to 64 seats.
     pub fn new(
         alloc: Global,
         digest: [u8; 32],

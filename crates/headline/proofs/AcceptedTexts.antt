@@ -26,7 +26,7 @@ use Rattle.section_text.specs.declared.limits.Limits.TheVariants.{Second}
 use Rattle.headline.proofs.Imports.{AnswersOrRefuses, Err, SaysReport, sym, ◌++◌}
 use Rattle.report.specs.ReportText.{refusal_line}
 use Rattle.headline.specs.Fronts.{WideTextIsAccepted, WideTextIsRefused, wide_text}
-use Rattle.headline.specs.Laws.{ThereAndBackTextIsAccepted, TimedModulesTextIsAccepted}
+use Rattle.headline.specs.Witnesses.{ThereAndBackTextIsAccepted, TimedModulesTextIsAccepted}
 use Rattle.headline.specs.PlainLaws.{ThereAndBackTextIsPlain, ThereAndBackTextIsSmall}
 use Rattle.headline.specs.PlainNo.{plain_no_text}
 use Rattle.headline.specs.PlainYes.{plain_yes_text}
@@ -191,7 +191,7 @@ unfolding wide_text timed_modules_text there_and_back_text plain_yes_text plain_
     words.name_after_keyword
     section.section_of section.section_body_of circuit_forms.form_of circuit_forms.gate_entry
     circuit_forms.gate_line_of_kind
-    circuit_forms.gate_kind circuit_forms.bit_at circuit_rules.add_fault meaning.number meaning.place_of
+    circuit_forms.gate_kind circuit_forms.bit_at circuit_rules.added_line_code meaning.number meaning.place_of
     layout_forms.form_of layout_forms.cell_of_words_from layout_forms.cell_after_keyword layout_forms.port_after_keyword
     layout_forms.port_of
     layout_forms.size_of layout_forms.sides_and_steps layout_rules.size_fault layout_rules.text_size_fault

@@ -11,7 +11,7 @@ use Rattle.section_text.specs.Limits.{most_gates, most_wires}
 use Rattle.section_text.proofs.Good.{AreFaultless}
 use Rattle.circuit.specs.Entries.{defined}
 use Rattle.circuit.specs.Grammars.{circuit_grammar}
-use Rattle.circuit.specs.Rules.{add_fault, exceeds_text_limit, gate_count, is_gate, order_fault}
+use Rattle.circuit.specs.Rules.{added_line_code, exceeds_text_limit, gate_count, is_gate, order_fault}
 use Rattle.circuit.specs.declared.circuit_line.CircuitLine.{CircuitLine}
 use Rattle.circuit.proofs.Bridging.{count_append}
 use Rattle.headline.specs.RightInFull.{HasFewWires}
@@ -37,7 +37,7 @@ pub few_wires : (l : Limits) (before rest : List CircuitLine) → HasFewWires l 
     AreFaultless (circuit_grammar l) tt before rest → HasFewWires l (before ++ rest)
 few_wires l before [] small good = subst (HasFewWires l) (sym (append-nil before)) small
 few_wires l before (r ∷ rest) small good =
-    let within = unlimited (exceeds_text_limit l before r) (first_part _ (add_fault before r)
+    let within = unlimited (exceeds_text_limit l before r) (first_part _ (added_line_code before r)
     (first_part (order_fault before r) _ good.0).1).0 in
     subst (HasFewWires l) (append_assoc before (r ∷ []) rest)
     (few_wires l (before ++ r ∷ []) rest (one_line_more l before r small within) good.1)

@@ -4,7 +4,7 @@ use Rattle.headline.proofs.Imports.{Result, SaysReport, Some, [], ap, bundle_of,
 use Rattle.headline.proofs.Imports.{circuit_grammar, layout_grammar, layout_of, length, lines_of, port_names_of, refl}
 use Rattle.headline.proofs.Imports.{setting_of, subst, sym, ℕ, ◌++◌, ◌+◌, ◌∙◌, ◌∷◌, ◌≡◌}
 use Rattle.lemmas.proofs.Common.{ap₂, drop}
-use Rattle.circuit.specs.Rules.{add_fault_within, order_fault}
+use Rattle.circuit.specs.Rules.{added_line_code_within, order_fault}
 use Rattle.circuit.specs.declared.circuit_line.CircuitLine.{CircuitLine}
 use Rattle.certificate_lines.specs.declared.certificate_line.CertificateLine.{CertificateLine}
 use Rattle.pattern.specs.declared.layout_line.LayoutHeader.{LayoutHeader}
@@ -117,9 +117,9 @@ module _ {H I : Type 0} (g g' : Grammar H I) (wider : IsWider g g') where
 wider_circuit_item : (before : List CircuitLine) (i : CircuitLine) →
     (circuit_grammar First).item_fault tt before i ≡ None → (circuit_grammar Second).item_fault tt before i ≡ None
 wider_circuit_item before i e =
-    let order = no_code_first (order_fault before i) (add_fault_within First before i) e in
-    let good = no_code_second (order_fault before i) (add_fault_within First before i) e in
-    ap (λ c. or_else c (add_fault_within Second before i)) order ∙ wider_circuit_line before i good
+    let order = no_code_first (order_fault before i) (added_line_code_within First before i) e in
+    let good = no_code_second (order_fault before i) (added_line_code_within First before i) e in
+    ap (λ c. or_else c (added_line_code_within Second before i)) order ∙ wider_circuit_line before i good
 
 wider_circuit : IsWider (circuit_grammar First) (circuit_grammar Second)
 wider_circuit = record {

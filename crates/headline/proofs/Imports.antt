@@ -34,7 +34,7 @@ pub use Rattle.certificate_lines.specs.declared.certificate_line.CertificateLine
 pub use Rattle.certificate_lines.specs.declared.certificate_line.StopLine.{StopLine}
 pub use Rattle.circuit.proofs.Bridging.{gates_are_ordered, names_pass, push_cons}
 pub use Rattle.circuit.proofs.Imports.{AreGoodCircuitLines, FitsKind, cond_some, consumed, entry}
-unfoldable pub use Rattle.circuit.proofs.Imports.{AreGoodAfter, add_fault, form_of, gate_entry, gate_line_of_kind}
+unfoldable pub use Rattle.circuit.proofs.Imports.{AreGoodAfter, added_line_code, form_of, gate_entry, gate_line_of_kind}
 unfoldable pub use Rattle.circuit.proofs.Imports.{if_one_word, name_after_keyword, names_at, row, value_lines}
 pub use Rattle.circuit.proofs.Naming.{inputs_are_first}
 pub use Rattle.circuit.proofs.Places.{Have, bytes_same, consume_have}

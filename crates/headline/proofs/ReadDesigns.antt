@@ -9,7 +9,7 @@ use Rattle.headline.proofs.Imports.{gate_line_of_kind, if_one_word, is_name, lay
 use Rattle.headline.proofs.Imports.{layout_section, length, list_all, map, name_after_keyword, name_at, name_of}
 use Rattle.headline.proofs.Imports.{names_at, one_line, parts_of, port_names_of, read_layout-is_named}
 use Rattle.headline.proofs.Imports.{refl, same_Some, section_made, slice_get, subst, suc, sym, true}
-use Rattle.headline.proofs.Imports.{unconsumed_wire_code, words_of, zero, ℕ, ◌&&◌, ◌++◌, ◌+◌, ◌>>=◌, ◌∷◌, ◌≡◌}
+use Rattle.headline.proofs.Imports.{words_of, zero, ℕ, ◌&&◌, ◌++◌, ◌+◌, ◌>>=◌, ◌∷◌, ◌≡◌}
 use Rattle.lemmas.proofs.Common.{option_and_then_some}
 use Rattle.section_text.proofs.Spellings.{chosen, passed}
 use Rattle.circuit.specs.Rules.{first_unconsumed}
@@ -17,7 +17,7 @@ use Rattle.headline.specs.PlainLaws.{UnrefusedKeepsDesignRules}
 use Rattle.headline.proofs.Designs.{one_design}
 use Rattle.headline.proofs.Migrations.{good_read, sections_read}
 use Rattle.headline.proofs.WrittenCircuits.{AreNames, names_both}
-use Rattle.headline.proofs.YesIsRight.{bundle_good, circuit_good, laid_out}
+use Rattle.headline.proofs.YesIsRight.{bundle_good, circuit_good, laid_out, no_missing}
 use Rattle.section_text.specs.declared.limits.Limits.{Limits}
 use Rattle.meaning.specs.Design.{text_limits}
 use Rattle.pattern.proofs.ReadingLemmas.{no_code_second}
@@ -93,10 +93,6 @@ in_order : (l : Limits) (before rest : List CircuitLine) → AreFaultless (circu
 in_order l before [] good = tt
 in_order l before (r ∷ rest) good =
     grind (arith, common_steps, no_code_first, (in_order l (before ++ r ∷ []) rest good.1))
-
-no_missing : (o : Option (List ℕ)) → unconsumed_wire_code o ≡ None → o ≡ None
-no_missing None e = refl
-no_missing (Some n) e = absurd cc
 
 pub design_by : (l : Limits) (circuit : List CircuitLine) (p : Pattern) (ls : List (List ℕ)) →
     IsSection form_of ls tt circuit →

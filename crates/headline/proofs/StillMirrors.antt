@@ -1,7 +1,7 @@
 -- A mirror that touches the rim of its rectangle: its layout computes a circuit, and gets a yes after it is moved
 use Rattle.headline.proofs.Imports.{Bool, CircuitLine, Gate, HasNoDelay, HasRoom, IsCorrect}
 use Rattle.headline.proofs.Imports.{IsDesign, IsReportOf, IsSmallDesign, List, LooksAsAsked, No, None, Pattern}
-use Rattle.headline.proofs.Imports.{Satisfies, Source, Spill, State, TouchesRim, Valuation, [], add_fault}
+use Rattle.headline.proofs.Imports.{Satisfies, Source, Spill, State, TouchesRim, Valuation, [], added_line_code}
 use Rattle.headline.proofs.Imports.{ap, arith, cell_fault, cells_of, cells_taken_at_start, codes, common_steps}
 use Rattle.headline.proofs.Imports.{design_text, false, in_box, in_layout, in_ring, in_span, in_span-negsuc, inl, inr}
 use Rattle.headline.proofs.Imports.{ints, is_inside, is_taken, limit_fault, negsuc, number, partner}
@@ -145,7 +145,7 @@ mirror_correct = record {
 -- ---- its lines keep the rules
 
 constant_good : AreGoodCircuitLines constant
-unfolding AreGoodCircuit add_fault
+unfolding AreGoodCircuit added_line_code
 constant_good = grind (arith, common_steps)
 
 mirror_size : size_fault rim_mirror.size ≡ None

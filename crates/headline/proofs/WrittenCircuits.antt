@@ -1,7 +1,7 @@
 -- The lines of a good circuit can be written, if its wires have names
 use Rattle.headline.proofs.Imports.{AllByRecursion, AreGoodAfter, CircuitLine, Delay, End, FitsKind}
 use Rattle.headline.proofs.Imports.{Gate, GateKind, Have, Header, Input, Item, List, None, Output, Some}
-use Rattle.headline.proofs.Imports.{Source, Spill, [], add_fault, and_parts, ap}
+use Rattle.headline.proofs.Imports.{Source, Spill, [], added_line_code, and_parts, ap}
 use Rattle.headline.proofs.Imports.{ap₂, arith, bytes_eq, bytes_eq-Decides, cases_Bool, codes}
 use Rattle.headline.proofs.Imports.{common_steps, cond, cond_some, consume_have, consumed, decimal, defined, defines}
 use Rattle.headline.proofs.Imports.{entry, false, false≢true, no_code_first, form_of, gate_entry}
@@ -192,9 +192,9 @@ line_of _ [] outs fits i o right = absurd (let e = fits.0 in omega (arith, e))
 
 -- ---- the section
 
-pub right_delay : (before : List CircuitLine) (r : CircuitLine) → add_fault before r ≡ None →
+pub right_delay : (before : List CircuitLine) (r : CircuitLine) → added_line_code before r ≡ None →
     is_wrong_delay r.kind ≡ false
-unfolding add_fault
+unfolding added_line_code
 right_delay before r e = grind (arith, common_steps, left_is_false, no_code, no_code_first)
 
 pub defined_more : (before : List CircuitLine) (r : CircuitLine) → AreNames (defined before) → AreNames r.outs →

@@ -5,10 +5,12 @@ use Rattle.headline.proofs.Imports.{HasRightStops, Header, IsCorrect, IsFaultles
 use Rattle.headline.proofs.Imports.{IsVerdict, Item, JobView, LayoutHeader, LayoutLine, List, None, Ok, Option}
 use Rattle.headline.proofs.Imports.{OutOfOrder, Outcome, Pattern, PortNameLists, Refusal, RefusalCode, Refused, Result}
 use Rattle.headline.proofs.Imports.{SaysBundle, SaysDesign, SaysReport, Some, StopHolds, StopLine, Verdict, Yes, []}
-use Rattle.headline.proofs.Imports.{add_fault, all_in_modules, all_stops, ap, append-nil, append_assoc, ap₂, arith}
+use Rattle.headline.proofs.Imports.{added_line_code, all_in_modules, all_stops, ap, append-nil, append_assoc, ap₂}
+use Rattle.headline.proofs.Imports.{arith}
 use Rattle.headline.proofs.Imports.{bundle_of, bundle_with, bytes_after_last_line_feed, certificate_grammar}
 use Rattle.headline.proofs.Imports.{circuit_grammar}
-use Rattle.headline.proofs.Imports.{circuit_of, circuit_text, common_steps, cond, drop, eqb, faultless_named, flat_map}
+use Rattle.headline.proofs.Imports.{circuit_of, circuit_text, common_steps, cond, consumed, defined, drop, eqb}
+use Rattle.headline.proofs.Imports.{faultless_named, flat_map, unconsumed_wire_code}
 use Rattle.headline.proofs.Imports.{flat_map-append, form_of, gates_are_ordered, inputs_are_first, layout_grammar}
 use Rattle.headline.proofs.Imports.{layout_of, layout_section, layout_text, length, lines_of, modules_in, modules_of}
 use Rattle.headline.proofs.Imports.{nat_lt, netlist_of, or_else, order_fault, parts_of, port_names_of, read_faultless}
@@ -20,7 +22,7 @@ use Rattle.section_text.specs.Section.{refused_if_code, result_after_line, resul
 use Rattle.circuit.specs.Text.{Line}
 use Rattle.section_text.specs.Sections.{continue_after_section}
 use Rattle.circuit.specs.Entries.{rank_of}
-use Rattle.circuit.specs.Rules.{gate_count, last_rank}
+use Rattle.circuit.specs.Rules.{first_unconsumed, gate_count, last_rank}
 use Rattle.circuit.proofs.Valuations.{at_most_one}
 use Rattle.circuit.proofs.Bridging.{count_append}
 use Rattle.circuit.proofs.Fitting.{entry_fits, no_gate_still, no_gate_yet}
@@ -88,7 +90,7 @@ line_good : (l : Limits) (words : List (List ℕ)) (ls : List (List ℕ)) (befor
 unfolding AreGoodAfter
 line_good l words ls before n rows (Some (Item r)) f none e rec =
     let passed = unless_ok n (or_else (order_fault before r)
-    (or_else (code_if (exceeds_text_limit l before r) PastLimit) (add_fault before r)))
+    (or_else (code_if (exceeds_text_limit l before r) PastLimit) (added_line_code before r)))
     (section_body_of (circuit_grammar l) tt (before ++ r ∷ []) (n + 1) ls) (tt, rows) e in
     let codes = first_none (order_fault before r) _ passed.0 in
     let h : last_rank before ≤ rank_of r.kind =
@@ -100,7 +102,7 @@ line_good l words ls before n rows (Some (Item r)) f none e rec =
       rows_are = t.rows_are ∙ append_assoc before (r ∷ []) t.more;
       good = (
         record {
-          adds = (first_none _ (add_fault before r) codes.1).1;
+          adds = (first_none _ (added_line_code before r) codes.1).1;
           fits = entry_fits words r f;
           inputs_first = no_gate_yet r.kind (last_rank before) (gate_count before) h none;
         },
@@ -176,8 +178,13 @@ spelled l from text circuit ports n p first second =
           ∙ ap (λ a. circuit_text circuit ++ a) (append_assoc (layout_text p) after (bytes_after_last_line_feed text)));
     }
 
+pub no_missing : (o : Option (List ℕ)) → unconsumed_wire_code o ≡ None → o ≡ None
+no_missing None e = refl
+no_missing (Some n) e = absurd cc
+
 pub record IsReadBundle (text : List ℕ) (b : Bundle) : Type 0 where
   pub circuit : AreGoodCircuitLines b.circuit
+  pub all_consumed : first_unconsumed (consumed b.circuit) (defined b.circuit) ≡ None
   pub few_wires : HasFewWires (text_limits text) b.circuit
   pub layout : IsFaultless (layout_grammar (text_limits text) (Some (port_names_of b.circuit))) b.size b.parts
   pub says : (p : Pattern) → layout_section p ≡ (b.size, b.parts) → SaysDesign text b.circuit p
@@ -238,6 +245,8 @@ bundle_good text b e =
     let setting = setting_of b.circuit (layout_of b.size b.parts) in
     record {
       circuit = circuit_good l from (section_lines text) tt b.circuit r.circuit;
+      all_consumed = no_missing (first_unconsumed (consumed b.circuit) (defined b.circuit))
+          (read_faultless (circuit_grammar l) from (section_lines text) tt b.circuit r.circuit).end;
       few_wires = few_wires l [] b.circuit (omega arith, omega arith)
           (read_faultless (circuit_grammar l) from (section_lines text) tt b.circuit r.circuit).each;
       layout = read_faultless (layout_grammar l ports) _ _ b.size b.parts r.layout;
@@ -280,6 +289,7 @@ own_design text b output outcome circuit layout reads says said =
     subst (λ (cs : List CircuitLine). IsGoodDesign text cs layout) one.0
     (subst (IsGoodDesign text b.circuit) one.1 (record {
       circuit_lines = good.circuit;
+      all_consumed = good.all_consumed;
       few_wires = good.few_wires;
       size = (first_none _ _ whole.header).1;
       text_size = (first_none _ _ whole.header).0;

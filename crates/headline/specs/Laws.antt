@@ -10,8 +10,6 @@ use Rattle.answers.specs.declared.outcome.Outcome.{Outcome}
 use Rattle.answers.specs.declared.outcome.Outcome.TheVariants.{Yes, Refused}
 use Rattle.answers.specs.CheckText.{IsReportOf}
 use Rattle.meaning.specs.Design.{SaysDesign}
-use Rattle.headline.specs.ThereAndBack.{there_and_back_text}
-use Rattle.headline.specs.TimedModules.{timed_modules_text}
 use Rattle.meaning.specs.Headline.{IsRight}
 use Rattle.meaning.specs.Streams.{FourthLineSaysYes}
 use Rattle.meaning.specs.Implements.{IsCorrect}
@@ -104,11 +102,3 @@ abbrev pub UnrefusedDesignIsGood : Type 0
 UnrefusedDesignIsGood = (text output : List ℕ) (outcome : Outcome) (circuit : List CircuitLine) (layout : Pattern) →
     IsReportOf text output outcome → outcome ≢ Refused →
     SaysDesign text circuit layout → IsGoodDesign text circuit layout
-
--- Something is reported with the outcome yes, so the laws are not about nothing: this text.
-abbrev pub TimedModulesTextIsAccepted : Type 0
-TimedModulesTextIsAccepted = (output : List ℕ) × IsReportOf timed_modules_text output Yes
-
--- and this one, with an inverse gate
-abbrev pub ThereAndBackTextIsAccepted : Type 0
-ThereAndBackTextIsAccepted = (output : List ℕ) × IsReportOf there_and_back_text output Yes

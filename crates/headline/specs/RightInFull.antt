@@ -1,13 +1,13 @@
 -- The whole meaning of a yes of `check`, of texts and bytes alone.
 --
 -- Read before: all that meaning/specs/Headline.antt and Stops.antt name; soundness/specs/PlainCertificates.antt from
--- `IsLiveOnRim` to `TouchesRim`; circuit/specs/Bridge.antt up to `AreGoodCircuitLines` and Rules.antt up to `add_fault`
--- (the rules of a circuit); pattern/specs/Lines.antt (those of a layout).
+-- `IsLiveOnRim` to `TouchesRim`; circuit/specs/Bridge.antt up to `AreGoodCircuitLines` and Rules.antt up to
+-- `added_line_code` (the rules of a circuit); pattern/specs/Lines.antt (those of a layout).
 use Rattle.std.specs.Prelude.{◌≡◌, ◌<◌, ◌≤◌, ℕ, List, [], ◌++◌, length, None, Some, slice_get, take}
 use Rattle.circuit.specs.Bridge.{AreGoodCircuitLines, input_count, input_names, netlist_of}
 use Rattle.circuit.specs.Entries.{defined}
 use Rattle.circuit.specs.Meaning.{Satisfies, Valuation, wires}
-use Rattle.circuit.specs.Rules.{gate_count}
+use Rattle.circuit.specs.Rules.{consumed, first_unconsumed, gate_count}
 use Rattle.circuit.specs.Text.{circuit_text}
 use Rattle.section_text.specs.Limits.{most_gates, most_wires}
 use Rattle.section_text.specs.declared.limits.Limits.{Limits}
@@ -27,10 +27,11 @@ abbrev pub HasFewWires : Limits → List CircuitLine → Type 0
 HasFewWires l circuit = (length (defined circuit) ≤ most_wires l) × (gate_count circuit ≤ most_gates l)
 
 -- The design of a text that is not refused is good: each of its lines is good after those before it, by names, limits
--- and cells. The text begins with the lines of both sections in their one spelling, behind that of its limits, if it
--- has one.
+-- and cells, and some line of the circuit consumes each wire. The text begins with the lines of both sections in their
+-- one spelling, behind that of its limits, if it has one.
 pub record IsGoodDesign (text : List ℕ) (circuit : List CircuitLine) (layout : Pattern) : Type 0 where
   pub circuit_lines : AreGoodCircuitLines circuit
+  pub all_consumed : first_unconsumed (consumed circuit) (defined circuit) ≡ None
   pub few_wires : HasFewWires (text_limits text) circuit
   pub size : size_fault layout.size ≡ None
   pub text_size : text_size_fault (text_limits text) layout.size ≡ None

@@ -1,7 +1,8 @@
--- Plain texts with a run that is worth the name: one is reported with a yes, and one with a no.
+-- Texts that are reported with a yes, and one with a no, so the laws are not about nothing.
 --
--- Both are of three steps and of one gate, `interact`, in which two balls meet after the first step. Read before:
--- Plain.antt, ReportLines.antt and SmallDesigns.antt.
+-- `timed_modules_text` has four modules, `there_and_back_text` an inverse gate. The two plain texts are of three steps
+-- and of one gate, `interact`, in which two balls meet after the first step. Read before: Plain.antt, ReportLines.antt
+-- and SmallDesigns.antt.
 use Rattle.std.specs.Prelude.{◌≤◌, ℕ, List, [], ◌∷◌, Some, codes}
 use Rattle.circuit.specs.Bridge.{circuit_of}
 use Rattle.circuit.specs.declared.circuit_line.CircuitLine.{CircuitLine}
@@ -20,6 +21,16 @@ use Rattle.headline.specs.PlainNo.{plain_no_text}
 use Rattle.headline.specs.PlainYes.{plain_yes_text}
 use Rattle.headline.specs.ReportLines.{SaysNoWith}
 use Rattle.headline.specs.SmallDesigns.{IsDesign, IsSmallDesign, design_text}
+use Rattle.headline.specs.ThereAndBack.{there_and_back_text}
+use Rattle.headline.specs.TimedModules.{timed_modules_text}
+
+-- this text is reported with the outcome yes: four modules with stops and a delay
+abbrev pub TimedModulesTextIsAccepted : Type 0
+TimedModulesTextIsAccepted = (output : List ℕ) × IsReportOf timed_modules_text output Yes
+
+-- and this one, which is plain and has an inverse gate
+abbrev pub ThereAndBackTextIsAccepted : Type 0
+ThereAndBackTextIsAccepted = (output : List ℕ) × IsReportOf there_and_back_text output Yes
 
 -- `plain_yes_text` is plain, has at least two steps, and is reported with the outcome yes. After the first step,
 -- whatever the inputs, the ball of p is at (3, 3) if p has one, and that of q at (4, 4) if q has one. Both cells are of

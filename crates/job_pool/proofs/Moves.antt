@@ -2,7 +2,7 @@
 use Rattle.std.proofs.lemmas.Grind.{common_steps}
 use Rattle.job_pool.proofs.Imports.{HasAllPlaces, IsDealt, IsDrawn, List, View, [], ap, arith, at_map, count_at_least}
 use Rattle.job_pool.proofs.Imports.{get_or, length, map-append, nat_tests, occurrences, refl, set, subst, suc, sym}
-use Rattle.job_pool.proofs.Imports.{total, view, ℕ, ◌++◌, ◌+◌, ◌-◌, ◌<◌, ◌∙◌, ◌∷◌, ◌≡◌, ◌≢◌, ◌≤◌}
+use Rattle.job_pool.proofs.Imports.{total, seat_view, ℕ, ◌++◌, ◌+◌, ◌-◌, ◌<◌, ◌∙◌, ◌∷◌, ◌≡◌, ◌≢◌, ◌≤◌}
 use Rattle.lemmas.proofs.Common.{◌%◌, ◌^◌, get_or-set_same, ⊎_elim, map-set, mod-eq_of_lt}
 use Rattle.std.proofs.Math.ListN.{length-set}
 use Rattle.atomic_table.specs.Table.{State, Me, keeps, step, Allows, Splits, Joins}
@@ -142,7 +142,7 @@ module _ {S : Type 0} where
         each = fits_set n word word id views w (omega arith) r.each (fits_saw n word v one (r.each id v at));
       }
 
-fits_new : (n word places : ℕ) → Fits n word (view [] 0 places)
+fits_new : (n word places : ℕ) → Fits n word (seat_view [] 0 places)
 fits_new n word places = record {
   late_within = omega arith;
   only_last = λ _. refl;
@@ -158,12 +158,12 @@ fits_more n word views w others mine j v at =
     ⊎_elim (λ (x : get_elem? views j ≡ some v). others j v x) (λ (x : w ≡ v). subst (Fits n word) x mine)
     (at_snoc views w v j at)
 
-split_keeps : (n seats word id p : ℕ) (views : List View) → get_elem? views id ≡ some (view [] 0 p) → 0 < p →
-    IsDealt n seats word views → IsDealt n seats word (set views id (view [] 0 (p - 1)) ++ view [] 0 1 ∷ [])
+split_keeps : (n seats word id p : ℕ) (views : List View) → get_elem? views id ≡ some (seat_view [] 0 p) → 0 < p →
+    IsDealt n seats word views → IsDealt n seats word (set views id (seat_view [] 0 (p - 1)) ++ seat_view [] 0 1 ∷ [])
 split_keeps n seats word id p views at some_place r =
-    let v = view [] 0 p in
-    let w = view [] 0 (p - 1) in
-    let u = view [] 0 1 in record {
+    let v = seat_view [] 0 p in
+    let w = seat_view [] 0 (p - 1) in
+    let u = seat_view [] 0 1 in record {
       drawn = subst (IsDrawn word) (sym
           (map-append (λ (v : View). v.draws) (set views id w) (u ∷ [])
           ∙ ap (λ l. l ++ [] ∷ []) (same_lists views id v w at refl))) (empty_keeps word (lists_of views) r.drawn);
@@ -206,11 +206,12 @@ join_keeps n seats word id other views v w at apart there some_place other_place
 
 module _ {S : Type 0} where
   pub splits : (size : DeskSize) (id p : ℕ) → 0 < p →
-      Splits {S = S} (MeetsRule size) id (view [] 0 p) (view_after_split (view [] 0 p)) (split_off_view (view [] 0 p))
+      Splits {S = S} (MeetsRule size) id (seat_view [] 0 p) (view_after_split (seat_view [] 0 p))
+      (split_off_view (seat_view [] 0 p))
   splits size id p some_place s r at =
       (r.0, split_keeps size.numbers size.seats (get_or s.words 0 0) id p s.views at some_place r.1)
 
-  pub splits_as : (size : DeskSize) (id p : ℕ) (v : View) → v ≡ view [] 0 p → 0 < p →
+  pub splits_as : (size : DeskSize) (id p : ℕ) (v : View) → v ≡ seat_view [] 0 p → 0 < p →
       Splits {S = S} (MeetsRule size) id v (view_after_split v) (split_off_view v)
   splits_as size id p v is some_place =
       subst (λ u. Splits {S = S} (MeetsRule size) id u (view_after_split u) (split_off_view u)) (sym is)

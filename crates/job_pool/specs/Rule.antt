@@ -38,22 +38,22 @@ MeetsRule size s = (length s.words ≡ 1) × IsDealt size.numbers size.seats (sl
 -- ---- views
 
 -- the view of a seat that drew these numbers, saw the word reach this count, and has this many places
-abbrev pub view : List ℕ → ℕ → ℕ → View
-view draws seen places = record { draws = draws; seen = seen; places = places }
+abbrev pub seat_view : List ℕ → ℕ → ℕ → View
+seat_view draws seen places = record { draws = draws; seen = seen; places = places }
 
 -- the first seat has all places
 abbrev pub opening_view : DeskSize → View
-opening_view size = view [] 0 size.seats
+opening_view size = seat_view [] 0 size.seats
 
 -- ---- steps
 
 -- a claim appends what it found
 abbrev pub view_after_claim : View → ℕ → View
-view_after_claim v found = view (v.draws ++ found ∷ []) (found + 1) v.places
+view_after_claim v found = seat_view (v.draws ++ found ∷ []) (found + 1) v.places
 
 -- a look sees what it found
 abbrev pub view_after_look : View → ℕ → View
-view_after_look v found = view v.draws found v.places
+view_after_look v found = seat_view v.draws found v.places
 
 -- what is found is at least what was seen
 abbrev pub IsAfterClaim : {S : Type 0} → Step S → Me S View → ℕ → Me S View → Type 0
@@ -67,19 +67,19 @@ IsAfterLook step before found after =
 
 -- a split gives one place away, to a seat that drew nothing
 abbrev pub view_after_split : View → View
-view_after_split v = view v.draws v.seen (v.places - 1)
+view_after_split v = seat_view v.draws v.seen (v.places - 1)
 
 -- a view of no draws with the place that is given away
 abbrev pub split_off_view : View → View
-split_off_view v = view [] 0 1
+split_off_view v = seat_view [] 0 1
 
 -- a join puts two lists in one, and the other seat is spent
 abbrev pub joined_view : View → View → View
-joined_view v w = view (v.draws ++ w.draws) (max v.seen w.seen) (v.places + w.places)
+joined_view v w = seat_view (v.draws ++ w.draws) (max v.seen w.seen) (v.places + w.places)
 
 -- the view without draws and places
 abbrev pub spent_view : View
-spent_view = view [] 0 0
+spent_view = seat_view [] 0 0
 
 -- ---- the end
 

@@ -56,7 +56,7 @@ impl DeskSeat {
 }
 
 impl Desk {
-    ghost use Rattle.job_pool.specs.Rule.{view};
+    ghost use Rattle.job_pool.specs.Rule.{seat_view};
     ghost use Rattle.job_pool.specs.Seats.{IsClaim, IsNewSeatOf, IsSeatOf, IsAnswerToClaim, drawn_by, number_count_of, seat_count_of, seen_by};
 
     /// Opens a desk for the numbers below `numbers`, and its seats. It takes all memory that they need.
@@ -97,7 +97,7 @@ impl Desk {
         mut rest: Seat<(), View>,
     ) -> Result<Vec<DeskSeat>, AllocError>
         requires { (rest.table_id ≡ self.now.table.shared.table_id)
-            × (rest.me.0 ≡ view [] 0 (seat_count_of self.now)) }
+            × (rest.me.0 ≡ seat_view [] 0 (seat_count_of self.now)) }
         ensures count { IfOk result (λ v. vec_len v ≡ seat_count_of self.now) }
         ensures each { IfOk result (λ v. All (IsNewSeatOf self.now) v.items) }
     {

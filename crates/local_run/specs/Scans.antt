@@ -36,8 +36,8 @@ is_defined_under vs a = bit_of_row vs.rows.defined.items a
 
 -- if each used gate has a row, the values of the wires stay: in rows of words, with the row of the assignments that
 -- are so
-abbrev pub KeepsDefinedValues : List ℕ → List ℕ → List ℕ → Type 0
-KeepsDefinedValues defined old new =
+abbrev pub KeepsValuesWhereDefined : List ℕ → List ℕ → List ℕ → Type 0
+KeepsValuesWhereDefined defined old new =
     (a w : ℕ) → a < 64 * length defined → bit_of_row defined a ≡ true →
     value_of (length defined) new a w ≡ value_of (length defined) old a w
 

@@ -115,7 +115,7 @@ impl Finding {
     }
 
     /// Returns the least keep fault of the job, or `None` if it has none.
-    pub fn keep_fault(&self) -> Option<KeepFault>
+    pub fn keep(&self) -> Option<KeepFault>
         ensures value { result ≡ keep_of self.now }
         ensures keep_fault_is_least { IsLeastKeepFault (job_of self.now) result }
     {

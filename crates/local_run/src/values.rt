@@ -4,7 +4,7 @@ ghost use Rattle.bbm_rule.specs.Bits.{bit};
 ghost use Rattle.module_job.specs.Jobs.{IsJob};
 ghost use Rattle.module_job.specs.Signals.{is_live};
 ghost use Rattle.lanes.specs.Lanes.{HasWords, lane, word_of};
-ghost use Rattle.local_run.specs.Scans.{HasValueRow, IsLeastBelow, IsReady, IsCellAsSignalUnderWords, KeepsDefinedValues, PutsCell, is_defined_under, valuation};
+ghost use Rattle.local_run.specs.Scans.{HasValueRow, IsLeastBelow, IsReady, IsCellAsSignalUnderWords, KeepsValuesWhereDefined, PutsCell, is_defined_under, valuation};
 ghost use Rattle.module_box.specs.LocalValues.{value_of};
 
 use lanes::{MarkedPlanes, Planes, WordSource};
@@ -18,7 +18,8 @@ fn without_undefined(rows: ValueRows) -> ValueRows
     ensures defined { result.defined ≡ rows.defined }
     ensures undefined { result.undefined ≡ rows.undefined }
     ensures length_unchanged { length result.values.items ≡ length rows.values.items }
-    ensures keeps { KeepsDefinedValues rows.defined.items rows.values.items result.values.items }
+    ensures keeps { KeepsValuesWhereDefined rows.defined.items rows.values.items
+        result.values.items }
 {
     let ValueRows {
         values,
@@ -39,7 +40,7 @@ fn without_undefined(rows: ValueRows) -> ValueRows
 fn clear_undefined(values: &mut [u64], defined: &[u64])
     requires defined_not_empty { 0 < length defined.now }
     ensures length_unchanged { length values.new ≡ length values.old }
-    ensures keeps { KeepsDefinedValues defined.now values.old values.new }
+    ensures keeps { KeepsValuesWhereDefined defined.now values.old values.new }
 {
     if defined.iter().all(|word| *word == 0xFFFF_FFFF_FFFF_FFFF) {
         return;

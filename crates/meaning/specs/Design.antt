@@ -24,7 +24,7 @@ abbrev pub front_text : Limits → List ℕ
 front_text First = []
 front_text Second = codes "limits 2\n"
 
--- The sections of the text begin with the lines of this circuit, and goes on with those of this layout.
+-- The sections of the text begin with the lines of this circuit, and go on with those of this layout.
 pub record SaysDesign (text : List ℕ) (circuit : List CircuitLine) (layout : Pattern) : Type 0 where
   pub first : List (List ℕ)
   pub second : List (List ℕ)

@@ -60,7 +60,7 @@ abbrev pub stop_moment : Stop → Moment
 stop_moment s = s.at
 
 -- A job within the limits of a certificate: its box is even, has sides of 2 to 64 and lies in a rectangle of 4096 by
--- 4096 cells. It has at most 65,536 steps, it names its own wires, and its stops rise by time, y and x.
+-- 4096 cells. It has at most 1,048,576 steps, it names its own wires, and its stops rise by time, y and x.
 pub record IsJob (j : JobView) : Type 0 where
   pub even : IsEven j.area
   pub width : (2 ≤ j.area.w) × (j.area.w ≤ 64) × (j.area.x + j.area.w ≤ max_side)

@@ -116,7 +116,7 @@ impl Job {
         let _ = &self.shape;
     }
 
-    /// Returns the steps of the layout, at most 65,536.
+    /// Returns the steps of the layout, at most 1,048,576.
     pub fn steps(&self) -> u32
         ensures { result ≡ self.now.steps }
     {

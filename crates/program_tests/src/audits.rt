@@ -5,7 +5,7 @@ ghost use Rattle.std.specs.Prelude.{◌<◌, ◌≤◌};
 use crate::bundles::{NO_REPORT, YES_REPORT};
 use crate::gates::{HoldRule, HoldingGate};
 use certificate::read_certificate;
-use check_main::{Audited, Feed, Outcome, Watched, audit, check_stream, check_text};
+use check_main::{Audited, Feed, Outcome, Over, audit, check_stream, check_text};
 use core_book::{Filing, LogEntry, Reply};
 use job_pool::{Gate, OpenGate};
 use std::alloc::Global;
@@ -25,8 +25,8 @@ fn is_check_answer_as_worked<G: Gate + Sync, T: Threads + Wait + RandomSource + 
 ) -> bool
     requires { (0 < workers) × (workers ≤ 64) }
 {
-    let mut reader = Watched::new(text.as_bytes());
-    let mut writer = Watched::new(Vec::new(alloc));
+    let mut reader = Over::new(text.as_bytes());
+    let mut writer = Over::new(Vec::new(alloc));
     let result = check_stream(rt, alloc, &mut reader, &mut writer, workers, gate);
     let (outcome, written) = if text == GOOD_BUNDLE {
         (Outcome::Yes, YES_REPORT)

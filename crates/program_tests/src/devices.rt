@@ -1,5 +1,5 @@
 //! Readers and writers that fail, and the program over them.
-use check_main::{OpenGate, Streams, Watched, program};
+use check_main::{OpenGate, Over, Streams, program};
 use std::alloc::Global;
 use std::io;
 use std::io::{ErrorKind, Read, Write};
@@ -103,9 +103,9 @@ pub(crate) fn run_program<'a, T: Threads + Wait + RandomSource + Sync, R: Read +
     errors: FailingWriter,
 ) -> ProgramResult {
     let mut streams = Streams {
-        reader: Watched::new(reader),
-        writer: Watched::new(writer),
-        errors: Watched::new(errors),
+        reader: Over::new(reader),
+        writer: Over::new(writer),
+        errors: Over::new(errors),
     };
     let status = program(rt, alloc, words, &mut streams, &OpenGate);
     let Streams { writer, errors, .. } = streams;

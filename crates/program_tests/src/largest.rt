@@ -3,7 +3,7 @@
 
 use crate::audits::audit_of_text;
 use crate::gates::CrowdGate;
-use check_main::{Audited, Streams, Watched, program};
+use check_main::{Audited, Over, Streams, program};
 use job_pool::{Gate, OpenGate};
 use std::alloc::{AllocError, Global};
 use std::random::RandomSource;
@@ -105,9 +105,9 @@ fn answer<T: Threads + Wait + RandomSource + Sync, G: Gate + Sync>(
     gate: &G,
 ) -> (u8, Vec<u8>) {
     let mut streams = Streams {
-        reader: Watched::new(text.as_bytes()),
-        writer: Watched::new(Vec::new(alloc)),
-        errors: Watched::new(Vec::new(alloc)),
+        reader: Over::new(text.as_bytes()),
+        writer: Over::new(Vec::new(alloc)),
+        errors: Over::new(Vec::new(alloc)),
     };
     let status = program(rt, alloc, words, &mut streams, gate);
     (status, streams.writer.into_inner())

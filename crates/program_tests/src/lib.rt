@@ -27,6 +27,8 @@ mod prefixes;
 #[cfg(test)]
 mod programs;
 #[cfg(test)]
+mod seeds;
+#[cfg(test)]
 mod stumbles;
 #[cfg(test)]
 mod words;

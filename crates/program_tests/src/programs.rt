@@ -3,7 +3,7 @@
 use crate::bundles::{NO_REPORT, YES_REPORT};
 use crate::devices::{FailingReader, FailingWriter, LetterReader, ProgramResult, run_program};
 use crate::gates::{HoldRule, HoldingGate};
-use check_main::{CheckFault, OpenGate, Streams, Watched, program};
+use check_main::{CheckFault, OpenGate, Over, Streams, program};
 use std::alloc::Global;
 use std::random::RandomSource;
 use std::sync::Wait;
@@ -272,9 +272,9 @@ fn names_each_fault_in_words(rt: HostRuntime) {
 fn workers_option_is_obeyed(rt: HostRuntime) {
     let gate = HoldingGate::new(HoldRule::FirstTwo);
     let mut streams = Streams {
-        reader: Watched::new(GOOD_BUNDLE.as_bytes()),
-        writer: Watched::new(Vec::new(rt.alloc())),
-        errors: Watched::new(Vec::new(rt.alloc())),
+        reader: Over::new(GOOD_BUNDLE.as_bytes()),
+        writer: Over::new(Vec::new(rt.alloc())),
+        errors: Over::new(Vec::new(rt.alloc())),
     };
     let words = ["check", "--workers", "2"];
     let status = program(&rt, rt.alloc(), &words, &mut streams, &gate);
@@ -290,9 +290,9 @@ fn answer_is_whole_or_no_memory(rt: HostRuntime) {
     for command in &COMMANDS {
         let (mut room, mut said) = ([0u8; 640], [0u8; 144]);
         let mut streams = Streams {
-            reader: Watched::new(command.text.as_bytes()),
-            writer: Watched::new(room.as_mut_slice()),
-            errors: Watched::new(said.as_mut_slice()),
+            reader: Over::new(command.text.as_bytes()),
+            writer: Over::new(room.as_mut_slice()),
+            errors: Over::new(said.as_mut_slice()),
         };
         let status = program(&rt, rt.alloc(), command.words, &mut streams, &OpenGate);
         let left = streams.writer.into_inner().len();

@@ -1,7 +1,7 @@
 //! Devices that fail once and then go on, and writers that take few bytes a call.
 
 use crate::bundles::{NO_REPORT, YES_REPORT};
-use check_main::{CheckFault, Outcome, Sink, Source, Streams, Watched, check_stream, program};
+use check_main::{CheckFault, Outcome, Over, Sink, Source, Streams, check_stream, program};
 use job_pool::OpenGate;
 use std::alloc::Global;
 use std::io;
@@ -68,11 +68,11 @@ fn check_with_failing_read<T: Threads + Wait + RandomSource + Sync>(
     text: &str,
     before: usize,
 ) -> (Result<Outcome, CheckFault>, usize, bool) {
-    let mut reader = Watched::new(StumblingReader {
+    let mut reader = Over::new(StumblingReader {
         text: text.as_bytes(),
         before: Some(before),
     });
-    let mut writer = Watched::new(Vec::new(alloc));
+    let mut writer = Over::new(Vec::new(alloc));
     let ended = check_stream(rt, alloc, &mut reader, &mut writer, 2, &OpenGate);
     let was_told = reader.failed();
     // the next read goes well
@@ -102,8 +102,8 @@ fn check_with_failing_write<T: Threads + Wait + RandomSource + Sync>(
     before: usize,
     errs: bool,
 ) -> (Result<Outcome, CheckFault>, Vec<u8>, bool) {
-    let mut reader = Watched::new(BAD_BUNDLE.as_bytes());
-    let mut writer = Watched::new(StumblingWriter {
+    let mut reader = Over::new(BAD_BUNDLE.as_bytes());
+    let mut writer = Over::new(StumblingWriter {
         taken: Vec::new(alloc),
         piece: 7,
         before: Some(before),
@@ -139,14 +139,14 @@ fn report_by_short_writes<T: Threads + Wait + RandomSource + Sync>(
     piece: usize,
 ) -> Vec<u8> {
     let mut streams = Streams {
-        reader: Watched::new(text.as_bytes()),
-        writer: Watched::new(StumblingWriter {
+        reader: Over::new(text.as_bytes()),
+        writer: Over::new(StumblingWriter {
             taken: Vec::new(alloc),
             piece,
             before: None,
             errs: false,
         }),
-        errors: Watched::new(Vec::new(alloc)),
+        errors: Over::new(Vec::new(alloc)),
     };
     program(rt, alloc, &["check"], &mut streams, &OpenGate);
     let StumblingWriter { taken, .. } = streams.writer.into_inner();

@@ -12,7 +12,7 @@ use Rattle.certificate.specs.Grammars.{CertView, modules_in}
 use Rattle.certificate.specs.Text.{certificate_text}
 use Rattle.certificate.specs.Times.{delay_and_meet_lines}
 use Rattle.certificate.specs.declared.times.StopGap.{StopGap}
-use Rattle.certificate.specs.declared.times.StopGap.TheVariants.{Steps, NoStop, Before}
+use Rattle.certificate.specs.declared.times.StopGap.TheVariants.{Steps, Missing, Before}
 use Rattle.certificate.specs.declared.times.TimeLine.{TimeLine}
 use Rattle.local_run.specs.declared.fault.Fault.{Fault}
 use Rattle.local_run.specs.declared.fault.KeepFault.{KeepFault}
@@ -47,7 +47,7 @@ border_words f = decimal f.time ∷ signed_decimal f.cell.x ∷ signed_decimal f
 -- how many steps a delay takes, if that can be said
 abbrev pub gap_word : StopGap → List ℕ
 gap_word (Steps m) = decimal m
-gap_word NoStop = codes "missing"
+gap_word Missing = codes "missing"
 gap_word Before = codes "before"
 
 -- when inputs meet, if they do

@@ -181,7 +181,7 @@ fn delay_line(alloc: Global, number: usize, wanted: u32, gap: StopGap) -> Result
 {
     let line = match gap {
         StopGap::Steps(steps) => format!(in alloc; "delay {number} {wanted} {steps}\n")?,
-        StopGap::NoStop => format!(in alloc; "delay {number} {wanted} missing\n")?,
+        StopGap::Missing => format!(in alloc; "delay {number} {wanted} missing\n")?,
         StopGap::Before => format!(in alloc; "delay {number} {wanted} before\n")?,
     };
     Ok(line)

@@ -1,7 +1,7 @@
 //! Puts a case through the program.
 
 use case_text::Case;
-use check_main::{OpenGate, Streams, Watched, program};
+use check_main::{OpenGate, Over, Streams, program};
 use std::alloc::Global;
 use std::fmt;
 use std::random::RandomSource;
@@ -39,9 +39,9 @@ pub fn difference_of<R: Threads + Wait + RandomSource + Sync>(
     case: &Case<'_>,
 ) -> Option<Difference> {
     let mut streams = Streams {
-        reader: Watched::new(case.input.as_slice()),
-        writer: Watched::new(Vec::new(alloc)),
-        errors: Watched::new(Vec::new(alloc)),
+        reader: Over::new(case.input.as_slice()),
+        writer: Over::new(Vec::new(alloc)),
+        errors: Over::new(Vec::new(alloc)),
     };
     let got = program(rt, alloc, &case.words, &mut streams, &OpenGate);
     if got != case.status {

@@ -41,7 +41,7 @@ pub record TakesLine (old new : FeedView) (line : Line) : Type 0 where
   pub feed : new ≡ feed_after_lines 1 old
 
 -- there is no next line
-pub record RunsOut (old new : FeedView) (fault : ReadFault) : Type 0 where
+pub record FindsNoNextLine (old new : FeedView) (fault : ReadFault) : Type 0 where
   pub none : ahead old ≡ []
   pub code : fault ≡ refusal (old.taken + 1) TextCut
   pub feed : new ≡ record old { stop = Some fault }

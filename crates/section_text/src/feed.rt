@@ -9,7 +9,7 @@ ghost use Rattle.section_text.specs.Listed.{list_of_three_words, list_of_four_wo
 ghost use Rattle.section_text.specs.Faults.{refusal};
 ghost use Rattle.section_text.specs.Section.{with_line_feed};
 ghost use Rattle.section_text.specs.Limits.{front_bytes, front_lines, is_first_line, limits_of, own_text_limit};
-ghost use Rattle.section_text.specs.Feeds.{FeedView, ahead, feed_after_lines, IsLine, line_bytes, TakesLine, RunsOut};
+ghost use Rattle.section_text.specs.Feeds.{FeedView, ahead, feed_after_lines, IsLine, line_bytes, TakesLine, FindsNoNextLine};
 ghost use Rattle.std.specs.Str.{bytes_eq};
 ghost use Rattle.lemmas.specs.Bounds.{max_text};
 
@@ -206,7 +206,7 @@ impl Feed {
         ensures earlier_stop_returned { ForSome self.old.stop
             (λ fault. (result ≡ Err fault) × (self.new ≡ self.old)) }
         ensures next { self.old.stop ≡ None → IfOk result (TakesLine self.old self.new) }
-        ensures runs_out { self.old.stop ≡ None → IfErr result (RunsOut self.old self.new) }
+        ensures runs_out { self.old.stop ≡ None → IfErr result (FindsNoNextLine self.old self.new) }
     {
         if let Some(fault) = self.stop {
             return Err(fault);

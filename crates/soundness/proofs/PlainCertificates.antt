@@ -25,7 +25,7 @@ use Rattle.lemmas.proofs.Common.{nat_cmp}
 use Rattle.circuit.specs.Gates.{uses}
 use Rattle.certificate.specs.Arrivals.{AreOnTime, IsFirstTime, IsLastTime, TakesSteps, IsTimeLineTrue, IsDelayGapTrue}
 use Rattle.certificate.specs.Times.{is_obeyed}
-use Rattle.certificate.specs.declared.times.StopGap.TheVariants.{Steps, NoStop, Before}
+use Rattle.certificate.specs.declared.times.StopGap.TheVariants.{Steps, Missing, Before}
 use Rattle.certificate.proofs.ArrivalLemmas.{lines_tell}
 use Rattle.local_run.specs.Faults.{IsEdgeFault}
 use Rattle.soundness.specs.PlainCertificates.{IsPlain, IsWrongDesign, PlainCertificateDecides, PlainNoMeansWrong}
@@ -126,7 +126,7 @@ not_before c ss n a b s t takes last first lt = grind (arith, common_steps, last
 kept_gap : (c : Circuit) (ss : List StopLine) (k n a b : ℕ) (gap : StopGap) → TakesSteps c ss n a b →
     IsDelayGapTrue c ss gap a b → is_obeyed (times.Delay k n gap) ≡ true
 kept_gap c ss k n a b (Steps m) takes tells = eq-eqb m n (same_steps c ss m n a b tells takes)
-kept_gap c ss k n a b NoStop takes tells = absurd (tells takes.leaves (takes.leaves + n) takes.last takes.first)
+kept_gap c ss k n a b Missing takes tells = absurd (tells takes.leaves (takes.leaves + n) takes.last takes.first)
 kept_gap c ss k n a b Before takes tells = absurd (not_before c ss n a b tells.0 tells.1 takes tells.2 tells.3 tells.4)
 
 kept_line : (lines : List CircuitLine) (ss : List StopLine) (l : TimeLine) → AreOrdered (netlist_of lines).given

@@ -14,7 +14,7 @@ use Rattle.soundness.proofs.Imports.{unkept_from, unkept_lines, zero, ℕ, ◌&&
 use Rattle.soundness.proofs.Imports.{◌≤◌}
 use Rattle.lemmas.proofs.Common.{◌^◌, Global, Vec, nat_le}
 use Rattle.circuit.specs.Bridge.{AreGoodCircuitLines, AreGoodAfter}
-use Rattle.circuit.specs.Rules.{add_fault, gate_count, is_gate, is_wrong_delay, exceeds_limit}
+use Rattle.circuit.specs.Rules.{added_line_code, gate_count, is_gate, is_wrong_delay, exceeds_limit}
 use Rattle.circuit.proofs.Bridging.{count_append, gates_are_ordered}
 use Rattle.circuit.proofs.Naming.{gates_counted}
 use Rattle.certificate.specs.StopLists.{AreStops}
@@ -90,7 +90,7 @@ one_gate_more false n e le = omega (arith, le)
 
 gates_below : (before rest : List CircuitLine) → AreGoodAfter before rest → gate_count before ≤ max_gates →
     gate_count (before ++ rest) ≤ max_gates
-unfolding AreGoodAfter add_fault
+unfolding AreGoodAfter added_line_code
 gates_below before [] good h = subst (λ l. gate_count l ≤ max_gates) (sym (append-nil before)) h
 gates_below before (r ∷ rest) good h =
     let passes = no_code (exceeds_limit before r) _ (no_code_first _ _ good.0.adds) in

@@ -1,4 +1,4 @@
 pub mod Awaited
 pub mod Device
-pub mod Watched
+pub mod Over
 pub mod Retrying

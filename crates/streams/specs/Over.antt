@@ -1,11 +1,11 @@
--- The reader or writer inside a `Watched`.
+-- The reader or writer inside a `Over`.
 use Rattle.std.specs.Prelude.{Bool}
-use Rattle.streams.specs.declared.watched.Watched.{Watched}
+use Rattle.streams.specs.declared.over.Over.{Over}
 
 -- the reader or writer that is wrapped
-abbrev pub inner_of : {T : Type 0} → Watched T → T
+abbrev pub inner_of : {T : Type 0} → Over T → T
 inner_of over = over.inner
 
 -- whether it has failed
-abbrev pub failed_of : {T : Type 0} → Watched T → Bool
+abbrev pub failed_of : {T : Type 0} → Over T → Bool
 failed_of over = over.failed

@@ -7,20 +7,20 @@ use std::io::{Read, Write};
 
 /// A reader or writer of std, with the fact whether it has failed.
 #[derive(Drop)]
-pub struct Watched<T> {
+pub struct Over<T> {
     inner: T,
     failed: bool,
 }
 
-impl<T> Watched<T> {
-    ghost use Rattle.streams.specs.Watched.{inner_of, failed_of};
+impl<T> Over<T> {
+    ghost use Rattle.streams.specs.Over.{inner_of, failed_of};
 
     /// Wraps a reader or writer that has not failed.
-    pub fn new(inner: T) -> Watched<T>
+    pub fn new(inner: T) -> Over<T>
         ensures inner { inner_of result ≡ inner }
         ensures failed { failed_of result ≡ false }
     {
-        Watched {
+        Over {
             inner,
             failed: false,
         }
@@ -37,13 +37,13 @@ impl<T> Watched<T> {
     pub fn into_inner(self) -> T
         ensures { result ≡ inner_of self }
     {
-        let Watched { inner, failed: _ } = self;
+        let Over { inner, failed: _ } = self;
         inner
     }
 }
 
-impl<R: Read> Source for Watched<R> {
-    ghost use Rattle.streams.specs.Watched.{inner_of, failed_of};
+impl<R: Read> Source for Over<R> {
+    ghost use Rattle.streams.specs.Over.{inner_of, failed_of};
 
     ghost left = { λ s. R.remaining (inner_of s) };
 
@@ -62,8 +62,8 @@ impl<R: Read> Source for Watched<R> {
     }
 }
 
-impl<W: Write> Sink for Watched<W> {
-    ghost use Rattle.streams.specs.Watched.{inner_of, failed_of};
+impl<W: Write> Sink for Over<W> {
+    ghost use Rattle.streams.specs.Over.{inner_of, failed_of};
 
     ghost written_bytes = { λ s. W.contents (inner_of s) };
 
