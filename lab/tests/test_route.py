@@ -151,11 +151,12 @@ class Yes(Routing):
     def test_compact(self) -> None:
         """`--compact` gives a layout of at most 0.7 of the area, with a yes, and the same one by two processes."""
         text = gate_circuit("fredkin")
-        plain, small = (read_document(self.route(text, *words)[1]).layout for words in ((), ("--compact",)))
+        plain = self.assert_yes(text).layout
+        small = self.assert_yes(text, "--compact", "--effort", "600").layout
         assert plain and small
         self.assertLessEqual(small.width * small.height, 0.7 * plain.width * plain.height)
-        self.assert_yes(text, "--compact")
-        self.assertEqual(*(self.route(gate_circuit("switch"), "--compact", *words)[1] for words in ((), ("--jobs", "2"))))
+        compact = ("--compact", "--effort", "600")
+        self.assertEqual(*(self.route(gate_circuit("switch"), *compact, *words)[1] for words in ((), ("--jobs", "2"))))
 
     def test_compact_without_a_small_layout(self) -> None:
         """If no attempt of `--compact` finds a route, others follow, and the first of them that does is taken."""
