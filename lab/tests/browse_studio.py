@@ -862,7 +862,10 @@ def see_large(studio: Studio) -> None:
     made = studio.script("return [...bbmlab.studio.sketch.tiles.made.values()].length")
     kept = studio.script("const { sketch, desk } = bbmlab.studio, old = new Set(sketch.tiles.made.values()); desk.model.add([{ kind: 'mirror', name: null, box: [1, 2, 2, 2], line: -1 }]); "
                          "return [...sketch.tiles.made.values()].filter((tile) => old.has(tile)).length")
-    assert 0 < kept < made, f"{kept} of {made} tiles are kept after an edit at a corner"
+    assert kept == made, f"{kept} of {made} tiles are kept after a mirror was added: it is drawn over them"
+    removed = studio.script("const { sketch, desk } = bbmlab.studio; desk.model.remove([desk.model.parts.find(({ box }) => box[0] === 1 && box[1] === 2).line]); "
+                            "return sketch.tiles.made.size")
+    assert 0 < removed < made, f"{removed} of {made} tiles are kept after a mirror at a corner was removed"
     studio.still()
     studio.rest()
     studio.browser.save_screenshot(str(studio.folder / "large.png"))

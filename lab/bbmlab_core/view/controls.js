@@ -91,9 +91,13 @@
   /** Shows the cell under the pointer with what there is. */
   function showCell() {
     stage.pointed = shown.place ? stage.cellAt(...shown.place) : stage.mark;
-    const found = stage.pointed && shown.place ? stage.wireAt(...shown.place) : null;
-    stage.pointedWire = found && found.wire;
     element("cell").textContent = stage.pointed ? stage.wordsOf(stage.pointed) : "";
+  }
+
+  /** Lets the wire under the pointer stand out, or none while the picture moves. */
+  function pointAtWire(isMoving) {
+    const found = shown.place && !isMoving && stage.cellAt(...shown.place) ? stage.wireAt(...shown.place) : null;
+    stage.pointedWire = found && found.wire;
     showWireWords(found);
   }
 
@@ -107,6 +111,7 @@
   function findWire() {
     const name = element("find-wire-name").value.trim(), wire = stage.wires.byName.get(name);
     shown.place = null;
+    pointAtWire(false);
     if (name === "") { stage.showWire(null); showWireWords(null); return; }
     if (!wire) { stage.showWire(null); element("wire-words").textContent = `No ball flies for a wire \u201c${name}\u201d.`; return; }
     stage.showWire(wire);
@@ -293,12 +298,13 @@
   /** Shows the cell under the pointer, and goes to a time where the waveform is pressed. */
   function listenToPointers() {
     const { whole, wave } = parts;
-    const point = (event) => { shown.place = [event.offsetX, event.offsetY]; showCell(); stage.paint(); };
+    const point = (event) => { shown.place = [event.offsetX, event.offsetY]; pointAtWire(event.buttons !== 0); showCell(); stage.paint(); };
     whole.addEventListener("pointermove", point);
     whole.addEventListener("pointerdown", point);
     whole.addEventListener("pointerleave", (event) => {
       if (event.pointerType !== "mouse") return;
       shown.place = null;
+      pointAtWire(false);
       stage.paint();
     });
     const seek = (event) => { if (event.buttons & 1) { player.play(0); player.seek(stage.timeAt(event.offsetX)); } };
@@ -346,7 +352,7 @@
     player.listen("progress", () => { panels.showResults(player, goToCell); stage.good = null; stage.paintWave(); });
     player.listen("end", () => { showEnd(); speakSoon(); });
     player.listen("play", () => { showPlay(); speakSoon(); writeAddressSoon(); });
-    Object.assign(stage, { onMove: writeAddressSoon, onPaint: showCell, onPainted: () => minimap.paint() });
+    Object.assign(stage, { onMove: () => { pointAtWire(true); writeAddressSoon(); }, onPaint: showCell, onPainted: () => minimap.paint() });
     new ResizeObserver(() => (stage.isFit ? stage.fit() : stage.paint())).observe(parts.whole);
     new ResizeObserver(() => stage.paintWave()).observe(parts.waveBox);
     matchMedia("(prefers-color-scheme: dark)").addEventListener("change", () => { stage.redraw(); stage.paintWave(); });

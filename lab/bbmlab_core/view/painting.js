@@ -12,7 +12,7 @@
   const MARKS = { edge: "E", halo: "H", stop: "S" };
   const RULER = { wide: 32, high: 18 }, WIRE_INKS = 8;
   // Below this scale tiles show what is still. Where modules are more than a few, borders that are closer, or more, hide what is in them.
-  const TILE_SCALE = 4, CLOSE_BORDERS = 20, FEW_MODULES = 64, MANY_BORDERS = 3000;
+  const TILE_SCALE = 4, CLOSE_BORDERS = 20, FEW_MODULES = 64, MANY_BORDERS = 3000, MAX_MODULE_SIDE = 64;
   // A mirror so many cells from all ports does not matter for the places of their names.
   const NEAR_PORT = 48;
   // How many lines of text a name may be away from its cell, and the scales from which a few and many ports have names: 2,520 names take
@@ -276,6 +276,7 @@
 
   /** Returns the numbers of the modules whose borders can be seen. */
   function seenModules(place, found) {
+    if (found.length > FEW_MODULES && MAX_MODULE_SIDE * place.scale < CLOSE_BORDERS) return [];
     const [x0, y0, x1, y1] = [place.left, place.top, place.left + place.wide / place.scale, place.top + place.high / place.scale], numbers = [];
     const least = found.length > FEW_MODULES ? CLOSE_BORDERS / place.scale : 0;
     found.forEach(({ box: [x, y, w, h] }, number) => {

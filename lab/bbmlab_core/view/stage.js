@@ -28,10 +28,11 @@
       this.filedBoxes = new Buckets();
       for (const box of layout.mirrors) this.filedBoxes.addBox(...box);
       if (!tiles || tiles.width !== layout.width || tiles.height !== layout.height) { this.tiles = new Tiles(layout, (place, range) => this.drawTile(place, range)); return; }
-      const { gone, added } = changedPlaces(boxes.flat(), layout.mirrors.flat(), 4), changed = new Buckets();
-      for (const at of gone) changed.addBox(...boxes[at / 4]);
-      for (const at of added) changed.addBox(...layout.mirrors[at / 4]);
-      tiles.forget(changed);
+      const { gone, added } = changedPlaces(boxes.flat(), layout.mirrors.flat(), 4), fresh = added.map((at) => layout.mirrors[at / 4]);
+      const filedOf = (list) => { const filed = new Buckets(); for (const box of list) filed.addBox(...box); return filed; };
+      tiles.forget(filedOf(gone.map((at) => boxes[at / 4])));
+      // Mirrors lie over the ways, so new ones are drawn over what a tile shows.
+      if (fresh.length > 0) { const inks = painting.inksNow(); tiles.add(filedOf(fresh), (place) => painting.bars({ ...place, inks }, fresh, 1)); }
     }
 
     /** Draws what is still in a range of cells: the ways, if they are shown, and the mirrors over them. */

@@ -90,15 +90,21 @@
     /** Forgets all tiles: what they show has changed. */
     clear() { this.made.clear(); }
 
-    /** Forgets the tiles that show something of what is filed. @param {Buckets} changed */
-    forget(changed) {
-      for (const name of [...this.made.keys()]) {
-        const [level, column, row] = name.split(" ").map(Number), cells = SIDE / 2 ** level;
+    /** Calls an action with the name, the canvas and the place of each tile that shows something of what is filed. */
+    touched(changed, action) {
+      for (const [name, canvas] of [...this.made]) {
+        const [level, column, row] = name.split(" ").map(Number), scale = 2 ** level, cells = SIDE / scale, x = column * cells, y = row * cells;
         let isTouched = false;
-        changed.visit([column * cells, row * cells, (column + 1) * cells - 1, (row + 1) * cells - 1], () => { isTouched = true; });
-        if (isTouched) this.made.delete(name);
+        changed.visit([x, y, x + cells - 1, y + cells - 1], () => { isTouched = true; });
+        if (isTouched) action(name, canvas, { scale, left: x, top: y, wide: SIDE, high: SIDE });
       }
     }
+
+    /** Forgets the tiles that show something of what is filed. @param {Buckets} changed */
+    forget(changed) { this.touched(changed, (name) => this.made.delete(name)); }
+
+    /** Draws what was added over the tiles that show something of it. @param {Buckets} added @param {(place: Place) => void} draw */
+    add(added, draw) { this.touched(added, (_, canvas, place) => draw({ ...place, pen: canvas.getContext("2d") })); }
 
     /** Returns the level whose scale is the next at or above one. */
     levelOf(scale) { return Math.max(this.coarsest, Math.min(FINEST, Math.ceil(Math.log2(scale)))); }
