@@ -2,14 +2,14 @@
 
 from dataclasses import dataclass, field
 from functools import cached_property
-from typing import Iterable
+from typing import Callable, Iterable
 
 from .certificates import BorderLine, Module
 from .diagnosis import MAX_SECONDS, Diagnosis
 from .edits import Edit, add, delete, place_in_module, replace
 from .layouts import Cell
 from .processor import processor_seconds
-from .simulation import Table, WholeRun, cell_of, key_of
+from .simulation import Table, WholeRun, cell_of
 
 # The most lines that one cell gets, and how many wires with the values of a cell are proposed.
 MAX_LINES = 40
@@ -47,11 +47,22 @@ class LiveTimes:
     Most of them are mirrors: those that are live since the start are looked at only when they change, and share what is noted of them.
     """
 
-    def __init__(self, live: dict[int, Table], keys: set[int], steps: int) -> None:
-        self.live, self.keys, self.steps = live, keys, steps
-        self.still = {key: live[key] for key in keys & live.keys()}
+    def __init__(self, live: dict[int, Table], is_noted: Callable[[Cell], bool], steps: int) -> None:
+        self.live, self.is_noted, self.steps = live, is_noted, steps
+        # The cells that were live or changed up to now: those that are noted, and all of them.
+        self.own: set[int] = set()
+        self.known: set[int] = set()
+        self.still = {key: live[key] for key in self.noted(set(live))}
         self.moving: set[int] = set()
         self.seen: dict[int, dict[int, Table]] = {}
+
+    def noted(self, keys: set[int]) -> set[int]:
+        """Returns the cells that are noted among some."""
+        new = keys - self.known
+        if new:
+            self.own.update(key for key in new if self.is_noted(cell_of(key)))
+            self.known |= new
+        return keys & self.own
 
     def note(self, time: int) -> None:
         """Notes the present state, at an odd time."""
@@ -60,7 +71,7 @@ class LiveTimes:
 
     def follow(self, changed: set[int], time: int) -> None:
         """Takes the cells that changed in the step to a time."""
-        for key in changed & self.keys:
+        for key in self.noted(changed):
             if key in self.still:
                 self.seen[key] = dict.fromkeys(range(1, time, 2), self.still.pop(key))
             if key in self.live:
@@ -83,7 +94,11 @@ class BorderCheck:
         self.certificate, self.circuit, self.layout = diagnosis.certificate, diagnosis.circuit, diagnosis.layout
         self.lines = diagnosis.document.text.split("\n")
         self.unnamed: list[UnnamedCell] = []
-        self.owners = {cell: module for module in self.certificate.modules for cell in module.box.ring() if not self.layout.is_rim(cell)}
+
+    def owner(self, cell: Cell) -> Module | None:
+        """Returns the module whose `edge` lines may name a cell: the one with the cell in its ring, if it is not on the rim."""
+        owner = None if self.layout.is_rim(cell) else self.certificate.owner(cell)
+        return owner if owner and owner.box.has_in_ring(cell) else None
 
     @cached_property
     def seen(self) -> dict[Cell, dict[int, Table]] | None:
@@ -92,7 +107,7 @@ class BorderCheck:
             return None
         values = self.diagnosis.values
         run, end = WholeRun(self.layout, values.tables, values.full), processor_seconds() + self.seconds
-        watch = LiveTimes(run.field.live, {key_of(cell) for cell in self.owners}, self.layout.steps)
+        watch = LiveTimes(run.field.live, lambda cell: self.owner(cell) is not None, self.layout.steps)
         while run.time < self.layout.steps:
             if run.time % 2:
                 watch.note(run.time)
@@ -124,7 +139,7 @@ class BorderCheck:
 
     def group(self, cell: Cell, lines: list[tuple[Module, BorderLine]]) -> Group | None:
         """Returns the edits for one cell, or None if its lines are right or no lines would be."""
-        owner = self.owners.get(cell)
+        owner = self.owner(cell)
         if owner is None or self.seen is None:
             return None
         actual = self.seen.get(cell, {})

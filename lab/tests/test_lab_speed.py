@@ -108,10 +108,11 @@ class Runs(unittest.TestCase):
         for name, document in bundles().items():
             diagnosis = Diagnosis(document)
             check, run = BorderCheck(diagnosis), WholeRun(diagnosis.layout, diagnosis.values.tables, diagnosis.values.full)
+            borders = {cell for module in diagnosis.certificate.modules for cell in module.box.ring() if not diagnosis.layout.is_rim(cell)}
             wanted: dict[tuple[int, int], dict[int, int]] | None = {}
             while wanted is not None and run.time < diagnosis.layout.steps:
                 if run.time % 2:
-                    for cell in check.owners:
+                    for cell in borders:
                         if key_of(cell) in run.field.live:
                             wanted.setdefault(cell, {})[run.time] = run.field.live[key_of(cell)]
                 if not run.step():
