@@ -175,6 +175,7 @@ def mirror_words(diagnosis: Diagnosis) -> list[str]:
 
 def add_fixes(explanation: Explanation, diagnosis: Diagnosis, report: Report, trial: Trial) -> None:
     """Adds a fix of the whole text and fixes of lines of the report; each was tried."""
+    trial.begin_search()
     fixer = Fixer(diagnosis.document.text, report, trial, diagnosis)
     whole = fixer.find()
     if whole:

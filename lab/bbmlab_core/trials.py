@@ -17,10 +17,14 @@ MAX_OWN_STEPS = 50_000
 
 @dataclass(frozen=True)
 class Budget:
-    """How many texts are tried, and for how many seconds of the processor, those of the program included."""
+    """How many texts are tried, and for how many seconds of the processor, those of the program included.
+
+    If `is_of_search`, what was done before the search for fixes does not count: reading and explaining a large text takes long.
+    """
 
     tries: int = 600
     seconds: float = 30.0
+    is_of_search: bool = False
 
 
 class Trial:
@@ -37,6 +41,11 @@ class Trial:
     def judge(self) -> str:
         """Who is asked, in words."""
         return "the program" if self.program else "the lab"
+
+    def begin_search(self) -> None:
+        """Counts the seconds from now on, if they are those of the search."""
+        if self.budget.is_of_search:
+            self.started = processor_seconds()
 
     def seconds_left(self) -> float:
         """Returns how many seconds are left for trials."""

@@ -207,6 +207,15 @@ class Once(unittest.TestCase):
         self.assertEqual(applied.call_count, 0)
 
 
+    def test_the_effort_is_that_of_the_search(self) -> None:
+        """What `explain` did before the search does not count, so that a large text gets its search too; in the studio it counts."""
+        text = Path(support.example("wrong_edge")).read_text()
+        output = ask(support.program(), "check", text.encode()).output
+        for is_of_search in (True, False):
+            trial = Trial(support.program(), Budget(is_of_search=is_of_search))
+            trial.started -= 1000.0
+            self.assertEqual(explain_answer(text, "check", output, "text", trial).fix is not None, is_of_search)
+
     def test_no_run_goes_on_after_the_effort(self) -> None:
         """No run of the search goes on when the time is over: the one that compares borders, and the one for another certificate, end at their first step."""
         text = Path(support.example("wrong_edge")).read_text()

@@ -39,7 +39,7 @@ def run(options: argparse.Namespace) -> int:
             find_program(options.program)
             raise LabError("The lab's reader takes the text, but only the program gives a verdict.")
         output, by_lab = own, True
-    explanation = explaining.explain_answer(text, command, output, options.file, Trial(program, Budget(seconds=options.effort)))
+    explanation = explaining.explain_answer(text, command, output, options.file, Trial(program, Budget(seconds=options.effort, is_of_search=True)))
     if by_lab:
         explanation.headline.append("The program was not found: this is the lab's reading, and no verdict.")
     return show_explanation(explanation, options)
