@@ -117,12 +117,13 @@ class Fixer:
 
     def improved(self, step: Step) -> Step | None:
         """Returns a better text than that of a step."""
-        document = read_document(step.text, "check")
+        is_own = self.own is not None and step.text == self.text
+        document = self.own.document if self.own and is_own else read_document(step.text, "check")
         if step.report.refused:
             return self.accepted(step, document)
         if document.refusal or document.circuit is None or document.layout is None or document.certificate is None:
             return None
-        diagnosis = self.own if self.own and step.text == self.text else Diagnosis(document)
+        diagnosis = self.own if self.own and is_own else Diagnosis(document)
         if diagnosis.outcome.is_right is Truth.NO:
             return self.changed_design(step, document) or self.edited(step, diagnosis)
         return self.edited(step, diagnosis) or self.changed_design(step, document)
