@@ -23,7 +23,7 @@ LIMITS = {
     "docs/GLOSSARY.md": 1050,
     "docs/GUIDE.md": 5100,
     "docs/JSON.md": 1050,
-    "docs/LAB.md": 1500,
+    "docs/LAB.md": 1700,
     "docs/OPERATING.md": 2550,
     "docs/PHYSICS.md": 1100,
     "docs/STUDIO.md": 1100,
