@@ -94,8 +94,9 @@ class OneBall(unittest.TestCase):
         """A mirror at the place of the table turns the ball, which then flies as if from the place that the page says."""
         rows = table("direction")
         self.assertEqual(len(rows), 4)
-        self.assertIn("flies as if from (x - 2 dx, y + dy) at time t, with the other dy", PAGE.replace("\n", " "))
-        self.assertIn("as if from (x + dx, y - 2 dy), with the other dx", PAGE.replace("\n", " "))
+        page = " ".join(PAGE.split())
+        self.assertIn("flat mirror dy has the other sign. The ball is where it would be if it had started from (x - 2 dx, y + dy) at time t", page)
+        self.assertIn("upright mirror dx has the other sign. The ball is where it would be if it had started from (x + dx, y - 2 dy) at time t", page)
         for direction, flat, upright in rows:
             dx, dy = way = DIRECTIONS[direction]
             for steps in (20, 21):

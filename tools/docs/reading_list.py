@@ -424,7 +424,8 @@ def main(words: list[str]) -> int:
     lost = sorted({f"not found: {name}" for name in [*lost_definitions(), *closure.lost]})
     lines = table_lines([row for row in rows if row[2]], names)
     if table:
-        text = Path(table).read_text()
+        # Names of files may be links there.
+        text = re.sub(r"\[(`[^`]*`)\]\([^)]*\)", r"\1", Path(table).read_text())
         found = [] if "\n".join(lines) in text else ["\n".join([f"{table} does not contain this table:", *lines])]
         found += [*wrong_numbers(text), *wrong_readme(), *missing_words(text, closure.library)]
         found += [line for line in [*lost, *lost_of_others(text)] if line not in found]

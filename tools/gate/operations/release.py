@@ -177,7 +177,7 @@ def installed_lab_works(root):
     ran = subprocess.run(["/usr/bin/python3", "-B", "-c", code, TOP / "examples" / "fredkin_gate.txt"], capture_output=True, text=True,
                          env={**environment, "PYTHONPATH": str(root / "usr/lib/python3/dist-packages")})
     same((ran.returncode, ran.stdout), (0, "yes\n"), ran.stderr)
-    for name in ("man/man1/bbmlab.1.gz", "doc/bbmlab/LAB.md", "doc/bbmlab/API.md", "doc/bbmlab/copyright"):
+    for name in ("man/man1/bbmlab.1.gz", "doc/bbmcheck/LAB.md", "doc/bbmcheck/API.md", "doc/bbmlab/copyright"):
         holds((root / "usr/share" / name).exists(), f"{name} is missing")
 
 
