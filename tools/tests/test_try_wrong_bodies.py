@@ -42,7 +42,7 @@ class Refusals(unittest.TestCase):
 
     def test_safety_alone_is_a_fault(self) -> None:
         """An overflow or an index tells nothing of the clauses, unless a clause fails too."""
-        for goal in ("overflow_add-number", "index-words"):
+        for goal in ("overflow_add-number", "index-requires"):
             self.assertEqual(self.outcome(f"not proved: `search` did not prove `{goal}`"), TRIED.Outcome.SAFETY, goal)
         self.assertEqual(self.outcome("not proved: `search` did not prove `overflow_add-number`, `returns`"), TRIED.Outcome.REFUSED)
 
