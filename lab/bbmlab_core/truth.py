@@ -93,8 +93,8 @@ def both_values(one: Circuit, other: Circuit) -> tuple[Valuation, Valuation]:
 
 def difference(one: Circuit, other: Circuit) -> tuple[str, str]:
     """Returns how two circuits differ, or nothing, and in which inputs they were compared. Inputs and outputs are matched by their names."""
-    for kind, mine, theirs in (("input", one.inputs, other.inputs), ("output", one.outputs, other.outputs)):
-        alone = sorted(set(mine) ^ set(theirs))
+    for kind, names, others in (("input", one.inputs, other.inputs), ("output", one.outputs, other.outputs)):
+        alone = sorted(set(names) ^ set(others))
         if alone:
             return f"only one of them has the {kind} {alone[0]}", "the names of inputs and outputs"
     mine, theirs = both_values(one, other)

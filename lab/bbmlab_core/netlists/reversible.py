@@ -28,7 +28,7 @@ class LineNetlist(Netlist):
     constants: dict[str, bool] = field(default_factory=dict)
     # The name of each line's output, or None for garbage.
     ends: dict[str, str | None] = field(default_factory=dict)
-    exchanges: list[Exchange] | None = field(default_factory=list)
+    exchanges: list[Exchange] | None = field(default_factory=list[Exchange])
 
 
 class LineBuilder:
