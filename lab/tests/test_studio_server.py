@@ -4,6 +4,7 @@ import http.client
 import json
 import os
 import resource
+import socket
 import stat
 import subprocess
 import sys
@@ -157,6 +158,18 @@ class Security(Served):
         for length in ("", "-1", "x", "1e3", "9" * 40):
             self.assertEqual(self.send("POST", "api/start", b"", Content_Length=length)[0], 411, length)
         self.assertEqual(self.send("POST", "api/start", b"", Content_Length="", Transfer_Encoding="chunked")[0], 411)
+
+    def test_short_requests(self) -> None:
+        """A request that ends before its length does nothing, also if what came is a whole JSON object."""
+        body = json.dumps({"name": "short.txt", "text": "layout 2 2 0\nend\n", "digest": None}).encode()
+        lines = [f"Host: {self.server.guard.host}", f"Origin: http://{self.server.guard.host}", "Content-Type: application/json",
+                 f"X-Bbmlab-Key: {self.server.guard.key}", f"Content-Length: {len(body) + 1}", "Connection: close"]
+        with socket.create_connection(self.server.server_address[:2], timeout=60) as link:
+            link.sendall("\r\n".join(["POST /api/save HTTP/1.1", *lines, "", ""]).encode() + body)
+            link.shutdown(socket.SHUT_WR)
+            answer = link.makefile("rb").read()
+        self.assertEqual(answer.split(b" ")[1], b"400", answer)
+        self.assertFalse((self.room / "short.txt").exists())
 
     def test_headers(self) -> None:
         """Each answer forbids scripts of others, frames and guesses of types."""
@@ -331,7 +344,8 @@ class Verdicts(Served):
             self.assertIn(word, self.ask("export", text=text, tab="a", bundle="", form=form, name="a<b>", on=["p"])["text"], form)
         self.assertIn("error", self.ask("export", text="circuit\n", tab="a", bundle="", form="svg", name="a", on=[]))
         self.assertEqual(self.send("POST", "api/export", json.dumps({"text": "", "tab": "", "bundle": "", "form": "svg", "name": ""}).encode())[0], 400)
-
+        for form in ("", "SVG", "../page"):
+            self.assertIn("svg, golly or page", self.ask("export", text=text, tab="a", bundle="", form=form, name="a", on=[])["error"])
 
     def test_what_is_no_text(self) -> None:
         """Half a character, and a report that is none, are told as what they are."""

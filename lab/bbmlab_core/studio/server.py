@@ -91,15 +91,24 @@ class Handler(BaseHTTPRequestHandler):
             guard.require_own_page(self.headers, True)
             if name != ENTER:
                 guard.require_key(self.headers)
-            body = json.loads(self.rfile.read(guard.body_length(self.headers, MAX_TOKEN_BYTES if name == ENTER else MAX_REQUEST_BYTES)))
-            if not isinstance(body, dict):
-                raise Denied(400, "a request is a JSON object")
+            body = self.read_body(MAX_TOKEN_BYTES if name == ENTER else MAX_REQUEST_BYTES)
             answer = self.entered(word(body, "token")) if name == ENTER else self.server.answers.answer("" if name == self.path else name, body)
             self.send(200, "application/json", json.dumps(answer).encode())
         except (ValueError, RecursionError):
             self.deny(Denied(400, "the request is no JSON"))
         except Denied as denied:
             self.deny(denied)
+
+    def read_body(self, most: int) -> dict[str, Any]:
+        """Returns the JSON object of a request. Raises Denied, or ValueError or RecursionError if it is no JSON."""
+        length = self.server.guard.body_length(self.headers, most)
+        data = self.rfile.read(length)
+        if len(data) < length:
+            raise Denied(400, "the request ended early")
+        body = json.loads(data)
+        if not isinstance(body, dict):
+            raise Denied(400, "a request is a JSON object")
+        return body
 
     def entered(self, token: str) -> dict[str, str]:
         """Lets a browser in."""

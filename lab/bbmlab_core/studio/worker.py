@@ -28,6 +28,8 @@ from .verdicts import Judge, explained, fixes_of_design
 
 # How many seconds a search for fixes takes, at most.
 FIX_SECONDS = 8.0
+# The forms in which a text is exported.
+FORMS = ("svg", "golly", "page")
 
 
 def lab_text(text: str) -> str:
@@ -55,6 +57,8 @@ def export(job: dict[str, Any], asked: Executable, seconds: float) -> dict[str, 
     if document.refusal or document.layout is None:
         raise LabError("The text is refused, so it cannot be exported.")
     form, name = job["form"], str(job["name"])
+    if form not in FORMS:
+        raise LabError(f"A text is exported as {FORMS[0]}, {FORMS[1]} or {FORMS[2]}.")
     if form == "svg":
         return {"text": picture(document, document.layout, name)}
     if form == "golly":
