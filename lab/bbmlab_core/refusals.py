@@ -548,10 +548,14 @@ def explain_refusal(document: Document, refusal: Refusal) -> Explained:
 
 
 def refusal_words(document: Document, line: int | None = None) -> str:
-    """Returns in one line where the lab's reader refuses a text, the code, and why. `line` is the line of a file that has another spelling."""
+    """Returns in one line where the lab's reader refuses a text, the code, why, and the first hint.
+
+    `line` is the line of a file that has another spelling.
+    """
     assert document.refusal
-    why = " ".join(explain_refusal(document, document.refusal).what)
-    return f"line {line or document.refusal.line} is refused with code {document.refusal.code}: {why}"
+    explained = explain_refusal(document, document.refusal)
+    hint = f" Hint: {explained.hints[0]}" if explained.hints else ""
+    return f"line {line or document.refusal.line} is refused with code {document.refusal.code}: {' '.join(explained.what)}{hint}"
 
 
 def explain_code(line: int, code: int) -> Explained:

@@ -92,6 +92,17 @@ class Comments(unittest.TestCase):
                 self.assertEqual(ended.returncode, 1)
                 self.assertIn("line 5 is refused with code 3", ended.stderr, command)
 
+    def test_commands_give_hints(self) -> None:
+        """What only refuses a text says in its one line how to write it, as `explain` does."""
+        for line, hint in (("and a b -> c", "`bbmlab cells and`"), ("interact a b -> c", "Write it as `interact A B -> C D E F`."),
+                           ("fredkin a b a -> c d e", "`bbmlab cells fan_out`")):
+            text = f"circuit\ninput a\ninput b\n{line}\noutput c\nend\n"
+            for command in ("route", "certify", "json"):
+                ended = support.lab(command, "-", text=text, BBMCHECK=support.program())
+                self.assertEqual((ended.returncode, len(ended.stderr.splitlines())), (1, 1), ended.stderr)
+                self.assertIn("line 4 is refused with code", ended.stderr)
+                self.assertIn(hint, ended.stderr, command)
+
 
 if __name__ == "__main__":
     unittest.main()
