@@ -378,10 +378,11 @@ class Searches(Served):
         self.addCleanup(self.routes.close)
 
     def long_circuit(self) -> str:
-        """Returns a circuit whose search takes its whole time on a plane without room: so many inputs that no ball finds a way for minutes."""
-        names = [f"p{number}" for number in range(60)]
-        lines = [f"fredkin p{number} p{number + 1} p{number + 2} -> a{number} b{number} c{number}" for number in range(0, 60, 3)]
-        outs = [f"output {letter}{number}" for number in range(0, 60, 3) for letter in "abc"]
+        """Returns a circuit whose search takes minutes: so many gates, each with inputs of its own."""
+        count = 600
+        names = [f"p{number}" for number in range(count)]
+        lines = [f"fredkin p{number} p{number + 1} p{number + 2} -> a{number} b{number} c{number}" for number in range(0, count, 3)]
+        outs = [f"output {letter}{number}" for number in range(0, count, 3) for letter in "abc"]
         return "\n".join(["circuit", *(f"input {name}" for name in names), *lines, *outs, "end"]) + "\n"
 
     def ended(self, tab: str) -> dict[str, Any]:
