@@ -20,6 +20,7 @@ impl Box2 {
     }
 
     /// Returns whether the cell is in the ring of the box: in the box, with one of its eight neighbours outside.
+    #[inline(always)]
     pub fn in_ring(self, cell: Cell) -> bool
         ensures { result ≡ in_ring self cell.x cell.y }
     {
@@ -30,6 +31,7 @@ impl Box2 {
     }
 
     /// Returns whether the cell is in the halo of the box: outside the box, with one of its eight neighbours inside.
+    #[inline(always)]
     pub fn in_halo(self, cell: Cell) -> bool
         ensures { result ≡ in_halo self cell.x cell.y }
     {

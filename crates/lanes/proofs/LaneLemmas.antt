@@ -50,6 +50,16 @@ cell_turned old new i j k x x' y y' ul ur ll lr ul' ur' ll' lr' column row turns
 pub place_below : (w s r i j k : ℕ) → i < s → j < r → k < w → w * (s * j + i) + k < w * (s * r)
 place_below w s r i j k li lj lk = grind (arith, common_steps, mul-le-mul_left)
 
+-- a cell is turned in its block where the block's words are turned
+pub block_lane : (p q : Planes) (a x y : ℕ) → HasWordsStrideRows p.words p.stride p.rows q →
+    AreTurnedAt (place p (x / 2) (y / 2) (a / 64)) p.odd.items p.right.items p.down.items p.even.items q.odd.items
+    q.right.items q.down.items q.even.items →
+    lane q a x y ≡ turned (lane p a x y) (lane p a (mate x) (mate y)) (lane p a (mate x) y) (lane p a x (mate y))
+block_lane p q a x y size turns =
+    let i = x / 2 in let j = y / 2 in
+    cell_turned (lane p a) (lane q a) i j (a % 64) x (mate x) y (mate y) _ _ _ _ _ _ _ _ (pair_of x) (pair_of y) turns
+    (corners p p a i j refl refl) (corners p q a i j size.0 size.1)
+
 -- where the four planes are turned at each place, each cell is turned in its block
 pub odd_lane : (p q : Planes) → HasWordsStrideRows p.words p.stride p.rows q →
     ((k : ℕ) → k < p.words * (p.stride * p.rows) →
@@ -58,9 +68,8 @@ pub odd_lane : (p q : Planes) → HasWordsStrideRows p.words p.stride p.rows q �
     lane q a x y ≡ turned (lane p a x y) (lane p a (mate x) (mate y)) (lane p a (mate x) y) (lane p a x (mate y))
 odd_lane p q size turns a x y la lx ly =
     let i = x / 2 in let j = y / 2 in
-    cell_turned (lane p a) (lane q a) i j (a % 64) x (mate x) y (mate y) _ _ _ _ _ _ _ _ (pair_of x) (pair_of y)
-    (turns (place p i j (a / 64)) (place_below p.words p.stride p.rows i j (a / 64) (omega arith) (omega arith)
-    (omega arith))) (corners p p a i j refl refl) (corners p q a i j size.0 size.1)
+    block_lane p q a x y size (turns (place p i j (a / 64)) (place_below p.words p.stride p.rows i j (a / 64)
+    (omega arith) (omega arith) (omega arith)))
 
 -- ---- parts of slices
 pub part_read : (a k i : ℕ) (xs : List ℕ) → i < k → get_or (mid_of a k xs) i 0 ≡ get_or xs (a + i) 0

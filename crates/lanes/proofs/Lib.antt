@@ -9,5 +9,6 @@ pub mod LiveLemmas
 pub mod InsideLemmas
 pub mod FieldLemmas
 pub mod RunLemmas
+pub mod SettledLemmas
 pub mod FrozenLemmas
 pub mod Imports

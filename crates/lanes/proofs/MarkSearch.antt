@@ -38,6 +38,11 @@ pub lacks_mark : (a : List ℕ) (l : LiveMarks) (w : ℕ) (c : List ℕ) (q u : 
     bit (joined a w c q) (u % 64) ≡ false → LacksMark a l c u
 lacks_mark a l w c q u says e word = grind (arith, common_steps, bit-and, bit-or, parts, cell_is)
 
+pub lacks_in_three : (word : ℕ) (a c d : List ℕ) (q u : ℕ) → u / 64 ≡ q →
+    bit (bit_and word (bit_or (bit_or (get_or a q 0) (get_or c q 0)) (get_or d q 0))) (u % 64) ≡ false →
+    (bit word (u % 64) ≡ false) ⊎ (IsUnmarked a u × IsUnmarked c u × IsUnmarked d u)
+lacks_in_three word a c d q u e none = grind (arith, common_steps, bit-and, bit-or, parts, or_parts, cell_is)
+
 and_lacks : (a b : Bool) → (a && b) ≡ false → (a ≡ false) ⊎ (b ≡ false)
 and_lacks true b e = inr e
 and_lacks false b e = inl refl

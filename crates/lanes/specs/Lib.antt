@@ -5,6 +5,7 @@ pub mod Sweeps
 pub mod Borders
 pub mod Calm
 pub mod Live
+pub mod Settled
 pub mod Lanes
 pub mod Held
 pub mod Frozen

@@ -25,7 +25,8 @@
 //! - [`MarkedPlanes::may_be_live`] and [`MarkedPlanes::skip_dead_in_row`] find cells that may be live: the others are
 //!   dead under each assignment.
 //! - [`MarkedPlanes::border_marks_to_check`] finds the cells of ring and halo that may be live or that the caller
-//!   marked: each other cell is dead and unmarked, or neither in the ring nor in the halo.
+//!   marked: each other cell is dead and unmarked, or neither in the ring nor in the halo. After an odd step it passes
+//!   over those too that have not changed since (`specs/Settled.antt`), unless the caller marked them as new.
 //! - [`is_marked`] and [`take_first`] read such marks.
 //! - [`Planes::cell_number`] returns the number of a cell in its plane, [`Planes::column_and_row`] the column and row
 //!   of a number there, and [`Planes::cells_per_plane`] how many numbers there are.
@@ -33,7 +34,7 @@
 //! A step skips what stays as it is. Blocks have marks from a change of one of their cells until they were seen to
 //! stay. Cells that may be live have marks too: if only one cell of a block may be live, it changes places with the
 //! opposite one, and no words are read. After a step in which many blocks changed, some steps turn whole planes, but
-//! for blocks that live cells of mirrors hold. No contract of these calls mentions these marks.
+//! for blocks that live cells of mirrors hold. Contracts mention these marks only to say which cells have not changed.
 //!
 //! The step is that of Norman Margolus's billiard ball model (Physics-like Models of Computation, 1984).
 #![tactic(auto)]

@@ -1,6 +1,7 @@
 //! The turns of single blocks, by their marks.
 
 ghost use Rattle.lanes.specs.Blocks.{AreCellNumbers, IsBlock, IsNotRowEnd, block_at, block_count};
+ghost use Rattle.lanes.specs.Settled.{KeepsSettled};
 ghost use Rattle.std.specs.Prelude.{◌≡◌, ◌≢◌, ◌+◌, ◌*◌, ◌%◌, ◌<◌, ◌≤◌, true, false};
 
 use crate::blocks::{BlockPlaces, Diagonal, Partition};
@@ -22,7 +23,8 @@ impl MarkedPlanes {
     // Counts a block that may have two live cells, and three times if it was turned: all that are turned in a step are
     // taken off twice at its end.
     fn count_crowded_block(&mut self, is_turned: bool)
-        ensures { self.new.planes ≡ self.old.planes }
+        ensures planes { self.new.planes ≡ self.old.planes }
+        ensures settled { KeepsSettled self.old self.new }
     {
         self.crowd = self.crowd.saturating_add(1);
         if is_turned {
@@ -34,7 +36,8 @@ impl MarkedPlanes {
     /// before. If most blocks have two live cells, it costs less to read their words at once.
     pub(crate) fn settle_crowd_count(&mut self, turned: usize)
         requires { turned ≤ 4096 }
-        ensures { self.new.planes ≡ self.old.planes }
+        ensures planes { self.new.planes ≡ self.old.planes }
+        ensures settled { KeepsSettled self.old self.new }
     {
         self.crowd = self.crowd.saturating_sub(2 * turned as u32);
         if self.crowd > MAX_CROWD {
@@ -55,6 +58,7 @@ impl MarkedPlanes {
             self.new.planes }
         ensures size { HasWordsStrideRows self.old.planes.words self.old.planes.stride
             self.old.planes.rows self.new.planes }
+        ensures settled_if_even { partition ≡ Partition.Even → KeepsSettled self.old self.new }
     {
         let stride = self.planes.stride();
         let block = self.planes.block_places(partition, u);
@@ -74,6 +78,7 @@ impl MarkedPlanes {
         ensures size { HasWordsStrideRows self.old.planes.words self.old.planes.stride
             self.old.planes.rows self.new.planes }
         ensures unchanged_if_false { result ≡ false → self.new.planes ≡ self.old.planes }
+        ensures settled_if_even { partition ≡ Partition.Even → KeepsSettled self.old self.new }
     {
         let block = self.planes.block_places(partition, u);
         let changes = self.planes.block_changes(block);
@@ -104,6 +109,7 @@ impl MarkedPlanes {
         requires { n < block_count Partition.Even self.old.planes }
         ensures planes { self.new.planes ≡ self.old.planes }
         ensures marks_unchanged { self.new.live_marks ≡ self.old.live_marks }
+        ensures settled { KeepsSettled self.old self.new }
         ensures turned { result ≡ true →
             TurnsBlock (block_at Partition.Even self.old.planes.stride n) self.old.planes
             self.new.planes }
@@ -160,6 +166,7 @@ impl MarkedPlanes {
         ensures size { HasWordsStrideRows self.old.planes.words self.old.planes.stride
             self.old.planes.rows self.new.planes }
         ensures unchanged_if_false { result ≡ false → self.new.planes ≡ self.old.planes }
+        ensures settled_if_even { partition ≡ Partition.Even → KeepsSettled self.old self.new }
     {
         if let (Partition::Even, Diagonal::Main) = (partition, diagonal) {
             if self.unmark_even_block_if_dead(u) {
@@ -177,7 +184,8 @@ impl MarkedPlanes {
     #[inline(always)]
     fn unmark_and_count(&mut self, partition: Partition, u: usize, is_turned: bool)
         requires { u < block_count partition self.old.planes }
-        ensures { self.new.planes ≡ self.old.planes }
+        ensures planes { self.new.planes ≡ self.old.planes }
+        ensures settled { KeepsSettled self.old self.new }
     {
         if self.busy == 0 {
             self.unmark_dead_cells(partition, u);
@@ -201,6 +209,7 @@ impl MarkedPlanes {
         ensures size { HasWordsStrideRows self.old.planes.words self.old.planes.stride
             self.old.planes.rows self.new.planes }
         ensures unchanged_if_false { result ≡ false → self.new.planes ≡ self.old.planes }
+        ensures settled_if_even { partition ≡ Partition.Even → KeepsSettled self.old self.new }
     {
         let block = self.planes.block_places(partition, u);
         if self.is_exact && self.live_marks.is_lone(Diagonal::Main, block) {
@@ -240,6 +249,7 @@ impl MarkedPlanes {
         ensures row_end_unchanged { (IsNotRowEnd partition self.old.planes.stride u → ⊥) →
             self.new.planes ≡ self.old.planes }
         ensures unchanged_if_false { result ≡ false → self.new.planes ≡ self.old.planes }
+        ensures settled_if_even { partition ≡ Partition.Even → KeepsSettled self.old self.new }
     {
         if self.is_row_end(partition, u) {
             self.block_marks.unmark(partition, u);

@@ -5,19 +5,20 @@
 //! looks only at the blocks near cells that changed. It turns word by word only blocks in which two cells may be live.
 //! After a step in which many blocks change, some steps turn whole planes.
 
+ghost use Rattle.bbm_rule.specs.Marks.{IsUnmarked};
 ghost use Rattle.lanes.specs.Borders.{AreUnmarkedAwayFromBorder, AreUnmarkedAwayFromBorder-prop, AreSkippableBetween};
 ghost use Rattle.lanes.specs.Calm.{AreUnmarkedBlocksStable, AreUnmarkedBlocksStable-prop, HasRoomForBlockMarks};
 ghost use Rattle.lanes.specs.Blocks.{block_count};
 ghost use Rattle.lanes.specs.Frozen.{AreFrozenIfFound};
 ghost use Rattle.lanes.specs.Live.{AllUnmarkedDead, AllUnmarkedDead-prop, HasRoomForCellMarks};
-ghost use Rattle.std.specs.Prelude.{ℕ, ◌≡◌, ◌+◌, ◌*◌, ◌/◌, ◌%◌, ◌<◌, ◌≤◌, length, vec_len, IfOk, true, false};
+ghost use Rattle.std.specs.Prelude.{ℕ, ◌≡◌, ◌+◌, ◌*◌, ◌/◌, ◌%◌, ◌<◌, ◌≤◌, ◌⊎◌, length, vec_len, IfOk, true, false};
 
 use crate::block_marks::BlockMarks;
 use crate::blocks::Partition;
 use crate::frozen::FrozenBlocks;
 use crate::live::LiveMarks;
 use crate::marked_steps::STEPS_TO_SEARCH;
-use crate::marks::{is_marked, mark_border, marked_in_first_and_other};
+use crate::marks::{is_marked, mark_border, marked_in_first_and_other, marked_in_word_and_any};
 use crate::phases::WholePlaneSteps;
 use crate::planes::{Planes, WordSource};
 use crate::words::Changes;
@@ -38,6 +39,9 @@ pub struct MarkedPlanes {
     pub(crate) crowd: u32,
     // and for the numbers of cells of ring and halo
     pub(crate) border_marks: Vec<u64>,
+    // whether each block of the odd partition without a mark is as it was before the last odd step: there was one, and
+    // no even step after it turned whole planes
+    pub(crate) is_settled: bool,
     // how many of the next steps turn whole planes, but for the blocks that no step changes
     pub(crate) whole_plane_steps: WholePlaneSteps,
     pub(crate) frozen: FrozenBlocks,
@@ -58,6 +62,7 @@ const MAX_SEARCHES: u32 = 4;
 
 impl MarkedPlanes {
     ghost use Rattle.bbm_rule.specs.Bits.{bit};
+    ghost use Rattle.lanes.specs.Settled.{IsSettled, KeepsSettled};
     ghost use Rattle.lanes.specs.Calm.{AreAllCellsDead};
     ghost use Rattle.lanes.specs.Lanes.{HasWordsStrideRows, lane};
 
@@ -76,6 +81,7 @@ impl MarkedPlanes {
         ensures size { IfOk result (λ m. HasWordsStrideRows words (width / 2 + 1)
             (height / 2 + 1) m.planes) }
         ensures all_cells_dead { IfOk result (λ m. AreAllCellsDead m.planes) }
+        ensures none_settled { IfOk result (λ m. (u : ℕ) → IsSettled m u → ⊥) }
     {
         let planes = Planes::new(alloc, width, height, words)?;
         let long = planes.cells_per_plane().div_ceil(64);
@@ -91,6 +97,7 @@ impl MarkedPlanes {
             busy: 0,
             crowd: 0,
             border_marks,
+            is_settled: false,
             whole_plane_steps: WholePlaneSteps::NONE,
             frozen: FrozenBlocks::not_found_yet(alloc),
             until_search: STEPS_TO_SEARCH,
@@ -107,7 +114,8 @@ impl MarkedPlanes {
 
     /// Counts an odd time. After some of them the words of all blocks are no longer read.
     pub fn count_down_busy_times(&mut self)
-        ensures { self.new.planes ≡ self.old.planes }
+        ensures planes { self.new.planes ≡ self.old.planes }
+        ensures settled { KeepsSettled self.old self.new }
     {
         if self.busy == 0 {
             return;
@@ -121,15 +129,23 @@ impl MarkedPlanes {
     /// Returns a word of marks on the numbers whose cells of ring and halo must be looked at.
     ///
     /// A number has no mark only if its cells are neither in the ring nor in the halo, or dead under each assignment
-    /// and without a mark among the others.
+    /// and without a mark among the others, or if they are as they were before the last odd step and have no mark among
+    /// the new and the last ones.
     #[inline(always)]
-    pub fn border_marks_to_check(&self, others: &[u64], k: usize) -> u64
+    pub fn border_marks_to_check(&self, others: &[u64], new: &[u64], last: &[u64], k: usize) -> u64
         requires word_within_planes { 64 * k < self.now.planes.stride * self.now.planes.rows }
         requires room { k < length others.now }
-        ensures unset_are_skippable { (u : ℕ) → u / 64 ≡ k → bit result (u % 64) ≡ false →
-            AreSkippableBetween u (u + 1) others.now self.now.planes }
+        requires room_new_last { (k < length new.now) × (k < length last.now) }
+        ensures unset_need_no_look { (u : ℕ) → u / 64 ≡ k → bit result (u % 64) ≡ false →
+            AreSkippableBetween u (u + 1) others.now self.now.planes
+            ⊎ (IsSettled self.now u × IsUnmarked new.now u × IsUnmarked last.now u) }
     {
-        marked_in_first_and_other(&self.border_marks, &self.live_marks, others, k)
+        let word = marked_in_first_and_other(&self.border_marks, &self.live_marks, others, k);
+        if self.is_settled {
+            marked_in_word_and_any(word, &self.block_marks.odd, new, last, k)
+        } else {
+            word
+        }
     }
 
     /// Returns whether a cell, counted from the halo, may be live under some assignment.
@@ -173,7 +189,8 @@ impl MarkedPlanes {
     #[tactic(auto, using(crate::proofs::LiveLemmas::drops_dead))]
     pub(crate) fn unmark_dead_cells(&mut self, partition: Partition, u: usize)
         requires { u < block_count partition self.old.planes }
-        ensures { self.new.planes ≡ self.old.planes }
+        ensures planes { self.new.planes ≡ self.old.planes }
+        ensures settled { KeepsSettled self.old self.new }
     {
         let block = self.planes.block_places(partition, u);
         self.planes.unmark_dead_cells(&mut self.live_marks, block);
@@ -181,7 +198,8 @@ impl MarkedPlanes {
 
     // Takes the marks off all cells that are dead.
     fn unmark_all_dead(&mut self)
-        ensures { self.new.planes ≡ self.old.planes }
+        ensures planes { self.new.planes ≡ self.old.planes }
+        ensures settled { KeepsSettled self.old self.new }
     {
         for u in 0..self.planes.cells_per_plane() {
             self.unmark_dead_cells(Partition::Odd, u);
@@ -192,13 +210,15 @@ impl MarkedPlanes {
 
 impl MarkedPlanes {
     ghost use Rattle.lanes.specs.Lanes.{HasWords, SetsCell};
+    ghost use Rattle.lanes.specs.Settled.{KeepsSettled};
 
     /// Sets a cell, counted from the halo, to the words of a source.
     #[tactic(auto, using(crate::proofs::FrozenLemmas::room_found, crate::proofs::FrozenLemmas::freezes_put, crate::proofs::FrozenLemmas::given_up))]
     pub fn put(&mut self, x: usize, y: usize, list: &[u64], source: WordSource)
         requires place { (x / 2 < self.old.planes.stride) × (y / 2 < self.old.planes.rows) }
         requires source { HasWords self.old.planes.words list.now source }
-        ensures { SetsCell x y list.now source self.old.planes self.new.planes }
+        ensures cell_set { SetsCell x y list.now source self.old.planes self.new.planes }
+        ensures settled { KeepsSettled self.old self.new }
     {
         let u = self.planes.cell_number(x, y);
         let block = self.planes.block_places(Partition::Odd, u);

@@ -1,5 +1,6 @@
 //! The steps of the planes, by marks or of whole planes.
 
+ghost use Rattle.lanes.specs.Settled.{IsSameAtNumber, IsSettled, KeepsSettled};
 ghost use Rattle.std.specs.Prelude.{ℕ, ◌≡◌, ◌+◌, ◌*◌, ◌/◌, ◌%◌, ◌<◌, ◌≤◌, true, false};
 
 use crate::blocks::Partition;
@@ -25,7 +26,8 @@ impl MarkedPlanes {
     #[inline(always)]
     fn plan_next_steps(&mut self, changed: usize)
         requires { changed ≤ 4096 }
-        ensures { self.new.planes ≡ self.old.planes }
+        ensures planes { self.new.planes ≡ self.old.planes }
+        ensures settled { KeepsSettled self.old self.new }
     {
         self.settle_crowd_count(changed);
         if changed > MAX_FEW_BLOCKS
@@ -45,7 +47,8 @@ impl MarkedPlanes {
     // Begins a phase of steps that turn whole planes, if it costs less than to go by marks.
     fn begin_phase_if_cheaper(&mut self, changed: usize)
         requires { changed ≤ 4096 }
-        ensures { self.new.planes ≡ self.old.planes }
+        ensures planes { self.new.planes ≡ self.old.planes }
+        ensures settled { KeepsSettled self.old self.new }
     {
         self.count_dense_steps(1);
         let cells = self.planes.cells_per_plane();
@@ -65,7 +68,8 @@ impl MarkedPlanes {
 
     // Counts steps in which many blocks change, and looks for the blocks that no step changes after enough of them.
     fn count_dense_steps(&mut self, steps: u32)
-        ensures { self.new.planes ≡ self.old.planes }
+        ensures planes { self.new.planes ≡ self.old.planes }
+        ensures settled { KeepsSettled self.old self.new }
     {
         if self.frozen.is_found() || self.searches == 0 {
             return;
@@ -118,6 +122,7 @@ impl MarkedPlanes {
             self.old.planes.rows self.new.planes }
         ensures unchanged_if_zero { result ≡ 0 → self.new.planes ≡ self.old.planes }
         ensures count { first + result ≤ end }
+        ensures settled_if_even { partition ≡ Partition.Even → KeepsSettled self.old self.new }
     {
         let mut rest = word;
         let mut changed = 0;
@@ -144,6 +149,7 @@ impl MarkedPlanes {
             self.old.planes.rows self.new.planes }
         ensures unchanged_if_zero { result ≡ 0 → self.new.planes ≡ self.old.planes }
         ensures at_most_4096 { result ≤ 4096 }
+        ensures settled_if_even { partition ≡ Partition.Even → KeepsSettled self.old self.new }
     {
         let blocks = self.planes.block_count(partition);
         let mut changed = 0;
@@ -164,6 +170,7 @@ impl MarkedPlanes {
         ensures turned { TurnsCells partition self.old.planes self.new.planes }
         ensures size { HasWordsStrideRows self.old.planes.words self.old.planes.stride
             self.old.planes.rows self.new.planes }
+        ensures settled_flag_kept { self.new.is_settled ≡ self.old.is_settled }
     {
         self.whole_plane_steps.left = self.whole_plane_steps.left.saturating_sub(1);
         self.is_exact = false;
@@ -180,7 +187,10 @@ impl MarkedPlanes {
         ensures size { HasWordsStrideRows self.old.planes.words self.old.planes.stride
             self.old.planes.rows self.new.planes }
         ensures unchanged_if_false { result ≡ false → self.new.planes ≡ self.old.planes }
+        ensures settled_are_same { (u : ℕ) → u < self.old.planes.stride * self.old.planes.rows →
+            IsSettled self.new u → IsSameAtNumber u self.old.planes self.new.planes }
     {
+        self.is_settled = true;
         if self.whole_plane_steps.left > 0 {
             self.turn_all_unfrozen(Partition::Odd);
             return true;
@@ -200,8 +210,10 @@ impl MarkedPlanes {
         ensures size { HasWordsStrideRows self.old.planes.words self.old.planes.stride
             self.old.planes.rows self.new.planes }
         ensures unchanged_if_false { result ≡ false → AreSameInBox self.old.planes self.new.planes }
+        ensures settled { KeepsSettled self.old self.new }
     {
         if self.whole_plane_steps.left > 0 {
+            self.is_settled = false;
             self.turn_all_unfrozen(Partition::Even);
             return true;
         }

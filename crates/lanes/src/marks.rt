@@ -175,6 +175,24 @@ pub fn marked_in_first_and_other(first: &[u64], live: &LiveMarks, others: &[u64]
     first[k] & (live.word(k) | others[k])
 }
 
+/// Returns the marks of a word on the numbers that have a mark in one of three lists too.
+#[tactic(auto, using(crate::proofs::MarkSearch::lacks_in_three))]
+#[inline(always)]
+pub fn marked_in_word_and_any(
+    word: u64,
+    first: &[u64],
+    second: &[u64],
+    third: &[u64],
+    k: usize,
+) -> u64
+    requires first { k < length first.now }
+    requires others { (k < length second.now) × (k < length third.now) }
+    ensures { (u : ℕ) → u / 64 ≡ k → bit result (u % 64) ≡ false → (bit word (u % 64) ≡ false)
+        ⊎ (IsUnmarked first.now u × IsUnmarked second.now u × IsUnmarked third.now u) }
+{
+    word & (first[k] | second[k] | third[k])
+}
+
 /// Returns the place of the first mark in a word of marks, and the word without it.
 #[tactic(auto, using(crate::proofs::MarkFlips::clears_first))]
 #[inline(always)]

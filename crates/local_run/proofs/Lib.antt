@@ -10,6 +10,7 @@ pub mod Firsts
 pub mod Stepping
 pub mod StopScans
 pub mod Silence
+pub mod Steady
 pub mod LeapLemmas
 pub mod Leasts
 pub mod LeapRuns

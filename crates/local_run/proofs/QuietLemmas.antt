@@ -70,7 +70,7 @@ pub events_between : (es : List TimedSignal) (t m n : ℕ) (P : TimedSignal → 
 events_between es t m n P from to have i e at same = grind (arith, common_steps, by_lt_or_le)
 
 -- ---- signals counted from the corner of the box
-outer_back : (c k : ℕ) → halo_coord c k +ℤ shift_to_origin c ≡ halo_coord 0 k
+pub outer_back : (c k : ℕ) → halo_coord c k +ℤ shift_to_origin c ≡ halo_coord 0 k
 unfolding halo_coord
 outer_back c k = omega (arith, ints)
 

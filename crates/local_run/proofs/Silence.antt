@@ -16,7 +16,7 @@ use Rattle.local_run.proofs.QuietLemmas.{outer_same}
 use Rattle.local_run.proofs.Stepping.{box_out, outer_inner}
 
 -- a cell of the box is in the planes as in the run
-shown_at : (j : JobView) (vs : Values) (p : Planes) (t x y a : ℕ) → Shows j vs t p → a < assignments j →
+pub shown_at : (j : JobView) (vs : Values) (p : Planes) (t x y a : ℕ) → Shows j vs t p → a < assignments j →
     in_box j.area (halo_coord j.area.x x) (halo_coord j.area.y y) ≡ true →
     lane p a x y ≡ local_run j (valuation vs a) t (halo_coord j.area.x x) (halo_coord j.area.y y)
 unfolding in_box

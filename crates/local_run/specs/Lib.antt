@@ -7,4 +7,5 @@ pub mod Places
 pub mod Scans
 pub mod Moves
 pub mod Quiet
+pub mod Steady
 pub mod Leaps

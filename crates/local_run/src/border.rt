@@ -1,13 +1,14 @@
 //! The cells of ring and halo at an odd time.
 ghost use Rattle.std.specs.Prelude.{ℕ, ◌≡◌, ◌+◌, ◌*◌, ◌/◌, ◌%◌, ◌<◌, ◌≤◌, true, false};
 ghost use Rattle.bbm_rule.specs.Bits.{bit};
-ghost use Rattle.lanes.specs.Borders.{AreSkippableBetween};
+ghost use Rattle.lanes.specs.Settled.{KeepsSettled};
 ghost use Rattle.circuit.specs.Meaning.{wires};
 ghost use Rattle.module_box.specs.Schedules.{signal_at};
 ghost use Rattle.module_job.specs.Jobs.{IsJob};
 ghost use Rattle.module_job.specs.Signals.{IsSignalWireBelow};
 ghost use Rattle.local_run.specs.Places.{halo_coord};
 ghost use Rattle.local_run.specs.Quiet.{AreLineMarks};
+ghost use Rattle.local_run.specs.Steady.{AreEventMarks, IsNumberCorrect, IsSteadyWhereSettled};
 ghost use Rattle.local_run.specs.Scans.{IsEdgeCorrectAt, AreEdgesCorrectBetweenNumbers, AreEdgesCorrectAtPlace, IsHaloSet, IsHaloCellSet, AreHaloCellsSetBetween, AreHaloCellsSetAtPlace, HasNoFaultOfKind, IsOutsideBoxFromHalo, IsReady, IsKindSoughtAt, IsSameBeforeNumber, IsSameButAtPlace, IsSameButAtCell, Shows};
 
 use crate::fault::Kind;
@@ -118,6 +119,7 @@ fn set_halo_cell(
     ensures shows { Shows job.now values.now lines.now.time marked_planes.new.planes }
     ensures is_set { IsHaloCellSet job.now values.now lines.now.time marked_planes.new.planes x y }
     ensures rest { IsSameButAtCell job.now marked_planes.old.planes marked_planes.new.planes x y }
+    ensures settled { KeepsSettled marked_planes.old marked_planes.new }
 {
     let signal = halo_signal(marked_planes, job, lines, x, y);
     if values.is_different(marked_planes.planes(), x, y, signal) {
@@ -127,7 +129,7 @@ fn set_halo_cell(
 
 // Sets a cell of box or halo, counted from the halo, to what its halo signal says, if it is in the halo. Returns
 // whether it carries what its edge signal says, if it is in the ring; only `true` is proved to be right.
-#[tactic(auto, using(crate::proofs::Silence::unsaid_halo, crate::proofs::Silence::outer_edge, crate::proofs::Silence::unsaid_edge))]
+#[tactic(auto, using(crate::proofs::Silence::unsaid_halo, crate::proofs::Silence::outer_edge, crate::proofs::Silence::unsaid_edge, lanes::proofs::SettledLemmas::settled_once))]
 #[inline(always)]
 fn set_halo_or_test_ring_cell(
     marked_planes: &mut MarkedPlanes,
@@ -146,6 +148,7 @@ fn set_halo_or_test_ring_cell(
     ensures edge { result ≡ true → IsEdgeCorrectAt job.now values.now lines.now.time x y }
     ensures halo { IsHaloCellSet job.now values.now lines.now.time marked_planes.new.planes x y }
     ensures rest { IsSameButAtCell job.now marked_planes.old.planes marked_planes.new.planes x y }
+    ensures settled { KeepsSettled marked_planes.old marked_planes.new }
 {
     let area = job.area();
     // Most cells have no line and are dead.
@@ -180,6 +183,7 @@ fn set_or_test_four_cells(
         column row }
     ensures rest { IsSameButAtPlace job.now marked_planes.old.planes marked_planes.new.planes column
         row }
+    ensures settled { KeepsSettled marked_planes.old marked_planes.new }
 {
     let x = 2 * column;
     let y = 2 * row;
@@ -193,8 +197,8 @@ fn set_or_test_four_cells(
 // Sets the cells of the halo with the 64 numbers from `first` on to what their signals say, and returns whether the
 // cells of the ring with these numbers carry what their edge signals say. Only `true` is proved to be right.
 //
-// The numbers without a mark in the word need no look. It was read before: a cell that is set changes live marks of its
-// own number alone.
+// The numbers without a mark in the word need no look. It was read before: a cell that is set changes marks of its own
+// number alone.
 #[tactic(auto, using(crate::proofs::QuietLemmas::number_below, lanes::proofs::FieldLemmas::past_all))]
 fn set_halo_test_ring_in_word(
     marked_planes: &mut MarkedPlanes,
@@ -210,8 +214,8 @@ fn set_halo_test_ring_in_word(
     requires sought { IsKindSoughtAt job.now lines.now.time Kind.Edge }
     requires first { (first % 64 ≡ 0) × (first < marked_planes.old.planes.stride
         * marked_planes.old.planes.rows) }
-    requires unset_are_skippable { (u : ℕ) → u / 64 ≡ first / 64 → bit word (u % 64) ≡ false →
-        AreSkippableBetween u (u + 1) lines.now.marks.items marked_planes.old.planes }
+    requires unset_are_correct { (u : ℕ) → u / 64 ≡ first / 64 → bit word (u % 64) ≡ false →
+        IsNumberCorrect job.now values.now lines.now.time marked_planes.old.planes u }
     ensures shows { Shows job.now values.now lines.now.time marked_planes.new.planes }
     ensures halo { AreHaloCellsSetBetween job.now values.now lines.now.time first (first + 64)
         marked_planes.new.planes }
@@ -219,6 +223,7 @@ fn set_halo_test_ring_in_word(
         AreEdgesCorrectBetweenNumbers job.now values.now lines.now.time first (first + 64) }
     ensures rest { IsSameBeforeNumber job.now marked_planes.old.planes marked_planes.new.planes
         first }
+    ensures settled { KeepsSettled marked_planes.old marked_planes.new }
 {
     let cells = marked_planes.planes().cells_per_plane();
     let mut is_right = true;
@@ -238,6 +243,9 @@ fn set_halo_test_ring_in_word(
 
 /// Sets the cells of the halo to what their signals say, and returns whether the cells of the ring carry what their
 /// edge signals say. Only `true` is proved to be right.
+///
+/// Cells that carried their signals at all times when they were looked at last, and have not changed since, need a look
+/// only if a line says something of this time alone.
 pub fn set_halo_check_ring(
     marked_planes: &mut MarkedPlanes,
     values: &Values,
@@ -248,6 +256,9 @@ pub fn set_halo_check_ring(
     requires shows { Shows job.now values.now lines.now.time marked_planes.old.planes }
     requires lines { AreLineMarks job.now lines.now.time lines.now.marks.items }
     requires sought { IsKindSoughtAt job.now lines.now.time Kind.Edge }
+    requires events { AreEventMarks job.now lines.now.time lines.now.events.items }
+    requires steady { IsSteadyWhereSettled job.now values.now marked_planes.old
+        lines.now.last_events.items }
     ensures shows { Shows job.now values.now lines.now.time marked_planes.new.planes }
     ensures halo { IsHaloSet job.now values.now lines.now.time marked_planes.new.planes }
     ensures edges { result ≡ true → HasNoFaultOfKind job.now values.now lines.now.time Kind.Edge }
@@ -256,7 +267,12 @@ pub fn set_halo_check_ring(
     let cells = marked_planes.planes().cells_per_plane();
     let mut is_right = true;
     for k in 0..cells.div_ceil(64) {
-        let word = marked_planes.border_marks_to_check(lines.marks(), k);
+        let word = marked_planes.border_marks_to_check(
+            lines.marks(),
+            lines.events(),
+            lines.last_events(),
+            k,
+        );
         if word == 0 {
             continue;
         }

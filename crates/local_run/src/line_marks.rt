@@ -4,10 +4,13 @@ ghost use Rattle.module_job.specs.Jobs.{IsJob};
 ghost use Rattle.module_job.specs.Shapes.{shape_of};
 ghost use Rattle.bbm_rule.specs.Marks.{IsUnmarked};
 ghost use Rattle.local_run.specs.Quiet.{AreStarredCellMarks, AreLineMarks, KeepsMarks};
+ghost use Rattle.local_run.specs.Steady.{AreEventMarks};
 ghost use Rattle.std.specs.Prelude.{◌≡◌, ◌+◌, ◌*◌, ◌/◌, ◌%◌, ◌<◌, ◌≤◌, vec_len, IfOk, false};
 ghost use Rattle.lemmas.specs.Bounds.{max_steps};
 
-use crate::lines::{EventPlaces, LinePlaces, mark_lines, marks_of_starred_cells, own_mark_number};
+use crate::lines::{
+    CELL_MARK_WORDS, EventPlaces, LinePlaces, mark_lines, marks_of_starred_cells, own_mark_number,
+};
 use lanes::{Planes, is_marked};
 use module_job::Job;
 use std::alloc::{AllocError, Global};
@@ -20,9 +23,15 @@ pub struct LineMarks {
     marks: Vec<u64>,
     // the marks for lines at all times, which all are marks
     all_times: Vec<u64>,
+    // marks on the numbers of which a line says something at this time and not at all times
+    events: Vec<u64>,
+    // the same for the time that was looked at before
+    last_events: Vec<u64>,
     // where the search for the next time's lines begins
     places: LinePlaces,
     ghost same_long: { vec_len marks ≡ vec_len all_times },
+    ghost shorter: { vec_len marks ≡ vec_len events + 72 },
+    ghost same_long_events: { vec_len last_events ≡ vec_len events },
     ghost keeps: { KeepsMarks all_times.items marks.items },
 }
 
@@ -34,11 +43,14 @@ impl LineMarks {
     {
         let all_times = marks_of_starred_cells(alloc, job)?;
         let marks = all_times.as_slice().to_vec(alloc)?;
+        let numbers = marks.len() - CELL_MARK_WORDS;
         let none = EventPlaces::NO_PHASE;
         Ok(LineMarks {
             time: 0,
             marks,
             all_times,
+            events: vec![in alloc; 0u64; numbers]?,
+            last_events: vec![in alloc; 0u64; numbers]?,
             places: LinePlaces {
                 edges: none,
                 halos: none,
@@ -48,19 +60,32 @@ impl LineMarks {
 
     /// Marks the cells of which an edge or halo line of the job says something at a time.
     ///
-    /// The marks of the time that was looked at before are taken off. Most times have none of their own.
+    /// The marks of the time that was looked at before are taken off. Most times have none of their own. Those on the
+    /// numbers of its events are kept as the last ones.
     pub fn look_at(&mut self, job: &Job, time: u32)
         requires all_times { AreStarredCellMarks (shape_of job.now) self.old.all_times.items }
         requires range { time < max_steps }
         ensures time { self.new.time ≡ time }
         ensures lines { AreLineMarks job.now time self.new.marks.items }
+        ensures events { AreEventMarks job.now time self.new.events.items }
+        ensures last_events { self.new.last_events.items ≡ self.old.events.items }
         ensures all_times { self.new.all_times ≡ self.old.all_times }
     {
         self.time = time;
+        self.last_events.copy_from_slice(&self.events);
         if self.places.has_any() {
             self.marks.copy_from_slice(&self.all_times);
+            for word in self.events.iter_mut() {
+                *word = 0;
+            }
         }
-        mark_lines(&mut self.marks, &mut self.places, job, time);
+        mark_lines(
+            &mut self.marks,
+            &mut self.events,
+            &mut self.places,
+            job,
+            time,
+        );
     }
 
     /// Returns the time that was looked at.
@@ -76,6 +101,22 @@ impl LineMarks {
         ensures { result.now ≡ self.now.marks.items }
     {
         &self.marks
+    }
+
+    /// Returns the marks on the numbers of the events of the time that was looked at.
+    #[inline(always)]
+    pub fn events(&self) -> &[u64]
+        ensures { result.now ≡ self.now.events.items }
+    {
+        &self.events
+    }
+
+    /// Returns the marks on the numbers of the events of the time that was looked at before it.
+    #[inline(always)]
+    pub fn last_events(&self) -> &[u64]
+        ensures { result.now ≡ self.now.last_events.items }
+    {
+        &self.last_events
     }
 
     /// Returns the places of the lines of the time that was looked at.

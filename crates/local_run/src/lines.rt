@@ -6,6 +6,7 @@ ghost use Rattle.module_box.specs.Moments.{moment_cmp};
 ghost use Rattle.module_box.specs.Schedules.{IsRising, all_times_at, event_at, moment_of, signal_at};
 ghost use Rattle.local_run.specs.Quiet.{AreStarredCellMarks, AreStarredCellsMarked, AreLineMarks, box_at_origin, HasRoomForCellNumbers, IsCellMarked, IsZeroAtUnmarked, KeepsMarks};
 ghost use Rattle.local_run.specs.Places.{halo_coord};
+ghost use Rattle.local_run.specs.Steady.{AreEventMarks, HasRoomForNumbers, IsNumberMarked, IsNumberOfCell, IsOutsideHalo, IsSteadyAtUnmarked};
 ghost use Rattle.std.specs.Prelude.{ℕ, nat_lt, ◌||◌, ◌≢◌, MatchOption, ◌≡◌, ◌<◌, ◌+◌, ◌*◌, ◌/◌, ◌%◌, ◌^◌, ◌≤◌, length, slice_index, slice_get, Some, IfOk, IfSome};
 ghost use Rattle.lemmas.specs.Bounds.{max_side, max_steps};
 
@@ -42,21 +43,40 @@ pub fn own_mark_number(number: usize, x: usize, y: usize) -> usize
     number + 1152 * (1 + 2 * (y % 2) + x % 2)
 }
 
-// Marks the cell, if it is in the box or its halo: a mark for its number in the planes, and one of its own.
-fn mark_cell(marks: &mut [u64], area: Box2, cell: Cell)
+// Marks the cell, if it is in the box or its halo: a mark for its number in the planes, and one of its own. Returns
+// this number.
+fn mark_cell(marks: &mut [u64], area: Box2, cell: Cell) -> Option<usize>
     requires { HasRoomForCellNumbers area marks.old }
     ensures marks_kept { KeepsMarks marks.old marks.new }
     ensures marked { IsCellMarked area cell marks.new }
+    ensures number { MatchOption result (IsOutsideHalo area cell)
+        (λ u. (u < (area.w / 2 + 1) * (area.h / 2 + 1)) × IsNumberOfCell area cell u) }
 {
     let Some(x) = number_from_halo(cell.x, area.x, area.w) else {
-        return;
+        return None;
     };
     let Some(y) = number_from_halo(cell.y, area.y, area.h) else {
-        return;
+        return None;
     };
     let number = (area.w as usize / 2 + 1) * (y / 2) + x / 2;
     mark(marks, number);
     mark(marks, own_mark_number(number, x, y));
+    Some(number)
+}
+
+// Marks the cell of an event, as `mark_cell` does, and its number among those of events.
+#[tactic(auto, using(crate::proofs::Steady::number_marked, crate::proofs::Steady::outside_marked))]
+fn mark_event_cell(marks: &mut [u64], numbers: &mut [u64], area: Box2, cell: Cell)
+    requires room_for_marks { HasRoomForCellNumbers area marks.old }
+    requires room_for_numbers { HasRoomForNumbers area numbers.old }
+    ensures marks_kept { KeepsMarks marks.old marks.new }
+    ensures marked { IsCellMarked area cell marks.new }
+    ensures numbers_kept { KeepsMarks numbers.old numbers.new }
+    ensures number_marked { IsNumberMarked area cell numbers.new }
+{
+    if let Some(number) = mark_cell(marks, area, cell) {
+        mark(numbers, number);
+    }
 }
 
 // Marks the cells of signals at all times.
@@ -71,57 +91,77 @@ fn mark_starred_cells(marks: &mut [u64], area: Box2, list: &[AllTimesSignal])
     }
 }
 
-// Marks the cells of the events from place `first` up to place `end`.
-fn mark_events(marks: &mut [u64], area: Box2, list: &[TimedSignal], first: usize, end: usize)
+// Marks the cells of the events from place `first` up to place `end`, and their numbers.
+fn mark_events(
+    marks: &mut [u64],
+    numbers: &mut [u64],
+    area: Box2,
+    list: &[TimedSignal],
+    first: usize,
+    end: usize,
+)
     requires room_for_marks { HasRoomForCellNumbers area marks.old }
+    requires room_for_numbers { HasRoomForNumbers area numbers.old }
     requires range { end ≤ length list.now }
     ensures marks_kept { KeepsMarks marks.old marks.new }
     ensures marked { (i : ℕ) (e : TimedSignal) → first ≤ i → i < end →
         slice_get list.now i ≡ Some e → IsCellMarked area e.at.cell marks.new }
+    ensures numbers_kept { KeepsMarks numbers.old numbers.new }
+    ensures numbers_marked { (i : ℕ) (e : TimedSignal) → first ≤ i → i < end →
+        slice_get list.now i ≡ Some e → IsNumberMarked area e.at.cell numbers.new }
 {
     for k in first..end {
-        mark_cell(marks, area, list[k].at.cell);
+        mark_event_cell(marks, numbers, area, list[k].at.cell);
     }
 }
 
-// Marks the cells of the events of a time, which are sought from a place on, and returns their places.
+// Marks the cells of the events of a time, which are sought from a place on, and their numbers. Returns their places.
 #[tactic(auto, using(crate::proofs::QuietLemmas::events_between))]
 fn mark_events_at(
     marks: &mut [u64],
+    numbers: &mut [u64],
     area: Box2,
     list: &[TimedSignal],
     place: usize,
     time: u32,
 ) -> EventPlaces
     requires room_for_marks { HasRoomForCellNumbers area marks.old }
+    requires room_for_numbers { HasRoomForNumbers area numbers.old }
     requires rising_moments { IsRising moment_cmp moment_of list.now }
     requires range { time < max_steps }
     ensures marks_kept { KeepsMarks marks.old marks.new }
     ensures marked { (i : ℕ) (e : TimedSignal) → slice_get list.now i ≡ Some e → e.at.time ≡ time →
         IsCellMarked area e.at.cell marks.new }
+    ensures numbers_kept { KeepsMarks numbers.old numbers.new }
+    ensures numbers_marked { (i : ℕ) (e : TimedSignal) → slice_get list.now i ≡ Some e →
+        e.at.time ≡ time → IsNumberMarked area e.at.cell numbers.new }
 {
     let first = first_event_place_from(list, place, time);
     let end = first_event_place_from(list, first, time + 1);
-    mark_events(marks, area, list, first, end);
+    mark_events(marks, numbers, area, list, first, end);
     EventPlaces { first, end }
 }
 
-// Marks the cells of which a schedule says something at the time, where those of its signals at all times have marks.
-// Its events are sought from a place on. Returns their places.
+// Marks the cells of which a schedule says something at the time, where those of its signals at all times have marks,
+// and the numbers of its events. These are sought from a place on. Returns their places.
 fn mark_schedule(
     marks: &mut [u64],
+    numbers: &mut [u64],
     area: Box2,
     schedule: &Schedule,
     place: usize,
     time: u32,
 ) -> EventPlaces
     requires room_for_marks { HasRoomForCellNumbers area marks.old }
+    requires room_for_numbers { HasRoomForNumbers area numbers.old }
     requires range { time < max_steps }
     requires all_times { AreStarredCellsMarked schedule.now area marks.old }
     ensures marks_kept { KeepsMarks marks.old marks.new }
     ensures unmarked_cells_zero { IsZeroAtUnmarked schedule.now area time marks.new }
+    ensures numbers_kept { KeepsMarks numbers.old numbers.new }
+    ensures unmarked_numbers_steady { IsSteadyAtUnmarked schedule.now area time numbers.new }
 {
-    mark_events_at(marks, area, schedule.events(), place, time)
+    mark_events_at(marks, numbers, area, schedule.events(), place, time)
 }
 
 // The box of a shape, with its corner at (0, 0).
@@ -222,20 +262,31 @@ pub fn signal_at_moment(schedule: &Schedule, moment: Moment, near: EventPlaces) 
     schedule.at(moment.time, moment.cell)
 }
 
-/// Marks the cells of which an edge or halo line says something at the time.
+/// Marks the cells of which an edge or halo line says something at the time, and the numbers of those of which it says
+/// this of the time alone.
 ///
-/// Those of which a line says something at all times have marks before.
-#[tactic(auto, using(crate::proofs::QuietLemmas::still_quiet, crate::proofs::QuietLemmas::quiet_moved))]
-pub fn mark_lines(marks: &mut [u64], places: &mut LinePlaces, job: &Job, time: u32)
+/// The cells of which a line says something at all times have marks before.
+#[tactic(auto, using(crate::proofs::QuietLemmas::still_quiet, crate::proofs::QuietLemmas::quiet_moved, crate::proofs::Steady::event_marks_of, crate::proofs::Steady::line_marks_of))]
+pub fn mark_lines(
+    marks: &mut [u64],
+    numbers: &mut [u64],
+    places: &mut LinePlaces,
+    job: &Job,
+    time: u32,
+)
     requires all_times { AreStarredCellMarks (shape_of job.now) marks.old }
+    requires room_for_numbers { HasRoomForNumbers job.now.area numbers.old }
     requires range { time < max_steps }
     ensures marks_kept { KeepsMarks marks.old marks.new }
     ensures lines { AreLineMarks job.now time marks.new }
+    ensures events { AreEventMarks job.now time numbers.new }
 {
     let shape: &Shape = job.shape();
     let area = box_at_origin_of(shape);
-    places.edges = mark_schedule(marks, area, shape.edges(), places.edges.end, time);
-    places.halos = mark_schedule(marks, area, shape.halos(), places.halos.end, time);
+    let edges = places.edges.end;
+    places.edges = mark_schedule(marks, numbers, area, shape.edges(), edges, time);
+    let halos = places.halos.end;
+    places.halos = mark_schedule(marks, numbers, area, shape.halos(), halos, time);
 }
 
 // Marks the cells of which an edge or halo line says something at all times.

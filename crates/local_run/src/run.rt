@@ -1,8 +1,10 @@
 //! The run of a job, and its finding.
-ghost use Rattle.std.specs.Prelude.{◌≡◌, ◌+◌, ◌%◌, ◌<◌, IfOk, MatchOption, false};
+ghost use Rattle.std.specs.Prelude.{ℕ, ◌≡◌, ◌+◌, ◌*◌, ◌%◌, ◌<◌, IfOk, MatchOption, false};
 ghost use Rattle.std.specs.Arc.{arc_value};
 ghost use Rattle.module_job.specs.Shapes.{shape_of};
+ghost use Rattle.lanes.specs.Settled.{IsSameAtNumber, IsSettled, KeepsSettled};
 ghost use Rattle.local_run.specs.Quiet.{AreStarredCellMarks};
+ghost use Rattle.local_run.specs.Steady.{AreEventMarks, IsSteadyWhereSettled};
 ghost use Rattle.local_run.specs.Faults.{IsLeastFault, IsLeastKeepFault};
 ghost use Rattle.local_run.specs.Scans.{IsHaloSet, IsFirstOfKind, IsFirstFaultAt, HasNoFaultOfKind, IsNextStop, IsPassed, IsReady, IsKindSoughtAt, Shows};
 ghost use Rattle.local_run.specs.Shown.{digest_of, number_of, job_of, fault_of, keep_of};
@@ -34,9 +36,12 @@ fn set_halo_find_edge_fault(
     requires lines { AreStarredCellMarks (shape_of job.now) lines.old.all_times.items }
     requires sought { IsKindSoughtAt job.now time Kind.Edge }
     requires shows { Shows job.now values.now time marked_planes.old.planes }
+    requires steady { IsSteadyWhereSettled job.now values.now marked_planes.old
+        lines.old.events.items }
     ensures shows { Shows job.now values.now time marked_planes.new.planes }
     ensures halo { IsHaloSet job.now values.now time marked_planes.new.planes }
     ensures lines { lines.new.all_times ≡ lines.old.all_times }
+    ensures events { AreEventMarks job.now time lines.new.events.items }
     ensures fault { MatchOption result (HasNoFaultOfKind job.now values.now time Kind.Edge)
         (λ f. IsFirstOfKind job.now values.now time Kind.Edge f) }
 {
@@ -69,9 +74,14 @@ fn fault_at_time(
     requires time_before_end { time < job.now.steps }
     requires shows { Shows job.now values.now time marked_planes.old.planes }
     requires next { IsNextStop job.now time next.old }
+    requires steady { IsSteadyWhereSettled job.now values.now marked_planes.old
+        lines.old.events.items }
     ensures shows { Shows job.now values.now time marked_planes.new.planes }
     ensures halo { time % 2 ≡ 1 → IsHaloSet job.now values.now time marked_planes.new.planes }
     ensures lines { lines.new.all_times ≡ lines.old.all_times }
+    ensures events { time % 2 ≡ 1 → AreEventMarks job.now time lines.new.events.items }
+    ensures even_unchanged { time % 2 ≡ 0 →
+        (marked_planes.new ≡ marked_planes.old) × (lines.new ≡ lines.old) }
     ensures fault { MatchOption result (IsPassed job.now values.now time next.new)
         (λ f. IsFirstFaultAt job.now values.now time f) }
 {
@@ -90,6 +100,11 @@ fn one_step(marked_planes: &mut MarkedPlanes, values: &Values, job: &Job, time: 
     requires halo { time % 2 ≡ 1 → IsHaloSet job.now values.now time marked_planes.old.planes }
     ensures next { Shows job.now values.now (time + 1) marked_planes.new.planes }
     ensures stays { result ≡ false → Shows job.now values.now time marked_planes.new.planes }
+    ensures settled_if_even { time % 2 ≡ 0 → KeepsSettled marked_planes.old marked_planes.new }
+    ensures settled_if_odd { time % 2 ≡ 1 → (u : ℕ) →
+        u < marked_planes.old.planes.stride * marked_planes.old.planes.rows →
+        IsSettled marked_planes.new u →
+        IsSameAtNumber u marked_planes.old.planes marked_planes.new.planes }
 {
     if time % 2 == 0 {
         make_even_step(marked_planes, values, job, time)
@@ -101,6 +116,7 @@ fn one_step(marked_planes: &mut MarkedPlanes, values: &Values, job: &Job, time: 
 // The least fault of the job, by a run under all assignments at once. Where an odd step and the even one after it
 // change nothing, nothing changes before the next time at which a line of ring or halo begins or ends, and the times up
 // to it or to the next stop are leapt over.
+#[tactic(auto, using(crate::proofs::Steady::steady_at_start))]
 fn least_fault(alloc: Global, values: &Values, job: &Job) -> Result<Option<Fault>, AllocError>
     requires { IsReady job.now values.now }
     ensures { IfOk result (λ o. IsLeastFault job.now o) }

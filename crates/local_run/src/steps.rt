@@ -3,6 +3,7 @@ ghost use Rattle.std.specs.Prelude.{ℕ, ◌≡◌, ◌+◌, ◌*◌, ◌/◌, �
 ghost use Rattle.module_job.specs.Jobs.{job_start};
 ghost use Rattle.lanes.specs.Calm.{AreAllCellsDead};
 ghost use Rattle.lanes.specs.Lanes.{HasWordsStrideRows, lane};
+ghost use Rattle.lanes.specs.Settled.{IsSameAtNumber, IsSettled, KeepsSettled};
 ghost use Rattle.local_run.specs.Places.{box_coord};
 ghost use Rattle.local_run.specs.Scans.{IsHaloSet, IsReady, PutsCell, Shows};
 
@@ -21,9 +22,10 @@ fn put_start_cell(marked_planes: &mut MarkedPlanes, values: &Values, job: &Job, 
     requires place { (x < job.now.area.w) × (y < job.now.area.h) }
     requires cell_dead { (a : ℕ) → a < 64 * values.now.words →
         lane marked_planes.old.planes a (1 + x) (1 + y) ≡ false }
-    ensures { PutsCell values.now (1 + x) (1 + y)
+    ensures puts { PutsCell values.now (1 + x) (1 + y)
         (job_start job.now (box_coord job.now.area.x x) (box_coord job.now.area.y y))
         marked_planes.old.planes marked_planes.new.planes }
+    ensures settled { KeepsSettled marked_planes.old marked_planes.new }
 {
     let signal = start_signal_at(job, x, y);
     if let Signal::Zero = signal {
@@ -39,7 +41,8 @@ pub fn put_start(marked_planes: &mut MarkedPlanes, values: &Values, job: &Job)
     requires size { HasWordsStrideRows values.now.words (job.now.area.w / 2 + 1)
         (job.now.area.h / 2 + 1) marked_planes.old.planes }
     requires all_cells_dead { AreAllCellsDead marked_planes.old.planes }
-    ensures { Shows job.now values.now 0 marked_planes.new.planes }
+    ensures shows { Shows job.now values.now 0 marked_planes.new.planes }
+    ensures settled { KeepsSettled marked_planes.old marked_planes.new }
 {
     let area = job.area();
     for y in 0..area.h as usize {
@@ -65,6 +68,10 @@ pub fn make_odd_step(
     requires halo { IsHaloSet job.now values.now time marked_planes.old.planes }
     ensures next { Shows job.now values.now (time + 1) marked_planes.new.planes }
     ensures stays { result ≡ false → Shows job.now values.now time marked_planes.new.planes }
+    ensures settled_are_same { (u : ℕ) →
+        u < marked_planes.old.planes.stride * marked_planes.old.planes.rows →
+        IsSettled marked_planes.new u →
+        IsSameAtNumber u marked_planes.old.planes marked_planes.new.planes }
 {
     marked_planes.odd_step()
 }
@@ -82,6 +89,7 @@ pub fn make_even_step(
     requires shows { Shows job.now values.now time marked_planes.old.planes }
     ensures next { Shows job.now values.now (time + 1) marked_planes.new.planes }
     ensures stays { result ≡ false → Shows job.now values.now time marked_planes.new.planes }
+    ensures settled { KeepsSettled marked_planes.old marked_planes.new }
 {
     marked_planes.even_step()
 }

@@ -6,6 +6,7 @@ ghost use Rattle.module_job.specs.Signals.{is_live};
 ghost use Rattle.lanes.specs.Lanes.{HasWords, lane, word_of};
 ghost use Rattle.local_run.specs.Scans.{HasValueRow, IsLeastBelow, IsReady, IsCellAsSignalUnderWords, KeepsValuesWhereDefined, PutsCell, is_defined_under, valuation};
 ghost use Rattle.module_box.specs.LocalValues.{value_of};
+ghost use Rattle.lanes.specs.Settled.{KeepsSettled};
 
 use lanes::{MarkedPlanes, Planes, WordSource};
 use module_box::{Signal, ValueRows};
@@ -230,7 +231,9 @@ impl Values {
             × (y / 2 < marked_planes.old.planes.rows) }
         requires words { self.now.words ≡ marked_planes.old.planes.words }
         requires row { HasValueRow self.now signal }
-        ensures { PutsCell self.now x y signal marked_planes.old.planes marked_planes.new.planes }
+        ensures puts { PutsCell self.now x y signal marked_planes.old.planes
+            marked_planes.new.planes }
+        ensures settled { KeepsSettled marked_planes.old marked_planes.new }
     {
         marked_planes.put(x, y, &self.rows.values, self.source(signal));
     }

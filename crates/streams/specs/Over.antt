@@ -1,4 +1,4 @@
--- The reader or writer inside a `Over`.
+-- The reader or writer inside an `Over`.
 use Rattle.std.specs.Prelude.{Bool}
 use Rattle.streams.specs.declared.over.Over.{Over}
 

@@ -3,7 +3,7 @@ use Rattle.local_run.proofs.border.set_halo_cell.Goals as goal
 
 pub returns-then-is_different-clause-shows : goal.returns-then-is_different-clause-shows
 returns-then-is_different-clause-shows c =
-    let e = c.put.ensures in
+    let e = c.put.ensures.puts in
     let shows = c.requires.shows in
     let room = c.requires.job_ready.room in
     let count = c.requires.job_ready.count in

@@ -1,17 +1,24 @@
-use Rattle.local_run.proofs.Imports.{AreSkippableBetween, Edge, IsFaultWhereDefined, Planes, and_parts, ap, ap₂, arith}
-use Rattle.local_run.proofs.Imports.{box_coord, by_lt_or_le, halo_coord, number_at, subst, ℕ, ℤ, ◌%◌, ◌*◌, ◌+◌, ◌/◌}
+use Rattle.local_run.proofs.Imports.{Edge, IsFaultWhereDefined, Planes, and_parts, ap, ap₂, arith}
+use Rattle.local_run.proofs.Imports.{box_coord, by_lt_or_le, halo_coord, number_at, refl, subst, ℕ, ℤ, ◌%◌, ◌*◌, ◌+◌, ◌/◌}
 use Rattle.local_run.proofs.Imports.{◌<◌, ◌∙◌, ◌≡◌, ◌≤◌}
 use Rattle.lanes.proofs.MarkSearch.{whole_zero}
 use Rattle.local_run.proofs.Firsts.{free_from}
 use Rattle.local_run.proofs.QuietLemmas.{number_below}
-use Rattle.local_run.proofs.Silence.{passed_edges, passed_halo}
+use Rattle.local_run.proofs.Steady.{correct_unless_marked, still_settled}
 use Rattle.local_run.proofs.Stepping.{outer_inner}
+use Rattle.local_run.specs.Steady.{IsNumberCorrect}
 use Rattle.local_run.proofs.border.set_halo_check_ring.Goals as goal
 
-pub set_halo_test_ring_in_word-is_right-requires-clause-unset_are_skippable :
-    goal.set_halo_test_ring_in_word-is_right-requires-clause-unset_are_skippable
-set_halo_test_ring_in_word-is_right-requires-clause-unset_are_skippable c = λ u e none.
-    (rw c.marks.ensures at c.border_marks_to_check-word.ensures.unset_are_skippable) u (omega (arith, e)) none
+pub set_halo_test_ring_in_word-is_right-requires-clause-unset_are_correct :
+    goal.set_halo_test_ring_in_word-is_right-requires-clause-unset_are_correct
+set_halo_test_ring_in_word-is_right-requires-clause-unset_are_correct c = λ u e none.
+    let l = c.args.lines.now in
+    let m = c.loop-k.invariant in
+    let says = rw (c.marks.ensures, c.events.ensures, c.last_events.ensures)
+    at c.border_marks_to_check-word.ensures.unset_need_no_look in
+    correct_unless_marked c.args.job.now c.args.values.now l.time c.loop-k.marked_planes l.marks.items l.events.items
+    l.last_events.items u c.requires.job_ready m.shows c.requires.lines c.requires.events m.steady
+    (says u (omega (arith, e)) none)
 
 pub loop-k-preserved : goal.loop-k-preserved
 loop-k-preserved c =
@@ -20,6 +27,9 @@ loop-k-preserved c =
     let e = c.set_halo_test_ring_in_word-is_right.ensures in
     record {
       shows = e.shows;
+      steady = still_settled j c.args.values.now c.loop-k.marked_planes
+          c.set_halo_test_ring_in_word-is_right.new.marked_planes c.args.lines.now.last_events.items
+          c.requires.job_ready m.shows.size e.settled m.steady;
       halo = λ x y lx ly before. by_lt_or_le (number_at j.area x y) (64 * c.loop-k.k)
           (λ h b lb out. e.rest b x y lb lx h ∙ m.halo x y lx ly h b lb out)
           (λ g. e.halo x y lx ly g (omega (arith, before)));
@@ -31,22 +41,23 @@ loop-k-preserved c =
 pub loop-k-preserved-then-word-eq0 : goal.loop-k-preserved-then-word-eq0
 loop-k-preserved-then-word-eq0 c =
     let j = c.args.job.now in
+    let l = c.args.lines.now in
     let m = c.loop-k.invariant in
     let p = c.loop-k.marked_planes in
+    let says = rw (c.marks.ensures, c.events.ensures, c.last_events.ensures)
+    at c.border_marks_to_check-word.ensures.unset_need_no_look in
     let passed : (n : ℕ) → 64 * c.loop-k.k ≤ n → n < 64 * (c.loop-k.k + 1) →
-    AreSkippableBetween n (n + 1) c.args.lines.now.marks.items p.planes =
-    λ n g h. (rw c.marks.ensures at c.border_marks_to_check-word.ensures.unset_are_skippable) n (omega arith)
-    (whole_zero _ (n % 64) c.if-word-eq0.true) in
+    IsNumberCorrect j c.args.values.now l.time p.planes n = λ n g h.
+    correct_unless_marked j c.args.values.now l.time p l.marks.items l.events.items l.last_events.items n
+    c.requires.job_ready m.shows c.requires.lines c.requires.events m.steady
+    (says n (omega arith) (whole_zero _ (n % 64) c.if-word-eq0.true)) in
     record {
       shows = m.shows;
+      steady = m.steady;
       halo = λ x y lx ly before. by_lt_or_le (number_at j.area x y) (64 * c.loop-k.k) (m.halo x y lx ly)
-          (λ g. passed_halo j c.args.values.now p.planes c.args.lines.now.time x y c.args.lines.now.marks.items
-          c.requires.job_ready m.shows c.requires.lines (passed (number_at j.area x y) g (omega (arith, before))) lx
-          ly);
+          (λ g. (passed (number_at j.area x y) g (omega (arith, before))).halo x y lx ly refl);
       right = λ all x y lx ly before. by_lt_or_le (number_at j.area x y) (64 * c.loop-k.k) (m.right all x y lx ly)
-          (λ g. passed_edges j c.args.values.now p.planes c.args.lines.now.time x y c.args.lines.now.marks.items
-          c.requires.job_ready m.shows c.requires.lines (passed (number_at j.area x y) g (omega (arith, before))) lx
-          ly);
+          (λ g. (passed (number_at j.area x y) g (omega (arith, before))).edges x y lx ly refl);
     }
 
 pub returns-clause-halo : goal.returns-clause-halo

@@ -1,6 +1,7 @@
 use Rattle.local_run.proofs.Imports.{IsEdgeCorrectAt, IsHaloCellSet, Shows, number_at, trailing_zeros, true, w64, ℕ}
 use Rattle.local_run.proofs.Imports.{◌+◌, ◌-◌, ◌<◌, ◌≡◌}
 use Rattle.local_run.specs.Scans.{IsSameBeforeNumber}
+use Rattle.lanes.specs.Settled.{KeepsSettled}
 use Rattle.lanes.specs.Sweeps.{IsInRangeNotInWord}
 use Rattle.local_run.proofs.border.set_halo_test_ring_in_word.Given as goal
 
@@ -14,6 +15,7 @@ invariant-loop-rest l = record {
   right : l.is_right ≡ true → (x y : ℕ) → x < l.job.area.w + 2 → y < l.job.area.h + 2 →
       IsInRangeNotInWord l.first (l.first + 64) l.rest (number_at l.job.area x y) →
       IsEdgeCorrectAt l.job l.values l.lines.time x y;
+  settled : KeepsSettled l.fn.marked_planes l.marked_planes;
   same : IsSameBeforeNumber l.job l.fn.marked_planes.planes l.marked_planes.planes l.first;
 }
 

@@ -1,5 +1,6 @@
 use Rattle.local_run.proofs.Imports.{IsEdgeCorrectAt, IsHaloCellSet, and_parts, arith, ℕ, ◌∙◌}
 use Rattle.local_run.proofs.Silence.{four_cells}
+use Rattle.lanes.proofs.SettledLemmas.{settled_twice}
 use Rattle.local_run.proofs.border.set_or_test_four_cells.Goals as goal
 
 pub returns-clause-edges : goal.returns-clause-edges
@@ -40,3 +41,15 @@ returns-clause-rest c =
     ∙ e3.rest a x y la lx (λ s. let h = s in out (omega (arith, h.0), omega (arith, h.1)))
     ∙ e2.rest a x y la lx (λ s. let h = s in out (omega (arith, h.0), omega (arith, h.1)))
     ∙ e1.rest a x y la lx (λ s. let h = s in out (omega (arith, h.0), omega (arith, h.1)))
+
+pub returns-clause-settled : goal.returns-clause-settled
+returns-clause-settled c =
+    let m = c.args.marked_planes.now in
+    let m1 = c.set_halo_or_test_ring_cell-first.new.marked_planes in
+    let m2 = c.set_halo_or_test_ring_cell-second.new.marked_planes in
+    let m3 = c.set_halo_or_test_ring_cell-third.new.marked_planes in
+    let m4 = c.set_halo_or_test_ring_cell-fourth.new.marked_planes in
+    settled_twice m m1 m4 c.set_halo_or_test_ring_cell-first.ensures.settled
+    (settled_twice m1 m2 m4 c.set_halo_or_test_ring_cell-second.ensures.settled
+    (settled_twice m2 m3 m4 c.set_halo_or_test_ring_cell-third.ensures.settled
+    c.set_halo_or_test_ring_cell-fourth.ensures.settled))

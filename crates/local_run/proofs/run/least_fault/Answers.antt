@@ -1,6 +1,8 @@
-use Rattle.local_run.proofs.Imports.{HasNoFaultOfKind, IsFirstOfKind, Stop, arith, common_steps, subst, ℕ, ◌≡◌}
+use Rattle.local_run.proofs.Imports.{HasNoFaultOfKind, IsFirstOfKind, Stop, ap, arith, common_steps, subst, ℕ, ◌≡◌}
 use Rattle.local_run.proofs.Leasts.{AreFreeBefore, early_least, end_least_fault, last_stop_least}
 use Rattle.local_run.proofs.LeapRuns.{next_run}
+use Rattle.local_run.proofs.Steady.{steady_next}
+use Rattle.local_run.specs.declared.line_marks.LineMarks.{LineMarks}
 use Rattle.local_run.proofs.run.least_fault.Goals as goal
 
 pub loop-time-preserved : goal.loop-time-preserved
@@ -16,6 +18,13 @@ loop-time-preserved c =
           c.requires c.loop-time.invariant.run
           (omega (arith, range)) c.in_default.ensures.fault one.next one.stays range next.leap
           next.next;
+      steady = steady_next c.args.job.now c.args.values.now c.loop-time.time c.loop-time.marked_planes
+          c.fault_at_time.new.marked_planes c.one_step-changed.new.marked_planes c.loop-time.lines.events.items
+          c.fault_at_time.new.lines.events.items c.requires c.in_default.ensures.shows (omega (arith, range))
+          c.in_default.ensures.halo c.in_default.ensures.fault.edges c.in_default.ensures.events
+          (λ even. let same = c.in_default.ensures.even_unchanged even in
+          (same.0, ap (λ (l : LineMarks). l.events.items) same.1)) one.settled_if_even one.settled_if_odd
+          c.loop-time.invariant.steady;
       lines = grind (arith, common_steps);
     }
 

@@ -1,5 +1,7 @@
 use Rattle.lanes.proofs.CalmLemmas.{still_stable}
 use Rattle.lanes.proofs.LiveLemmas.{cells_dead}
+use Rattle.lanes.proofs.SettledLemmas.{kept_number, same_number_twice}
+use Rattle.lanes.proofs.Imports.{Odd}
 use Rattle.lanes.proofs.marked_planes.MarkedPlanes.put.Goals as goal
 
 pub invariant_of-self-clause-calm : goal.invariant_of-self-clause-calm
@@ -26,3 +28,20 @@ invariant_of-self-clause-all_dead c =
       c.cell_number-u.ensures.number_is_exact,
     ) at c.mark_cells.ensures.cells in
     cells_dead _ _ _ f.live_marks c.mark_cells.new.self f.planes c.put.new.self e.cell_set.size e.cells marks f.all_dead
+
+pub returns-clause-settled : goal.returns-clause-settled
+returns-clause-settled c = λ u is.
+    let f = c.args.self.now in
+    let e = c.put.ensures in
+    let marks = rw (
+      c.of_cell-changes.ensures.main,
+      c.of_cell-changes.ensures.anti,
+      c.stride.ensures.stride_is_exact,
+      c.cell_number-u.ensures.number_is_exact,
+    ) at c.mark_changes.ensures.marked in
+    let s = c.unmark_dead_cells.ensures.settled u is in
+    let free = marks Odd u s.0.1 in (
+      (s.0.0, free.0),
+      same_number_twice u f.planes _ c.unmark_dead_cells.new.self.planes
+          (kept_number _ _ _ f.planes _ u e.cell_set.size e.cells free.1) s.1,
+    )

@@ -1,6 +1,7 @@
 use Rattle.lanes.proofs.Imports.{TurnsBlocksBetween, arith, block_count, by_lt_or_le, inl, inr, ◌*◌, ◌+◌, ◌∙◌, ◌≡◌}
 use Rattle.lanes.proofs.CalmLemmas.{same_count}
 use Rattle.lanes.proofs.FieldLemmas.{all_turned, below_all, word_more, word_more_none}
+use Rattle.lanes.proofs.SettledLemmas.{settled_twice}
 use Rattle.lanes.proofs.marked_planes.MarkedPlanes.step_by_marks.Goals as goal
 
 pub loop-k-preserved : goal.loop-k-preserved
@@ -12,6 +13,8 @@ loop-k-preserved c =
     record {
       size = (t.size.0 ∙ m.size.0, t.size.1 ∙ m.size.1, t.size.2 ∙ m.size.2);
       stays = λ e. t.unchanged_if_zero (none e).1 ∙ m.stays (none e).0;
+      settled = λ e. settled_twice c.args.self.now c.loop-k.self c.turn_marked_blocks-changed.new.self (m.settled e)
+          (t.settled_if_even e);
       count = (omega arith, omega arith);
       turned = word_more c.args.partition c.args.self.now.planes c.loop-k.self.planes
           c.turn_marked_blocks-changed.new.self.planes c.loop-k.k c.min-end.result c.block_count-blocks.result m.size
@@ -28,6 +31,7 @@ loop-k-preserved-then-word-eq0 c =
     record {
       size = m.size;
       stays = m.stays;
+      settled = m.settled;
       count = (omega arith, omega arith);
       turned = word_more_none c.args.partition c.args.self.now.planes c.loop-k.self.planes c.loop-k.k
           c.block_count-blocks.result c.blocks_to_turn-word.result m.size (omega arith) c.if-word-eq0.true

@@ -1,7 +1,8 @@
-use Rattle.lanes.proofs.Imports.{block_at, is_main, not}
+use Rattle.lanes.proofs.Imports.{Odd, block_at, is_main, not}
 use Rattle.lanes.proofs.CalmLemmas.{cells_of, still_stable}
 use Rattle.lanes.proofs.LiveLemmas.{lone_turned, swapped_cells, swapped_dead}
 use Rattle.lanes.proofs.FrozenLemmas.{one_may_turn, still_frozen}
+use Rattle.lanes.proofs.SettledLemmas.{kept_number}
 use Rattle.lanes.proofs.marked_planes.MarkedPlanes.swap_lone.Goals as goal
 
 pub invariant_of-self-clause-calm : goal.invariant_of-self-clause-calm
@@ -35,3 +36,17 @@ invariant_of-self-clause-freezes c =
     c.swap-2.new.self (cells_of c.args.partition f.planes c.args.u c.requires.block.0) c.requires.diagonal_lone
     f.all_dead swap))
     f.freezes
+
+pub returns-clause-settled_if_even : goal.returns-clause-settled_if_even
+returns-clause-settled_if_even c = λ even u is.
+    let f = c.args.self.now in
+    let swap = rw c.block_places-block.ensures.block at c.swap-2.ensures.swapped in
+    let marks = rw (c.of.ensures.main, c.of.ensures.anti, c.stride-stride.ensures.stride_is_exact)
+    at c.mark_changes.ensures.marked in
+    let free = marks Odd u is.1 in (
+      (is.0, free.0),
+      kept_number (is_main c.args.diagonal) (not (is_main c.args.diagonal))
+          (block_at c.args.partition f.planes.stride c.args.u) f.planes c.swap-2.new.self u c.swap-2.ensures.size
+          (swapped_cells c.args.diagonal (block_at c.args.partition f.planes.stride c.args.u) f.planes
+          c.swap-2.new.self swap) free.1,
+    )

@@ -1,0 +1,215 @@
+-- Cells of ring and halo that need no look, since they carry their signals at all times
+use Rattle.local_run.proofs.Imports.{AreSkippableBetween, Bool, Box2, Cell, Edge, HasNoFaultOfKind, HasWordsStrideRows}
+use Rattle.local_run.proofs.Imports.{IsReady, JobView, KeepsMarks, List, Planes, Shows, Signals, Some, TimedSignal}
+use Rattle.local_run.proofs.Imports.{Values, ap, ap₂, arith, assignments, by_eq_or_not, common_steps, event_at, event_none, halo_coord, is_live}
+use Rattle.local_run.proofs.Imports.{[], moved_signals, number_at, refl, shift_to_origin, signal_at}
+use Rattle.local_run.proofs.Imports.{signals_moved, slice_get, subst, sym, valuation, ℕ, ℤ, ◌%◌, ◌*◌, ◌+◌, ◌/◌, ◌<◌, ◌∙◌}
+use Rattle.local_run.proofs.Imports.{inl, inr, ◌≡◌, ◌≢◌, ◌⊎◌}
+use Rattle.bbm_rule.specs.Marks.{IsUnmarked, MarksOne}
+use Rattle.lanes.specs.Settled.{IsSameAtNumber, IsSettled, KeepsSettled}
+use Rattle.lanes.specs.declared.marked_planes.MarkedPlanes.{MarkedPlanes}
+use Rattle.local_run.proofs.Imports.{AreStarredCellMarks, length, shape_of}
+use Rattle.local_run.specs.Quiet.{AreLineMarks, IsZeroAtUnmarked, box_at_origin}
+use Rattle.local_run.specs.Scans.{IsHaloSet}
+use Rattle.local_run.specs.Steady.{AreEventMarks, IsNumberCorrect, IsNumberMarked, IsNumberOfCell, IsNumberSteady}
+use Rattle.local_run.specs.Steady.{IsOutsideHalo, IsSteadyAtUnmarked, IsSteadyWhereSettled, all_times_signal}
+use Rattle.local_run.proofs.QuietLemmas.{number_below, outer_back, outer_same, quiet_moved, still_quiet}
+use Rattle.local_run.proofs.Silence.{passed_edges, passed_halo, ring_in_box, shown_at}
+
+-- ---- signals of a time without an event
+steady_signal : (s : Signals) (t : ℕ) (x y : ℤ) →
+    ((i : ℕ) (e : TimedSignal) → slice_get s.events i ≡ Some e → e.at.time ≡ t → (e.at.cell.x ≡ x) × (e.at.cell.y ≡ y) →
+    ⊥) →
+    signal_at s t x y ≡ all_times_signal s x y
+unfolding signal_at event_at
+steady_signal s t x y events =
+    let v = event_none s.events (record { time = t; cell = record { x = x; y = y } })
+    (λ i e at same. events i e at (ap (λ m. m.time) same) (ap (λ m. m.cell.x) same, ap (λ m. m.cell.y) same)) in
+    rw v refl'
+  where
+    refl' : all_times_signal s x y ≡ all_times_signal s x y
+    refl' = refl
+
+pub steady_in : (s : Signals) (b : Box2) (t : ℕ) (marks : List ℕ) →
+    ((i : ℕ) (e : TimedSignal) → slice_get s.events i ≡ Some e → e.at.time ≡ t → IsNumberMarked b e.at.cell marks) →
+    IsSteadyAtUnmarked s b t marks
+steady_in s b t marks events x y lx ly free = steady_signal s t _ _
+    (λ i e at same here. events i e at same x y lx ly here.0 here.1 free)
+
+pub still_steady : (s : Signals) (b : Box2) (t : ℕ) (old new : List ℕ) → KeepsMarks old new →
+    IsSteadyAtUnmarked s b t old → IsSteadyAtUnmarked s b t new
+still_steady s b t old new keeps steady x y lx ly free = steady x y lx ly (keeps (number_at b x y) free)
+
+-- the number of a cell has a mark after it was made
+pub number_marked : (b : Box2) (c : Cell) (u : ℕ) (old new : List ℕ) → IsNumberOfCell b c u → MarksOne u old new →
+    IsNumberMarked b c new
+number_marked b c u old new is one x y lx ly ex ey free = (one (number_at b x y) free).1 (is x y lx ly ex ey)
+
+-- the number of a cell
+pub number_of_cell : (b : Box2) (c : Cell) (x y : ℕ) → b.w % 2 ≡ 0 → b.h % 2 ≡ 0 → x < b.w + 2 → y < b.h + 2 →
+    c.x ≡ halo_coord b.x x → c.y ≡ halo_coord b.y y →
+    (number_at b x y < (b.w / 2 + 1) * (b.h / 2 + 1)) × IsNumberOfCell b c (number_at b x y)
+number_of_cell b c x y ew eh lx ly ex ey = (
+  number_below b x y ew eh lx ly,
+  λ x' y' lx' ly' ex' ey'. ap₂ (number_at b) (outer_same b.x x' x (sym ex' ∙ ex)) (outer_same b.y y' y (sym ey' ∙ ey)),
+)
+
+pub outside_marked : (b : Box2) (c : Cell) (marks : List ℕ) → IsOutsideHalo b c → IsNumberMarked b c marks
+outside_marked b c marks out x y lx ly ex ey free = out x y lx ly ex ey
+
+pub still_number_marked : (b : Box2) (c : Cell) (old new : List ℕ) → KeepsMarks old new → IsNumberMarked b c old →
+    IsNumberMarked b c new
+still_number_marked b c old new keeps marked x y lx ly ex ey free = marked x y lx ly ex ey (keeps (number_at b x y) free)
+
+pub steady_moved : (s : Signals) (b : Box2) (t : ℕ) (marks : List ℕ) →
+    IsSteadyAtUnmarked (moved_signals (shift_to_origin b.x) (shift_to_origin b.y) s)
+    (record { x = 0; y = 0; w = b.w; h = b.h }) t marks →
+    IsSteadyAtUnmarked s b t marks
+steady_moved s b t marks steady x y lx ly free =
+    sym (signals_moved dx dy s t (halo_coord b.x x) (halo_coord b.y y))
+    ∙ ap₂ (signal_at (moved_signals dx dy s) t) (outer_back b.x x) (outer_back b.y y) ∙ steady x y lx ly free
+    ∙ sym (ap₂ (all_times_signal (moved_signals dx dy s)) (outer_back b.x x) (outer_back b.y y))
+    ∙ signals_moved dx dy (record { all_times = s.all_times; events = [] }) 0 (halo_coord b.x x) (halo_coord b.y y)
+  where
+    dx : ℤ
+    dx = shift_to_origin b.x
+
+    dy : ℤ
+    dy = shift_to_origin b.y
+
+-- the marks of both schedules of a job, counted from the corner of its box
+pub event_marks_of : (j : JobView) (t : ℕ) (first new : List ℕ) → KeepsMarks first new →
+    IsSteadyAtUnmarked (shape_of j).edges (box_at_origin (shape_of j)) t first →
+    IsSteadyAtUnmarked (shape_of j).halos (box_at_origin (shape_of j)) t new → AreEventMarks j t new
+event_marks_of j t first new keeps edges halos = record {
+  edges = steady_moved j.edges j.area t new (still_steady (shape_of j).edges (box_at_origin (shape_of j)) t first new
+      keeps edges);
+  halos = steady_moved j.halos j.area t new halos;
+}
+
+pub line_marks_of : (j : JobView) (t : ℕ) (old first new : List ℕ) → AreStarredCellMarks (shape_of j) old →
+    length new ≡ length old → KeepsMarks first new →
+    IsZeroAtUnmarked (shape_of j).edges (box_at_origin (shape_of j)) t first →
+    IsZeroAtUnmarked (shape_of j).halos (box_at_origin (shape_of j)) t new → AreLineMarks j t new
+line_marks_of j t old first new starred long keeps edges halos = record {
+  room = let room = starred.room in omega (arith, room, long);
+  edges = quiet_moved j.edges j.area t new (still_quiet (shape_of j).edges (box_at_origin (shape_of j)) t first new
+      keeps edges);
+  halos = quiet_moved j.halos j.area t new halos;
+}
+
+-- ---- numbers whose cells carry their signals at all times
+same_if_not_other : (a b : Bool) → (a ≢ b → ⊥) → a ≡ b
+same_if_not_other a b h = grind (arith, common_steps, common_steps)
+
+-- after ring and halo were looked at, so do all numbers without an event
+pub steady_after_check : (j : JobView) (vs : Values) (t : ℕ) (p : Planes) (events : List ℕ) → Shows j vs t p →
+    t % 2 ≡ 1 → t < j.steps → IsHaloSet j vs t p → HasNoFaultOfKind j vs t Edge → AreEventMarks j t events → (u : ℕ) →
+    IsUnmarked events u → IsNumberSteady j vs p u
+steady_after_check j vs t p events shows odd early halo none marks u free = record {
+  halo = λ a x y la lx ly at out.
+      halo x y lx ly a la out ∙ ap (is_live (valuation vs a)) (marks.halos x y lx ly (subst (IsUnmarked events) (sym at) free));
+  edge = λ a x y la lx ly at ring defined. shown_at j vs p t x y a shows la (ring_in_box j.area _ _ ring)
+      ∙ same_if_not_other _ _ (λ ne. none _ _ a la (
+        defined,
+        record { odd = odd; early = early; ring = ring; differs = ne },
+      ))
+      ∙ ap (is_live (valuation vs a)) (marks.edges x y lx ly (subst (IsUnmarked events) (sym at) free));
+}
+
+-- they still do if the cells stay
+steady_kept : (j : JobView) (vs : Values) (p q : Planes) (u : ℕ) → IsReady j vs →
+    HasWordsStrideRows vs.words (j.area.w / 2 + 1) (j.area.h / 2 + 1) p → IsSameAtNumber u p q →
+    IsNumberSteady j vs p u → IsNumberSteady j vs q u
+steady_kept j vs p q u ready size same steady = record {
+  halo = λ a x y la lx ly at out. same.cells a x y (in_words a la) (in_row x lx) (number x y at)
+      ∙ steady.halo a x y la lx ly at out;
+  edge = λ a x y la lx ly at ring defined. same.cells a x y (in_words a la) (in_row x lx) (number x y at)
+      ∙ steady.edge a x y la lx ly at ring defined;
+}
+  where
+    in_words : (a : ℕ) → a < assignments j → a < 64 * p.words
+    in_words a la = let room = ready.room in let count = ready.count in let s0 = size.0 in omega arith
+
+    in_row : (x : ℕ) → x < j.area.w + 2 → x / 2 < p.stride
+    in_row x lx = let s1 = size.1 in let even = ready.job.even.w in omega arith
+
+    number : (x y : ℕ) → number_at j.area x y ≡ u → p.stride * (y / 2) + x / 2 ≡ u
+    number x y at = ap (λ (s : ℕ). s * (y / 2) + x / 2) size.1 ∙ at
+
+pub still_settled : (j : JobView) (vs : Values) (m m' : MarkedPlanes) (marks : List ℕ) → IsReady j vs →
+    HasWordsStrideRows vs.words (j.area.w / 2 + 1) (j.area.h / 2 + 1) m.planes → KeepsSettled m m' →
+    IsSteadyWhereSettled j vs m marks → IsSteadyWhereSettled j vs m' marks
+still_settled j vs m m' marks ready size keeps steady u is free =
+    let k = keeps u is in
+    steady_kept j vs m.planes m'.planes u ready size k.1 (steady u k.0 free)
+
+-- after the odd step that follows, so do those that are settled
+pub settled_after_odd : (j : JobView) (vs : Values) (t : ℕ) (p : Planes) (m' : MarkedPlanes) (events : List ℕ) →
+    IsReady j vs → Shows j vs t p → t % 2 ≡ 1 → t < j.steps → IsHaloSet j vs t p → HasNoFaultOfKind j vs t Edge →
+    AreEventMarks j t events →
+    ((u : ℕ) → u < p.stride * p.rows → IsSettled m' u → IsSameAtNumber u p m'.planes) →
+    IsSteadyWhereSettled j vs m' events
+settled_after_odd j vs t p m' events ready shows odd early halo none marks same u is free = record {
+  halo = λ a x y la lx ly at out. (after (number_small x y lx ly at)).halo a x y la lx ly at out;
+  edge = λ a x y la lx ly at ring defined. (after (number_small x y lx ly at)).edge a x y la lx ly at ring defined;
+}
+  where
+    number_small : (x y : ℕ) → x < j.area.w + 2 → y < j.area.h + 2 → number_at j.area x y ≡ u → u < p.stride * p.rows
+    number_small x y lx ly at = rw (shows.size.1, shows.size.2, sym at)
+        (number_below j.area x y ready.job.even.w ready.job.even.h lx ly)
+
+    after : u < p.stride * p.rows → IsNumberSteady j vs m'.planes u
+    after within = steady_kept j vs p m'.planes u ready shows.size (same u within is)
+        (steady_after_check j vs t p events shows odd early halo none marks u free)
+
+-- at the start no number is settled
+pub steady_at_start : (j : JobView) (vs : Values) (m m' : MarkedPlanes) (marks : List ℕ) →
+    ((u : ℕ) → IsSettled m u → ⊥) → KeepsSettled m m' → IsSteadyWhereSettled j vs m' marks
+steady_at_start j vs m m' marks none keeps u is free = absurd (none u (keeps u is).0)
+
+-- so they are at the next time: an even step keeps what is settled
+pub steady_next : (j : JobView) (vs : Values) (t : ℕ) (m m' m'' : MarkedPlanes) (old new : List ℕ) → IsReady j vs →
+    Shows j vs t m'.planes → t < j.steps →
+    (t % 2 ≡ 1 → IsHaloSet j vs t m'.planes) → (t % 2 ≡ 1 → HasNoFaultOfKind j vs t Edge) →
+    (t % 2 ≡ 1 → AreEventMarks j t new) → (t % 2 ≡ 0 → (m' ≡ m) × (new ≡ old)) →
+    (t % 2 ≡ 0 → KeepsSettled m' m'') →
+    (t % 2 ≡ 1 → (u : ℕ) → u < m'.planes.stride * m'.planes.rows → IsSettled m'' u →
+    IsSameAtNumber u m'.planes m''.planes) →
+    IsSteadyWhereSettled j vs m old → IsSteadyWhereSettled j vs m'' new
+steady_next j vs t m m' m'' old new ready shows early halo none marks unchanged even_step odd_step steady =
+    by_eq_or_not (t % 2) 0
+    (λ even. let same = unchanged even in
+    subst (IsSteadyWhereSettled j vs m'') (sym same.1)
+    (still_settled j vs m' m'' old ready shows.size (even_step even)
+    (subst (λ (n : MarkedPlanes). IsSteadyWhereSettled j vs n old) (sym same.0) steady)))
+    (λ not_even. let odd : t % 2 ≡ 1 = omega arith in
+    settled_after_odd j vs t m'.planes m'' new ready shows odd early (halo odd) (none odd) (marks odd) (odd_step odd))
+
+-- ---- numbers that need no look
+correct_if_steady : (j : JobView) (vs : Values) (t : ℕ) (p : Planes) (events : List ℕ) (u : ℕ) → Shows j vs t p →
+    AreEventMarks j t events → IsUnmarked events u → IsNumberSteady j vs p u → IsNumberCorrect j vs t p u
+correct_if_steady j vs t p events u shows marks free steady = record {
+  halo = λ x y lx ly at a la out. steady.halo a x y la lx ly at out
+      ∙ sym (ap (is_live (valuation vs a)) (marks.halos x y lx ly (subst (IsUnmarked events) (sym at) free)));
+  edges = λ x y lx ly at a la f. f.1.differs (sym (shown_at j vs p t x y a shows la (ring_in_box j.area _ _ f.1.ring))
+      ∙ steady.edge a x y la lx ly at f.1.ring f.0
+      ∙ sym (ap (is_live (valuation vs a)) (marks.edges x y lx ly (subst (IsUnmarked events) (sym at) free))));
+}
+
+correct_if_skippable : (j : JobView) (vs : Values) (t : ℕ) (p : Planes) (marks : List ℕ) (u : ℕ) → IsReady j vs →
+    Shows j vs t p → AreLineMarks j t marks → AreSkippableBetween u (u + 1) marks p → IsNumberCorrect j vs t p u
+correct_if_skippable j vs t p marks u ready shows lines passed = record {
+  halo = λ x y lx ly at. passed_halo j vs p t x y marks ready shows lines (subst (λ (n : ℕ). AreSkippableBetween n (n + 1) marks p) (sym at) passed) lx ly;
+  edges = λ x y lx ly at. passed_edges j vs p t x y marks ready shows lines (subst (λ (n : ℕ). AreSkippableBetween n (n + 1) marks p) (sym at) passed) lx ly;
+}
+
+pub correct_unless_marked : (j : JobView) (vs : Values) (t : ℕ) (m : MarkedPlanes) (lines events last : List ℕ) (u : ℕ) →
+    IsReady j vs → Shows j vs t m.planes → AreLineMarks j t lines → AreEventMarks j t events →
+    IsSteadyWhereSettled j vs m last →
+    AreSkippableBetween u (u + 1) lines m.planes ⊎ (IsSettled m u × IsUnmarked events u × IsUnmarked last u) →
+    IsNumberCorrect j vs t m.planes u
+correct_unless_marked j vs t m lines events last u ready shows marks event_marks steady says = elim says [
+  | inl passed ↦ correct_if_skippable j vs t m.planes lines u ready shows marks passed
+  | inr s ↦ correct_if_steady j vs t m.planes events u shows event_marks s.1 (steady u s.0 s.2)
+]
