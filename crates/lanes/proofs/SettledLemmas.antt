@@ -1,7 +1,9 @@
 -- Numbers whose cells have not changed since the last odd step
 use Rattle.lanes.proofs.Imports.{AreUnmarkedBlocksStable, BlockMarks, BlockPlaces, Bool, ChangesCells}
-use Rattle.lanes.proofs.Imports.{Even, HasWordsStrideRows, IsStable, IsUnmarked, Odd, Partition, Planes, inl, inr, arith, block_at}
-use Rattle.lanes.proofs.Imports.{by_eq_or_not, by_lt_or_le, common_steps, lane, mul-le-mul_left, refl, turned, ℕ, ◌*◌, ◌+◌, ◌/◌, ◌<◌, ◌∙◌}
+use Rattle.lanes.proofs.Imports.{Even, HasWordsStrideRows, IsStable, IsUnmarked, Odd, Partition, Planes, inl, inr}
+use Rattle.lanes.proofs.Imports.{arith, block_at}
+use Rattle.lanes.proofs.Imports.{by_eq_or_not, by_lt_or_le, common_steps, lane, mul-le-mul_left, refl, turned, ℕ, ◌*◌}
+use Rattle.lanes.proofs.Imports.{◌+◌, ◌/◌, ◌<◌, ◌∙◌}
 use Rattle.lanes.proofs.Imports.{◌≡◌, ◌≤◌}
 use Rattle.bbm_rule.proofs.BlockRuns.{mate_lt}
 use Rattle.bbm_rule.proofs.PlaneLemmas.{mate_twice, turned_twice}

@@ -128,9 +128,9 @@ impl MarkedPlanes {
 
     /// Returns a word of marks on the numbers whose cells of ring and halo must be looked at.
     ///
-    /// A number has no mark only if its cells are neither in the ring nor in the halo, or dead under each assignment
-    /// and without a mark among the others, or if they are as they were before the last odd step and have no mark among
-    /// the new and the last ones.
+    /// A number without a mark has one of three reasons. Its cells are neither in the ring nor in the halo. Or they are
+    /// dead under each assignment and have no mark among the others. Or they are as they were before the last odd step
+    /// and have no mark among the new and the last ones.
     #[inline(always)]
     pub fn border_marks_to_check(&self, others: &[u64], new: &[u64], last: &[u64], k: usize) -> u64
         requires word_within_planes { 64 * k < self.now.planes.stride * self.now.planes.rows }

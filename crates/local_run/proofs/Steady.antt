@@ -1,14 +1,16 @@
 -- Cells of ring and halo that need no look, since they carry their signals at all times
 use Rattle.local_run.proofs.Imports.{AreSkippableBetween, Bool, Box2, Cell, Edge, HasNoFaultOfKind, HasWordsStrideRows}
 use Rattle.local_run.proofs.Imports.{IsReady, JobView, KeepsMarks, List, Planes, Shows, Signals, Some, TimedSignal}
-use Rattle.local_run.proofs.Imports.{Values, ap, ap₂, arith, assignments, by_eq_or_not, common_steps, event_at, event_none, halo_coord, is_live}
+use Rattle.local_run.proofs.Imports.{Values, ap, ap₂, arith, assignments, by_eq_or_not, common_steps, event_at}
+use Rattle.local_run.proofs.Imports.{event_none, halo_coord, is_live}
 use Rattle.local_run.proofs.Imports.{[], moved_signals, number_at, refl, shift_to_origin, signal_at}
-use Rattle.local_run.proofs.Imports.{signals_moved, slice_get, subst, sym, valuation, ℕ, ℤ, ◌%◌, ◌*◌, ◌+◌, ◌/◌, ◌<◌, ◌∙◌}
+use Rattle.local_run.proofs.Imports.{signals_moved, slice_get, subst, sym, valuation, ℕ, ℤ, ◌%◌, ◌*◌, ◌+◌, ◌/◌, ◌<◌}
+use Rattle.local_run.proofs.Imports.{◌∙◌}
 use Rattle.local_run.proofs.Imports.{inl, inr, ◌≡◌, ◌≢◌, ◌⊎◌}
 use Rattle.bbm_rule.specs.Marks.{IsUnmarked, MarksOne}
 use Rattle.lanes.specs.Settled.{IsSameAtNumber, IsSettled, KeepsSettled}
 use Rattle.lanes.specs.declared.marked_planes.MarkedPlanes.{MarkedPlanes}
-use Rattle.local_run.proofs.Imports.{AreStarredCellMarks, length, shape_of}
+use Rattle.local_run.proofs.Imports.{AreStarredCellMarks, length, mul-le-mul_left, shape_of, ◌≤◌}
 use Rattle.local_run.specs.Quiet.{AreLineMarks, IsZeroAtUnmarked, box_at_origin}
 use Rattle.local_run.specs.Scans.{IsHaloSet}
 use Rattle.local_run.specs.Steady.{AreEventMarks, IsNumberCorrect, IsNumberMarked, IsNumberOfCell, IsNumberSteady}
@@ -59,7 +61,8 @@ outside_marked b c marks out x y lx ly ex ey free = out x y lx ly ex ey
 
 pub still_number_marked : (b : Box2) (c : Cell) (old new : List ℕ) → KeepsMarks old new → IsNumberMarked b c old →
     IsNumberMarked b c new
-still_number_marked b c old new keeps marked x y lx ly ex ey free = marked x y lx ly ex ey (keeps (number_at b x y) free)
+still_number_marked b c old new keeps marked x y lx ly ex ey free =
+    marked x y lx ly ex ey (keeps (number_at b x y) free)
 
 pub steady_moved : (s : Signals) (b : Box2) (t : ℕ) (marks : List ℕ) →
     IsSteadyAtUnmarked (moved_signals (shift_to_origin b.x) (shift_to_origin b.y) s)
@@ -108,7 +111,8 @@ pub steady_after_check : (j : JobView) (vs : Values) (t : ℕ) (p : Planes) (eve
     IsUnmarked events u → IsNumberSteady j vs p u
 steady_after_check j vs t p events shows odd early halo none marks u free = record {
   halo = λ a x y la lx ly at out.
-      halo x y lx ly a la out ∙ ap (is_live (valuation vs a)) (marks.halos x y lx ly (subst (IsUnmarked events) (sym at) free));
+      halo x y lx ly a la out ∙ ap (is_live (valuation vs a))
+      (marks.halos x y lx ly (subst (IsUnmarked events) (sym at) free));
   edge = λ a x y la lx ly at ring defined. shown_at j vs p t x y a shows la (ring_in_box j.area _ _ ring)
       ∙ same_if_not_other _ _ (λ ne. none _ _ a la (
         defined,
@@ -187,6 +191,12 @@ steady_next j vs t m m' m'' old new ready shows early halo none marks unchanged 
     settled_after_odd j vs t m'.planes m'' new ready shows odd early (halo odd) (none odd) (marks odd) (odd_step odd))
 
 -- ---- numbers that need no look
+-- a box has at most 33 by 33 of them
+pub few_numbers : (w h : ℕ) → w ≤ 64 → h ≤ 64 → (w / 2 + 1) * (h / 2 + 1) ≤ 1089
+few_numbers w h lw lh = let m : (w / 2 + 1) * (h / 2 + 1) ≤ (w / 2 + 1) * 33 =
+    mul-le-mul_left (w / 2 + 1) (omega arith) in
+    omega (arith, m)
+
 correct_if_steady : (j : JobView) (vs : Values) (t : ℕ) (p : Planes) (events : List ℕ) (u : ℕ) → Shows j vs t p →
     AreEventMarks j t events → IsUnmarked events u → IsNumberSteady j vs p u → IsNumberCorrect j vs t p u
 correct_if_steady j vs t p events u shows marks free steady = record {
@@ -200,11 +210,14 @@ correct_if_steady j vs t p events u shows marks free steady = record {
 correct_if_skippable : (j : JobView) (vs : Values) (t : ℕ) (p : Planes) (marks : List ℕ) (u : ℕ) → IsReady j vs →
     Shows j vs t p → AreLineMarks j t marks → AreSkippableBetween u (u + 1) marks p → IsNumberCorrect j vs t p u
 correct_if_skippable j vs t p marks u ready shows lines passed = record {
-  halo = λ x y lx ly at. passed_halo j vs p t x y marks ready shows lines (subst (λ (n : ℕ). AreSkippableBetween n (n + 1) marks p) (sym at) passed) lx ly;
-  edges = λ x y lx ly at. passed_edges j vs p t x y marks ready shows lines (subst (λ (n : ℕ). AreSkippableBetween n (n + 1) marks p) (sym at) passed) lx ly;
+  halo = λ x y lx ly at. passed_halo j vs p t x y marks ready shows lines
+      (subst (λ (n : ℕ). AreSkippableBetween n (n + 1) marks p) (sym at) passed) lx ly;
+  edges = λ x y lx ly at. passed_edges j vs p t x y marks ready shows lines
+      (subst (λ (n : ℕ). AreSkippableBetween n (n + 1) marks p) (sym at) passed) lx ly;
 }
 
-pub correct_unless_marked : (j : JobView) (vs : Values) (t : ℕ) (m : MarkedPlanes) (lines events last : List ℕ) (u : ℕ) →
+pub correct_unless_marked : (j : JobView) (vs : Values) (t : ℕ) (m : MarkedPlanes) (lines events last : List ℕ)
+    (u : ℕ) →
     IsReady j vs → Shows j vs t m.planes → AreLineMarks j t lines → AreEventMarks j t events →
     IsSteadyWhereSettled j vs m last →
     AreSkippableBetween u (u + 1) lines m.planes ⊎ (IsSettled m u × IsUnmarked events u × IsUnmarked last u) →

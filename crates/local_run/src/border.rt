@@ -244,8 +244,8 @@ fn set_halo_test_ring_in_word(
 /// Sets the cells of the halo to what their signals say, and returns whether the cells of the ring carry what their
 /// edge signals say. Only `true` is proved to be right.
 ///
-/// Cells that carried their signals at all times when they were looked at last, and have not changed since, need a look
-/// only if a line says something of this time alone.
+/// Cells that carried their signals at all times at the last look and have not changed need a look only if a line says
+/// something of this time alone.
 pub fn set_halo_check_ring(
     marked_planes: &mut MarkedPlanes,
     values: &Values,
@@ -256,9 +256,9 @@ pub fn set_halo_check_ring(
     requires shows { Shows job.now values.now lines.now.time marked_planes.old.planes }
     requires lines { AreLineMarks job.now lines.now.time lines.now.marks.items }
     requires sought { IsKindSoughtAt job.now lines.now.time Kind.Edge }
-    requires events { AreEventMarks job.now lines.now.time lines.now.events.items }
+    requires events { AreEventMarks job.now lines.now.time lines.now.events }
     requires steady { IsSteadyWhereSettled job.now values.now marked_planes.old
-        lines.now.last_events.items }
+        lines.now.last_events }
     ensures shows { Shows job.now values.now lines.now.time marked_planes.new.planes }
     ensures halo { IsHaloSet job.now values.now lines.now.time marked_planes.new.planes }
     ensures edges { result ≡ true → HasNoFaultOfKind job.now values.now lines.now.time Kind.Edge }

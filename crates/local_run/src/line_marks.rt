@@ -5,15 +5,16 @@ ghost use Rattle.module_job.specs.Shapes.{shape_of};
 ghost use Rattle.bbm_rule.specs.Marks.{IsUnmarked};
 ghost use Rattle.local_run.specs.Quiet.{AreStarredCellMarks, AreLineMarks, KeepsMarks};
 ghost use Rattle.local_run.specs.Steady.{AreEventMarks};
-ghost use Rattle.std.specs.Prelude.{◌≡◌, ◌+◌, ◌*◌, ◌/◌, ◌%◌, ◌<◌, ◌≤◌, vec_len, IfOk, false};
+ghost use Rattle.std.specs.Prelude.{◌≡◌, ◌+◌, ◌*◌, ◌/◌, ◌%◌, ◌<◌, ◌≤◌, length, vec_len, IfOk, false};
 ghost use Rattle.lemmas.specs.Bounds.{max_steps};
 
-use crate::lines::{
-    CELL_MARK_WORDS, EventPlaces, LinePlaces, mark_lines, marks_of_starred_cells, own_mark_number,
-};
+use crate::lines::{EventPlaces, LinePlaces, mark_lines, marks_of_starred_cells, own_mark_number};
 use lanes::{Planes, is_marked};
 use module_job::Job;
 use std::alloc::{AllocError, Global};
+
+// How many words of marks the numbers in a plane have: it has 33 by 33 cells at most.
+const NUMBER_WORDS: usize = 18;
 
 /// Marks on the cells of ring and halo of which a job's lines say something at a time: one for the number of a cell in
 /// its plane, and one of its own.
@@ -24,14 +25,12 @@ pub struct LineMarks {
     // the marks for lines at all times, which all are marks
     all_times: Vec<u64>,
     // marks on the numbers of which a line says something at this time and not at all times
-    events: Vec<u64>,
+    events: [u64; NUMBER_WORDS],
     // the same for the time that was looked at before
-    last_events: Vec<u64>,
+    last_events: [u64; NUMBER_WORDS],
     // where the search for the next time's lines begins
     places: LinePlaces,
     ghost same_long: { vec_len marks ≡ vec_len all_times },
-    ghost shorter: { vec_len marks ≡ vec_len events + 72 },
-    ghost same_long_events: { vec_len last_events ≡ vec_len events },
     ghost keeps: { KeepsMarks all_times.items marks.items },
 }
 
@@ -43,14 +42,13 @@ impl LineMarks {
     {
         let all_times = marks_of_starred_cells(alloc, job)?;
         let marks = all_times.as_slice().to_vec(alloc)?;
-        let numbers = marks.len() - CELL_MARK_WORDS;
         let none = EventPlaces::NO_PHASE;
         Ok(LineMarks {
             time: 0,
             marks,
             all_times,
-            events: vec![in alloc; 0u64; numbers]?,
-            last_events: vec![in alloc; 0u64; numbers]?,
+            events: [0; NUMBER_WORDS],
+            last_events: [0; NUMBER_WORDS],
             places: LinePlaces {
                 edges: none,
                 halos: none,
@@ -67,17 +65,15 @@ impl LineMarks {
         requires range { time < max_steps }
         ensures time { self.new.time ≡ time }
         ensures lines { AreLineMarks job.now time self.new.marks.items }
-        ensures events { AreEventMarks job.now time self.new.events.items }
-        ensures last_events { self.new.last_events.items ≡ self.old.events.items }
+        ensures events { AreEventMarks job.now time self.new.events }
+        ensures last_events { self.new.last_events ≡ self.old.events }
         ensures all_times { self.new.all_times ≡ self.old.all_times }
     {
         self.time = time;
-        self.last_events.copy_from_slice(&self.events);
+        self.last_events = self.events;
         if self.places.has_any() {
             self.marks.copy_from_slice(&self.all_times);
-            for word in self.events.iter_mut() {
-                *word = 0;
-            }
+            self.events = [0; NUMBER_WORDS];
         }
         mark_lines(
             &mut self.marks,
@@ -106,7 +102,8 @@ impl LineMarks {
     /// Returns the marks on the numbers of the events of the time that was looked at.
     #[inline(always)]
     pub fn events(&self) -> &[u64]
-        ensures { result.now ≡ self.now.events.items }
+        ensures marks { result.now ≡ self.now.events }
+        ensures long { length result.now ≡ 18 }
     {
         &self.events
     }
@@ -114,7 +111,8 @@ impl LineMarks {
     /// Returns the marks on the numbers of the events of the time that was looked at before it.
     #[inline(always)]
     pub fn last_events(&self) -> &[u64]
-        ensures { result.now ≡ self.now.last_events.items }
+        ensures marks { result.now ≡ self.now.last_events }
+        ensures long { length result.now ≡ 18 }
     {
         &self.last_events
     }

@@ -18,6 +18,7 @@ returns-clause-events c =
     let first = c.mark_schedule-places in
     let second = c.mark_schedule-places-2 in
     let edges = rw (c.edges.ensures, c.box_at_origin_of-area.ensures, shape) at first.ensures.unmarked_numbers_steady in
-    let halos = rw (c.halos.ensures, c.box_at_origin_of-area.ensures, shape) at second.ensures.unmarked_numbers_steady in
+    let halos = rw (c.halos.ensures, c.box_at_origin_of-area.ensures, shape) at
+    second.ensures.unmarked_numbers_steady in
     event_marks_of c.args.job.now c.args.time first.new.numbers second.new.numbers second.ensures.numbers_kept edges
     halos

@@ -1,4 +1,5 @@
-use Rattle.lanes.proofs.Imports.{AreNumberCellsUnmarked, IsUnmarked, List, arith, inl, inr, mul-le-mul_left, subst, ◌*◌, ◌+◌, ◌<◌, ℕ, ◌≡◌, ◌≤◌, ◌⊎◌}
+use Rattle.lanes.proofs.Imports.{AreNumberCellsUnmarked, IsUnmarked, List, arith, inl, inr, mul-le-mul_left, subst, ◌*◌}
+use Rattle.lanes.proofs.Imports.{◌+◌, ◌<◌, ℕ, ◌≡◌, ◌≤◌, ◌⊎◌}
 use Rattle.lanes.specs.Borders.{AreSkippableBetween}
 use Rattle.lanes.specs.declared.marked_planes.MarkedPlanes.{MarkedPlanes}
 use Rattle.lanes.proofs.LiveLemmas.{dead_at}

@@ -3,7 +3,8 @@ use Rattle.lanes.specs.Settled.{KeepsSettled}
 use Rattle.lanes.specs.declared.marked_planes.MarkedPlanes.{MarkedPlanes}
 use Rattle.lanes.proofs.SettledLemmas.{settled_twice}
 use Rattle.lanes.proofs.marked_planes.MarkedPlanes.turn_lone.Goals as goal
-use Rattle.lanes.proofs.marked_planes.MarkedPlanes.turn_lone.Goals.{in-Even-Main+else-unmark_even_block_if_dead, in-Even+in-Anti-1, in-Odd-1}
+use Rattle.lanes.proofs.marked_planes.MarkedPlanes.turn_lone.Goals.{in-Even-Main+else-unmark_even_block_if_dead}
+use Rattle.lanes.proofs.marked_planes.MarkedPlanes.turn_lone.Goals.{in-Even+in-Anti-1, in-Odd-1}
 
 pub returns-in_default-partition-clause-settled_if_even :
     goal.returns-in_default-partition-clause-settled_if_even

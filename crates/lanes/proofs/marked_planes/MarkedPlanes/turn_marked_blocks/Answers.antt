@@ -36,7 +36,8 @@ loop-rest-preserved-then-turn_block c =
     record {
       size = (t.size.0 ∙ m.size.0, t.size.1 ∙ m.size.1, t.size.2 ∙ m.size.2);
       stays = λ e. absurd (omega (arith, e));
-      settled = λ e. settled_twice a.self.now c.loop-rest.self c.turn_block.new.self (m.settled e) (t.settled_if_even e);
+      settled = λ e. settled_twice a.self.now c.loop-rest.self c.turn_block.new.self (m.settled e)
+          (t.settled_if_even e);
       count = (omega arith, omega arith);
       turned = one_more a.partition a.self.now.planes c.loop-rest.self.planes c.turn_block.new.self.planes
           (a.first + c.take_first-place.result.0) a.first a.end c.loop-rest.rest c.take_first-place.result.1 one m.size
@@ -54,7 +55,8 @@ loop-rest-preserved c =
     record {
       size = (t.size.0 ∙ m.size.0, t.size.1 ∙ m.size.1, t.size.2 ∙ m.size.2);
       stays = λ e. t.unchanged_if_false c.if-turn_block.false ∙ m.stays e;
-      settled = λ e. settled_twice a.self.now c.loop-rest.self c.turn_block.new.self (m.settled e) (t.settled_if_even e);
+      settled = λ e. settled_twice a.self.now c.loop-rest.self c.turn_block.new.self (m.settled e)
+          (t.settled_if_even e);
       count = (omega arith, omega arith);
       turned = one_more a.partition a.self.now.planes c.loop-rest.self.planes c.turn_block.new.self.planes
           (a.first + c.take_first-place.result.0) a.first a.end c.loop-rest.rest c.take_first-place.result.1 one m.size

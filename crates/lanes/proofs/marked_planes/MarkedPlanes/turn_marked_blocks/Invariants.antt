@@ -1,4 +1,5 @@
-use Rattle.lanes.proofs.Imports.{Even, HasWordsStrideRows, IsPassed, TurnsBlocksWhere, trailing_zeros, w64, ◌+◌, ◌-◌, ◌≡◌}
+use Rattle.lanes.proofs.Imports.{Even, HasWordsStrideRows, IsPassed, TurnsBlocksWhere, trailing_zeros, w64, ◌+◌, ◌-◌}
+use Rattle.lanes.proofs.Imports.{◌≡◌}
 use Rattle.lanes.proofs.Imports.{◌≤◌}
 use Rattle.lanes.specs.Settled.{KeepsSettled}
 use Rattle.lanes.proofs.marked_planes.MarkedPlanes.turn_marked_blocks.Given as goal
