@@ -1,22 +1,33 @@
 """Parts that are kept of a search without a route: all gates that are counted, with a yes."""
 
+import argparse
+import contextlib
+import io
+import re
 import subprocess
 import sys
+import tempfile
 import unittest
 from collections import Counter
+from pathlib import Path
+from typing import Any, Callable
 from unittest import mock
 
 import support
 from bbmlab_core.circuits import Circuit
 from bbmlab_core.documents import read_document
+from bbmlab_core.gates import GATE_SIZES
+from bbmlab_core.program import find_program
 from bbmlab_core.route import partial
 from bbmlab_core.route.attempt import Attempt, OutOfTimeError
 from bbmlab_core.route.balls import Ball, Leg
 from bbmlab_core.route.board import NoRouteError, Step, Waiting
 from bbmlab_core.route.netlist import Netlist
 from bbmlab_core.route.partial import Part, affordable_count, partial_circuit, partial_design, partial_text, steps_without
-from bbmlab_core.route.paths import Path
-from bbmlab_core.route.search import Options, Search, routed_bundle
+from bbmlab_core.route.command import report_failure
+from bbmlab_core.route.design import Design
+from bbmlab_core.route.paths import Path as BallPath
+from bbmlab_core.route.search import Options, Outcome, Search, routed_bundle
 from bbmlab_core.route.settings import Settings
 from bbmlab_core.route.world import path_item
 from test_route import circuit_text
@@ -35,6 +46,18 @@ def placed_part(text: str, side: int, seed: int, failures: int = 0) -> Part:
     except NoRouteError:
         pass
     return Part(circuit, attempt.best_steps, side, side)
+
+
+def slow_above(most: int) -> Callable[..., Design | str]:
+    """Returns a leading to the end whose time is over for more gates than some."""
+    right = partial.led_design
+
+    def led(part: Part, steps: list[Step], *words: Any) -> Design | str:
+        if len(steps) > most:
+            raise OutOfTimeError("the time was over")
+        return right(part, steps, *words)
+
+    return led
 
 
 class Parts(unittest.TestCase):
@@ -62,7 +85,7 @@ class Parts(unittest.TestCase):
         made: Counter[bool] = Counter()
         right = partial.Attempt.path_through
 
-        def counted(self: Attempt, root: str, ball: Ball | None, end: int) -> Path | None:
+        def counted(self: Attempt, root: str, ball: Ball | None, end: int) -> BallPath | None:
             path = right(self, root, ball, end)
             made[path is not None] += 1
             return path
@@ -76,19 +99,11 @@ class Parts(unittest.TestCase):
         self.assertTrue(made[True])
 
     def test_short_time(self) -> None:
-        """If the time is over, the first half of the gates is tried."""
-        part, tried = placed_part(made_circuit("forward", 12, 8, 1), 512, 1), []
-        right = partial.led_design
-
-        def slow(own: Part, steps: list[Step], *words: object) -> object:
-            tried.append(len(steps))
-            if len(steps) > 3:
-                raise OutOfTimeError("the time was over")
-            return right(own, steps, *words)  # type: ignore[arg-type]
-
-        with mock.patch.object(partial, "led_design", slow):
-            self.assert_yes(part, 3)
-        self.assertEqual(tried, [12, 6, 3])
+        """If the time is over for many gates, as many are kept as it is enough for, and not half of them."""
+        part = placed_part(made_circuit("forward", 12, 8, 1), 512, 1)
+        for most in (3, 9, 11):
+            with self.subTest(most=most), mock.patch.object(partial, "led_design", slow_above(most)):
+                self.assert_yes(part, most)
 
     def test_affordable_count(self) -> None:
         """Without time no gate is kept after an interrupt, with much time all are, and with more time never fewer."""
@@ -116,7 +131,7 @@ class Adopting(unittest.TestCase):
         assert ball
         way = path_item(ball.flown(2), [Leg(20, None)])
         assert way
-        other = Path("y", ball.flown(2), ball.flown(22), (Leg(20, None),), way)
+        other = BallPath("y", ball.flown(2), ball.flown(22), (Leg(20, None),), way)
         own = Step(step.gate, step.paths, {"x": step.outs["x"]}, [*step.parked, other])
         attempt = Attempt(Netlist(part.circuit), 384, 1, Settings())
         self.assertEqual(attempt.adopt([own]), "x")
@@ -127,6 +142,23 @@ class Adopting(unittest.TestCase):
 
 class Counting(unittest.TestCase):
     """What the summary counts."""
+
+    def test_what_is_counted_is_kept(self) -> None:
+        """The summary counts the gates of the bundle, and one more sentence those whose balls could not be led to the end."""
+        part = placed_part(made_circuit("forward", 12, 8, 1), 512, 1)
+        with tempfile.TemporaryDirectory() as room:
+            options = argparse.Namespace(keep_partial=True, output=f"{room}/part.txt", seed=1, size=512, effort=1.0, jobs=1, compact=False, timeout=60)
+            for is_interrupted in (False, True):
+                outcome = Outcome(None, "", Counter(), 1, 12, 12, part.steps, 512, is_interrupted)
+                said = io.StringIO()
+                with mock.patch.object(partial, "led_design", slow_above(3)), \
+                        mock.patch.object(partial, "affordable_count", lambda *_: 3), contextlib.redirect_stderr(said):
+                    report_failure(part.circuit, outcome, options, find_program(support.program()))
+                kept = sum(line.split(" ")[0] in GATE_SIZES for line in Path(options.output).read_text().split("\n"))
+                with self.subTest(is_interrupted=is_interrupted):
+                    self.assertEqual(re.findall(r"[0-9]+ of [0-9]+ gates", said.getvalue()), [f"{kept} of 12 gates"], said.getvalue())
+                    self.assertIn(f"bbmlab: {12 - kept} more had a place", said.getvalue())
+                    self.assertIn("verdict yes", said.getvalue())
 
     def test_only_parts_count(self) -> None:
         """If a part is kept, an attempt backward in time, which leaves none, does not count; else it does."""

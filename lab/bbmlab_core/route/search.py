@@ -39,6 +39,9 @@ MOST_GROWTH = 20
 SHALLOW_STEPS = 200
 # The attempts of `--compact`: the parts of the first side that are tried. Only the first plane may grow.
 COMPACT_PARTS = (1.0, *(0.85, 0.75, 0.7, 0.65, 0.6, 0.55, 0.5) * 3, 0.65, 0.6)
+# How often paths to the last time make way for others in a part that is kept: fewer gates are tried sooner. With 30 in place of 150, 53 of 60
+# placed gates were kept in eight seconds, and not 46.
+PARTIAL_RIPS = 30
 # Such an attempt is given up after fewer failures, each after fewer places, and gates come nearer to waiting balls.
 COMPACT_FAILURES = 3
 COMPACT_PLACES = 400
@@ -381,7 +384,7 @@ class Pool:
 def partial_bundle(circuit: Circuit, outcome: Outcome, options: Options, settings: Settings) -> tuple[str, int] | None:
     """Returns a bundle of the part of a circuit that was placed, and its count of gates, or None if there is none."""
     part = Part(circuit, outcome.partial, outcome.partial_size, options.most_side)
-    costs = replace(settings, wander_tries=80)
+    costs = replace(settings, wander_tries=80, end_rips=PARTIAL_RIPS)
     if outcome.is_interrupted:
         found = hurried_design(part, costs, INTERRUPT_SECONDS)
     else:
