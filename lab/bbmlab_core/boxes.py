@@ -21,12 +21,15 @@ class Box:
 
     def has_in_ring(self, cell: Cell) -> bool:
         """Whether a cell is one of the outermost of the box."""
-        inner = Box(self.x + 1, self.y + 1, self.width - 2, self.height - 2)
-        return self.has(cell) and not inner.has(cell)
+        x, y = cell[0] - self.x, cell[1] - self.y
+        is_inner = 0 < x < self.width - 1 and 0 < y < self.height - 1
+        return 0 <= x < self.width and 0 <= y < self.height and not is_inner
 
     def has_in_halo(self, cell: Cell) -> bool:
         """Whether a cell lies outside the box and touches it at a side or a corner."""
-        return Box(self.x - 1, self.y - 1, self.width + 2, self.height + 2).has(cell) and not self.has(cell)
+        x, y = cell[0] - self.x, cell[1] - self.y
+        is_inside = 0 <= x < self.width and 0 <= y < self.height
+        return -1 <= x <= self.width and -1 <= y <= self.height and not is_inside
 
     def cells(self) -> Iterator[Cell]:
         """Yields the cells of the box, row by row."""

@@ -1,20 +1,21 @@
 """The certificate section: its model and its reader."""
 
-from bisect import bisect_left
 from dataclasses import dataclass, field
 from typing import Iterator
 
 from .boxes import Box
 from .circuits import Circuit
 from .layouts import Cell, Layout, Part
-from .lines import Form, Lines, SectionReader, forms_of
+from .lines import Form, Lines, SectionReader, forms_of, order_of
 from .owners import NOBODY, Owners
 
 MAX_BOX_SIDE = 64
 MAX_CUTS = 12
 MAX_USES = 64
 MAX_BORDER_LINES = 65_536
+PORT_TILE = 16
 ORDER = ["cut", "use", "keep", "edge", "halo", "stop"]
+LATER = order_of(ORDER)
 
 
 @dataclass(frozen=True)
@@ -148,10 +149,10 @@ class CertificateReader(SectionReader):
         self.circuit, self.layout = circuit, layout
         self.owners = Owners(layout.width, layout.height)
         self.certificate = Certificate(first_line=lines.taken + 1, _owners=self.owners)
-        # The `in` and `out` cells of each row, from left to right.
-        self.ports: dict[int, list[Part]] = {}
-        for port in sorted(layout.of_kind("in") + layout.of_kind("out"), key=lambda port: port.x):
-            self.ports.setdefault(port.y, []).append(port)
+        # The `in` and `out` cells by tiles of a usual box's size.
+        self.ports: dict[Cell, list[Part]] = {}
+        for port in layout.of_kind("in") + layout.of_kind("out"):
+            self.ports.setdefault((port.x // PORT_TILE, port.y // PORT_TILE), []).append(port)
 
     def forms_now(self) -> dict[str, Form]:
         """Returns the forms, in version 2 without `halo`."""
@@ -166,7 +167,7 @@ class CertificateReader(SectionReader):
         """Refuses a line before the first module, and a kind after a later kind."""
         if not self.certificate.modules:
             self.lines.refuse(6, "before_first_module", kind=kind)
-        self.require_kind_order(kind, ORDER)
+        self.require_kind_order(kind, LATER)
 
     def read_certificate(self, version: int) -> None:
         """Reads the header."""
@@ -193,11 +194,10 @@ class CertificateReader(SectionReader):
 
     def take_box(self, module: Module) -> None:
         """Opens a module, whose box lies over no earlier one."""
-        taken = self.owners.taken_in(module.box)
-        if taken is not None:
-            cell, other = taken[0], self.certificate.modules[taken[1]]
+        if not self.owners.take(module.box, module.number):
+            cell, number = self.owners.taken_in(module.box)
+            other = self.certificate.modules[number]
             self.lines.refuse(8, "box_overlap", box=module.box, other=other.number, other_box=other.box, at=other.line, cell=cell)
-        self.owners.take(module.box, module.number)
         self.certificate.modules.append(module)
 
     def read_cut(self, name: str) -> None:
@@ -295,20 +295,18 @@ class CertificateReader(SectionReader):
 
     def require_border_place(self, line: BorderLine) -> None:
         """Refuses a time or a cell for which the line may not speak."""
-        box, faults = self.module.box, []
-        if line.kind == "edge" and not box.has_in_ring(line.cell):
-            faults.append("not_in_ring")
-        if line.kind == "edge" and box.has_in_ring(line.cell) and self.layout.is_rim(line.cell):
+        box, cell, time, is_edge, faults = self.module.box, line.cell, line.time, line.kind == "edge", []
+        if not (box.has_in_ring(cell) if is_edge else box.has_in_halo(cell)):
+            faults.append("not_in_ring" if is_edge else "not_in_halo")
+        elif is_edge and self.layout.is_rim(cell):
             faults.append("on_rim")
-        if line.kind == "halo" and not box.has_in_halo(line.cell):
-            faults.append("not_in_halo")
-        if line.kind == "halo" and box.has_in_halo(line.cell) and not self.layout.has(line.cell):
+        elif not is_edge and not self.layout.has(cell):
             faults.append("halo_outside")
-        if line.time is not None and line.time % 2 == 0:
+        if time is not None and time % 2 == 0:
             faults.append("even_time")
-        if line.time is not None and line.time >= self.layout.steps:
+        if time is not None and time >= self.layout.steps:
             faults.append("time_not_below_steps")
-        if line.time is not None and line.cell in self.module.stars[line.kind]:
+        if time is not None and cell in self.module.stars[line.kind]:
             faults.append("star_cell")
         if faults:
             star = self.module.stars[line.kind].get(line.cell)
@@ -332,15 +330,16 @@ class CertificateReader(SectionReader):
 
     def ports_in(self, box: Box) -> Iterator[Part]:
         """Yields the `in` and `out` cells of a box."""
-        for row in (self.ports[y] for y in range(box.y, box.y + box.height) if y in self.ports):
-            first = bisect_left(row, box.x, key=lambda port: port.x)
-            yield from row[first:bisect_left(row, box.x + box.width, first, key=lambda port: port.x)]
+        for row in range(box.y // PORT_TILE, (box.y + box.height - 1) // PORT_TILE + 1):
+            for column in range(box.x // PORT_TILE, (box.x + box.width - 1) // PORT_TILE + 1):
+                yield from (port for port in self.ports.get((column, row), ()) if box.has(port.cell))
 
     def require_ports(self) -> None:
         """Refuses the end of a module that has a port whose wire it does not know."""
         for module in self.certificate.modules[-1:]:
-            missing = sorted((port for port in self.ports_in(module.box) if port.name not in module.local), key=lambda port: port.line)
+            missing = [port for port in self.ports_in(module.box) if port.name not in module.local]
             if missing:
+                missing.sort(key=lambda port: port.line)
                 makers = {port.name: self.circuit.maker.get(port.name or "") for port in missing}
                 self.lines.refuse(11, "port_not_local", module=module.number, at=module.line, ports=missing, makers=makers)
 

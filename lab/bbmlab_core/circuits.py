@@ -6,10 +6,11 @@ from functools import cached_property
 from typing import Iterable
 
 from .gates import GATE_SIZES, INVERSE_GATES, Table, gate_row, input_tables
-from .lines import Lines, SectionReader, forms_of
+from .lines import Lines, SectionReader, forms_of, order_of
 
 MAX_DELAY = 4096
 ORDER = ["input", "gate", "output", "spill"]
+LATER = order_of(ORDER)
 
 
 @dataclass
@@ -174,14 +175,14 @@ class CircuitReader(SectionReader):
 
     def read_input(self, name: str) -> None:
         """Reads a line `input`."""
-        self.require_kind_order("input", ORDER)
+        self.require_kind_order("input", LATER)
         self.require_room([name])
         self.define([name])
         self.circuit.inputs.append(name)
 
     def read_output(self, name: str) -> None:
         """Reads a line `output`."""
-        self.require_kind_order("output", ORDER)
+        self.require_kind_order("output", LATER)
         self.consume([name])
         self.circuit.outputs.append(name)
 
@@ -192,7 +193,7 @@ class CircuitReader(SectionReader):
 
     def read_gate(self, word: str, parameter: int | None, names: list[str]) -> None:
         """Reads a gate line of any kind."""
-        self.require_kind_order("gate", ORDER)
+        self.require_kind_order("gate", LATER)
         uses = GATE_SIZES[word][0]
         ins, outs = names[:uses], names[uses:]
         if word == "delay" and not 1 <= (parameter or 0) <= MAX_DELAY:

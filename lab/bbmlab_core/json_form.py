@@ -1,11 +1,12 @@
 """`bbmlab json`: a text and its report as one JSON document, and back."""
 
 import json
+from types import GeneratorType
 from typing import Any, Callable
 
 from .certificates import Certificate, Module
 from .circuits import Circuit
-from .documents import Document
+from .documents import Document, without_collector
 from .gates import GATE_SIZES
 from .layouts import Layout
 from .limits import FIRST, SECOND
@@ -15,6 +16,8 @@ from .reports import Report
 from .terminal import LabError
 
 FORMAT = "bbmlab bundle 1"
+# Writes a text as JSON. `json.dumps` takes four times as long.
+written_text = json.JSONEncoder().encode
 
 
 def circuit_json(circuit: Circuit) -> dict[str, Any]:
@@ -65,10 +68,33 @@ def document_json(document: Document, report: Report | None) -> str:
         parts["assign"] = {"on": document.on}
     if document.certificate:
         certificate: Certificate = document.certificate
-        parts["certificate"] = {"version": certificate.version, "modules": [module_json(module) for module in certificate.modules]}
+        parts["certificate"] = {"version": certificate.version, "modules": (module_json(module) for module in certificate.modules)}
     if report:
         parts["report"] = report_json(report)
-    return json.dumps(parts, indent=1) + "\n"
+    with without_collector():
+        return indented(parts, "\n") + "\n"
+
+
+def indented(value: Any, begin: str) -> str:
+    """Writes a JSON value as `json.dumps` does with an indent of 1, in half of its time. `begin` is a line feed and the present indent.
+
+    The values of a generator are written as a list, and none is kept.
+    """
+    inner, kind = f"{begin} ", type(value)
+    if kind is int:
+        return str(value)
+    if kind is str:
+        return written_text(value)
+    if kind is list and value:
+        members = f",{inner}".join([str(member) if type(member) is int else indented(member, inner) for member in value])
+        return f"[{inner}{members}{begin}]"
+    if kind is GeneratorType:
+        members = f",{inner}".join([indented(member, inner) for member in value])
+        return f"[{inner}{members}{begin}]" if members else "[]"
+    if kind is dict and value:
+        members = f",{inner}".join([f"{written_text(name)}: {indented(member, inner)}" for name, member in value.items()])
+        return f"{{{inner}{members}{begin}}}"
+    return json.dumps(value)
 
 
 class Member:

@@ -4,9 +4,10 @@ from dataclasses import dataclass, field
 from typing import Iterator
 
 from .circuits import Circuit
-from .lines import Lines, SectionReader, forms_of
+from .lines import Lines, SectionReader, forms_of, order_of
 
 ORDER = ["mirror", "ball", "in", "out", "waste"]
+LATER = order_of(ORDER)
 # The kinds besides mirrors whose cells are taken at the start, and those whose cells are taken at the end.
 EARLY_KINDS = ("ball", "in")
 LATE_KINDS = ("out", "waste")
@@ -146,7 +147,7 @@ class LayoutReader(SectionReader):
 
     def read_part(self, kind: str, name: str | None, box: tuple[int, int, int, int]) -> None:
         """Reads a line of any kind but header and end."""
-        self.require_kind_order(kind, ORDER)
+        self.require_kind_order(kind, LATER)
         x, y, width, height = box
         for what, side in (("width", width), ("height", height)):
             if not 1 <= side <= self.lines.limits.max_side:

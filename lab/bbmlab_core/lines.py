@@ -2,18 +2,23 @@
 
 import re
 from dataclasses import dataclass, field
-from typing import Any, NoReturn
+from functools import cache
+from typing import Any, Callable, Iterable, NoReturn
 
 from .limits import FIRST, limits_of
 
-NUMBER = re.compile(r"(0|[1-9][0-9]{0,8})\Z")
-NAME = re.compile(r"[a-z][a-z0-9_]{0,31}\Z")
+NUMBER_WORD = "(?:0|[1-9][0-9]{0,8})"
+NAME_WORD = "[a-z][a-z0-9_]{0,31}"
+NUMBER = re.compile(rf"{NUMBER_WORD}\Z")
+NAME = re.compile(rf"{NAME_WORD}\Z")
 
 # What each placeholder of a form takes.
 NUMBERS = {"X", "Y", "W", "H", "STEPS", "N", "T", "GATE", "VERSION"}
 NAMES = {"NAME", "A", "B", "C", "D", "E", "F"}
 
 Form = tuple[str, ...]
+# The kinds of line that come later than each kind.
+Order = dict[str, list[str]]
 Values = list[Any]
 
 
@@ -33,6 +38,12 @@ class Refused(Exception):
     def __init__(self, refusal: Refusal) -> None:
         super().__init__(f"refused {refusal.line} {refusal.code}")
         self.refusal = refusal
+
+
+def order_of(kinds: Iterable[str]) -> Order:
+    """Returns the kinds that come later than each kind."""
+    listed = list(kinds)
+    return {kind: listed[index:] for index, kind in enumerate(listed, 1)}
 
 
 def forms_of(*forms: str) -> dict[str, Form]:
@@ -57,16 +68,48 @@ def word_value(word: str, placeholder: str) -> Any:
     raise ValueError(f"{word!r} is not a {placeholder}")
 
 
+def value_pattern(place: str) -> str:
+    """Returns the regular expression of the words that may be in the place of a placeholder, as a group; other words stand for themselves."""
+    if place in NUMBERS:
+        return f"({NUMBER_WORD})"
+    if place in NAMES:
+        return f"({NAME_WORD})"
+    other = {"BIT": "([01])", "SIGNAL": f"(1|{NAME_WORD})", "TIME": rf"(\*|{NUMBER_WORD})"}
+    return other.get(place) or re.escape(place)
+
+
+def time_of(word: str) -> int | None:
+    """Returns the time of a word, and None for `*`."""
+    return None if word == "*" else int(word)
+
+
+def value_reader(place: str) -> Callable[[str], Any]:
+    """Returns what makes a value of a word in the place of a placeholder."""
+    if place == "TIME":
+        return time_of
+    return int if place in NUMBERS or place == "BIT" else str
+
+
+@cache
+def form_pattern(form: Form) -> tuple[re.Pattern[str], list[Callable[[str], Any]]]:
+    """Returns the regular expression of a whole line of a form, and what makes the values of its groups."""
+    return re.compile(" ".join(map(value_pattern, form))), [value_reader(place) for place in form if place.isupper()]
+
+
+def match_line(line: str, forms: dict[str, Form]) -> tuple[str, Values] | None:
+    """Returns the keyword of a line and the values of its placeholders, or None where no form fits."""
+    keyword = line.partition(" ")[0]
+    form = forms.get(keyword)
+    if form is None:
+        return None
+    pattern, readers = form_pattern(form)
+    found = pattern.fullmatch(line)
+    return (keyword, [reader(word) for reader, word in zip(readers, found.groups())]) if found else None
+
+
 def match_form(words: list[str], forms: dict[str, Form]) -> tuple[str, Values] | None:
     """Returns the keyword of a line and the values of its placeholders, or None where no form fits."""
-    form = forms.get(words[0])
-    if form is None or len(form) != len(words):
-        return None
-    try:
-        values = [word_value(word, place) for word, place in zip(words[1:], form[1:])]
-    except ValueError:
-        return None
-    return words[0], [value for value, place in zip(values, form[1:]) if place.isupper() or place == "*"]
+    return match_line(" ".join(words), forms)
 
 
 class Lines:
@@ -81,14 +124,14 @@ class Lines:
         """Refuses the line that was taken last."""
         raise Refused(Refusal(self.taken, code, cause, facts))
 
-    def take(self, section: str) -> list[str]:
-        """Returns the words of the next line."""
+    def take(self, section: str) -> str:
+        """Returns the next line."""
         if self.taken == len(self.parts) - 1:
             self.taken += 1
             rest = self.parts[-1]
             self.refuse(12, "line_not_ended" if rest else "text_ended", section=section, rest=rest)
         self.taken += 1
-        return self.parts[self.taken - 1].split(" ")
+        return self.parts[self.taken - 1]
 
     def finish(self, section: str) -> None:
         """Refuses a text that goes on after its last section."""
@@ -116,10 +159,9 @@ class SectionReader:
 
     def read(self) -> None:
         """Reads up to the line `end`, or raises `Refused`."""
-        keyword = ""
+        keyword, readers = "", {word: getattr(self, f"read_{word}") for word in self.forms_now()}
         while keyword != "end":
-            words = self.lines.take(self.name)
-            found = match_form(words, self.forms_now())
+            found = match_line(self.lines.take(self.name), self.forms_now())
             if found is None:
                 self.lines.refuse(1, "shape", section=self.name, begun=bool(keyword), forms=self.forms_now())
             is_header = found[0] == self.name
@@ -128,12 +170,12 @@ class SectionReader:
             if not is_header and not keyword:
                 self.lines.refuse(6, "first_not_header", section=self.name, keyword=found[0])
             keyword, values = found
-            getattr(self, f"read_{keyword}")(*values)
+            readers[keyword](*values)
             self.kind_lines[keyword] = self.lines.taken
         self.last_line = self.lines.taken
 
-    def require_kind_order(self, keyword: str, order: list[str]) -> None:
+    def require_kind_order(self, keyword: str, order: Order) -> None:
         """Refuses a kind of line that comes after a later kind."""
-        later = [kind for kind in order[order.index(keyword) + 1:] if kind in self.kind_lines]
-        if later:
+        if not self.kind_lines.keys().isdisjoint(order[keyword]):
+            later = [kind for kind in order[keyword] if kind in self.kind_lines]
             self.lines.refuse(6, "kind_after_later_kind", kind=keyword, later=later[-1], at=self.kind_lines[later[-1]])

@@ -27,23 +27,26 @@ class Owners:
         """Returns the upper left cell of a block."""
         return place % self.columns * 2, place // self.columns * 2
 
-    def taken_in(self, box: Box) -> tuple[Cell, int] | None:
-        """Returns the first block of a box that a module owns, and that module's number; or None."""
-        free = array("i", [NOBODY]) * (box.width // 2)
-        for start, end in self.spans(box):
-            numbers = self.numbers[start:end]
-            if numbers != free:
-                place = next(index for index, number in enumerate(numbers, start) if number != NOBODY)
-                return self.cell_of(place), self.numbers[place]
-        return None
+    def taken_in(self, box: Box) -> tuple[Cell, int]:
+        """Returns the first block of a box that a module owns, and that module's number. There is one."""
+        place = next(place for start, end in self.spans(box) for place in range(start, end) if self.numbers[place] != NOBODY)
+        return self.cell_of(place), self.numbers[place]
 
-    def take(self, box: Box, number: int) -> None:
-        """Gives the blocks of a box, which nobody owns, to a module."""
-        own = array("i", [number]) * (box.width // 2)
-        for start, end in self.spans(box):
-            self.numbers[start:end] = own
-        self.owned_count += box.width // 2 * (box.height // 2)
+    def take(self, box: Box, number: int) -> bool:
+        """Gives the blocks of a box to a module; returns whether nobody owned one of them, without which nothing changes."""
+        numbers, columns, count = self.numbers, box.width // 2, box.height // 2
+        first = box.y // 2 * self.columns + box.x // 2
+        starts = range(first, first + count * self.columns, self.columns)
+        free = array("i", [NOBODY]) * columns
+        for start in starts:
+            if numbers[start:start + columns] != free:
+                return False
+        own = array("i", [number]) * columns
+        for start in starts:
+            numbers[start:start + columns] = own
+        self.owned_count += columns * count
         self.module_count += 1
+        return True
 
     def owner_at(self, cell: Cell) -> int:
         """Returns the number of the module that owns a cell, or NOBODY."""

@@ -1,5 +1,8 @@
 """Runs that look only at what changes: they say what a plain run says, and take less time and memory."""
 
+import contextlib
+import io
+import json
 import random
 import re
 import resource
@@ -7,23 +10,27 @@ import subprocess
 import sys
 import tempfile
 import unittest
+from collections import Counter
 from pathlib import Path
 from unittest import mock
 
 import support
-from bbmlab_core import tracing
+from bbmlab_core import designs, tracing
+from bbmlab_core.assigns import AssignReader
 from bbmlab_core.boxes import Box, clipped
 from bbmlab_core.certificates import CertificateReader
 from bbmlab_core.certify import Plan, certified
-from bbmlab_core.circuits import Circuit, Gate, evaluate_samples, sampled_tables
+from bbmlab_core.circuits import Circuit, CircuitReader, Gate, evaluate_samples, sampled_tables
 from bbmlab_core.cli import main
 from bbmlab_core.diagnosis import Diagnosis
-from bbmlab_core.documents import Document
+from bbmlab_core.documents import HEADER_LINE, HEADERS, Document
 from bbmlab_core.expected_lines import BorderCheck
 from bbmlab_core.explaining import explain_answer
 from bbmlab_core.fixing import Fixer
 from bbmlab_core.golly import golly_text
-from bbmlab_core.layouts import Layout, Part
+from bbmlab_core.json_form import indented
+from bbmlab_core.layouts import Layout, LayoutReader, Part
+from bbmlab_core.lines import Form, Values, match_line, word_value
 from bbmlab_core.program import ask
 from bbmlab_core.simulation import Fault, ModuleRun, WholeRun, key_of, lowest_bit, run_layout
 from bbmlab_core.terminal import LabError
@@ -176,6 +183,59 @@ class ManyModules(unittest.TestCase):
         rows = ["".join(sign * int(count or 1) for count, sign in re.findall(r"(\d*)([A-D])", row)) for row in body.split("$")]
         wanted = ["".join("ABCD"[(x % 2 or y % 2) + 2 * ((x, y) in live)] for x in range(-2, 32)) for y in range(-2, 22)]
         self.assertEqual(rows, wanted)
+
+
+class Forms(unittest.TestCase):
+    """Lines that are matched as a whole, and JSON that is written at once."""
+
+    def test_lines(self) -> None:
+        """A line fits a form if each of its words fits the placeholder there."""
+        chance, counts = random.Random(3), Counter[bool]()
+        words = ["0", "1", "01", "17", "999999999", "1000000000", "*", "->", "a", "b_2", "_a", "A", "X", "TIME", "a" * 32, "a" * 33, "", "a\n", "1\r", "\xb2"]
+        for forms in (CircuitReader.forms, LayoutReader.forms, CertificateReader.all_forms, AssignReader.forms):
+            for keyword, form in forms.items():
+                for _ in range(400):
+                    line = [keyword, *(place if place == "->" else chance.choice(words) for place in form[1:])][:chance.choice((9, 9, 2))]
+                    found = match_line(" ".join(line), forms)
+                    wanted = plain_values(line, form)
+                    self.assertEqual(found, None if wanted is None else (keyword, wanted), line)
+                    counts[found is None] += 1
+        self.assertGreater(min(counts.values()), 100)
+
+    def test_json(self) -> None:
+        """JSON is as Python's own module writes it with an indent of 1, and what a generator yields is written as a list."""
+        value = {"a": [], "b": {}, "c": [1, [2, "x\n\xe9\"", None], {"d": True, "e": [-1.5, {"f": [[]]}]}], "g": None, "\x85": [[1, 2], ["a", "b"]]}
+        self.assertEqual(indented(value, "\n"), json.dumps(value, indent=1))
+        self.assertEqual(indented({"a": (part for part in [[1], {"b": 2}]), "c": (part for part in [])}, "\n"),
+                         json.dumps({"a": [[1], {"b": 2}], "c": []}, indent=1))
+
+    def test_headers(self) -> None:
+        """The sections of a text are those of its lines whose first word is a header, with any blanks around."""
+        chance = random.Random(4)
+        parts = ["circuit", "layout", "assign", "certificate", "end", "x", "#", "layout2", *"\t\r\v\x1c\x85\xa0", *" " * 3, *"\n" * 6]
+        for _ in range(5000):
+            text = "".join(chance.choice(parts) for _ in range(chance.randrange(1, 14)))
+            lines = [line.strip().split(" ")[0] for line in text.split("\n")]
+            self.assertEqual(HEADER_LINE.findall(text), [word for word in lines if word in HEADERS], text)
+
+    def test_what_needs_no_certificate(self) -> None:
+        """`trace` of a whole layout and `golly` do not read the certificate of a long text."""
+        for words in (("trace", "--on", "p"), ("golly",)):
+            read_sections = []
+            right = CertificateReader.read
+            with mock.patch.object(designs, "LONG_TEXT", 0), mock.patch.object(CertificateReader, "read", lambda own: read_sections.append(right(own))), \
+                    contextlib.redirect_stdout(io.TextIOWrapper(io.BytesIO())), contextlib.redirect_stderr(io.StringIO()):
+                self.assertEqual(main([*words, support.example("four_modules")]), 0)
+            self.assertEqual(read_sections, [], words)
+
+
+def plain_values(words: list[str], form: Form) -> Values | None:
+    """Returns the values of the placeholders of a form for the words of a line, or None if one does not fit."""
+    try:
+        values = [(place, word_value(word, place)) for word, place in zip(words, form, strict=True)]
+    except ValueError:
+        return None
+    return [value for place, value in values if place.isupper()]
 
 
 class Once(unittest.TestCase):

@@ -9,7 +9,7 @@ from ..terminal import read_text, write_text
 
 def run(options: argparse.Namespace) -> int:
     """Writes the start of a layout for Golly."""
-    document, layout = read_design(options.file)
+    document, layout = read_design(options.file, False)
     on = tracing.chosen_inputs(document, options.on)
     start = tracing.state_at(layout, on, 0)
     write_text(options.output, golly.golly_text(layout, start, on, tracing.layout_lines(document)))

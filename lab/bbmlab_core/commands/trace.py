@@ -11,7 +11,7 @@ from ..terminal import LabError, plain, write_text
 
 def run(options: argparse.Namespace) -> int:
     """Writes the live cells at each time."""
-    document, layout = read_design(options.file)
+    document, layout = read_design(options.file, options.module is not None)
     last = layout.steps if options.to is None else options.to
     if options.start > last:
         raise LabError(f"--from {options.start} is later than --to {last}", 2)
