@@ -65,6 +65,8 @@ class Maker:
         self.notes: list[str] = []
         self.stops = self.chosen_stops()
         self.ports = {key_of(part.cell): part.name or "" for part in layout.of_kind("in") + layout.of_kind("out")}
+        # The modules of each rectangle that was tried, or why it has none.
+        self.known: dict[Box, list[Module] | str] = {}
         self.starts = {key_of(part.cell): part.name or "" for part in layout.of_kind("in")}
 
     # ---- boxes
@@ -83,7 +85,20 @@ class Maker:
         return Certificate(self.plan.version, modules)
 
     def divided(self, box: Box) -> list[Module]:
-        """Returns the modules of a rectangle: itself, or those of its parts."""
+        """Returns the modules of a rectangle: itself, or those of its parts. What came of a rectangle is kept, since both orders of cuts lead to it."""
+        found = self.known.get(box)
+        if found is None:
+            try:
+                found = self.newly_divided(box)
+            except NoBoxError as error:
+                found = str(error)
+            self.known[box] = found
+        if isinstance(found, str):
+            raise NoBoxError(found)
+        return found
+
+    def newly_divided(self, box: Box) -> list[Module]:
+        """Returns the modules of a rectangle that was not tried before."""
         if self.plan.until is not None and processor_seconds() > self.plan.until:
             raise LabError("no certificate was found in the time that was given", 1)
         why = ""
@@ -311,13 +326,13 @@ def certified(document: Document, boxes: list[Box] | None, plan: Plan, notes: li
     circuit, layout = document.circuit, document.layout
     if circuit is None or layout is None:
         raise LabError("certify takes a circuit and a layout")
+    maker = Maker(circuit, layout, plan)
     try:
-        maker = Maker(circuit, layout, plan)
         certificate = maker.certificate(boxes)
-        if notes is not None:
-            notes += maker.notes
     except NoBoxError as error:
-        raise LabError(f"no certificate was found: {error}", 1) from error
+        raise LabError(f"no certificate was found: {error}{maker.observer.equal_words()}", 1) from error
+    if notes is not None:
+        notes += maker.notes
     head = sections_after_line(document.text).split("\nend\n", 2)
     limits = limits_for(max(layout.width, layout.height), layout.steps, len(certificate.modules), len(circuit.gates), len(circuit.defined))
     return with_line(f"{head[0]}\nend\n{head[1]}\nend\n{certificate_text(certificate)}", limits)

@@ -47,6 +47,16 @@ class Observer:
         self.observed = self.run()
         self.wires: dict[int, frozenset[str] | None] = {}
 
+    def equal_words(self) -> str:
+        """Says how many wires have the values of an earlier one, by whose name the cells go: a box may lack the wires that its gate takes."""
+        named = set(self.signals.values())
+        hidden = [name for name, table in self.values.tables.items() if name not in named and 0 != table != self.values.full]
+        if not hidden:
+            return ""
+        first = self.signals[self.values.tables[hidden[0]]]
+        return (f". {len(hidden)} of {len(self.values.tables)} wires have the values of an earlier one {self.values.scope}, as `{hidden[0]}` has those of "
+                f"`{first}`, and the lab gives cells the earlier name, so a box may lack the wires that its gate takes")
+
     def require_rows(self) -> None:
         """Raises LabError if some gate has no row under a choice of the inputs."""
         for number, table in self.values.rows.items():

@@ -3,14 +3,19 @@
 import os
 import tempfile
 import unittest
+from collections import Counter
 from pathlib import Path
+from types import SimpleNamespace
 
 import support
+from bbmlab_core.boxes import Box
+from bbmlab_core.certificates import BorderLine, Module
 from bbmlab_core.diagnosis import Diagnosis, Truth
 from bbmlab_core.edits import EditError, add, applied, delete, edits_between, replace
+from bbmlab_core.expected_lines import BorderCheck
 from bbmlab_core.explaining import Explanation, explain_answer
 from bbmlab_core.fixing import Fixer
-from bbmlab_core.layouts import Part
+from bbmlab_core.layouts import Layout, Part
 from bbmlab_core.mirrors import stays
 from bbmlab_core.own_report import certificate_digest, own_report
 from bbmlab_core.program import ask
@@ -76,6 +81,36 @@ class DeletedLines(unittest.TestCase):
                     fix = Fixer(text, report, Trial(support.program())).find()
                     assert fix
                     self.assertEqual((len(fix.edits), fix.remakes, is_yes(fix.report)), (1, False, True), (lines[number], fix.words))
+
+
+    def test_nearest_line(self) -> None:
+        """The wire of the line about the cell at the nearest time comes first, then those that most modules know, then that of a line next to it."""
+        tables, layout = {"p": 5, "d": 5, "e": 5, "z": 3}, Layout(32, 32, 100)
+        knowing = [Module(number, Box(8 * number, 0, 8, 8), 1, local=dict.fromkeys(names, 1)) for number, names in enumerate(("p", "pe", "pe"))]
+        for lines, modules, wanted in (([(8, 3, 41, "e"), (8, 3, 61, "p"), (9, 4, 49, "d")], [], "epd"), ([(8, 3, 41, "p"), (8, 3, 53, "e")], [], "epd"),
+                                       ([(9, 4, 49, "d")], knowing, "ped"), ([(9, 4, 49, "d"), (7, 2, 47, "e"), (12, 3, 49, "p")], [], "dep"), ([], [], "pde")):
+            check = BorderCheck.__new__(BorderCheck)
+            at: dict[tuple[int, int], list[tuple[Module, BorderLine]]] = {}
+            for x, y, time, name in lines:
+                at.setdefault((x, y), []).append((knowing[0], BorderLine("edge", time, x, y, name, 1)))
+            check.__dict__.update(lines_at=at, layout=layout, diagnosis=SimpleNamespace(values=SimpleNamespace(tables=tables)))
+            self.assertEqual("".join(check.likely_wires(5, modules, (8, 3), 49)), wanted, lines)
+
+    def test_first_edit(self) -> None:
+        """The first edit that is tried for such a line is the line itself, if others about its cell or next to it name its wire."""
+        bundle = support.lab("route", "-", "--program", support.program(), text="circuit\ninput p\ninput q\nswitch p q -> d y z\ndelay 40 d -> e\noutput e\n"
+                             "output y\noutput z\nend\n").stdout
+        lines = bundle.split("\n")
+        tried = Counter[bool]()
+        for number in (number for number, line in enumerate(lines) if line.startswith("edge ") and line[-1] in "de"):
+            document = support.read_document("\n".join(lines[:number] + lines[number + 1:]), "check")
+            _, time, x, y, name = lines[number].split(" ")
+            near = [line.split(" ") for line in lines if line.startswith("edge ") and line != lines[number]]
+            has_near = any(words[4] == name and max(abs(int(words[2]) - int(x)), abs(int(words[3]) - int(y))) <= 1 for words in near)
+            group, = (group for group in BorderCheck(Diagnosis(document)).groups() if group.cell == (int(x), int(y)))
+            tried[[edit.text for edit in group.edits] == [lines[number]]] += has_near
+        self.assertGreater(tried[True], 5)
+        self.assertEqual(tried[False], 0)
 
 
 class Mirrors(unittest.TestCase):

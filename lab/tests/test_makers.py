@@ -8,13 +8,15 @@ import subprocess
 import tempfile
 import unittest
 import xml.etree.ElementTree as ET
+from collections import Counter
 from pathlib import Path
+from unittest import mock
 
 import support
 from bbmlab_core import golly, json_form
 from bbmlab_core.boxes import Box
 from bbmlab_core.certificates import Module
-from bbmlab_core.certify import Plan, certified, checked_boxes
+from bbmlab_core.certify import Maker, NoBoxError, Plan, certified, checked_boxes
 from bbmlab_core.drawing import centre, module_parts
 from bbmlab_core.program import ask
 from bbmlab_core.reports import parse_report
@@ -56,6 +58,34 @@ class Certificates(unittest.TestCase):
         """Where a cell has the value of no wire, that is said with time and cell: here c without x goes to (8, 10)."""
         with self.assertRaisesRegex(LabError, r"at time 1 the cell \(8, 10\) is live with `c` on, and no wire of the circuit is true in just"):
             by_grid("fredkin_gate", (10, 10), Plan())
+
+    def test_no_box_is_tried_twice(self) -> None:
+        """If no certificate is found no box was tried twice, though both orders of cuts lead to it."""
+        right, tried = Maker.module, Counter[Box]()
+        for name, cell in (("machine_full_adder", (40, 40)), ("machine_half_adder", (30, 20))):
+            def module(self: Maker, box: Box, cell: tuple[int, int] = cell) -> Module:
+                """Makes no module of the boxes with a cell."""
+                tried[box] += 1
+                if box.has(cell):
+                    raise NoBoxError("not here")
+                return right(self, box)
+
+            with self.subTest(name), mock.patch.object(Maker, "module", module), self.assertRaisesRegex(LabError, "no certificate was found: not here"):
+                tried.clear()
+                certified(design(name), None, Plan())
+            self.assertGreater(len(tried), 20)
+            self.assertEqual(max(tried.values()), 1)
+
+    def test_wires_with_equal_values(self) -> None:
+        """If no certificate is found, wires that have the values of an earlier one are counted: here b and c are true if and only if a is."""
+        text = "circuit\ninput a\nsource 1 -> k\nswitch a k -> b c d\noutput b\noutput c\noutput d\nend\n"
+        routed = support.lab("route", "-", "--program", support.program(), text=text).stdout
+        document = support.read_document(routed.split("certificate ")[0], "design")
+        with mock.patch.object(Maker, "module", side_effect=NoBoxError("not here")):
+            with self.assertRaisesRegex(LabError, "not here. 2 of 5 wires have the values of an earlier one in all 2 choices of the inputs, as `b` has those of `a`"):
+                certified(document, None, Plan())
+            with self.assertRaisesRegex(LabError, "not here$"):
+                certified(design("fredkin_gate"), None, Plan())
 
     def test_own_boxes_avoid_cells_without_a_wire(self) -> None:
         """Without a grid the lab finds boxes by itself, though a grid of 10 by 10 cells has no certificate."""
