@@ -85,7 +85,7 @@ class Certificates(unittest.TestCase):
             with self.assertRaisesRegex(LabError, "not here. 2 of 5 wires have the values of an earlier one in all 2 choices of the inputs, as `b` has those of `a`"):
                 certified(document, None, Plan())
             with self.assertRaisesRegex(LabError, "not here$"):
-                certified(design("fredkin_gate"), None, Plan())
+                certified(support.read_document("circuit\ninput a\noutput a\nend\nlayout 8 8 0\nin a 4 4\nout a 4 4\nend\n", "design"), None, Plan())
 
     def test_own_boxes_avoid_cells_without_a_wire(self) -> None:
         """Without a grid the lab finds boxes by itself, though a grid of 10 by 10 cells has no certificate."""
