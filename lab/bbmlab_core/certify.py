@@ -12,7 +12,7 @@ from .boxes import Box
 from .certificates import MAX_BOX_SIDE, MAX_BORDER_LINES, MAX_CUTS, MAX_USES, BorderLine, Certificate, Module, StopLine
 from .circuits import Circuit, Gate
 from .cones import fewest_cuts, keeping_cone
-from .documents import Document
+from .documents import Document, without_collector
 from .layouts import Cell, Layout, row_order
 from .limits import SECOND, limits_for, sections_after_line, with_line
 from .observing import Observer, perimeter
@@ -135,12 +135,8 @@ class Maker:
 
     def is_cut(self, box: Box, place: int, is_upright: bool) -> bool:
         """Whether each cell on both sides of a line through a rectangle carries a wire at each odd time."""
-        for side in (place - 1, place):
-            for along in range(box.height if is_upright else box.width):
-                cell = (box.x + side, box.y + along) if is_upright else (box.x + along, box.y + side)
-                if self.observer.names_at(key_of(cell)) is None:
-                    return False
-        return True
+        lines = Box(box.x + place - 1, box.y, 2, box.height) if is_upright else Box(box.x, box.y + place - 1, box.width, 2)
+        return all(self.observer.names_at(key) is not None for key in self.observer.observed.seen.keys() & keys_of(lines))
 
     def uncut_words(self, box: Box) -> str:
         """Says why a rectangle can't be cut."""
@@ -165,7 +161,7 @@ class Maker:
             raise NoBoxError(f"the box {box} takes more than {MAX_BORDER_LINES} lines")
         needed = {line.signal for line in (*module.edges, *module.halos)} - {"1"}
         inside = keys_of(box)
-        needed |= {self.ports[key] for key in inside if key in self.ports} | {stop.name for stop in module.stops}
+        needed |= {self.ports[key] for key in self.ports.keys() & inside} | {stop.name for stop in module.stops}
         fault = None
         for wiring in self.wirings(box, needed, inside, halo):
             if wiring.fits():
@@ -207,7 +203,7 @@ class Maker:
     def incoming(self, box: Box, needed: set[str], inside: list[int], halo: list[int]) -> set[str]:
         """Returns the wires that come into a box: those of its `in` cells, and those that are beside it before they are in it."""
         here, beside = self.observer.first_times(inside), self.observer.first_times(halo)
-        starts = {self.starts[key] for key in inside if key in self.starts}
+        starts = {self.starts[key] for key in self.starts.keys() & inside}
         return starts | {name for name in needed if name not in starts and beside.get(name, self.layout.steps) < here.get(name, self.layout.steps)}
 
     def known_by(self, needed: set[str], incoming: set[str]) -> Iterable[Wiring]:
@@ -323,6 +319,12 @@ def certified(document: Document, boxes: list[Box] | None, plan: Plan, notes: li
 
     What the user should know of the certificate is added to `notes`.
     """
+    with without_collector():
+        return newly_certified(document, boxes, plan, notes)
+
+
+def newly_certified(document: Document, boxes: list[Box] | None, plan: Plan, notes: list[str] | None) -> str:
+    """Returns the text of `certified`."""
     circuit, layout = document.circuit, document.layout
     if circuit is None or layout is None:
         raise LabError("certify takes a circuit and a layout")

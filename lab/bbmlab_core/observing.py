@@ -15,6 +15,7 @@ MAX_TRIED_INPUTS = 12
 SAMPLES = 1024
 # A layout with a delay is remembered at each time; this is the most that is kept.
 MAX_REMEMBERED = 4_000_000
+NO_WIRES: frozenset[str] = frozenset()
 
 
 @dataclass
@@ -115,6 +116,8 @@ class Observer:
 
     def names_at(self, key: int) -> frozenset[str] | None:
         """Returns the wires that a cell carries at odd times, without constants; None if at some time it carries no wire."""
+        if key not in self.observed.seen:
+            return NO_WIRES
         if key not in self.wires:
             names = {self.signals.get(table) for _, table in self.observed.seen.get(key, ())}
             self.wires[key] = None if None in names else frozenset(name for name in names if name and name != "1")
@@ -135,8 +138,8 @@ class Observer:
     def first_times(self, keys: list[int]) -> dict[str, int]:
         """Returns for each wire that some cells carry the first odd time at which one of them does."""
         first: dict[str, int] = {}
-        for key in keys:
-            for time, table in self.observed.seen.get(key, ()):
+        for key in self.observed.seen.keys() & keys:
+            for time, table in self.observed.seen[key]:
                 name = self.signals.get(table)
                 if name and time < first.get(name, time + 1):
                     first[name] = time

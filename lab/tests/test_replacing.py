@@ -8,7 +8,10 @@ from pathlib import Path
 from unittest import mock
 
 import support
+from bbmlab_core.answering import Result
 from bbmlab_core.commands import fmt
+from bbmlab_core.receipts import ReceiptFolder
+from bbmlab_core.releases import Program
 from bbmlab_core.spelling import spelled
 from bbmlab_core.studio.folder import ChangedError, Folder, digest_of
 from bbmlab_core.terminal import LabError, write_bytes
@@ -170,7 +173,10 @@ class Kept(Room):
         with mock.patch("os.fsync", lambda number: (done.append("fsync"), fsync(number))), \
                 mock.patch("os.replace", lambda *names: (done.append("rename"), replace(*names))):
             write_bytes(str(self.room / "receipt.json"), b"{}")
-        self.assertEqual(done, ["fsync", "rename"])
+            self.assertEqual(done, ["fsync", "rename"])
+            ReceiptFolder(str(self.room / "receipts"), Program("0" * 64, None)).keep(b"x\n", Result("x.txt", "refused", "line 1, code 1", 0.0, output="refused 1 1\n"), 0.0)
+        self.assertEqual(done, ["fsync", "rename"] * 2)
+        self.assertEqual([path.name for path in (self.room / "receipts").iterdir()][0][-10:], "x.txt.json")
 
 
 if __name__ == "__main__":

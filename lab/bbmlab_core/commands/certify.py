@@ -19,7 +19,8 @@ def run(options: argparse.Namespace) -> int:
     document = design_of(text, options.file)
     # A plain certificate has no cuts to choose: the program's no to it is about the layout, and shows where it is wrong.
     plan = Plan(options.version_of_text, "safe" if options.plain else options.cuts, is_tried=not options.plain)
-    old = read_document(text, "check")
+    # Only the stops of an old certificate are kept.
+    old = read_document(text, "check") if "\nstop " in text else document
     if old.certificate and not old.refusal:
         plan.stops = sorted((stop for module in old.certificate.modules for stop in module.stops), key=lambda stop: stop.place)
     assert document.layout is not None
