@@ -389,6 +389,7 @@ def add_route(commands: Commands) -> None:
     parser.add_argument("--no-certificate", action="store_true", help="write the circuit and the layout alone")
     parser.add_argument("--circuit-only", action="store_true", help="write the circuit section to which a netlist is mapped, and route nothing")
     parser.add_argument("--keep-partial", action="store_true", help="if there is no route, write a bundle of the gates that were placed")
+    parser.add_argument("--map", metavar="SVG", help="also write a picture of how full the plane was when the best attempt ended")
     add_program(parser)
 
 

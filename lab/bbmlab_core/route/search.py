@@ -19,6 +19,7 @@ from ..signals import Stopped
 from .attempt import Attempt, OutOfTimeError
 from .board import Bound, NoRouteError, Step
 from .certificate import Certifier, bundle_text, circuit_section
+from .crowding import Crowding, crowding_of
 from .design import Design, cropped
 from .estimate import Estimate, estimate_of
 from .netlist import Netlist
@@ -50,7 +51,7 @@ COMPACT_LANE = 10
 
 @dataclass(frozen=True)
 class Options:
-    """What a search is asked for: a seed, a side or None, seconds, processes, and whether small layouts are wanted."""
+    """What a search is asked for: a seed, a side or None, seconds, processes, and whether small layouts, a part or a map are wanted."""
 
     seed: int = 1
     side: int | None = None
@@ -58,6 +59,7 @@ class Options:
     jobs: int = 1
     is_compact: bool = False
     keeps_partial: bool = False
+    has_map: bool = False
 
     @property
     def most_side(self) -> int:
@@ -100,6 +102,9 @@ class Outcome:
     total: int = 0
     partial: list[Step] = field(default_factory=list)
     partial_size: int = 0
+    # The plane of the attempt that placed most gates, when it ended, if a map was asked for, and how many gates these were.
+    crowding: Crowding | None = None
+    crowding_placed: int = -1
     is_interrupted: bool = False
     # The exit status after an interrupt: 130 for SIGINT, and 143 for SIGTERM.
     interrupt_status: int = 130
@@ -232,6 +237,8 @@ class Search:
                 self.note_failure(error, attempt.most_placed)
             finally:
                 self.note_partial(attempt.most_placed, attempt.best_steps, attempt.board.size)
+                if self.options.has_map:
+                    self.note_crowding(attempt.most_placed, crowding_of(attempt.board))
 
     def take(self, routed: Routed) -> bool:
         """Takes a bundle if it is the best so far, and returns whether the search is done."""
@@ -246,6 +253,11 @@ class Search:
         if not self.outcome.reason or placed >= self.outcome.placed and not is_late:
             self.outcome.reason = str(error)
 
+    def note_crowding(self, placed: int, crowding: Crowding) -> None:
+        """Keeps how crowded the plane of an attempt was if none placed more gates."""
+        if placed >= self.outcome.crowding_placed:
+            self.outcome.crowding, self.outcome.crowding_placed = crowding, placed
+
     def note_partial(self, placed: int, steps: list[Step], side: int) -> None:
         """Notes how many gates an attempt placed, and keeps the steps that placed them if they are the most.
 
@@ -257,7 +269,7 @@ class Search:
             self.outcome.placed, self.outcome.partial, self.outcome.partial_size = len(steps), steps, side
 
 
-# What a process sends: that it placed gates, the side, and their steps if they are kept; its bundle; or why it failed.
+# What a process sends: that it placed gates, the side, and their steps if they are kept; how crowded its plane is; its bundle; or why it failed.
 Message = tuple[str, int, int, object]
 
 
@@ -270,6 +282,7 @@ class Task:
     deadline: float
     keeps_partial: bool
     is_cropped: bool
+    has_map: bool
 
 
 def work(connection: Connection, task: Task) -> None:
@@ -283,10 +296,17 @@ def work(connection: Connection, task: Task) -> None:
         is_best = task.keeps_partial and placed == attempt.most_placed
         connection.send(("placed", placed, attempt.board.size, attempt.best_steps if is_best else None))
 
+    def tell_crowding() -> None:
+        """Sends how crowded the plane is, if that is asked for."""
+        if task.has_map:
+            connection.send(("crowded", attempt.most_placed, attempt.board.size, crowding_of(attempt.board)))
+
     try:
         design = attempt.run(tell)
+        tell_crowding()
         connection.send(("routed", attempt.most_placed, attempt.board.size, routed_bundle(task.circuit_text, design, task.is_cropped)))
     except NoRouteError as error:
+        tell_crowding()
         connection.send(("failed", attempt.most_placed, attempt.board.size, error))
     finally:
         connection.close()
@@ -347,7 +367,8 @@ class Pool:
         """Starts the next attempt."""
         search, (index, plan) = self.search, next(self.plans)
         here, there = multiprocessing.Pipe(duplex=False)
-        task = Task(plan, search.circuit_text, search.deadline, search.options.keeps_partial, not search.options.side)
+        options = search.options
+        task = Task(plan, search.circuit_text, search.deadline, options.keeps_partial, not options.side, options.has_map)
         process = multiprocessing.get_context("fork").Process(target=work, args=(there, task), daemon=True)
         process.start()
         there.close()
@@ -361,6 +382,9 @@ class Pool:
             kind, placed, side, content = connection.recv()
         except EOFError:
             self.workers.pop(connection).process.join()
+            return
+        if isinstance(content, Crowding):
+            search.note_crowding(placed, content)
             return
         if isinstance(content, Routed):
             self.found[worker.index] = content

@@ -1,0 +1,119 @@
+"""A map of how crowded the plane of a search was: for each tile, how many of its cells paths and gates take.
+
+It shows where room is lacking: at the gates, between them, or at the border, where balls wait for the last time.
+"""
+
+from dataclasses import dataclass
+from html import escape
+from typing import Iterator
+
+from ..circuits import Circuit
+from .board import Board, TileBox
+from .world import TILE, World
+
+# Colours from empty to full tiles: class k is up to k / 7 of the cells.
+COLOURS = ("#ffffff", "#e5f0f8", "#c3dcee", "#92c0e0", "#5a9fcf", "#2f7ab5", "#175a93", "#08306b")
+# A picture has at most so many pixels a side, beside its margin and its lines of text.
+PIXELS = 1024
+MARGIN, LINE = 12, 18
+# A line of a width in pixels, whatever the scale.
+STEADY = 'vector-effect="non-scaling-stroke"'
+# How many cells of a byte of bits are taken.
+TAKEN = bytes(number.bit_count() for number in range(256))
+
+
+@dataclass(frozen=True)
+class PlacedBox:
+    """The box of a gate that was placed, in tiles, with its number."""
+
+    number: int
+    box: TileBox
+
+
+@dataclass(frozen=True)
+class Crowding:
+    """The plane of an attempt when it ended: its side, how many cells of each tile are taken, row by row, and the gates on it."""
+
+    side: int
+    taken: tuple[bytes, ...]
+    gates: tuple[PlacedBox, ...]
+
+    @property
+    def part(self) -> float:
+        """The part of all cells that is taken."""
+        return 2 * sum(map(sum, self.taken)) / self.side ** 2
+
+
+def tile_counts(world: World) -> Iterator[bytes]:
+    """Yields, for each row of tiles, half of how many cells of each tile are taken: a tile has up to 256, and a byte holds 128."""
+    tiles = world.size // TILE
+    for first in range(0, tiles * TILE, TILE):
+        counts = [0] * tiles
+        for row in world.blocked[first:first + TILE]:
+            parts = (row & (1 << tiles * TILE) - 1).to_bytes(2 * tiles, "little").translate(TAKEN)
+            counts = [count + left + right for count, left, right in zip(counts, parts[::2], parts[1::2])]
+        yield bytes(count // 2 for count in counts)
+
+
+def crowding_of(board: Board) -> Crowding:
+    """Returns how crowded a board is."""
+    gates = tuple(PlacedBox(step.gate.number, step.gate.box) for step in board.steps)
+    return Crowding(board.world.size, tuple(tile_counts(board.world)), gates)
+
+
+def class_of(half: int) -> int:
+    """Returns the class of a tile by half of how many of its cells are taken: 0 is empty, the last one full."""
+    last = len(COLOURS) - 1
+    return -(-half * last * 2 // TILE ** 2)
+
+
+def runs(row: bytes) -> Iterator[tuple[int, int, int]]:
+    """Yields the runs of tiles of one class in a row: class, first column and how many."""
+    first = 0
+    for column in range(1, len(row) + 1):
+        if column == len(row) or class_of(row[column]) != class_of(row[first]):
+            yield class_of(row[first]), first, column - first
+            first = column
+
+
+def tile_paths(crowding: Crowding) -> Iterator[str]:
+    """Yields one path for each class but the empty one, in tiles."""
+    moves: list[list[str]] = [[] for _ in COLOURS]
+    for line, row in enumerate(crowding.taken):
+        for kind, first, count in runs(row):
+            moves[kind].append(f"M{first} {line}h{count}v1h-{count}z")
+    for kind, colour in enumerate(COLOURS[1:], 1):
+        if moves[kind]:
+            yield f'<path fill="{colour}" d="{"".join(moves[kind])}"/>'
+
+
+def gate_frames(crowding: Crowding, circuit: Circuit) -> Iterator[str]:
+    """Yields a frame for each gate that was placed, which names it under the pointer."""
+    for placed in crowding.gates:
+        left, top, width, height = placed.box
+        gate = circuit.gates[placed.number]
+        name = escape(f"gate {placed.number}: {gate.word} {' '.join(gate.ins)} -> {' '.join(gate.outs)}")
+        yield f'<rect x="{left}" y="{top}" width="{width}" height="{height}" {STEADY}><title>{name}</title></rect>'
+
+
+def legend(top: int) -> Iterator[str]:
+    """Yields the colours with what they mean."""
+    for kind, colour in enumerate(COLOURS):
+        yield f'<rect x="{MARGIN + 24 * kind}" y="{top}" width="24" height="12" fill="{colour}" stroke="#888"/>'
+    yield f'<text x="{MARGIN + 24 * len(COLOURS) + 8}" y="{top + 11}">cells taken of each {TILE} by {TILE}: none to all; frames are gates</text>'
+
+
+def crowding_picture(crowding: Crowding, circuit: Circuit, title: str) -> str:
+    """Returns the map as a picture (SVG), with a title of one or more lines."""
+    tiles = max(1, crowding.side // TILE)
+    scale = max(1, PIXELS // tiles)
+    size, lines = scale * tiles, title.split("\n")
+    top = 2 * MARGIN + LINE * len(lines)
+    width, height = max(size, 560) + 2 * MARGIN, top + size + 3 * MARGIN
+    drawn = [f'<svg xmlns="http://www.w3.org/2000/svg" width="{width}" height="{height}" viewBox="0 0 {width} {height}" '
+               'font-family="sans-serif" font-size="13">', f'<rect width="{width}" height="{height}" fill="#fff"/>']
+    drawn += [f'<text x="{MARGIN}" y="{MARGIN + LINE * (at + 1) - 6}">{escape(line)}</text>' for at, line in enumerate(lines)]
+    drawn += [f'<g transform="translate({MARGIN} {top}) scale({scale})">', *tile_paths(crowding),
+                '<g fill="transparent" stroke="#d1495b" stroke-width="2">', *gate_frames(crowding, circuit), "</g>",
+                f'<rect width="{tiles}" height="{tiles}" fill="none" stroke="#444" stroke-width="2" {STEADY}/>', "</g>", *legend(top + size + MARGIN), "</svg>"]
+    return "\n".join(drawn) + "\n"

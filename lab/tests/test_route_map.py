@@ -1,0 +1,108 @@
+"""The map of how crowded the plane of a search was."""
+
+import random
+import sys
+import tempfile
+import unittest
+import xml.etree.ElementTree as tree
+from pathlib import Path
+
+import support
+from bbmlab_core.documents import read_document
+from bbmlab_core.route.board import Board
+from bbmlab_core.route.crowding import COLOURS, class_of, crowding_of, runs, tile_counts
+from bbmlab_core.route.netlist import Netlist
+from bbmlab_core.route.settings import Settings
+from bbmlab_core.route.world import ROW, TILE, Item, World
+
+sys.path.insert(0, str(support.TOP / "bench"))
+from random_circuits import made_circuit  # noqa: E402
+
+SVG = "{http://www.w3.org/2000/svg}"
+
+
+def world_with(size: int, cells: list[tuple[int, int]]) -> World:
+    """Returns a plane on which some cells are taken, some of them twice."""
+    world = World(size)
+    world.add(Item(frozenset(y * ROW + x for x, y in cells)))
+    world.add(Item(frozenset(), ([y * ROW + x for x, y in cells[::2]],)))
+    return world
+
+
+class Counts(unittest.TestCase):
+    """How many cells of a tile are taken."""
+
+    def test_counts(self) -> None:
+        """Each cell counts once, in its own tile: compared with a count cell by cell, after a growth too."""
+        chance = random.Random(7)
+        for size in (48, 512, 4096):
+            cells = [(chance.randrange(size), chance.randrange(size)) for _ in range(3000)]
+            wanted = [[0] * (size // TILE) for _ in range(size // TILE)]
+            for x, y in set(cells):
+                wanted[y // TILE][x // TILE] += 1
+            found = [list(row) for row in tile_counts(world_with(size, cells))]
+            self.assertEqual(found, [[count // 2 for count in row] for row in wanted])
+
+    def test_full_tile(self) -> None:
+        """A full tile is in the last class, an empty one in the first, and half a full one in the middle."""
+        cells = [(x, y) for x in range(TILE) for y in range(TILE)] + [(x, y) for x in range(TILE, 2 * TILE) for y in range(TILE // 2)]
+        row = next(tile_counts(world_with(48, cells)))
+        self.assertEqual([class_of(half) for half in row], [len(COLOURS) - 1, 4, 0])
+
+    def test_runs(self) -> None:
+        """The runs of a row are its tiles in order."""
+        chance = random.Random(11)
+        row = bytes(chance.choice((0, 0, 1, 64, 128)) for _ in range(200))
+        spread = [kind for kind, _, count in runs(row) for _ in range(count)]
+        self.assertEqual(spread, [class_of(half) for half in row])
+        self.assertTrue(all(one[0] != two[0] for one, two in zip(list(runs(row)), list(runs(row))[1:])))
+
+    def test_empty_board(self) -> None:
+        """A board without gates is empty."""
+        circuit = read_document(str(made_circuit("forward", 5, 4, 1)), "circuit").circuit
+        assert circuit is not None
+        crowding = crowding_of(Board(Netlist(circuit), 96, Settings()))
+        self.assertEqual((crowding.part, crowding.gates), (0, ()))
+
+
+class Map(unittest.TestCase):
+    """The option `--map` of `route`."""
+
+    def route(self, *words: str) -> tuple[int, str, tree.Element | None]:
+        """Routes a circuit of ten gates; returns the status, what was said, and the map."""
+        with tempfile.TemporaryDirectory() as room:
+            circuit, picture = Path(room) / "circuit.txt", Path(room) / "map.svg"
+            circuit.write_text(str(made_circuit("forward", 10, 5, 3)))
+            ended = support.lab("route", str(circuit), "-o", str(Path(room) / "bundle.txt"), "--map", str(picture), *words)
+            return ended.returncode, ended.stderr, tree.parse(picture).getroot() if picture.exists() else None
+
+    def test_routed(self) -> None:
+        """Each gate that was placed has a frame with its name, and the title says that there is a route."""
+        status, said, picture = self.route()
+        assert picture is not None
+        names = [title.text or "" for title in picture.iter(f"{SVG}title")]
+        placed = int(said.split("gates placed ")[1].split(",")[0])
+        self.assertEqual((status, len(names), len(set(names))), (0, placed, placed))
+        self.assertIn("routed", [text.text for text in picture.iter(f"{SVG}text")])
+
+    def test_failure(self) -> None:
+        """Without a route there is a map too, with one process or more, and it says why."""
+        for jobs in ("1", "2"):
+            status, said, picture = self.route("--size", "48", "--effort", "3", "--jobs", jobs)
+            assert picture is not None, said
+            texts = [text.text or "" for text in picture.iter(f"{SVG}text")]
+            self.assertEqual((status, texts[0][:12], texts[1][:10]), (1, "48 by 48 cel", "no route: "))
+
+    def test_own_input(self) -> None:
+        """The map is not written over the circuit or the bundle."""
+        with tempfile.TemporaryDirectory() as room:
+            circuit = Path(room) / "circuit.txt"
+            circuit.write_text(str(made_circuit("forward", 3, 4, 1)))
+            before = circuit.read_bytes()
+            for words in ((str(circuit),), (f"{room}/out.txt", "-o", f"{room}/out.txt")):
+                ended = support.lab("route", str(circuit), "--map", *words)
+                self.assertEqual((ended.returncode, circuit.read_bytes()), (2, before), ended.stderr)
+
+
+if __name__ == "__main__":
+    unittest.main()
