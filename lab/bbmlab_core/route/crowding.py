@@ -41,7 +41,7 @@ class Crowding:
     @property
     def part(self) -> float:
         """The part of all cells that is taken."""
-        return 2 * sum(map(sum, self.taken)) / self.side ** 2
+        return 2 * sum(sum(row) for row in self.taken) / self.side ** 2
 
 
 def tile_counts(world: World) -> Iterator[bytes]:
