@@ -209,7 +209,7 @@ class Refused(unittest.TestCase):
             (qasm.format("creg c[1]; measure q[0] -> c[0]; x q[0];"), "after it was measured"), (qasm.format("x q[0]; reset q[0];"), "loses its bit"),
             (qasm.format("gate f a { f a; } f q[0];"), "call too many others"), (qasm.format("cx q[0],q[0];"), "names `q[0]` twice"),
             (".i 2\n.o 1\n111 1\n", "Line 3: a row has 2"), (".i x\n.o 1\n", "Line 1: `.i` takes a number"),
-            ("aag 1 0 1 0 0\n2 3\n", "latches"), ("aag 1 1 0 1 0\n2\n9\n", "above those of the header"), ("aig 3 1 0 1 2\n2\n\x02", "ends early"),
+            ("aag 1 0 1 0 0\n2 3\n", "stores 1 bit: say for how many cycles"), ("aag 1 0 1 0 0\n2 3 5\n", "Line 2: the first value of a latch"), ("aag 1 1 0 1 0\n2\n9\n", "above those of the header"), ("aig 3 1 0 1 2\n2\n\x02", "ends early"),
         ):
             with self.assertRaises(NetlistError, msg=text) as found:
                 map_netlist(text)

@@ -11,19 +11,14 @@ from ..circuit_forms import WRITERS
 from ..circuits import Circuit
 from ..documents import read_document
 from ..limits import limits_for, with_line
-from ..netlists import NetlistFormat
+from ..netlists import Reading
 from ..route.command import circuit_of
 from ..terminal import LabError, read_text, write_text
 
 
-def asked_format(options: argparse.Namespace) -> NetlistFormat | None:
-    """Returns the format that `--from` names."""
-    return NetlistFormat(options.given) if getattr(options, "given", None) else None
-
-
 def run_circuit(options: argparse.Namespace) -> int:
     """Writes the circuit of a file: in the one spelling, or in the form of another tool."""
-    text, circuit = circuit_of(options.file, asked_format(options))
+    text, circuit = circuit_of(options.file, Reading.asked(options))
     if options.to is None:
         text = with_line(text, limits_for(gates=len(circuit.gates), wires=len(circuit.defined)))
     else:
@@ -34,7 +29,7 @@ def run_circuit(options: argparse.Namespace) -> int:
 
 def run_table(options: argparse.Namespace) -> int:
     """Writes the rows of a circuit's values."""
-    _, circuit = circuit_of(options.file, asked_format(options))
+    _, circuit = circuit_of(options.file, Reading.asked(options))
     on = None if options.on is None else [name for name in options.on.split(",") if name]
     rows = truth.rows(circuit, on)
     write_text(options.output, csv_text(rows) if options.csv else table_text(circuit, [*rows]))
@@ -65,7 +60,7 @@ def run_stats(options: argparse.Namespace) -> int:
     text = read_text(options.file)
     document = read_document(text, "check")
     if document.circuit is None or document.layout is None or not document.layout.width:
-        found = truth.circuit_figures(circuit_of(options.file, asked_format(options))[1])
+        found = truth.circuit_figures(circuit_of(options.file, Reading.asked(options))[1])
     else:
         found = truth.figures(document)
     longest = max(len(name) for name, _ in found)
