@@ -363,11 +363,15 @@ def add_reading(parser: argparse.ArgumentParser) -> None:
 def add_circuits(commands: Commands) -> None:
     """Adds `circuit`, `table`, `stats` and `equal`."""
     about = f"a text that begins with a circuit, or a netlist ({NETLISTS})"
-    parser = commands.add("circuit", late("circuits", "run_circuit"), "Write the circuit of a netlist, or a circuit in the form of another tool.",
+    parser = commands.add("circuit", late("circuits", "run_circuit"), "Write the circuit of a netlist, its inverse, or a circuit in the form of another tool.",
                           "Example: bbmlab circuit toffoli.real -o toffoli.txt")
     add_file(parser, about)
     add_reading(parser)
-    parser.add_argument("--to", choices=["blif", "verilog", "dot"], help="write this form (default: a circuit section)")
+    parser.add_argument("--to", choices=["blif", "verilog", "aiger", "real", "qasm", "dot"], help="write this form (default: a circuit section)")
+    turned = parser.add_mutually_exclusive_group()
+    turned.add_argument("--inverse", action="store_true", help="turn the gates round: outputs become inputs, and constants garbage")
+    turned.add_argument("--clean", action="store_true", help="compute, copy the outputs and undo, so that inputs are the only garbage")
+    parser.add_argument("--simplify", action="store_true", help="fold constants, and remove what is dead, undone or made twice")
     parser = commands.add("table", late("circuits", "run_table"), "Write the values of a circuit's outputs for all inputs.",
                           "Example: bbmlab table examples/half_adder.txt")
     add_file(parser, about)
@@ -382,6 +386,7 @@ def add_circuits(commands: Commands) -> None:
                           "Example: bbmlab equal adder.blif adder.txt")
     parser.add_argument("file", metavar="FILE", help=about)
     parser.add_argument("other", metavar="OTHER", help="another one")
+    parser.add_argument("--common", action="store_true", help="compare the outputs that both have")
 
 
 def add_route(commands: Commands) -> None:

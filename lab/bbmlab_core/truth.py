@@ -91,14 +91,21 @@ def both_values(one: Circuit, other: Circuit) -> tuple[Valuation, Valuation]:
     return values, evaluate_under(other, free, values.full, [gate.number for gate in other.gates])
 
 
-def difference(one: Circuit, other: Circuit) -> tuple[str, str]:
-    """Returns how two circuits differ, or nothing, and in which inputs they were compared. Inputs and outputs are matched by their names."""
-    for kind, names, others in (("input", one.inputs, other.inputs), ("output", one.outputs, other.outputs)):
+def difference(one: Circuit, other: Circuit, is_of_common: bool = False) -> tuple[str, str]:
+    """Returns how two circuits differ, or nothing, and in which inputs they were compared. Inputs and outputs are matched by their names.
+
+    Outputs that only one of the circuits has are a difference, unless those that both have are asked for.
+    """
+    common = [name for name in one.outputs if name in set(other.outputs)]
+    if is_of_common and not common:
+        return "they have no common output", "the names of outputs"
+    outputs = [] if is_of_common else [("output", one.outputs, other.outputs)]
+    for kind, names, others in [("input", one.inputs, other.inputs), *outputs]:
         alone = sorted(set(names) ^ set(others))
         if alone:
             return f"only one of them has the {kind} {alone[0]}", "the names of inputs and outputs"
     mine, theirs = both_values(one, other)
-    for name in one.outputs:
+    for name in common:
         unequal = (mine.tables[name] ^ theirs.tables[name]) | (mine.defined ^ theirs.defined)
         if unequal:
             column = (unequal & -unequal).bit_length() - 1

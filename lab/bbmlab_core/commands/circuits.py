@@ -4,27 +4,41 @@ import argparse
 import csv
 import io
 import sys
-from typing import Iterable
+from typing import Callable, Iterable
 
 from .. import truth
 from ..circuit_forms import WRITERS
 from ..circuits import Circuit
+from ..cleaning import clean
 from ..documents import read_document
+from ..gate_lines import CircuitLines
+from ..inverting import inverse
 from ..limits import limits_for, with_line
 from ..netlists import Reading
 from ..route.command import circuit_of
-from ..terminal import LabError, read_text, write_text
+from ..simplifying import simplify
+from ..terminal import LabError, read_text, write_bytes, write_text
 
 
 def run_circuit(options: argparse.Namespace) -> int:
     """Writes the circuit of a file: in the one spelling, or in the form of another tool."""
     text, circuit = circuit_of(options.file, Reading.asked(options))
-    if options.to is None:
-        text = with_line(text, limits_for(gates=len(circuit.gates), wires=len(circuit.defined)))
-    else:
-        text = WRITERS[options.to](circuit)
-    write_text(options.output, text)
+    text = with_line(text, limits_for(gates=len(circuit.gates), wires=len(circuit.defined)))
+    try:
+        for change in changes(options):
+            lines = change(circuit)
+            text, circuit = lines.text(), lines.circuit()
+    except LabError as error:
+        raise LabError(f"{options.file}: {error}", error.status) from error
+    if options.clean and len(circuit.outputs):
+        print("bbmlab: each output that a gate makes also leaves as its complement, with `_not` at its end: no gate makes balls", file=sys.stderr)
+    write_bytes(options.output, (text if options.to is None else WRITERS[options.to](circuit)).encode("latin-1"))
     return 0
+
+
+def changes(options: argparse.Namespace) -> list[Callable[[Circuit], CircuitLines]]:
+    """Returns what a circuit is put through, in order. To `simplify` the second half of a clean circuit is dead, so it comes before."""
+    return [change for is_asked, change in ((options.inverse, inverse), (options.simplify, simplify), (options.clean, clean)) if is_asked]
 
 
 def run_table(options: argparse.Namespace) -> int:
@@ -73,6 +87,6 @@ def run_equal(options: argparse.Namespace) -> int:
     if options.file == "-" and options.other == "-":
         raise LabError("only one of two files can be standard input", 2)
     one, other = circuit_of(options.file)[1], circuit_of(options.other)[1]
-    differs, scope = truth.difference(one, other)
+    differs, scope = truth.difference(one, other, options.common)
     print(f"not equal: {differs}" if differs else f"equal {scope}", file=sys.stdout)
     return 1 if differs else 0
