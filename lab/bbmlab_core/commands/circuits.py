@@ -7,17 +7,21 @@ import sys
 from typing import Callable, Iterable
 
 from .. import truth
-from ..circuit_forms import WRITERS
+from ..aiger_form import aiger_text
+from ..circuit_forms import blif_text, dot_text, verilog_text
 from ..circuits import Circuit
 from ..cleaning import clean
 from ..documents import read_document
 from ..gate_lines import CircuitLines
 from ..inverting import inverse
+from ..line_forms import qasm_text, real_text
 from ..limits import limits_for, with_line
 from ..netlists import Reading
 from ..route.command import circuit_of
 from ..simplifying import simplify
 from ..terminal import LabError, read_text, write_bytes, write_text
+
+WRITERS = {"aiger": aiger_text, "blif": blif_text, "dot": dot_text, "qasm": qasm_text, "real": real_text, "verilog": verilog_text}
 
 
 def run_circuit(options: argparse.Namespace) -> int:
