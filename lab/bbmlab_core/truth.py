@@ -18,18 +18,9 @@ SAMPLES = 4096
 def rows(circuit: Circuit, on: list[str] | None) -> Iterator[list[str]]:
     """Yields the names of the columns, and then each row: inputs and outputs, or the gate without a row. The first input changes last."""
     inputs = circuit.inputs
+    found = choices(circuit, on)
     yield [*inputs, *circuit.outputs]
-    if on is not None:
-        unknown = next((name for name in on if name not in inputs), None)
-        if unknown is not None:
-            raise LabError(f"{unknown} is no input", 2)
-        choices = [set(on)]
-    elif len(inputs) > MAX_TABLE_INPUTS:
-        raise LabError(f"{len(inputs)} inputs have too many rows: at most {MAX_TABLE_INPUTS}, or choose one row by --on", 2)
-    else:
-        last = len(inputs) - 1
-        choices = [{name for at, name in enumerate(inputs) if number >> (last - at) & 1} for number in range(1 << len(inputs))]
-    for chosen in choices:
+    for chosen in found:
         values, undefined = values_under(circuit, chosen)
         bits = [str(int(name in chosen)) for name in inputs]
         if undefined is None:
@@ -37,6 +28,20 @@ def rows(circuit: Circuit, on: list[str] | None) -> Iterator[list[str]]:
         else:
             gate = circuit.gates[undefined]
             yield [*bits, f"gate {undefined} ({gate.word}) has no row"]
+
+
+def choices(circuit: Circuit, on: list[str] | None) -> list[set[str]]:
+    """Returns which inputs are on in each row of a table: one row, or all. Raises LabError for other names, or for too many rows."""
+    inputs = circuit.inputs
+    if on is not None:
+        unknown = next((name for name in on if name not in inputs), None)
+        if unknown is not None:
+            raise LabError(f"{unknown} is no input", 2)
+        return [set(on)]
+    if len(inputs) > MAX_TABLE_INPUTS:
+        raise LabError(f"{len(inputs)} inputs have too many rows: at most {MAX_TABLE_INPUTS}, or choose one row by --on", 2)
+    last = len(inputs) - 1
+    return [{name for at, name in enumerate(inputs) if number >> (last - at) & 1} for number in range(1 << len(inputs))]
 
 
 def depth(circuit: Circuit) -> int:
@@ -73,7 +78,7 @@ def figures(document: Document) -> list[tuple[str, str]]:
     if layout is not None:
         area = layout.width * layout.height
         found += [("layout", f"{layout.width} by {layout.height}"), ("area", str(area)), ("steps", str(layout.steps)),
-                  ("area times steps", str(area * layout.steps)), ("mirror cells", str(len(layout.mirror_cells()))),
+                  ("area times steps", str(area * layout.steps)), ("mirrors", str(len(layout.of_kind("mirror")))), ("mirror cells", str(len(layout.mirror_cells()))),
                   *((f"{kind} cells", str(len(layout.of_kind(kind)))) for kind in ("ball", "in", "out", "waste"))]
     if document.certificate is not None:
         found.append(("modules", str(len(document.certificate.modules))))
