@@ -9,12 +9,13 @@ from typing import Any, Callable
 
 from .aiger import read_aiger
 from ..documents import read_document
+from ..gates import input_tables
 from .blif import read_blif
 from .circuit_text import NamedCircuit
-from .comparing import compared
+from .comparing import compared, netlist_tables
 from .exchanging import map_exchanges
 from .gate_text import is_gate_text, read_gates
-from .graph import graph_of
+from .graph import MAX_TABLE_INPUTS, Graph, graph_of, table_literal
 from .model import Netlist, NetlistError, NetlistFormat
 from .pla import read_pla
 from .qasm import read_qasm
@@ -28,6 +29,8 @@ __all__ = ["MappedNetlist", "NetlistError", "NetlistFormat", "Reading", "circuit
            "read_netlist"]
 
 MAX_NETLIST_BYTES = 16_777_216
+# The most outputs of a netlist whose tables are tried.
+MAX_TABLE_OUTPUTS = 16
 # How much of a text is looked at to find its format.
 HEAD = 1_000_000
 # Some editors put these bytes before a text; each is a character here.
@@ -123,12 +126,30 @@ def map_read_netlist(netlist: Netlist, reading: Reading = Reading()) -> MappedNe
     if isinstance(netlist, LineNetlist) and netlist.exchanges is not None:
         circuit = map_exchanges(netlist)
     else:
-        circuit = map_graph(graph_of(netlist))
+        circuit = cheapest_circuit(netlist)
     document = read_document(circuit.text(), "circuit")
     if document.circuit is None or document.refusal is not None:
         raise NetlistError(f"The mapped circuit is wrong: {document.refusal}.")
     scope = compared(netlist, document.circuit)
     return MappedNetlist(circuit.text(), [*netlist.notes, *circuit.notes, f"The circuit has the outputs of the netlist in {scope}."], circuit)
+
+
+def cheapest_circuit(netlist: Netlist) -> NamedCircuit:
+    """Returns the circuit of a netlist's gates, or that of the tables of its outputs if the netlist is small and the circuit is cheaper.
+
+    Networks of reversible gates often make values that no output needs, so that their tables are simpler than they are.
+    """
+    circuit = map_graph(graph_of(netlist))
+    if len(netlist.inputs) > MAX_TABLE_INPUTS or len(netlist.outputs) > MAX_TABLE_OUTPUTS:
+        return circuit
+    full = (1 << (1 << len(netlist.inputs))) - 1
+    tables = netlist_tables(netlist, dict(zip(netlist.inputs, input_tables(len(netlist.inputs)))), full)
+    graph = Graph(netlist.inputs)
+    literals = [2 * at + 2 for at in range(len(netlist.inputs))]
+    graph.outputs = [(name, table_literal(graph, tables[net], literals)) for name, net in netlist.outputs]
+    if len(graph.needed()) > 2 * len(circuit.gates):
+        return circuit
+    return min(circuit, map_graph(graph), key=NamedCircuit.cost)
 
 
 def circuit_from_netlist(text: str) -> str:

@@ -27,7 +27,7 @@ class Netlist:
     inputs: tuple[str, ...]
     outputs: tuple[str, ...]
     stored: tuple[str, ...]
-    _core: CoreNetlist = field(repr=False, compare=False)
+    _core: CoreNetlist = field(repr=False, hash=False)
 
 
 class Row(NamedTuple):
