@@ -18,7 +18,7 @@ PAGE = support.TOP / "docs" / "API.md"
 sys.path.insert(0, str(support.LAB / "public"))
 import bbmlab  # noqa: E402
 
-MAX_WORDS = 980
+MAX_WORDS = 1000
 LEAST_LINES = 30
 # Longer worked texts are not read here, for time.
 MAX_BYTES = 50_000

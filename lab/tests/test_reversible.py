@@ -228,6 +228,12 @@ class Refused(unittest.TestCase):
         text = "OPENQASM 2.0;\nqreg q[2];\ngate g0 a,b { cx a,b; }\n" + doubling + "g39 q[0],q[1];\n"
         with self.assertRaisesRegex(NetlistError, "call too many others"):
             read_netlist(text)
+        many = "".join(f"gate g{number} a {{ x a; }}\n" for number in range(10_001))
+        with self.assertRaisesRegex(NetlistError, "Line 10002: more than 10000 gates are defined"):
+            read_netlist("OPENQASM 2.0;\n" + many)
+        # Counting the lines before each statement anew took minutes for such a text.
+        with self.assertRaisesRegex(NetlistError, "Line 200003"):
+            read_netlist("OPENQASM 3;\nqubit q;\n" + "x q;\n" * 400_000)
         for text in ("OPENQASM 2.0;\nqreg q[999999999];\n", ".i 999999999\n.o 1\n", "aag 999999999 999999999 0 0 0\n", ".numvars 1\n.variables a\n.begin\n" + "t1 a\n" * 70_000 + ".end\n"):
             with self.assertRaises(NetlistError):
                 read_netlist(text)

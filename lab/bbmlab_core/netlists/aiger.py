@@ -66,7 +66,7 @@ class AigerReader:
         latches = [self.latch(at) for at in range(self.latch_count)]
         outputs = [self.numbers(1)[0] for _ in range(self.output_count)]
         gates = [self.numbers(3) for _ in range(self.and_count)] if not self.is_binary else self.binary_gates()
-        names = {(kind, int(at)): name for kind, at, name in SYMBOL.findall(self.text[self.at:].split("\nc\n")[0])}
+        names = {(found[1], int(found[2])): found[3] for found in SYMBOL.finditer(self.text[self.at:].split("\nc\n")[0]) if int(found[2]) < MAX_NODES}
         stored = [numbers[0] for numbers in latches]
         if any(literal & 1 or literal < 2 for literal in inputs + stored) or len({*inputs, *stored}) != len(inputs) + len(stored):
             raise NetlistError("The inputs and latches are distinct even numbers from 2.")

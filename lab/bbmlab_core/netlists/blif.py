@@ -114,7 +114,7 @@ class BlifReader:
         if len(values) > 1:
             raise NetlistError(f"Line {number}: the table of `{names[-1]}` has rows for both `0` and `1`.")
         value = "1" in values or not values
-        self.netlist.add(TableNode(names[-1], tuple(names[:-1]), tuple(row for row, _ in self.rows), value))
+        self.netlist.add(TableNode(names[-1], tuple(names[:-1]), tuple(dict.fromkeys(row for row, _ in self.rows)), value))
         self.table, self.rows = None, []
 
     def finish(self) -> Netlist:

@@ -2,6 +2,7 @@
 
 import json
 import re
+from dataclasses import replace
 from typing import Any
 
 from .model import MAX_PORTS, PORTS, Cell, CellNode, Latch, Netlist, NetlistError, TableNode
@@ -47,7 +48,6 @@ class ModuleReader:
     def __init__(self, name: str, module: Any) -> None:
         self.netlist, self.module = Netlist(name), module
         self.made = 0
-        self.names: dict[str, tuple[str, bool | None]] = {}
 
     def net_of(self, bit: Any, where: str) -> str:
         """Returns the name of the net of a bit: a number, or a constant of one character."""
@@ -106,11 +106,12 @@ class ModuleReader:
             elif kind != "$scopeinfo":
                 raise NetlistError(f"The cell `{name}` is `{kind}`, which is no simple cell. {ADVICE}")
 
-    def read_names(self) -> None:
-        """Reads the names of nets, and their first values, for the flip-flops that drive them. Names that yosys made come last."""
-        nets = self.module.get("netnames", {})
-        if not isinstance(nets, dict):
+    def name_latches(self) -> None:
+        """Gives each flip-flop the name and the first value of the net that it drives. Names that yosys made come last."""
+        nets, latches = self.module.get("netnames", {}), self.netlist.latches
+        if not isinstance(nets, dict) or not latches:
             return
+        stored, names = {latch.output for latch in latches}, dict[str, tuple[str, bool | None]]()
         for name, net in sorted(nets.items(), key=lambda own: isinstance(own[1], dict) and bool(own[1].get("hide_name"))):
             bits = net.get("bits") if isinstance(net, dict) else None
             if not isinstance(bits, list):
@@ -118,11 +119,11 @@ class ModuleReader:
             attributes = net.get("attributes")
             init = attributes.get("init", "") if isinstance(attributes, dict) else ""
             signs = init[::-1] if isinstance(init, str) else ""
-            for position, bit in enumerate(bits):
-                named = name if len(bits) == 1 else f"{name}[{bit_index(net, position, len(bits))}]"
-                before = self.names.get(f"net {bit}", (named, None))
-                start = {"0": False, "1": True}.get(signs[position:position + 1], before[1])
-                self.names[f"net {bit}"] = before[0], start
+            for position, wire in ((position, f"net {bit}") for position, bit in enumerate(bits) if isinstance(bit, int) and f"net {bit}" in stored):
+                before = names.get(wire, (name if len(bits) == 1 else f"{name}[{bit_index(net, position, len(bits))}]", None))
+                names[wire] = before[0], {"0": False, "1": True}.get(signs[position:position + 1], before[1])
+        found = ((latch, *names.get(latch.output, (latch.name, None))) for latch in latches)
+        self.netlist.latches = sorted((replace(latch, name=name, start=start) for latch, name, start in found), key=lambda latch: number_order(latch.name))
 
     def cell_net(self, cell: Cell, *inputs: str) -> str:
         """Returns the net of a new cell."""
@@ -143,8 +144,7 @@ class ModuleReader:
         for select, is_high, value in chosen if signs.get("f") else chosen[::-1]:
             data = self.cell_net(Cell.MUX, *((data, value) if is_high else (value, data)), select)
         clock = (self.bits(cell, name, "C", 1)[0], "rising edge" if signs["c"] == "P" else "falling edge") if "c" in signs else None
-        wire, start = self.names.get(output, (name, None))
-        self.netlist.add_latch(Latch(wire, output, data, start, clock))
+        self.netlist.add_latch(Latch(name, output, data, None, clock))
 
     def bits(self, cell: Any, name: str, port: str, width: int) -> list[str]:
         """Returns the nets of a cell's port, which has `width` bits."""
@@ -197,7 +197,6 @@ def read_yosys_json(text: str) -> Netlist:
         raise NetlistError(f"The text is not JSON: {error}.") from error
     reader = ModuleReader(*top_module(document))
     reader.read_ports()
-    reader.read_names()
     reader.read_cells()
-    reader.netlist.latches.sort(key=lambda latch: number_order(latch.name))
+    reader.name_latches()
     return reader.netlist
