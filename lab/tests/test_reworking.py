@@ -9,6 +9,7 @@ from pathlib import Path
 import support
 from bbmlab_core.circuits import Circuit
 from bbmlab_core.cleaning import clean
+from bbmlab_core.commands import circuits as circuit_commands
 from bbmlab_core.cones import keeping_cone
 from bbmlab_core.inverting import inverse
 from bbmlab_core.simplifying import simplify
@@ -159,10 +160,26 @@ class Inverse(unittest.TestCase):
             path.write_text("circuit\ninput a\ninput b\ninput c\nfredkin a b c -> x y z\noutput z\noutput x\noutput y\nend\n")
             done = support.lab("circuit", "--inverse", str(path))
             self.assertEqual(done.stdout, "circuit\ninput z\ninput x\ninput y\nfredkin x y z -> a b c\noutput a\noutput b\noutput c\nend\n")
+            self.assertEqual(done.stderr, "bbmlab: the new circuit was compared with the one before in all 8 choices of the inputs\n")
             path.write_text("circuit\ninput a\nspill a\nend\n")
             done = support.lab("circuit", "--inverse", str(path))
             self.assertEqual((done.returncode, done.stdout), (1, ""))
             self.assertRegex(done.stderr, r"\Abbmlab: \S+: there is no inverse: the garbage `a` is 1 with a on and 0 with no input on")
+
+
+class Compared(unittest.TestCase):
+    """The command compares what it makes with the circuit before."""
+
+    def test_wrong_circuits_are_found(self) -> None:
+        """A wrong inverse and a wrong smaller circuit get a sentence, and a right one the inputs that were tried."""
+        before = circuit_of("circuit\ninput a\ninput b\nsource 0 -> k\nfredkin a b k -> x y z\nfredkin x y z -> c d e\noutput c\noutput d\nspill e\nend\n")
+        wrong = circuit_of("circuit\ninput a\ninput b\ndelay 1 b -> c\ndelay 1 a -> d\noutput c\noutput d\nend\n")
+        right = circuit_of("circuit\ninput a\ninput b\ndelay 1 a -> c\ndelay 1 b -> d\noutput c\noutput d\nend\n")
+        back = circuit_of("circuit\ninput c\ninput d\ndelay 1 d -> a\ndelay 1 c -> b\noutput a\noutput b\nend\n")
+        self.assertEqual(circuit_commands.compared(simplify, before, right), "in all 4 choices of the inputs")
+        for change, after, said in ((simplify, wrong, "with a on, c differs"), (inverse, back, "it does not give `a` back")):
+            with self.assertRaisesRegex(LabError, f"the new circuit is wrong: {said}. This is a fault of the lab"):
+                circuit_commands.compared(change, before, after)
 
 
 class Clean(unittest.TestCase):

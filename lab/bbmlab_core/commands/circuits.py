@@ -9,11 +9,11 @@ from typing import Callable, Iterable
 from .. import truth
 from ..aiger_form import aiger_text
 from ..circuit_forms import blif_text, dot_text, verilog_text
-from ..circuits import Circuit
+from ..circuits import Circuit, evaluate_under
 from ..cleaning import clean
 from ..documents import read_document
 from ..gate_lines import CircuitLines
-from ..inverting import inverse
+from ..inverting import inverse, values_of
 from ..line_forms import qasm_text, real_text
 from ..limits import limits_for, with_line
 from ..netlists import Reading
@@ -30,14 +30,32 @@ def run_circuit(options: argparse.Namespace) -> int:
     text = with_line(text, limits_for(gates=len(circuit.gates), wires=len(circuit.defined)))
     try:
         for change in changes(options):
-            lines = change(circuit)
+            lines, before = change(circuit), circuit
             text, circuit = lines.text(), lines.circuit()
+            if before.outputs:
+                print(f"bbmlab: the new circuit was compared with the one before {compared(change, before, circuit)}", file=sys.stderr)
     except LabError as error:
         raise LabError(f"{options.file}: {error}", error.status) from error
-    if options.clean and len(circuit.outputs):
+    if options.clean and any(name.endswith("_not") for name in circuit.outputs):
         print("bbmlab: each output that a gate makes also leaves as its complement, with `_not` at its end: no gate makes balls", file=sys.stderr)
     write_bytes(options.output, (text if options.to is None else WRITERS[options.to](circuit)).encode("latin-1"))
     return 0
+
+
+def compared(change: Callable[[Circuit], CircuitLines], before: Circuit, after: Circuit) -> str:
+    """Returns in which inputs a changed circuit has the values that it should have, in words. Raises LabError where it has others."""
+    differs, scope = returns_inputs(before, after) if change is inverse else truth.difference(before, after, True)
+    if differs:
+        raise LabError(f"the new circuit is wrong: {differs}. This is a fault of the lab", 1)
+    return scope
+
+
+def returns_inputs(before: Circuit, after: Circuit) -> tuple[str, str]:
+    """Returns how the inverse of a circuit fails to give its inputs back, or nothing, and in which inputs they were compared."""
+    values = values_of(before)
+    back = evaluate_under(after, {name: values.tables[name] for name in after.inputs}, values.full, [gate.number for gate in after.gates])
+    wrong = next((name for name in before.inputs if back.tables[name] != values.tables[name]), None)
+    return ("" if wrong is None else f"it does not give `{wrong}` back"), values.scope
 
 
 def changes(options: argparse.Namespace) -> list[Callable[[Circuit], CircuitLines]]:
