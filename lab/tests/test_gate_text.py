@@ -95,12 +95,15 @@ class Refused(unittest.TestCase):
             self.assertIn(said, str(found.exception))
 
     def test_explain_names_the_command(self) -> None:
-        """`explain` says what reads such a text."""
+        """`explain` says what reads such a text: as a hint behind the line `circuit`, which the program refuses, or else in one line."""
         with tempfile.TemporaryDirectory() as room:
             path = Path(room) / "a.txt"
-            path.write_text("circuit\ninput a\nnot a -> b\noutput b\nend\n")
+            path.write_text("input a\nnot a -> b\noutput b\n")
             said = support.lab("explain", str(path))
-        self.assertEqual((said.returncode, said.stderr), (1, f"bbmlab: {path}: this is a text of plain gates: `bbmlab circuit` and `route` read it\n"))
+            self.assertEqual((said.returncode, said.stderr), (1, f"bbmlab: {path}: this is a text of plain gates: `bbmlab circuit` and `route` read it\n"))
+            path.write_text("circuit\ninput a\nnot a -> b\noutput b\nend\n")
+            said = support.lab("explain", str(path), BBMCHECK=support.program())
+            self.assertIn("`bbmlab circuit` writes a circuit of a text of such gates", " ".join(said.stdout.split()))
 
     def test_large_files(self) -> None:
         """Files of 50 MB end with a sentence and status 1, in bounded time and memory."""
