@@ -125,6 +125,14 @@ class Commands(unittest.TestCase):
         for line in ("layout           16 by 12", "area             192", "area times steps 1152", "mirror cells     8", "modules          2"):
             self.assertIn(line, text)
 
+    def test_standard_input(self) -> None:
+        """A netlist and a circuit on standard input are read once: `stats` read a netlist twice, and found nothing the second time."""
+        text = "input a b\nand a b -> c\noutput c\n"
+        for command in ("circuit", "table", "stats"):
+            done = support.lab(command, "-", text=text)
+            self.assertEqual((done.returncode, done.stderr), (0, "bbmlab: The circuit has the outputs of the netlist in all 4 choices of the inputs.\n"))
+        self.assertIn("inputs", support.lab("stats", "-", text="circuit\ninput a\noutput a\nend\n").stdout)
+
     def test_equal(self) -> None:
         """Equal circuits, circuits that differ at one row, and other ports."""
         with tempfile.TemporaryDirectory() as room:

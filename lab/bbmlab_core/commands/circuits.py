@@ -96,7 +96,7 @@ def run_stats(options: argparse.Namespace) -> int:
     text = read_text(options.file)
     document = read_document(text, "check")
     if document.circuit is None or document.layout is None or not document.layout.width:
-        found = truth.circuit_figures(circuit_of(options.file, Reading.asked(options))[1])
+        found = truth.circuit_figures(circuit_of(options.file, Reading.asked(options), text)[1])
     else:
         found = truth.figures(document)
     longest = max(len(name) for name, _ in found)
