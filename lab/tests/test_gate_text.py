@@ -94,6 +94,15 @@ class Refused(unittest.TestCase):
                 map_netlist(f"circuit\ninput a b\n{line}\n", NetlistFormat.GATES)
             self.assertIn(said, str(found.exception))
 
+    def test_wrong_lines_are_still_told(self) -> None:
+        """A wrong gate line of such a text is refused as one, and not as a line of a circuit section; Windows' line ends are read."""
+        for line, said in (("AND a b -> c", "Line 4: `AND` is no gate. These are and, or"), ("and a,b -> c", "Line 4: no earlier line defines `a,b`")):
+            text = f"circuit\r\ninput a b\r\nnot a -> d\r\n{line}\r\noutput c\r\nend\r\n"
+            for given in (text, text.replace("not a -> d\r\n", "\r\n")):
+                with self.assertRaises(NetlistError) as found:
+                    map_netlist(given)
+                self.assertIn(said, str(found.exception))
+
     def test_explain_names_the_command(self) -> None:
         """`explain` says what reads such a text: as a hint behind the line `circuit`, which the program refuses, or else in one line."""
         with tempfile.TemporaryDirectory() as room:
@@ -113,7 +122,7 @@ class Refused(unittest.TestCase):
                                ("aig 9 9 9 9 9\n", "\x01"), (".numvars 1\n.variables a\n", "t1 a\n"), (".i 1\n.o 1\n", "1 1\n"), (" ", " "),
                                ("/*", "*"), ("//\n", "//\n")):
                 path.write_text(head + line * (50_000_000 // len(line)))
-                done = subprocess.run([sys.executable, str(support.LAB / "bbmlab"), "circuit", str(path)], capture_output=True, text=True, timeout=60,
+                done = subprocess.run([sys.executable, str(support.LAB / "bbmlab"), "circuit", str(path)], capture_output=True, text=True, timeout=200,
                                       check=False, preexec_fn=lambda: resource.setrlimit(resource.RLIMIT_AS, (1_500_000_000,) * 2))
                 self.assertEqual((done.returncode, done.stdout), (1, ""), (head, done.stderr[-300:]))
                 self.assertRegex(done.stderr, r"\Abbmlab: [^\n]+\n\Z")

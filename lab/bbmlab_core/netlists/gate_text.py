@@ -23,8 +23,8 @@ FIXED: dict[str, tuple[int, list[tuple[Cell, tuple[int, ...]]]]] = {
 # How much of a text is looked at for its first word.
 HEAD = 100_000
 INVERSE = {"unswitch", "uninteract"}
-# A line of a gate that a circuit section does not have.
-PLAIN_LINE = re.compile(r"^[ \t]*(?:and|or|xor|nand|nor|xnor|not|buf|mux)[ \t][a-z0-9_ \t]*->", re.MULTILINE)
+# A line of a gate that a circuit section does not have. It may be wrong: then the reader says how.
+PLAIN_LINE = re.compile(r"^[ \t]*(?:and|or|xor|nand|nor|xnor|not|buf|mux)[ \t][^\n>]*->", re.MULTILINE | re.IGNORECASE)
 FIRST_WORD = re.compile(r"(?:[ \t\r\n]|#[^\n]*\n)*(circuit|input|source|and|or|xor|nand|nor|xnor|not|buf|mux)(?:[ \t\r\n]|\Z)")
 
 
