@@ -47,7 +47,7 @@ class Folder:
         return name
 
     def alias(self, outs: list[str], ins: list[str]) -> None:
-        """Lets outputs be inputs. An output that a gate was found to need no more keeps its literal."""
+        """Replaces outputs of a gate that is left out by inputs with their values."""
         self.became.update(zip(outs, ins))
 
     def constant(self, bit: int, *outs: str) -> None:

@@ -78,7 +78,8 @@ def figures(document: Document) -> list[tuple[str, str]]:
     if layout is not None:
         area = layout.width * layout.height
         found += [("layout", f"{layout.width} by {layout.height}"), ("area", str(area)), ("steps", str(layout.steps)),
-                  ("area times steps", str(area * layout.steps)), ("mirrors", str(len(layout.of_kind("mirror")))), ("mirror cells", str(len(layout.mirror_cells()))),
+                  ("area times steps", str(area * layout.steps)), ("mirrors", str(len(layout.of_kind("mirror")))),
+                  ("mirror cells", str(len(layout.mirror_cells()))),
                   *((f"{kind} cells", str(len(layout.of_kind(kind)))) for kind in ("ball", "in", "out", "waste"))]
     if document.certificate is not None:
         found.append(("modules", str(len(document.certificate.modules))))

@@ -88,7 +88,8 @@ class BlifReader:
             raise NetlistError(f"Line {number}: a latch is `.latch INPUT OUTPUT [TYPE CONTROL] [INIT]`, with INIT from 0 to 3.")
         clock = None
         if len(words) == 4 and words[2] in LEVELS:
-            raise NetlistError(f"Line {number}: the latch `{words[1]}` changes {LEVELS[words[2]]} (`{words[2]}`). Only those at an edge are read, `re` and `fe`.")
+            raise NetlistError(f"Line {number}: the latch `{words[1]}` changes {LEVELS[words[2]]} (`{words[2]}`). Those at an edge are read, `re` and "
+                               "`fe`.")
         if len(words) == 4:
             if words[2] not in EDGES:
                 raise NetlistError(f"Line {number}: `{words[2]}` is no type of a latch. They are `re`, `fe`, `ah`, `al` and `as`.")
