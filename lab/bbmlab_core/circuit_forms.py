@@ -86,7 +86,3 @@ def dot_text(circuit: Circuit) -> str:
         ends.update((name, f"gate {gate.number}") for name in gate.ins)
     lines += [f'  "{starts[name]}" -> "{ends[name]}" [label="{name}"];' for name in circuit.defined if name in ends]
     return "\n".join([*lines, "}", ""])
-
-
-WRITERS = {"blif": blif_text, "verilog": verilog_text, "dot": dot_text}
-

@@ -18,8 +18,8 @@ if TYPE_CHECKING:
 EPILOG = """Nothing here is proved, and nothing here is trusted: the verdict is always the program's.
 Exit statuses: 0 done or all yes, 1 a no or a refusal, 2 wrong arguments, 4 a file or the program is missing or failed."""
 FORMATS = ["json", "jsonl", "junit", "tap", "text"]
-FORMS = ["blif", "json", "real", "qasm", "pla", "aiger"]
-NETLISTS = "BLIF, yosys JSON, RevLib .real, OpenQASM, PLA, AIGER"
+FORMS = ["blif", "json", "real", "qasm", "pla", "aiger", "gates"]
+NETLISTS = "BLIF, yosys JSON, RevLib .real, OpenQASM, PLA, AIGER, plain gates"
 RESULTS = ["yes", "no", "refused", "timeout", "missing", "error"]
 
 
@@ -352,28 +352,41 @@ def add_others(commands: Commands) -> None:
     add_file(parser, "an RLE file for Golly's rule BBM-Margolus-emulated")
 
 
+def add_reading(parser: argparse.ArgumentParser) -> None:
+    """Adds the options on how a netlist is read."""
+    parser.add_argument("--from", dest="given", choices=FORMS, help="the form of the netlist (default: told by its content)")
+    parser.add_argument("--cycles", type=positive, metavar="K", help="unroll flip-flops and latches for K cycles")
+    parser.add_argument("--state", choices=["ports", "initial"], default="ports",
+                        help="ports: the state comes in by inputs. initial: it begins with its first values (default: ports)")
+
+
 def add_circuits(commands: Commands) -> None:
     """Adds `circuit`, `table`, `stats` and `equal`."""
     about = f"a text that begins with a circuit, or a netlist ({NETLISTS})"
-    parser = commands.add("circuit", late("circuits", "run_circuit"), "Write the circuit of a netlist, or a circuit in the form of another tool.",
+    parser = commands.add("circuit", late("circuits", "run_circuit"), "Write the circuit of a netlist, its inverse, or a circuit in the form of another tool.",
                           "Example: bbmlab circuit toffoli.real -o toffoli.txt")
     add_file(parser, about)
-    parser.add_argument("--from", dest="given", choices=FORMS, help="the form of the netlist (default: told by its content)")
-    parser.add_argument("--to", choices=["blif", "verilog", "dot"], help="write this form (default: a circuit section)")
+    add_reading(parser)
+    parser.add_argument("--to", choices=["blif", "verilog", "aiger", "real", "qasm", "dot"], help="write this form (default: a circuit section)")
+    turned = parser.add_mutually_exclusive_group()
+    turned.add_argument("--inverse", action="store_true", help="turn the gates round: outputs become inputs, and constants garbage")
+    turned.add_argument("--clean", action="store_true", help="compute, copy the outputs and undo, so that inputs are the only garbage")
+    parser.add_argument("--simplify", action="store_true", help="fold constants, and remove what is dead, undone or made twice")
     parser = commands.add("table", late("circuits", "run_table"), "Write the values of a circuit's outputs for all inputs.",
                           "Example: bbmlab table examples/half_adder.txt")
     add_file(parser, about)
-    parser.add_argument("--from", dest="given", choices=FORMS, help="the form of the netlist (default: told by its content)")
+    add_reading(parser)
     parser.add_argument("--on", metavar="NAMES", help="one row alone: the inputs that are on, with commas between")
     parser.add_argument("--csv", action="store_true", help="comma-separated values")
     parser = commands.add("stats", late("circuits", "run_stats"), "Count gates, constants, garbage and depth, and the cells of a layout.",
                           "Example: bbmlab stats examples/machine_fredkin.txt")
     add_file(parser, f"{about}, or a bundle")
-    parser.add_argument("--from", dest="given", choices=FORMS, help="the form of the netlist (default: told by its content)")
+    add_reading(parser)
     parser = commands.add("equal", late("circuits", "run_equal"), "Say whether two circuits have the same outputs, by the names of their ports.",
                           "Example: bbmlab equal adder.blif adder.txt")
     parser.add_argument("file", metavar="FILE", help=about)
     parser.add_argument("other", metavar="OTHER", help="another one")
+    parser.add_argument("--common", action="store_true", help="compare the outputs that both have")
 
 
 def add_route(commands: Commands) -> None:
@@ -381,6 +394,7 @@ def add_route(commands: Commands) -> None:
     parser = commands.add("route", late("route"), "Place and route a circuit: a layout of balls and mirrors, with a certificate.",
                           "Example: bbmlab route circuit.txt -o bundle.txt")
     add_file(parser, f"a text that begins with a circuit, or a netlist ({NETLISTS})")
+    add_reading(parser)
     parser.add_argument("--seed", type=positive, default=1, metavar="N", help="another seed gives another layout (default: 1)")
     parser.add_argument("--size", type=positive, metavar="N", help="the side of the layout, a multiple of 16 up to 4096 (default: as needed)")
     parser.add_argument("--effort", type=seconds, default=60.0, metavar="SECONDS", help="how long to search (default: 60)")

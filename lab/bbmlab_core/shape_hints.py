@@ -126,7 +126,8 @@ def logic_hint(word: str) -> Hint | None:
     if word not in LOGIC:
         return None
     gates = ", ".join(f"`{gate}`" for gate in GATE_SIZES)
-    return (f"There is no gate `{word}`: the gates of conservative logic are {gates}.", f"{LOGIC[word]} `bbmlab route` also takes a netlist with `{word}` (BLIF or yosys).")
+    return (f"There is no gate `{word}`: the gates of conservative logic are {gates}.",
+            f"{LOGIC[word]} `bbmlab circuit` writes a circuit of a text of such gates, or of a netlist, and `bbmlab route` takes them too.")
 
 
 def keyword_hint(word: str, section: str, begun: bool, forms: dict[str, Form]) -> Hint:

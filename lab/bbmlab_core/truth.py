@@ -18,18 +18,9 @@ SAMPLES = 4096
 def rows(circuit: Circuit, on: list[str] | None) -> Iterator[list[str]]:
     """Yields the names of the columns, and then each row: inputs and outputs, or the gate without a row. The first input changes last."""
     inputs = circuit.inputs
+    found = choices(circuit, on)
     yield [*inputs, *circuit.outputs]
-    if on is not None:
-        unknown = next((name for name in on if name not in inputs), None)
-        if unknown is not None:
-            raise LabError(f"{unknown} is no input", 2)
-        choices = [set(on)]
-    elif len(inputs) > MAX_TABLE_INPUTS:
-        raise LabError(f"{len(inputs)} inputs have too many rows: at most {MAX_TABLE_INPUTS}, or choose one row by --on", 2)
-    else:
-        last = len(inputs) - 1
-        choices = [{name for at, name in enumerate(inputs) if number >> (last - at) & 1} for number in range(1 << len(inputs))]
-    for chosen in choices:
+    for chosen in found:
         values, undefined = values_under(circuit, chosen)
         bits = [str(int(name in chosen)) for name in inputs]
         if undefined is None:
@@ -37,6 +28,20 @@ def rows(circuit: Circuit, on: list[str] | None) -> Iterator[list[str]]:
         else:
             gate = circuit.gates[undefined]
             yield [*bits, f"gate {undefined} ({gate.word}) has no row"]
+
+
+def choices(circuit: Circuit, on: list[str] | None) -> list[set[str]]:
+    """Returns which inputs are on in each row of a table: one row, or all. Raises LabError for other names, or for too many rows."""
+    inputs = circuit.inputs
+    if on is not None:
+        unknown = next((name for name in on if name not in inputs), None)
+        if unknown is not None:
+            raise LabError(f"{unknown} is no input", 2)
+        return [set(on)]
+    if len(inputs) > MAX_TABLE_INPUTS:
+        raise LabError(f"{len(inputs)} inputs have too many rows: at most {MAX_TABLE_INPUTS}, or choose one row by --on", 2)
+    last = len(inputs) - 1
+    return [{name for at, name in enumerate(inputs) if number >> (last - at) & 1} for number in range(1 << len(inputs))]
 
 
 def depth(circuit: Circuit) -> int:
@@ -73,7 +78,8 @@ def figures(document: Document) -> list[tuple[str, str]]:
     if layout is not None:
         area = layout.width * layout.height
         found += [("layout", f"{layout.width} by {layout.height}"), ("area", str(area)), ("steps", str(layout.steps)),
-                  ("area times steps", str(area * layout.steps)), ("mirror cells", str(len(layout.mirror_cells()))),
+                  ("area times steps", str(area * layout.steps)), ("mirrors", str(len(layout.of_kind("mirror")))),
+                  ("mirror cells", str(len(layout.mirror_cells()))),
                   *((f"{kind} cells", str(len(layout.of_kind(kind)))) for kind in ("ball", "in", "out", "waste"))]
     if document.certificate is not None:
         found.append(("modules", str(len(document.certificate.modules))))
@@ -91,14 +97,21 @@ def both_values(one: Circuit, other: Circuit) -> tuple[Valuation, Valuation]:
     return values, evaluate_under(other, free, values.full, [gate.number for gate in other.gates])
 
 
-def difference(one: Circuit, other: Circuit) -> tuple[str, str]:
-    """Returns how two circuits differ, or nothing, and in which inputs they were compared. Inputs and outputs are matched by their names."""
-    for kind, names, others in (("input", one.inputs, other.inputs), ("output", one.outputs, other.outputs)):
+def difference(one: Circuit, other: Circuit, is_of_common: bool = False) -> tuple[str, str]:
+    """Returns how two circuits differ, or nothing, and in which inputs they were compared. Inputs and outputs are matched by their names.
+
+    Outputs that only one of the circuits has are a difference, unless those that both have are asked for.
+    """
+    common = [name for name in one.outputs if name in set(other.outputs)]
+    if is_of_common and not common:
+        return "they have no common output", "the names of outputs"
+    outputs = [] if is_of_common else [("output", one.outputs, other.outputs)]
+    for kind, names, others in [("input", one.inputs, other.inputs), *outputs]:
         alone = sorted(set(names) ^ set(others))
         if alone:
             return f"only one of them has the {kind} {alone[0]}", "the names of inputs and outputs"
     mine, theirs = both_values(one, other)
-    for name in one.outputs:
+    for name in common:
         unequal = (mine.tables[name] ^ theirs.tables[name]) | (mine.defined ^ theirs.defined)
         if unequal:
             column = (unequal & -unequal).bit_length() - 1

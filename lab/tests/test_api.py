@@ -18,18 +18,21 @@ PAGE = support.TOP / "docs" / "API.md"
 sys.path.insert(0, str(support.LAB / "public"))
 import bbmlab  # noqa: E402
 
-MAX_WORDS = 900
+MAX_WORDS = 1000
 LEAST_LINES = 30
 # Longer worked texts are not read here, for time.
 MAX_BYTES = 50_000
 # The fields of records and the arguments of calls are on the page too.
-RECORDS = ["Border", "Box", "Bundle", "Certificate", "Circuit", "Explanation", "Gate", "Layout", "Module", "Port", "Report", "State", "Stop"]
-CALLS = ["certify", "check", "explain", "local_run", "read", "route", "simulate"]
+RECORDS = ["Border", "Box", "Bundle", "Certificate", "Circuit", "Comparison", "Explanation", "Gate", "Layout", "Module", "Netlist", "Port", "Report",
+           "Row", "State", "Stop"]
+CALLS = ["certify", "check", "clean", "equivalent", "explain", "inverse", "local_run", "read", "read_netlist", "route", "simplify", "simulate", "stats",
+         "table", "to_conservative"]
 
 
 def fields_of(record: type) -> list[str]:
-    """Returns the fields of a record in their order."""
-    return [field.name for field in dataclasses.fields(record)] if dataclasses.is_dataclass(record) else list(record._fields)  # type: ignore[attr-defined]
+    """Returns the public fields of a record in their order."""
+    fields = [field.name for field in dataclasses.fields(record)] if dataclasses.is_dataclass(record) else list(record._fields)  # type: ignore[attr-defined]
+    return [name for name in fields if not name.startswith("_")]
 
 
 class Page(unittest.TestCase):

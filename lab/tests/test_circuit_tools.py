@@ -13,7 +13,7 @@ from bbmlab_core import circuit_forms, truth
 from bbmlab_core.circuits import Circuit, values_under
 from bbmlab_core.documents import read_document
 from bbmlab_core.gates import GATE_SIZES
-from bbmlab_core.netlists import map_netlist
+from bbmlab_core.netlists import Reading, map_netlist
 
 CIRCUITS = support.EXAMPLES / "circuits"
 
@@ -43,6 +43,11 @@ def random_circuit(chance: random.Random, count: int, words: list[str]) -> Circu
     outs = [name for name in wires if chance.random() < 0.6] or wires[:1]
     spills = [name for name in wires if name not in outs]
     return circuit_of("\n".join([*lines, *(f"output {name}" for name in outs), *(f"spill {name}" for name in spills), "end", ""]))
+
+
+def number(bits: list[int]) -> int:
+    """Returns a number by its bits, from the lowest to the highest."""
+    return sum(bit << at for at, bit in enumerate(bits))
 
 
 class Forms(unittest.TestCase):
@@ -120,6 +125,14 @@ class Commands(unittest.TestCase):
         for line in ("layout           16 by 12", "area             192", "area times steps 1152", "mirror cells     8", "modules          2"):
             self.assertIn(line, text)
 
+    def test_standard_input(self) -> None:
+        """A netlist and a circuit on standard input are read once: `stats` read a netlist twice, and found nothing the second time."""
+        text = "input a b\nand a b -> c\noutput c\n"
+        for command in ("circuit", "table", "stats"):
+            done = support.lab(command, "-", text=text)
+            self.assertEqual((done.returncode, done.stderr), (0, "bbmlab: The circuit has the outputs of the netlist in all 4 choices of the inputs.\n"))
+        self.assertIn("inputs", support.lab("stats", "-", text="circuit\ninput a\noutput a\nend\n").stdout)
+
     def test_equal(self) -> None:
         """Equal circuits, circuits that differ at one row, and other ports."""
         with tempfile.TemporaryDirectory() as room:
@@ -145,9 +158,9 @@ class Commands(unittest.TestCase):
 class Examples(unittest.TestCase):
     """The circuits of examples/circuits compute what their first lines say."""
 
-    def rows(self, name: str) -> list[tuple[list[int], list[int]]]:
+    def rows(self, name: str, cycles: int | None = None) -> list[tuple[list[int], list[int]]]:
         """Returns the inputs and the outputs of each row."""
-        circuit = circuit_of(map_netlist((CIRCUITS / name).read_text()).text)
+        circuit = circuit_of(map_netlist((CIRCUITS / name).read_text(), reading=Reading(None, cycles)).text)
         found = []
         for bits in itertools.product((0, 1), repeat=len(circuit.inputs)):
             values, _ = values_under(circuit, {name for name, bit in zip(circuit.inputs, bits) if bit})
@@ -162,8 +175,55 @@ class Examples(unittest.TestCase):
             self.assertEqual(outs, [ins[0], *(ins[:0:-1] if ins[0] else ins[1:])])
         for (a0, a1, b0, b1), (s0, s1, carry) in self.rows("adder_2.qasm"):
             self.assertEqual(s0 + 2 * s1 + 4 * carry, a0 + 2 * a1 + b0 + 2 * b1)
-        for ins, outs in self.rows("majority_5.pla"):
-            self.assertEqual(outs, [int(sum(ins) >= 3)])
+        for ins, outs in self.rows("adder_4.qasm"):
+            self.assertEqual(number(outs), number(ins[:4]) + number(ins[4:]))
+        for name, least in (("majority_5.pla", 3), ("majority_3.gates", 2)):
+            for ins, outs in self.rows(name):
+                self.assertEqual(outs, [int(sum(ins) >= least)])
+        for ins, outs in self.rows("parity_8.gates"):
+            self.assertEqual(outs, [sum(ins) % 2])
+        for (enable, a, b), outs in self.rows("decoder_2.blif"):
+            self.assertEqual(outs, [int(enable and at == a + 2 * b) for at in range(4)])
+
+    def test_reversible_functions(self) -> None:
+        """The functions of Maslov's benchmarks, by their tables, and the gates of Peres and Toffoli."""
+        tables = {"3_17.real": [7, 1, 4, 3, 0, 2, 6, 5], "ham3.real": [0, 7, 4, 3, 2, 5, 1, 6]}
+        for name, table in tables.items():
+            for ins, outs in self.rows(name):
+                self.assertEqual(number(outs), table[number(ins)])
+        for ins, outs in self.rows("hwb4.real"):
+            # The word turns left: bit 0 becomes the bit whose place is the number of ones.
+            turn = sum(ins) % 4
+            self.assertEqual(outs, (ins[-turn:] + ins[:-turn]) if turn else ins)
+        for ins, outs in self.rows("4mod5.real"):
+            self.assertEqual(outs, [int(number(ins) % 5 == 0)])
+        for (a, b, c), outs in self.rows("peres.real"):
+            self.assertEqual(outs, [a, a ^ b, c ^ a & b])
+        for (a, b, c), outs in self.rows("toffoli.real"):
+            self.assertEqual(outs, [a, b, c ^ a & b])
+
+    def test_tables(self) -> None:
+        """The digits on seven segments, and the S-box of PRESENT with a key."""
+        digits = [" _ | ||_|", "     |  |", " _  _||_ ", " _  _| _|", "   |_|  |", " _ |_  _|", " _ |_ |_|", " _   |  |", " _ |_||_|", " _ |_| _|"]
+        for ins, (a, b, c, d, e, f, g) in self.rows("seven_segments.pla"):
+            digit = number(ins[::-1])
+            signs = [" ", "_" if a else " ", " ", "|" if f else " ", "_" if g else " ", "|" if b else " ", "|" if e else " ", "_" if d else " ", "|" if c else " "]
+            self.assertEqual("".join(signs), digits[digit] if digit < 10 else " " * 9)
+        for ins, outs in self.rows("sbox.blif"):
+            self.assertEqual(number(outs[::-1]), int("C56B90AD3EF84712"[number(ins[3::-1]) ^ number(ins[:3:-1])], 16))
+
+    def test_machines(self) -> None:
+        """A counter and a shift register with feedback, for some cycles, from each state."""
+        for cycles in (1, 4):
+            for ins, outs in self.rows("counter_4.blif", cycles):
+                counted = [(number(ins) + at) % 16 for at in range(cycles + 1)]
+                self.assertEqual([number(outs[4 * at:4 * at + 4][::-1]) for at in range(cycles)] + [number(outs[4 * cycles:])], counted)
+        for ins, outs in self.rows("lfsr_4.blif", 3):
+            states = [ins]
+            for _ in range(3):
+                *_, c, d = states[-1]
+                states.append([c ^ d, *states[-1][:3]])
+            self.assertEqual([outs[4 * at:4 * at + 4][::-1] for at in range(3)] + [outs[12:]], states)
 
 
 if __name__ == "__main__":

@@ -209,7 +209,7 @@ class Refused(unittest.TestCase):
             (qasm.format("creg c[1]; measure q[0] -> c[0]; x q[0];"), "after it was measured"), (qasm.format("x q[0]; reset q[0];"), "loses its bit"),
             (qasm.format("gate f a { f a; } f q[0];"), "call too many others"), (qasm.format("cx q[0],q[0];"), "names `q[0]` twice"),
             (".i 2\n.o 1\n111 1\n", "Line 3: a row has 2"), (".i x\n.o 1\n", "Line 1: `.i` takes a number"),
-            ("aag 1 0 1 0 0\n2 3\n", "latches"), ("aag 1 1 0 1 0\n2\n9\n", "above those of the header"), ("aig 3 1 0 1 2\n2\n\x02", "ends early"),
+            ("aag 1 0 1 0 0\n2 3\n", "stores 1 bit: say for how many cycles"), ("aag 1 0 1 0 0\n2 3 5\n", "Line 2: the first value of a latch"), ("aag 1 1 0 1 0\n2\n9\n", "above those of the header"), ("aig 3 1 0 1 2\n2\n\x02", "ends early"),
         ):
             with self.assertRaises(NetlistError, msg=text) as found:
                 map_netlist(text)
@@ -228,6 +228,12 @@ class Refused(unittest.TestCase):
         text = "OPENQASM 2.0;\nqreg q[2];\ngate g0 a,b { cx a,b; }\n" + doubling + "g39 q[0],q[1];\n"
         with self.assertRaisesRegex(NetlistError, "call too many others"):
             read_netlist(text)
+        many = "".join(f"gate g{number} a {{ x a; }}\n" for number in range(10_001))
+        with self.assertRaisesRegex(NetlistError, "Line 10002: more than 10000 gates are defined"):
+            read_netlist("OPENQASM 2.0;\n" + many)
+        # Counting the lines before each statement anew took minutes for such a text.
+        with self.assertRaisesRegex(NetlistError, "Line 200003"):
+            read_netlist("OPENQASM 3;\nqubit q;\n" + "x q;\n" * 400_000)
         for text in ("OPENQASM 2.0;\nqreg q[999999999];\n", ".i 999999999\n.o 1\n", "aag 999999999 999999999 0 0 0\n", ".numvars 1\n.variables a\n.begin\n" + "t1 a\n" * 70_000 + ".end\n"):
             with self.assertRaises(NetlistError):
                 read_netlist(text)

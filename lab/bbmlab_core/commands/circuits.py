@@ -4,37 +4,68 @@ import argparse
 import csv
 import io
 import sys
-from typing import Iterable
+from typing import Callable, Iterable
 
 from .. import truth
-from ..circuit_forms import WRITERS
-from ..circuits import Circuit
+from ..aiger_form import aiger_text
+from ..circuit_forms import blif_text, dot_text, verilog_text
+from ..circuits import Circuit, evaluate_under
+from ..cleaning import clean
 from ..documents import read_document
+from ..gate_lines import CircuitLines
+from ..inverting import inverse, values_of
+from ..line_forms import qasm_text, real_text
 from ..limits import limits_for, with_line
-from ..netlists import NetlistFormat
+from ..netlists import Reading
 from ..route.command import circuit_of
-from ..terminal import LabError, read_text, write_text
+from ..simplifying import simplify
+from ..terminal import LabError, read_text, write_bytes, write_text
 
-
-def asked_format(options: argparse.Namespace) -> NetlistFormat | None:
-    """Returns the format that `--from` names."""
-    return NetlistFormat(options.given) if getattr(options, "given", None) else None
+WRITERS = {"aiger": aiger_text, "blif": blif_text, "dot": dot_text, "qasm": qasm_text, "real": real_text, "verilog": verilog_text}
 
 
 def run_circuit(options: argparse.Namespace) -> int:
     """Writes the circuit of a file: in the one spelling, or in the form of another tool."""
-    text, circuit = circuit_of(options.file, asked_format(options))
-    if options.to is None:
-        text = with_line(text, limits_for(gates=len(circuit.gates), wires=len(circuit.defined)))
-    else:
-        text = WRITERS[options.to](circuit)
-    write_text(options.output, text)
+    text, circuit = circuit_of(options.file, Reading.asked(options))
+    text = with_line(text, limits_for(gates=len(circuit.gates), wires=len(circuit.defined)))
+    try:
+        for change in changes(options):
+            lines, before = change(circuit), circuit
+            text, circuit = lines.text(), lines.circuit()
+            if before.outputs:
+                print(f"bbmlab: the new circuit was compared with the one before {compared(change, before, circuit)}", file=sys.stderr)
+    except LabError as error:
+        raise LabError(f"{options.file}: {error}", error.status) from error
+    if options.clean and any(name.endswith("_not") for name in circuit.outputs):
+        print("bbmlab: each output that a gate makes also leaves as its complement, with `_not` at its end: no gate makes balls", file=sys.stderr)
+    write_bytes(options.output, (text if options.to is None else WRITERS[options.to](circuit)).encode("latin-1"))
     return 0
+
+
+def compared(change: Callable[[Circuit], CircuitLines], before: Circuit, after: Circuit) -> str:
+    """Returns in which inputs a changed circuit has the values that it should have, in words. Raises LabError where it has others."""
+    differs, scope = returns_inputs(before, after) if change is inverse else truth.difference(before, after, True)
+    if differs:
+        raise LabError(f"the new circuit is wrong: {differs}. This is a fault of the lab", 1)
+    return scope
+
+
+def returns_inputs(before: Circuit, after: Circuit) -> tuple[str, str]:
+    """Returns how the inverse of a circuit fails to give its inputs back, or nothing, and in which inputs they were compared."""
+    values = values_of(before)
+    back = evaluate_under(after, {name: values.tables[name] for name in after.inputs}, values.full, [gate.number for gate in after.gates])
+    wrong = next((name for name in before.inputs if back.tables[name] != values.tables[name]), None)
+    return ("" if wrong is None else f"it does not give `{wrong}` back"), values.scope
+
+
+def changes(options: argparse.Namespace) -> list[Callable[[Circuit], CircuitLines]]:
+    """Returns what a circuit is put through, in order. To `simplify` the second half of a clean circuit is dead, so it comes before."""
+    return [change for is_asked, change in ((options.inverse, inverse), (options.simplify, simplify), (options.clean, clean)) if is_asked]
 
 
 def run_table(options: argparse.Namespace) -> int:
     """Writes the rows of a circuit's values."""
-    _, circuit = circuit_of(options.file, asked_format(options))
+    _, circuit = circuit_of(options.file, Reading.asked(options))
     on = None if options.on is None else [name for name in options.on.split(",") if name]
     rows = truth.rows(circuit, on)
     write_text(options.output, csv_text(rows) if options.csv else table_text(circuit, [*rows]))
@@ -65,7 +96,7 @@ def run_stats(options: argparse.Namespace) -> int:
     text = read_text(options.file)
     document = read_document(text, "check")
     if document.circuit is None or document.layout is None or not document.layout.width:
-        found = truth.circuit_figures(circuit_of(options.file, asked_format(options))[1])
+        found = truth.circuit_figures(circuit_of(options.file, Reading.asked(options), text)[1])
     else:
         found = truth.figures(document)
     longest = max(len(name) for name, _ in found)
@@ -78,6 +109,6 @@ def run_equal(options: argparse.Namespace) -> int:
     if options.file == "-" and options.other == "-":
         raise LabError("only one of two files can be standard input", 2)
     one, other = circuit_of(options.file)[1], circuit_of(options.other)[1]
-    differs, scope = truth.difference(one, other)
+    differs, scope = truth.difference(one, other, options.common)
     print(f"not equal: {differs}" if differs else f"equal {scope}", file=sys.stdout)
     return 1 if differs else 0

@@ -21,9 +21,11 @@ def run(options: argparse.Namespace) -> int:
         raise LabError("-o and -i need --fix", 2)
     text = read_text(options.file)
     form = netlist_format(text)
-    if form is not None:
-        what = "a netlist" if form is NetlistFormat.BLIF else "JSON"
-        raise LabError(f"{options.file}: this is {what}: `bbmlab route` reads a netlist, and `bbmlab json --back` its own documents", 1)
+    # The program refuses plain gates behind the line `circuit`, and the explanation names what makes a circuit of them.
+    if form is not None and not (form is NetlistFormat.GATES and command_for(text) == "circuit"):
+        what = {NetlistFormat.YOSYS_JSON: "JSON", NetlistFormat.GATES: "a text of plain gates"}.get(form, "a netlist")
+        more = ", and `bbmlab json --back` its own documents" if form is NetlistFormat.YOSYS_JSON else ""
+        raise LabError(f"{options.file}: this is {what}: `bbmlab circuit` and `route` read it{more}", 1)
     command = options.command_of_program or {"design": "check", "layout": "run", "circuit": "value"}.get(command_for(text), command_for(text))
     program = program_of(options)
     if options.fix:

@@ -1,24 +1,25 @@
-"""Reads combinational BLIF: one model with `.inputs`, `.outputs` and `.names`."""
+"""Reads BLIF: one model with `.inputs`, `.outputs`, `.names` and `.latch`."""
 
 import re
 from collections import Counter
 from typing import Iterator
 
-from .model import MAX_PORTS, Netlist, NetlistError, TableNode
+from .model import MAX_PORTS, Latch, Netlist, NetlistError, TableNode
 
 # Lines that say nothing on the values: attributes of yosys, and timing.
 SKIPPED = {".attr", ".param", ".cname", ".area", ".delay", ".wire_load_slope", ".wire", ".input_arrival", ".default_input_arrival",
            ".output_required", ".default_output_required", ".input_drive", ".default_input_drive", ".output_load", ".default_output_load",
-           ".max_input_load", ".default_max_input_load"}
+           ".max_input_load", ".default_max_input_load", ".clock"}
+# The types of latches that change at an edge of their clock, and those that do not.
+EDGES = {"re": "rising edge", "fe": "falling edge"}
+LEVELS = {"ah": "while its control is 1", "al": "while its control is 0", "as": "without a clock"}
 REFUSED = {
-    ".latch": "a latch. Only combinational netlists can be mapped",
-    ".mlatch": "a latch. Only combinational netlists can be mapped",
-    ".clock": "a clock. Only combinational netlists can be mapped",
+    ".mlatch": "a latch of a library. Write it with `.latch`",
     ".gate": "a cell of a library. Write the netlist with `.names` tables",
     ".subckt": "a part of another model or an unknown cell. Flatten the netlist, and write it with `.names` tables",
     ".exdc": "external don't-cares, which are not read",
     ".search": "another file, which is not read",
-    ".start_kiss": "a state machine. Only combinational netlists can be mapped",
+    ".start_kiss": "a state machine. Write it with `.latch` and `.names`",
 }
 ROW = re.compile(r"[01-]*\Z")
 
@@ -69,6 +70,8 @@ class BlifReader:
             if len(words) < 2:
                 raise NetlistError(f"Line {number}: `.names` needs the name of its output.")
             self.table = number, words[1:]
+        elif keyword == ".latch":
+            self.read_latch(number, words[1:])
         elif keyword == ".conn":
             if len(words) != 3:
                 raise NetlistError(f"Line {number}: `.conn` takes two nets.")
@@ -76,7 +79,22 @@ class BlifReader:
         elif keyword in REFUSED:
             raise NetlistError(f"Line {number} (`{keyword}`) is {REFUSED[keyword]}.")
         elif keyword not in SKIPPED:
-            raise NetlistError(f"Line {number}: `{keyword}` is no line of combinational BLIF.")
+            raise NetlistError(f"Line {number}: `{keyword}` is no line of BLIF that is read.")
+
+    def read_latch(self, number: int, words: list[str]) -> None:
+        """Reads `.latch INPUT OUTPUT [TYPE CONTROL] [INIT]`. The first values 2 and 3 are none."""
+        init = words.pop() if len(words) in (3, 5) else "3"
+        if len(words) not in (2, 4) or init not in ("0", "1", "2", "3"):
+            raise NetlistError(f"Line {number}: a latch is `.latch INPUT OUTPUT [TYPE CONTROL] [INIT]`, with INIT from 0 to 3.")
+        clock = None
+        if len(words) == 4 and words[2] in LEVELS:
+            raise NetlistError(f"Line {number}: the latch `{words[1]}` changes {LEVELS[words[2]]} (`{words[2]}`). Those at an edge are read, `re` and "
+                               "`fe`.")
+        if len(words) == 4:
+            if words[2] not in EDGES:
+                raise NetlistError(f"Line {number}: `{words[2]}` is no type of a latch. They are `re`, `fe`, `ah`, `al` and `as`.")
+            clock = None if words[3] == "NIL" else (words[3], EDGES[words[2]])
+        self.netlist.add_latch(Latch(words[1], words[1], words[0], {"0": False, "1": True}.get(init), clock))
 
     def read_row(self, number: int, words: list[str]) -> None:
         """Reads a row of a table."""
@@ -97,7 +115,7 @@ class BlifReader:
         if len(values) > 1:
             raise NetlistError(f"Line {number}: the table of `{names[-1]}` has rows for both `0` and `1`.")
         value = "1" in values or not values
-        self.netlist.add(TableNode(names[-1], tuple(names[:-1]), tuple(row for row, _ in self.rows), value))
+        self.netlist.add(TableNode(names[-1], tuple(names[:-1]), tuple(dict.fromkeys(row for row, _ in self.rows)), value))
         self.table, self.rows = None, []
 
     def finish(self) -> Netlist:
@@ -118,7 +136,7 @@ class BlifReader:
 
 
 def read_blif(text: str) -> Netlist:
-    """Returns the netlist of a BLIF text. Raises NetlistError at the first line that is not combinational BLIF."""
+    """Returns the netlist of a BLIF text. Raises NetlistError at the first line that is not read."""
     reader = BlifReader()
     for number, words in word_lines(text):
         if words[0] == ".end":

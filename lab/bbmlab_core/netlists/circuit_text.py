@@ -4,7 +4,7 @@ from dataclasses import dataclass
 
 from ..limits import limits_for
 from .graph import Graph
-from .mapping import GATE_COSTS, MappedGate, Wire, Wiring
+from .mapping import GARBAGE_COST, GATE_COSTS, MappedGate, Wire, Wiring
 from .naming import NameBook
 
 
@@ -18,6 +18,10 @@ class NamedCircuit:
     spills: list[str]
     notes: list[str]
     counts: dict[str, int]
+
+    def cost(self) -> float:
+        """Returns the cost of the gates and the garbage."""
+        return sum(GATE_COSTS[word] * count for word, count in self.counts.items()) + GARBAGE_COST * len(self.spills)
 
     def text(self) -> str:
         """Returns the circuit section, after the line that raises its limits if one asks for it."""

@@ -27,6 +27,7 @@ class NetlistFormat(Enum):
     QASM = "qasm"
     PLA = "pla"
     AIGER = "aiger"
+    GATES = "gates"
 
 
 class Cell(Enum):
@@ -82,15 +83,36 @@ class TableNode:
 Node = CellNode | TableNode
 
 
+@dataclass(frozen=True)
+class Latch:
+    """A bit that is stored from one cycle to the next: the net that it drives, the net of its next value, and its first value if it has one.
+
+    `clock` is the net at whose edge the bit changes, with the word for the edge, or None for a clock that is not written.
+    """
+
+    name: str
+    output: str
+    data: str
+    start: bool | None = None
+    clock: tuple[str, str] | None = None
+
+
 @dataclass
 class Netlist:
-    """A combinational netlist. `outputs` are pairs of a port's name and the net that drives it."""
+    """A netlist. `outputs` are pairs of a port's name and the net that drives it. Without latches it is combinational."""
 
     name: str
     inputs: list[str] = field(default_factory=list)
     outputs: list[tuple[str, str]] = field(default_factory=list)
     nodes: dict[str, Node] = field(default_factory=dict)
     notes: list[str] = field(default_factory=list)
+    latches: list[Latch] = field(default_factory=list)
+
+    def add_latch(self, latch: Latch) -> None:
+        """Adds a latch. Raises NetlistError if there are too many."""
+        if len(self.latches) >= MAX_PORTS:
+            raise NetlistError(f"The netlist has more than {MAX_PORTS} latches. A circuit has at most {MAX_PORTS} wires.")
+        self.latches.append(latch)
 
     def add(self, node: Node) -> None:
         """Adds a node. Raises NetlistError if its net is driven already, or if there are too many nodes."""

@@ -55,7 +55,7 @@ class PlaReader:
             raise NetlistError("`.ilb` and `.ob` name each input and each output once.")
         netlist = Netlist("", inputs=ins)
         for at, name in enumerate(outs):
-            rows = tuple(product for product, values in self.rows if values[at] == "1")
+            rows = tuple(dict.fromkeys(product for product, values in self.rows if values[at] == "1"))
             netlist.add(TableNode(f" {name}", tuple(ins), rows, True))
             netlist.outputs.append((name, f" {name}"))
         return netlist

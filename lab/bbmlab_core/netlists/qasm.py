@@ -19,6 +19,7 @@ DEFINITION = re.compile(r"gate\s+(\w+)\s*(\([^)]*\))?\s*([\w\s,]+?)\s*\{(.*)\}\Z
 OPERAND = re.compile(r"(\w+)(?:\s*\[\s*(\d+)\s*\])?\Z")
 MAX_DEPTH = 64
 MAX_CALLS = 200_000
+MAX_DEFINITIONS = 10_000
 
 
 @dataclass(frozen=True)
@@ -33,16 +34,19 @@ def statements(text: str, first: int = 1) -> Iterator[tuple[int, str]]:
     """Yields each statement with the number of its line. A block in braces belongs to the statement before it."""
     text = COMMENT.sub(lambda found: re.sub(r"[^\n]", " ", found[0]), text)
     start = depth = 0
+    # The line at which the next statement can begin: counted on, since counting from the first line each time takes quadratic time.
+    line = first
     for found in re.finditer(r"[{};]", text):
         depth += {"{": 1, "}": -1, ";": 0}[found[0]]
-        if depth == 0 or depth < 0:
+        if depth <= 0:
             part = text[start:found.end()].rstrip(";")
-            number = first + text[:start].count("\n") + len(part[:len(part) - len(part.lstrip())].split("\n")) - 1
+            number = line + part[:len(part) - len(part.lstrip())].count("\n")
+            line += text.count("\n", start, found.end())
             start = found.end()
             if part.strip():
                 yield number, part.strip()
     if text[start:].strip():
-        raise NetlistError(f"Line {first + text[:start].count(chr(10))}: `{text[start:].strip()[:30]}` has no `;`.")
+        raise NetlistError(f"Line {line}: `{text[start:].strip()[:30]}` has no `;`.")
 
 
 class QasmReader:
@@ -92,6 +96,8 @@ class QasmReader:
         name, arguments = found[1], [word.strip() for word in found[3].split(",")]
         if found[2] and found[2][1:-1].strip():
             raise NetlistError(f"Line {number}: the gate `{name}` has an angle, and no bits can compute it.")
+        if len(self.definitions) >= MAX_DEFINITIONS:
+            raise NetlistError(f"Line {number}: more than {MAX_DEFINITIONS} gates are defined.")
         self.definitions[name] = Definition(arguments, list(statements(found[4], number)))
 
     def operands(self, number: int, words: str, registers: dict[str, list[str]]) -> list[list[str]]:

@@ -1,13 +1,20 @@
-"""Reads the JSON that `write_json` of yosys makes, of a flat module with simple cells and tables."""
+"""Reads the JSON that `write_json` of yosys makes, of a flat module with simple cells, tables and flip-flops."""
 
 import json
+import re
+from dataclasses import replace
 from typing import Any
 
-from .model import MAX_PORTS, PORTS, Cell, CellNode, Netlist, NetlistError, TableNode
+from .model import MAX_PORTS, PORTS, Cell, CellNode, Latch, Netlist, NetlistError, TableNode
 
 MAX_LUT_WIDTH = 8
 SIMPLE_CELLS = {cell.value: cell for cell in Cell}
 STORING = ("$_DFF", "$_SDFF", "$_ALDFF", "$_DLATCH", "$_SR", "$_FF_", "$dff", "$adff", "$sdff", "$dlatch", "$mem", "$ff", "$aldff")
+# A flip-flop by its clock, with or without an enable or a reset at the edge of the clock: whether the enable comes before the reset, and the
+# polarities of clock, reset and enable, with the value of the reset.
+FLIP_FLOP = re.compile(r"\$_(?:FF_|DFF_(?P<c1>[NP])_|DFFE_(?P<c2>[NP])(?P<e2>[NP])_|SDFF_(?P<c3>[NP])(?P<r3>[NP])(?P<v3>[01])_"
+                       r"|SDFF(?P<first>C?)E_(?P<c4>[NP])(?P<r4>[NP])(?P<v4>[01])(?P<e4>[NP])_)\Z")
+RESET_AT_ONCE = re.compile(r"\$_DFFE?_[NP][NP][01][NP]?_\Z|\$_ALDFF|\$_DFFSR|\$al?dff")
 ADVICE = "Make a flat netlist of simple cells with `synth -flatten; abc -g AND,XOR,MUX` in yosys."
 
 
@@ -40,7 +47,7 @@ class ModuleReader:
 
     def __init__(self, name: str, module: Any) -> None:
         self.netlist, self.module = Netlist(name), module
-        self.constants: set[str] = set()
+        self.made = 0
 
     def net_of(self, bit: Any, where: str) -> str:
         """Returns the name of the net of a bit: a number, or a constant of one character."""
@@ -90,10 +97,54 @@ class ModuleReader:
                 self.netlist.add(CellNode(self.bits(cell, name, "Y", 1)[0], simple, inputs))
             elif kind == "$lut":
                 self.read_lut(name, cell)
+            elif (found := FLIP_FLOP.match(kind)) is not None:
+                self.read_flip_flop(name, cell, {key[0]: sign for key, sign in found.groupdict().items() if sign is not None})
+            elif RESET_AT_ONCE.match(kind):
+                raise NetlistError(f"The cell `{name}` is `{kind}`, which is set without its clock. Use `async2sync` in yosys before `synth`.")
             elif kind.startswith(STORING):
-                raise NetlistError(f"The cell `{name}` is `{kind}`, which stores a bit. Only combinational netlists can be mapped.")
+                raise NetlistError(f"The cell `{name}` is `{kind}`, which stores a bit and is no simple flip-flop such as `$_DFF_P_`. {ADVICE}")
             elif kind != "$scopeinfo":
                 raise NetlistError(f"The cell `{name}` is `{kind}`, which is no simple cell. {ADVICE}")
+
+    def name_latches(self) -> None:
+        """Gives each flip-flop the name and the first value of the net that it drives. Names that yosys made come last."""
+        nets, latches = self.module.get("netnames", {}), self.netlist.latches
+        if not isinstance(nets, dict) or not latches:
+            return
+        stored, names = {latch.output for latch in latches}, dict[str, tuple[str, bool | None]]()
+        for name, net in sorted(nets.items(), key=lambda own: isinstance(own[1], dict) and bool(own[1].get("hide_name"))):
+            bits = net.get("bits") if isinstance(net, dict) else None
+            if not isinstance(bits, list):
+                continue
+            attributes = net.get("attributes")
+            init = attributes.get("init", "") if isinstance(attributes, dict) else ""
+            signs = init[::-1] if isinstance(init, str) else ""
+            for position, wire in ((position, f"net {bit}") for position, bit in enumerate(bits) if isinstance(bit, int) and f"net {bit}" in stored):
+                before = names.get(wire, (name if len(bits) == 1 else f"{name}[{bit_index(net, position, len(bits))}]", None))
+                names[wire] = before[0], {"0": False, "1": True}.get(signs[position:position + 1], before[1])
+        found = ((latch, *names.get(latch.output, (latch.name, None))) for latch in latches)
+        self.netlist.latches = sorted((replace(latch, name=name, start=start) for latch, name, start in found), key=lambda latch: number_order(latch.name))
+
+    def cell_net(self, cell: Cell, *inputs: str) -> str:
+        """Returns the net of a new cell."""
+        self.made += 1
+        self.netlist.add(CellNode(f"made {self.made}", cell, inputs))
+        return f"made {self.made}"
+
+    def read_flip_flop(self, name: str, cell: Any, signs: dict[str, str]) -> None:
+        """Reads a flip-flop. An enable keeps the bit or takes the new one, and a reset takes its value, both at the edge of the clock."""
+        output, data = self.bits(cell, name, "Q", 1)[0], self.bits(cell, name, "D", 1)[0]
+        chosen: list[tuple[str, bool, str]] = []
+        if "r" in signs:
+            chosen.append((self.bits(cell, name, "R", 1)[0], signs["r"] == "P", self.net_of(signs["v"], name)))
+        if "e" in signs:
+            # Without the enable the flip-flop keeps its bit.
+            chosen.append((self.bits(cell, name, "E", 1)[0], signs["e"] == "N", output))
+        # The choice that comes last in the list of cells is the first one to be made: a reset, unless the enable comes before it.
+        for select, is_high, value in chosen if signs.get("f") else chosen[::-1]:
+            data = self.cell_net(Cell.MUX, *((data, value) if is_high else (value, data)), select)
+        clock = (self.bits(cell, name, "C", 1)[0], "rising edge" if signs["c"] == "P" else "falling edge") if "c" in signs else None
+        self.netlist.add_latch(Latch(name, output, data, None, clock))
 
     def bits(self, cell: Any, name: str, port: str, width: int) -> list[str]:
         """Returns the nets of a cell's port, which has `width` bits."""
@@ -124,6 +175,11 @@ def bit_index(port: Any, position: int, width: int) -> int:
     return (offset if isinstance(offset, int) else 0) + (width - 1 - position if port.get("upto") else position)
 
 
+def number_order(name: str) -> list[tuple[int, str]]:
+    """Returns a key that sorts `q[2]` before `q[10]`."""
+    return [(int(digits or 0), rest) for digits, rest in re.findall(r"([0-9]{0,9})([^0-9]*)", name)]
+
+
 def parameter_number(value: Any) -> int:
     """Returns the number of a parameter, which yosys writes as a number or as bits. An undefined bit is 0."""
     if isinstance(value, int):
@@ -142,4 +198,5 @@ def read_yosys_json(text: str) -> Netlist:
     reader = ModuleReader(*top_module(document))
     reader.read_ports()
     reader.read_cells()
+    reader.name_latches()
     return reader.netlist
