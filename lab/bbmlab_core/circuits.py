@@ -92,7 +92,9 @@ class Valuation:
     def scope(self) -> str:
         """In how many choices of the inputs something was tried, in words."""
         count = self.full.bit_length()
-        return f"in all {count} choices of the inputs" if self.is_all else f"in {count} sampled choices of the inputs"
+        if self.is_all:
+            return "in the one choice of the inputs" if count == 1 else f"in all {count} choices of the inputs"
+        return f"in {count} sampled choices of the inputs"
 
 
 def evaluate(circuit: Circuit, free: list[str], gates: list[int]) -> Valuation:

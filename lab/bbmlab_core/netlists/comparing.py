@@ -46,7 +46,7 @@ def compared(netlist: Netlist, circuit: Circuit) -> str:
     """Returns in which inputs the circuit has the outputs of the netlist, in words. Raises NetlistError where it has others."""
     count = len(netlist.inputs)
     if count <= MAX_ALL:
-        full, scope = (1 << (1 << count)) - 1, f"all {1 << count} choices of the inputs"
+        full, scope = (1 << (1 << count)) - 1, f"all {1 << count} choices of the inputs" if count else "the one choice of the inputs"
         columns = dict(zip(netlist.inputs, input_tables(count)))
     else:
         full, scope = (1 << SAMPLES) - 1, f"{SAMPLES} samples of the {count} inputs"
