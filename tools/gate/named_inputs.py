@@ -1,0 +1,110 @@
+"""The input that an edit of must-fail or must-fail-more names, and the two outputs: lines `input:`, `gives:` and `turned:`.
+
+An input is `case NAME`, a worked case (conformance/cases.py), or `test CRATE NAME`, a test of that crate. `gives:` says what the program gives
+with the body as it is, and `turned:` what it gives with the wrong one: the first line in which they differ, or the status. An edit that names
+no input says why in a line `no input:`. `turn_wrong_bodies` runs the inputs; `faults` here, which the gate calls, builds nothing.
+"""
+from __future__ import annotations
+
+import re
+import sys
+from dataclasses import dataclass
+from pathlib import Path
+
+TOP = Path(__file__).resolve().parent.parent.parent
+sys.path.insert(0, str(TOP / "conformance"))
+from cases import Case, all_cases  # noqa: E402
+
+FOLDERS = ("must-fail", "must-fail-more")
+LINES = re.compile(r"^input: (.+)\ngives: (.+)\nturned: (.+)$", re.M)
+NO_INPUT = re.compile(r"^no input: (.+)$", re.M)
+LINE = re.compile(r"(standard error, )?line (\d+): (.*)\Z")
+TEST = re.compile(r"#\[test\]\n(?:#\[.*\]\n)*fn (\w+)\(")
+# What docs/TESTING.md says of how many name none.
+COUNT = re.compile(r"(\d+)\s+say why they name none")
+
+
+@dataclass(frozen=True)
+class Named:
+    """An input, what it gives with the body as it is, and what with the wrong one."""
+
+    source: str
+    gives: str
+    turned: str
+
+    def program(self, program: str) -> str:
+        """Returns what takes the input: the program, or a crate with tests."""
+        return self.source.split(" ")[1] if self.source.startswith("test ") else program
+
+    def matches(self, other: Named) -> bool:
+        """Returns whether another run gave the same. A test may fail in other words."""
+        if self.source.startswith("test "):
+            return self.source == other.source and other.turned.startswith("fails")
+        return self == other
+
+
+def named_in(text: str) -> Named | None:
+    """Returns the input that the text of an edit names."""
+    found = LINES.search(text)
+    return Named(*found.groups()) if found else None
+
+
+def with_named(text: str, named: Named) -> str:
+    """Returns the text of an edit with this input in place of its own."""
+    rest = re.sub(r"^(?:input|gives|turned|no input): .*\n?", "", text, flags=re.M)
+    return f"{rest.rstrip()}\ninput: {named.source}\ngives: {named.gives}\nturned: {named.turned}\n"
+
+
+def shown(line: bytes | None) -> str:
+    """Returns a line of an output as an edit names it."""
+    if line is None:
+        return "nothing"
+    text = line.decode("utf-8", "backslashreplace").rstrip("\n")
+    return text if len(text) <= 100 else text[:97] + "..."
+
+
+def tests_of(top: Path) -> set[str]:
+    """Returns the tests of the crates, as an edit names them."""
+    files = [*top.glob("crates/*/src/*.rt")]
+    return {f"test {it.parent.parent.name} {it.stem}::{name}" for it in files for name in TEST.findall(it.read_text())}
+
+
+def gives(case: Case, said: str) -> bool:
+    """Returns whether a case expects what an edit says that it gives."""
+    found = LINE.match(said)
+    if not found:
+        return said == f"status {case.status}"
+    wanted = case.errors if found[1] else case.output
+    if wanted is None:
+        return True
+    lines = wanted.splitlines(keepends=True)
+    at = int(found[2]) - 1
+    return found[3].removesuffix(" (and a line feed)") == shown(lines[at] if at < len(lines) else None)
+
+
+def fault_of(text: str, cases: dict[str, Case], tests: set[str]) -> str | None:
+    """Returns what is wrong with the input that the text of an edit names."""
+    named = named_in(text)
+    if named is None:
+        return None if NO_INPUT.search(text) else "it names no input with two outputs, and not why"
+    kind, _, name = named.source.partition(" ")
+    if named.gives == named.turned:
+        return "its two outputs are the same"
+    if kind == "test":
+        return None if named.source in tests and named.gives == "passes" else f"there is no such test, or it must pass: {name}"
+    if kind != "case" or name not in cases:
+        return f"there is no such case: {name}"
+    return None if gives(cases[name], named.gives) else f"the case {name} expects something else"
+
+
+def faults(top: Path = TOP) -> list[str]:
+    """Returns what is wrong with the inputs that the edits name, and with what docs/TESTING.md says of their number."""
+    cases, tests = {it.name: it for it in all_cases()}, tests_of(top)
+    texts = {it: it.read_text() for folder in FOLDERS for it in sorted(top.glob(f"crates/*/{folder}/*.edit"))}
+    said = {it: fault_of(text, cases, tests) for it, text in texts.items()}
+    found = [f"{it.relative_to(top)}: {why}" for it, why in said.items() if why]
+    none = sum(bool(NO_INPUT.search(text)) for text in texts.values())
+    number = COUNT.search((top / "docs" / "TESTING.md").read_text(encoding="utf-8"))
+    if not number or int(number[1]) != none:
+        found.append(f"docs/TESTING.md says that {number[1] if number else 'no number'} say why they name no input, and these are {none}")
+    return found
