@@ -1,8 +1,12 @@
 """The input that an edit of must-fail or must-fail-more names, and the two outputs: lines `input:`, `gives:` and `turned:`.
 
-An input is `case NAME`, a worked case (conformance/cases.py), or `test CRATE NAME`, a test of that crate. `gives:` says what the program gives
-with the body as it is, and `turned:` what it gives with the wrong one: the first line in which they differ, or the status. An edit that names
-no input says why in a line `no input:`. `turn_wrong_bodies` runs the inputs; `faults` here, which the gate calls, builds nothing.
+An input is `case NAME`, a worked case (conformance/cases.py); `text COMMAND LINE | LINE ..`, a command and the lines of a text;
+`test CRATE NAME`, a test of that crate; or `call CRATE: BODY`, a block of Rattle over the names of a crate, whose value is printed.
+`gives:` says what the program gives with the body as it is, and `turned:` what it gives with the wrong one: the first line in which they
+differ, or the status. An edit that names no input says why in a line `no input:`.
+
+`turn_wrong_bodies` runs the inputs. `faults` here, which the gate calls, builds nothing: it compares `gives:` with what the worked case
+expects, or with the answer of the plain program of tools/oracle, and looks for the tests.
 """
 from __future__ import annotations
 
@@ -12,12 +16,15 @@ from dataclasses import dataclass
 from pathlib import Path
 
 TOP = Path(__file__).resolve().parent.parent.parent
-sys.path.insert(0, str(TOP / "conformance"))
-from cases import Case, all_cases  # noqa: E402
+sys.path[:0] = [str(TOP / "conformance"), str(TOP / "tools" / "oracle")]
+import reference  # noqa: E402
+import reference_reports  # noqa: E402
+from cases import COMMANDS, Case, all_cases  # noqa: E402
 
 FOLDERS = ("must-fail", "must-fail-more")
 LINES = re.compile(r"^input: (.+)\ngives: (.+)\nturned: (.+)$", re.M)
 NO_INPUT = re.compile(r"^no input: (.+)$", re.M)
+CALL = re.compile(r"call (\w+): (.+)")
 LINE = re.compile(r"(standard error, )?line (\d+): (.*)\Z")
 TEST = re.compile(r"#\[test\]\n(?:#\[.*\]\n)*fn (\w+)\(")
 # What docs/TESTING.md says of how many name none.
@@ -32,9 +39,10 @@ class Named:
     gives: str
     turned: str
 
-    def program(self, program: str) -> str:
-        """Returns what takes the input: the program, or a crate with tests."""
-        return self.source.split(" ")[1] if self.source.startswith("test ") else program
+    def program(self, program: str, calls: str) -> str:
+        """Returns what takes the input: the program, a crate with tests, or the program of the calls."""
+        kind, *rest = self.source.split(" ")
+        return rest[0] if kind == "test" else calls if kind == "call" else program
 
     def matches(self, other: Named) -> bool:
         """Returns whether another run gave the same. A test may fail in other words."""
@@ -63,6 +71,19 @@ def shown(line: bytes | None) -> str:
     return text if len(text) <= 100 else text[:97] + "..."
 
 
+def case_of(source: str, cases: dict[str, Case]) -> Case | None:
+    """Returns the case that an input is, or None if there is no such case."""
+    kind, _, rest = source.partition(" ")
+    if kind == "case":
+        return cases.get(rest)
+    command, _, lines = rest.partition(" ")
+    if kind != "text" or command not in COMMANDS:
+        return None
+    text = "".join(f"{line}\n" for line in lines.split(" | ")).encode()
+    status, output = reference_reports.answer(text) if command == "check" else reference.answer(command, text)
+    return Case(source, [command], text, status, output)
+
+
 def tests_of(top: Path) -> set[str]:
     """Returns the tests of the crates, as an edit names them."""
     files = [*top.glob("crates/*/src/*.rt")]
@@ -87,14 +108,16 @@ def fault_of(text: str, cases: dict[str, Case], tests: set[str]) -> str | None:
     named = named_in(text)
     if named is None:
         return None if NO_INPUT.search(text) else "it names no input with two outputs, and not why"
-    kind, _, name = named.source.partition(" ")
     if named.gives == named.turned:
         return "its two outputs are the same"
-    if kind == "test":
-        return None if named.source in tests and named.gives == "passes" else f"there is no such test, or it must pass: {name}"
-    if kind != "case" or name not in cases:
-        return f"there is no such case: {name}"
-    return None if gives(cases[name], named.gives) else f"the case {name} expects something else"
+    if named.source.startswith("test "):
+        return None if named.source in tests and named.gives == "passes" else f"there is no such test, or it must pass: {named.source}"
+    if CALL.fullmatch(named.source):
+        return None
+    case = case_of(named.source, cases)
+    if case is None:
+        return f"there is no such case: {named.source}"
+    return None if gives(case, named.gives) else f"the input must give something else: {named.source}"
 
 
 def faults(top: Path = TOP) -> list[str]:
