@@ -19,7 +19,7 @@ TOP = Path(__file__).resolve().parent.parent.parent
 sys.path[:0] = [str(TOP / "conformance"), str(TOP / "tools" / "oracle")]
 import reference  # noqa: E402
 import reference_reports  # noqa: E402
-from cases import COMMANDS, Case, all_cases  # noqa: E402
+from cases import COMMANDS, Case, all_cases, limit_cases  # noqa: E402
 
 FOLDERS = ("must-fail", "must-fail-more")
 LINES = re.compile(r"^input: (.+)\ngives: (.+)\nturned: (.+)$", re.M)
@@ -69,6 +69,12 @@ def shown(line: bytes | None) -> str:
         return "nothing"
     text = line.decode("utf-8", "backslashreplace").rstrip("\n")
     return text if len(text) <= 100 else text[:97] + "..."
+
+
+def named_cases() -> dict[str, Case]:
+    """Returns the worked cases by name, the shortest first, and then those at limits, but for the texts of many MiB."""
+    worked = sorted(all_cases(), key=lambda it: len(it.input))
+    return {it.name: it for it in [*worked, *(it for it in limit_cases() if not it.is_huge)]}
 
 
 def case_of(source: str, cases: dict[str, Case]) -> Case | None:
@@ -122,7 +128,7 @@ def fault_of(text: str, cases: dict[str, Case], tests: set[str]) -> str | None:
 
 def faults(top: Path = TOP) -> list[str]:
     """Returns what is wrong with the inputs that the edits name, and with what docs/TESTING.md says of their number."""
-    cases, tests = {it.name: it for it in all_cases()}, tests_of(top)
+    cases, tests = named_cases(), tests_of(top)
     texts = {it: it.read_text() for folder in FOLDERS for it in sorted(top.glob(f"crates/*/{folder}/*.edit"))}
     said = {it: fault_of(text, cases, tests) for it, text in texts.items()}
     found = [f"{it.relative_to(top)}: {why}" for it, why in said.items() if why]
