@@ -1,7 +1,8 @@
 """The input that an edit of must-fail or must-fail-more names, and the two outputs: lines `input:`, `gives:` and `turned:`.
 
-An input is `case NAME`, a worked case (conformance/cases.py); `text COMMAND LINE | LINE ..`, a command and the lines of a text;
-`test CRATE NAME`, a test of that crate; or `call CRATE: BODY`, a block of Rattle over the names of a crate, whose value is printed.
+An input is `case NAME`, a worked case (conformance/cases.py), or `case NAME --workers N`; `text COMMAND LINE | LINE ..`, a command and the
+lines of a text; `test CRATE NAME`, a test of that crate, which may end with ` refusing N` for the growth of memory that fails; or `call
+CRATE: BODY`, a block of Rattle over the names of a crate, whose value is printed.
 `gives:` says what the program gives with the body as it is, and `turned:` what it gives with the wrong one: the first line in which they
 differ, or the status. An edit that names no input says why in a line `no input:`.
 
@@ -12,7 +13,7 @@ from __future__ import annotations
 
 import re
 import sys
-from dataclasses import dataclass
+from dataclasses import dataclass, replace
 from pathlib import Path
 
 TOP = Path(__file__).resolve().parent.parent.parent
@@ -24,6 +25,7 @@ from cases import COMMANDS, Case, all_cases, limit_cases  # noqa: E402
 FOLDERS = ("must-fail", "must-fail-more")
 LINES = re.compile(r"^input: (.+)\ngives: (.+)\nturned: (.+)$", re.M)
 NO_INPUT = re.compile(r"^no input: (.+)$", re.M)
+REFUSING = re.compile(r" refusing (\d+)\Z")
 CALL = re.compile(r"call (\w+): (.+)")
 LINE = re.compile(r"(standard error, )?line (\d+): (.*)\Z")
 TEST = re.compile(r"#\[test\]\n(?:#\[.*\]\n)*fn (\w+)\(")
@@ -81,7 +83,9 @@ def case_of(source: str, cases: dict[str, Case]) -> Case | None:
     """Returns the case that an input is, or None if there is no such case."""
     kind, _, rest = source.partition(" ")
     if kind == "case":
-        return cases.get(rest)
+        name, _, workers = rest.partition(" --workers ")
+        case = cases.get(name)
+        return case and replace(case, words=[*case.words, "--workers", workers]) if workers else case
     command, _, lines = rest.partition(" ")
     if kind != "text" or command not in COMMANDS:
         return None
@@ -117,7 +121,8 @@ def fault_of(text: str, cases: dict[str, Case], tests: set[str]) -> str | None:
     if named.gives == named.turned:
         return "its two outputs are the same"
     if named.source.startswith("test "):
-        return None if named.source in tests and named.gives == "passes" else f"there is no such test, or it must pass: {named.source}"
+        is_there = REFUSING.sub("", named.source) in tests
+        return None if is_there and named.gives == "passes" else f"there is no such test, or it must pass: {named.source}"
     if CALL.fullmatch(named.source):
         return None
     case = case_of(named.source, cases)

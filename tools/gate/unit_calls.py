@@ -1,6 +1,7 @@
 """The program of the calls that edits name as inputs: its `main` makes the calls whose numbers it is given, and prints their values."""
 from __future__ import annotations
 
+import re
 from pathlib import Path
 
 from named_inputs import CALL
@@ -57,5 +58,7 @@ def write_calls(top: Path, calls: list[str]) -> None:
     folder = top / "crates" / NAME / "src"
     folder.mkdir(parents=True)
     (folder / "main.rt").write_text(MAIN.format(arms=arms, functions=functions))
+    known = {it.parent.parent.name for it in top.glob("crates/*/src/lib.rt")}
+    used = known & {"section_text", *(crate for crate, _ in parts), *(name for _, body in parts for name in re.findall(r"(\w+)::", body))}
     with open(top / "crates.txt", "a") as file:
-        file.write(f"{NAME}: {' '.join(sorted({'section_text', *(crate for crate, _ in parts)}))} anyhow\n")
+        file.write(f"{NAME}: {' '.join(sorted(used))} anyhow\n")
