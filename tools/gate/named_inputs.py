@@ -1,8 +1,8 @@
 """The input that an edit of must-fail or must-fail-more names, and the two outputs: lines `input:`, `gives:` and `turned:`.
 
 An input is `case NAME`, a worked case (conformance/cases.py), or `case NAME --workers N`; `text COMMAND LINE | LINE ..`, a command and the
-lines of a text; `test CRATE NAME`, a test of that crate, which may end with ` refusing N` for the growth of memory that fails; or `call
-CRATE: BODY`, a block of Rattle over the names of a crate, whose value is printed.
+lines of a text; `test CRATE NAME`, a test of that crate; or `call CRATE: BODY`, a block of Rattle over the names of a crate, whose value is
+printed. With ` refusing N` at the end of a case or a test, growth N of memory is refused (fail_allocations.c).
 `gives:` says what the program gives with the body as it is, and `turned:` what it gives with the wrong one: the first line in which they
 differ, or the status. An edit that names no input says why in a line `no input:`.
 
@@ -81,7 +81,7 @@ def named_cases() -> dict[str, Case]:
 
 def case_of(source: str, cases: dict[str, Case]) -> Case | None:
     """Returns the case that an input is, or None if there is no such case."""
-    kind, _, rest = source.partition(" ")
+    kind, _, rest = REFUSING.sub("", source).partition(" ")
     if kind == "case":
         name, _, workers = rest.partition(" --workers ")
         case = cases.get(name)
