@@ -12,19 +12,25 @@ MAIN = """#![tactic(auto)]
 use section_text::Feed;
 use std::alloc::Global;
 use std::env;
+use std::hash::{{BuildHasher, Hasher}};
 use std::process::ExitCode;
 use std::rt::Runtime;
 
 fn main(rt: HostRuntime) -> ExitCode {{
-    match answer(&rt, rt.alloc()) {{
+    let Ok(all) = env::args(&rt) else {{
+        return ExitCode::FAILURE;
+    }};
+    let Ok(words) = all.skip(1).collect::<Vec<String>>(rt.alloc()) else {{
+        return ExitCode::FAILURE;
+    }};
+    match answer(&rt, rt.alloc(), &words) {{
         Ok(()) => ExitCode::SUCCESS,
         Err(_) => ExitCode::FAILURE,
     }}
 }}
 
-fn answer<R: Runtime>(rt: &R, alloc: Global) -> anyhow::Result<()> {{
-    let words = env::args(rt)?.skip(1).collect::<Vec<String>>(alloc)?;
-    for word in &words {{
+fn answer<R: Runtime>(rt: &R, alloc: Global, words: &[String]) -> anyhow::Result<()> {{
+    for word in words {{
         match word.as_str() {{
 {arms}            _ => {{}}
         }}
