@@ -1,8 +1,9 @@
 """The input that an edit of must-fail or must-fail-more names, and the two outputs: lines `input:`, `gives:` and `turned:`.
 
 An input is `case NAME`, a worked case (conformance/cases.py), or `case NAME --workers N`; `text COMMAND LINE | LINE ..`, a command and the
-lines of a text; `test CRATE NAME`, a test of that crate; or `call CRATE: BODY`, a block of Rattle over the names of a crate, whose value is
-printed. With ` refusing N` at the end of a case or a test, growth N of memory is refused (fail_allocations.c).
+lines of a text; `folder COMMAND`, whose standard input is a folder, which cannot be read; `test CRATE NAME`, a test of that crate; or `call
+CRATE: BODY`, a block of Rattle over the names of a crate, whose value is printed. With ` refusing N` at the end of a case or a test, growth
+N of memory is refused (fail_allocations.c).
 `gives:` says what the program gives with the body as it is, and `turned:` what it gives with the wrong one: the first line in which they
 differ, or the status. An edit that names no input says why in a line `no input:`.
 
@@ -123,7 +124,7 @@ def fault_of(text: str, cases: dict[str, Case], tests: set[str]) -> str | None:
     if named.source.startswith("test "):
         is_there = REFUSING.sub("", named.source) in tests
         return None if is_there and named.gives == "passes" else f"there is no such test, or it must pass: {named.source}"
-    if CALL.fullmatch(named.source):
+    if CALL.fullmatch(named.source) or (named.source.startswith("folder ") and named.gives == "status 4"):
         return None
     case = case_of(named.source, cases)
     if case is None:
