@@ -87,6 +87,8 @@ def case_of(source: str, cases: dict[str, Case]) -> Case | None:
         name, _, workers = rest.partition(" --workers ")
         case = cases.get(name)
         return case and replace(case, words=[*case.words, "--workers", workers]) if workers else case
+    if kind == "folder" and rest in COMMANDS:
+        return Case(source, [rest], b"", 4, b"")
     command, _, lines = rest.partition(" ")
     if kind != "text" or command not in COMMANDS:
         return None
@@ -124,7 +126,7 @@ def fault_of(text: str, cases: dict[str, Case], tests: set[str]) -> str | None:
     if named.source.startswith("test "):
         is_there = REFUSING.sub("", named.source) in tests
         return None if is_there and named.gives == "passes" else f"there is no such test, or it must pass: {named.source}"
-    if CALL.fullmatch(named.source) or (named.source.startswith("folder ") and named.gives == "status 4"):
+    if CALL.fullmatch(named.source):
         return None
     case = case_of(named.source, cases)
     if case is None:
