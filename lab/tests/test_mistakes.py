@@ -108,7 +108,7 @@ class Texts(InRoom):
         """They are named as what they are."""
         blif, verilog, document = self.file("a.blif", BLIF), self.file("a.v", VERILOG), self.file("a.json", "{}")
         self.ends(1, "this is Verilog: yosys makes a netlist of it", "route", verilog)
-        self.ends(1, "this is a netlist: `bbmlab route` reads", "explain", blif)
+        self.ends(1, "this is a netlist: `bbmlab circuit` and `route` read", "explain", blif)
         self.ends(1, "this is JSON: .* `bbmlab json --back`", "explain", document)
         self.ends(1, "a.json: this is JSON, which --back reads", "json", document)
         self.ends(1, "latch.blif: .*latch", "route", self.file("latch.blif", BLIF.replace(".names a b\n1 1", ".latch a b")))
