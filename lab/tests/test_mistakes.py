@@ -111,7 +111,7 @@ class Texts(InRoom):
         self.ends(1, "this is a netlist: `bbmlab circuit` and `route` read", "explain", blif)
         self.ends(1, "this is JSON: .* `bbmlab json --back`", "explain", document)
         self.ends(1, "a.json: this is JSON, which --back reads", "json", document)
-        self.ends(1, "latch.blif: .*latch", "route", self.file("latch.blif", BLIF.replace(".names a b\n1 1", ".latch a b")))
+        self.ends(1, "latch.blif: The netlist stores 1 bit: say for how many cycles it runs", "route", self.file("latch.blif", BLIF.replace(".names a b\n1 1", ".latch a b")))
         ended = support.lab("route", "--circuit-only", self.file("bom.blif", "\xef\xbb\xbf" + BLIF))
         self.assertEqual((ended.returncode, ended.stdout.split("\n")[0]), (0, "circuit"))
 
