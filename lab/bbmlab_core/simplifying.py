@@ -5,7 +5,7 @@ Each wire gets a literal, by the rules of `netlists.graph`: wires with one liter
 
 from .circuits import Circuit
 from .cones import keeping_cone
-from .gate_lines import CircuitLines, GateLine, payload, source_line
+from .gate_lines import CircuitLines, GateLine, payload
 from .inverting import require_rows
 from .netlists.graph import FALSE, TRUE, Graph, Literal
 
