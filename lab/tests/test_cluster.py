@@ -74,7 +74,8 @@ class Cluster(unittest.TestCase):
         import json
         until = time.monotonic() + 30
         while time.monotonic() < until:
-            if os.path.exists(self.scheduler):
+            # The scheduler makes the file before it writes it.
+            if os.path.exists(self.scheduler) and Path(self.scheduler).read_text().rstrip().endswith("}"):
                 return str(json.loads(Path(self.scheduler).read_text())["address"])
             time.sleep(0.1)
         raise AssertionError("the scheduler did not start")
