@@ -1,7 +1,7 @@
 -- The first bytes of a text, one after the other.
-use Rattle.section_text.proofs.Imports.{List, None, Option, Some, [], ap, arith, bytes_eq, bytes_eq-Decides}
+use Rattle.section_text.proofs.Imports.{List, Option, Some, [], ap, arith, bytes_eq, bytes_eq-Decides}
 use Rattle.section_text.proofs.Imports.{common_steps}
-use Rattle.section_text.proofs.Imports.{false, length, slice_get, suc, sym, take, true, zero, ℕ, ◌++◌, ◌+◌, ◌<◌, ◌∙◌}
+use Rattle.section_text.proofs.Imports.{false, slice_get, suc, sym, take, true, zero, ℕ, ◌+◌, ◌<◌, ◌∙◌}
 use Rattle.section_text.proofs.Imports.{◌∷◌, ◌≡◌}
 use Rattle.section_text.proofs.Imports.{Bool, subst, refl}
 use Rattle.lemmas.proofs.Common.{◌≢◌}

@@ -21,7 +21,11 @@ returns-in_err-of-clause-names c = let ws = words_of_rest (option_copied c.args.
     rw c.from_residual-in_err-of.ensures (sym none)
 
 pub loop-i-preserved : goal.loop-i-preserved
-loop-i-preserved c = grind (arith, common_steps, goes_on, name_by_word, one_further, length_push)
+loop-i-preserved c = record {
+  rest = grind (arith, common_steps, one_further);
+  so_far = grind (arith, common_steps, goes_on, name_by_word);
+  as_many = grind (arith, common_steps, length_push);
+}
 
 pub returns-clause-names : goal.returns-clause-names
 returns-clause-names c = let ws = words_of_rest (option_copied c.args.left) in
