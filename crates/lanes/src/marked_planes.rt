@@ -228,6 +228,7 @@ impl MarkedPlanes {
         self.live_marks.mark_cells(block, changes);
         self.frozen.give_up_if_frozen(u);
         self.planes.put(x, y, list, source);
-        self.unmark_dead_cells(Partition::Odd, u);
+        self.planes
+            .unmark_changed_if_dead(&mut self.live_marks, block, changes);
     }
 }

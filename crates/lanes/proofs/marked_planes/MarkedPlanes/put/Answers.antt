@@ -1,6 +1,6 @@
 use Rattle.lanes.proofs.CalmLemmas.{still_stable}
-use Rattle.lanes.proofs.LiveLemmas.{cells_dead}
-use Rattle.lanes.proofs.SettledLemmas.{kept_number, same_number_twice}
+use Rattle.lanes.proofs.LiveLemmas.{cells_dead, drops_dead}
+use Rattle.lanes.proofs.SettledLemmas.{kept_number}
 use Rattle.lanes.proofs.Imports.{Odd}
 use Rattle.lanes.proofs.marked_planes.MarkedPlanes.put.Goals as goal
 
@@ -27,7 +27,10 @@ invariant_of-self-clause-all_dead c =
       c.block_places-block.ensures.block,
       c.cell_number-u.ensures.number_is_exact,
     ) at c.mark_cells.ensures.cells in
-    cells_dead _ _ _ f.live_marks c.mark_cells.new.self f.planes c.put.new.self e.cell_set.size e.cells marks f.all_dead
+    drops_dead _ c.mark_cells.new.self c.unmark_changed_if_dead.new.live c.put.new.self
+    c.unmark_changed_if_dead.ensures.unmarked
+    (cells_dead _ _ _ f.live_marks c.mark_cells.new.self f.planes c.put.new.self e.cell_set.size e.cells marks
+    f.all_dead)
 
 pub returns-clause-settled : goal.returns-clause-settled
 returns-clause-settled c = λ u is.
@@ -39,9 +42,5 @@ returns-clause-settled c = λ u is.
       c.stride.ensures.stride_is_exact,
       c.cell_number-u.ensures.number_is_exact,
     ) at c.mark_changes.ensures.marked in
-    let s = c.unmark_dead_cells.ensures.settled u is in
-    let free = marks Odd u s.0.1 in (
-      (s.0.0, free.0),
-      same_number_twice u f.planes _ c.unmark_dead_cells.new.self.planes
-          (kept_number _ _ _ f.planes _ u e.cell_set.size e.cells free.1) s.1,
-    )
+    let free = marks Odd u is.1 in
+    ((is.0, free.0), kept_number _ _ _ f.planes _ u e.cell_set.size e.cells free.1)
