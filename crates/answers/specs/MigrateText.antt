@@ -1,15 +1,18 @@
 -- The answer of `migrate` to a text: its bundle with a certificate of version 2, or the refusal of the text.
-use Rattle.std.specs.Prelude.{◌≡◌, ℕ, List, [], ◌∷◌, ◌++◌, codes}
+use Rattle.std.specs.Prelude.{◌≡◌, ℕ, List, [], ◌∷◌, ◌++◌, codes, drop, take}
 use Rattle.std.specs.List.{flat_map}
 use Rattle.std.specs.Fmt.{decimal}
 use Rattle.meaning.specs.Design.{front_text, text_limits}
 use Rattle.section_text.specs.declared.limits.Limits.{Limits}
+use Rattle.section_text.specs.SaidSection.{IsSection}
 use Rattle.section_text.specs.Spelling.{line_text}
+use Rattle.section_text.specs.Words.{lines_of}
 use Rattle.circuit.specs.Text.{circuit_text}
 use Rattle.pattern.specs.Text.{part_text, size_words}
 use Rattle.pattern.specs.declared.layout_line.LayoutHeader.{LayoutHeader}
 use Rattle.pattern.specs.declared.layout_line.LayoutLine.{LayoutLine}
 use Rattle.certificate.specs.Text.{entry_text}
+use Rattle.certificate_lines.specs.Forms.{form_of}
 use Rattle.certificate_lines.specs.Versions.{without_halos}
 use Rattle.certificate_lines.specs.declared.certificate_line.CertificateLine.{CertificateLine}
 use Rattle.answers.specs.declared.outcome.Outcome.{Outcome}
@@ -31,6 +34,12 @@ certificate_section_text version entries =
 unfoldable pub bundle_text : Bundle → List ℕ
 bundle_text bundle = circuit_text bundle.circuit ++ layout_section_text bundle.size bundle.parts
     ++ certificate_section_text bundle.version bundle.entries
+
+-- The text is the lines of a bundle with these limits. Those from its byte `from` on are its certificate's.
+pub record IsBundleText (l : Limits) (bundle : Bundle) (text : List ℕ) (from : ℕ) : Type 0 where
+  pub design : take from text
+      ≡ front_text l ++ (circuit_text bundle.circuit ++ layout_section_text bundle.size bundle.parts)
+  pub section : IsSection form_of (lines_of (drop from text)) bundle.version bundle.entries
 
 -- a bundle with a certificate of version 2, which has no halo lines
 abbrev pub migrated_bundle : Bundle → Bundle

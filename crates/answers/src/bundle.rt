@@ -1,10 +1,7 @@
 //! Reads a bundle, and answers what is asked of it.
 ghost use Rattle.std.specs.Prelude.{◌≡◌, true, None, IfOk};
-ghost use Rattle.section_text.specs.SaidSection.{IsSection};
 ghost use Rattle.section_text.specs.Words.{lines_of};
-ghost use Rattle.certificate_lines.specs.Forms.{form_of};
 ghost use Rattle.answers.specs.Answers.{AnswersOrRefuses as AnsweredAs};
-ghost use Rattle.answers.specs.BundleReading.{bundle_of_certificate};
 ghost use Rattle.answers.specs.BundleText.{bundle_of, bundle_with};
 ghost use Rattle.section_text.specs.Limits.{front_lines, limits_of};
 ghost use Rattle.answers.specs.MigrateText.{IsMigrationOf};
@@ -15,7 +12,7 @@ use crate::migration::migrate;
 use crate::modules::list_modules;
 use crate::outcome::Answered;
 use crate::refusing::refusal_answer;
-use certificate::{Cert, read_certificate_within};
+use certificate::read_certificate_within;
 use circuit::{port_names, read_circuit_within};
 use pattern::read_layout_within;
 use section_text::{Feed, Limits};
@@ -71,8 +68,8 @@ fn answer_of_text(
     answer_after_front(alloc, text, limits, question)
 }
 
-// Reads a bundle with these limits up to the end of the text, of which the lines before the first section were taken,
-// and answers the question.
+// Reads a bundle with the limits of its text up to the end of it, of which the lines before the first section were
+// taken, and answers the question.
 fn answer_after_front(
     alloc: Global,
     text: &mut Feed,
@@ -80,6 +77,7 @@ fn answer_after_front(
     question: Question,
 ) -> Result<Answered, AllocError>
     requires text_closed { text.old.closed ≡ true }
+    requires own_limits { limits ≡ limits_of (lines_of text.old.text) }
     requires front_taken { text.old.taken ≡ front_lines limits }
     requires feed_not_stopped { text.old.stop ≡ None }
     ensures { IfOk result (λ answered. AnsweredAs (AnswersQuestion limits question)
@@ -105,23 +103,13 @@ fn answer_after_front(
     if let Err(fault) = text.finish() {
         return refusal_answer(alloc, fault);
     }
-    answer(alloc, limits, &cert, &text.taken_text()[from..], question)
-}
-
-// Answers the question for the bundle of a certificate, which was read from a section.
-fn answer(
-    alloc: Global,
-    limits: Limits,
-    cert: &Cert<'_>,
-    section: &[u8],
-    question: Question,
-) -> Result<Answered, AllocError>
-    requires section { IsSection form_of (lines_of section.now) cert.now.version cert.now.entries }
-    ensures says { IfOk result (λ answered. AnswersQuestion limits question
-        (bundle_of_certificate cert.now) answered.output.items answered.outcome) }
-{
     match question {
-        Question::Modules => list_modules(alloc, cert),
-        Question::Migration => migrate(alloc, limits, cert, section),
+        Question::Modules => list_modules(alloc, &cert),
+        Question::Migration => {
+            // So that the output can use their memory.
+            drop(cert);
+            drop(layout);
+            migrate(alloc, text.taken_text(), from)
+        }
     }
 }

@@ -1,21 +1,15 @@
 //! Writes a bundle in certificate version 2.
-ghost use Rattle.std.specs.Prelude.{◌≡◌, ◌++◌, ◌<◌, drop, length, position, IfOk, IfSome, OnOk};
+ghost use Rattle.std.specs.Prelude.{◌≡◌, ◌++◌, ◌<◌, ◌≤◌, drop, length, position, IfOk, IfSome, OnOk};
 ghost use Rattle.std.specs.List.{flat_map};
-ghost use Rattle.section_text.specs.SaidSection.{IsSection};
 ghost use Rattle.section_text.specs.Section.{with_line_feed};
 ghost use Rattle.section_text.specs.Words.{is_line_feed, lines_of};
-ghost use Rattle.certificate_lines.specs.Forms.{form_of};
-ghost use Rattle.answers.specs.BundleReading.{bundle_of_certificate};
-ghost use Rattle.answers.specs.MigrateText.{SaysMigration, migrate_of};
-ghost use Rattle.meaning.specs.Design.{front_text};
+ghost use Rattle.section_text.specs.declared.limits.Limits.{Limits};
+ghost use Rattle.answers.specs.BundleText.{Bundle};
+ghost use Rattle.answers.specs.MigrateText.{IsBundleText, SaysMigration};
 ghost use Rattle.answers.specs.KeptLines.{line_without_h, lines_without_h};
 
 use crate::outcome::{Answered, Outcome};
-use certificate::Cert;
-use circuit::print_circuit;
 use memchr::memchr;
-use pattern::print_layout;
-use section_text::Limits;
 use std::alloc::{AllocError, Global};
 
 // Where the first line feed is.
@@ -62,53 +56,20 @@ fn push_lines_without_h(out: &mut Vec<u8>, text: &[u8]) -> Result<(), AllocError
     Ok(())
 }
 
-// The line that chooses these limits, if they need one.
-fn print_front(alloc: Global, limits: Limits) -> Result<Vec<u8>, AllocError>
-    ensures { IfOk result (λ text. text.items ≡ front_text limits) }
+/// Writes a bundle in version 2, without halo lines, from its text.
+///
+/// The text is that of its lines, and its certificate's section begins at the byte `from`. Each line of a bundle has
+/// one spelling, so the lines that stay are copied.
+pub(crate) fn migrate(alloc: Global, text: &[u8], from: usize) -> Result<Answered, AllocError>
+    requires { from ≤ length text.now }
+    ensures { IfOk result (λ answered. (limits : Limits) (bundle : Bundle) →
+        IsBundleText limits bundle text.now from →
+        SaysMigration limits bundle answered.output.items answered.outcome) }
 {
-    let mut text = Vec::new(alloc);
-    match limits {
-        Limits::First => {}
-        Limits::Second => text.extend_from_slice(b"limits 2\n")?,
-    }
-    Ok(text)
-}
-
-// The text of the bundle: the line of its limits, its circuit and its layout, and its certificate in version 2. The
-// lines of a certificate are those of its section, so the ones that stay are copied.
-fn print_migration(
-    alloc: Global,
-    limits: Limits,
-    cert: &Cert<'_>,
-    section: &[u8],
-) -> Result<Vec<u8>, AllocError>
-    requires section { IsSection form_of (lines_of section.now) cert.now.version cert.now.entries }
-    ensures { IfOk result (λ text. text.items
-        ≡ front_text limits ++ migrate_of (bundle_of_certificate cert.now)) }
-{
-    let mut text = print_front(alloc, limits)?;
-    let circuit = print_circuit(alloc, cert.circuit())?;
-    text.extend_from_slice(&circuit)?;
-    let layout = print_layout(alloc, cert.layout())?;
-    text.extend_from_slice(&layout)?;
-    text.extend_from_slice(b"certificate 2\n")?;
-    push_lines_without_h(&mut text, behind_first_line(section))?;
-    Ok(text)
-}
-
-/// Writes the bundle of a certificate, which was read from a section of a text with these limits, in version 2, without
-/// halo lines.
-pub(crate) fn migrate(
-    alloc: Global,
-    limits: Limits,
-    cert: &Cert<'_>,
-    section: &[u8],
-) -> Result<Answered, AllocError>
-    requires section { IsSection form_of (lines_of section.now) cert.now.version cert.now.entries }
-    ensures says { IfOk result (λ answered. SaysMigration limits (bundle_of_certificate cert.now)
-        answered.output.items answered.outcome) }
-{
-    let output = print_migration(alloc, limits, cert, section)?;
+    let mut output = Vec::new(alloc);
+    output.extend_from_slice(&text[..from])?;
+    output.extend_from_slice(b"certificate 2\n")?;
+    push_lines_without_h(&mut output, behind_first_line(&text[from..]))?;
     Ok(Answered {
         outcome: Outcome::Yes,
         output,

@@ -7,6 +7,7 @@ pub mod LineTablesView
 pub mod ModuleParts
 pub mod Modules
 pub mod Orders
+pub mod PackedWires
 pub mod PortTables
 pub mod Rules
 pub mod Settings

@@ -1,5 +1,5 @@
 //! The ports of a layout by their cells.
-ghost use Rattle.std.specs.Prelude.{◌≡◌, ◌+◌, ◌<◌, ◌≤◌, ℕ, ℤ, length, map, nat_eq, pos, true, None, IfOk};
+ghost use Rattle.std.specs.Prelude.{◌≡◌, ◌+◌, ◌<◌, ◌≤◌, ℕ, ℤ, length, map, nat_eq, pos, true, None, IfOk, IfSome};
 ghost use Rattle.std.specs.List.{list_all};
 ghost use Rattle.std.specs.Option.{option_map};
 ghost use Rattle.circuit.specs.Bridge.{circuit_of};
@@ -8,7 +8,7 @@ ghost use Rattle.pattern.specs.Layout.{HaveDistinctCells};
 ghost use Rattle.pattern.specs.Lines.{size_fault};
 ghost use Rattle.bbm_rule.specs.Boxes.{in_box};
 ghost use Rattle.certificate_lines.specs.PortTables.{port_at, entry_place, AreInBox, ArePortTables, AreNumberedRows, AreOnBoard};
-ghost use Rattle.lemmas.specs.Bounds.{max_side};
+ghost use Rattle.lemmas.specs.Bounds.{max_side, max_wires};
 
 use crate::rules::whole_of;
 use bbm_rule::Cell;
@@ -21,6 +21,50 @@ use std::marker::Model;
 /// The wire of a port, or `None` if the circuit has none of the port's name.
 pub type PortWire = Option<WireNo>;
 
+// The wire of a port in two bytes: its number plus one, or 0 for none. Contracts see the wire.
+#[derive(Clone, Copy)]
+struct PackedWire {
+    code: u16,
+}
+
+impl Model for PackedWire {
+    ghost use Rattle.std.specs.Prelude.{ℕ, Option};
+
+    ghost Value = { Option ℕ };
+
+    ghost use Rattle.certificate_lines.specs.PackedWires.{code_back, code_of_wire, wire_of_code};
+
+    ghost view = { λ a. wire_of_code a.code };
+
+    ghost inverse = { λ w. record { code = code_of_wire w } };
+
+    ghost inverse_ok = { code_back };
+}
+
+impl PackedWire {
+    fn of(wire: PortWire) -> PackedWire
+        requires { IfSome wire (λ w. w < max_wires) }
+        ensures { result ≡ wire }
+    {
+        match wire {
+            Some(wire) => PackedWire {
+                code: wire.number() + 1,
+            },
+            None => PackedWire { code: 0 },
+        }
+    }
+
+    fn wire(self) -> PortWire
+        ensures { result ≡ self }
+    {
+        if self.code == 0 {
+            None
+        } else {
+            Some(WireNo::of(self.code - 1))
+        }
+    }
+}
+
 /// The inputs or the outputs of a layout, with a table by which the wire of the port at a cell is looked up. Contracts
 /// see the circuit and the ports.
 ///
@@ -30,7 +74,7 @@ pub struct PortTable<'a> {
     area: Box2,
     circuit: &'a Circuit,
     ports: &'a [Port],
-    wires: Vec<PortWire>,
+    wires: Vec<PackedWire>,
     // for each row of the area, its number among the rows with a port, counted from 1, or 0 if it has none
     rows: Vec<u32>,
     // for each cell of the rows with a port, row by row, the number of its port plus one, or 0 where there is none
@@ -85,13 +129,18 @@ fn number_rows(alloc: Global, area: Box2, ports: &[Port]) -> Result<(Vec<u32>, u
 }
 
 // The wires of ports.
-fn port_wires(alloc: Global, circuit: &Circuit, ports: &[Port]) -> Result<Vec<PortWire>, AllocError>
+fn port_wires(
+    alloc: Global,
+    circuit: &Circuit,
+    ports: &[Port],
+) -> Result<Vec<PackedWire>, AllocError>
     ensures { IfOk result (λ wires. wires.items
         ≡ map (λ p. wire_of (circuit_of circuit.now) p.name) ports.now) }
 {
+    circuit.prove_valid();
     let mut wires = Vec::with_capacity(alloc, ports.len())?;
     for port in ports {
-        wires.push(circuit.wire(&port.name))?;
+        wires.push(PackedWire::of(circuit.wire(&port.name)))?;
     }
     Ok(wires)
 }
@@ -205,6 +254,6 @@ impl<'a> PortTable<'a> {
         if number == 0 {
             return None;
         }
-        Some(self.wires[number - 1])
+        Some(self.wires[number - 1].wire())
     }
 }

@@ -102,7 +102,7 @@ has_front Second text is = record {
 
 -- ---- a text is its front and what is behind it
 
-front_spelled : (ls : List (List ℕ)) →
+pub front_spelled : (ls : List (List ℕ)) →
     flat_map with_line_feed (take (front_lines (limits_of ls)) ls) ≡ front_text (limits_of ls)
 front_spelled [] = refl
 front_spelled (line ∷ ls) = one (bytes_eq line (codes "limits 2")) refl

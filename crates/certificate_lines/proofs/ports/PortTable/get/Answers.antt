@@ -33,7 +33,8 @@ returns c =
     let a = c.self.inside in
     let is : IsNumbered a.ports.now (c.index.result.now - 1) c.args.cell.x c.args.cell.y =
     grind (arith, common_steps, place_at, entry_at, numbered_below, positive) in
-    subst (λ (t : CircuitAndPorts). Some c.index-2.result.now
+    subst (λ (t : CircuitAndPorts). Some c.wire.result
     ≡ option_map (wire_of t.circuit) (port_at t.ports c.args.cell.x c.args.cell.y)) c.self.view_is
-    (numbered_wire (circuit_of a.circuit.now) a.ports.now a.wires.items (c.index.result.now - 1)
+    (ap (λ (w : Option ℕ). Some w) c.wire.ensures
+    ∙ numbered_wire (circuit_of a.circuit.now) a.ports.now a.wires.items (c.index.result.now - 1)
     c.args.cell.x c.args.cell.y c.index-2.result.now c.self.invariant.wires is (grind (arith, common_steps)))

@@ -1,0 +1,30 @@
+-- The lines of the circuit and of the layout as they are, and those of the certificate that stay.
+use Rattle.lemmas.proofs.Common.{List, ap, ap₂, append_assoc, drop, flat_map, refl, sym, take, take_rest, ◌++◌, ◌∙◌}
+use Rattle.lemmas.proofs.Common.{◌≡◌}
+use Rattle.section_text.specs.Section.{with_line_feed}
+use Rattle.section_text.specs.Words.{lines_of}
+use Rattle.section_text.specs.declared.section.Form.TheVariants.{End, Header}
+use Rattle.meaning.specs.Design.{front_text}
+use Rattle.circuit.specs.Text.{circuit_text}
+use Rattle.certificate_lines.specs.Versions.{without_halos}
+use Rattle.certificate.specs.Text.{entry_text, form_text}
+use Rattle.answers.specs.BundleText.{Bundle}
+use Rattle.answers.specs.KeptLines.{lines_without_h}
+use Rattle.answers.specs.MigrateText.{bundle_text, certificate_section_text, layout_section_text, migrate_of}
+use Rattle.answers.proofs.KeptLines.{header_line, section_kept}
+use Rattle.answers.proofs.migration.migrate.Goals as goal
+
+joined : (b : Bundle) →
+    (circuit_text b.circuit ++ layout_section_text b.size b.parts)
+    ++ (form_text (Header 2) ++ flat_map entry_text (without_halos b.entries) ++ form_text End) ≡ migrate_of b
+unfolding bundle_text certificate_section_text
+joined b = refl
+
+-- four parts one after the other
+in_turn : {A : Type 0} (f d h e n : List A) → ((f ++ d) ++ h) ++ (e ++ n) ≡ f ++ (d ++ ((h ++ e) ++ n))
+in_turn f d h e n =
+    append_assoc (f ++ d) h (e ++ n) ∙ append_assoc f d (h ++ (e ++ n))
+    ∙ ap (λ s. f ++ (d ++ s)) (sym (append_assoc h e n))
+
+pub returns : goal.returns
+returns c = ?
