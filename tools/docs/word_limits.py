@@ -17,7 +17,7 @@ LIMITS = {
     "docs/API.md": 980,
     "docs/ARCHITECTURE.md": 3000,
     "docs/ASSURANCE.md": 3050,
-    "docs/CELLS.md": 3550,
+    "docs/CELLS.md": 4100,
     "docs/FAQ.md": 850,
     "docs/FORMATS.md": 3900,
     "docs/GLOSSARY.md": 1050,
