@@ -10,6 +10,7 @@ from pathlib import Path
 from .circuits import Circuit
 from .documents import Document, read_document
 from .layouts import Cell, Layout, row_order
+from .longer_runs import longer_runs
 from .terminal import LabError
 
 HERE = Path(__file__).resolve().parent
@@ -83,8 +84,21 @@ class StandardCell:
         mirrors = f"mirrors within {width} by {height} cells" if width else "no mirrors"
         lines = [f"{self.name} {ABOUT.get(self.name, 'has no description')}",
                  f"  layout of {layout.width} by {layout.height} cells, {layout.steps} steps, {mirrors}",
-                 f"  gates: {gates}; constants: {self.constants}; garbage: {self.garbage}"]
+                 f"  gates: {gates}; constants: {self.constants}; garbage: {self.garbage}", f"  {longer_runs_text(circuit, layout)}"]
         return "\n".join([*lines, *(port.text() for port in self.ports)])
+
+
+def longer_runs_text(circuit: Circuit, layout: Layout) -> str:
+    """Returns how much earlier the balls can start, and for how long they fly on, in words."""
+    before, after = longer_runs(circuit, layout)
+    start = "can start any number of steps" if before is None else f"can start at most {steps_word(before)}" if before else "cannot start"
+    end = "fly on" if after is None else f"fly on for {steps_word(after)}" if after else "are disturbed in the first step"
+    return f"balls {start} further back, and {end} after the end"
+
+
+def steps_word(count: int) -> str:
+    """Returns a number of steps in words."""
+    return f"{count} step{'s' if count != 1 else ''}"
 
 
 def parity_word(number: int) -> str:

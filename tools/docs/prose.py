@@ -3,7 +3,7 @@ import re
 from typing import Iterator
 
 MAX_WORDS = 30
-# Words and phrases that CONTRIBUTING.md bans from prose.
+# Words and phrases that prose does without.
 BANNED = [
     r"stands?", r"tells?", r"says nothing of", r"at hand", r"let go", r"aloud", r"for good", r"whole job", r"is handed on", r"is made good",
     r"goes well", r"no clause says", r"so many", r"want of memory", r"who(?:ever)? (?:writes|reads|is handed)",

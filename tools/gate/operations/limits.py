@@ -80,11 +80,11 @@ def limits_memory(_):
 
 
 def calls_in_operating():
-    """The system calls that docs/OPERATING.md lists for the running program."""
+    """The system calls that the unit of systemd in docs/OPERATING.md allows."""
     page = (TOP / "docs" / "OPERATING.md").read_text()
-    found = re.search(r"```\n# system calls\n(.*?)```", page, re.DOTALL)
+    found = re.findall(r"^SystemCallFilter=(.*)$", page, re.MULTILINE)
     holds(found, "docs/OPERATING.md has no list of system calls")
-    return found[1].split()
+    return " ".join(found).split()
 
 
 SANDBOX = r"""
