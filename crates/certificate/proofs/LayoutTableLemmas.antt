@@ -8,18 +8,17 @@ use Rattle.certificate.proofs.Imports.{option_map, or_parts, port_at, refl, sett
 use Rattle.certificate.proofs.Imports.{slice_get, slice_get-get_or, some_is, start_signal, subst, suc, sym, true}
 use Rattle.certificate.proofs.Imports.{wastes_on_layout, wire_of, wire_or_zero, zero, ℕ, ℤ, ◌++◌, ◌+◌, ◌||◌, ◌∙◌, ◌∷◌}
 use Rattle.certificate.proofs.Imports.{◌≡◌, ◌≤◌}
-use Rattle.lemmas.proofs.Common.{get_or}
+use Rattle.lemmas.proofs.Common.{list_any-append, slice_get-map}
 use Rattle.pattern.specs.Layout.{in_layout, parts_of}
 use Rattle.pattern.specs.declared.layout_line.Port.{Port}
 use Rattle.pattern.specs.Lines.{AreGoodAfter, is_inside}
 use Rattle.pattern.proofs.InsideLemmas.{begins_inside}
-use Rattle.pattern.proofs.PlaneRuns.{inside_is_layout}
 use Rattle.pattern.proofs.TakenLemmas.{mirror_fits}
 use Rattle.pattern.specs.declared.layout_line.LayoutLine.TheVariants.{Mirror}
 use Rattle.certificate_lines.specs.PortTables.{AreOnBoard}
 use Rattle.certificate.specs.Jobs.{wire_of_optional_name, wire_or_dead}
-use Rattle.bbm_rule.specs.Board.{Board, is_inside as on_board}
-use Rattle.certificate.specs.LayoutTablesView.{ArePortWiresLocalIn, HasNothing, IsOnGrid}
+use Rattle.bbm_rule.specs.Board.{Board}
+use Rattle.certificate.specs.LayoutTablesView.{ArePortWiresLocalIn, HasNothing, IsOnGrid, non_mirror_cells}
 use Rattle.certificate_lines.specs.Rules.{is_local_wire}
 use Rattle.certificate_lines.proofs.BoxPlaces.{skipped}
 use Rattle.certificate_lines.proofs.Lists.{kept}
@@ -129,37 +128,34 @@ no_port [] x y e = refl
 no_port (q ∷ ports) x y e = no_port_here (is_at q.cell x y) (in_cells (map (λ (q : Port). q.cell) ports) x y) q.name
     (port_at ports x y) e (no_port ports x y)
 
--- ---- the cells of a layout are on a grid of its size
+port_cells_inside : (s : LayoutHeader) (ports : List Port) → AreOnBoard s ports →
+    AllInLayout s (map (λ (q : Port). q.cell) ports)
+port_cells_inside s ports on k d lt = grind (arith, common_steps, slice_get-get_or, slice_get-map)
 
-pub cells_on_grid : (s : LayoutHeader) (b : Board) → (b.width ≡ s.w) × (b.height ≡ s.h) → (cells : List Cell) →
-    AllInLayout s cells → All (λ c. on_board b c.x c.y ≡ true) cells
-cells_on_grid s b size cells inside k d lt =
-    let cell : Cell = get_or cells k d in
-    inside_is_layout b s size.0 size.1 cell.x cell.y ∙ inside k d lt
+abbrev IsInLayout : LayoutHeader → Cell → Type 0
+IsInLayout s c = in_layout s c.x c.y ≡ true
 
-pub ports_on_grid : (s : LayoutHeader) (b : Board) → (b.width ≡ s.w) × (b.height ≡ s.h) → (ports : List Port) →
-    AreOnBoard s ports → All (λ p. on_board b p.cell.x p.cell.y ≡ true) ports
-ports_on_grid s b size ports inside k d lt =
-    let port : Port = get_or ports k d in
-    inside_is_layout b s size.0 size.1 port.cell.x port.cell.y ∙ inside k port (slice_get-get_or ports k d lt)
+pub others_inside : (p : Pattern) (s : LayoutHeader) → s ≡ p.size → AreGoodAfter s [] (parts_of p) →
+    (cells : List Cell) →
+    cells ≡ non_mirror_cells p → AllInLayout s cells
+others_inside p s is good cells are =
+    let ports = ports_on_layout p s is good in
+    subst (AllInLayout s) (sym are)
+    (All-append (IsInLayout s) ((p.balls ++ p.wastes) ++ map (λ (q : Port). q.cell) p.ins)
+    (map (λ (q : Port). q.cell) p.outs)
+    (grind (arith, common_steps, balls_on_layout, wastes_on_layout, port_cells_inside))
+    (port_cells_inside s p.outs ports.1))
 
--- a cell that none of the layout's lists has
+apart : (xs ys : List Cell) (x y : ℤ) → in_cells (xs ++ ys) x y ≡ false →
+    (in_cells xs x y ≡ false) × (in_cells ys x y ≡ false)
+apart xs ys x y e = grind (arith, common_steps, or_parts, list_any-append)
+
 pub nothing_here : (p : Pattern) (x y : ℤ) →
-    ((((in_cells p.balls x y || in_rectangles p.mirrors x y) || in_cells p.wastes x y)
-    || in_cells (map (λ (q : Port). q.cell) p.ins) x y) || in_cells (map (λ (q : Port). q.cell) p.outs) x y) ≡ false →
+    (in_cells (non_mirror_cells p) x y || in_rectangles p.mirrors x y) ≡ false →
     HasNothing p x y
 nothing_here p x y e =
-    let outs = or_parts _ _ e in
-    let ins = or_parts _ _ outs.0 in
-    let wastes = or_parts _ _ ins.0 in
-    let balls = or_parts _ _ wastes.0 in
-    record {
-      mirrors = balls.1;
-      balls = balls.0;
-      wastes = wastes.1;
-      ins = no_port p.ins x y ins.1;
-      outs = no_port p.outs x y outs.1;
-    }
+    let parts = or_parts (in_cells (non_mirror_cells p) x y) (in_rectangles p.mirrors x y) e in
+    grind (arith, common_steps, parts, apart, no_port)
 
 -- ---- the mirrors of a layout
 

@@ -1,6 +1,6 @@
 //! The cells of a module: what they carry at time 0, and what they must be at the last time.
 ghost use Rattle.std.specs.Prelude.{◌≡◌, ◌+◌, ◌*◌, ◌<◌, ◌≤◌, ◌++◌, ◌||◌, [], ◌∷◌, ℕ, ℤ, pos, false, true, replicate, None, Some, All, length, map, unwrap_or, slice_get, IsTrue, IfOk, OnOk};
-ghost use Rattle.bbm_rule.specs.Board.{HasSameSize, is_inside, live};
+ghost use Rattle.bbm_rule.specs.Board.{HasSameSize, live};
 ghost use Rattle.circuit.specs.Bridge.{circuit_of};
 ghost use Rattle.circuit.specs.Meaning.{wires};
 ghost use Rattle.bbm_rule.specs.CellLists.{row_cells, in_cells};
@@ -11,7 +11,7 @@ ghost use Rattle.module_box.specs.Locals.{circuit_wire, is_among};
 ghost use Rattle.certificate_lines.specs.PortTables.{ArePortTables};
 ghost use Rattle.certificate.specs.Jobs.{end_demand, start_signal};
 ghost use Rattle.module_box.specs.Places.{place_in};
-ghost use Rattle.certificate.specs.LayoutTablesView.{AddsCells, HasLayoutSize, HasNothing, IsOnGrid, IsPortWireLocalAt, ArePortWiresLocalIn};
+ghost use Rattle.certificate.specs.LayoutTablesView.{AddsCells, HasLayoutSize, HasNothing, IsOnGrid, IsPortWireLocalAt, ArePortWiresLocalIn, non_mirror_cells};
 ghost use Rattle.module_job.specs.Signals.{IsSignalWireBelow, IsDemandWireBelow, renumber_demand, renumber_signal};
 ghost use Rattle.lemmas.specs.Bounds.{max_side};
 
@@ -130,16 +130,26 @@ fn fill_mirrors(grid: &mut Grid, mirrors: &[Box2])
     }
 }
 
-// Makes the cells of ports live. All of them are on the grid.
-fn make_ports_live(grid: &mut Grid, ports: &[Port])
-    requires { All (λ p. is_inside grid.old p.cell.x p.cell.y ≡ true) ports.now }
-    ensures cells { (x y : ℤ) → live grid.new x y
-        ≡ (live grid.old x y || in_cells (map (λ p. p.cell) ports.now) x y) }
-    ensures size { HasSameSize grid.old grid.new }
+// Adds the cells of ports.
+fn push_port_cells(cells: &mut Vec<Cell>, ports: &[Port]) -> Result<(), AllocError>
+    ensures { OnOk result (cells.new.items ≡ cells.old.items ++ map (λ p. p.cell) ports.now) }
 {
     for port in ports {
-        grid.set(port.cell, true);
+        cells.push(port.cell)?;
     }
+    Ok(())
+}
+
+// The cells of balls, the waste cells and the cells of ports.
+fn non_mirror_cells(alloc: Global, layout: &Layout) -> Result<Vec<Cell>, AllocError>
+    ensures { IfOk result (λ cells. cells.items ≡ non_mirror_cells layout.now) }
+{
+    let mut cells = Vec::new(alloc);
+    cells.extend_from_slice(layout.balls())?;
+    cells.extend_from_slice(layout.wastes())?;
+    push_port_cells(&mut cells, layout.ins())?;
+    push_port_cells(&mut cells, layout.outs())?;
+    Ok(cells)
 }
 
 // A grid of the layout's size on which these cells and those of the mirrors are live.
@@ -156,17 +166,15 @@ fn grid_with_mirrors(alloc: Global, layout: &Layout, cells: &[Cell]) -> Result<G
 }
 
 // A grid on which the cells of mirrors, balls, waste cells and ports are live.
-#[tactic(auto, using(crate::proofs::LayoutTableLemmas::nothing_here, crate::proofs::LayoutTableLemmas::cells_on_grid, crate::proofs::LayoutTableLemmas::ports_on_grid))]
+#[tactic(auto, using(crate::proofs::LayoutTableLemmas::nothing_here, crate::proofs::LayoutTableLemmas::others_inside))]
 fn occupied_grid(alloc: Global, layout: &Layout) -> Result<Grid, AllocError>
     ensures cells { IfOk result (λ grid. (x y : ℤ) →
         live grid x y ≡ false → HasNothing layout.now x y) }
     ensures size { IfOk result (HasLayoutSize layout.now) }
 {
     layout.prove_valid();
-    let mut grid = grid_with_mirrors(alloc, layout, layout.balls())?;
-    make_live(&mut grid, layout.wastes());
-    make_ports_live(&mut grid, layout.ins());
-    make_ports_live(&mut grid, layout.outs());
+    let cells = non_mirror_cells(alloc, layout)?;
+    let grid = grid_with_mirrors(alloc, layout, &cells)?;
     Ok(grid)
 }
 
