@@ -5,10 +5,9 @@ ghost use Rattle.module_job.specs.Shapes.{shape_of};
 ghost use Rattle.module_box.specs.Moments.{moment_cmp};
 ghost use Rattle.module_box.specs.Schedules.{IsRising, all_times_at, event_at, moment_of, signal_at};
 ghost use Rattle.local_run.specs.Quiet.{AreStarredCellMarks, AreStarredCellsMarked, AreLineMarks, box_at_origin, HasRoomForCellNumbers, IsCellMarked, IsZeroAtUnmarked, KeepsMarks};
-ghost use Rattle.local_run.specs.Leaps.{IsTimePlaceBetween};
 ghost use Rattle.local_run.specs.Places.{halo_coord};
 ghost use Rattle.local_run.specs.Steady.{AreEventMarks, HasRoomForNumbers, IsNumberMarked, IsNumberOfCell, IsOutsideHalo, IsSteadyAtUnmarked};
-ghost use Rattle.std.specs.Prelude.{ℕ, nat_lt, true, ◌||◌, ◌≢◌, MatchOption, ◌≡◌, ◌<◌, ◌+◌, ◌*◌, ◌/◌, ◌%◌, ◌^◌, ◌≤◌, length, slice_index, slice_get, Some, IfOk, IfSome};
+ghost use Rattle.std.specs.Prelude.{ℕ, nat_lt, ◌||◌, ◌≢◌, MatchOption, ◌≡◌, ◌<◌, ◌+◌, ◌*◌, ◌/◌, ◌%◌, ◌^◌, ◌≤◌, length, slice_index, slice_get, Some, IfOk, IfSome};
 ghost use Rattle.lemmas.specs.Bounds.{max_side, max_steps};
 
 use crate::leaps::first_event_place_from;
@@ -116,22 +115,6 @@ fn mark_events(
     }
 }
 
-// Whether all events before a place are earlier than a time, and all others later. At most times no line begins or
-// ends.
-#[inline(always)]
-fn is_between_events(events: &[TimedSignal], place: usize, time: u32) -> bool
-    requires { IsRising moment_cmp moment_of events.now }
-    ensures before { result ≡ true → IsTimePlaceBetween events.now time place place }
-    ensures after { result ≡ true → IsTimePlaceBetween events.now (time + 1) place place }
-{
-    if let Some(next) = events.get(place) {
-        if next.at.time <= time {
-            return false;
-        }
-    }
-    place == 0 || place <= events.len() && events[place - 1].at.time < time
-}
-
 // Marks the cells of the events of a time, which are sought from a place on, and their numbers. Returns their places.
 #[tactic(auto, using(crate::proofs::QuietLemmas::events_between))]
 fn mark_events_at(
@@ -153,12 +136,6 @@ fn mark_events_at(
     ensures numbers_marked { (i : ℕ) (e : TimedSignal) → slice_get list.now i ≡ Some e →
         e.at.time ≡ time → IsNumberMarked area e.at.cell numbers.new }
 {
-    if is_between_events(list, place, time) {
-        return EventPlaces {
-            first: place,
-            end: place,
-        };
-    }
     let first = first_event_place_from(list, place, time);
     let end = first_event_place_from(list, first, time + 1);
     mark_events(marks, numbers, area, list, first, end);

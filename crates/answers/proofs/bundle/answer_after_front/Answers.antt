@@ -70,9 +70,9 @@ returns-in-Err-finish c =
     told)
     c.refusal_answer-in-Err-finish.ensures.refusal_told
 
--- the bytes that were taken of the certificate's section have its lines
-pub slice_bounds-answer-start : goal.slice_bounds-answer-start
-slice_bounds-answer-start c =
+-- the bytes that were taken before the certificate's section are no more than all
+pub migrate-requires : goal.migrate-requires
+migrate-requires c =
     let going = going_3 c.args.limits c.args.text.now c.read_circuit_within.new.feed c.requires.front_taken
     c.requires.feed_not_stopped
     c.in-Ok.circuit
@@ -87,60 +87,8 @@ slice_bounds-answer-start c =
     c.in-Ok-read_certificate_within.cert c.in-Ok-read_certificate_within.ensures.reads c.taken_text-from.result.now
     c.taken_text.result.now c.taken_text-from.ensures (c.taken_text.ensures ∙ ap bytes_taken done.2)
 
-pub slice_bounds-answer-count : goal.slice_bounds-answer-count
-slice_bounds-answer-count c =
-    let going = going_3 c.args.limits c.args.text.now c.read_circuit_within.new.feed c.requires.front_taken
-    c.requires.feed_not_stopped
-    c.in-Ok.circuit
-    c.in-Ok.ensures (named_ports c.in-Ok-port_names.ports) c.read_layout_within.new.feed
-    c.in-Ok-port_names.ensures.ports
-    c.in-Ok-read_layout_within.layout c.in-Ok-read_layout_within.ensures.reads c.read_certificate_within.new.feed
-    c.in-Ok-read_certificate_within.cert c.in-Ok-read_certificate_within.ensures.reads in
-    let done = c.in_default.ensures.ok going in
-    longer c.args.limits
-    (setting_of c.in-Ok.circuit c.in-Ok-read_layout_within.layout) c.read_layout_within.new.feed
-    c.read_certificate_within.new.feed
-    c.in-Ok-read_certificate_within.cert c.in-Ok-read_certificate_within.ensures.reads c.taken_text-from.result.now
-    c.taken_text.result.now c.taken_text-from.ensures (c.taken_text.ensures ∙ ap bytes_taken done.2)
+pub returns-in-Modules : goal.returns-in-Modules
+returns-in-Modules c = ?
 
-pub answer-requires : goal.answer-requires
-answer-requires c =
-    let going = going_3 c.args.limits c.args.text.now c.read_circuit_within.new.feed c.requires.front_taken
-    c.requires.feed_not_stopped
-    c.in-Ok.circuit
-    c.in-Ok.ensures (named_ports c.in-Ok-port_names.ports) c.read_layout_within.new.feed
-    c.in-Ok-port_names.ensures.ports
-    c.in-Ok-read_layout_within.layout c.in-Ok-read_layout_within.ensures.reads c.read_certificate_within.new.feed
-    c.in-Ok-read_certificate_within.cert c.in-Ok-read_certificate_within.ensures.reads in
-    let done = c.in_default.ensures.ok going in
-    record {
-      section = section_lines c.args.limits
-          (setting_of c.in-Ok.circuit c.in-Ok-read_layout_within.layout) c.read_layout_within.new.feed
-          c.read_certificate_within.new.feed
-          c.in-Ok-read_certificate_within.cert c.in-Ok-read_certificate_within.ensures.reads
-          c.taken_text-from.result.now
-          c.taken_text.result.now c.taken_text-from.ensures (c.taken_text.ensures ∙ ap bytes_taken done.2);
-    }
-
-pub returns : goal.returns
-returns c =
-    let going = going_3 c.args.limits c.args.text.now c.read_circuit_within.new.feed c.requires.front_taken
-    c.requires.feed_not_stopped
-    c.in-Ok.circuit
-    c.in-Ok.ensures (named_ports c.in-Ok-port_names.ports) c.read_layout_within.new.feed
-    c.in-Ok-port_names.ensures.ports
-    c.in-Ok-read_layout_within.layout c.in-Ok-read_layout_within.ensures.reads c.read_certificate_within.new.feed
-    c.in-Ok-read_certificate_within.cert c.in-Ok-read_certificate_within.ensures.reads in
-    let done = c.in_default.ensures.ok going in
-    let was_read = bundle_read c.args.limits c.args.text.now c.read_circuit_within.new.feed c.requires.front_taken
-    c.requires.feed_not_stopped
-    c.in-Ok.circuit c.in-Ok.ensures
-    (named_ports c.in-Ok-port_names.ports) c.read_layout_within.new.feed c.in-Ok-port_names.ensures.ports
-    c.in-Ok-read_layout_within.layout c.in-Ok-read_layout_within.ensures.reads c.read_certificate_within.new.feed
-    c.in-Ok-read_certificate_within.cert c.in-Ok-read_certificate_within.ensures.reads
-    c.in-Ok-read_certificate_within.ensures.circuit c.in-Ok-read_certificate_within.ensures.layout done.0 done.1 in
-    IfOk-weaker c.answer.result _ _
-    (λ answered says. bundle_answers (AnswersQuestion c.args.limits c.args.question)
-    (bundle_with c.args.limits c.args.text.now.text) c.in-Ok-read_certificate_within.cert answered.output.items
-    answered.outcome was_read says)
-    c.answer.ensures.says
+pub returns-in-Migration : goal.returns-in-Migration
+returns-in-Migration c = ?

@@ -27,4 +27,21 @@ in_turn f d h e n =
     ∙ ap (λ s. f ++ (d ++ s)) (sym (append_assoc h e n))
 
 pub returns : goal.returns
-returns c = ?
+returns c limits bundle is =
+    let text = c.args.text.now in
+    let from = c.args.from in
+    let front = front_text limits in
+    let design = circuit_text bundle.circuit ++ layout_section_text bundle.size bundle.parts in
+    let lines = flat_map entry_text (without_halos bundle.entries) in
+    record {
+      says = c.in_ok-push_lines_without_h.ensures
+          ∙ ap₂ (λ a b. a ++ b)
+          (c.in_ok-extend_from_slice-2.ensures.items
+          ∙ ap₂ (λ a b. a ++ b) (c.in_ok-extend_from_slice.ensures.items ∙ is.design) header_line)
+          (ap (λ ls. flat_map with_line_feed (lines_without_h ls))
+          (c.behind_first_line.ensures ∙ ap (λ t. drop 1 (lines_of t)) (take_rest text from))
+          ∙ section_kept (lines_of (drop from text)) bundle.version bundle.entries is.section)
+          ∙ in_turn front design (form_text (Header 2)) lines (form_text End)
+          ∙ ap (λ t. front ++ t) (joined bundle);
+      ends = refl;
+    }
