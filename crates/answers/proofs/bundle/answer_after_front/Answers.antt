@@ -1,12 +1,17 @@
 -- The circuit, the layout, the certificate, and the end of the text.
-use Rattle.lemmas.proofs.Common.{IfOk-weaker, ap, ◌∙◌}
+use Rattle.lemmas.proofs.Common.{IfOk-weaker, ap, ap₂, subst, sym, ◌++◌, ◌∙◌}
 use Rattle.section_text.specs.Ports.{named_ports}
+use Rattle.circuit.specs.Text.{circuit_text}
+use Rattle.pattern.specs.Layout.{parts_of}
+use Rattle.meaning.specs.Design.{front_text}
 use Rattle.certificate_lines.specs.Settings.{setting_of}
+use Rattle.answers.specs.BundleReading.{bundle_of_certificate}
+use Rattle.answers.specs.MigrateText.{layout_section_text}
 use Rattle.answers.specs.Questions.{AnswersQuestion}
 use Rattle.answers.specs.BundleText.{bundle_with}
 use Rattle.answers.proofs.Bundles.{bundle_answers, bundle_goes_on, bundle_read, certificate_failed, circuit_failed}
 use Rattle.answers.proofs.Bundles.{going_3, layout_failed, refusal_answers}
-use Rattle.answers.proofs.SectionLines.{bytes_taken, longer, section_lines}
+use Rattle.answers.proofs.SectionLines.{bytes_before, bytes_taken, design_bytes, longer, section_lines}
 use Rattle.answers.proofs.bundle.answer_after_front.Goals as goal
 
 pub returns-in-Err : goal.returns-in-Err
@@ -88,7 +93,67 @@ migrate-requires c =
     c.taken_text.result.now c.taken_text-from.ensures (c.taken_text.ensures ∙ ap bytes_taken done.2)
 
 pub returns-in-Modules : goal.returns-in-Modules
-returns-in-Modules c = ?
+returns-in-Modules c =
+    let cert = c.in-Ok-read_certificate_within.cert in
+    let going = going_3 c.args.limits c.args.text.now c.read_circuit_within.new.feed c.requires.front_taken
+    c.requires.feed_not_stopped
+    c.in-Ok.circuit
+    c.in-Ok.ensures (named_ports c.in-Ok-port_names.ports) c.read_layout_within.new.feed
+    c.in-Ok-port_names.ensures.ports
+    c.in-Ok-read_layout_within.layout c.in-Ok-read_layout_within.ensures.reads c.read_certificate_within.new.feed
+    c.in-Ok-read_certificate_within.cert c.in-Ok-read_certificate_within.ensures.reads in
+    let done = c.in_default.ensures.ok going in
+    let was_read = bundle_read c.args.limits c.args.text.now c.read_circuit_within.new.feed c.requires.front_taken
+    c.requires.feed_not_stopped
+    c.in-Ok.circuit c.in-Ok.ensures
+    (named_ports c.in-Ok-port_names.ports) c.read_layout_within.new.feed c.in-Ok-port_names.ensures.ports
+    c.in-Ok-read_layout_within.layout c.in-Ok-read_layout_within.ensures.reads c.read_certificate_within.new.feed
+    c.in-Ok-read_certificate_within.cert c.in-Ok-read_certificate_within.ensures.reads
+    c.in-Ok-read_certificate_within.ensures.circuit c.in-Ok-read_certificate_within.ensures.layout done.0 done.1 in
+    IfOk-weaker c.list_modules.result _ _
+    (λ answered says. bundle_answers (AnswersQuestion c.args.limits c.args.question)
+    (bundle_with c.args.limits c.args.text.now.text) cert answered.output.items answered.outcome was_read
+    (subst (λ q. AnswersQuestion c.args.limits q (bundle_of_certificate cert) answered.output.items answered.outcome)
+    (sym c.in-Modules.is) says))
+    c.list_modules.ensures.says
 
 pub returns-in-Migration : goal.returns-in-Migration
-returns-in-Migration c = ?
+returns-in-Migration c =
+    let cert = c.in-Ok-read_certificate_within.cert in
+    let front = front_text c.args.limits in
+    let going = going_3 c.args.limits c.args.text.now c.read_circuit_within.new.feed c.requires.front_taken
+    c.requires.feed_not_stopped
+    c.in-Ok.circuit
+    c.in-Ok.ensures (named_ports c.in-Ok-port_names.ports) c.read_layout_within.new.feed
+    c.in-Ok-port_names.ensures.ports
+    c.in-Ok-read_layout_within.layout c.in-Ok-read_layout_within.ensures.reads c.read_certificate_within.new.feed
+    c.in-Ok-read_certificate_within.cert c.in-Ok-read_certificate_within.ensures.reads in
+    let done = c.in_default.ensures.ok going in
+    let was_read = bundle_read c.args.limits c.args.text.now c.read_circuit_within.new.feed c.requires.front_taken
+    c.requires.feed_not_stopped
+    c.in-Ok.circuit c.in-Ok.ensures
+    (named_ports c.in-Ok-port_names.ports) c.read_layout_within.new.feed c.in-Ok-port_names.ensures.ports
+    c.in-Ok-read_layout_within.layout c.in-Ok-read_layout_within.ensures.reads c.read_certificate_within.new.feed
+    c.in-Ok-read_certificate_within.cert c.in-Ok-read_certificate_within.ensures.reads
+    c.in-Ok-read_certificate_within.ensures.circuit c.in-Ok-read_certificate_within.ensures.layout done.0 done.1 in
+    let are_after = c.taken_text.ensures ∙ ap bytes_taken done.2 in
+    let design = bytes_before c.args.limits
+    (setting_of c.in-Ok.circuit c.in-Ok-read_layout_within.layout) c.read_layout_within.new.feed
+    c.read_certificate_within.new.feed cert c.in-Ok-read_certificate_within.ensures.reads
+    c.taken_text-from.result.now c.taken_text.result.now c.taken_text-from.ensures are_after
+    ∙ design_bytes c.args.limits c.args.text.now c.read_circuit_within.new.feed c.read_layout_within.new.feed
+    c.in-Ok.circuit c.in-Ok-read_layout_within.layout (named_ports c.in-Ok-port_names.ports) c.requires.own_limits
+    c.requires.front_taken c.in-Ok.ensures c.in-Ok-read_layout_within.ensures.reads
+    ∙ ap₂ (λ cs p. front ++ (circuit_text cs ++ layout_section_text p.size (parts_of p)))
+    (sym c.in-Ok-read_certificate_within.ensures.circuit) (sym c.in-Ok-read_certificate_within.ensures.layout) in
+    let section = section_lines c.args.limits
+    (setting_of c.in-Ok.circuit c.in-Ok-read_layout_within.layout) c.read_layout_within.new.feed
+    c.read_certificate_within.new.feed cert c.in-Ok-read_certificate_within.ensures.reads
+    c.taken_text-from.result.now c.taken_text.result.now c.taken_text-from.ensures are_after in
+    IfOk-weaker c.migrate.result _ _
+    (λ answered says. bundle_answers (AnswersQuestion c.args.limits c.args.question)
+    (bundle_with c.args.limits c.args.text.now.text) cert answered.output.items answered.outcome was_read
+    (subst (λ q. AnswersQuestion c.args.limits q (bundle_of_certificate cert) answered.output.items answered.outcome)
+    (sym c.in-Migration.is)
+    (says c.args.limits (bundle_of_certificate cert) (record { design = design; section = section }))))
+    c.migrate.ensures
