@@ -54,8 +54,7 @@ module _ {H I A : Type 0} (g : Grammar H I) (view : A → H × List I) (old new 
 section_bytes : (before after text : List ℕ) → after ≡ before ++ text →
     (length before ≤ length after) × (take (length before) after ≡ before) × (drop (length before) after ≡ text)
 section_bytes before after text e =
-    let longer = ap length e ∙ length-append before text in
-    (
+    let longer = ap length e ∙ length-append before text in (
       omega (arith, longer),
       ap (take (length before)) e ∙ take-append_seam before text,
       ap (drop (length before)) e ∙ drop-append_seam before text,

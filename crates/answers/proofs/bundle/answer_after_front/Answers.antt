@@ -117,8 +117,8 @@ returns-in-Modules c =
     (sym c.in-Modules.is) says))
     c.list_modules.ensures.says
 
-pub returns-in-Migration : goal.returns-in-Migration
-returns-in-Migration c =
+pub returns : goal.returns
+returns c =
     let cert = c.in-Ok-read_certificate_within.cert in
     let front = front_text c.args.limits in
     let going = going_3 c.args.limits c.args.text.now c.read_circuit_within.new.feed c.requires.front_taken

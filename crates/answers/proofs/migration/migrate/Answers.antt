@@ -37,7 +37,8 @@ returns c limits bundle is =
       says = c.in_ok-push_lines_without_h.ensures
           ∙ ap₂ (λ a b. a ++ b)
           (c.in_ok-extend_from_slice-2.ensures.items
-          ∙ ap₂ (λ a b. a ++ b) (c.in_ok-extend_from_slice.ensures.items ∙ is.design) header_line)
+          ∙ ap₂ (λ a b. a ++ b) (c.in_ok-extend_from_slice.ensures.items
+          ∙ ap₂ (λ a b. a ++ b) c.new-output.ensures.items is.design) header_line)
           (ap (λ ls. flat_map with_line_feed (lines_without_h ls))
           (c.behind_first_line.ensures ∙ ap (λ t. drop 1 (lines_of t)) (take_rest text from))
           ∙ section_kept (lines_of (drop from text)) bundle.version bundle.entries is.section)
