@@ -12,7 +12,7 @@ from typing import Callable, Iterator, NamedTuple, Sequence
 from .balls import BOUNCE_STEPS, Ball, Leg, Mirror, Turn, bounce, bounce_before, follow
 from .bit_rows import Bend, BitJoiner
 from .settings import Settings
-from .world import Item, World, path_item
+from .world import MARGIN, Item, World, path_item
 
 # A leg leads on for at least this many steps, if the path goes on so long.
 LEAST_LEG = 12
@@ -43,6 +43,11 @@ def joined_path(parts: list[Path]) -> Path:
     for part in parts[1:]:
         legs[-1:] = [Leg(legs[-1].steps + part.legs[0].steps, part.legs[0].turn), *part.legs[1:]]
     return Path(parts[0].wire, parts[0].start, parts[-1].end, tuple(legs), Item(frozenset()))
+
+
+def joined_item(item: Item, way: Item) -> Item:
+    """Returns what a path takes with the straight way at its open end."""
+    return Item(item.mirrors, (*item.touched_parts, *way.touched_parts), (*item.claim_parts, *way.claim_parts)) if way.claim_parts else item
 
 
 class Option(NamedTuple):
@@ -145,7 +150,11 @@ class PathFinder:
         found = self.wander(trail, end)
         legs, last = trail.legs(), trail.ball
         item = path_item(ball, legs) if found and stays else None
-        if item is not None:
+        ways = [self.open_way(last, 1, None), *([self.open_way(ball, -1, None)] if ball.time == 0 else [])] if item is not None else []
+        if item is not None and None not in ways:
+            for way in filter(None, ways):
+                self.world.add(way)
+                item = joined_item(item, way)
             return Path(wire, ball, last, tuple(legs), item)
         trail.clear()
         return self.complete(wire, ball, last, legs) if found and not stays else None
@@ -156,7 +165,24 @@ class PathFinder:
         found = self.wander(trail, 0)
         legs, first = trail.legs() if trail.steps else [], trail.ball.reversed()
         trail.clear()
-        return self.complete(wire, first, goal, legs) if found else None
+        path = self.complete(wire, first, goal, legs) if found else None
+        way = self.open_way(first, -1, path.item) if path else None
+        return Path(wire, first, goal, path.legs, joined_item(path.item, way)) if path and way else None
+
+    def open_way(self, ball: Ball, sign: int, own: Item | None) -> Item | None:
+        """Returns what the straight way of a ball takes behind the end of its path, or before its start if `sign` is -1.
+
+        None if something is in the way, `own` included. The way ends at the margin.
+        """
+        room, limit = self.settings.open_steps, self.world.size - MARGIN - 1
+        for place, direction in ((ball.x, sign * ball.dx), (ball.y, sign * ball.dy)):
+            room = min(room, limit - place if direction > 0 else place - MARGIN)
+        if room <= 0:
+            return Item(frozenset())
+        way = path_item(ball if sign > 0 else ball.flown(-room), [Leg(room, None)])
+        if way is None or not self.world.fits(way) or own is not None and not own.mirrors.isdisjoint(way.touched):
+            return None
+        return way
 
     def complete(self, wire: str, start: Ball, end: Ball, legs: list[Leg]) -> Path | None:
         """Returns the path of these legs if it meets nothing, itself included."""

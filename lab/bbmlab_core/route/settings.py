@@ -3,6 +3,10 @@
 from dataclasses import dataclass
 
 
+# The steps of `open_steps` that `route --open-ends` asks for.
+OPEN_STEPS = 30
+
+
 @dataclass(frozen=True)
 class Settings:
     """What the search may spend, and what it prefers. Costs are in cells that a ball newly touches."""
@@ -62,6 +66,8 @@ class Settings:
     growths: int = 2
     growth_part: int = 24
     most_growth: float = 1.5
+    # The straight steps that are kept free before each ball at the start and behind each ball at the end, so that `join` can lead them on.
+    open_steps: int = 0
     # The part of the plane that is taken at the end at most, and the cells that a ball newly touches in a step by estimate: the ways of 123
     # balls to the last time took 2.35 cells a step, and had no room at 0.56 of the plane.
     end_fill: float = 0.47

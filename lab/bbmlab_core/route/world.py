@@ -70,6 +70,13 @@ class Item:
         """The blocks at times."""
         return set().union(*self.claim_parts)
 
+    def moved(self, x: int, y: int, time: int) -> "Item":
+        """Returns what the item takes elsewhere and later."""
+        base = y * ROW + x
+        start = time * STEP + base
+        return Item(frozenset(base + number for number in self.mirrors), (array("q", (base + number for number in chain(*self.touched_parts))),),
+                    (array("q", (start + number for number in chain(*self.claim_parts))),))
+
     @cached_property
     def tiles(self) -> frozenset[int]:
         """The tiles of touched cells and of mirrors."""
