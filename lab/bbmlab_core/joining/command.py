@@ -25,7 +25,8 @@ from .wiring import Wiring
 NAME = re.compile(r"[a-z][a-z0-9_]{0,15}")
 CONNECTION = re.compile(r"(\w+)\.(\w+)=(\w+)\.(\w+)")
 # The steps to spare of a ball between two parts, by the attempts.
-SLACKS = (200, 280, 400)
+SLACKS = (150, 250, 350)
+SETTINGS = Settings(wander_detour=0.25, wander_options=16)
 # By how much the plane grows after an attempt that failed.
 GROWTH = 1.12
 
@@ -119,7 +120,7 @@ def search(made: Composed, asked: Asked, line: ProgressLine) -> tuple[Routed | N
         require_open(plan)
         try:
             modules = JoinedModules(made, plan)
-            wiring = Wiring(plan, modules, asked.seed * 1_000_003 + attempt, Settings(), deadline)
+            wiring = Wiring(plan, modules, asked.seed * 1_000_003 + attempt, SETTINGS, deadline)
             paths = wiring.run(lambda led, total: line.show(attempt, side, led, total))
             return joined_bundle(made, plan, modules, paths), "", attempt
         except NoRouteError as error:

@@ -14,9 +14,13 @@ from .parts import Port
 
 # The cells between a part and the border, and between two parts, at least.
 GAP = 2 * TILE
-# The part of the plane that may be taken by estimate, and the cells that a ball newly touches in a step.
+# The part of the plane between the parts that may be taken by estimate, and the cells that a ball newly touches in a step.
 FILL = 0.4
 STEP_CELLS = 2.6
+
+
+# The further steps for each cell between two parts: balls fly round what is in the way.
+DETOUR = 0.35
 
 
 @dataclass
@@ -88,7 +92,7 @@ def made_plan(composed: Composed, side: int, slack: int) -> Plan | None:
                 source = by_name[connection.source]
                 first, last = end_ball(source, connection.output), start_ball(own, connection.input)
                 far = max(abs(first.x - last.x), abs(first.y - last.y))
-                own.time = max(own.time, (source.end + far + slack + 1) // 2 * 2)
+                own.time = max(own.time, (source.end + int((1 + DETOUR) * far) + slack + 1) // 2 * 2)
     end = max(own.end for own in placed)
     return Plan(side, end, placed, jobs_of(composed, by_name, end))
 
@@ -152,11 +156,12 @@ def jobs_of(composed: Composed, placed: dict[str, Placed], end: int) -> list[Job
 
 def estimated_side(composed: Composed, slack: int) -> int:
     """Returns the side of a plane on which all ways have room by estimate, at most the largest one."""
-    taken = sum(len(part.text.item.mirrors) + len(part.text.item.touched) for part in composed.parts)
     side = GAP
     while side < SECOND.max_side:
         plan = made_plan(composed, side, slack)
-        if plan is not None and taken + STEP_CELLS * sum(job.steps for job in plan.jobs) <= FILL * side ** 2:
-            break
+        if plan is not None:
+            free = side ** 2 - sum(own.width * own.height for own in plan.placed)
+            if STEP_CELLS * sum(job.steps for job in plan.jobs) <= FILL * free:
+                break
         side = min(SECOND.max_side, (math.ceil(side * 1.05) + 2 * TILE - 1) // (2 * TILE) * 2 * TILE)
     return side

@@ -11,7 +11,7 @@ from typing import Callable
 
 from ..route.balls import Ball, Leg
 from ..route.board import Bound, NoRouteError
-from ..route.paths import Path, PathFinder
+from ..route.paths import Path, PathFinder, Trail
 from ..route.settings import Settings
 from ..route.world import Item, World, path_item
 from .modules import JoinedModules
@@ -20,11 +20,41 @@ from .planning import Job, Placed, Plan
 
 # The steps at the open ends of balls that wait which are kept free, the first that fit.
 STUB_STEPS = (20, 14, 10, 6, 3)
+# The steps at such an end within which room for a bounce is kept.
+BOUNCE_REACH = 60
+# The tries of a path between two parts. It comes back from its goal for some of the first steps, and is joined in some of the second ones.
+CONNECT_TRIES = 12
+BACK_STEPS = (60, 300)
+JOIN_STEPS = (80, 260)
 # The paths that are tried for a ball before others make room, and how often that may happen for each ball.
 TRIES = 4
 RIPS = 6
+# The cost of a step inside a part, in cells, and that of a step away from its border. Outside a step touches at most three new cells.
+INSIDE_CELLS = 5
+OUTWARD_CELLS = 3
+# The columns and rows around an open end in which other paths make room if none crosses its way.
+NEAR = 70
 # The steps of the straight way of a ball from which other paths are taken.
 WAY_STEPS = 76
+
+
+class JoinWorld(World):
+    """A world with parts, in which new cells inside a part are dear: balls leave parts, so that they enclose no other port."""
+
+    def __init__(self, plan: Plan) -> None:
+        super().__init__(plan.side)
+        self.boxes = [(placed.x, placed.y, placed.x + placed.width, placed.y + placed.height) for placed in plan.placed]
+
+    def depth(self, x: int, y: int) -> int:
+        """Returns how far a cell is from the border of the part that it is in, or 0."""
+        return max(0, *(min(x - left, right - x, y - top, bottom - y) for left, top, right, bottom in self.boxes))
+
+    def new_cells(self, ball: Ball, steps: int) -> int:
+        """Returns the cost of a straight flight: the cells that it newly touches, or more inside a part, but less on the way out."""
+        depth, far = self.depth(ball.x, ball.y), self.depth(ball.x + steps * ball.dx, ball.y + steps * ball.dy)
+        if depth or far:
+            return INSIDE_CELLS * steps + OUTWARD_CELLS * (far - depth)
+        return super().new_cells(ball, steps)
 
 
 class Wiring:
@@ -32,7 +62,7 @@ class Wiring:
 
     def __init__(self, plan: Plan, modules: JoinedModules, seed: int, settings: Settings, deadline: float) -> None:
         self.plan, self.modules, self.settings, self.deadline = plan, modules, settings, deadline
-        self.world = World(plan.side)
+        self.world = JoinWorld(plan)
         for placed in plan.placed:
             self.world.add(moved_item(placed))
         self.chance = random.Random(seed)
@@ -56,7 +86,7 @@ class Wiring:
         while queue:
             self.check_time()
             index = queue.pop(0)
-            if self.lead(index):
+            if self.lead(index) or self.lead_first(index):
                 progress(len(self.paths), len(jobs))
                 continue
             crossing = self.paths_across(index)
@@ -88,10 +118,13 @@ class Wiring:
         self.stubs[index] = own
 
     def stub(self, ball: Ball, sign: int) -> Item | None:
-        """Returns the straight steps behind a ball, or before it if `sign` is -1, or None if not even a few are free."""
+        """Returns what a way with one bounce takes behind a ball, or before it if `sign` is -1, else a few straight steps, else None."""
+        way = self.finder.open_way(ball, sign, BOUNCE_REACH)
+        if way is not None:
+            return way
         for steps in STUB_STEPS:
             far = ball.flown(sign * steps)
-            if self.world.is_inside(far.x, far.y) and min(far.time, ball.time) >= 0:
+            if self.world.is_inside(far.x, far.y):
                 item = path_item(ball if sign > 0 else far, [Leg(steps, None)])
                 if item is not None and self.world.fits(item):
                     return item
@@ -113,6 +146,24 @@ class Wiring:
         self.reserve(index)
         return False
 
+    def lead_first(self, index: int) -> bool:
+        """Leads a ball as if no ball near it waited; returns whether a way was found. The others then keep what room is left."""
+        ends = [ball for ball in (self.plan.jobs[index].start, self.plan.jobs[index].goal) if ball is not None]
+        near = [other for other in self.stubs if other != index and self.is_beside(other, ends)]
+        for other in near:
+            for stub in self.stubs[other]:
+                self.world.remove(stub)
+        done = self.lead(index)
+        for other in near:
+            self.reserve(other)
+        return done
+
+    def is_beside(self, index: int, balls: list[Ball]) -> bool:
+        """Whether a ball that waits has an open end near one of some balls."""
+        job = self.plan.jobs[index]
+        ends = [ball for ball in (job.start, job.goal) if ball is not None]
+        return any(abs(end.x - ball.x) < NEAR and abs(end.y - ball.y) < NEAR for end in ends for ball in balls)
+
     def found(self, job: Job) -> Path | None:
         """Returns a path for a ball, or None."""
         self.finder.known_departures.clear()
@@ -121,7 +172,33 @@ class Wiring:
             return self.finder.lead_on(job.wire, job.start, job.end)
         if job.start is None:
             return self.finder.lead_here(job.wire, job.goal)
-        return self.finder.connect(job.wire, job.start, job.goal, self.settings.path_tries)
+        return self.connected(job.wire, job.start, job.goal)
+
+    def connected(self, wire: str, start: Ball, goal: Ball) -> Path | None:
+        """Returns a path between two parts: it wanders back from the goal and on from the start, and joins both ends."""
+        for _ in range(CONNECT_TRIES):
+            back, on = Trail(self.world, goal, is_backward=True), Trail(self.world, start)
+            legs = self.legs_between(back, on, start, goal)
+            back.clear()
+            on.clear()
+            path = self.finder.complete(wire, start, goal, legs) if legs else None
+            if path is not None:
+                return path
+        return None
+
+    def legs_between(self, back: Trail, on: Trail, start: Ball, goal: Ball) -> list[Leg] | None:
+        """Returns legs from a start to a goal by two trails, or None."""
+        finder, chance = self.finder, self.chance
+        before = goal.time - chance.randint(*BACK_STEPS)
+        if before <= start.time or not finder.wander(back, -before):
+            return None
+        last, behind = back.ball.reversed(), back.legs()
+        stop = last.time - chance.randint(*JOIN_STEPS)
+        if stop <= start.time or not finder.can_come(start, last) or not finder.wander(on, stop, last):
+            return None
+        finder.known_departures.clear()
+        middle = finder.connect_short(on.ball, last, self.settings.path_tries)
+        return linked(linked(on.legs(), middle), behind) if middle else None
 
     def take_back(self, index: int) -> None:
         """Takes the path of a ball back, which waits again."""
@@ -136,13 +213,24 @@ class Wiring:
         for ball, sign in ((job.start, 1), (job.goal, -1)):
             if ball is not None:
                 touched |= self.straight_way(ball, sign)
-        return [other for other, path in self.paths.items() if not touched.isdisjoint(chain(path.item.mirrors, *path.item.touched_parts))]
+        found = [other for other, path in self.paths.items() if not touched.isdisjoint(chain(path.item.mirrors, *path.item.touched_parts))]
+        return found or [other for other, path in self.paths.items() if self.is_near(path, job)]
+
+    def is_near(self, path: Path, job: Job) -> bool:
+        """Whether a path has a mirror near an open end of a ball."""
+        balls = [ball for ball in (job.start, job.goal) if ball is not None]
+        return any(abs(ball.x - mirror.x) < NEAR and abs(ball.y - mirror.y) < NEAR for mirror in path.mirrors() for ball in balls)
 
     def straight_way(self, ball: Ball, sign: int) -> set[int]:
         """Returns the cells of the straight way behind a ball, or before it, up to the first mirror and what is behind it."""
         room = 6 + self.world.free_flight(ball if sign > 0 else ball.reversed(), WAY_STEPS)
         way = path_item(ball if sign > 0 else ball.flown(-room), [Leg(room, None)])
         return way.touched if way else set()
+
+
+def linked(legs: list[Leg], more: list[Leg]) -> list[Leg]:
+    """Returns legs and those that follow them: the last leg goes on as the first one of the others."""
+    return [*legs[:-1], Leg(legs[-1].steps + more[0].steps, more[0].turn), *more[1:]]
 
 
 def moved_item(placed: Placed) -> Item:

@@ -35,6 +35,8 @@ class Settings:
     wander_tries: int = 160
     wander_steps: int = 20
     wander_options: int = 6
+    # The further steps to spare of a wandering ball for each cell to its goal. A join has crowded parts on the way.
+    wander_detour: float = 0.0
     # The places that are tried for a gate: the first with all paths is taken. After the second number they are as far away as they may be.
     place_tries: int = 1200
     growth_tries: int = 320
@@ -66,7 +68,7 @@ class Settings:
     growths: int = 2
     growth_part: int = 24
     most_growth: float = 1.5
-    # The straight steps that are kept free before each ball at the start and behind each ball at the end, so that `join` can lead them on.
+    # The steps before each ball at the start, and behind each ball at the end, in which room for a bounce is kept, so that `join` can lead it.
     open_steps: int = 0
     # The part of the plane that is taken at the end at most, and the cells that a ball newly touches in a step by estimate: the ways of 123
     # balls to the last time took 2.35 cells a step, and had no room at 0.56 of the plane.
