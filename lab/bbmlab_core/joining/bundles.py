@@ -6,10 +6,11 @@ from ..certify import certificate_text
 from ..layouts import Cell, row_order
 from ..limits import limits_for, with_line
 from ..route.certificate import rectangles
+from ..route.design import corner_numbers
 from ..route.netlist import Netlist
 from ..route.paths import Path
 from ..route.search import Routed
-from ..route.world import number_cell
+from ..route.world import RIM, ROW, TILE, number_cell
 from .composing import Composed
 from .modules import JoinedModules
 from .parts import ALWAYS
@@ -51,13 +52,13 @@ class JoinedLayout:
         dead = 0
         for wire in self.composed.circuit.outputs:
             if wire not in self.ends:
-                self.ends[wire] = [(dead % self.plan.side, dead // self.plan.side)]
+                self.ends[wire] = [(dead % self.plan.width, dead // self.plan.width)]
                 dead += 1
 
     def lines(self) -> Iterator[str]:
         """Yields the lines of the layout section."""
         plan, circuit = self.plan, self.composed.circuit
-        yield f"layout {plan.side} {plan.side} {plan.end}"
+        yield f"layout {plan.width} {plan.height} {plan.end}"
         for x, y, width, height in rectangles(self.mirrors()):
             yield f"mirror {x} {y} {width} {height}"
         for x, y in sorted(self.starts.get(ALWAYS, []), key=row_order):
@@ -87,12 +88,21 @@ class JoinedLayout:
                     yield cell, wire
 
 
+def crop(plan: Plan, paths: list[Path]) -> None:
+    """Leaves out whole tiles of a plane at the right and below that nothing reaches."""
+    numbers = [number for path in paths for number in corner_numbers(path.item)]
+    right = max([0, *(number % ROW + RIM for number in numbers), *(own.x + own.width for own in plan.placed)])
+    bottom = max([0, *(number // ROW + RIM for number in numbers), *(own.y + own.height for own in plan.placed)])
+    plan.width, plan.height = min(plan.side, (right // TILE + 1) * TILE), min(plan.side, (bottom // TILE + 1) * TILE)
+
+
 def joined_bundle(composed: Composed, plan: Plan, modules: JoinedModules, paths: list[Path]) -> Routed:
     """Returns the bundle of a join whose balls are all led; raises NoRouteError if a module needs too many wires."""
+    crop(plan, paths)
     layout = JoinedLayout(composed, plan, paths)
     certificate = modules.certificate(paths, layout.ports())
     lines, circuit = "\n".join(layout.lines()) + "\n", composed.circuit
-    limits = limits_for(plan.side, plan.end, len(certificate.modules), len(circuit.gates), len(circuit.defined))
+    limits = limits_for(max(plan.width, plan.height), plan.end, len(certificate.modules), len(circuit.gates), len(circuit.defined))
     gates = sum(gate.word not in ("source", "delay") for gate in circuit.gates)
-    return Routed(with_line(composed.section + lines + certificate_text(certificate), limits), "", plan.side, plan.side, plan.end, len(layout.mirrors()),
+    return Routed(with_line(composed.section + lines + certificate_text(certificate), limits), "", plan.width, plan.height, plan.end, len(layout.mirrors()),
                   len(certificate.modules), max(len(module.cuts) for module in certificate.modules), gates)

@@ -168,10 +168,12 @@ class JoinedModules:
         large, side = dict[Cell, Module](), QUIET_TILES * TILE
         for x, y in sorted(quiet, key=row_order):
             group = [(x + i, y + j) for i in range(0, side, TILE) for j in range(0, side, TILE)]
-            if x % side == 0 and y % side == 0 and quiet.issuperset(group):
+            is_inside = x + side <= self.plan.width and y + side <= self.plan.height
+            if x % side == 0 and y % side == 0 and is_inside and quiet.issuperset(group):
                 large |= dict.fromkeys(group, Module(0, Box(x, y, side, side), 0))
         found = [large.get((module.box.x, module.box.y), module) if number >= self.part_count else module for number, module in enumerate(self.modules)]
-        modules = list({id(module): module for module in found}.values())
+        width, height = self.plan.width, self.plan.height
+        modules = list({id(module): module for module in found if module.box.x < width and module.box.y < height}.values())
         if len(modules) > SECOND.max_modules:
             raise LabError(f"the join takes {len(modules)} modules; {SECOND.max_modules} is the most", 1)
         return modules

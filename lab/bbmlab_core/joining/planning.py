@@ -72,12 +72,14 @@ class Job:
 
 @dataclass
 class Plan:
-    """Places and times of all parts, the side of the plane and the last time."""
+    """Places and times of all parts, the side of the plane and the last time. The layout is the plane up to `width` and `height`."""
 
     side: int
     end: int
     placed: list[Placed]
     jobs: list[Job]
+    width: int
+    height: int
 
 
 def made_plan(composed: Composed, side: int, slack: int) -> Plan | None:
@@ -94,7 +96,7 @@ def made_plan(composed: Composed, side: int, slack: int) -> Plan | None:
                 far = max(abs(first.x - last.x), abs(first.y - last.y))
                 own.time = max(own.time, (source.end + int((1 + DETOUR) * far) + slack + 1) // 2 * 2)
     end = max(own.end for own in placed)
-    return Plan(side, end, placed, jobs_of(composed, by_name, end))
+    return Plan(side, end, placed, jobs_of(composed, by_name, end), side, side)
 
 
 def set_places(placed: list[Placed], side: int) -> bool:

@@ -200,7 +200,8 @@ class PathFinder:
 
         If a ball soon leaves at the left or at the top, where the plane does not grow, its straight way is first.
         """
-        rooms = [place - 1 for place, direction in ((ball.x, sign * ball.dx), (ball.y, sign * ball.dy)) if direction < 0]
+        first = 1 if sign > 0 else 3
+        rooms = [place - first for place, direction in ((ball.x, sign * ball.dx), (ball.y, sign * ball.dy)) if direction < 0]
         if OPEN_PAST <= min(rooms, default=most + 1) <= most and self.world.size - MARGIN - 1 > max(ball.x, ball.y) + most:
             yield [Leg(min(rooms) - OPEN_PAST, None)]
         most = self.world.free_flight(ball if sign > 0 else ball.reversed(), most)
