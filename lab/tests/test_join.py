@@ -20,6 +20,8 @@ from bbmlab_core.joining import command, modules, planning, wiring
 from bbmlab_core.joining.composing import Composed, Connection, composed
 from bbmlab_core.joining.parts import balls_of, read_part
 from bbmlab_core.route.balls import Ball
+from bbmlab_core.route.command import ProgressLine
+from bbmlab_core.route.world import Item
 from bbmlab_core.simulation import run_layout
 
 INTERRUPT_SECONDS = 6.0
@@ -55,7 +57,7 @@ class Joining(unittest.TestCase):
 
     def join(self, *words: str, **environment: str) -> subprocess.CompletedProcess[str]:
         """Runs the command. Names of parts in the words become files."""
-        files = [re.sub(r"@(\w+)", lambda found: str(self.parts[found[1]]), word) for word in words]
+        files = [re.sub(r"@(\w+)", lambda found: str(self.parts[found.group(1)]), word) for word in words]
         return support.lab("join", *files, **{"BBMCHECK": support.program(), **environment})
 
     def joined(self, *words: str) -> Document:
@@ -142,7 +144,7 @@ class Joining(unittest.TestCase):
     def verdict_with(self, change: mock._patch) -> str: # type: ignore[type-arg]
         """Returns the first lines that the program says of a join with a mistake."""
         with change:
-            found = command.search(self.made(), command.Asked(1, None, 60), command.ProgressLine(60))[0]
+            found = command.search(self.made(), command.Asked(1, None, 60), ProgressLine(60))[0]
         assert found
         said = subprocess.run([support.program(), "check"], input=found.text.encode(), capture_output=True, check=False).stdout.decode()
         return "\n".join(said.splitlines()[:4])
@@ -163,7 +165,7 @@ class Joining(unittest.TestCase):
     def test_paths_that_ignore_a_part(self) -> None:
         """Paths through the parts get a no if the world has only their mirrors."""
         right = wiring.moved_item
-        change = mock.patch.object(wiring, "moved_item", lambda placed: wiring.Item(right(placed).mirrors))
+        change = mock.patch.object(wiring, "moved_item", lambda placed: Item(right(placed).mirrors))
         self.assertIn("verdict no", self.verdict_with(change))
 
     def test_a_lost_wire(self) -> None:

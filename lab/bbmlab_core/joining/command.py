@@ -7,6 +7,7 @@ import sys
 import time
 from dataclasses import dataclass
 
+from ..documents import without_collector
 from ..limits import SECOND
 from ..program import Executable, ask, find_program
 from ..route.board import NoRouteError
@@ -121,6 +122,9 @@ def search(made: Composed, asked: Asked, line: ProgressLine) -> tuple[Routed | N
         try:
             modules = JoinedModules(made, plan)
             wiring = Wiring(plan, modules, asked.seed * 1_000_003 + attempt, SETTINGS, deadline)
+            closed = wiring.closed_end() if attempt == 1 else ""
+            if closed:
+                raise LabError(f"{closed}: route the part with --open-ends", 1)
             paths = wiring.run(lambda led, total: line.show(attempt, side, led, total))
             return joined_bundle(made, plan, modules, paths), "", attempt
         except NoRouteError as error:
@@ -142,10 +146,11 @@ def join_command(options: argparse.Namespace) -> int:
     require_output(options.output, list(files.values()))
     connections = [connection_of(word) for word in options.connect]
     program, begun = find_program(options.program), time.monotonic()
-    made = composed(read_parts(files, program, options.timeout), connections)
-    require_balls(made)
     line = ProgressLine(options.effort)
-    routed, why, attempts = search(made, Asked(options.seed, options.size, options.effort), line)
+    with without_collector():
+        made = composed(read_parts(files, program, options.timeout), connections)
+        require_balls(made)
+        routed, why, attempts = search(made, Asked(options.seed, options.size, options.effort), line)
     line.clear()
     if routed is None:
         print(f"bbmlab: no join in {attempts} attempts and {options.effort:g} seconds: {plain(why)}", file=sys.stderr)

@@ -26,6 +26,8 @@ BOUNCE_REACH = 60
 CONNECT_TRIES = 12
 BACK_STEPS = (60, 300)
 JOIN_STEPS = (80, 260)
+# The steps for which a ball is led to see that it can leave its part.
+LEAVING_STEPS = 80
 # The paths that are tried for a ball before others make room, and how often that may happen for each ball.
 TRIES = 4
 RIPS = 6
@@ -104,6 +106,22 @@ class Wiring:
         name = "a constant ball" if job.wire == ALWAYS else f"the ball of wire {job.wire}"
         ends = [f"{what} ({ball.x}, {ball.y}) at time {ball.time}" for what, ball in (("from", job.start), ("to", job.goal)) if ball]
         return f"{name} could not be led {' '.join(ends)}"
+
+    def closed_end(self) -> str:
+        """Says which open end no ball can leave even if no other ball is led, or returns nothing."""
+        for job in self.plan.jobs:
+            for ball, sign in ((job.start, 1), (job.goal, -1)):
+                if ball is not None and not any(self.can_leave(ball, sign) for _ in range(TRIES)):
+                    name = "a constant ball" if job.wire == ALWAYS else f"the ball of wire {job.wire}"
+                    return f"{name} at ({ball.x}, {ball.y}) at time {ball.time} has no room for a bounce {'behind it' if sign > 0 else 'before it'}"
+        return ""
+
+    def can_leave(self, ball: Ball, sign: int) -> bool:
+        """Whether a ball can fly some steps on, or some steps come before it if `sign` is -1."""
+        trail = Trail(self.world, ball, is_backward=sign < 0)
+        found = self.finder.wander(trail, sign * ball.time + LEAVING_STEPS)
+        trail.clear()
+        return found
 
     # --- one ball ------------------------------------------------------------------------------------------------------
 
