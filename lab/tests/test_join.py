@@ -1,5 +1,7 @@
 """`bbmlab join`: parts with a yes, balls led between them, and one bundle with a yes."""
 
+import contextlib
+import io
 import os
 import random
 import re
@@ -57,7 +59,7 @@ class Joining(unittest.TestCase):
 
     def join(self, *words: str, **environment: str) -> subprocess.CompletedProcess[str]:
         """Runs the command. Names of parts in the words become files."""
-        files = [re.sub(r"@(\w+)", lambda found: str(self.parts[found.group(1)]), word) for word in words]
+        files = [re.sub(r"@(\w+)", lambda found: str(self.parts[str(found.group(1))]), word) for word in words]
         return support.lab("join", *files, **{"BBMCHECK": support.program(), **environment})
 
     def joined(self, *words: str) -> Document:
@@ -81,7 +83,7 @@ class Joining(unittest.TestCase):
             for part in layout.of_kind("out"):
                 self.assertEqual(part.cell in live, values[part.name or ""], (part, on))
 
-    # --- what is joined ------------------------------------------------------------------------------------------------
+    # --- what is joined -----------------------------------------------------------------------------------------------
 
     def test_chain(self) -> None:
         """Two half adders in a row compute the sum of three bits, as their circuits do one after the other."""
@@ -97,16 +99,16 @@ class Joining(unittest.TestCase):
         self.assert_runs(document)
 
     def test_modules_of_parts_stay(self) -> None:
-        """Most modules of a part that begins at time 0 stay as they are, but for their place and the names of their wires."""
+        """Most modules of a part that begins at time 0 stay, but for their place and the names of their wires."""
         document = self.joined("x=@half", "y=@half", "--connect", "x.carry=y.b")
         part = read_document(self.parts["half"].read_text(), "check")
         assert document.certificate and part.certificate
 
         def shapes(own: Document, name: str) -> list[tuple[object, ...]]:
             assert own.certificate
-            return [(module.box.width, module.box.height, tuple(name + wire for wire in module.cuts), tuple(module.uses),
-                     tuple((line.time, line.x - module.box.x, line.y - module.box.y, line.signal) for line in module.edges if line.signal == "1"))
-                    for module in own.certificate.modules]
+            return [(module.box.width, module.box.height, tuple(name + wire for wire in module.cuts),
+                     tuple(module.uses), tuple((line.time, line.x - module.box.x, line.y - module.box.y)
+                           for line in module.edges if line.signal == "1")) for module in own.certificate.modules]
 
         there = set(shapes(document, ""))
         self.assertGreater(sum(shape in there for shape in shapes(part, "x_")), len(part.certificate.modules) // 2)
@@ -134,7 +136,7 @@ class Joining(unittest.TestCase):
         self.assertEqual(one, again)
         self.assertNotEqual(one, other)
 
-    # --- planted mistakes: the program finds each of them --------------------------------------------------------------
+    # --- planted mistakes: the program finds each of them -------------------------------------------------------------
 
     def made(self) -> Composed:
         """Returns two half adders in a row."""
@@ -143,11 +145,11 @@ class Joining(unittest.TestCase):
 
     def verdict_with(self, change: mock._patch) -> str: # type: ignore[type-arg]
         """Returns the first lines that the program says of a join with a mistake."""
-        with change:
+        with change, contextlib.redirect_stderr(io.StringIO()):
             found = command.search(self.made(), command.Asked(1, None, 60), ProgressLine(60))[0]
         assert found
-        said = subprocess.run([support.program(), "check"], input=found.text.encode(), capture_output=True, check=False).stdout.decode()
-        return "\n".join(said.splitlines()[:4])
+        said = subprocess.run([support.program(), "check"], input=found.text.encode(), capture_output=True, check=False)
+        return "\n".join(said.stdout.decode().splitlines()[:4])
 
     def test_join_without_mistakes(self) -> None:
         """Without a mistake the join gets a yes."""
@@ -173,10 +175,10 @@ class Joining(unittest.TestCase):
         change = mock.patch.object(modules.JoinedModules, "count", lambda *words: None)
         self.assertIn("refused", self.verdict_with(change))
 
-    # --- balls ---------------------------------------------------------------------------------------------------------
+    # --- balls --------------------------------------------------------------------------------------------------------
 
     def test_balls_of_cells(self) -> None:
-        """The balls of cells are found by place and time, in any order, and cells that are no balls are not taken for some."""
+        """The balls of cells are found by place and time. Cells that are no balls are not taken for some."""
         balls = [Ball(10, 10, 1, 1, 4), Ball(14, 14, 1, 1, 4), Ball(21, 30, -1, 1, 4), Ball(41, 41, -1, -1, 4)]
         self.assertTrue(all(ball.is_legal for ball in balls))
         cells = [cell for ball in balls for cell in ball.cells()]
@@ -193,7 +195,7 @@ class Joining(unittest.TestCase):
         for job in plan.jobs:
             self.assertIsNotNone(next((path for path in (own.found(job) for _ in range(4)) if path), None), job)
 
-    # --- what is refused -----------------------------------------------------------------------------------------------
+    # --- what is refused ----------------------------------------------------------------------------------------------
 
     def assert_refused(self, status: int, sentence: str, *words: str) -> None:
         """Asserts that a join ends with a status and a sentence."""
@@ -206,12 +208,14 @@ class Joining(unittest.TestCase):
 
     def test_wrong_connections(self) -> None:
         """A connection that is none gets a sentence."""
-        for sentence, word in (("it is A.OUT=B.IN", "A.sum"), ("it is A.OUT=B.IN", ""), ("there is no part z; the parts are a, b", "A.sum=z.a"),
+        two = "@half", "@half", "--connect"
+        for sentence, word in (("it is A.OUT=B.IN", "A.sum"), ("it is A.OUT=B.IN", ""),
+                               ("there is no part z; the parts are a, b", "A.sum=z.a"),
                                ("a has no output x", "A.x=B.a"), ("b has no input sum", "A.sum=B.sum")):
-            self.assert_refused(2, sentence, "@half", "@half", "--connect", word)
-        self.assert_refused(2, "the output sum of a is connected twice", "@half", "@half", "--connect", "A.sum=B.a", "A.sum=B.b")
-        self.assert_refused(2, "the input a of b is connected twice", "@half", "@half", "--connect", "A.sum=B.a", "A.carry=B.a")
-        self.assert_refused(1, "a loop through a, b", "@half", "@half", "--connect", "A.sum=B.a", "B.sum=A.a")
+            self.assert_refused(2, sentence, *two, word)
+        self.assert_refused(2, "the output sum of a is connected twice", *two, "A.sum=B.a", "A.sum=B.b")
+        self.assert_refused(2, "the input a of b is connected twice", *two, "A.sum=B.a", "A.carry=B.a")
+        self.assert_refused(1, "a loop through a, b", *two, "A.sum=B.a", "B.sum=A.a")
         self.assert_refused(1, "a loop through a", "@half", "--connect", "A.sum=A.a")
         self.assert_refused(2, "there is a part a already", "@half", "a=@half")
         self.assert_refused(1, "names have at most 32 characters", f"{'x' * 16}=@half", "a=" + str(self.long_names()))
@@ -219,7 +223,15 @@ class Joining(unittest.TestCase):
     def long_names(self) -> Path:
         """Returns a routed circuit with a wire of 31 characters."""
         name = "w" * 31
-        return routed(f"circuit\ninput {name}\nsource 1 -> one\nswitch {name} one -> b c d\noutput b\nspill c\nspill d\nend\n", self.room, "long")
+        text = BLOCK.replace("input a", f"input {name}").replace("switch a", f"switch {name}")
+        return routed(text, self.room, "long")
+
+    def test_closed_ends(self) -> None:
+        """A ball that leaves its part in front of a mirror ends the join at once, with its wire."""
+        cell = self.room / "cell.txt"
+        cell.write_text(support.lab("cells", "half_adder", "--bundle").stdout)
+        sentence = "the ball of wire a_sum at .* has no room for a bounce behind it: route the part with --open-ends"
+        self.assert_refused(1, sentence, str(cell), "@block", "--connect", "A.carry=B.a")
 
     def test_wrong_parts(self) -> None:
         """A part without a yes gets a sentence."""
@@ -236,18 +248,21 @@ class Joining(unittest.TestCase):
     def single_cell(self) -> Path:
         """Returns a bundle with a yes whose input is a single cell."""
         made = self.room / "single.txt"
-        made.write_text("circuit\ninput p\noutput p\nend\nlayout 16 16 4\nin p 4 4\nout p 8 8\nend\ncertificate 2\nmodule 0 0 16 16\ncut p\nend\n")
+        made.write_text("circuit\ninput p\noutput p\nend\nlayout 16 16 4\nin p 4 4\nout p 8 8\nend\n"
+                        "certificate 2\nmodule 0 0 16 16\ncut p\nend\n")
         return made
 
     def test_interrupt(self) -> None:
         """An interrupt ends the command in time, and writes nothing."""
         made = self.room / "never.txt"
-        words = [str(self.parts["half"])] * 12
-        process = subprocess.Popen([sys.executable, str(support.LAB / "bbmlab"), "join", *words, "--effort", "100", "-o", str(made),
-                                    "--connect", *(f"{one}.sum={other}.a" for one, other in zip("abcdefghijk", "bcdefghijkl"))],
-                                   stderr=subprocess.PIPE, start_new_session=True, env={**os.environ, "BBMCHECK": support.program()},
+        chain = [f"{one}.sum={other}.a" for one, other in zip("abcdefghijk", "bcdefghijkl")]
+        words = [*[str(self.parts["half"])] * 12, "--effort", "100", "-o", str(made), "--connect", *chain]
+        words = [sys.executable, str(support.LAB / "bbmlab"), "join", *words]
+        process = subprocess.Popen(words, stderr=subprocess.PIPE, start_new_session=True,
+                                   env={**os.environ, "BBMCHECK": support.program()},
                                    preexec_fn=lambda: signal.signal(signal.SIGINT, signal.SIG_DFL))
-        time.sleep(3)
+        assert process.stderr
+        self.assertIn(b"12 parts, ", process.stderr.readline())
         begun = time.monotonic()
         os.killpg(process.pid, signal.SIGINT)
         said = process.communicate(timeout=30)[1].decode()

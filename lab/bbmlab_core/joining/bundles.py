@@ -40,12 +40,12 @@ class JoinedLayout:
         if placed.time == 0:
             for own in layout.parts:
                 if own.kind in ("in", "ball"):
-                    self.starts.setdefault(part.wire(own.name or ALWAYS), []).append((own.x + placed.x, own.y + placed.y))
+                    self.starts.setdefault(part.wire(own.name or ALWAYS), []).append(placed.cell(own.cell))
         if placed.end == self.plan.end:
             for own in layout.of_kind("out"):
-                self.ends.setdefault(part.wire(own.name or ""), []).append((own.x + placed.x, own.y + placed.y))
+                self.ends.setdefault(part.wire(own.name or ""), []).append(placed.cell(own.cell))
             for own in layout.of_kind("waste"):
-                self.ends.setdefault("", []).append((own.x + placed.x, own.y + placed.y))
+                self.ends.setdefault("", []).append(placed.cell(own.cell))
 
     def add_dead_ends(self) -> None:
         """Gives each output that is never true and has no cell a cell of the first rows, where nothing moves."""
@@ -70,13 +70,14 @@ class JoinedLayout:
         for wire in circuit.outputs:
             for x, y in sorted(self.ends[wire], key=row_order):
                 yield f"out {wire} {x} {y}"
-        for x, y in sorted((cell for wire, cells in self.ends.items() if wire not in outs for cell in cells), key=row_order):
+        wastes = [cell for wire, cells in self.ends.items() if wire not in outs for cell in cells]
+        for x, y in sorted(wastes, key=row_order):
             yield f"waste {x} {y}"
         yield "end"
 
     def mirrors(self) -> set[Cell]:
         """Returns the cells of all mirrors."""
-        found = {(x + placed.x, y + placed.y) for placed in self.plan.placed for x, y in placed.part.text.layout.mirror_cells()}
+        found = {placed.cell(cell) for placed in self.plan.placed for cell in placed.part.text.layout.mirror_cells()}
         return found | {number_cell(number) for path in self.paths for number in path.item.mirrors}
 
     def ports(self) -> Iterator[tuple[Cell, str]]:
@@ -93,7 +94,8 @@ def crop(plan: Plan, paths: list[Path]) -> None:
     numbers = [number for path in paths for number in corner_numbers(path.item)]
     right = max([0, *(number % ROW + RIM for number in numbers), *(own.x + own.width for own in plan.placed)])
     bottom = max([0, *(number // ROW + RIM for number in numbers), *(own.y + own.height for own in plan.placed)])
-    plan.width, plan.height = min(plan.side, (right // TILE + 1) * TILE), min(plan.side, (bottom // TILE + 1) * TILE)
+    plan.width = min(plan.side, (right // TILE + 1) * TILE)
+    plan.height = min(plan.side, (bottom // TILE + 1) * TILE)
 
 
 def joined_bundle(composed: Composed, plan: Plan, modules: JoinedModules, paths: list[Path]) -> Routed:
@@ -102,7 +104,9 @@ def joined_bundle(composed: Composed, plan: Plan, modules: JoinedModules, paths:
     layout = JoinedLayout(composed, plan, paths)
     certificate = modules.certificate(paths, layout.ports())
     lines, circuit = "\n".join(layout.lines()) + "\n", composed.circuit
-    limits = limits_for(max(plan.width, plan.height), plan.end, len(certificate.modules), len(circuit.gates), len(circuit.defined))
+    side, count = max(plan.width, plan.height), len(certificate.modules)
+    limits = limits_for(side, plan.end, count, len(circuit.gates), len(circuit.defined))
+    text = with_line(composed.section + lines + certificate_text(certificate), limits)
     gates = sum(gate.word not in ("source", "delay") for gate in circuit.gates)
-    return Routed(with_line(composed.section + lines + certificate_text(certificate), limits), "", plan.width, plan.height, plan.end, len(layout.mirrors()),
-                  len(certificate.modules), max(len(module.cuts) for module in certificate.modules), gates)
+    most_cuts = max(len(module.cuts) for module in certificate.modules)
+    return Routed(text, "", plan.width, plan.height, plan.end, len(layout.mirrors()), count, most_cuts, gates)

@@ -1,4 +1,4 @@
-"""The command `bbmlab join`: reads bundles and connections, leads the balls between them, and asks the program for its verdict."""
+"""The command `bbmlab join`: reads bundles and connections, leads the balls, and asks the program for its verdict."""
 
 import argparse
 import re
@@ -12,6 +12,7 @@ from ..limits import SECOND
 from ..program import Executable, ask, find_program
 from ..route.board import NoRouteError
 from ..route.command import ProgressLine, check_side, verdict_of
+from ..route.estimate import counted
 from ..route.search import Routed
 from ..route.settings import Settings
 from ..route.world import TILE
@@ -46,7 +47,9 @@ def part_words(words: list[str]) -> dict[str, str]:
     found: dict[str, str] = {}
     for index, word in enumerate(words):
         given, sign, file = word.partition("=")
-        name, file = (given.lower(), file) if sign and NAME.fullmatch(given.lower()) else (letter_name(index), word)
+        name = given.lower()
+        if not sign or not NAME.fullmatch(name):
+            name, file = letter_name(index), word
         if name in found:
             raise LabError(f"{word}: there is a part {name} already: name this one by NAME=FILE", 2)
         found[name] = file
@@ -59,7 +62,7 @@ def letter_name(index: int) -> str:
 
 
 def connection_of(word: str) -> Connection:
-    """Returns a connection that is written A.OUT=B.IN; raises LabError if it is none. Names of parts may be written in capitals."""
+    """Returns a connection that is written A.OUT=B.IN, also with capitals for parts; raises LabError if it is none."""
     found = CONNECTION.fullmatch(word)
     if found is None:
         raise LabError(f"--connect {word}: it is A.OUT=B.IN: an output of a part, and the input of another one", 2)
@@ -80,7 +83,8 @@ def read_parts(files: dict[str, str], program: Executable, timeout: float | None
             if answer.status == 1:
                 raise LabError(f"{file}: the program says no to it: `join` takes bundles with a yes", 1)
             if answer.status != 0:
-                raise LabError(f"{file}: {answer.output.strip() or answer.errors}: `join` takes bundles with a yes", 1 if answer.status == 3 else 4)
+                why, status = answer.output.strip() or answer.errors, 1 if answer.status == 3 else 4
+                raise LabError(f"{file}: {why}: `join` takes bundles with a yes", status)
             known[data] = read_part(file, data.decode("latin-1"))
         parts[name] = known[data]
     return parts
@@ -88,24 +92,25 @@ def read_parts(files: dict[str, str], program: Executable, timeout: float | None
 
 def require_balls(made: Composed) -> None:
     """Raises LabError if balls of a part cannot be led to it or from it."""
-    for part in made.parts:
-        for connection in made.connections:
-            for name, wire, ports, fault in ((connection.source, connection.output, part.text.ends, part.text.end_fault),
-                                             (connection.target, connection.input, part.text.starts, part.text.start_fault)):
-                if name == part.name:
-                    count = sum(port.wire == wire for port in ports)
-                    if fault or count != 1:
-                        raise LabError(f"{connection}: {fault or f'{wire} has {count} balls in {name}'}: `join` leads one ball of two cells", 1)
+    texts = {part.name: part.text for part in made.parts}
+    for own in made.connections:
+        source, target = texts[own.source], texts[own.target]
+        for wire, ports, fault in ((own.output, source.ends, source.end_fault),
+                                   (own.input, target.starts, target.start_fault)):
+            count = sum(port.wire == wire for port in ports)
+            if fault or count != 1:
+                why = fault or f"{wire} has {count} balls"
+                raise LabError(f"{own}: {why}: `join` leads one ball of two cells", 1)
 
 
 def require_open(plan: Plan) -> None:
-    """Raises LabError if a part that begins later than time 0, or ends before the last time, has no balls there that can be led."""
+    """Raises LabError if a part that begins after time 0, or ends before the last time, has no whole balls there."""
     for placed in plan.placed:
         text, name = placed.part.text, placed.part.name
         if placed.time > 0 and text.start_fault:
             raise LabError(f"{name} begins at time {placed.time} of the join, but {text.start_fault}", 1)
         if placed.end < plan.end and text.end_fault:
-            raise LabError(f"{name} ends at time {placed.end} of the join, before the last time {plan.end}, but {text.end_fault}", 1)
+            raise LabError(f"{name} ends at time {placed.end} of the join of {plan.end} steps, but {text.end_fault}", 1)
 
 
 def search(made: Composed, asked: Asked, line: ProgressLine) -> tuple[Routed | None, str, int]:
@@ -122,15 +127,23 @@ def search(made: Composed, asked: Asked, line: ProgressLine) -> tuple[Routed | N
         try:
             modules = JoinedModules(made, plan)
             wiring = Wiring(plan, modules, asked.seed * 1_000_003 + attempt, SETTINGS, deadline)
-            closed = wiring.closed_end() if attempt == 1 else ""
-            if closed:
-                raise LabError(f"{closed}: route the part with --open-ends", 1)
+            if attempt == 1:
+                require_ways_out(wiring)
+                counts = f"{counted(len(made.parts), 'part')}, {counted(len(plan.jobs), 'ball')} to lead"
+                print(f"bbmlab: {counts}, {plan.end} steps: first side {side}.", file=sys.stderr, flush=True)
             paths = wiring.run(lambda led, total: line.show(attempt, side, led, total))
             return joined_bundle(made, plan, modules, paths), "", attempt
         except NoRouteError as error:
             why = str(error)
         side = side if asked.side else min(SECOND.max_side, int(side * GROWTH) // (2 * TILE) * 2 * TILE)
     return None, why, attempt
+
+
+def require_ways_out(wiring: Wiring) -> None:
+    """Raises LabError if a ball cannot leave its part even if no other ball is led."""
+    closed = wiring.closed_end()
+    if closed:
+        raise LabError(f"{closed}: route the part with --open-ends", 1)
 
 
 def require_steps(steps: int) -> None:
@@ -153,13 +166,16 @@ def join_command(options: argparse.Namespace) -> int:
         routed, why, attempts = search(made, Asked(options.seed, options.size, options.effort), line)
     line.clear()
     if routed is None:
-        print(f"bbmlab: no join in {attempts} attempts and {options.effort:g} seconds: {plain(why)}", file=sys.stderr)
+        spent = f"{counted(attempts, 'attempt')} and {options.effort:g} seconds"
+        print(f"bbmlab: no join in {spent}: {plain(why)}", file=sys.stderr)
         return 1
     answer = ask(program, "check", routed.text.encode("latin-1"), options.timeout)
     write_text(options.output, routed.text)
-    print(f"parts {len(made.parts)}, connections {len(connections)}, size {routed.width} by {routed.height}, steps {routed.steps}, "
-          f"gates placed {routed.gates}, mirror cells {routed.mirrors}, modules {routed.modules}, most cuts {routed.most_cuts}, "
-          f"attempts {attempts}, seconds {time.monotonic() - begun:.1f}", file=sys.stderr)
+    spent = time.monotonic() - begun
+    print(f"parts {len(made.parts)}, connections {len(connections)}, size {routed.width} by {routed.height}, "
+          f"steps {routed.steps}, gates placed {routed.gates}, mirror cells {routed.mirrors}, "
+          f"modules {routed.modules}, most cuts {routed.most_cuts}, attempts {attempts}, seconds {spent:.1f}",
+          file=sys.stderr)
     verdict = verdict_of(answer)
     print(painted(verdict, "green" if verdict == "verdict yes" else "red", sys.stderr), file=sys.stderr)
     return 0 if verdict == "verdict yes" else 1

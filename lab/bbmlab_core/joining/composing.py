@@ -70,7 +70,8 @@ def joined_name(part: str, wire: str) -> str:
     """Returns the name of a part's wire in the join; raises LabError if it is too long."""
     name = f"{part}_{wire}"
     if len(name) > MAX_NAME:
-        raise LabError(f"the wire {wire} of {part} would be {name}; names have at most {MAX_NAME} characters: give the part a shorter name", 1)
+        raise LabError(f"the wire {wire} of {part} would be {name}; names have at most {MAX_NAME} characters: "
+                       "give the part a shorter name", 1)
     return name
 
 
@@ -90,14 +91,16 @@ def require_connections(parts: dict[str, PartText], connections: list[Connection
             used[what + name, wire] = own
         netlist = Netlist(parts[own.source].circuit)
         if netlist.root(own.output) in netlist.constants:
-            raise LabError(f"{own}: the output {own.output} of {own.source} is a constant, which `join` does not lead to an input", 1)
+            what = f"the output {own.output} of {own.source} is a constant"
+            raise LabError(f"{own}: {what}, which `join` does not lead to an input", 1)
 
 
 def ordered(names: list[str], connections: list[Connection]) -> list[str]:
-    """Returns the parts in an order in which each comes after those that feed it; raises LabError if there is a loop."""
+    """Returns the parts so that each comes after those that feed it; raises LabError if there is a loop."""
     left, order = list(names), list[str]()
     while left:
-        ready = next((name for name in left if not any(own.target == name and own.source in left for own in connections)), None)
+        fed = {own.target for own in connections if own.source in left}
+        ready = next((name for name in left if name not in fed), None)
         if ready is None:
             raise LabError(f"the connections make a loop through {', '.join(left)}: a circuit has none", 1)
         left.remove(ready)
@@ -113,7 +116,8 @@ def circuit_lines(parts: list[Named], connections: list[Connection]) -> CircuitL
     for part in parts:
         circuit, wire = part.text.circuit, part.wire
         lines.inputs += [wire(own) for own in circuit.inputs if (part.name, own) not in taken]
-        lines.gates += [GateLine(gate.word, gate.parameter, tuple(map(wire, gate.ins)), tuple(map(wire, gate.outs))) for gate in circuit.gates]
+        lines.gates += [GateLine(gate.word, gate.parameter, tuple(map(wire, gate.ins)), tuple(map(wire, gate.outs)))
+                        for gate in circuit.gates]
         lines.outputs += [wire(own) for own in circuit.outputs if (part.name, own) not in given]
         lines.spills += [wire(own) for own in circuit.spills]
     return lines

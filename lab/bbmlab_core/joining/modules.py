@@ -1,4 +1,4 @@
-"""The modules of a join: those of the parts where they are put, and tiles between them, with the wires that paths bring to them."""
+"""The modules of a join: those of the parts, and tiles between them, with the wires that paths bring to them."""
 
 from collections import Counter, defaultdict
 from dataclasses import replace
@@ -12,7 +12,7 @@ from ..layouts import Cell, row_order
 from ..limits import SECOND
 from ..owners import NOBODY, Owners
 from ..route.balls import moving_cells
-from ..route.board import NoRouteError
+from ..route.board import Bound, NoRouteError
 from ..route.netlist import Netlist
 from ..route.paths import Path
 from ..route.world import TILE, number_cell
@@ -50,12 +50,14 @@ class JoinedModules:
         """Adds the modules of a part, moved and later, with the wires and gates of the join."""
         part, x, y, time = placed.part, placed.x, placed.y, placed.time
         for own in part.text.certificate.modules:
-            module = Module(0, Box(own.box.x + x, own.box.y + y, own.box.width, own.box.height), 0, [part.wires[wire] for wire in own.cuts])
+            box = Box(own.box.x + x, own.box.y + y, own.box.width, own.box.height)
+            module = Module(0, box, 0, [part.wires[wire] for wire in own.cuts])
             module.uses = {part.first_gate + number: 0 for number in own.uses}
             module.keeps = {part.first_gate + number: 0 for number in own.keeps}
-            module.edges = [BorderLine("edge", None if line.time is None else line.time + time, line.x + x, line.y + y, part.wire(line.signal), 0)
-                            for line in own.edges]
-            module.stops = [replace(line, time=line.time + time, name=part.wires[line.name], x=line.x + x, y=line.y + y) for line in own.stops]
+            module.edges = [BorderLine("edge", None if line.time is None else line.time + time, line.x + x, line.y + y,
+                                       part.wire(line.signal), 0) for line in own.edges]
+            module.stops = [replace(line, time=line.time + time, name=part.wires[line.name], x=line.x + x, y=line.y + y)
+                            for line in own.stops]
             self.add(module)
 
     def tiles_between(self) -> Iterator[Box]:
@@ -73,7 +75,7 @@ class JoinedModules:
                 if high < TILE:
                     yield Box(x, y + high, wide, TILE - high)
 
-    # --- wires ---------------------------------------------------------------------------------------------------------
+    # --- wires --------------------------------------------------------------------------------------------------------
 
     def signal(self, wire: str) -> str:
         """Returns the signal of a wire: `1` if it is always true."""
@@ -116,7 +118,7 @@ class JoinedModules:
                 self.extra[number][wire] += change
 
     def wiring(self, number: int, more: Iterable[str] = ()) -> tuple[list[str], list[int]]:
-        """Returns the cuts of a module and the gates that it uses. The part's own come first if there is room for them."""
+        """Returns the cuts of a module and the gates that it uses. The part's own stay if there is room."""
         module = self.modules[number]
         extra = sorted(({*+self.extra[number], *more}) - self.local[number], key=self.circuit.rank)
         constants = [wire for wire in extra if self.netlist.root(wire) in self.netlist.constants]
@@ -132,7 +134,7 @@ class JoinedModules:
         root = self.netlist.root(wire)
         return root != wire and any(self.netlist.root(own) == root for own in self.local[module.number])
 
-    # --- the certificate -----------------------------------------------------------------------------------------------
+    # --- the certificate ----------------------------------------------------------------------------------------------
 
     def certificate(self, paths: list[Path], ports: Iterable[tuple[Cell, str]]) -> Certificate:
         """Returns the certificate with the lines of all paths and of their mirrors."""
@@ -151,7 +153,8 @@ class JoinedModules:
         for module in self.modules:
             cuts, uses = self.wiring(module.number)
             if len(cuts) > MAX_CUTS or len(uses) > MAX_USES:
-                raise NoRouteError(f"the box at ({module.box.x}, {module.box.y}) needs {len(cuts)} wires; {MAX_CUTS} is the most")
+                raise NoRouteError(f"the box at ({module.box.x}, {module.box.y}) needs {len(cuts)} wires; "
+                                   f"{MAX_CUTS} is the most", Bound.WIRES)
             module.cuts, module.uses = cuts, dict.fromkeys(uses, 0)
             module.edges.sort(key=lambda line: line.place)
         return Certificate(2, self.with_large_boxes())
@@ -163,20 +166,27 @@ class JoinedModules:
 
     def with_large_boxes(self) -> list[Module]:
         """Returns the modules with one box in place of many where no box has any line."""
-        quiet = {(module.box.x, module.box.y) for module in self.modules[self.part_count:]
-                 if module.box.width == module.box.height == TILE and not module.cuts and not module.uses and not module.edges}
+        quiet = {(module.box.x, module.box.y) for module in self.modules[self.part_count:] if is_quiet(module)}
         large, side = dict[Cell, Module](), QUIET_TILES * TILE
         for x, y in sorted(quiet, key=row_order):
             group = [(x + i, y + j) for i in range(0, side, TILE) for j in range(0, side, TILE)]
             is_inside = x + side <= self.plan.width and y + side <= self.plan.height
             if x % side == 0 and y % side == 0 and is_inside and quiet.issuperset(group):
                 large |= dict.fromkeys(group, Module(0, Box(x, y, side, side), 0))
-        found = [large.get((module.box.x, module.box.y), module) if number >= self.part_count else module for number, module in enumerate(self.modules)]
-        width, height = self.plan.width, self.plan.height
-        modules = list({id(module): module for module in found if module.box.x < width and module.box.y < height}.values())
+        width, height, found = self.plan.width, self.plan.height, dict[int, Module]()
+        for number, module in enumerate(self.modules):
+            own = large.get((module.box.x, module.box.y), module) if number >= self.part_count else module
+            if own.box.x < width and own.box.y < height:
+                found[id(own)] = own
+        modules = list(found.values())
         if len(modules) > SECOND.max_modules:
             raise LabError(f"the join takes {len(modules)} modules; {SECOND.max_modules} is the most", 1)
         return modules
+
+
+def is_quiet(module: Module) -> bool:
+    """Whether a module is a tile that nothing reaches."""
+    return module.box.width == module.box.height == TILE and not module.cuts and not module.uses and not module.edges
 
 
 def local_wires(circuit: Circuit, module: Module) -> set[str]:

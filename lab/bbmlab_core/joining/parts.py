@@ -34,7 +34,7 @@ class Port:
 class PartText:
     """A bundle that was read. Its ports and what it takes do not depend on the name that a join gives it.
 
-    `start_fault` and `end_fault` say why the part cannot begin later, or end earlier than the others; they are empty if it can.
+    `start_fault` and `end_fault` say why the part cannot begin later, or end earlier than the others, if that is so.
     """
 
     circuit: Circuit
@@ -64,7 +64,10 @@ def read_part(name: str, text: str) -> PartText:
 
 
 def balls_of(cells: Iterable[Cell], time: int) -> list[Ball] | None:
-    """Returns the balls that some cells are at a time, or None if they are not whole balls. A cell's place and the time tell its direction."""
+    """Returns the balls that some cells are at a time, or None if they are not whole balls.
+
+    A cell's place and the time tell its direction.
+    """
     left, found = set(cells), []
 
     def direction(cell: Cell) -> Cell:
@@ -93,7 +96,7 @@ def start_ports(layout: Layout) -> tuple[list[Port], str]:
 
 
 def end_ports(circuit: Circuit, layout: Layout, wastes: dict[Cell, str | None]) -> tuple[list[Port], str]:
-    """Returns the balls at the last time, and why they are none if that is so. A `waste` cell that is never live is none."""
+    """Returns the balls at the last time, without cells that are never live, and why they are none if that is so."""
     cells: dict[str, list[Cell]] = defaultdict(list)
     netlist = Netlist(circuit)
     for part in layout.of_kind("out"):
@@ -113,13 +116,14 @@ def ports_of(cells: dict[str, list[Cell]], time: int, what: str) -> tuple[list[P
         balls = balls_of(own, time)
         if balls is None:
             x, y = own[0]
-            return [], f"the cells of {'constants' if wire == ALWAYS else wire} at its {what}, such as ({x}, {y}), are not balls of two cells"
+            name = "constants" if wire == ALWAYS else wire
+            return [], f"the cells of {name} at its {what}, such as ({x}, {y}), are not balls of two cells"
         ports += [Port(wire, ball) for ball in balls]
     return ports, ""
 
 
 class PartRun:
-    """The runs of all modules of a bundle that got a yes. Together they have each block in which a ball moves, under any inputs."""
+    """The runs of all modules of a bundle with a yes: they have each block in which a ball moves, under any inputs."""
 
     def __init__(self, circuit: Circuit, layout: Layout, certificate: Certificate) -> None:
         self.circuit, self.layout, self.certificate = circuit, layout, certificate
@@ -146,7 +150,7 @@ class PartRun:
                 self.heard[number][odd][cell] = signal
 
     def run(self) -> tuple[Item, dict[Cell, tuple[Module, Table]]]:
-        """Runs all modules; returns what the part takes, and the moving cells at the last time with their module and table."""
+        """Runs all modules; returns what the part takes, and the cells that move at the end, with their tables."""
         last: dict[Cell, tuple[Module, Table]] = {}
         for module in self.certificate.modules:
             last.update((cell, (module, table)) for cell, table in self.run_module(module).items())
@@ -156,7 +160,7 @@ class PartRun:
         return Item(mirrors, (array("q", sorted(touched)),), (array("q", sorted(self.claims)),)), last
 
     def run_module(self, module: Module) -> dict[Cell, Table]:
-        """Runs a module, notes the blocks in which something moves, and returns the moving cells at the last time."""
+        """Runs a module, notes the blocks in which something moves, and returns the cells that move at the end."""
         heard, box, steps = self.heard[module.number], module.box, self.layout.steps
         times, starts = sorted(heard, reverse=True), self.starts[module.number]
         if not times and not starts:

@@ -1,4 +1,4 @@
-"""Places and times for the parts of a join: rows of parts on a square, each part late enough for the balls that it waits for.
+"""Places and times for the parts of a join: rows on a square, each part late enough for its balls.
 
 Shifts are even and places are whole tiles, so blocks stay blocks and the boxes of parts and tiles do not overlap.
 """
@@ -6,6 +6,7 @@ Shifts are even and places are whole tiles, so blocks stay blocks and the boxes 
 import math
 from dataclasses import dataclass
 
+from ..layouts import Cell
 from ..limits import SECOND
 from ..route.balls import Ball
 from ..route.world import TILE
@@ -14,7 +15,8 @@ from .parts import Port
 
 # The cells between a part and the border, and between two parts, at least.
 GAP = 2 * TILE
-# The part of the plane between the parts that may be taken by estimate, and the cells that a ball newly touches in a step.
+# The part of the plane between the parts that may be taken by estimate, and the cells that a ball newly touches in a
+# step.
 FILL = 0.4
 STEP_CELLS = 2.6
 
@@ -35,6 +37,10 @@ class Placed:
     def ball(self, ball: Ball) -> Ball:
         """Returns a ball of the part where and when it is in the join."""
         return ball.moved(self.x, self.y, self.time)
+
+    def cell(self, cell: Cell) -> Cell:
+        """Returns a cell of the part where it is in the join."""
+        return cell[0] + self.x, cell[1] + self.y
 
     @property
     def width(self) -> int:
@@ -65,6 +71,11 @@ class Job:
     end: int
 
     @property
+    def is_between(self) -> bool:
+        """Whether the ball is led from a part to another one."""
+        return self.start is not None and self.goal is not None
+
+    @property
     def steps(self) -> int:
         """The steps of the way."""
         return self.end - (self.start.time if self.start else 0)
@@ -72,7 +83,10 @@ class Job:
 
 @dataclass
 class Plan:
-    """Places and times of all parts, the side of the plane and the last time. The layout is the plane up to `width` and `height`."""
+    """Places and times of all parts, the side of the plane and the last time.
+
+    The layout is the plane up to `width` and `height`.
+    """
 
     side: int
     end: int
@@ -83,7 +97,10 @@ class Plan:
 
 
 def made_plan(composed: Composed, side: int, slack: int) -> Plan | None:
-    """Returns a plan on a plane with a side, or None if the parts have no room there. Balls between parts get some steps to spare."""
+    """Returns a plan on a plane with a side, or None if the parts have no room there.
+
+    Balls between parts get some steps to spare.
+    """
     placed = [Placed(part) for part in composed.parts]
     if not set_places(placed, side):
         return None
@@ -138,13 +155,14 @@ def start_ball(placed: Placed, wire: str) -> Ball:
 
 
 def jobs_of(composed: Composed, placed: dict[str, Placed], end: int) -> list[Job]:
-    """Returns the balls that are to be led: between parts, to parts that begin later, and from parts that end earlier."""
+    """Returns the balls to lead: between parts, to parts that begin later, and from parts that end earlier."""
     given = {(own.source, own.output) for own in composed.connections}
     taken = {(own.target, own.input) for own in composed.connections}
     jobs = []
     for own in composed.connections:
         goal = start_ball(placed[own.target], own.input)
-        jobs.append(Job(placed[own.source].part.wire(own.output), end_ball(placed[own.source], own.output), goal, goal.time))
+        source = placed[own.source]
+        jobs.append(Job(source.part.wire(own.output), end_ball(source, own.output), goal, goal.time))
     for name, part in placed.items():
         text, wire = part.part.text, part.part.wire
         for port in text.starts:

@@ -1,7 +1,7 @@
-"""Leading the balls of a join: between parts, from time 0 to parts that begin later, and to the last time from parts that end earlier.
+"""Leading the balls of a join: between parts, from time 0 to later parts, and on from parts that end earlier.
 
-Balls are led one after another, those with the longest ways first, around all parts and through their free cells. If a ball finds no way,
-the paths across its straight way make room and are led again after it.
+Balls are led one after another: first between parts, then those with the longest ways, around parts and through their
+free cells. If a ball finds no way, the paths across its straight way make room and are led again after it.
 """
 
 import random
@@ -22,7 +22,8 @@ from .planning import Job, Placed, Plan
 STUB_STEPS = (20, 14, 10, 6, 3)
 # The steps at such an end within which room for a bounce is kept.
 BOUNCE_REACH = 60
-# The tries of a path between two parts. It comes back from its goal for some of the first steps, and is joined in some of the second ones.
+# The tries of a path between two parts. It comes back from its goal for some of the first steps, and is joined in some
+# of the second ones.
 CONNECT_TRIES = 12
 BACK_STEPS = (60, 300)
 JOIN_STEPS = (80, 260)
@@ -31,7 +32,8 @@ LEAVING_STEPS = 80
 # The paths that are tried for a ball before others make room, and how often that may happen for each ball.
 TRIES = 4
 RIPS = 6
-# The cost of a step inside a part, in cells, and that of a step away from its border. Outside a step touches at most three new cells.
+# The cost of a step inside a part, in cells, and that of a step away from its border. Outside a step touches at most
+# three new cells.
 INSIDE_CELLS = 5
 OUTWARD_CELLS = 3
 # The columns and rows around an open end in which other paths make room if none crosses its way.
@@ -41,18 +43,21 @@ WAY_STEPS = 76
 
 
 class JoinWorld(World):
-    """A world with parts, in which new cells inside a part are dear: balls leave parts, so that they enclose no other port."""
+    """A world with parts, in which cells inside a part are dear: balls leave parts, so that they enclose no other port.
+
+    Without this, 59 of 85 balls of four joined adders were led before the search ended, and with it all.
+    """
 
     def __init__(self, plan: Plan) -> None:
         super().__init__(plan.side)
-        self.boxes = [(placed.x, placed.y, placed.x + placed.width, placed.y + placed.height) for placed in plan.placed]
+        self.boxes = [(own.x, own.y, own.x + own.width, own.y + own.height) for own in plan.placed]
 
     def depth(self, x: int, y: int) -> int:
         """Returns how far a cell is from the border of the part that it is in, or 0."""
         return max(0, *(min(x - left, right - x, y - top, bottom - y) for left, top, right, bottom in self.boxes))
 
     def new_cells(self, ball: Ball, steps: int) -> int:
-        """Returns the cost of a straight flight: the cells that it newly touches, or more inside a part, but less on the way out."""
+        """Returns the cost of a straight flight: the cells that it newly touches, but more inside a part."""
         depth, far = self.depth(ball.x, ball.y), self.depth(ball.x + steps * ball.dx, ball.y + steps * ball.dy)
         if depth or far:
             return INSIDE_CELLS * steps + OUTWARD_CELLS * (far - depth)
@@ -83,7 +88,7 @@ class Wiring:
         jobs = self.plan.jobs
         for index in range(len(jobs)):
             self.reserve(index)
-        queue = sorted(range(len(jobs)), key=lambda index: (jobs[index].start is None or jobs[index].goal is None, -jobs[index].steps))
+        queue = sorted(range(len(jobs)), key=lambda index: (not jobs[index].is_between, -jobs[index].steps))
         left = RIPS * len(jobs)
         while queue:
             self.check_time()
@@ -103,17 +108,18 @@ class Wiring:
     def words(self, index: int) -> str:
         """Says which ball could not be led."""
         job = self.plan.jobs[index]
-        name = "a constant ball" if job.wire == ALWAYS else f"the ball of wire {job.wire}"
-        ends = [f"{what} ({ball.x}, {ball.y}) at time {ball.time}" for what, ball in (("from", job.start), ("to", job.goal)) if ball]
-        return f"{name} could not be led {' '.join(ends)}"
+        ends = [f"{what} ({ball.x}, {ball.y}) at time {ball.time}"
+                for what, ball in (("from", job.start), ("to", job.goal)) if ball]
+        return f"{ball_words(job)} could not be led {' '.join(ends)}"
 
     def closed_end(self) -> str:
         """Says which open end no ball can leave even if no other ball is led, or returns nothing."""
         for job in self.plan.jobs:
             for ball, sign in ((job.start, 1), (job.goal, -1)):
                 if ball is not None and not any(self.can_leave(ball, sign) for _ in range(TRIES)):
-                    name = "a constant ball" if job.wire == ALWAYS else f"the ball of wire {job.wire}"
-                    return f"{name} at ({ball.x}, {ball.y}) at time {ball.time} has no room for a bounce {'behind it' if sign > 0 else 'before it'}"
+                    where = "behind it" if sign > 0 else "before it"
+                    return (f"{ball_words(job)} at ({ball.x}, {ball.y}) at time {ball.time} has no room for a bounce "
+                            f"{where}")
         return ""
 
     def can_leave(self, ball: Ball, sign: int) -> bool:
@@ -123,7 +129,7 @@ class Wiring:
         trail.clear()
         return found
 
-    # --- one ball ------------------------------------------------------------------------------------------------------
+    # --- one ball -----------------------------------------------------------------------------------------------------
 
     def reserve(self, index: int) -> None:
         """Keeps the next steps at the open ends of a ball that waits free."""
@@ -136,7 +142,10 @@ class Wiring:
         self.stubs[index] = own
 
     def stub(self, ball: Ball, sign: int) -> Item | None:
-        """Returns what a way with one bounce takes behind a ball, or before it if `sign` is -1, else a few straight steps, else None."""
+        """Returns what a way with one bounce takes behind a ball, or before it if `sign` is -1.
+
+        If there is none it is a way of a few straight steps, or None.
+        """
         way = self.finder.open_way(ball, sign, BOUNCE_REACH)
         if way is not None:
             return way
@@ -165,7 +174,7 @@ class Wiring:
         return False
 
     def lead_first(self, index: int) -> bool:
-        """Leads a ball as if no ball near it waited; returns whether a way was found. The others then keep what room is left."""
+        """Leads a ball as if no ball near it waited; returns whether a way was found. The others keep the room left."""
         ends = [ball for ball in (self.plan.jobs[index].start, self.plan.jobs[index].goal) if ball is not None]
         near = [other for other in self.stubs if other != index and self.is_beside(other, ends)]
         for other in near:
@@ -193,7 +202,7 @@ class Wiring:
         return self.connected(job.wire, job.start, job.goal)
 
     def connected(self, wire: str, start: Ball, goal: Ball) -> Path | None:
-        """Returns a path between two parts: it wanders back from the goal and on from the start, and joins both ends."""
+        """Returns a path between two parts: it wanders back from the goal and on from the start, and joins the two."""
         for _ in range(CONNECT_TRIES):
             back, on = Trail(self.world, goal, is_backward=True), Trail(self.world, start)
             legs = self.legs_between(back, on, start, goal)
@@ -231,19 +240,26 @@ class Wiring:
         for ball, sign in ((job.start, 1), (job.goal, -1)):
             if ball is not None:
                 touched |= self.straight_way(ball, sign)
-        found = [other for other, path in self.paths.items() if not touched.isdisjoint(chain(path.item.mirrors, *path.item.touched_parts))]
+        found = [other for other, path in self.paths.items()
+                 if not touched.isdisjoint(chain(path.item.mirrors, *path.item.touched_parts))]
         return found or [other for other, path in self.paths.items() if self.is_near(path, job)]
 
     def is_near(self, path: Path, job: Job) -> bool:
         """Whether a path has a mirror near an open end of a ball."""
         balls = [ball for ball in (job.start, job.goal) if ball is not None]
-        return any(abs(ball.x - mirror.x) < NEAR and abs(ball.y - mirror.y) < NEAR for mirror in path.mirrors() for ball in balls)
+        return any(abs(ball.x - mirror.x) < NEAR and abs(ball.y - mirror.y) < NEAR
+                   for mirror in path.mirrors() for ball in balls)
 
     def straight_way(self, ball: Ball, sign: int) -> set[int]:
-        """Returns the cells of the straight way behind a ball, or before it, up to the first mirror and what is behind it."""
+        """Returns the cells of the straight way behind a ball, or before it, up to the first mirror and a little on."""
         room = 6 + self.world.free_flight(ball if sign > 0 else ball.reversed(), WAY_STEPS)
         way = path_item(ball if sign > 0 else ball.flown(-room), [Leg(room, None)])
         return way.touched if way else set()
+
+
+def ball_words(job: Job) -> str:
+    """Says which ball is led."""
+    return "a constant ball" if job.wire == ALWAYS else f"the ball of wire {job.wire}"
 
 
 def linked(legs: list[Leg], more: list[Leg]) -> list[Leg]:

@@ -18,7 +18,8 @@ from .world import MARGIN, Item, World, path_item
 LEAST_LEG = 12
 # A wander ends with this many steps more than the way to its goal needs at least.
 SPARE_STEPS = 30
-# A way behind an open end goes on for the first number of steps after its bounce, and the second number of steps is free when it is found.
+# A way behind an open end goes on for the first number of steps after its bounce, and the second number of steps is free
+# when it is found. The straight way is kept free for the third number of steps behind the bounce.
 OPEN_LEG = 24
 OPEN_ROOM = 40
 OPEN_PAST = 4
@@ -54,7 +55,8 @@ def joined_item(item: Item, way: Item) -> Item:
     """Returns what a path takes with the straight way at its open end."""
     if way is NO_ITEM:
         return item
-    return Item(item.mirrors | way.mirrors, (*item.touched_parts, *way.touched_parts), (*item.claim_parts, *way.claim_parts))
+    touched = (*item.touched_parts, *way.touched_parts)
+    return Item(item.mirrors | way.mirrors, touched, (*item.claim_parts, *way.claim_parts))
 
 
 class Option(NamedTuple):
@@ -157,13 +159,16 @@ class PathFinder:
         found = self.wander(trail, end)
         legs, last = trail.legs(), trail.ball
         item = path_item(ball, legs) if found and stays else None
-        most = self.settings.open_steps
-        ways = [self.open_way(last, 1, most), *([self.open_way(ball, -1, most)] if ball.time == 0 else [])] if item is not None else []
-        if item is not None and None not in ways:
-            for way in filter(None, ways):
+        if item is not None:
+            most = self.settings.open_steps
+            way = self.open_way(last, 1, most)
+            # A ball that begins anywhere has an open start too.
+            start = self.open_way(ball, -1, most) if ball.time == 0 else NO_ITEM
+            if way is not None and start is not None:
+                item = joined_item(joined_item(item, way), start)
                 self.world.add(way)
-                item = joined_item(item, way)
-            return Path(wire, ball, last, tuple(legs), item)
+                self.world.add(start)
+                return Path(wire, ball, last, tuple(legs), item)
         trail.clear()
         return self.complete(wire, ball, last, legs) if found and not stays else None
 
@@ -180,7 +185,8 @@ class PathFinder:
     def open_way(self, ball: Ball, sign: int, most: int, own: Item | None = None) -> Item | None:
         """Returns what a way on with one bounce takes behind the end of a path, or before its start if `sign` is -1.
 
-        The bounce comes within `most` steps. Its mirror is not put there: it is room for a join. None if something is in the way, `own` included.
+        The bounce comes within `most` steps. Its mirror is not put there: it is room for a join. Returns None if something
+        is in the way, `own` included.
         """
         if not most:
             return NO_ITEM
@@ -191,19 +197,21 @@ class PathFinder:
             straight = path_item(ball if sign > 0 else ball.flown(-steps), [Leg(steps, None)])
             if way is None or straight is None or not self.world.fits(way) or not self.world.fits(straight):
                 continue
-            if own is None or own.mirrors.isdisjoint(way.touched | straight.touched) and way.mirrors.isdisjoint(own.touched):
-                return Item(way.mirrors, (*way.touched_parts, *straight.touched_parts), (*way.claim_parts, *straight.claim_parts))
+            found = joined_item(way, straight)
+            if own is None or own.mirrors.isdisjoint(found.touched) and way.mirrors.isdisjoint(own.touched):
+                return found
         return None
 
     def open_legs(self, ball: Ball, sign: int, most: int) -> Iterator[list[Leg]]:
-        """Yields legs with one bounce that has room, soon behind a ball or before it, and a free way on the other side of the bounce.
+        """Yields legs with one bounce that has room, soon behind a ball or before it, with a free way beyond the bounce.
 
         If a ball soon leaves at the left or at the top, where the plane does not grow, its straight way is first.
         """
         first = 1 if sign > 0 else 3
-        rooms = [place - first for place, direction in ((ball.x, sign * ball.dx), (ball.y, sign * ball.dy)) if direction < 0]
-        if OPEN_PAST <= min(rooms, default=most + 1) <= most and self.world.size - MARGIN - 1 > max(ball.x, ball.y) + most:
-            yield [Leg(min(rooms) - OPEN_PAST, None)]
+        rooms = [place - first for place, step in ((ball.x, sign * ball.dx), (ball.y, sign * ball.dy)) if step < 0]
+        room = min(rooms, default=most + 1)
+        if OPEN_PAST <= room <= most and max(ball.x, ball.y) + most < self.world.size - MARGIN - 1:
+            yield [Leg(room - OPEN_PAST, None)]
         most = self.world.free_flight(ball if sign > 0 else ball.reversed(), most)
         for steps in range(0 if sign > 0 else BOUNCE_STEPS, most + 1):
             at = ball.flown(sign * steps)
@@ -211,7 +219,8 @@ class PathFinder:
                 after, mirror = bounce(at, turn) if sign > 0 else bounce_before(at, turn)
                 clear = after.flown(BOUNCE_STEPS) if sign > 0 else after.reversed()
                 if self.world.can_hold(mirror) and self.world.free_flight(clear, OPEN_ROOM) >= OPEN_ROOM:
-                    yield [Leg(steps, turn), Leg(OPEN_LEG, None)] if sign > 0 else [Leg(OPEN_LEG, turn), Leg(steps, None)]
+                    ends = [Leg(steps, turn), Leg(OPEN_LEG, None)], [Leg(OPEN_LEG, turn), Leg(steps, None)]
+                    yield ends[sign < 0]
 
     def before(self, ball: Ball, legs: list[Leg]) -> Ball:
         """Returns the ball from which legs lead to a ball."""

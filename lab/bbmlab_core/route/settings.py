@@ -68,7 +68,7 @@ class Settings:
     growths: int = 2
     growth_part: int = 24
     most_growth: float = 1.5
-    # The steps before each ball at the start, and behind each ball at the end, in which room for a bounce is kept, so that `join` can lead it.
+    # The steps before each ball at the start, and behind each ball at the end, in which room for a bounce is kept for `join`.
     open_steps: int = 0
     # The part of the plane that is taken at the end at most, and the cells that a ball newly touches in a step by estimate: the ways of 123
     # balls to the last time took 2.35 cells a step, and had no room at 0.56 of the plane.

@@ -74,8 +74,9 @@ class Item:
         """Returns what the item takes elsewhere and later."""
         base = y * ROW + x
         start = time * STEP + base
-        return Item(frozenset(base + number for number in self.mirrors), (array("q", (base + number for number in chain(*self.touched_parts))),),
-                    (array("q", (start + number for number in chain(*self.claim_parts))),))
+        touched = array("q", (base + number for number in chain(*self.touched_parts)))
+        claims = array("q", (start + number for number in chain(*self.claim_parts)))
+        return Item(frozenset(base + number for number in self.mirrors), (touched,), (claims,))
 
     @cached_property
     def tiles(self) -> frozenset[int]:
