@@ -29,6 +29,7 @@ from bbmlab_core.simulation import run_layout
 INTERRUPT_SECONDS = 6.0
 BLOCK = "circuit\ninput a\nsource 1 -> one\nswitch a one -> b c d\noutput b\nspill c\nspill d\nend\n"
 DELAYED = "circuit\ninput a\ninput b\ndelay 40 a -> late\nswitch late b -> c d e\noutput d\noutput c\nspill e\nend\n"
+LATE = "circuit\ninput a\ndelay 40 a -> late\noutput late\nend\n"
 INVERSE = "circuit\ninput a\ninput b\nswitch a b -> c d e\nunswitch c d e -> f g\noutput f\noutput g\nend\n"
 
 
@@ -54,7 +55,7 @@ class Joining(unittest.TestCase):
         cls.addClassCleanup(folder.cleanup)
         cls.room = Path(folder.name)
         half = Path(support.example("half_adder")).read_text()
-        circuits = {"half": half, "block": BLOCK, "delayed": DELAYED, "inverse": INVERSE}
+        circuits = {"half": half, "block": BLOCK, "delayed": DELAYED, "inverse": INVERSE, "late": LATE}
         cls.parts = {name: routed(text, cls.room, name) for name, text in circuits.items()}
 
     def join(self, *words: str, **environment: str) -> subprocess.CompletedProcess[str]:
@@ -225,6 +226,13 @@ class Joining(unittest.TestCase):
         name = "w" * 31
         text = BLOCK.replace("input a", f"input {name}").replace("switch a", f"switch {name}")
         return routed(text, self.room, "long")
+
+    def test_delays_that_do_not_meet(self) -> None:
+        """A delayed output is not led to a gate whose other input is delayed too: its stops would not meet."""
+        ended = self.join("@late", "@delayed", "--connect", "A.late=B.b")
+        self.assertEqual(ended.returncode, 1)
+        self.assertRegex(ended.stderr, r"gate \d+ \(switch\) would get inputs with stops at different times, b_late at")
+        self.assertIsNotNone(self.joined("@late", "@delayed", "--connect", "A.late=B.a"))
 
     def test_closed_ends(self) -> None:
         """A ball that leaves its part in front of a mirror ends the join at once, with its wire."""

@@ -126,6 +126,7 @@ def search(made: Composed, asked: Asked, line: ProgressLine) -> tuple[Routed | N
         require_open(plan)
         try:
             modules = JoinedModules(made, plan)
+            modules.require_meetings()
             wiring = Wiring(plan, modules, asked.seed * 1_000_003 + attempt, SETTINGS, deadline)
             if attempt == 1:
                 require_ways_out(wiring)
@@ -159,15 +160,15 @@ def join_command(options: argparse.Namespace) -> int:
     require_output(options.output, list(files.values()))
     connections = [connection_of(word) for word in options.connect]
     program, begun = find_program(options.program), time.monotonic()
-    line = ProgressLine(options.effort)
+    line = ProgressLine(options.effort, "balls led", "writing the bundle")
     with without_collector():
         made = composed(read_parts(files, program, options.timeout), connections)
         require_balls(made)
         routed, why, attempts = search(made, Asked(options.seed, options.size, options.effort), line)
     line.clear()
     if routed is None:
-        spent = f"{counted(attempts, 'attempt')} and {options.effort:g} seconds"
-        print(f"bbmlab: no join in {spent}: {plain(why)}", file=sys.stderr)
+        tried = f"{counted(attempts, 'attempt')} and {options.effort:g} seconds"
+        print(f"bbmlab: no join in {tried}: {plain(why)}", file=sys.stderr)
         return 1
     answer = ask(program, "check", routed.text.encode("latin-1"), options.timeout)
     write_text(options.output, routed.text)
@@ -178,4 +179,7 @@ def join_command(options: argparse.Namespace) -> int:
           file=sys.stderr)
     verdict = verdict_of(answer)
     print(painted(verdict, "green" if verdict == "verdict yes" else "red", sys.stderr), file=sys.stderr)
+    if verdict != "verdict yes":
+        print("bbmlab: the program does not accept this bundle: this is an error of the lab. "
+              "Please report the parts and the seed.", file=sys.stderr)
     return 0 if verdict == "verdict yes" else 1

@@ -159,6 +159,19 @@ class JoinedModules:
             module.edges.sort(key=lambda line: line.place)
         return Certificate(2, self.with_large_boxes())
 
+    def require_meetings(self) -> None:
+        """Raises LabError if a gate gets wires with stops at different times: the program would say no."""
+        latest: dict[str, int] = {}
+        for module in self.modules:
+            for stop in module.stops:
+                latest[stop.name] = max(stop.time, latest.get(stop.name, 0))
+        for gate in self.circuit.gates:
+            times = {wire: latest[wire] for wire in gate.ins if wire in latest}
+            if len(set(times.values())) > 1:
+                words = " and ".join(f"{wire} at time {time}" for wire, time in times.items())
+                what = f"gate {gate.number} ({gate.word}) would get inputs with stops at different times, {words}"
+                raise LabError(f"{what}: an output with a delay is led to a gate with another delayed input", 1)
+
     def need(self, wire: str, number: int) -> None:
         """Has a module know the wire of a port."""
         if wire not in self.local[number]:
