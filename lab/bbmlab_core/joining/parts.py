@@ -46,6 +46,11 @@ class PartText:
     start_fault: str = ""
     end_fault: str = ""
 
+    @property
+    def can_wait(self) -> bool:
+        """Whether it takes fewer steps of balls to begin the part later than to lead its balls on."""
+        return not self.start_fault and len(self.starts) < len(self.ends)
+
 
 def read_part(name: str, text: str) -> PartText:
     """Returns a bundle with its balls; raises LabError if it is refused or cannot be joined."""

@@ -99,7 +99,8 @@ class Plan:
 def made_plan(composed: Composed, side: int, slack: int) -> Plan | None:
     """Returns a plan on a plane with a side, or None if the parts have no room there.
 
-    Balls between parts get some steps to spare.
+    Balls between parts get some steps to spare. A part that feeds no other one begins as late as it can, if fewer balls
+    come to it than leave it.
     """
     placed = [Placed(part) for part in composed.parts]
     if not set_places(placed, side):
@@ -113,6 +114,10 @@ def made_plan(composed: Composed, side: int, slack: int) -> Plan | None:
                 far = max(abs(first.x - last.x), abs(first.y - last.y))
                 own.time = max(own.time, (source.end + int((1 + DETOUR) * far) + slack + 1) // 2 * 2)
     end = max(own.end for own in placed)
+    for own in placed:
+        feeds_none = not any(connection.source == own.part.name for connection in composed.connections)
+        if feeds_none and own.part.text.can_wait:
+            own.time += (end - own.end) // 2 * 2
     return Plan(side, end, placed, jobs_of(composed, by_name, end), side, side)
 
 
