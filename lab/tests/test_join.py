@@ -180,12 +180,12 @@ class Joining(unittest.TestCase):
 
     def test_balls_of_cells(self) -> None:
         """The balls of cells are found by place and time. Cells that are no balls are not taken for some."""
-        balls = [Ball(10, 10, 1, 1, 4), Ball(14, 14, 1, 1, 4), Ball(21, 30, -1, 1, 4), Ball(41, 41, -1, -1, 4)]
-        self.assertTrue(all(ball.is_legal for ball in balls))
-        cells = [cell for ball in balls for cell in ball.cells()]
-        self.assertEqual(sorted(balls_of(cells, 4) or []), sorted(balls))
-        self.assertIsNone(balls_of(cells[1:], 4))
-        self.assertNotEqual(sorted(balls_of(cells, 5) or []), sorted(balls))
+        even = [Ball(10, 10, 1, 1, 4), Ball(14, 14, 1, 1, 4), Ball(21, 30, -1, 1, 4), Ball(41, 41, -1, -1, 4)]
+        for balls, moment in ((even, 4), ([ball.moved(1, 1, 1) for ball in even], 5)):
+            self.assertTrue(all(ball.is_legal for ball in balls))
+            cells = [cell for ball in balls for cell in ball.cells()]
+            self.assertEqual(sorted(balls_of(cells, moment) or []), sorted(balls))
+            self.assertIsNone(balls_of(cells[1:], moment))
 
     def test_open_ends_can_be_led(self) -> None:
         """Each ball of a part that is routed with open ends can be led away from it, and to it from elsewhere."""
