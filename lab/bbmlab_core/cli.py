@@ -401,13 +401,32 @@ def add_route(commands: Commands) -> None:
     parser.add_argument("--jobs", type=positive, default=1, metavar="N", help="attempts at a time, each in a process (default: 1)")
     parser.add_argument("--compact", action="store_true", help="make attempts on ever smaller planes, and take the smallest layout with the fewest steps")
     parser.add_argument("--no-certificate", action="store_true", help="write the circuit and the layout alone")
+    parser.add_argument("--open-ends", action="store_true", help="keep room at each start and end for `bbmlab join`")
     parser.add_argument("--circuit-only", action="store_true", help="write the circuit section to which a netlist is mapped, and route nothing")
     parser.add_argument("--keep-partial", action="store_true", help="if there is no route, write a bundle of the gates that were placed")
     parser.add_argument("--map", metavar="SVG", help="also write a picture of how full the plane was when the best attempt ended")
     add_program(parser)
 
 
-ADDERS = [add_check, add_receipts, add_explain, add_trace, add_draw, add_view, add_studio, add_certify, add_circuits, add_route, add_cells, add_fmt, add_others]
+def add_join(commands: Commands) -> None:
+    """Adds `join`."""
+    parser = commands.add("join", late("join"), "Put bundles on one plane, lead balls between their ports, certify the whole.",
+                          "Example: bbmlab join first.txt second.txt --connect A.sum=B.p -o bundle.txt")
+    parser.add_argument("files", nargs="+", metavar="PART",
+                        help="a bundle with a yes, as FILE or NAME=FILE; without a name the parts are a, b, c ..")
+    parser.add_argument("--connect", action="extend", nargs="+", default=[], metavar="A.OUT=B.IN",
+                        help="lead an output of a part to an input of another")
+    parser.add_argument("-o", "--output", metavar="FILE", help="write to this file (default: standard output)")
+    parser.add_argument("--seed", type=positive, default=1, metavar="N", help="another seed gives other paths (default: 1)")
+    parser.add_argument("--size", type=positive, metavar="N",
+                        help="the side of the plane, a multiple of 16 up to 4096 (default: as needed)")
+    parser.add_argument("--effort", type=seconds, default=60.0, metavar="SECONDS",
+                        help="how long to search (default: 60)")
+    add_program(parser)
+
+
+ADDERS = [add_check, add_receipts, add_explain, add_trace, add_draw, add_view, add_studio, add_certify, add_circuits,
+          add_route, add_join, add_cells, add_fmt, add_others]
 
 
 def answered(run: Callable[[argparse.Namespace], int], options: argparse.Namespace) -> int:

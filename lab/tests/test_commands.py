@@ -33,7 +33,7 @@ class Documents(unittest.TestCase):
         """docs/LAB.md has at most 1700 words, bars and dashes not counted, and names each command."""
         page = (support.TOP / "docs" / "LAB.md").read_text(encoding="utf-8")
         self.assertLessEqual(sum(bool(re.search(r"\w", piece)) for piece in page.split()), 1700)
-        for name in ("check", "verify", "summary", "explain", "trace", "draw", "view", "studio", "certify", "circuit", "table", "stats", "equal", "route", "cells", "fmt", "json", "golly",
+        for name in ("check", "verify", "summary", "explain", "trace", "draw", "view", "studio", "certify", "circuit", "table", "stats", "equal", "route", "join", "cells", "fmt", "json", "golly",
                      "from-golly"):
             self.assertRegex(page, rf"`(lab/|)(bbmlab |){name}\b")
 

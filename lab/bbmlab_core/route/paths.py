@@ -12,12 +12,18 @@ from typing import Callable, Iterator, NamedTuple, Sequence
 from .balls import BOUNCE_STEPS, Ball, Leg, Mirror, Turn, bounce, bounce_before, follow
 from .bit_rows import Bend, BitJoiner
 from .settings import Settings
-from .world import Item, World, path_item
+from .world import MARGIN, Item, World, path_item
 
 # A leg leads on for at least this many steps, if the path goes on so long.
 LEAST_LEG = 12
 # A wander ends with this many steps more than the way to its goal needs at least.
 SPARE_STEPS = 30
+# A way behind an open end goes on for the first number of steps after its bounce, and the second number of steps is free
+# when it is found. The straight way is kept free for the third number of steps behind the bounce.
+OPEN_LEG = 24
+OPEN_ROOM = 40
+OPEN_PAST = 4
+NO_ITEM = Item(frozenset())
 # A path without a return has at most this many steps to spare.
 STAIR_STEPS = 24
 
@@ -43,6 +49,14 @@ def joined_path(parts: list[Path]) -> Path:
     for part in parts[1:]:
         legs[-1:] = [Leg(legs[-1].steps + part.legs[0].steps, part.legs[0].turn), *part.legs[1:]]
     return Path(parts[0].wire, parts[0].start, parts[-1].end, tuple(legs), Item(frozenset()))
+
+
+def joined_item(item: Item, way: Item) -> Item:
+    """Returns what a path takes with the straight way at its open end."""
+    if way is NO_ITEM:
+        return item
+    touched = (*item.touched_parts, *way.touched_parts)
+    return Item(item.mirrors | way.mirrors, touched, (*item.claim_parts, *way.claim_parts))
 
 
 class Option(NamedTuple):
@@ -146,7 +160,15 @@ class PathFinder:
         legs, last = trail.legs(), trail.ball
         item = path_item(ball, legs) if found and stays else None
         if item is not None:
-            return Path(wire, ball, last, tuple(legs), item)
+            most = self.settings.open_steps
+            way = self.open_way(last, 1, most)
+            # A ball that begins anywhere has an open start too.
+            start = self.open_way(ball, -1, most) if ball.time == 0 else NO_ITEM
+            if way is not None and start is not None:
+                item = joined_item(joined_item(item, way), start)
+                self.world.add(way)
+                self.world.add(start)
+                return Path(wire, ball, last, tuple(legs), item)
         trail.clear()
         return self.complete(wire, ball, last, legs) if found and not stays else None
 
@@ -156,7 +178,55 @@ class PathFinder:
         found = self.wander(trail, 0)
         legs, first = trail.legs() if trail.steps else [], trail.ball.reversed()
         trail.clear()
-        return self.complete(wire, first, goal, legs) if found else None
+        path = self.complete(wire, first, goal, legs) if found else None
+        way = self.open_way(first, -1, self.settings.open_steps, path.item) if path else None
+        return Path(wire, first, goal, path.legs, joined_item(path.item, way)) if path and way else None
+
+    def open_way(self, ball: Ball, sign: int, most: int, own: Item | None = None) -> Item | None:
+        """Returns what a way on with one bounce takes behind the end of a path, or before its start if `sign` is -1.
+
+        The bounce comes within `most` steps. Its mirror is not put there: it is room for a join. Returns None if something
+        is in the way, `own` included.
+        """
+        if not most:
+            return NO_ITEM
+        for legs in self.open_legs(ball, sign, most):
+            way = path_item(ball if sign > 0 else self.before(ball, legs), legs)
+            # A few steps of the straight way keep mirrors so far away that a search sees the bounce.
+            steps = OPEN_PAST + (legs[0] if sign > 0 else legs[-1]).steps
+            straight = path_item(ball if sign > 0 else ball.flown(-steps), [Leg(steps, None)])
+            if way is None or straight is None or not self.world.fits(way) or not self.world.fits(straight):
+                continue
+            found = joined_item(way, straight)
+            if own is None or own.mirrors.isdisjoint(found.touched) and way.mirrors.isdisjoint(own.touched):
+                return found
+        return None
+
+    def open_legs(self, ball: Ball, sign: int, most: int) -> Iterator[list[Leg]]:
+        """Yields legs with one bounce that has room, soon behind a ball or before it, with a free way beyond the bounce.
+
+        If a ball soon leaves at the left or at the top, where the plane does not grow, its straight way is first.
+        """
+        first = 1 if sign > 0 else 3
+        rooms = [place - first for place, step in ((ball.x, sign * ball.dx), (ball.y, sign * ball.dy)) if step < 0]
+        room = min(rooms, default=most + 1)
+        if OPEN_PAST <= room <= most and max(ball.x, ball.y) + most < self.world.size - MARGIN - 1:
+            yield [Leg(room - OPEN_PAST, None)]
+        most = self.world.free_flight(ball if sign > 0 else ball.reversed(), most)
+        for steps in range(0 if sign > 0 else BOUNCE_STEPS, most + 1):
+            at = ball.flown(sign * steps)
+            for turn in Turn:
+                after, mirror = bounce(at, turn) if sign > 0 else bounce_before(at, turn)
+                clear = after.flown(BOUNCE_STEPS) if sign > 0 else after.reversed()
+                if self.world.can_hold(mirror) and self.world.free_flight(clear, OPEN_ROOM) >= OPEN_ROOM:
+                    ends = [Leg(steps, turn), Leg(OPEN_LEG, None)], [Leg(OPEN_LEG, turn), Leg(steps, None)]
+                    yield ends[sign < 0]
+
+    def before(self, ball: Ball, legs: list[Leg]) -> Ball:
+        """Returns the ball from which legs lead to a ball."""
+        for leg in reversed(legs):
+            ball = (bounce_before(ball, leg.turn)[0] if leg.turn else ball).flown(-leg.steps)
+        return ball
 
     def complete(self, wire: str, start: Ball, end: Ball, legs: list[Leg]) -> Path | None:
         """Returns the path of these legs if it meets nothing, itself included."""
@@ -190,7 +260,12 @@ class PathFinder:
         """Whether a trail can fly straight on to its end, with enough time to come to a goal from there."""
         if left < trail.begun or trail.room(left) < left:
             return False
-        return goal is None or is_in_reach(trail.ball.flown(left), goal, SPARE_STEPS)
+        return goal is None or self.can_come(trail.ball.flown(left), goal)
+
+    def can_come(self, ball: Ball, goal: Ball) -> bool:
+        """Whether a wandering ball can come to a goal with steps to spare, more of them if it is far away."""
+        spare = SPARE_STEPS + int(self.settings.wander_detour * max(abs(ball.x - goal.x), abs(ball.y - goal.y)))
+        return is_in_reach(ball, goal, spare)
 
     def options(self, trail: Trail, left: int, goal: Ball | None) -> list[Option]:
         """Returns the ways on of a trail, the cheapest first."""
@@ -209,7 +284,7 @@ class PathFinder:
                     continue
                 clear = after.flown(BOUNCE_STEPS)
                 on = BOUNCE_STEPS + world.free_flight(clear, min(60, rest - BOUNCE_STEPS))
-                if on < min(LEAST_LEG, rest) or goal and not is_in_reach(after, goal, SPARE_STEPS):
+                if on < min(LEAST_LEG, rest) or goal and not self.can_come(after, goal):
                     continue
                 new = world.new_cells(trail.ball, steps) + world.new_cells(clear, on - BOUNCE_STEPS)
                 cost = (new + settings.mirror_cost) / (steps + on) + chance.random() * 0.5

@@ -3,6 +3,10 @@
 from dataclasses import dataclass
 
 
+# The steps of `open_steps` that `route --open-ends` asks for.
+OPEN_STEPS = 30
+
+
 @dataclass(frozen=True)
 class Settings:
     """What the search may spend, and what it prefers. Costs are in cells that a ball newly touches."""
@@ -31,6 +35,8 @@ class Settings:
     wander_tries: int = 160
     wander_steps: int = 20
     wander_options: int = 6
+    # The further steps to spare of a wandering ball for each cell to its goal. A join has crowded parts on the way.
+    wander_detour: float = 0.0
     # The places that are tried for a gate: the first with all paths is taken. After the second number they are as far away as they may be.
     place_tries: int = 1200
     growth_tries: int = 320
@@ -62,6 +68,8 @@ class Settings:
     growths: int = 2
     growth_part: int = 24
     most_growth: float = 1.5
+    # The steps before each ball at the start, and behind each ball at the end, in which room for a bounce is kept for `join`.
+    open_steps: int = 0
     # The part of the plane that is taken at the end at most, and the cells that a ball newly touches in a step by estimate: the ways of 123
     # balls to the last time took 2.35 cells a step, and had no room at 0.56 of the plane.
     end_fill: float = 0.47

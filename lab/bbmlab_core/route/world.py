@@ -70,6 +70,14 @@ class Item:
         """The blocks at times."""
         return set().union(*self.claim_parts)
 
+    def moved(self, x: int, y: int, time: int) -> "Item":
+        """Returns what the item takes elsewhere and later."""
+        base = y * ROW + x
+        start = time * STEP + base
+        touched = array("q", (base + number for number in chain(*self.touched_parts)))
+        claims = array("q", (start + number for number in chain(*self.claim_parts)))
+        return Item(frozenset(base + number for number in self.mirrors), (touched,), (claims,))
+
     @cached_property
     def tiles(self) -> frozenset[int]:
         """The tiles of touched cells and of mirrors."""

@@ -1,0 +1,112 @@
+"""The text of a join: the circuit, the layout with all parts and paths, and the certificate."""
+
+from typing import Iterator
+
+from ..certify import certificate_text
+from ..layouts import Cell, row_order
+from ..limits import limits_for, with_line
+from ..route.certificate import rectangles
+from ..route.design import corner_numbers
+from ..route.netlist import Netlist
+from ..route.paths import Path
+from ..route.search import Routed
+from ..route.world import RIM, ROW, TILE, number_cell
+from .composing import Composed
+from .modules import JoinedModules
+from .parts import ALWAYS
+from .planning import Placed, Plan
+
+
+class JoinedLayout:
+    """The layout of a join. `wires` has the wire of each `in` and `out` cell."""
+
+    def __init__(self, composed: Composed, plan: Plan, paths: list[Path]) -> None:
+        self.composed, self.plan, self.paths = composed, plan, paths
+        self.netlist = Netlist(composed.circuit)
+        self.starts: dict[str, list[Cell]] = {}
+        self.ends: dict[str, list[Cell]] = {}
+        for placed in plan.placed:
+            self.add_part(placed)
+        for job, path in zip(plan.jobs, paths):
+            if job.start is None:
+                self.starts.setdefault(job.wire, []).extend(path.start.cells())
+            if job.goal is None:
+                self.ends.setdefault(job.wire, []).extend(path.end.cells())
+        self.add_dead_ends()
+
+    def add_part(self, placed: Placed) -> None:
+        """Adds the ports of a part that begin at time 0 or end at the last time: they stay where they are."""
+        part, layout = placed.part, placed.part.text.layout
+        if placed.time == 0:
+            for own in layout.parts:
+                if own.kind in ("in", "ball"):
+                    self.starts.setdefault(part.wire(own.name or ALWAYS), []).append(placed.cell(own.cell))
+        if placed.end == self.plan.end:
+            for own in layout.of_kind("out"):
+                self.ends.setdefault(part.wire(own.name or ""), []).append(placed.cell(own.cell))
+            for own in layout.of_kind("waste"):
+                self.ends.setdefault("", []).append(placed.cell(own.cell))
+
+    def add_dead_ends(self) -> None:
+        """Gives each output that is never true and has no cell a cell of the first rows, where nothing moves."""
+        dead = 0
+        for wire in self.composed.circuit.outputs:
+            if wire not in self.ends:
+                self.ends[wire] = [(dead % self.plan.width, dead // self.plan.width)]
+                dead += 1
+
+    def lines(self) -> Iterator[str]:
+        """Yields the lines of the layout section."""
+        plan, circuit = self.plan, self.composed.circuit
+        yield f"layout {plan.width} {plan.height} {plan.end}"
+        for x, y, width, height in rectangles(self.mirrors()):
+            yield f"mirror {x} {y} {width} {height}"
+        for x, y in sorted(self.starts.get(ALWAYS, []), key=row_order):
+            yield f"ball {x} {y}"
+        for wire in circuit.inputs:
+            for x, y in sorted(self.starts.get(wire, []), key=row_order):
+                yield f"in {wire} {x} {y}"
+        outs = set(circuit.outputs)
+        for wire in circuit.outputs:
+            for x, y in sorted(self.ends[wire], key=row_order):
+                yield f"out {wire} {x} {y}"
+        wastes = [cell for wire, cells in self.ends.items() if wire not in outs for cell in cells]
+        for x, y in sorted(wastes, key=row_order):
+            yield f"waste {x} {y}"
+        yield "end"
+
+    def mirrors(self) -> set[Cell]:
+        """Returns the cells of all mirrors."""
+        found = {placed.cell(cell) for placed in self.plan.placed for cell in placed.part.text.layout.mirror_cells()}
+        return found | {number_cell(number) for path in self.paths for number in path.item.mirrors}
+
+    def ports(self) -> Iterator[tuple[Cell, str]]:
+        """Yields the cells of inputs and outputs with their wires."""
+        circuit = self.composed.circuit
+        for wires, cells in ((circuit.inputs, self.starts), (circuit.outputs, self.ends)):
+            for wire in wires:
+                for cell in cells.get(wire, []):
+                    yield cell, wire
+
+
+def crop(plan: Plan, paths: list[Path]) -> None:
+    """Leaves out whole tiles of a plane at the right and below that nothing reaches."""
+    numbers = [number for path in paths for number in corner_numbers(path.item)]
+    right = max([0, *(number % ROW + RIM for number in numbers), *(own.x + own.width for own in plan.placed)])
+    bottom = max([0, *(number // ROW + RIM for number in numbers), *(own.y + own.height for own in plan.placed)])
+    plan.width = min(plan.side, (right // TILE + 1) * TILE)
+    plan.height = min(plan.side, (bottom // TILE + 1) * TILE)
+
+
+def joined_bundle(composed: Composed, plan: Plan, modules: JoinedModules, paths: list[Path]) -> Routed:
+    """Returns the bundle of a join whose balls are all led; raises NoRouteError if a module needs too many wires."""
+    crop(plan, paths)
+    layout = JoinedLayout(composed, plan, paths)
+    certificate = modules.certificate(paths, layout.ports())
+    lines, circuit = "\n".join(layout.lines()) + "\n", composed.circuit
+    side, count = max(plan.width, plan.height), len(certificate.modules)
+    limits = limits_for(side, plan.end, count, len(circuit.gates), len(circuit.defined))
+    text = with_line(composed.section + lines + certificate_text(certificate), limits)
+    gates = sum(gate.word not in ("source", "delay") for gate in circuit.gates)
+    most_cuts = max(len(module.cuts) for module in certificate.modules)
+    return Routed(text, "", plan.width, plan.height, plan.end, len(layout.mirrors()), count, most_cuts, gates)

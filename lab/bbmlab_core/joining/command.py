@@ -1,0 +1,185 @@
+"""The command `bbmlab join`: reads bundles and connections, leads the balls, and asks the program for its verdict."""
+
+import argparse
+import re
+import string
+import sys
+import time
+from dataclasses import dataclass
+
+from ..documents import without_collector
+from ..limits import SECOND
+from ..program import Executable, ask, find_program
+from ..route.board import NoRouteError
+from ..route.command import ProgressLine, check_side, verdict_of
+from ..route.estimate import counted
+from ..route.search import Routed
+from ..route.settings import Settings
+from ..route.world import TILE
+from ..terminal import LabError, painted, plain, read_bytes, require_output, write_text
+from .bundles import joined_bundle
+from .composing import Composed, Connection, composed
+from .modules import JoinedModules
+from .parts import PartText, read_part
+from .planning import Plan, estimated_side, made_plan
+from .wiring import Wiring
+
+NAME = re.compile(r"[a-z][a-z0-9_]{0,15}")
+CONNECTION = re.compile(r"(\w+)\.(\w+)=(\w+)\.(\w+)")
+# The steps to spare of a ball between two parts, by the attempts.
+SLACKS = (150, 250, 350)
+SETTINGS = Settings(wander_detour=0.25, wander_options=16)
+# By how much the plane grows after an attempt that failed.
+GROWTH = 1.12
+
+
+@dataclass(frozen=True)
+class Asked:
+    """What a join is asked for: a seed, a side or None, and seconds."""
+
+    seed: int
+    side: int | None
+    effort: float
+
+
+def part_words(words: list[str]) -> dict[str, str]:
+    """Returns the file of each part by its name: NAME=FILE, or FILE for a part that is named by its place."""
+    found: dict[str, str] = {}
+    for index, word in enumerate(words):
+        given, sign, file = word.partition("=")
+        name = given.lower()
+        if not sign or not NAME.fullmatch(name):
+            name, file = letter_name(index), word
+        if name in found:
+            raise LabError(f"{word}: there is a part {name} already: name this one by NAME=FILE", 2)
+        found[name] = file
+    return found
+
+
+def letter_name(index: int) -> str:
+    """Returns the name of a part by its place: a, b, .. z, a1, b1, .."""
+    return string.ascii_lowercase[index % 26] + (str(index // 26) if index >= 26 else "")
+
+
+def connection_of(word: str) -> Connection:
+    """Returns a connection that is written A.OUT=B.IN, also with capitals for parts; raises LabError if it is none."""
+    found = CONNECTION.fullmatch(word)
+    if found is None:
+        raise LabError(f"--connect {word}: it is A.OUT=B.IN: an output of a part, and the input of another one", 2)
+    source, output, target, given = found.groups()
+    return Connection(source.lower(), output, target.lower(), given)
+
+
+def read_parts(files: dict[str, str], program: Executable, timeout: float | None) -> dict[str, PartText]:
+    """Returns the parts, each of which the program accepts. A file that is named twice is read once."""
+    known: dict[bytes, PartText] = {}
+    parts: dict[str, PartText] = {}
+    for name, file in files.items():
+        data = read_bytes(file)
+        if data not in known:
+            if len(data) > SECOND.max_bytes:
+                raise LabError(f"{file}: the text is longer than {SECOND.max_bytes} bytes", 1)
+            answer = ask(program, "check", data, timeout)
+            if answer.status == 1:
+                raise LabError(f"{file}: the program says no to it: `join` takes bundles with a yes", 1)
+            if answer.status != 0:
+                why, status = answer.output.strip() or answer.errors, 1 if answer.status == 3 else 4
+                raise LabError(f"{file}: {why}: `join` takes bundles with a yes", status)
+            known[data] = read_part(file, data.decode("latin-1"))
+        parts[name] = known[data]
+    return parts
+
+
+def require_balls(made: Composed) -> None:
+    """Raises LabError if balls of a part cannot be led to it or from it."""
+    texts = {part.name: part.text for part in made.parts}
+    for own in made.connections:
+        source, target = texts[own.source], texts[own.target]
+        for wire, ports, fault in ((own.output, source.ends, source.end_fault),
+                                   (own.input, target.starts, target.start_fault)):
+            count = sum(port.wire == wire for port in ports)
+            if fault or count != 1:
+                why = fault or f"{wire} has {count} balls"
+                raise LabError(f"{own}: {why}: `join` leads one ball of two cells", 1)
+
+
+def require_open(plan: Plan) -> None:
+    """Raises LabError if a part that begins after time 0, or ends before the last time, has no whole balls there."""
+    for placed in plan.placed:
+        text, name = placed.part.text, placed.part.name
+        if placed.time > 0 and text.start_fault:
+            raise LabError(f"{name} begins at time {placed.time} of the join, but {text.start_fault}", 1)
+        if placed.end < plan.end and text.end_fault:
+            raise LabError(f"{name} ends at time {placed.end} of the join of {plan.end} steps, but {text.end_fault}", 1)
+
+
+def search(made: Composed, asked: Asked, line: ProgressLine) -> tuple[Routed | None, str, int]:
+    """Returns the bundle of a join, or None with the reason, and the number of attempts."""
+    deadline, why, attempt = time.monotonic() + asked.effort, "", 0
+    side = asked.side or estimated_side(made, SLACKS[0])
+    while attempt == 0 or time.monotonic() < deadline:
+        plan = made_plan(made, side, SLACKS[attempt % len(SLACKS)])
+        if plan is None:
+            raise LabError(f"the parts have no room on a plane of {side} by {side} cells", 1)
+        attempt += 1
+        require_steps(plan.end)
+        require_open(plan)
+        try:
+            modules = JoinedModules(made, plan)
+            modules.require_meetings()
+            wiring = Wiring(plan, modules, asked.seed * 1_000_003 + attempt, SETTINGS, deadline)
+            if attempt == 1:
+                require_ways_out(wiring)
+                counts = f"{counted(len(made.parts), 'part')}, {counted(len(plan.jobs), 'ball')} to lead"
+                print(f"bbmlab: {counts}, {plan.end} steps: first side {side}.", file=sys.stderr, flush=True)
+            paths = wiring.run(lambda led, total: line.show(attempt, side, led, total))
+            return joined_bundle(made, plan, modules, paths), "", attempt
+        except NoRouteError as error:
+            why = str(error)
+        side = side if asked.side else min(SECOND.max_side, int(side * GROWTH) // (2 * TILE) * 2 * TILE)
+    return None, why, attempt
+
+
+def require_ways_out(wiring: Wiring) -> None:
+    """Raises LabError if a ball cannot leave its part even if no other ball is led."""
+    closed = wiring.closed_end()
+    if closed:
+        raise LabError(f"{closed}: route the part with --open-ends", 1)
+
+
+def require_steps(steps: int) -> None:
+    """Raises LabError if a layout cannot have so many steps."""
+    if steps > SECOND.max_steps:
+        raise LabError(f"the join needs {steps} steps; a layout has at most {SECOND.max_steps}", 1)
+
+
+def join_command(options: argparse.Namespace) -> int:
+    """Runs `bbmlab join`."""
+    check_side(options.size)
+    files = part_words(options.files)
+    require_output(options.output, list(files.values()))
+    connections = [connection_of(word) for word in options.connect]
+    program, begun = find_program(options.program), time.monotonic()
+    line = ProgressLine(options.effort, "balls led", "writing the bundle")
+    with without_collector():
+        made = composed(read_parts(files, program, options.timeout), connections)
+        require_balls(made)
+        routed, why, attempts = search(made, Asked(options.seed, options.size, options.effort), line)
+    line.clear()
+    if routed is None:
+        tried = f"{counted(attempts, 'attempt')} and {options.effort:g} seconds"
+        print(f"bbmlab: no join in {tried}: {plain(why)}", file=sys.stderr)
+        return 1
+    answer = ask(program, "check", routed.text.encode("latin-1"), options.timeout)
+    write_text(options.output, routed.text)
+    spent = time.monotonic() - begun
+    print(f"parts {len(made.parts)}, connections {len(connections)}, size {routed.width} by {routed.height}, "
+          f"steps {routed.steps}, gates placed {routed.gates}, mirror cells {routed.mirrors}, "
+          f"modules {routed.modules}, most cuts {routed.most_cuts}, attempts {attempts}, seconds {spent:.1f}",
+          file=sys.stderr)
+    verdict = verdict_of(answer)
+    print(painted(verdict, "green" if verdict == "verdict yes" else "red", sys.stderr), file=sys.stderr)
+    if verdict != "verdict yes":
+        print("bbmlab: the program does not accept this bundle: this is an error of the lab. "
+              "Please report the parts and the seed.", file=sys.stderr)
+    return 0 if verdict == "verdict yes" else 1

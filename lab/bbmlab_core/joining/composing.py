@@ -1,0 +1,123 @@
+"""The circuit of a join: the parts' circuits one after another, with wires that have the part's name in front."""
+
+from dataclasses import dataclass, field
+
+from ..circuits import Circuit
+from ..gate_lines import CircuitLines, GateLine
+from ..limits import sections_after_line
+from ..netlists.naming import MAX_NAME
+from ..route.netlist import Netlist
+from ..terminal import LabError
+from .parts import ALWAYS, PartText
+
+
+@dataclass(frozen=True)
+class Connection:
+    """An output of a part that becomes an input of another one."""
+
+    source: str
+    output: str
+    target: str
+    input: str
+
+    def __str__(self) -> str:
+        """Writes the connection as the command's word."""
+        return f"{self.source}.{self.output}={self.target}.{self.input}"
+
+
+@dataclass
+class Named:
+    """A part with its name, its wires as the join calls them, and the number of its first gate there."""
+
+    name: str
+    text: PartText
+    wires: dict[str, str] = field(default_factory=dict)
+    first_gate: int = 0
+
+    def wire(self, own: str) -> str:
+        """Returns what the join calls a wire of the part. A ball that is always there has no wire."""
+        return own if own == ALWAYS else self.wires[own]
+
+
+@dataclass(frozen=True)
+class Composed:
+    """The circuit of a join, with its parts in an order in which each comes after those that feed it."""
+
+    parts: list[Named]
+    connections: list[Connection]
+    section: str
+    circuit: Circuit
+
+
+def composed(parts: dict[str, PartText], connections: list[Connection]) -> Composed:
+    """Returns the circuit of parts whose ports are connected; raises LabError if that is none."""
+    require_connections(parts, connections)
+    order = ordered(list(parts), connections)
+    named = [Named(name, parts[name]) for name in order]
+    fed = {(own.target, own.input): own for own in connections}
+    by_name = {part.name: part for part in named}
+    count = 0
+    for part in named:
+        part.first_gate, count = count, count + len(part.text.circuit.gates)
+        for wire in part.text.circuit.defined:
+            own = fed.get((part.name, wire))
+            part.wires[wire] = by_name[own.source].wires[own.output] if own else joined_name(part.name, wire)
+    lines = circuit_lines(named, connections)
+    return Composed(named, connections, sections_after_line(lines.text()), lines.circuit())
+
+
+def joined_name(part: str, wire: str) -> str:
+    """Returns the name of a part's wire in the join; raises LabError if it is too long."""
+    name = f"{part}_{wire}"
+    if len(name) > MAX_NAME:
+        raise LabError(f"the wire {wire} of {part} would be {name}; names have at most {MAX_NAME} characters: "
+                       "give the part a shorter name", 1)
+    return name
+
+
+def require_connections(parts: dict[str, PartText], connections: list[Connection]) -> None:
+    """Raises LabError if a connection names no port, a port twice, or a port whose wire is a constant."""
+    used: dict[tuple[str, str], Connection] = {}
+    for own in connections:
+        for name, wire, what in ((own.source, own.output, "output"), (own.target, own.input, "input")):
+            part = parts.get(name)
+            if part is None:
+                raise LabError(f"{own}: there is no part {name}; the parts are {', '.join(parts)}", 2)
+            ports = part.circuit.outputs if what == "output" else part.circuit.inputs
+            if wire not in ports:
+                raise LabError(f"{own}: {name} has no {what} {wire}", 2)
+            if (what + name, wire) in used:
+                raise LabError(f"{own}: the {what} {wire} of {name} is connected twice", 2)
+            used[what + name, wire] = own
+        netlist = Netlist(parts[own.source].circuit)
+        if netlist.root(own.output) in netlist.constants:
+            what = f"the output {own.output} of {own.source} is a constant"
+            raise LabError(f"{own}: {what}, which `join` does not lead to an input", 1)
+
+
+def ordered(names: list[str], connections: list[Connection]) -> list[str]:
+    """Returns the parts so that each comes after those that feed it; raises LabError if there is a loop."""
+    left, order = list(names), list[str]()
+    while left:
+        fed = {own.target for own in connections if own.source in left}
+        ready = next((name for name in left if name not in fed), None)
+        if ready is None:
+            raise LabError(f"the connections make a loop through {', '.join(left)}: a circuit has none", 1)
+        left.remove(ready)
+        order.append(ready)
+    return order
+
+
+def circuit_lines(parts: list[Named], connections: list[Connection]) -> CircuitLines:
+    """Returns the lines of the circuit of the join. Connected ports are neither inputs nor outputs."""
+    given = {(own.source, own.output) for own in connections}
+    taken = {(own.target, own.input) for own in connections}
+    lines = CircuitLines()
+    for part in parts:
+        circuit, wire = part.text.circuit, part.wire
+        lines.inputs += [wire(own) for own in circuit.inputs if (part.name, own) not in taken]
+        lines.gates += [GateLine(gate.word, gate.parameter, tuple(map(wire, gate.ins)), tuple(map(wire, gate.outs)))
+                        for gate in circuit.gates]
+        lines.outputs += [wire(own) for own in circuit.outputs if (part.name, own) not in given]
+        lines.spills += [wire(own) for own in circuit.spills]
+    return lines

@@ -1,0 +1,215 @@
+"""The parts of a join: bundles with the balls at their starts and ends, and what their balls and mirrors take."""
+
+from array import array
+from collections import defaultdict
+from dataclasses import dataclass
+from typing import Iterable
+
+from ..certificates import Certificate, Module
+from ..circuits import Circuit
+from ..documents import read_document
+from ..gates import Table
+from ..layouts import Cell, Layout
+from ..owners import Owners
+from ..refusals import refusal_words
+from ..route.balls import Ball, block_corner, stepped
+from ..route.netlist import Netlist
+from ..route.world import ROW, STEP, Item, cell_number
+from ..simulation import local_values
+from ..terminal import LabError
+
+# The wire of a ball that is always there.
+ALWAYS = "1"
+
+
+@dataclass(frozen=True)
+class Port:
+    """A ball at the start or at the end of a part, at its time there, with the wire that it carries."""
+
+    wire: str
+    ball: Ball
+
+
+@dataclass(frozen=True)
+class PartText:
+    """A bundle that was read. Its ports and what it takes do not depend on the name that a join gives it.
+
+    `start_fault` and `end_fault` say why the part cannot begin later, or end earlier than the others, if that is so.
+    """
+
+    circuit: Circuit
+    layout: Layout
+    certificate: Certificate
+    starts: list[Port]
+    ends: list[Port]
+    item: Item
+    start_fault: str = ""
+    end_fault: str = ""
+
+    @property
+    def can_wait(self) -> bool:
+        """Whether it takes fewer steps of balls to begin the part later than to lead its balls on."""
+        return not self.start_fault and len(self.starts) < len(self.ends)
+
+
+def read_part(name: str, text: str) -> PartText:
+    """Returns a bundle with its balls; raises LabError if it is refused or cannot be joined."""
+    document = read_document(text, "check")
+    if document.refusal is not None:
+        raise LabError(f"{name}: {refusal_words(document, document.refusal.line)}", 1)
+    circuit, layout, certificate = document.circuit, document.layout, document.certificate
+    assert circuit is not None and layout is not None and certificate is not None
+    if certificate.version == 1:
+        raise LabError(f"{name}: its certificate has version 1: `bbmcheck migrate` writes version 2", 1)
+    run = PartRun(circuit, layout, certificate)
+    item, last = run.run()
+    starts, start_fault = start_ports(layout)
+    ends, end_fault = end_ports(circuit, layout, run.wires_at_end(last))
+    return PartText(circuit, layout, certificate, starts, ends, item, start_fault, end_fault)
+
+
+def balls_of(cells: Iterable[Cell], time: int) -> list[Ball] | None:
+    """Returns the balls that some cells are at a time, or None if they are not whole balls.
+
+    A cell's place and the time tell its direction.
+    """
+    left, found = set(cells), []
+
+    def direction(cell: Cell) -> Cell:
+        """Returns the direction in which a lone cell moves."""
+        return 1 - 2 * ((cell[0] + time) % 2), 1 - 2 * ((cell[1] + time) % 2)
+
+    for x, y in sorted(left, key=lambda cell: (direction(cell), -cell[0] * direction(cell)[0], cell[1])):
+        dx, dy = direction((x, y))
+        tail = x - 2 * dx, y - 2 * dy
+        if (x, y) not in left:
+            continue
+        if tail not in left:
+            return None
+        left -= {(x, y), tail}
+        found.append(Ball(x, y, dx, dy, time))
+    return found
+
+
+def start_ports(layout: Layout) -> tuple[list[Port], str]:
+    """Returns the balls at time 0, and why they are none if that is so."""
+    cells: dict[str, list[Cell]] = defaultdict(list)
+    for part in layout.parts:
+        if part.kind in ("in", "ball"):
+            cells[part.name or ALWAYS].append(part.cell)
+    return ports_of(cells, 0, "start")
+
+
+def end_ports(circuit: Circuit, layout: Layout, wastes: dict[Cell, str | None]) -> tuple[list[Port], str]:
+    """Returns the balls at the last time, without cells that are never live, and why they are none if that is so."""
+    cells: dict[str, list[Cell]] = defaultdict(list)
+    netlist = Netlist(circuit)
+    for part in layout.of_kind("out"):
+        if not netlist.is_zero(part.name or ""):
+            cells[part.name or ""].append(part.cell)
+    for cell, wire in wastes.items():
+        if wire is None:
+            return [], f"the `waste` cell ({cell[0]}, {cell[1]}) carries no wire"
+        cells[wire].append(cell)
+    return ports_of(cells, layout.steps, "end")
+
+
+def ports_of(cells: dict[str, list[Cell]], time: int, what: str) -> tuple[list[Port], str]:
+    """Returns the balls of the cells of each wire, and why they are none if that is so."""
+    ports: list[Port] = []
+    for wire, own in cells.items():
+        balls = balls_of(own, time)
+        if balls is None:
+            x, y = own[0]
+            name = "constants" if wire == ALWAYS else wire
+            return [], f"the cells of {name} at its {what}, such as ({x}, {y}), are not balls of two cells"
+        ports += [Port(wire, ball) for ball in balls]
+    return ports, ""
+
+
+class PartRun:
+    """The runs of all modules of a bundle with a yes: they have each block in which a ball moves, under any inputs."""
+
+    def __init__(self, circuit: Circuit, layout: Layout, certificate: Certificate) -> None:
+        self.circuit, self.layout, self.certificate = circuit, layout, certificate
+        self.owners: Owners = certificate.owners()
+        self.mirrors = layout.mirror_cells()
+        self.claims: set[int] = set()
+        self.starts: dict[int, dict[Cell, str]] = defaultdict(dict)
+        for part in layout.parts:
+            if part.kind in ("in", "ball"):
+                self.starts[self.owners.owner_at(part.cell)][part.cell] = part.name or ALWAYS
+        # What each module hears, by time.
+        self.heard: dict[int, dict[int, dict[Cell, str]]] = defaultdict(lambda: defaultdict(dict))
+        for module in certificate.modules:
+            for line in module.edges:
+                if line.time is not None or line.cell not in self.mirrors:
+                    self.note_edge(module, line.time, line.cell, line.signal)
+
+    def note_edge(self, module: Module, time: int | None, cell: Cell, signal: str) -> None:
+        """Notes which modules hear a line."""
+        x, y = cell
+        near = {self.owners.owner_at((x + i, y + j)) for i in (-1, 1) for j in (-1, 1)}
+        for number in near - {module.number, -1}:
+            for odd in (time,) if time is not None else range(1, self.layout.steps, 2):
+                self.heard[number][odd][cell] = signal
+
+    def run(self) -> tuple[Item, dict[Cell, tuple[Module, Table]]]:
+        """Runs all modules; returns what the part takes, and the cells that move at the end, with their tables."""
+        last: dict[Cell, tuple[Module, Table]] = {}
+        for module in self.certificate.modules:
+            last.update((cell, (module, table)) for cell, table in self.run_module(module).items())
+        mirrors = frozenset(map(cell_number, self.mirrors))
+        corners = {claim % STEP for claim in self.claims}
+        touched = {corner + offset for corner in corners for offset in (0, 1, ROW, ROW + 1)} - mirrors
+        return Item(mirrors, (array("q", sorted(touched)),), (array("q", sorted(self.claims)),)), last
+
+    def run_module(self, module: Module) -> dict[Cell, Table]:
+        """Runs a module, notes the blocks in which something moves, and returns the cells that move at the end."""
+        heard, box, steps = self.heard[module.number], module.box, self.layout.steps
+        times, starts = sorted(heard, reverse=True), self.starts[module.number]
+        if not times and not starts:
+            return {}
+        values = local_values(self.circuit, module)
+        full = values.full
+        for table in values.rows.values():
+            full &= table
+        tables = {name: table & full for name, table in values.tables.items()} | {ALWAYS: full}
+        live = {cell: tables[wire] for cell, wire in starts.items() if tables[wire]}
+        time = 0
+        while time < steps:
+            while times and times[-1] < time:
+                times.pop()
+            if not live:
+                if not times:
+                    break
+                time = times[-1]
+            now = dict(live)
+            if time % 2 and time in heard:
+                now.update((cell, tables[wire]) for cell, wire in heard[time].items() if tables[wire])
+            corners = {block_corner(cell, time) for cell in now}
+            self.claims.update(time * STEP + y * ROW + x for x, y in corners)
+            following = stepped(self.mirrors, now, full, corners)
+            if following is None:
+                raise LabError("a module of a bundle with a yes does not run: this is an error of the lab")
+            live, time = {cell: table for cell, table in following.items() if box.has(cell)}, time + 1
+        return live
+
+    def wires_at_end(self, last: dict[Cell, tuple[Module, Table]]) -> dict[Cell, str | None]:
+        """Returns the wire of each `waste` cell that may be live at the last time, or None if it carries none."""
+        netlist, wires = Netlist(self.circuit), dict[Cell, str | None]()
+        spills = set(self.circuit.spills)
+        for part in self.layout.of_kind("waste"):
+            if part.cell not in last:
+                continue
+            module, table = last[part.cell]
+            values = local_values(self.circuit, module)
+            full = values.full
+            for rows in values.rows.values():
+                full &= rows
+            names = [name for name, own in values.tables.items() if own & full == table]
+            names.sort(key=lambda name: (name not in spills, self.circuit.rank(name)))
+            wire = names[0] if names else (ALWAYS if table == full else None)
+            wires[part.cell] = ALWAYS if wire is not None and netlist.constants.get(netlist.root(wire)) else wire
+        return wires
+

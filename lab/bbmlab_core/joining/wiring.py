@@ -1,0 +1,272 @@
+"""Leading the balls of a join: between parts, from time 0 to later parts, and on from parts that end earlier.
+
+Balls are led one after another: first between parts, then those with the longest ways, around parts and through their
+free cells. If a ball finds no way, the paths across its straight way make room and are led again after it.
+"""
+
+import random
+import time
+from itertools import chain
+from typing import Callable
+
+from ..route.balls import Ball, Leg
+from ..route.board import Bound, NoRouteError
+from ..route.paths import Path, PathFinder, Trail
+from ..route.settings import Settings
+from ..route.world import Item, World, path_item
+from .modules import JoinedModules
+from .parts import ALWAYS
+from .planning import Job, Placed, Plan
+
+# The steps at the open ends of balls that wait which are kept free, the first that fit.
+STUB_STEPS = (20, 14, 10, 6, 3)
+# The steps at such an end within which room for a bounce is kept.
+BOUNCE_REACH = 60
+# The tries of a path between two parts. It comes back from its goal for some of the first steps, and is joined in some
+# of the second ones.
+CONNECT_TRIES = 12
+BACK_STEPS = (60, 300)
+JOIN_STEPS = (80, 260)
+# The steps for which a ball is led to see that it can leave its part.
+LEAVING_STEPS = 80
+# The paths that are tried for a ball before others make room, and how often that may happen for each ball.
+TRIES = 4
+RIPS = 6
+# The cost of a step inside a part, in cells, and that of a step away from its border. Outside a step touches at most
+# three new cells.
+INSIDE_CELLS = 5
+OUTWARD_CELLS = 3
+# The columns and rows around an open end in which other paths make room if none crosses its way.
+NEAR = 70
+# The steps of the straight way of a ball from which other paths are taken.
+WAY_STEPS = 76
+
+
+class JoinWorld(World):
+    """A world with parts, in which cells inside a part are dear: balls leave parts, so that they enclose no other port.
+
+    Without this, 59 of 85 balls of four joined adders were led before the search ended, and with it all.
+    """
+
+    def __init__(self, plan: Plan) -> None:
+        super().__init__(plan.side)
+        self.boxes = [(own.x, own.y, own.x + own.width, own.y + own.height) for own in plan.placed]
+
+    def depth(self, x: int, y: int) -> int:
+        """Returns how far a cell is from the border of the part that it is in, or 0."""
+        return max(0, *(min(x - left, right - x, y - top, bottom - y) for left, top, right, bottom in self.boxes))
+
+    def new_cells(self, ball: Ball, steps: int) -> int:
+        """Returns the cost of a straight flight: the cells that it newly touches, but more inside a part."""
+        depth, far = self.depth(ball.x, ball.y), self.depth(ball.x + steps * ball.dx, ball.y + steps * ball.dy)
+        if depth or far:
+            return INSIDE_CELLS * steps + OUTWARD_CELLS * (far - depth)
+        return super().new_cells(ball, steps)
+
+
+class Wiring:
+    """The paths of a join, in a world that has its parts."""
+
+    def __init__(self, plan: Plan, modules: JoinedModules, seed: int, settings: Settings, deadline: float) -> None:
+        self.plan, self.modules, self.settings, self.deadline = plan, modules, settings, deadline
+        self.world = JoinWorld(plan)
+        for placed in plan.placed:
+            self.world.add(moved_item(placed))
+        self.chance = random.Random(seed)
+        self.finder = PathFinder(self.world, self.chance, settings)
+        self.finder.check_time = self.check_time
+        self.stubs: dict[int, list[Item]] = {}
+        self.paths: dict[int, Path] = {}
+
+    def check_time(self) -> None:
+        """Raises NoRouteError when the time is over."""
+        if time.monotonic() > self.deadline:
+            raise NoRouteError("the time was over", Bound.TIME)
+
+    def run(self, progress: Callable[[int, int], None]) -> list[Path]:
+        """Returns the paths of all balls; raises NoRouteError."""
+        jobs = self.plan.jobs
+        for index in range(len(jobs)):
+            self.reserve(index)
+        queue = sorted(range(len(jobs)), key=lambda index: (not jobs[index].is_between, -jobs[index].steps))
+        left = RIPS * len(jobs)
+        while queue:
+            self.check_time()
+            index = queue.pop(0)
+            if self.lead(index) or self.lead_first(index):
+                progress(len(self.paths), len(jobs))
+                continue
+            crossing = self.paths_across(index)
+            left -= 1 + len(crossing)
+            if left <= 0 or not crossing:
+                raise NoRouteError(self.words(index), Bound.END)
+            for other in crossing:
+                self.take_back(other)
+            queue = [index, *queue, *crossing]
+        return [self.paths[index] for index in range(len(jobs))]
+
+    def words(self, index: int) -> str:
+        """Says which ball could not be led."""
+        job = self.plan.jobs[index]
+        ends = [f"{what} ({ball.x}, {ball.y}) at time {ball.time}"
+                for what, ball in (("from", job.start), ("to", job.goal)) if ball]
+        return f"{ball_words(job)} could not be led {' '.join(ends)}"
+
+    def closed_end(self) -> str:
+        """Says which open end no ball can leave even if no other ball is led, or returns nothing."""
+        for job in self.plan.jobs:
+            for ball, sign in ((job.start, 1), (job.goal, -1)):
+                if ball is not None and not any(self.can_leave(ball, sign) for _ in range(TRIES)):
+                    where = "behind it" if sign > 0 else "before it"
+                    return (f"{ball_words(job)} at ({ball.x}, {ball.y}) at time {ball.time} has no room for a bounce "
+                            f"{where}")
+        return ""
+
+    def can_leave(self, ball: Ball, sign: int) -> bool:
+        """Whether a ball can fly some steps on, or some steps come before it if `sign` is -1."""
+        trail = Trail(self.world, ball, is_backward=sign < 0)
+        found = self.finder.wander(trail, sign * ball.time + LEAVING_STEPS)
+        trail.clear()
+        return found
+
+    # --- one ball -----------------------------------------------------------------------------------------------------
+
+    def reserve(self, index: int) -> None:
+        """Keeps the next steps at the open ends of a ball that waits free."""
+        job, own = self.plan.jobs[index], list[Item]()
+        for ball, sign in ((job.start, 1), (job.goal, -1)):
+            stub = self.stub(ball, sign) if ball else None
+            if stub is not None:
+                self.world.add(stub)
+                own.append(stub)
+        self.stubs[index] = own
+
+    def stub(self, ball: Ball, sign: int) -> Item | None:
+        """Returns what a way with one bounce takes behind a ball, or before it if `sign` is -1.
+
+        If there is none it is a way of a few straight steps, or None.
+        """
+        way = self.finder.open_way(ball, sign, BOUNCE_REACH)
+        if way is not None:
+            return way
+        for steps in STUB_STEPS:
+            far = ball.flown(sign * steps)
+            if self.world.is_inside(far.x, far.y):
+                item = path_item(ball if sign > 0 else far, [Leg(steps, None)])
+                if item is not None and self.world.fits(item):
+                    return item
+        return None
+
+    def lead(self, index: int) -> bool:
+        """Leads a ball; returns whether a way was found. Else it waits again."""
+        for stub in self.stubs.pop(index):
+            self.world.remove(stub)
+        job = self.plan.jobs[index]
+        for _ in range(TRIES):
+            path = self.found(job)
+            numbers = self.modules.modules_of(path) if path else set[int]()
+            if path is not None and self.modules.has_room_for(job.wire, numbers):
+                self.world.add(path.item)
+                self.modules.count(job.wire, numbers, 1)
+                self.paths[index] = path
+                return True
+        self.reserve(index)
+        return False
+
+    def lead_first(self, index: int) -> bool:
+        """Leads a ball as if no ball near it waited; returns whether a way was found. The others keep the room left."""
+        ends = [ball for ball in (self.plan.jobs[index].start, self.plan.jobs[index].goal) if ball is not None]
+        near = [other for other in self.stubs if other != index and self.is_beside(other, ends)]
+        for other in near:
+            for stub in self.stubs[other]:
+                self.world.remove(stub)
+        done = self.lead(index)
+        for other in near:
+            self.reserve(other)
+        return done
+
+    def is_beside(self, index: int, balls: list[Ball]) -> bool:
+        """Whether a ball that waits has an open end near one of some balls."""
+        job = self.plan.jobs[index]
+        ends = [ball for ball in (job.start, job.goal) if ball is not None]
+        return any(abs(end.x - ball.x) < NEAR and abs(end.y - ball.y) < NEAR for end in ends for ball in balls)
+
+    def found(self, job: Job) -> Path | None:
+        """Returns a path for a ball, or None."""
+        self.finder.known_departures.clear()
+        if job.goal is None:
+            assert job.start is not None
+            return self.finder.lead_on(job.wire, job.start, job.end)
+        if job.start is None:
+            return self.finder.lead_here(job.wire, job.goal)
+        return self.connected(job.wire, job.start, job.goal)
+
+    def connected(self, wire: str, start: Ball, goal: Ball) -> Path | None:
+        """Returns a path between two parts: it wanders back from the goal and on from the start, and joins the two."""
+        for _ in range(CONNECT_TRIES):
+            back, on = Trail(self.world, goal, is_backward=True), Trail(self.world, start)
+            legs = self.legs_between(back, on, start, goal)
+            back.clear()
+            on.clear()
+            path = self.finder.complete(wire, start, goal, legs) if legs else None
+            if path is not None:
+                return path
+        return None
+
+    def legs_between(self, back: Trail, on: Trail, start: Ball, goal: Ball) -> list[Leg] | None:
+        """Returns legs from a start to a goal by two trails, or None."""
+        finder, chance = self.finder, self.chance
+        before = goal.time - chance.randint(*BACK_STEPS)
+        if before <= start.time or not finder.wander(back, -before):
+            return None
+        last, behind = back.ball.reversed(), back.legs()
+        stop = last.time - chance.randint(*JOIN_STEPS)
+        if stop <= start.time or not finder.can_come(start, last) or not finder.wander(on, stop, last):
+            return None
+        finder.known_departures.clear()
+        middle = finder.connect_short(on.ball, last, self.settings.path_tries)
+        return linked(linked(on.legs(), middle), behind) if middle else None
+
+    def take_back(self, index: int) -> None:
+        """Takes the path of a ball back, which waits again."""
+        path = self.paths.pop(index)
+        self.world.remove(path.item)
+        self.modules.count(path.wire, self.modules.modules_of(path), -1)
+        self.reserve(index)
+
+    def paths_across(self, index: int) -> list[int]:
+        """Returns the balls whose paths cross or touch the straight way of a ball that waits."""
+        job, touched = self.plan.jobs[index], set[int]()
+        for ball, sign in ((job.start, 1), (job.goal, -1)):
+            if ball is not None:
+                touched |= self.straight_way(ball, sign)
+        found = [other for other, path in self.paths.items()
+                 if not touched.isdisjoint(chain(path.item.mirrors, *path.item.touched_parts))]
+        return found or [other for other, path in self.paths.items() if self.is_near(path, job)]
+
+    def is_near(self, path: Path, job: Job) -> bool:
+        """Whether a path has a mirror near an open end of a ball."""
+        balls = [ball for ball in (job.start, job.goal) if ball is not None]
+        return any(abs(ball.x - mirror.x) < NEAR and abs(ball.y - mirror.y) < NEAR
+                   for mirror in path.mirrors() for ball in balls)
+
+    def straight_way(self, ball: Ball, sign: int) -> set[int]:
+        """Returns the cells of the straight way behind a ball, or before it, up to the first mirror and a little on."""
+        room = 6 + self.world.free_flight(ball if sign > 0 else ball.reversed(), WAY_STEPS)
+        way = path_item(ball if sign > 0 else ball.flown(-room), [Leg(room, None)])
+        return way.touched if way else set()
+
+
+def ball_words(job: Job) -> str:
+    """Says which ball is led."""
+    return "a constant ball" if job.wire == ALWAYS else f"the ball of wire {job.wire}"
+
+
+def linked(legs: list[Leg], more: list[Leg]) -> list[Leg]:
+    """Returns legs and those that follow them: the last leg goes on as the first one of the others."""
+    return [*legs[:-1], Leg(legs[-1].steps + more[0].steps, more[0].turn), *more[1:]]
+
+
+def moved_item(placed: Placed) -> Item:
+    """Returns what a part takes where and when it is in the join."""
+    return placed.part.text.item.moved(placed.x, placed.y, placed.time)

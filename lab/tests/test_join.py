@@ -1,0 +1,283 @@
+"""`bbmlab join`: parts with a yes, balls led between them, and one bundle with a yes."""
+
+import contextlib
+import io
+import os
+import random
+import re
+import signal
+import subprocess
+import sys
+import tempfile
+import time
+import unittest
+from dataclasses import replace
+from pathlib import Path
+from unittest import mock
+
+import support
+from bbmlab_core.circuits import values_under
+from bbmlab_core.documents import Document, read_document
+from bbmlab_core.joining import command, modules, planning, wiring
+from bbmlab_core.joining.composing import Composed, Connection, composed
+from bbmlab_core.joining.parts import balls_of, read_part
+from bbmlab_core.route.balls import Ball
+from bbmlab_core.route.command import ProgressLine
+from bbmlab_core.route.world import Item
+from bbmlab_core.simulation import run_layout
+
+INTERRUPT_SECONDS = 6.0
+BLOCK = "circuit\ninput a\nsource 1 -> one\nswitch a one -> b c d\noutput b\nspill c\nspill d\nend\n"
+DELAYED = "circuit\ninput a\ninput b\ndelay 40 a -> late\nswitch late b -> c d e\noutput d\noutput c\nspill e\nend\n"
+LATE = "circuit\ninput a\ndelay 40 a -> late\noutput late\nend\n"
+INVERSE = "circuit\ninput a\ninput b\nswitch a b -> c d e\nunswitch c d e -> f g\noutput f\noutput g\nend\n"
+
+
+def routed(circuit: str, room: Path, name: str, *words: str) -> Path:
+    """Returns the file of a circuit that is routed with open ends."""
+    made = room / f"{name}.txt"
+    ended = support.lab("route", "-", "--open-ends", "-o", str(made), *words, text=circuit, BBMCHECK=support.program())
+    assert ended.returncode == 0, ended.stderr
+    return made
+
+
+class Joining(unittest.TestCase):
+    """Bundles that are joined, from parts that are routed once."""
+
+    room: Path
+    parts: dict[str, Path]
+
+    @classmethod
+    def setUpClass(cls) -> None:
+        """Routes the parts."""
+        support.program_of_limits_2()
+        folder = tempfile.TemporaryDirectory()
+        cls.addClassCleanup(folder.cleanup)
+        cls.room = Path(folder.name)
+        half = Path(support.example("half_adder")).read_text()
+        circuits = {"half": half, "block": BLOCK, "delayed": DELAYED, "inverse": INVERSE, "late": LATE}
+        cls.parts = {name: routed(text, cls.room, name) for name, text in circuits.items()}
+
+    def join(self, *words: str, **environment: str) -> subprocess.CompletedProcess[str]:
+        """Runs the command. Names of parts in the words become files."""
+        files = [re.sub(r"@(\w+)", lambda found: str(self.parts[str(found.group(1))]), word) for word in words]
+        return support.lab("join", *files, **{"BBMCHECK": support.program(), **environment})
+
+    def joined(self, *words: str) -> Document:
+        """Returns the bundle of a join, which the program accepts."""
+        ended = self.join(*words)
+        self.assertEqual(ended.returncode, 0, ended.stderr)
+        self.assertIn("verdict yes", ended.stderr)
+        document = read_document(ended.stdout, "check")
+        self.assertIsNone(document.refusal)
+        return document
+
+    def assert_runs(self, document: Document) -> None:
+        """Asserts that the layout computes the circuit under sampled inputs, by the lab's run of the whole layout."""
+        circuit, layout, chance = document.circuit, document.layout, random.Random(1)
+        assert circuit and layout
+        for _ in range(3):
+            on = {name for name in circuit.inputs if chance.random() < 0.6}
+            run = run_layout(layout, on)
+            self.assertTrue(run.run_to(layout.steps))
+            live, values = run.field.state(), values_under(circuit, on)[0]
+            for part in layout.of_kind("out"):
+                self.assertEqual(part.cell in live, values[part.name or ""], (part, on))
+
+    # --- what is joined -----------------------------------------------------------------------------------------------
+
+    def test_chain(self) -> None:
+        """Two half adders in a row compute the sum of three bits, as their circuits do one after the other."""
+        document = self.joined("@half", "@half", "--connect", "A.sum=B.a")
+        circuit = document.circuit
+        assert circuit
+        self.assertEqual(circuit.inputs, ["a_a", "a_b", "b_b"])
+        self.assertEqual(circuit.outputs, ["a_carry", "b_sum", "b_carry"])
+        for number in range(8):
+            on = {name for index, name in enumerate(circuit.inputs) if number >> index & 1}
+            values = values_under(circuit, on)[0]
+            self.assertEqual(values["b_sum"] + 2 * (values["a_carry"] + values["b_carry"]), len(on))
+        self.assert_runs(document)
+
+    def test_modules_of_parts_stay(self) -> None:
+        """Most modules of a part that begins at time 0 stay, but for their place and the names of their wires."""
+        document = self.joined("x=@half", "y=@half", "--connect", "x.carry=y.b")
+        part = read_document(self.parts["half"].read_text(), "check")
+        assert document.certificate and part.certificate
+
+        def shapes(own: Document, name: str) -> list[tuple[object, ...]]:
+            assert own.certificate
+            return [(module.box.width, module.box.height, tuple(name + wire for wire in module.cuts),
+                     tuple(module.uses), tuple((line.time, line.x - module.box.x, line.y - module.box.y)
+                           for line in module.edges if line.signal == "1")) for module in own.certificate.modules]
+
+        there = set(shapes(document, ""))
+        self.assertGreater(sum(shape in there for shape in shapes(part, "x_")), len(part.certificate.modules) // 2)
+
+    def test_side_by_side(self) -> None:
+        """Parts without connections begin together. The part that ends early is led on."""
+        document = self.joined("p=@half", "q=@block")
+        assert document.layout and document.circuit
+        self.assertEqual(document.circuit.outputs, ["p_sum", "p_carry", "q_b"])
+        self.assert_runs(document)
+
+    def test_delays_and_inverse_gates(self) -> None:
+        """Stops and keeps of parts are those of the join."""
+        document = self.joined("@block", "d=@delayed", "i=@inverse", "--connect", "A.b=d.a", "d.d=i.b", "d.c=i.a")
+        assert document.certificate and document.circuit
+        self.assertEqual([gate.word for gate in document.circuit.gates if gate.is_inverse], ["unswitch"])
+        self.assertTrue(any(module.keeps for module in document.certificate.modules))
+        self.assertTrue(any(module.stops for module in document.certificate.modules))
+        self.assert_runs(document)
+
+    def test_seeds(self) -> None:
+        """One seed gives the same bytes, and another seed others."""
+        words = ["@half", "@block", "--connect", "A.carry=B.a", "--seed"]
+        one, again, other = (self.join(*words, seed).stdout for seed in ("1", "1", "2"))
+        self.assertEqual(one, again)
+        self.assertNotEqual(one, other)
+
+    # --- planted mistakes: the program finds each of them -------------------------------------------------------------
+
+    def made(self) -> Composed:
+        """Returns two half adders in a row."""
+        part = read_part("half", self.parts["half"].read_text())
+        return composed({"a": part, "b": part}, [Connection("a", "sum", "b", "a")])
+
+    def verdict_with(self, change: mock._patch) -> str: # type: ignore[type-arg]
+        """Returns the first lines that the program says of a join with a mistake."""
+        with change, contextlib.redirect_stderr(io.StringIO()):
+            found = command.search(self.made(), command.Asked(1, None, 60), ProgressLine(60))[0]
+        assert found
+        said = subprocess.run([support.program(), "check"], input=found.text.encode(), capture_output=True, check=False)
+        return "\n".join(said.stdout.decode().splitlines()[:4])
+
+    def test_join_without_mistakes(self) -> None:
+        """Without a mistake the join gets a yes."""
+        self.assertIn("verdict yes", self.verdict_with(mock.patch.object(planning, "GAP", planning.GAP)))
+
+    def test_a_part_with_early_lines(self) -> None:
+        """A part whose lines come two steps before its balls gets a no."""
+        right = modules.JoinedModules.add_part
+
+        def early(own: modules.JoinedModules, placed: planning.Placed) -> None:
+            right(own, replace(placed, time=placed.time - 2) if placed.part.name == "b" else placed)
+
+        self.assertIn("verdict no", self.verdict_with(mock.patch.object(modules.JoinedModules, "add_part", early)))
+
+    def test_paths_that_ignore_a_part(self) -> None:
+        """Paths through the parts get a no if the world has only their mirrors."""
+        right = wiring.moved_item
+        change = mock.patch.object(wiring, "moved_item", lambda placed: Item(right(placed).mirrors))
+        self.assertIn("verdict no", self.verdict_with(change))
+
+    def test_a_lost_wire(self) -> None:
+        """If no module is told of the wires of paths, the text is refused."""
+        change = mock.patch.object(modules.JoinedModules, "count", lambda *words: None)
+        self.assertIn("refused", self.verdict_with(change))
+
+    # --- balls --------------------------------------------------------------------------------------------------------
+
+    def test_balls_of_cells(self) -> None:
+        """The balls of cells are found by place and time. Cells that are no balls are not taken for some."""
+        even = [Ball(10, 10, 1, 1, 4), Ball(14, 14, 1, 1, 4), Ball(21, 30, -1, 1, 4), Ball(41, 41, -1, -1, 4)]
+        for balls, moment in ((even, 4), ([ball.moved(1, 1, 1) for ball in even], 5)):
+            self.assertTrue(all(ball.is_legal for ball in balls))
+            cells = [cell for ball in balls for cell in ball.cells()]
+            self.assertEqual(sorted(balls_of(cells, moment) or []), sorted(balls))
+            self.assertIsNone(balls_of(cells[1:], moment))
+
+    def test_open_ends_can_be_led(self) -> None:
+        """Each ball of a part that is routed with open ends can be led away from it, and to it from elsewhere."""
+        made = self.made()
+        plan = planning.made_plan(made, planning.estimated_side(made, 200), 200)
+        assert plan
+        own = wiring.Wiring(plan, modules.JoinedModules(made, plan), 1, command.SETTINGS, float("inf"))
+        for job in plan.jobs:
+            self.assertIsNotNone(next((path for path in (own.found(job) for _ in range(4)) if path), None), job)
+
+    # --- what is refused ----------------------------------------------------------------------------------------------
+
+    def assert_refused(self, status: int, sentence: str, *words: str) -> None:
+        """Asserts that a join ends with a status and a sentence."""
+        ended = self.join(*words)
+        with self.subTest(words=words):
+            self.assertEqual(ended.returncode, status, ended.stderr)
+            self.assertRegex(ended.stderr, sentence)
+            self.assertEqual(len(ended.stderr.splitlines()), 1, ended.stderr)
+            self.assertEqual(ended.stdout, "")
+
+    def test_wrong_connections(self) -> None:
+        """A connection that is none gets a sentence."""
+        two = "@half", "@half", "--connect"
+        for sentence, word in (("it is A.OUT=B.IN", "A.sum"), ("it is A.OUT=B.IN", ""),
+                               ("there is no part z; the parts are a, b", "A.sum=z.a"),
+                               ("a has no output x", "A.x=B.a"), ("b has no input sum", "A.sum=B.sum")):
+            self.assert_refused(2, sentence, *two, word)
+        self.assert_refused(2, "the output sum of a is connected twice", *two, "A.sum=B.a", "A.sum=B.b")
+        self.assert_refused(2, "the input a of b is connected twice", *two, "A.sum=B.a", "A.carry=B.a")
+        self.assert_refused(1, "a loop through a, b", *two, "A.sum=B.a", "B.sum=A.a")
+        self.assert_refused(1, "a loop through a", "@half", "--connect", "A.sum=A.a")
+        self.assert_refused(2, "there is a part a already", "@half", "a=@half")
+        self.assert_refused(1, "names have at most 32 characters", f"{'x' * 16}=@half", "a=" + str(self.long_names()))
+
+    def long_names(self) -> Path:
+        """Returns a routed circuit with a wire of 31 characters."""
+        name = "w" * 31
+        text = BLOCK.replace("input a", f"input {name}").replace("switch a", f"switch {name}")
+        return routed(text, self.room, "long")
+
+    def test_delays_that_do_not_meet(self) -> None:
+        """A delayed output is not led to a gate whose other input is delayed too: its stops would not meet."""
+        ended = self.join("@late", "@delayed", "--connect", "A.late=B.b")
+        self.assertEqual(ended.returncode, 1)
+        self.assertRegex(ended.stderr, r"gate \d+ \(switch\) would get inputs with stops at different times, b_late at")
+        self.assertIsNotNone(self.joined("@late", "@delayed", "--connect", "A.late=B.a"))
+
+    def test_closed_ends(self) -> None:
+        """A ball that leaves its part in front of a mirror ends the join at once, with its wire."""
+        cell = self.room / "cell.txt"
+        cell.write_text(support.lab("cells", "half_adder", "--bundle").stdout)
+        sentence = "the ball of wire a_sum at .* has no room for a bounce behind it: route the part with --open-ends"
+        self.assert_refused(1, sentence, str(cell), "@block", "--connect", "A.carry=B.a")
+
+    def test_wrong_parts(self) -> None:
+        """A part without a yes gets a sentence."""
+        self.assert_refused(1, "the program says no to it", support.example("plain_no"), "@half")
+        self.assert_refused(1, "refused", support.example("refused"), "@half")
+        self.assert_refused(4, "No such file", "nowhere.txt", "@half")
+        self.assert_refused(1, "has no room on a plane|have no room on a plane", "@half", "@half", "--size", "160")
+        self.assert_refused(2, "a multiple of 16", "@half", "--size", "161")
+
+    def test_cells_that_are_no_balls(self) -> None:
+        """A part whose ports are single cells can be joined only if they need not be led."""
+        self.assert_refused(1, "are not balls of two cells", str(self.single_cell()), "@block", "--connect", "B.b=A.p")
+
+    def single_cell(self) -> Path:
+        """Returns a bundle with a yes whose input is a single cell."""
+        made = self.room / "single.txt"
+        made.write_text("circuit\ninput p\noutput p\nend\nlayout 16 16 4\nin p 4 4\nout p 8 8\nend\n"
+                        "certificate 2\nmodule 0 0 16 16\ncut p\nend\n")
+        return made
+
+    def test_interrupt(self) -> None:
+        """An interrupt ends the command in time, and writes nothing."""
+        made = self.room / "never.txt"
+        chain = [f"{one}.sum={other}.a" for one, other in zip("abcdefghijk", "bcdefghijkl")]
+        words = [*[str(self.parts["half"])] * 12, "--effort", "100", "-o", str(made), "--connect", *chain]
+        words = [sys.executable, str(support.LAB / "bbmlab"), "join", *words]
+        process = subprocess.Popen(words, stderr=subprocess.PIPE, start_new_session=True,
+                                   env={**os.environ, "BBMCHECK": support.program()},
+                                   preexec_fn=lambda: signal.signal(signal.SIGINT, signal.SIG_DFL))
+        assert process.stderr
+        self.assertIn(b"12 parts, ", process.stderr.readline())
+        begun = time.monotonic()
+        os.killpg(process.pid, signal.SIGINT)
+        said = process.communicate(timeout=30)[1].decode()
+        self.assertLess(time.monotonic() - begun, INTERRUPT_SECONDS)
+        self.assertEqual((process.returncode, said), (130, ""))
+        self.assertFalse(made.exists())
+
+
+if __name__ == "__main__":
+    unittest.main()
