@@ -110,6 +110,23 @@ class OneBall(unittest.TestCase):
                             cells = run(ball(lead, way), [(*corner, width, height)], steps + more)
                             self.assertEqual(cells, moved(ball(place, after), after, more))
 
+    def test_mirrors_turn_the_next_ball(self) -> None:
+        """A mirror turns two balls on one track if the second is at least six columns behind, and not if it is four."""
+        self.assertIn("It turns the next ball on the same track at six or more columns behind, and not at four.", PAGE)
+        for direction, flat, upright in table("direction"):
+            dx, dy = way = DIRECTIONS[direction]
+            first = start_of(way)
+            x, y = first[0] + 20 * dx, first[1] + 20 * dy
+            ends = {flat: (4, 2, (x - 2 * dx, y + dy), (dx, -dy)), upright: (2, 4, (x + dx, y - 2 * dy), (-dx, dy))}
+            for words, (width, height, place, after) in ends.items():
+                mirror = x + shift(words)[0], y + shift(words)[1], width, height
+                for gap in (4, 6, 8, 10, 12, 14):
+                    second = first[0] - gap * dx, first[1] - gap * dy
+                    with self.subTest(direction, mirror=words, gap=gap):
+                        cells = run([*ball(first, way), *ball(second, way)], [mirror], 40)
+                        turned = moved(ball(place, after), after, 20) | moved(ball(place, after), after, 20 - gap)
+                        self.assertEqual(cells == turned, gap > 4)
+
     def test_short_mirrors(self) -> None:
         """The mirror with these columns has this result."""
         rows = table("columns of the mirror")
