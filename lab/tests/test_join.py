@@ -115,10 +115,12 @@ class Joining(unittest.TestCase):
         self.assertGreater(sum(shape in there for shape in shapes(part, "x_")), len(part.certificate.modules) // 2)
 
     def test_side_by_side(self) -> None:
-        """Parts without connections begin together. The part that ends early is led on."""
+        """Parts without connections end together. The balls of the part with fewer steps are led to its start."""
         document = self.joined("p=@half", "q=@block")
         assert document.layout and document.circuit
         self.assertEqual(document.circuit.outputs, ["p_sum", "p_carry", "q_b"])
+        steps = [read_document(self.parts[name].read_text(), "check").layout for name in ("half", "block")]
+        self.assertEqual(document.layout.steps, max(own.steps for own in steps if own))
         self.assert_runs(document)
 
     def test_delays_and_inverse_gates(self) -> None:
