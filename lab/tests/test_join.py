@@ -21,8 +21,11 @@ from bbmlab_core.documents import Document, read_document
 from bbmlab_core.joining import command, modules, planning, wiring
 from bbmlab_core.joining.composing import Composed, Connection, composed
 from bbmlab_core.joining.parts import balls_of, read_part
-from bbmlab_core.route.balls import Ball
+from bbmlab_core.route.attempt import Attempt
+from bbmlab_core.route.balls import Ball, mirror_cells
 from bbmlab_core.route.command import ProgressLine
+from bbmlab_core.route.netlist import Netlist
+from bbmlab_core.route.settings import OPEN_STEPS, Settings
 from bbmlab_core.route.world import Item
 from bbmlab_core.simulation import run_layout
 
@@ -100,7 +103,7 @@ class Joining(unittest.TestCase):
         self.assert_runs(document)
 
     def test_modules_of_parts_stay(self) -> None:
-        """Most modules of a part that begins at time 0 stay, but for their place and the names of their wires."""
+        """Modules of a part that begins at time 0 stay, but for their place and names, if no path comes to them."""
         document = self.joined("x=@half", "y=@half", "--connect", "x.carry=y.b")
         part = read_document(self.parts["half"].read_text(), "check")
         assert document.certificate and part.certificate
@@ -111,14 +114,16 @@ class Joining(unittest.TestCase):
                      tuple(module.uses), tuple((line.time, line.x - module.box.x, line.y - module.box.y)
                            for line in module.edges if line.signal == "1")) for module in own.certificate.modules]
 
-        there = set(shapes(document, ""))
-        self.assertGreater(sum(shape in there for shape in shapes(part, "x_")), len(part.certificate.modules) // 2)
+        there, own = set(shapes(document, "")), [shape for shape in shapes(part, "x_") if len(shape[2]) > 1]
+        self.assertGreater(sum(shape in there for shape in own), len(own) // 3)
 
     def test_side_by_side(self) -> None:
-        """Parts without connections begin together. The part that ends early is led on."""
+        """Parts without connections end together. The balls of the part with fewer steps are led to its start."""
         document = self.joined("p=@half", "q=@block")
         assert document.layout and document.circuit
         self.assertEqual(document.circuit.outputs, ["p_sum", "p_carry", "q_b"])
+        steps = [read_document(self.parts[name].read_text(), "check").layout for name in ("half", "block")]
+        self.assertEqual(document.layout.steps, max(own.steps for own in steps if own))
         self.assert_runs(document)
 
     def test_delays_and_inverse_gates(self) -> None:
@@ -186,6 +191,16 @@ class Joining(unittest.TestCase):
             cells = [cell for ball in balls for cell in ball.cells()]
             self.assertEqual(sorted(balls_of(cells, moment) or []), sorted(balls))
             self.assertIsNone(balls_of(cells[1:], moment))
+
+    def test_room_at_open_ends(self) -> None:
+        """An end that is to be open takes the room of one more mirror than its path has, and no other end does."""
+        circuit = read_document(BLOCK, "circuit").circuit
+        assert circuit
+        for steps in (OPEN_STEPS, 0):
+            design = Attempt(Netlist(circuit), 160, 1, Settings(open_steps=steps)).run()
+            ends = [path for path in design.paths if path.end.time == design.end]
+            kept = sum(len(path.item.mirrors) > len(mirror_cells(path.mirrors())) for path in ends)
+            self.assertEqual(kept > 0, steps > 0)
 
     def test_open_ends_can_be_led(self) -> None:
         """Each ball of a part that is routed with open ends can be led away from it, and to it from elsewhere."""
