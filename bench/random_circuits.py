@@ -12,7 +12,7 @@ from pathlib import Path
 
 sys.path.insert(0, str(Path(__file__).resolve().parent.parent / "lab"))
 sys.dont_write_bytecode = True
-from bbmlab_core.gates import GATE_SIZES, INVERSE_GATES, gate_row, input_tables  # noqa: E402
+from bbmlab_core.texts.gates import GATE_SIZES, INVERSE_GATES, gate_row, input_tables  # noqa: E402
 
 EACH_GATE = ["switch", "interact", "fredkin", "cswap", "unswitch", "uninteract", "delay", "source"]
 KINDS = {

@@ -96,7 +96,7 @@ def result_words(words: str) -> list[str]:
 
 def shard(word: str) -> Any:
     """Returns a part of a set, written K/N."""
-    from .sharding import shard as read_shard
+    from .farm.sharding import shard as read_shard
     return read_shard(word)
 
 
@@ -141,7 +141,7 @@ class Parser(argparse.ArgumentParser):
             sys.stdout.write(message)
             sys.stdout.flush()
         except BrokenPipeError:
-            from .signals import end_by_pipe
+            from .host.signals import end_by_pipe
             end_by_pipe()
         except OSError as error:
             print(f"bbmlab: standard output: {error.strerror or error}", file=sys.stderr)
@@ -412,10 +412,10 @@ ADDERS = [add_check, add_receipts, add_explain, add_trace, add_draw, add_view, a
 
 def answered(run: Callable[[argparse.Namespace], int], options: argparse.Namespace) -> int:
     """Runs a command and returns its exit status; what goes wrong is a line on standard error."""
-    from .program import ProgramError, ProgramTimeout
-    from .reports import ReportError
-    from .signals import Stopped, end_by_pipe, listen
-    from .terminal import LabError, plain, require_output
+    from .host.program import ProgramError, ProgramTimeout
+    from .host.signals import Stopped, end_by_pipe, listen
+    from .host.terminal import LabError, plain, require_output
+    from .texts.reports import ReportError
     listen()
     try:
         read = [getattr(options, word, None) for word in ("file", "report", "boxes")]

@@ -2,13 +2,13 @@
 
 from dataclasses import dataclass, field
 
-from bbmlab_core.certificates import MAX_BOX_SIDE, Module
-from bbmlab_core.certify import Plan, certified, grid_boxes
-from bbmlab_core.circuits import Circuit, evaluate
-from bbmlab_core.documents import read_document
-from bbmlab_core.gates import Table
-from bbmlab_core.layouts import Cell, row_order
+from bbmlab_core.certify.certifier import Plan, certified, grid_boxes
 from bbmlab_core.route.balls import Ball, Mirror, Run, block_cells, mirror_cells, run_exactly, start_state
+from bbmlab_core.texts.certificates import MAX_BOX_SIDE, Module
+from bbmlab_core.texts.circuits import Circuit, evaluate
+from bbmlab_core.texts.documents import read_document
+from bbmlab_core.texts.gates import Table
+from bbmlab_core.texts.layouts import Cell, row_order
 
 # Dead cells between the machine and the rim, so that nothing is live on the rim.
 MARGIN = 2

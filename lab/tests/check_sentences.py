@@ -15,7 +15,7 @@ from itertools import product
 from typing import Any, Callable, Iterator
 
 import support
-from bbmlab_core.trials import Trial, is_yes
+from bbmlab_core.explain.trials import Trial, is_yes
 from measure_fixes import right_texts
 from mutations import FAMILIES, mutants
 

@@ -7,8 +7,8 @@ import sys
 import time
 
 import support
-from bbmlab_core.fixing import Fixer
-from bbmlab_core.trials import Budget, Trial, is_yes
+from bbmlab_core.explain.fixing import Fixer
+from bbmlab_core.explain.trials import Budget, Trial, is_yes
 from mutations import FAMILIES, mutants
 
 MAX_BYTES = 12_000

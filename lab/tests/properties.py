@@ -16,7 +16,7 @@ import support
 sys.path.insert(0, str(support.LAB / "public"))
 import bbmlab  # noqa: E402
 from bbmlab_core.cli import main  # noqa: E402
-from bbmlab_core.gates import GATE_SIZES, INVERSE_GATES  # noqa: E402
+from bbmlab_core.texts.gates import GATE_SIZES, INVERSE_GATES  # noqa: E402
 
 # Where hypothesis keeps its tables of characters, in place of a folder beside the tests.
 ROOM = tempfile.TemporaryDirectory(prefix="hypothesis-")

@@ -12,7 +12,7 @@ EXAMPLES = TOP / "examples"
 sys.path[:0] = [str(path) for path in (LAB, TOP / "conformance") if str(path) not in sys.path]
 sys.dont_write_bytecode = True
 import cases  # noqa: E402
-from bbmlab_core.documents import Document, decode, read_document  # noqa: E402
+from bbmlab_core.texts.documents import Document, decode, read_document  # noqa: E402
 
 
 def worked_cases() -> list[cases.Case]:

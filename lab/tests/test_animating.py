@@ -5,8 +5,9 @@ import unittest
 import xml.etree.ElementTree as ET
 
 import support
-from bbmlab_core import animating, tracing
-from bbmlab_core.designs import read_design
+from bbmlab_core.physics import tracing
+from bbmlab_core.pictures import animating
+from bbmlab_core.texts.designs import read_design
 
 CELLS = ["fredkin", "switch", "interact", "half_adder", "crossing", "delay_10", "unswitch"]
 

@@ -6,11 +6,11 @@ import sys
 import unittest
 
 import support
-from bbmlab_core.circuits import values_under
-from bbmlab_core.layouts import Cell, Layout
-from bbmlab_core.program import ask
-from bbmlab_core.simulation import run_layout
-from bbmlab_core.standard_cells import ABOUT, FOLDER, cell_names, read_cell
+from bbmlab_core.host.program import ask
+from bbmlab_core.physics.simulation import run_layout
+from bbmlab_core.texts.circuits import values_under
+from bbmlab_core.texts.layouts import Cell, Layout
+from bbmlab_core.texts.standard_cells import ABOUT, FOLDER, cell_names, read_cell
 
 # The Boolean function of a cell with constants and garbage: for each output its value at the inputs.
 FUNCTIONS = {

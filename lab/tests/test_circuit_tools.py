@@ -9,11 +9,11 @@ import unittest
 from pathlib import Path
 
 import support
-from bbmlab_core import circuit_forms, truth
-from bbmlab_core.circuits import Circuit, values_under
-from bbmlab_core.documents import read_document
-from bbmlab_core.gates import GATE_SIZES
-from bbmlab_core.netlists import Reading, map_netlist
+from bbmlab_core.circuits import circuit_forms, truth
+from bbmlab_core.circuits.netlists import Reading, map_netlist
+from bbmlab_core.texts.circuits import Circuit, values_under
+from bbmlab_core.texts.documents import read_document
+from bbmlab_core.texts.gates import GATE_SIZES
 
 CIRCUITS = support.EXAMPLES / "circuits"
 

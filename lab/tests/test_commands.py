@@ -10,7 +10,7 @@ import xml.etree.ElementTree as ET
 from pathlib import Path
 
 import support
-from bbmlab_core.program import ask
+from bbmlab_core.host.program import ask
 
 
 def fake_program(room: str, body: str) -> str:

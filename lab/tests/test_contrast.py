@@ -7,7 +7,7 @@ import re
 import unittest
 
 import support
-from bbmlab_core import drawing
+from bbmlab_core.pictures import drawing
 
 SHAPES, TEXTS = 3.0, 4.5
 # The lines of blocks are no borders: they are faint on purpose, and nothing but them has their colour.

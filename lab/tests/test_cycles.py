@@ -11,12 +11,12 @@ from typing import Callable
 from unittest import mock
 
 import support
-from bbmlab_core.circuits import Circuit, values_under
-from bbmlab_core.netlists import NetlistError, Reading, map_netlist
+from bbmlab_core.circuits.netlists import NetlistError, Reading, map_netlist
+from bbmlab_core.texts.circuits import Circuit, values_under
 from test_netlists import blif_values, random_table
 
 # Fewer tries than users get, which save time: each try is one that a search can end with.
-FEW_TRIES = mock.patch("bbmlab_core.netlists.search.MAX_TRIES", 8)
+FEW_TRIES = mock.patch("bbmlab_core.circuits.netlists.search.MAX_TRIES", 8)
 INITIAL = False
 COUNTER = """module counter(input clk, input up, input clear, output reg [2:0] q);
   initial q = 3'd5;

@@ -6,13 +6,13 @@ import re
 import unittest
 
 import support
-from bbmlab_core.certify import Plan, certified, checked_boxes
-from bbmlab_core.circuits import values_under
-from bbmlab_core.diagnosis import Diagnosis, Truth
-from bbmlab_core.explaining import as_gcc, explain_answer
-from bbmlab_core.own_report import certificate_digest
-from bbmlab_core.reports import ReportError, parse_report
-from bbmlab_core.trials import Trial
+from bbmlab_core.certify.certifier import Plan, certified, checked_boxes
+from bbmlab_core.explain.diagnosis import Diagnosis, Truth
+from bbmlab_core.explain.explaining import as_gcc, explain_answer
+from bbmlab_core.explain.trials import Trial
+from bbmlab_core.physics.own_report import certificate_digest
+from bbmlab_core.texts.circuits import values_under
+from bbmlab_core.texts.reports import ReportError, parse_report
 
 
 def small_noes() -> list:
@@ -165,7 +165,7 @@ class Fixes(unittest.TestCase):
 
     def answer(self, text: str) -> str:
         """Returns what the program's `check` says of a text."""
-        from bbmlab_core.program import ask
+        from bbmlab_core.host.program import ask
         return ask(support.program(), "check", text.encode("latin-1")).output
 
 

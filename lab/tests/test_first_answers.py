@@ -7,8 +7,8 @@ import unittest
 from pathlib import Path
 
 import support
-from bbmlab_core.code_names import CODE_NAMES
-from bbmlab_core.row_check import missing_row
+from bbmlab_core.circuits.row_check import missing_row
+from bbmlab_core.texts.code_names import CODE_NAMES
 
 UNSWITCH = "circuit\ninput c\ninput y\ninput z\nunswitch c y z -> d x\noutput d\noutput x\nend\n"
 

@@ -8,20 +8,20 @@ from pathlib import Path
 from types import SimpleNamespace
 
 import support
-from bbmlab_core.boxes import Box
-from bbmlab_core.certificates import BorderLine, Module
-from bbmlab_core.diagnosis import Diagnosis, Truth
-from bbmlab_core.edits import EditError, add, applied, delete, edits_between, replace
-from bbmlab_core.expected_lines import BorderCheck
-from bbmlab_core.explaining import Explanation, explain_answer
-from bbmlab_core.fixing import Fixer
-from bbmlab_core.layouts import Layout, Part
-from bbmlab_core.mirrors import stays
-from bbmlab_core.own_report import certificate_digest, own_report
-from bbmlab_core.program import ask
-from bbmlab_core.reports import ReportError, parse_report
-from bbmlab_core.simulation import Field, key_of
-from bbmlab_core.trials import Budget, Trial, is_yes
+from bbmlab_core.explain.diagnosis import Diagnosis, Truth
+from bbmlab_core.explain.edits import EditError, add, applied, delete, edits_between, replace
+from bbmlab_core.explain.expected_lines import BorderCheck
+from bbmlab_core.explain.explaining import Explanation, explain_answer
+from bbmlab_core.explain.fixing import Fixer
+from bbmlab_core.explain.trials import Budget, Trial, is_yes
+from bbmlab_core.host.program import ask
+from bbmlab_core.physics.mirrors import stays
+from bbmlab_core.physics.own_report import certificate_digest, own_report
+from bbmlab_core.physics.simulation import Field, key_of
+from bbmlab_core.texts.boxes import Box
+from bbmlab_core.texts.certificates import BorderLine, Module
+from bbmlab_core.texts.layouts import Layout, Part
+from bbmlab_core.texts.reports import ReportError, parse_report
 from measure_fixes import right_texts, rounds_to_yes
 from mutations import FAMILIES, mutants
 

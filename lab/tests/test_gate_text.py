@@ -12,11 +12,11 @@ from typing import Callable
 from unittest import mock
 
 import support
-from bbmlab_core.circuits import values_under
-from bbmlab_core.netlists import NetlistError, NetlistFormat, map_netlist, netlist_format
+from bbmlab_core.circuits.netlists import NetlistError, NetlistFormat, map_netlist, netlist_format
+from bbmlab_core.texts.circuits import values_under
 
 # Fewer tries than users get, which save time: each try is one that a search can end with.
-FEW_TRIES = mock.patch("bbmlab_core.netlists.search.MAX_TRIES", 8)
+FEW_TRIES = mock.patch("bbmlab_core.circuits.netlists.search.MAX_TRIES", 8)
 RULES: dict[str, Callable[[list[bool]], bool]] = {
     "and": all, "or": any, "xor": lambda bits: sum(bits) % 2 == 1, "nand": lambda bits: not all(bits), "nor": lambda bits: not any(bits),
     "xnor": lambda bits: sum(bits) % 2 == 0, "not": lambda bits: not bits[0], "buf": lambda bits: bits[0],

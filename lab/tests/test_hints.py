@@ -5,8 +5,8 @@ import unittest
 from pathlib import Path
 
 import support
-from bbmlab_core.gates import GATE_SIZES
-from bbmlab_core.standard_cells import cell_names
+from bbmlab_core.texts.gates import GATE_SIZES
+from bbmlab_core.texts.standard_cells import cell_names
 
 
 class Hints(unittest.TestCase):

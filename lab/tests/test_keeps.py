@@ -6,11 +6,11 @@ import sys
 import unittest
 
 import support
-from bbmlab_core.certificates import MAX_CUTS, MAX_USES
-from bbmlab_core.circuits import Circuit, evaluate
-from bbmlab_core.cones import keeping_cone
-from bbmlab_core.documents import read_document
-from bbmlab_core.keeps import KeepSearch, kept_cone, why_not_kept
+from bbmlab_core.circuits.cones import keeping_cone
+from bbmlab_core.circuits.keeps import KeepSearch, kept_cone, why_not_kept
+from bbmlab_core.texts.certificates import MAX_CUTS, MAX_USES
+from bbmlab_core.texts.circuits import Circuit, evaluate
+from bbmlab_core.texts.documents import read_document
 
 sys.path.insert(0, str(support.TOP / "bench"))
 from random_circuits import made_circuit  # noqa: E402

@@ -15,26 +15,27 @@ from pathlib import Path
 from unittest import mock
 
 import support
-from bbmlab_core import designs, tracing
-from bbmlab_core.assigns import AssignReader
-from bbmlab_core.boxes import Box, clipped
-from bbmlab_core.certificates import CertificateReader
-from bbmlab_core.certify import Plan, certified
-from bbmlab_core.circuits import Circuit, CircuitReader, Gate, evaluate_samples, sampled_tables
+from bbmlab_core.certify.certifier import Plan, certified
 from bbmlab_core.cli import main
-from bbmlab_core.diagnosis import Diagnosis
-from bbmlab_core.documents import HEADER_LINE, HEADERS, Document
-from bbmlab_core.expected_lines import BorderCheck
-from bbmlab_core.explaining import explain_answer
-from bbmlab_core.fixing import Fixer
-from bbmlab_core.golly import golly_text
-from bbmlab_core.json_form import indented
-from bbmlab_core.layouts import Layout, LayoutReader, Part
-from bbmlab_core.lines import Form, Values, match_line, word_value
-from bbmlab_core.program import ask
-from bbmlab_core.simulation import Fault, ModuleRun, WholeRun, key_of, lowest_bit, run_layout
-from bbmlab_core.terminal import LabError
-from bbmlab_core.trials import Budget, Trial
+from bbmlab_core.explain.diagnosis import Diagnosis
+from bbmlab_core.explain.expected_lines import BorderCheck
+from bbmlab_core.explain.explaining import explain_answer
+from bbmlab_core.explain.fixing import Fixer
+from bbmlab_core.explain.trials import Budget, Trial
+from bbmlab_core.host.program import ask
+from bbmlab_core.host.terminal import LabError
+from bbmlab_core.physics import tracing
+from bbmlab_core.physics.simulation import Fault, ModuleRun, WholeRun, key_of, lowest_bit, run_layout
+from bbmlab_core.pictures.golly import golly_text
+from bbmlab_core.texts import designs
+from bbmlab_core.texts.assigns import AssignReader
+from bbmlab_core.texts.boxes import Box, clipped
+from bbmlab_core.texts.certificates import CertificateReader
+from bbmlab_core.texts.circuits import Circuit, CircuitReader, Gate, evaluate_samples, sampled_tables
+from bbmlab_core.texts.documents import HEADER_LINE, HEADERS, Document
+from bbmlab_core.texts.json_form import indented
+from bbmlab_core.texts.layouts import Layout, LayoutReader, Part
+from bbmlab_core.texts.lines import Form, Values, match_line, word_value
 
 # Memory in which the trace of a large layout fits.
 MEMORY = 400 << 20
@@ -244,12 +245,12 @@ class Once(unittest.TestCase):
     def test_one_reading_of_a_page(self) -> None:
         """`view` reads the text once, and `explain` compares the borders of its text once."""
         text = Path(support.example("wrong_edge")).read_text()
-        with tempfile.TemporaryDirectory() as room, mock.patch("bbmlab_core.certificates.CertificateReader.read", autospec=True, side_effect=CertificateReader.read) as reader:
+        with tempfile.TemporaryDirectory() as room, mock.patch("bbmlab_core.texts.certificates.CertificateReader.read", autospec=True, side_effect=CertificateReader.read) as reader:
             out = str(Path(room) / "page.html")
             with mock.patch("bbmlab_core.commands.view.trial_of", return_value=None):
                 self.assertEqual(main(["view", "--program", support.program(), support.example("wrong_edge"), "-o", out]), 0)
             self.assertEqual(reader.call_count, 1)
-        with mock.patch("bbmlab_core.expected_lines.BorderCheck.groups", autospec=True, side_effect=BorderCheck.groups) as groups:
+        with mock.patch("bbmlab_core.explain.expected_lines.BorderCheck.groups", autospec=True, side_effect=BorderCheck.groups) as groups:
             explain_answer(text, "check", ask(support.program(), "check", text.encode()).output, "text", Trial(support.program()))
         own = [call for call in groups.call_args_list if call.args[0].diagnosis.document.text == text]
         self.assertEqual(len(own), 1)
@@ -282,7 +283,7 @@ class Once(unittest.TestCase):
         document = read(text)
         diagnosis = Diagnosis(document)
         self.assertTrue(diagnosis.can_run_whole())
-        with mock.patch("bbmlab_core.expected_lines.WholeRun.step", autospec=True, side_effect=WholeRun.step) as step:
+        with mock.patch("bbmlab_core.explain.expected_lines.WholeRun.step", autospec=True, side_effect=WholeRun.step) as step:
             self.assertIsNone(BorderCheck(diagnosis, -1.0).seen)
             self.assertLessEqual(step.call_count, 1)
             with self.assertRaises(LabError):

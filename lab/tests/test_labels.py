@@ -6,8 +6,8 @@ from pathlib import Path
 
 import support
 from bbmlab_core.commands.draw import picture_of
-from bbmlab_core.designs import read_design
-from bbmlab_core.label_places import Name, Rect, place_names
+from bbmlab_core.pictures.label_places import Name, Rect, place_names
+from bbmlab_core.texts.designs import read_design
 
 SVG = "{http://www.w3.org/2000/svg}"
 # Less than the width of any bold letter, as a part of the size, so that names that meet here meet in any font.

@@ -11,14 +11,17 @@ from pathlib import Path
 from typing import Callable
 
 import support
-from bbmlab_core import golly, json_form, tracing, viewing
-from bbmlab_core.boxes import Box
-from bbmlab_core.certify import Plan, certified
-from bbmlab_core.documents import Document, read_document
-from bbmlab_core.limits import FIRST, SECOND
-from bbmlab_core.receipts import section_digests
-from bbmlab_core.refusals import explain_refusal, refusal_words
-from bbmlab_core.spelling import spelled
+from bbmlab_core.certify.certifier import Plan, certified
+from bbmlab_core.farm.receipts import section_digests
+from bbmlab_core.physics import tracing
+from bbmlab_core.pictures import golly
+from bbmlab_core.texts import json_form
+from bbmlab_core.texts.boxes import Box
+from bbmlab_core.texts.documents import Document, read_document
+from bbmlab_core.texts.limits import FIRST, SECOND
+from bbmlab_core.texts.refusals import explain_refusal, refusal_words
+from bbmlab_core.texts.spelling import spelled
+from bbmlab_core.view import viewing
 
 sys.path.insert(0, str(support.LAB / "public"))
 import bbmlab  # noqa: E402

@@ -11,14 +11,14 @@ from pathlib import Path
 from unittest import mock
 
 import support
-from bbmlab_core import aiger_form, circuit_forms, line_forms
-from bbmlab_core.netlists import map_netlist
+from bbmlab_core.circuits import aiger_form, circuit_forms, line_forms
+from bbmlab_core.circuits.netlists import map_netlist
 from test_gate_text import random_text as random_gate_text
 from test_netlists import random_blif
 from test_reversible import Gate, qasm_text, random_gates, real_text
 from test_reworking import circuit_of, names, random_text, values_of
 
-FEW_TRIES = mock.patch("bbmlab_core.netlists.search.MAX_TRIES", 8)
+FEW_TRIES = mock.patch("bbmlab_core.circuits.netlists.search.MAX_TRIES", 8)
 
 
 def run_real(text: str, on: dict[str, bool]) -> dict[str, bool]:

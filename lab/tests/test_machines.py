@@ -7,10 +7,10 @@ import sys
 import unittest
 
 import support
-from bbmlab_core.circuits import Circuit, values_under
-from bbmlab_core.documents import Document, read_document
-from bbmlab_core.layouts import Layout
-from bbmlab_core.simulation import WholeRun, key_of
+from bbmlab_core.physics.simulation import WholeRun, key_of
+from bbmlab_core.texts.circuits import Circuit, values_under
+from bbmlab_core.texts.documents import Document, read_document
+from bbmlab_core.texts.layouts import Layout
 
 sys.path.insert(0, str(support.TOP / "bench"))
 from random_circuits import ripple_adder  # noqa: E402

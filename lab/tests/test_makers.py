@@ -13,17 +13,18 @@ from pathlib import Path
 from unittest import mock
 
 import support
-from bbmlab_core import golly, json_form
-from bbmlab_core.boxes import Box
-from bbmlab_core.certificates import Module
-from bbmlab_core.certify import Maker, NoBoxError, Plan, certified, checked_boxes
-from bbmlab_core.drawing import centre, module_parts
-from bbmlab_core.program import ask
-from bbmlab_core.reports import parse_report
-from bbmlab_core.simulation import run_layout
-from bbmlab_core.spelling import spelled
-from bbmlab_core.terminal import LabError
-from bbmlab_core.ways import joined_pieces
+from bbmlab_core.certify.certifier import Maker, NoBoxError, Plan, certified, checked_boxes
+from bbmlab_core.host.program import ask
+from bbmlab_core.host.terminal import LabError
+from bbmlab_core.physics.simulation import run_layout
+from bbmlab_core.pictures import golly
+from bbmlab_core.pictures.drawing import centre, module_parts
+from bbmlab_core.pictures.ways import joined_pieces
+from bbmlab_core.texts import json_form
+from bbmlab_core.texts.boxes import Box
+from bbmlab_core.texts.certificates import Module
+from bbmlab_core.texts.reports import parse_report
+from bbmlab_core.texts.spelling import spelled
 
 # Examples, and grids by which they have a certificate.
 GRIDS = [("fredkin_gate", (14, 14)), ("full_adder", (26, 34)), ("timed_modules", (4, 4)), ("gate_and_mirror", (8, 12)), ("not_gate", (6, 6)),

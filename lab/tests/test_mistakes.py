@@ -8,17 +8,17 @@ from pathlib import Path
 from unittest.mock import patch
 
 import support
-from bbmlab_core.certificates import Module
-from bbmlab_core.checking import files_below
-from bbmlab_core.designs import require_report_of
-from bbmlab_core.edits import add, applied, delete, edits_between
-from bbmlab_core.explaining import as_gcc, explain_answer
-from bbmlab_core.golly import layout_from_golly
-from bbmlab_core.own_report import certificate_digest
-from bbmlab_core.receipts import ReceiptError, parse_receipt
-from bbmlab_core.reports import ReportError, parse_report
-from bbmlab_core.shape_hints import character_hints
-from bbmlab_core.terminal import LabError, replace_file
+from bbmlab_core.explain.edits import add, applied, delete, edits_between
+from bbmlab_core.explain.explaining import as_gcc, explain_answer
+from bbmlab_core.farm.checking import files_below
+from bbmlab_core.farm.receipts import ReceiptError, parse_receipt
+from bbmlab_core.host.terminal import LabError, replace_file
+from bbmlab_core.physics.own_report import certificate_digest
+from bbmlab_core.pictures.golly import layout_from_golly
+from bbmlab_core.texts.certificates import Module
+from bbmlab_core.texts.designs import require_report_of
+from bbmlab_core.texts.reports import ReportError, parse_report
+from bbmlab_core.texts.shape_hints import character_hints
 from test_commands import fake_program
 
 BLIF = ".model x\n.inputs a\n.outputs b\n.names a b\n1 1\n.end\n"

@@ -12,12 +12,12 @@ from typing import Any, Callable
 from unittest import mock
 
 import support
-from bbmlab_core.circuits import Circuit, evaluate, values_under
-from bbmlab_core.netlists import NetlistError, NetlistFormat, circuit_from_netlist, map_netlist, netlist_format
-from bbmlab_core.cones import keeping_cone
+from bbmlab_core.circuits.cones import keeping_cone
+from bbmlab_core.circuits.netlists import NetlistError, NetlistFormat, circuit_from_netlist, map_netlist, netlist_format
+from bbmlab_core.texts.circuits import Circuit, evaluate, values_under
 
 # Fewer tries than users get, which save time: each try is one that a search can end with.
-FEW_TRIES = mock.patch("bbmlab_core.netlists.search.MAX_TRIES", 60)
+FEW_TRIES = mock.patch("bbmlab_core.circuits.netlists.search.MAX_TRIES", 60)
 ADDER = support.EXAMPLES / "two_bit_adder.v"
 YOSYS_STEPS = "read_verilog {file}; synth -flatten; abc -g AND,XOR,MUX; opt_clean; {write}"
 # The cells of yosys, after its cell library: the ports and the value of Y.
@@ -194,7 +194,7 @@ class Equivalence(unittest.TestCase):
         """If no inverse gate has a cone, the circuit has no inverse gate, and still computes the netlist."""
         chooser = random.Random(5)
         texts = [full_adder_blif(), *(random_blif(chooser) for _ in range(10))]
-        with mock.patch("bbmlab_core.netlists.search.keeping_cone", return_value=None):
+        with mock.patch("bbmlab_core.circuits.netlists.search.keeping_cone", return_value=None):
             for number, text in enumerate(texts):
                 with self.subTest(number):
                     self.assertFalse(any(gate.is_inverse for gate in circuit_of(text).gates))

@@ -9,11 +9,12 @@ from pathlib import Path
 from unittest import mock
 
 import support
-from bbmlab_core import remote, sealed
-from bbmlab_core.checking import Checker
-from bbmlab_core.program import ask, opened
-from bbmlab_core.receipts import ReceiptFolder
-from bbmlab_core.releases import program_of
+from bbmlab_core.farm import remote
+from bbmlab_core.farm.checking import Checker
+from bbmlab_core.farm.receipts import ReceiptFolder
+from bbmlab_core.host import sealed
+from bbmlab_core.host.program import ask, opened
+from bbmlab_core.host.releases import program_of
 from bbmlab_core.studio.jobs import Jobs
 
 # It says yes to each text, with the digest of its certificate.
@@ -120,7 +121,7 @@ class Copies(unittest.TestCase):
         self.addCleanup(os.close, copy)
         with self.assertRaises(OSError), open(sealed.path_of(copy), "r+b", buffering=0) as file:
             file.write(b"x")
-        with mock.patch("bbmlab_core.sealed.memory_file", side_effect=OSError):
+        with mock.patch("bbmlab_core.host.sealed.memory_file", side_effect=OSError):
             program = opened(support.program())
         self.assertEqual(ask(program, "check", Path(support.example("wrong_edge")).read_bytes()).status, 1)
 

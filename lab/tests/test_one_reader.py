@@ -4,10 +4,10 @@ import unittest
 from pathlib import Path
 
 import support
-from bbmlab_core.documents import read_document
-from bbmlab_core.fixing import head_of
-from bbmlab_core.spelling import free_words, mark_length, spelled
+from bbmlab_core.explain.fixing import head_of
 from bbmlab_core.studio.folder import bytes_of, text_of
+from bbmlab_core.texts.documents import read_document
+from bbmlab_core.texts.spelling import free_words, mark_length, spelled
 from test_studio_model import node
 
 # Bytes, and characters that JavaScript or Python take for spaces, ends of lines or digits.

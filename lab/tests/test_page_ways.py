@@ -4,10 +4,10 @@ import random
 import unittest
 
 import support
-from bbmlab_core import page_ways, viewing
-from bbmlab_core.documents import Document, read_document
-from bbmlab_core.drawing import wire_tables
-from bbmlab_core.simulation import WholeRun, key_of
+from bbmlab_core.physics.simulation import WholeRun, key_of
+from bbmlab_core.pictures.drawing import wire_tables
+from bbmlab_core.texts.documents import Document, read_document
+from bbmlab_core.view import page_ways, viewing
 from test_ways import random_layout, steps_of
 
 
@@ -53,7 +53,7 @@ class Ways(unittest.TestCase):
     def test_all_steps_are_there(self) -> None:
         """The page has the same steps as `draw --ways`."""
         document = read_document((support.EXAMPLES / "full_adder.txt").read_text())
-        from bbmlab_core.drawing import ball_ways
+        from bbmlab_core.pictures.drawing import ball_ways
         assert document.layout
         found = page_ways.page_ways(document)
         assert found

@@ -6,8 +6,8 @@ import unittest
 from typing import Iterable
 
 import support
-from bbmlab_core.layouts import Cell, Layout, Part
-from bbmlab_core.simulation import WholeRun
+from bbmlab_core.physics.simulation import WholeRun
+from bbmlab_core.texts.layouts import Cell, Layout, Part
 
 PAGE = (support.TOP / "docs" / "PHYSICS.md").read_text(encoding="utf-8")
 FORMATS = (support.TOP / "docs" / "FORMATS.md").read_text(encoding="utf-8")

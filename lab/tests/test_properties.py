@@ -19,12 +19,12 @@ except ImportError as missing:
     raise unittest.SkipTest("hypothesis is not installed (Debian: python3-hypothesis)") from missing
 
 import properties as pr  # noqa: E402
-from bbmlab_core.certify import certificate_text  # noqa: E402
+from bbmlab_core.certify.certifier import certificate_text  # noqa: E402
 from bbmlab_core.cli import Commands  # noqa: E402
-from bbmlab_core.documents import read_document  # noqa: E402
-from bbmlab_core.golly import golly_states, golly_text, layout_from_golly, live_cells  # noqa: E402
-from bbmlab_core.json_form import document_json, text_from_json  # noqa: E402
-from bbmlab_core.spelling import spelled  # noqa: E402
+from bbmlab_core.pictures.golly import golly_states, golly_text, layout_from_golly, live_cells  # noqa: E402
+from bbmlab_core.texts.documents import read_document  # noqa: E402
+from bbmlab_core.texts.json_form import document_json, text_from_json  # noqa: E402
+from bbmlab_core.texts.spelling import spelled  # noqa: E402
 
 bbmlab = pr.bbmlab
 # How many times as many texts are tried: a long run sets it to 10.

@@ -4,7 +4,7 @@ import re
 import unittest
 
 import support
-from bbmlab_core.refusals import RULES, TELLERS, explain_refusal
+from bbmlab_core.texts.refusals import RULES, TELLERS, explain_refusal
 
 # What the explanation of a code is about; each is a word of docs/FORMATS.md, and not of the lab's output.
 ABOUT = {

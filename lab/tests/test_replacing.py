@@ -8,13 +8,13 @@ from pathlib import Path
 from unittest import mock
 
 import support
-from bbmlab_core.answering import Result
 from bbmlab_core.commands import fmt
-from bbmlab_core.receipts import ReceiptFolder
-from bbmlab_core.releases import Program
-from bbmlab_core.spelling import spelled
+from bbmlab_core.farm.answering import Result
+from bbmlab_core.farm.receipts import ReceiptFolder
+from bbmlab_core.host.releases import Program
+from bbmlab_core.host.terminal import LabError, write_bytes
 from bbmlab_core.studio.folder import ChangedError, Folder, digest_of
-from bbmlab_core.terminal import LabError, write_bytes
+from bbmlab_core.texts.spelling import spelled
 
 OTHER = b"# of another editor\n"
 

@@ -6,11 +6,11 @@ import unittest
 from unittest import mock
 
 import support
-from bbmlab_core.circuits import values_under
-from bbmlab_core.netlists import NetlistError, NetlistFormat, map_netlist, netlist_format, read_netlist
+from bbmlab_core.circuits.netlists import NetlistError, NetlistFormat, map_netlist, netlist_format, read_netlist
+from bbmlab_core.texts.circuits import values_under
 
 # Fewer tries than users get, which save time: each try is one that a search can end with.
-FEW_TRIES = mock.patch("bbmlab_core.netlists.search.MAX_TRIES", 8)
+FEW_TRIES = mock.patch("bbmlab_core.circuits.netlists.search.MAX_TRIES", 8)
 # A gate of the simulators: controls with their values, and one target, or two that change places.
 Gate = tuple[list[tuple[int, bool]], list[int]]
 

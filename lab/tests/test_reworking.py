@@ -7,13 +7,13 @@ import unittest
 from pathlib import Path
 
 import support
-from bbmlab_core.circuits import Circuit
-from bbmlab_core.cleaning import clean
+from bbmlab_core.circuits.cleaning import clean
+from bbmlab_core.circuits.cones import keeping_cone
+from bbmlab_core.circuits.inverting import inverse
+from bbmlab_core.circuits.simplifying import simplify
 from bbmlab_core.commands import circuits as circuit_commands
-from bbmlab_core.cones import keeping_cone
-from bbmlab_core.inverting import inverse
-from bbmlab_core.simplifying import simplify
-from bbmlab_core.terminal import LabError
+from bbmlab_core.host.terminal import LabError
+from bbmlab_core.texts.circuits import Circuit
 
 FORWARD = {"source": (0, 1), "fredkin": (3, 3), "cswap": (3, 3), "interact": (2, 4), "switch": (2, 3), "delay": (1, 1)}
 

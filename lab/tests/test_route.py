@@ -17,15 +17,15 @@ from pathlib import Path
 from unittest import mock
 
 import support
-from bbmlab_core.circuits import evaluate
 from bbmlab_core.cli import main
-from bbmlab_core.documents import Document, read_document
+from bbmlab_core.host.signals import Stopped
+from bbmlab_core.physics.simulation import WholeRun, key_of
 from bbmlab_core.route import certificate, search, world
 from bbmlab_core.route.netlist import Netlist
 from bbmlab_core.route.settings import Settings
 from bbmlab_core.route.world import Item
-from bbmlab_core.signals import Stopped
-from bbmlab_core.simulation import WholeRun, key_of
+from bbmlab_core.texts.circuits import evaluate
+from bbmlab_core.texts.documents import Document, read_document
 
 sys.path.insert(0, str(support.TOP / "bench"))
 from random_circuits import KINDS, made_circuit  # noqa: E402

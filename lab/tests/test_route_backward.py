@@ -7,8 +7,6 @@ import unittest
 from unittest import mock
 
 import support
-from bbmlab_core.circuits import Circuit
-from bbmlab_core.documents import read_document
 from bbmlab_core.route.attempt import Attempt
 from bbmlab_core.route.balls import BOUNCE_STEPS, Ball, Leg, Turn, follow, path_run, reversed_legs
 from bbmlab_core.route.board import Board, NoRouteError
@@ -19,6 +17,8 @@ from bbmlab_core.route.ripup import WayMaker
 from bbmlab_core.route.search import routed_bundle
 from bbmlab_core.route.settings import Settings
 from bbmlab_core.route.world import World, path_item
+from bbmlab_core.texts.circuits import Circuit
+from bbmlab_core.texts.documents import read_document
 from test_route import LINES, circuit_text, gate_circuit
 
 sys.path.insert(0, str(support.TOP / "bench"))

@@ -4,12 +4,12 @@ import random
 import unittest
 
 import support  # noqa: F401
-from bbmlab_core.circuits import Gate
-from bbmlab_core.gates import gate_row, input_tables
 from bbmlab_core.route.balls import (BOUNCE_STEPS, Ball, Leg, Turn, bounce, bounce_before, cells_at, follow, moving_cells, path_run,
                                      run_exactly, start_state)
-from bbmlab_core.route.world import path_item
 from bbmlab_core.route.cells import PORTS, GateCell, base_cells, library
+from bbmlab_core.route.world import path_item
+from bbmlab_core.texts.circuits import Gate
+from bbmlab_core.texts.gates import gate_row, input_tables
 
 EACH_DIRECTION = [Ball(40 + (dx < 0), 40 + (dy < 0), dx, dy, 0) for dx in (1, -1) for dy in (1, -1)]
 

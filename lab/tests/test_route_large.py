@@ -8,9 +8,7 @@ from unittest import mock
 from test_route import Routing, circuit_text, gate_circuit
 
 import support
-from bbmlab_core.circuits import Circuit
-from bbmlab_core.documents import read_document
-from bbmlab_core.keeps import kept_cone
+from bbmlab_core.circuits.keeps import kept_cone
 from bbmlab_core.route import bit_rows, search
 from bbmlab_core.route.attempt import Attempt
 from bbmlab_core.route.balls import BOUNCE_STEPS, Ball, Leg, Turn, bounce, follow
@@ -22,6 +20,8 @@ from bbmlab_core.route.netlist import Netlist
 from bbmlab_core.route.placement import Inlet
 from bbmlab_core.route.settings import Settings
 from bbmlab_core.route.world import MARGIN, World, path_item
+from bbmlab_core.texts.circuits import Circuit
+from bbmlab_core.texts.documents import read_document
 from random_circuits import made_circuit
 
 SIDE = 400

@@ -8,12 +8,12 @@ import xml.etree.ElementTree as tree
 from pathlib import Path
 
 import support
-from bbmlab_core.documents import read_document
 from bbmlab_core.route.board import Board
 from bbmlab_core.route.crowding import COLOURS, class_of, crowding_of, runs, tile_counts
 from bbmlab_core.route.netlist import Netlist
 from bbmlab_core.route.settings import Settings
 from bbmlab_core.route.world import ROW, TILE, Item, World
+from bbmlab_core.texts.documents import read_document
 
 sys.path.insert(0, str(support.TOP / "bench"))
 from random_circuits import made_circuit  # noqa: E402

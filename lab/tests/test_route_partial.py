@@ -14,22 +14,22 @@ from typing import Any, Callable
 from unittest import mock
 
 import support
-from bbmlab_core.circuits import Circuit
-from bbmlab_core.documents import read_document
-from bbmlab_core.gates import GATE_SIZES
-from bbmlab_core.program import find_program
+from bbmlab_core.host.program import find_program
 from bbmlab_core.route import partial
 from bbmlab_core.route.attempt import Attempt, OutOfTimeError
 from bbmlab_core.route.balls import Ball, Leg
 from bbmlab_core.route.board import NoRouteError, Step, Waiting
-from bbmlab_core.route.netlist import Netlist
-from bbmlab_core.route.partial import Part, affordable_count, partial_circuit, partial_design, partial_text, steps_without
 from bbmlab_core.route.command import report_failure
 from bbmlab_core.route.design import Design
+from bbmlab_core.route.netlist import Netlist
+from bbmlab_core.route.partial import Part, affordable_count, partial_circuit, partial_design, partial_text, steps_without
 from bbmlab_core.route.paths import Path as BallPath
 from bbmlab_core.route.search import Options, Outcome, Search, routed_bundle
 from bbmlab_core.route.settings import Settings
 from bbmlab_core.route.world import path_item
+from bbmlab_core.texts.circuits import Circuit
+from bbmlab_core.texts.documents import read_document
+from bbmlab_core.texts.gates import GATE_SIZES
 from test_route import circuit_text
 from test_route_backward import read_circuit
 

@@ -4,10 +4,10 @@ import random
 import unittest
 
 import support  # noqa: F401
-from bbmlab_core.layouts import Cell
 from bbmlab_core.route.balls import BOUNCE_STEPS, Ball, Leg, Run, Turn, follow, mirror_cells, path_run, run_exactly, start_state
 from bbmlab_core.route.cells import library
 from bbmlab_core.route.world import STEP, Item, World, cell_item, cell_number, path_item
+from bbmlab_core.texts.layouts import Cell
 
 # The steps of the runs that are compared.
 LAST = 48

@@ -5,8 +5,8 @@ import subprocess
 import unittest
 
 import support
-from bbmlab_core.simulation import ModuleRun, run_layout
-from bbmlab_core.tracing import layout_lines, run_text
+from bbmlab_core.physics.simulation import ModuleRun, run_layout
+from bbmlab_core.physics.tracing import layout_lines, run_text
 
 # The runs of this bundle take some seconds each; it is one of many.
 SLOW = {"bundle_bouncers_64_v1"}

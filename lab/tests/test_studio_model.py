@@ -11,13 +11,14 @@ from pathlib import Path
 from typing import Any
 
 import support
-from bbmlab_core import json_form, viewing
-from bbmlab_core.circuits import values_under
-from bbmlab_core.layouts import Layout, Part
-from bbmlab_core.mirrors import falling_mirrors, stays
-from bbmlab_core.simulation import run_layout
-from bbmlab_core.spelling import spelled
+from bbmlab_core.physics.mirrors import falling_mirrors, stays
+from bbmlab_core.physics.simulation import run_layout
 from bbmlab_core.studio import answers, server
+from bbmlab_core.texts import json_form
+from bbmlab_core.texts.circuits import values_under
+from bbmlab_core.texts.layouts import Layout, Part
+from bbmlab_core.texts.spelling import spelled
+from bbmlab_core.view import viewing
 
 SCRIPT = support.LAB / "tests" / "run_studio.js"
 STUDIO = Path(server.__file__).resolve().parent

@@ -16,14 +16,14 @@ from pathlib import Path
 from typing import Any
 
 import support
+from bbmlab_core.studio import routes
 from bbmlab_core.studio.answers import EMPTY, Answers
 from bbmlab_core.studio.folder import Folder
 from bbmlab_core.studio.guard import MAX_REQUEST_BYTES
-from bbmlab_core.studio import routes
 from bbmlab_core.studio.jobs import Jobs, Worker
 from bbmlab_core.studio.server import POLICY, Studio, studio
-from bbmlab_core.spelling import source_line
 from bbmlab_core.studio.verdicts import cuts_of
+from bbmlab_core.texts.spelling import source_line
 
 MEMORY = 4096
 # A program that does not end, with a name that no other test has.

@@ -13,7 +13,7 @@ from pathlib import Path
 from typing import Callable
 
 import support
-from bbmlab_core.diagnosis import Diagnosis, Truth
+from bbmlab_core.explain.diagnosis import Diagnosis, Truth
 from bbmlab_core.studio.jobs import Jobs
 
 LAB = str(support.LAB / "bbmlab")
@@ -207,7 +207,7 @@ class Signals(Room):
         The program must be gone then.
         """
         script = ("import os, signal, subprocess, sys, threading, time; sys.path.insert(0, sys.argv[1])\n"
-                  "from bbmlab_core import checking, cli, program\n"
+                  "from bbmlab_core import cli\nfrom bbmlab_core.farm import checking\nfrom bbmlab_core.host import program\n"
                   "def hang_up(number=signal.SIGHUP):\n"
                   f"    while not os.path.exists('{self.room}/started'): time.sleep(0.01)\n"
                   "    time.sleep(0.5)\n"

@@ -13,9 +13,9 @@ import unittest
 from pathlib import Path
 
 import support
-from bbmlab_core import json_form
-from bbmlab_core.circuits import values_under
-from bbmlab_core.simulation import ModuleRun, run_layout
+from bbmlab_core.physics.simulation import ModuleRun, run_layout
+from bbmlab_core.texts import json_form
+from bbmlab_core.texts.circuits import values_under
 
 AUTOMATON = support.LAB / "bbmlab_core" / "view" / "automaton.js"
 

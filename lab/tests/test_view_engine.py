@@ -8,9 +8,10 @@ import time
 import unittest
 
 import support
-from bbmlab_core import json_form, tracing
-from bbmlab_core.documents import Document
-from bbmlab_core.program import ask
+from bbmlab_core.host.program import ask
+from bbmlab_core.physics import tracing
+from bbmlab_core.texts import json_form
+from bbmlab_core.texts.documents import Document
 
 STATES = support.LAB / "tests" / "run_states.js"
 AUTOMATON = support.LAB / "bbmlab_core" / "view" / "automaton.js"

@@ -10,11 +10,13 @@ import xml.etree.ElementTree as ET
 from typing import Any
 
 import support
-from bbmlab_core import json_form, tracing, viewing
-from bbmlab_core.documents import Document
-from bbmlab_core.ways import block_moves
-from bbmlab_core.label_places import Name, Rect, place_names
-from bbmlab_core.simulation import block_of, cell_of, key_of
+from bbmlab_core.physics import tracing
+from bbmlab_core.physics.simulation import block_of, cell_of, key_of
+from bbmlab_core.pictures.label_places import Name, Rect, place_names
+from bbmlab_core.pictures.ways import block_moves
+from bbmlab_core.texts import json_form
+from bbmlab_core.texts.documents import Document
+from bbmlab_core.view import viewing
 
 SCRIPT = support.LAB / "tests" / "run_modules.js"
 FILES = [*viewing.ENGINE, "svg_pen.js", "labels.js", "address.js", "tiles.js", "wires.js", "painting.js", "waveform.js", "player.js"]

@@ -7,15 +7,15 @@ import unittest
 from pathlib import Path
 
 import support
-from bbmlab_core import drawing
-from bbmlab_core.boxes import Box
 from bbmlab_core.commands.draw import gate_boxes, picture_of
-from bbmlab_core.designs import read_design
-from bbmlab_core.documents import Document, read_document
-from bbmlab_core.layouts import Cell
-from bbmlab_core.picture_parts import OTHERS, Look, bring_out, chevrons, cone_of, piece_within
-from bbmlab_core.simulation import DIAGONAL, ROW, Table, WholeRun, block_of, cell_of
-from bbmlab_core.ways import Piece, WayRun, block_moves, directed_ways, joined_pieces, ways_of
+from bbmlab_core.physics.simulation import DIAGONAL, ROW, Table, WholeRun, block_of, cell_of
+from bbmlab_core.pictures import drawing
+from bbmlab_core.pictures.picture_parts import OTHERS, Look, bring_out, chevrons, cone_of, piece_within
+from bbmlab_core.pictures.ways import Piece, WayRun, block_moves, directed_ways, joined_pieces, ways_of
+from bbmlab_core.texts.boxes import Box
+from bbmlab_core.texts.designs import read_design
+from bbmlab_core.texts.documents import Document, read_document
+from bbmlab_core.texts.layouts import Cell
 
 Step = tuple[Cell, Cell]
 

@@ -3,14 +3,14 @@
 import argparse
 import sys
 
-from ..boxes import Box
-from ..certificates import MAX_BOX_SIDE
-from ..certify import Plan, certified, checked_boxes
-from ..documents import Document, read_document
-from ..layouts import Layout
-from ..program import ProgramError, ProgramTimeout, ask, find_program
-from ..refusals import refusal_words
-from ..terminal import LabError, plain, read_text, write_text
+from ..certify.certifier import Plan, certified, checked_boxes
+from ..host.program import ProgramError, ProgramTimeout, ask, find_program
+from ..host.terminal import LabError, plain, read_text, write_text
+from ..texts.boxes import Box
+from ..texts.certificates import MAX_BOX_SIDE
+from ..texts.documents import Document, read_document
+from ..texts.layouts import Layout
+from ..texts.refusals import refusal_words
 
 
 def run(options: argparse.Namespace) -> int:

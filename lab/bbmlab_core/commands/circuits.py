@@ -6,20 +6,20 @@ import io
 import sys
 from typing import Callable, Iterable
 
-from .. import truth
-from ..aiger_form import aiger_text
-from ..circuit_forms import blif_text, dot_text, verilog_text
-from ..circuits import Circuit, evaluate_under
-from ..cleaning import clean
-from ..documents import read_document
-from ..gate_lines import CircuitLines
-from ..inverting import inverse, values_of
-from ..line_forms import qasm_text, real_text
-from ..limits import limits_for, with_line
-from ..netlists import Reading
+from ..circuits import truth
+from ..circuits.aiger_form import aiger_text
+from ..circuits.circuit_forms import blif_text, dot_text, verilog_text
+from ..circuits.cleaning import clean
+from ..circuits.gate_lines import CircuitLines
+from ..circuits.inverting import inverse, values_of
+from ..circuits.line_forms import qasm_text, real_text
+from ..circuits.netlists import Reading
+from ..circuits.simplifying import simplify
+from ..host.terminal import LabError, read_text, write_bytes, write_text
 from ..route.command import circuit_of
-from ..simplifying import simplify
-from ..terminal import LabError, read_text, write_bytes, write_text
+from ..texts.circuits import Circuit, evaluate_under
+from ..texts.documents import read_document
+from ..texts.limits import limits_for, with_line
 
 WRITERS = {"aiger": aiger_text, "blif": blif_text, "dot": dot_text, "qasm": qasm_text, "real": real_text, "verilog": verilog_text}
 

@@ -3,15 +3,16 @@
 import argparse
 import re
 
-from .. import drawing, tracing
-from ..boxes import Box
-from ..circuits import Circuit
-from ..designs import read_design, report_for
-from ..documents import Document
-from ..layouts import Layout
-from ..picture_parts import Look, bring_out, wanted_wires
-from ..reports import Report
-from ..terminal import LabError, write_text
+from ..host.terminal import LabError, write_text
+from ..physics import tracing
+from ..pictures import drawing
+from ..pictures.picture_parts import Look, bring_out, wanted_wires
+from ..texts.boxes import Box
+from ..texts.circuits import Circuit
+from ..texts.designs import read_design, report_for
+from ..texts.documents import Document
+from ..texts.layouts import Layout
+from ..texts.reports import Report
 
 
 # The numbers of a line `use` or `module`.

@@ -3,16 +3,16 @@
 import argparse
 import sys
 
-from .. import explaining
-from ..answering import why_no_verdict
-from ..documents import command_for
-from ..explaining import Explanation
-from ..fixing import Fixer, outcome_words
-from ..netlists import NetlistFormat, netlist_format
-from ..pictures import LEGEND
-from ..program import Executable, ProgramError, ask, find_program
-from ..terminal import LabError, painted, plain, read_text, wrapped, write_bytes
-from ..trials import Budget, Trial
+from ..circuits.netlists import NetlistFormat, netlist_format
+from ..explain import explaining
+from ..explain.explaining import Explanation
+from ..explain.fixing import Fixer, outcome_words
+from ..explain.trials import Budget, Trial
+from ..farm.answering import why_no_verdict
+from ..host.program import Executable, ProgramError, ask, find_program
+from ..host.terminal import LabError, painted, plain, read_text, wrapped, write_bytes
+from ..texts.cell_pictures import LEGEND
+from ..texts.documents import command_for
 
 
 def run(options: argparse.Namespace) -> int:

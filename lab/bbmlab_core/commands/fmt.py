@@ -3,9 +3,9 @@
 import argparse
 import sys
 
-from ..documents import read_document
-from ..spelling import Spelling, spelled
-from ..terminal import LabError, plain, read_bytes, write_bytes
+from ..host.terminal import LabError, plain, read_bytes, write_bytes
+from ..texts.documents import read_document
+from ..texts.spelling import Spelling, spelled
 
 MAX_SHOWN_NOTES = 20
 

@@ -10,13 +10,13 @@ from contextlib import ExitStack
 from html import escape
 from pathlib import Path
 
-from ..program import ProgramError, find_program
+from ..host.program import ProgramError, find_program
+from ..host.terminal import LabError, plain
 from ..studio.answers import Answers
 from ..studio.folder import Folder
 from ..studio.jobs import Jobs
 from ..studio.routes import Routes
 from ..studio.server import Studio, studio
-from ..terminal import LabError, plain
 
 
 def run(options: argparse.Namespace) -> int:

@@ -3,10 +3,10 @@
 import argparse
 import sys
 
-from .. import tracing
-from ..designs import read_design
-from ..program import ProgramError, ProgramTimeout, ask, find_program
-from ..terminal import LabError, plain, write_text
+from ..host.program import ProgramError, ProgramTimeout, ask, find_program
+from ..host.terminal import LabError, plain, write_text
+from ..physics import tracing
+from ..texts.designs import read_design
 
 
 def run(options: argparse.Namespace) -> int:

@@ -4,12 +4,12 @@ import argparse
 import os
 from pathlib import Path
 
-from ..answering import WORDS
-from ..checking import exit_status
-from ..program import Answer, ask, find_program
-from ..receipts import SECTIONS, Receipt, ReceiptError, parse_receipt, section_digests, sha256
-from ..releases import known_releases
-from ..terminal import LabError, plain, read_bytes
+from ..farm.answering import WORDS
+from ..farm.checking import exit_status
+from ..farm.receipts import SECTIONS, Receipt, ReceiptError, parse_receipt, section_digests, sha256
+from ..host.program import Answer, ask, find_program
+from ..host.releases import known_releases
+from ..host.terminal import LabError, plain, read_bytes
 
 
 def read_receipt(name: str) -> Receipt:

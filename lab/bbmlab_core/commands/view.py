@@ -4,12 +4,13 @@ import argparse
 import os
 import sys
 
-from .. import explaining, viewing
-from ..answering import why_no_verdict
-from ..designs import read_design
-from ..program import ProgramError, ProgramTimeout, ask, find_program
-from ..terminal import plain, read_text, write_text
-from ..trials import Budget, Trial
+from ..explain import explaining
+from ..explain.trials import Budget, Trial
+from ..farm.answering import why_no_verdict
+from ..host.program import ProgramError, ProgramTimeout, ask, find_program
+from ..host.terminal import plain, read_text, write_text
+from ..texts.designs import read_design
+from ..view import viewing
 
 
 def run(options: argparse.Namespace) -> int:

@@ -6,7 +6,7 @@ from collections import Counter
 from itertools import chain
 from typing import Callable
 
-from ..circuits import Gate
+from ..texts.circuits import Gate
 from .balls import Ball, Leg
 from .board import Board, Bound, NoRouteError, Step, Waiting
 from .design import Design, forward_design

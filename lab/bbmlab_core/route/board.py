@@ -4,8 +4,8 @@ from dataclasses import dataclass, field, replace
 from enum import Enum
 from typing import Iterable
 
-from ..certificates import MAX_CUTS
-from ..cones import fewest_cuts
+from ..circuits.cones import fewest_cuts
+from ..texts.certificates import MAX_CUTS
 from .balls import Ball, Leg
 from .cells import GateCell
 from .netlist import Netlist

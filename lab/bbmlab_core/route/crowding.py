@@ -7,7 +7,7 @@ from dataclasses import dataclass
 from html import escape
 from typing import Iterator
 
-from ..circuits import Circuit
+from ..texts.circuits import Circuit
 from .board import Board, TileBox
 from .world import TILE, World
 

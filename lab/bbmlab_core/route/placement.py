@@ -9,8 +9,8 @@ from collections import Counter
 from dataclasses import dataclass
 from typing import Iterable, Iterator
 
-from ..circuits import Gate
-from ..layouts import Cell
+from ..texts.circuits import Gate
+from ..texts.layouts import Cell
 from .balls import BOUNCE_STEPS, Ball, Leg, Turn, bounce
 from .board import Board, Step, Waiting, box_of, tiles_in
 from .cells import PORTS, GateCell

@@ -7,7 +7,7 @@ from dataclasses import replace
 from itertools import chain
 from typing import Callable, Iterable, Iterator
 
-from ..circuits import Gate
+from ..texts.circuits import Gate
 from .balls import Ball, Leg, Turn, bounce
 from .board import Board, Waiting
 from .paths import Path

@@ -13,9 +13,9 @@ from multiprocessing.connection import Connection, wait
 from multiprocessing.process import BaseProcess
 from typing import Callable, Iterator
 
-from ..circuits import Circuit
-from ..limits import SECOND, limits_for, with_line
-from ..signals import Stopped
+from ..host.signals import Stopped
+from ..texts.circuits import Circuit
+from ..texts.limits import SECOND, limits_for, with_line
 from .attempt import Attempt, OutOfTimeError
 from .board import Bound, NoRouteError, Step
 from .certificate import Certifier, bundle_text, circuit_section

@@ -14,7 +14,7 @@ from functools import cache, cached_property
 from itertools import chain
 from typing import Iterable
 
-from ..layouts import Cell
+from ..texts.layouts import Cell
 from .balls import BOUNCE_STEPS, Ball, Leg, Mirror, Turn, block_cells, bounce, mirror_cells, path_run
 from .cells import GateCell
 

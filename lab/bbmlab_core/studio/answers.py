@@ -5,13 +5,13 @@ from functools import lru_cache
 from pathlib import Path
 from typing import Any, Callable
 
-from .. import json_form, standard_cells
-from ..documents import read_document
-from ..program import HERE, ProgramError
-from ..refusals import explain_refusal
-from ..releases import program_of
-from ..spelling import source_line, spelled
-from ..terminal import LabError
+from ..host.program import HERE, ProgramError
+from ..host.releases import program_of
+from ..host.terminal import LabError
+from ..texts import json_form, standard_cells
+from ..texts.documents import read_document
+from ..texts.refusals import explain_refusal
+from ..texts.spelling import source_line, spelled
 from .folder import ChangedError, Folder, FolderError, bytes_of, digest_of, text_of
 from .guard import Denied
 from .jobs import Jobs

@@ -7,7 +7,7 @@ import stat
 import threading
 from pathlib import Path
 
-from ..replacing import ChangedFileError, replace_file
+from ..host.replacing import ChangedFileError, replace_file
 
 # A name of a file of the folder: no path, no hidden file, no control character.
 FILE_NAME = re.compile(r"[^./\\\x00-\x1f\x7f][^/\\\x00-\x1f\x7f]{0,200}\.txt\Z")

@@ -11,7 +11,7 @@ import time
 from pathlib import Path
 from typing import Any
 
-from ..program import Executable, opened
+from ..host.program import Executable, opened
 
 PACKAGE_PARENT = Path(__file__).resolve().parents[2]
 # How many seconds more than the program's limit a job may take, and how many a process may take to end.

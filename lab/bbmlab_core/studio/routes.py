@@ -12,7 +12,7 @@ from dataclasses import dataclass, field
 from pathlib import Path
 from typing import Any
 
-from ..terminal import LabError
+from ..host.terminal import LabError
 from .folder import bytes_of, text_of
 
 # The package, which the process imports.

@@ -11,7 +11,7 @@ from http.server import BaseHTTPRequestHandler, ThreadingHTTPServer
 from pathlib import Path
 from typing import Any, Callable
 
-from .. import viewing
+from ..view import viewing
 from .answers import Answers, word
 from .guard import MAX_REQUEST_BYTES, Denied, Guard
 

@@ -6,22 +6,22 @@ Only the program gives a verdict. The lab makes the certificates, the words and 
 from dataclasses import dataclass, field
 from typing import Any
 
-from ..boxes import Box
-from ..certificates import MAX_BOX_SIDE, MAX_CUTS, MAX_USES, Certificate, Module
-from ..certify import Plan, certificate_text, certified
-from ..circuits import Circuit, values_under
-from ..diagnosis import Diagnosis, Truth
-from ..documents import Document, read_document
-from ..explaining import explain_report, tried_words
-from ..fixing import Fix, Fixer, head_of, outcome_words
-from ..layouts import Cell, Layout
-from ..processor import processor_seconds
-from ..program import Answer, Executable, ProgramError, ProgramTimeout, ask
-from ..refusals import explain_code, explain_refusal
-from ..reports import Finding, Report, ReportError, parse_report
-from ..spelling import source_line, spelled
-from ..terminal import LabError
-from ..trials import Budget, Trial
+from ..certify.certifier import Plan, certificate_text, certified
+from ..explain.diagnosis import Diagnosis, Truth
+from ..explain.explaining import explain_report, tried_words
+from ..explain.fixing import Fix, Fixer, head_of, outcome_words
+from ..explain.trials import Budget, Trial
+from ..host.processor import processor_seconds
+from ..host.program import Answer, Executable, ProgramError, ProgramTimeout, ask
+from ..host.terminal import LabError
+from ..texts.boxes import Box
+from ..texts.certificates import MAX_BOX_SIDE, MAX_CUTS, MAX_USES, Certificate, Module
+from ..texts.circuits import Circuit, values_under
+from ..texts.documents import Document, read_document
+from ..texts.layouts import Cell, Layout
+from ..texts.refusals import explain_code, explain_refusal
+from ..texts.reports import Finding, Report, ReportError, parse_report
+from ..texts.spelling import source_line, spelled
 
 # The most lines of a report for which fixes are looked for one by one, and the most lines that are sent to the page.
 MAX_FIXED, MAX_LINES = 6, 200

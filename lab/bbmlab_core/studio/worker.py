@@ -15,14 +15,18 @@ from dataclasses import asdict
 from types import FrameType
 from typing import Any
 
-from .. import drawing, explaining, golly, program, tracing, viewing
-from ..documents import Document, read_document
-from ..layouts import Layout
-from ..program import Executable
-from ..reports import ReportError
-from ..signals import beat
-from ..spelling import spelled
-from ..terminal import LabError
+from ..explain import explaining
+from ..host import program
+from ..host.program import Executable
+from ..host.signals import beat
+from ..host.terminal import LabError
+from ..physics import tracing
+from ..pictures import drawing, golly
+from ..texts.documents import Document, read_document
+from ..texts.layouts import Layout
+from ..texts.reports import ReportError
+from ..texts.spelling import spelled
+from ..view import viewing
 from .folder import FolderError, bytes_of
 from .verdicts import Judge, explained, fixes_of_design
 

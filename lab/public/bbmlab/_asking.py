@@ -7,14 +7,14 @@ import re
 from dataclasses import dataclass
 from typing import Any
 
-from bbmlab_core import program as programs
-from bbmlab_core.answering import why_no_verdict
 from bbmlab_core.commands.explain import text_of
-from bbmlab_core.documents import command_for, read_document
-from bbmlab_core.explaining import as_json, explain_answer
-from bbmlab_core.refusals import explain_code, explain_refusal
-from bbmlab_core.reports import ReportError, parse_report
-from bbmlab_core.trials import Budget, Trial
+from bbmlab_core.explain.explaining import as_json, explain_answer
+from bbmlab_core.explain.trials import Budget, Trial
+from bbmlab_core.farm.answering import why_no_verdict
+from bbmlab_core.host import program as programs
+from bbmlab_core.texts.documents import command_for, read_document
+from bbmlab_core.texts.refusals import explain_code, explain_refusal
+from bbmlab_core.texts.reports import ReportError, parse_report
 
 from ._errors import ProgramError, RefusedError
 from ._reading import characters

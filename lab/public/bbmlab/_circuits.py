@@ -5,14 +5,15 @@ from __future__ import annotations
 from dataclasses import dataclass, field
 from typing import Callable, NamedTuple
 
-from bbmlab_core import circuits, truth
-from bbmlab_core import netlists as core
-from bbmlab_core.cleaning import clean as clean_lines
-from bbmlab_core.gate_lines import CircuitLines
-from bbmlab_core.inverting import inverse as inverse_lines
-from bbmlab_core.netlists.model import Netlist as CoreNetlist
-from bbmlab_core.simplifying import simplify as simple_lines
-from bbmlab_core.terminal import LabError
+from bbmlab_core.circuits import netlists as core
+from bbmlab_core.circuits import truth
+from bbmlab_core.circuits.cleaning import clean as clean_lines
+from bbmlab_core.circuits.gate_lines import CircuitLines
+from bbmlab_core.circuits.inverting import inverse as inverse_lines
+from bbmlab_core.circuits.netlists.model import Netlist as CoreNetlist
+from bbmlab_core.circuits.simplifying import simplify as simple_lines
+from bbmlab_core.host.terminal import LabError
+from bbmlab_core.texts import circuits
 
 from ._errors import NotFoundError
 from ._reading import characters, circuit_of, document_of, text_of

@@ -5,19 +5,19 @@ from __future__ import annotations
 from dataclasses import replace
 from typing import Callable, Iterable
 
-from bbmlab_core import boxes as core_boxes
-from bbmlab_core.certificates import StopLine
-from bbmlab_core.certify import Plan, certified, checked_boxes
-from bbmlab_core.documents import read_document
-from bbmlab_core.limits import sections_after_line
-from bbmlab_core.netlists import NetlistError, map_netlist, netlist_format
+from bbmlab_core.certify.certifier import Plan, certified, checked_boxes
+from bbmlab_core.circuits.netlists import NetlistError, map_netlist, netlist_format
+from bbmlab_core.circuits.row_check import missing_row
+from bbmlab_core.host.terminal import LabError
 from bbmlab_core.route.certificate import circuit_section
 from bbmlab_core.route.command import check_side, require_all_keeps
 from bbmlab_core.route.search import Options, Search
 from bbmlab_core.route.settings import Settings
-from bbmlab_core.row_check import missing_row
-from bbmlab_core.spelling import spelled
-from bbmlab_core.terminal import LabError
+from bbmlab_core.texts import boxes as core_boxes
+from bbmlab_core.texts.certificates import StopLine
+from bbmlab_core.texts.documents import read_document
+from bbmlab_core.texts.limits import sections_after_line
+from bbmlab_core.texts.spelling import spelled
 
 from ._errors import NotFoundError, RefusedError
 from ._reading import document_of, read, text_of

@@ -4,12 +4,12 @@ from __future__ import annotations
 
 import errno
 
-from bbmlab_core import certificates, circuits, layouts
-from bbmlab_core.certificates import BorderLine
-from bbmlab_core.documents import Document, read_document
-from bbmlab_core.layouts import Part
-from bbmlab_core.limits import limits_for, limits_of
-from bbmlab_core.refusals import explain_refusal
+from bbmlab_core.texts import certificates, circuits, layouts
+from bbmlab_core.texts.certificates import BorderLine
+from bbmlab_core.texts.documents import Document, read_document
+from bbmlab_core.texts.layouts import Part
+from bbmlab_core.texts.limits import limits_for, limits_of
+from bbmlab_core.texts.refusals import explain_refusal
 
 from ._errors import RefusedError
 from ._sections import Border, Box, Bundle, Certificate, Circuit, Gate, Layout, Module, Port, Stop

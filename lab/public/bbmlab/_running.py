@@ -4,7 +4,7 @@ from __future__ import annotations
 
 from typing import Iterable, Iterator, NamedTuple
 
-from bbmlab_core.simulation import ModuleRun, WholeRun, run_layout
+from bbmlab_core.physics.simulation import ModuleRun, WholeRun, run_layout
 
 from ._reading import document_of, text_of
 from ._sections import Bundle, Cell, Layout

@@ -5,10 +5,10 @@ from __future__ import annotations
 from dataclasses import dataclass, replace
 from typing import NamedTuple
 
-from bbmlab_core.circuits import CircuitReader
-from bbmlab_core.gates import GATE_SIZES
-from bbmlab_core.limits import FIRST, SECOND
-from bbmlab_core.lines import match_form
+from bbmlab_core.texts.circuits import CircuitReader
+from bbmlab_core.texts.gates import GATE_SIZES
+from bbmlab_core.texts.limits import FIRST, SECOND
+from bbmlab_core.texts.lines import match_form
 
 Cell = tuple[int, int]
 
