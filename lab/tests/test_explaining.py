@@ -10,7 +10,7 @@ from bbmlab_core.certify.certifier import Plan, certified, checked_boxes
 from bbmlab_core.explain.diagnosis import Diagnosis, Truth
 from bbmlab_core.explain.explaining import as_gcc, explain_answer
 from bbmlab_core.explain.trials import Trial
-from bbmlab_core.physics.own_report import certificate_digest
+from bbmlab_core.texts.skimming import certificate_digest
 from bbmlab_core.texts.circuits import values_under
 from bbmlab_core.texts.reports import ReportError, parse_report
 

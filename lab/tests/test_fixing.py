@@ -16,7 +16,8 @@ from bbmlab_core.explain.fixing import Fixer
 from bbmlab_core.explain.trials import Budget, Trial, is_yes
 from bbmlab_core.host.program import ask
 from bbmlab_core.physics.mirrors import stays
-from bbmlab_core.physics.own_report import certificate_digest, own_report
+from bbmlab_core.physics.own_report import own_report
+from bbmlab_core.texts.skimming import certificate_digest
 from bbmlab_core.physics.simulation import Field, key_of
 from bbmlab_core.texts.boxes import Box
 from bbmlab_core.texts.certificates import BorderLine, Module

@@ -13,7 +13,7 @@ from bbmlab_core.explain.explaining import as_gcc, explain_answer
 from bbmlab_core.farm.checking import files_below
 from bbmlab_core.farm.receipts import ReceiptError, parse_receipt
 from bbmlab_core.host.terminal import LabError, replace_file
-from bbmlab_core.physics.own_report import certificate_digest
+from bbmlab_core.texts.skimming import certificate_digest
 from bbmlab_core.pictures.golly import layout_from_golly
 from bbmlab_core.texts.certificates import Module
 from bbmlab_core.texts.designs import require_report_of

@@ -4,7 +4,7 @@ import unittest
 from pathlib import Path
 
 import support
-from bbmlab_core.explain.fixing import head_of
+from bbmlab_core.texts.skimming import head_of
 from bbmlab_core.studio.folder import bytes_of, text_of
 from bbmlab_core.texts.documents import read_document
 from bbmlab_core.texts.spelling import free_words, mark_length, spelled

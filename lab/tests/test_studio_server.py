@@ -22,7 +22,7 @@ from bbmlab_core.studio.folder import Folder
 from bbmlab_core.studio.guard import MAX_REQUEST_BYTES
 from bbmlab_core.studio.jobs import Jobs, Worker
 from bbmlab_core.studio.server import POLICY, Studio, studio
-from bbmlab_core.studio.verdicts import cuts_of
+from bbmlab_core.texts.skimming import cuts_of
 from bbmlab_core.texts.spelling import source_line
 
 MEMORY = 4096

@@ -1,7 +1,6 @@
 """Runs `bbmlab draw`."""
 
 import argparse
-import re
 
 from ..host.terminal import LabError, write_text
 from ..physics import tracing
@@ -13,10 +12,7 @@ from ..texts.designs import read_design, report_for
 from ..texts.documents import Document
 from ..texts.layouts import Layout
 from ..texts.reports import Report
-
-
-# The numbers of a line `use` or `module`.
-MODULE_OR_USE = re.compile(r"\n(?:use (\d{1,9})|module ((?:\d{1,9} ){3}\d{1,9}))(?=\n)")
+from ..texts.skimming import boxes_and_uses
 
 
 def picture_of(design: tuple[Document, Layout], names: str | None, time: int | None, report: Report | None = None, look: Look = Look()) -> str:
@@ -59,14 +55,10 @@ def view_of(look: Look, layout: Layout) -> Box | None:
 
 def gate_boxes(text: str, circuit: Circuit) -> list[tuple[Box, list[str]]]:
     """Returns the boxes of the modules of a certificate that use gates and are larger than the smallest module, with the gates."""
-    found: list[tuple[Box, list[str]]] = []
-    for line in MODULE_OR_USE.finditer(text, text.find("\ncertificate ") % (len(text) + 1)):
-        if line[2]:
-            found.append((Box(*map(int, line[2].split(" "))), []))
-        elif found and int(line[1]) < len(circuit.gates):
-            gate = circuit.gates[int(line[1])]
-            if gate.word not in ("source", "delay"):
-                found[-1][1].append(f"{gate.word} {gate.number}")
+    found = []
+    for box, uses in boxes_and_uses(text):
+        gates = [circuit.gates[number] for number in uses if number < len(circuit.gates)]
+        found.append((box, [f"{gate.word} {gate.number}" for gate in gates if gate.word not in ("source", "delay")]))
     least = min((box.width * box.height for box, _ in found), default=0)
     return [(box, gates) for box, gates in found if gates and box.width * box.height > least]
 

@@ -10,6 +10,7 @@ from ..host.terminal import LabError
 from ..texts.documents import Document, read_document
 from ..texts.layouts import Cell
 from ..texts.reports import Finding, Report
+from ..texts.skimming import head_of
 from .certificate_edits import CertificateEditor
 from .diagnosis import Diagnosis, Truth
 from .edits import Edit, EditError, applied, edits_between
@@ -59,12 +60,6 @@ class Fix:
     others: list[list[str]] = field(default_factory=list)
 
 
-def head_of(text: str) -> str:
-    """Returns the circuit and the layout of a text."""
-    place = 0 if text.startswith("certificate ") else text.find("\ncertificate ") + 1
-    return text[:place] if place or text.startswith("certificate ") else text
-
-
 def step_words(text: str, edits: list[Edit], remakes: bool) -> list[str]:
     """Returns what a fix changes, a sentence for each edit."""
     lines = text.split("\n")
@@ -72,7 +67,7 @@ def step_words(text: str, edits: list[Edit], remakes: bool) -> list[str]:
     if len(edits) > MAX_EDITS:
         words.append(f"And {len(edits) - MAX_EDITS} more edits: `bbmlab explain --fix` writes the whole text.")
     if remakes:
-        verb = "make the certificate again" if "\ncertificate " in text else "add a certificate"
+        verb = "make the certificate again" if head_of(text) != text else "add a certificate"
         words.append(f"Then {verb}: `bbmlab certify` does." if edits else f"{verb.capitalize()}: `bbmlab certify` does.")
     return words
 

@@ -1,6 +1,5 @@
 """A report that the lab makes by itself, for a text that its reader takes. It is no verdict: only the program gives one."""
 
-import hashlib
 from typing import Iterator
 
 from ..texts.certificates import Certificate, Module
@@ -8,18 +7,8 @@ from ..texts.circuits import Circuit
 from ..texts.documents import Document
 from ..texts.layouts import Layout
 from ..texts.reports import Finding, Report, parse_finding
+from ..texts.skimming import certificate_digest
 from .simulation import ModuleRun, local_values, lowest_bit
-
-
-def certificate_digest(text: str) -> str:
-    """Returns the digest of the last certificate section of a text: SHA-256 from its header to its `end`, with the line feed."""
-    lines = text.split("\n")
-    headers = [index for index, line in enumerate(lines) if line.startswith("certificate ")]
-    if not headers or "end" not in lines[headers[-1]:]:
-        return ""
-    end = lines.index("end", headers[-1])
-    section = "\n".join(lines[headers[-1]:end + 1]) + "\n"
-    return hashlib.sha256(section.encode("latin-1")).hexdigest()
 
 
 def local_lines(circuit: Circuit, layout: Layout, certificate: Certificate) -> Iterator[str]:

@@ -11,6 +11,7 @@ from ..host.terminal import LabError
 from ..texts import json_form, standard_cells
 from ..texts.documents import read_document
 from ..texts.refusals import explain_refusal
+from ..texts.skimming import head_of
 from ..texts.spelling import source_line, spelled
 from .folder import ChangedError, Folder, FolderError, bytes_of, digest_of, text_of
 from .guard import Denied
@@ -112,7 +113,7 @@ class Answers:
         """Returns where the lab's reader refuses the circuit and the layout, or null."""
         source = bytes_of(word(body, "text")).decode("latin-1")
         text = spelled(source).text
-        document = read_document(text.split("\ncertificate ")[0] + ("\n" if "\ncertificate " in text else ""), "design")
+        document = read_document(head_of(text) or text, "design")
         if document.refusal is None:
             return {"refusal": None}
         told = explain_refusal(document, document.refusal)

@@ -9,7 +9,7 @@ from typing import Any
 from ..certify.certifier import Plan, certificate_text, certified
 from ..explain.diagnosis import Diagnosis, Truth
 from ..explain.explaining import explain_report, tried_words
-from ..explain.fixing import Fix, Fixer, head_of, outcome_words
+from ..explain.fixing import Fix, Fixer, outcome_words
 from ..explain.trials import Budget, Trial
 from ..host.processor import processor_seconds
 from ..host.program import Answer, Executable, ProgramError, ProgramTimeout, ask
@@ -21,6 +21,7 @@ from ..texts.documents import Document, read_document
 from ..texts.layouts import Cell, Layout
 from ..texts.refusals import explain_code, explain_refusal
 from ..texts.reports import Finding, Report, ReportError, parse_report
+from ..texts.skimming import cuts_of, head_of
 from ..texts.spelling import source_line, spelled
 
 # The most lines of a report for which fixes are looked for one by one, and the most lines that are sent to the page.
@@ -198,12 +199,6 @@ def plain_certificate(circuit: Circuit, layout: Layout) -> str | None:
     module.cuts, module.uses = list(circuit.inputs), {gate.number: 0 for gate in circuit.gates}
     module.keeps = {gate.number: 0 for gate in circuit.gates if gate.is_inverse}
     return certificate_text(Certificate(2, [module]))
-
-
-def cuts_of(bundle: str) -> list[list[str]]:
-    """Returns the wires that each module of a bundle that was read cuts. It reads no other line: most lines of a large one are at borders."""
-    modules = bundle[bundle.find("\ncertificate ") + 1:].split("\nmodule ")[1:]
-    return [[line.split(" ")[1] for line in module.split("\n", MAX_CUTS + 1)[1:] if line.startswith("cut ")] for module in modules]
 
 
 def fault_form(cuts: list[list[str]], inputs: list[str], finding: Finding) -> dict[str, Any]:

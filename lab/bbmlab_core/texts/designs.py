@@ -3,11 +3,11 @@
 import argparse
 
 from ..host.terminal import LabError, read_text
-from ..physics.own_report import certificate_digest
 from .documents import Document, read_document
 from .layouts import Layout
 from .refusals import refusal_words
 from .reports import Finding, Report, ReportError, parse_report
+from .skimming import certificate_digest, certificate_place
 from .spelling import source_line, spelled
 
 
@@ -39,8 +39,8 @@ def read_design(name: str, has_certificate: bool = True) -> tuple[Document, Layo
     The certificate of a long text is not read if it is not needed.
     """
     text = read_text(name)
-    place = text.find("\ncertificate ") + 1
-    if place and not has_certificate and len(text) > LONG_TEXT:
+    place = certificate_place(text)
+    if 0 < place < len(text) and not has_certificate and len(text) > LONG_TEXT:
         document = read_free(name, text[:place], "design")
         document.text = text
     else:
