@@ -193,7 +193,7 @@ class Forms(unittest.TestCase):
         """A line fits a form if each of its words fits the placeholder there."""
         chance, counts = random.Random(3), Counter[bool]()
         words = ["0", "1", "01", "17", "999999999", "1000000000", "*", "->", "a", "b_2", "_a", "A", "X", "TIME", "a" * 32, "a" * 33, "", "a\n", "1\r", "\xb2"]
-        for forms in (CircuitReader.forms, LayoutReader.forms, CertificateReader.all_forms, AssignReader.forms):
+        for forms in (CircuitReader.forms, LayoutReader.forms, CertificateReader.forms, AssignReader.forms):
             for keyword, form in forms.items():
                 for _ in range(400):
                     line = [keyword, *(place if place == "->" else chance.choice(words) for place in form[1:])][:chance.choice((9, 9, 2))]

@@ -7,16 +7,11 @@ class AssignReader(SectionReader):
     """Reads an assign section."""
 
     name = "assign"
-    forms = forms_of("assign", "on NAME", "end")
-
     def __init__(self, lines: Lines, known: list[str], command: str) -> None:
         super().__init__(lines)
         self.known = dict.fromkeys(known)
         self.command = command
         self.on: dict[str, int] = {}
-
-    def read_assign(self) -> None:
-        """Reads the header."""
 
     def read_on(self, name: str) -> None:
         """Reads a line `on`."""
@@ -26,5 +21,5 @@ class AssignReader(SectionReader):
             self.lines.refuse(4, "on_twice", name=name, at=self.on[name])
         self.on[name] = self.lines.taken
 
-    def read_end(self) -> None:
-        """Reads the line `end`."""
+    readers = {"assign": SectionReader.read_nothing, "on NAME": read_on, "end": SectionReader.read_nothing}
+    forms = forms_of(*readers)

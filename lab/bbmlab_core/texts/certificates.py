@@ -1,6 +1,7 @@
 """The certificate section: its model and its reader."""
 
 from dataclasses import dataclass, field
+from functools import partial
 from typing import Iterator
 
 from .boxes import Box
@@ -139,10 +140,6 @@ class CertificateReader(SectionReader):
     """Reads a certificate section behind a circuit and a layout."""
 
     name = "certificate"
-    all_forms = forms_of(
-        "certificate VERSION", "module X Y W H", "cut NAME", "use GATE", "keep GATE", "edge TIME X Y SIGNAL",
-        "halo TIME X Y SIGNAL", "stop T NAME X Y", "end")
-    forms_of_version_2 = {word: form for word, form in all_forms.items() if word != "halo"}
 
     def __init__(self, lines: Lines, circuit: Circuit, layout: Layout) -> None:
         super().__init__(lines)
@@ -156,7 +153,7 @@ class CertificateReader(SectionReader):
 
     def forms_now(self) -> dict[str, Form]:
         """Returns the forms, in version 2 without `halo`."""
-        return self.forms_of_version_2 if self.certificate.version == 2 else self.all_forms
+        return self.forms_of_version_2 if self.certificate.version == 2 else self.forms
 
     @property
     def module(self) -> Module:
@@ -271,26 +268,19 @@ class CertificateReader(SectionReader):
         if len(module.edges) + len(module.halos) + len(module.stops) == MAX_BORDER_LINES:
             self.lines.refuse(2, "border_count", module=module.number)
 
-    def read_edge(self, time: int | None, x: int, y: int, signal: str) -> None:
-        """Reads a line `edge`."""
-        self.read_border(BorderLine("edge", time, x, y, signal, self.lines.taken))
-
-    def read_halo(self, time: int | None, x: int, y: int, signal: str) -> None:
-        """Reads a line `halo`."""
-        self.read_border(BorderLine("halo", time, x, y, signal, self.lines.taken))
-
-    def read_border(self, line: BorderLine) -> None:
+    def read_border(self, time: int | None, x: int, y: int, signal: str, kind: str) -> None:
         """Reads an `edge` or `halo` line."""
-        self.require_place(line.kind)
-        lines = self.module.border_lines(line.kind)
+        line = BorderLine(kind, time, x, y, signal, self.lines.taken)
+        self.require_place(kind)
+        lines = self.module.border_lines(kind)
         if lines and line.place <= lines[-1].place:
             self.lines.refuse(6, "border_not_rising", new=line, last=lines[-1])
         self.require_border_room()
         self.require_border_place(line)
-        if line.signal != "1":
-            self.require_local(line.signal, line.kind)
-        if line.time is None:
-            self.module.stars[line.kind][line.cell] = line.line
+        if signal != "1":
+            self.require_local(signal, kind)
+        if time is None:
+            self.module.stars[kind][line.cell] = line.line
         lines.append(line)
 
     def require_border_place(self, line: BorderLine) -> None:
@@ -365,3 +355,10 @@ class CertificateReader(SectionReader):
                             and line.signal not in module.local and module.box.has_in_halo(line.cell)]
         if missing:
             self.lines.refuse(11, "heard_not_local", missing=missing)
+
+    readers = {
+        "certificate VERSION": read_certificate, "module X Y W H": read_module, "cut NAME": read_cut, "use GATE": read_use,
+        "keep GATE": read_keep, "edge TIME X Y SIGNAL": partial(read_border, kind="edge"),
+        "halo TIME X Y SIGNAL": partial(read_border, kind="halo"), "stop T NAME X Y": read_stop, "end": read_end}
+    forms = forms_of(*readers)
+    forms_of_version_2 = {word: form for word, form in forms.items() if word != "halo"}

@@ -2,13 +2,15 @@
 
 import random
 from dataclasses import dataclass, field
-from functools import cached_property
-from typing import Iterable
+from functools import cached_property, partial
+from typing import Any, Iterable
 
 from .gates import GATE_SIZES, INVERSE_GATES, Table, gate_row, input_tables
 from .lines import Lines, SectionReader, forms_of, order_of
 
 MAX_DELAY = 4096
+# The gates whose line has a number: the bit of a source, or the steps of a delay.
+WITH_PARAMETER = ("source", "delay")
 ORDER = ["input", "gate", "output", "spill"]
 LATER = order_of(ORDER)
 
@@ -163,17 +165,9 @@ class CircuitReader(SectionReader):
     """Reads a circuit section."""
 
     name = "circuit"
-    forms = forms_of(
-        "circuit", "input NAME", "source BIT -> NAME", "fredkin A B C -> D E F", "cswap A B C -> D E F",
-        "interact A B -> C D E F", "switch A B -> C D E", "delay N A -> B", "unswitch A B C -> D E",
-        "uninteract A B C D -> E F", "output NAME", "spill NAME", "end")
-
     def __init__(self, lines: Lines) -> None:
         super().__init__(lines)
         self.circuit = Circuit()
-
-    def read_circuit(self) -> None:
-        """Reads the header."""
 
     def read_input(self, name: str) -> None:
         """Reads a line `input`."""
@@ -193,9 +187,10 @@ class CircuitReader(SectionReader):
         self.consume([name])
         self.circuit.spills.append(name)
 
-    def read_gate(self, word: str, parameter: int | None, names: list[str]) -> None:
+    def read_gate(self, *values: Any, word: str) -> None:
         """Reads a gate line of any kind."""
         self.require_kind_order("gate", LATER)
+        parameter, names = (values[0], list(values[1:])) if word in WITH_PARAMETER else (None, list(values))
         uses = GATE_SIZES[word][0]
         ins, outs = names[:uses], names[uses:]
         if word == "delay" and not 1 <= (parameter or 0) <= MAX_DELAY:
@@ -209,38 +204,6 @@ class CircuitReader(SectionReader):
         self.circuit.gates.append(gate)
         self.circuit.maker.update((name, gate) for name in outs)
         self.kind_lines["gate"] = self.lines.taken
-
-    def read_source(self, bit: int, name: str) -> None:
-        """Reads a line `source`."""
-        self.read_gate("source", bit, [name])
-
-    def read_delay(self, steps: int, used: str, made: str) -> None:
-        """Reads a line `delay`."""
-        self.read_gate("delay", steps, [used, made])
-
-    def read_fredkin(self, *names: str) -> None:
-        """Reads a line `fredkin`."""
-        self.read_gate("fredkin", None, list(names))
-
-    def read_cswap(self, *names: str) -> None:
-        """Reads a line `cswap`."""
-        self.read_gate("cswap", None, list(names))
-
-    def read_interact(self, *names: str) -> None:
-        """Reads a line `interact`."""
-        self.read_gate("interact", None, list(names))
-
-    def read_switch(self, *names: str) -> None:
-        """Reads a line `switch`."""
-        self.read_gate("switch", None, list(names))
-
-    def read_unswitch(self, *names: str) -> None:
-        """Reads a line `unswitch`."""
-        self.read_gate("unswitch", None, list(names))
-
-    def read_uninteract(self, *names: str) -> None:
-        """Reads a line `uninteract`."""
-        self.read_gate("uninteract", None, list(names))
 
     def read_end(self) -> None:
         """Reads the line `end`, at which each wire is consumed."""
@@ -268,3 +231,16 @@ class CircuitReader(SectionReader):
             if name in self.circuit.defined:
                 self.lines.refuse(4, "wire_defined", name=name, at=self.circuit.defined[name])
             self.circuit.defined[name] = self.lines.taken
+
+    readers = {
+        "circuit": SectionReader.read_nothing, "input NAME": read_input,
+        "source BIT -> NAME": partial(read_gate, word="source"),
+        "fredkin A B C -> D E F": partial(read_gate, word="fredkin"),
+        "cswap A B C -> D E F": partial(read_gate, word="cswap"),
+        "interact A B -> C D E F": partial(read_gate, word="interact"),
+        "switch A B -> C D E": partial(read_gate, word="switch"),
+        "delay N A -> B": partial(read_gate, word="delay"),
+        "unswitch A B C -> D E": partial(read_gate, word="unswitch"),
+        "uninteract A B C D -> E F": partial(read_gate, word="uninteract"),
+        "output NAME": read_output, "spill NAME": read_spill, "end": read_end}
+    forms = forms_of(*readers)

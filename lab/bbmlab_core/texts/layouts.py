@@ -1,6 +1,7 @@
 """The layout section: its model and its reader."""
 
 from dataclasses import dataclass, field
+from functools import partial
 from typing import Iterator
 
 from .circuits import Circuit
@@ -104,7 +105,6 @@ class LayoutReader(SectionReader):
     """Reads a layout section, of a bundle where a circuit is given."""
 
     name = "layout"
-    forms = forms_of("layout W H STEPS", "mirror X Y W H", "ball X Y", "in NAME X Y", "out NAME X Y", "waste X Y", "end")
 
     def __init__(self, lines: Lines, circuit: Circuit | None = None) -> None:
         super().__init__(lines)
@@ -129,21 +129,13 @@ class LayoutReader(SectionReader):
         """Reads a line `mirror`."""
         self.read_part("mirror", None, (x, y, width, height))
 
-    def read_ball(self, x: int, y: int) -> None:
-        """Reads a line `ball`."""
-        self.read_part("ball", None, (x, y, 1, 1))
+    def read_cell(self, x: int, y: int, kind: str) -> None:
+        """Reads a line `ball` or `waste`."""
+        self.read_part(kind, None, (x, y, 1, 1))
 
-    def read_in(self, name: str, x: int, y: int) -> None:
-        """Reads a line `in`."""
-        self.read_part("in", name, (x, y, 1, 1))
-
-    def read_out(self, name: str, x: int, y: int) -> None:
-        """Reads a line `out`."""
-        self.read_part("out", name, (x, y, 1, 1))
-
-    def read_waste(self, x: int, y: int) -> None:
-        """Reads a line `waste`."""
-        self.read_part("waste", None, (x, y, 1, 1))
+    def read_port(self, name: str, x: int, y: int, kind: str) -> None:
+        """Reads a line `in` or `out`."""
+        self.read_part(kind, name, (x, y, 1, 1))
 
     def read_part(self, kind: str, name: str | None, box: tuple[int, int, int, int]) -> None:
         """Reads a line of any kind but header and end."""
@@ -191,3 +183,9 @@ class LayoutReader(SectionReader):
         no_out = [name for name in self.circuit.outputs if name not in outs]
         if no_in or no_out:
             self.lines.refuse(11, "port_without_cell", inputs=no_in, outputs=no_out)
+
+    readers = {
+        "layout W H STEPS": read_layout, "mirror X Y W H": read_mirror, "ball X Y": partial(read_cell, kind="ball"),
+        "in NAME X Y": partial(read_port, kind="in"), "out NAME X Y": partial(read_port, kind="out"),
+        "waste X Y": partial(read_cell, kind="waste"), "end": read_end}
+    forms = forms_of(*readers)

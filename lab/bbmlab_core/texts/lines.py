@@ -2,7 +2,7 @@
 
 import re
 from dataclasses import dataclass, field
-from functools import cache
+from functools import cache, partial
 from typing import Any, Callable, Iterable, NoReturn
 
 from .limits import FIRST, limits_of
@@ -142,9 +142,10 @@ class Lines:
 
 
 class SectionReader:
-    """Reads one section line by line. A subclass has a method `read_KEYWORD` for each kind of line."""
+    """Reads one section line by line. A subclass lists the forms of its lines, each with the method that takes the values of the line."""
 
     name = ""
+    readers: dict[str, Callable[..., None]] = {}
     forms: dict[str, Form] = {}
 
     def __init__(self, lines: Lines) -> None:
@@ -159,7 +160,7 @@ class SectionReader:
 
     def read(self) -> None:
         """Reads up to the line `end`, or raises `Refused`."""
-        keyword, readers = "", {word: getattr(self, f"read_{word}") for word in self.forms_now()}
+        keyword, readers = "", {form.partition(" ")[0]: partial(reader, self) for form, reader in self.readers.items()}
         while keyword != "end":
             found = match_line(self.lines.take(self.name), self.forms_now())
             if found is None:
@@ -173,6 +174,9 @@ class SectionReader:
             readers[keyword](*values)
             self.kind_lines[keyword] = self.lines.taken
         self.last_line = self.lines.taken
+
+    def read_nothing(self) -> None:
+        """Reads a line without values, behind which nothing is left to do."""
 
     def require_kind_order(self, keyword: str, order: Order) -> None:
         """Refuses a kind of line that comes after a later kind."""

@@ -5,7 +5,7 @@ from __future__ import annotations
 from dataclasses import dataclass, replace
 from typing import NamedTuple
 
-from bbmlab_core.texts.circuits import CircuitReader
+from bbmlab_core.texts.circuits import WITH_PARAMETER, CircuitReader
 from bbmlab_core.texts.gates import GATE_SIZES
 from bbmlab_core.texts.limits import FIRST, SECOND
 from bbmlab_core.texts.lines import match_form
@@ -87,7 +87,7 @@ class Circuit:
         if found is None or found[0] not in GATE_SIZES:
             raise ValueError(f"{line!r} is no line of a gate")
         kind, values = found
-        parameter = values.pop(0) if kind in ("source", "delay") else None
+        parameter = values.pop(0) if kind in WITH_PARAMETER else None
         count = GATE_SIZES[kind][0]
         return replace(self, gates=(*self.gates, Gate(kind, tuple(values[:count]), tuple(values[count:]), parameter)))
 
