@@ -36,7 +36,8 @@ class Picture(unittest.TestCase):
         layout = read_design(str(support.LAB / "cells" / "fredkin.txt"))[1]
         picture = ET.fromstring(animating.animation(layout, [["c"], ["x", "y"]], "two runs"))
         space = "{http://www.w3.org/2000/svg}"
-        values = [it.attrib["values"].split(";") for it in picture.iter(f"{space}animate") if it.attrib["attributeName"] in "xy"]
+        values = [it.attrib["values"].split(";") for it in picture.iter(f"{space}animate")
+                  if it.attrib["attributeName"] in "xy"]
         own = layout.steps + 1 + animating.REST
         self.assertEqual({len(it) for it in values}, {2 * own})
         self.assertEqual(len(values), 2 * 6)

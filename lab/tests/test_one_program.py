@@ -37,7 +37,8 @@ class Replaced(unittest.TestCase):
         self.program, liar = self.room / "program", self.room / "liar"
         liar.write_text(LIE)
         liar.chmod(0o755)
-        self.program.write_text(f"#!/bin/sh\n[ \"$1\" != check ] || mv -f '{liar}' '{self.program}' 2>/dev/null\nexec '{support.program()}' \"$@\"\n")
+        self.program.write_text(f"#!/bin/sh\n[ \"$1\" != check ] || mv -f '{liar}' '{self.program}' 2>/dev/null\nexec "
+                                f"'{support.program()}' \"$@\"\n")
         self.program.chmod(0o755)
         self.digest = digest(self.program)
         self.text = Path(support.example("wrong_edge")).read_bytes()
@@ -56,7 +57,8 @@ class Replaced(unittest.TestCase):
             with self.subTest(jobs):
                 self.setUp()
                 receipts = self.room / "receipts"
-                ended = support.lab("check", "--program", str(self.program), "--receipts", str(receipts), "--jobs", jobs, str(designs))
+                ended = support.lab("check", "--program", str(self.program), "--receipts", str(receipts), "--jobs",
+                                    jobs, str(designs))
                 self.assertTrue(self.was_replaced())
                 said = [json.loads(path.read_text()) for path in receipts.iterdir()]
                 self.assertEqual((len(said), {one["verdict"] for one in said}, ended.returncode), (9, {"no"}, 1))
@@ -84,7 +86,8 @@ class Replaced(unittest.TestCase):
         self.assertEqual({result.result for result in found}, {"no"})
 
     def test_studio(self) -> None:
-        """The studio's verdicts are those of the program that it named at its start, also in a process that starts later."""
+        """The studio's verdicts are those of the program that it named at its start, also in a process that starts
+        later."""
         jobs = Jobs(str(self.program), 20.0, 4096)
         self.addCleanup(jobs.close)
         job = {"kind": "verdict", "text": self.text.decode(), "stage": "first", "earlier": ""}

@@ -1,9 +1,10 @@
 #!/usr/bin/env python3
-"""tools/docs/crate_picture.py [--check PAGE]: the pictures of the crates and of the lab's packages in docs/ARCHITECTURE.md, as Mermaid blocks,
-from crates.txt and lab/packages.txt.
+"""tools/docs/crate_picture.py [--check PAGE]: the pictures of the crates and of the lab's packages in
+docs/ARCHITECTURE.md, as Mermaid blocks, from crates.txt and lab/packages.txt.
 
-An arrow goes from a crate to one that it uses, without those that follow from others. Arrows of crates that the program does not
-use, those of tests, are dotted. Crates of the kit are left out. With --check the status is 1 if the page has other blocks.
+An arrow goes from a crate to one that it uses, without those that follow from others. Arrows of crates that the program
+does not use, those of tests, are dotted. Crates of the kit are left out. With --check the status is 1 if the page has
+other blocks.
 """
 import argparse
 import sys

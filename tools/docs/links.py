@@ -31,4 +31,5 @@ def dead_links(page: Path, text: str) -> Iterator[str]:
 def dead_in_folder(folder: Path) -> list[str]:
     """Returns the dead links of all pages below a folder, each with its page."""
     pages = sorted(page for page in folder.rglob("*.md") if page.is_file())
-    return [f"{page.relative_to(folder)}: {dead}" for page in pages for dead in dead_links(page, page.read_text(encoding="utf-8"))]
+    return [f"{page.relative_to(folder)}: {dead}" for page in pages
+            for dead in dead_links(page, page.read_text(encoding="utf-8"))]

@@ -1,11 +1,14 @@
-"""The words to avoid, and the paragraphs and sentences of a text, for tools/docs/check_pages and tools/sources/check_comments."""
+"""The words to avoid, and the paragraphs and sentences of a text, for tools/docs/check_pages and
+tools/sources/check_comments.
+"""
 import re
 from typing import Iterator
 
 MAX_WORDS = 30
 # Words and phrases that CONTRIBUTING.md bans from prose.
 BANNED = [
-    r"stands?", r"tells?", r"says nothing of", r"at hand", r"let go", r"aloud", r"for good", r"whole job", r"is handed on", r"is made good",
+    r"stands?", r"tells?", r"says nothing of", r"at hand", r"let go", r"aloud", r"for good", r"whole job",
+    r"is handed on", r"is made good",
     r"goes well", r"no clause says", r"so many", r"want of memory", r"who(?:ever)? (?:writes|reads|is handed)",
 ]
 BAN = re.compile(r"\b(?:" + "|".join(BANNED) + r")\b", re.IGNORECASE)
@@ -45,8 +48,10 @@ def sentences(paragraph: str) -> list[str]:
 
 def faults_in_pages(paragraph: str) -> list[str]:
     """Returns what `faults` finds, and the words that pages avoid."""
-    starts = [f"a sentence that begins with {found[0]!r}" for sentence in sentences(paragraph) if (found := BAN_AT_START.match(sentence))]
-    return [*faults(paragraph), *starts, *(f"the word {word!r}" for word in BAN_IN_PAGES.findall(CODE.sub("code", paragraph)))]
+    starts = [f"a sentence that begins with {found[0]!r}" for sentence in sentences(paragraph)
+              if (found := BAN_AT_START.match(sentence))]
+    return [*faults(paragraph), *starts,
+            *(f"the word {word!r}" for word in BAN_IN_PAGES.findall(CODE.sub("code", paragraph)))]
 
 
 def faults(paragraph: str) -> list[str]:

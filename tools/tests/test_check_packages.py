@@ -17,12 +17,14 @@ class CheckPackages(unittest.TestCase):
         room = tempfile.TemporaryDirectory()
         self.addCleanup(room.cleanup)
         self.lab = Path(room.name)
-        shutil.copytree(TOP / "lab" / "bbmlab_core", self.lab / "bbmlab_core", ignore=shutil.ignore_patterns("__pycache__"))
+        shutil.copytree(TOP / "lab" / "bbmlab_core", self.lab / "bbmlab_core",
+                        ignore=shutil.ignore_patterns("__pycache__"))
         shutil.copy(TOP / "lab" / "packages.txt", self.lab)
 
     def said(self) -> list[str]:
         """Returns what the tool says of the copy."""
-        ended = subprocess.run([sys.executable, TOP / "tools" / "sources" / "check_packages", self.lab], capture_output=True, text=True, check=False)
+        ended = subprocess.run([sys.executable, TOP / "tools" / "sources" / "check_packages", self.lab],
+                               capture_output=True, text=True, check=False)
         found = ended.stdout.splitlines()
         self.assertEqual((ended.returncode, ended.stderr), (1 if found else 0, ""))
         return found
@@ -37,7 +39,8 @@ class CheckPackages(unittest.TestCase):
 
     def test_import_from_above(self) -> None:
         line = len((self.lab / LIMITS).read_text().splitlines()) + 1
-        for words in ("from ..physics.simulation import WholeRun", "from bbmlab_core.physics import simulation", "from .. import physics",
+        for words in ("from ..physics.simulation import WholeRun", "from bbmlab_core.physics import simulation",
+                      "from .. import physics",
                       "import bbmlab_core.physics.simulation", "def late(): from ..physics import simulation"):
             with self.subTest(words=words):
                 old = (self.lab / LIMITS).read_text()
@@ -52,7 +55,8 @@ class CheckPackages(unittest.TestCase):
 
     def test_import_that_nobody_needs(self) -> None:
         text = (self.lab / "packages.txt").read_text()
-        (self.lab / "packages.txt").write_text(text.replace("route: host texts circuits", "route: host texts physics circuits"))
+        (self.lab / "packages.txt").write_text(text.replace("route: host texts circuits",
+                                                            "route: host texts physics circuits"))
         self.assertEqual(self.said(), ["packages.txt: no module of route imports physics"])
 
     def test_circle(self) -> None:

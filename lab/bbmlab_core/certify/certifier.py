@@ -1,8 +1,9 @@
 """`bbmlab certify`: makes a certificate for a circuit and a layout of any size, from one run of the layout.
 
-The rectangle is cut into boxes: in halves again and again, along lines at which each cell carries a wire, until a box has few enough wires
-and its own run has no fault. The wires of cells are found by their values in all choices of the inputs, or in samples of them if they are
-many. So the certificate may be wrong where wires differ in no sample; the program decides.
+The rectangle is cut into boxes: in halves again and again, along lines at which each cell carries a wire, until a box
+has few enough wires and its own run has no fault. The wires of cells are found by their values in all choices of the
+inputs, or in samples of them if they are many. So the certificate may be wrong where wires differ in no sample; the
+program decides.
 """
 
 from dataclasses import dataclass, field
@@ -21,7 +22,8 @@ from ..texts.layouts import Cell, Layout, row_order
 from ..texts.limits import SECOND, limits_for, sections_after_line, with_line
 from .observing import Observer, perimeter
 
-# How many steps back from the wires of a box to the gates that make them are tried, before all gates back to the inputs.
+# How many steps back from the wires of a box to the gates that make them are tried, before all gates back to the
+# inputs.
 MAX_DEPTH = 4
 
 
@@ -45,7 +47,8 @@ class Wiring:
 class Plan:
     """What the user asked for: the kind of cuts, stops that are kept, and the processor time at which the search ends.
 
-    Without `is_tried` the lab does not run the modules: the first cuts that fit are taken, and only the program finds a fault.
+    Without `is_tried` the lab does not run the modules: the first cuts that fit are taken, and only the program finds a
+    fault.
     """
 
     version: int = 2
@@ -74,7 +77,8 @@ class Maker:
 
     def certificate(self, boxes: list[Box] | None) -> Certificate:
         """Returns a certificate with given boxes, or with boxes of its own."""
-        modules = [self.module(box) for box in boxes] if boxes else self.divided(Box(0, 0, self.layout.width, self.layout.height))
+        modules = [self.module(box)
+                   for box in boxes] if boxes else self.divided(Box(0, 0, self.layout.width, self.layout.height))
         if len(modules) > SECOND.max_modules:
             raise LabError(f"the certificate takes {len(modules)} modules; {SECOND.max_modules} is the most", 1)
         for number, module in enumerate(modules):
@@ -86,7 +90,10 @@ class Maker:
         return Certificate(self.plan.version, modules)
 
     def divided(self, box: Box) -> list[Module]:
-        """Returns the modules of a rectangle: itself, or those of its parts. What came of a rectangle is kept, since both orders of cuts lead to it."""
+        """Returns the modules of a rectangle: itself, or those of its parts.
+
+        What came of a rectangle is kept, since both orders of cuts lead to it.
+        """
         found = self.known.get(box)
         if found is None:
             try:
@@ -116,7 +123,8 @@ class Maker:
         raise NoBoxError(why or self.uncut_words(box))
 
     def halves(self, box: Box) -> Iterable[tuple[Box, Box]]:
-        """Yields cuts of a rectangle into two, along lines at which all cells carry a wire: the best of each direction."""
+        """Yields cuts of a rectangle into two, along lines at which all cells carry a wire: the best of each direction.
+        """
         found = []
         for is_upright in (True, False):
             size = box.width if is_upright else box.height
@@ -136,15 +144,18 @@ class Maker:
 
     def is_cut(self, box: Box, place: int, is_upright: bool) -> bool:
         """Whether each cell on both sides of a line through a rectangle carries a wire at each odd time."""
-        lines = Box(box.x + place - 1, box.y, 2, box.height) if is_upright else Box(box.x, box.y + place - 1, box.width, 2)
-        return all(self.observer.names_at(key) is not None for key in self.observer.observed.seen.keys() & keys_of(lines))
+        lines = Box(box.x + place - 1, box.y, 2, box.height) if is_upright else Box(box.x, box.y + place - 1, box.width,
+                                                                                    2)
+        return all(self.observer.names_at(key) is not None for key in self.observer.observed.seen.keys()
+                   & keys_of(lines))
 
     def uncut_words(self, box: Box) -> str:
         """Says why a rectangle can't be cut."""
         for y in range(box.y, box.y + box.height):
             for x in range(box.x, box.x + box.width):
                 if self.observer.names_at(key_of((x, y))) is None:
-                    return f"each line through the rectangle {box} meets a cell without a wire: {self.observer.unnamed_words(key_of((x, y)))}"
+                    return (f"each line through the rectangle {box} meets a cell without a wire: "
+                            f"{self.observer.unnamed_words(key_of((x, y)))}")
         return f"the rectangle {box} can't be cut further"
 
     # ---- one module
@@ -167,12 +178,14 @@ class Maker:
         for wiring in self.wirings(box, needed, inside, halo):
             if wiring.fits():
                 module.cuts, module.uses = wiring.cuts, dict.fromkeys(wiring.uses, 0)
-                fault = ModuleRun(self.circuit, self.layout, Certificate(1, [module]), module).least_fault() if self.plan.is_tried else None
+                fault = ModuleRun(self.circuit, self.layout, Certificate(1, [module]),
+                                  module).least_fault() if self.plan.is_tried else None
                 if fault is None:
                     return module
         if fault is None:
             raise NoBoxError(f"the box {box} needs {len(needed)} wires, and no cuts that were tried fit one module")
-        raise NoBoxError(f"with the last cuts that were tried the cell ({fault.x}, {fault.y}) in the box {box} is wrong at time {fault.time}")
+        raise NoBoxError(f"with the last cuts that were tried the cell ({fault.x}, {fault.y}) in the box {box} is "
+                         f"wrong at time {fault.time}")
 
     def border_lines(self, kind: str, keys: list[int]) -> list[BorderLine]:
         """Returns the lines for cells of a ring or a halo."""
@@ -181,11 +194,13 @@ class Maker:
             x, y = cell_of(key)
             if key in self.observer.observed.always and self.layout.steps > 1:
                 lines.append(BorderLine(kind, None, x, y, "1", 0))
-            lines += [BorderLine(kind, time, x, y, self.observer.signals[table], 0) for time, table in self.observer.observed.seen.get(key, ())]
+            lines += [BorderLine(kind, time, x, y, self.observer.signals[table], 0) for time,
+                      table in self.observer.observed.seen.get(key, ())]
         return sorted(lines, key=lambda line: line.place)
 
     def wirings(self, box: Box, needed: set[str], inside: list[int], halo: list[int]) -> Iterable[Wiring]:
-        """Yields ways to know the wires of a box: with the wires cut that come in, then with gates before these, at last from the inputs."""
+        """Yields ways to know the wires of a box: with the wires cut that come in, then with gates before these, at
+        last from the inputs."""
         if self.plan.cuts != "safe":
             seen: set[tuple[str, ...]] = set()
             incoming = self.incoming(box, needed, inside, halo)
@@ -194,7 +209,8 @@ class Maker:
                     if tuple(wiring.cuts) not in seen:
                         seen.add(tuple(wiring.cuts))
                         yield wiring
-                before = {wire for name in incoming for gate in [self.circuit.maker.get(name)] for wire in (gate.ins if gate else [name])}
+                before = {wire for name in incoming for gate in [self.circuit.maker.get(name)]
+                          for wire in (gate.ins if gate else [name])}
                 if before == incoming:
                     break
                 incoming = before
@@ -202,10 +218,12 @@ class Maker:
         yield Wiring(cuts, uses)
 
     def incoming(self, box: Box, needed: set[str], inside: list[int], halo: list[int]) -> set[str]:
-        """Returns the wires that come into a box: those of its `in` cells, and those that are beside it before they are in it."""
+        """Returns the wires that come into a box: those of its `in` cells, and those that are beside it before they are
+        in it."""
         here, beside = self.observer.first_times(inside), self.observer.first_times(halo)
         starts = {self.starts[key] for key in self.starts.keys() & inside}
-        return starts | {name for name in needed if name not in starts and beside.get(name, self.layout.steps) < here.get(name, self.layout.steps)}
+        return starts | {name for name in needed if name not in starts
+                         and beside.get(name, self.layout.steps) < here.get(name, self.layout.steps)}
 
     def known_by(self, needed: set[str], incoming: set[str]) -> Iterable[Wiring]:
         """Yields the wiring that cuts the incoming wires, and one that uses the gates between them too."""
@@ -228,7 +246,8 @@ class Maker:
         """Has a gate kept by the module that needs the fewest more wires for it."""
         found = keeping_cone(self.circuit, gate.number)
         if found is None:
-            raise LabError(f"gate {gate.number} (`{gate.word}`, line {gate.line}) always has a row only if more than {MAX_CUTS} wires or "
+            raise LabError(f"gate {gate.number} (`{gate.word}`, line {gate.line}) always has a row only if more than "
+                           f"{MAX_CUTS} wires or "
                            f"{MAX_USES} gates are looked at: no certificate keeps it", 1)
         cone = Wiring(*found)
         for module in sorted(modules, key=lambda module: len(set(cone.cuts) - set(module.cuts)) + len(module.cuts)):
@@ -240,7 +259,8 @@ class Maker:
                 module.cuts, module.uses = cuts, dict.fromkeys(uses, 0)
                 module.keeps[gate.number] = 0
                 return
-        raise LabError(f"no module has room for the {len(cone.cuts)} wires that show that gate {gate.number} always has a row", 1)
+        raise LabError(f"no module has room for the {len(cone.cuts)} wires that show that gate {gate.number} always "
+                       "has a row", 1)
 
     # ---- stops
 
@@ -258,7 +278,8 @@ class Maker:
     def holds(self, stop: StopLine) -> bool:
         """Whether the cell of a stop is live just in the cases in which its wire is true."""
         key, values = key_of(stop.cell), self.observer.values
-        live = values.full if key in self.observer.observed.always else self.observer.observed.moments[stop.time].get(key, 0)
+        live = values.full if key in self.observer.observed.always else self.observer.observed.moments[stop.time].get(
+            key, 0)
         return live == values.tables[stop.name]
 
     def delay_faults(self, gate: Gate) -> list[StopLine]:
@@ -270,18 +291,22 @@ class Maker:
         return [] if after[0].time - before[-1].time == gate.parameter else [after[0]]
 
     def delay_stops(self) -> list[StopLine]:
-        """Returns stops for delays: a wire is seen once, at its `in` cell or at the first time at which a cell carries it."""
+        """Returns stops for delays: a wire is seen once, at its `in` cell or at the first time at which a cell carries
+        it."""
         moments = self.observer.observed.moments
-        seen: dict[str, tuple[int, Cell]] = {part.name or "": (0, part.cell) for part in reversed(self.layout.of_kind("in"))}
+        seen: dict[str, tuple[int, Cell]] = {part.name or "": (0, part.cell)
+                                             for part in reversed(self.layout.of_kind("in"))}
         stops: dict[str, StopLine] = {}
         for gate in (gate for gate in self.circuit.gates if gate.word == "delay"):
             used, made, steps = gate.ins[0], gate.outs[0], gate.parameter or 0
-            first = [seen[used]] if used in seen else [(time, cell) for time in range(len(moments)) for cell in [self.place_of(used, moments[time])] if cell]
+            first = [seen[used]] if used in seen else [(time, cell) for time in range(len(moments))
+                                                       for cell in [self.place_of(used, moments[time])] if cell]
             pairs = ((place, (place[0] + steps, end)) for place in first if place[0] + steps < len(moments)
                      for end in [self.place_of(made, moments[place[0] + steps])] if end)
             pair = next(pairs, None)
             if pair is None:
-                raise LabError(f"no cell carries `{made}` {steps} steps after one carries `{used}`: the layout does not keep the delay of line "
+                raise LabError(f"no cell carries `{made}` {steps} steps after one carries `{used}`: the layout does "
+                               "not keep the delay of line "
                                f"{gate.line}", 1)
             seen[used], seen[made] = pair
             for wire in (used, made):
@@ -293,7 +318,8 @@ class Maker:
         """Returns a cell that carries a wire, an `out` cell of it first."""
         outs = {part.cell for part in self.layout.of_kind("out") if part.name == wire}
         table = self.observer.values.tables[wire]
-        cells = [cell for cell in (cell_of(key) for key, other in live.items() if other == table) if self.layout.has(cell)]
+        cells = [cell for cell in (cell_of(key) for key, other in live.items() if other == table)
+                 if self.layout.has(cell)]
         return min(cells, key=lambda cell: (cell not in outs, row_order(cell))) if cells else None
 
 
@@ -316,7 +342,8 @@ def certificate_text(certificate: Certificate) -> str:
 
 
 def certified(document: Document, boxes: list[Box] | None, plan: Plan, notes: list[str] | None = None) -> str:
-    """Returns the text of a circuit and a layout with a certificate of its own, with given boxes or with boxes that it chooses.
+    """Returns the text of a circuit and a layout with a certificate of its own, with given boxes or with boxes that it
+    chooses.
 
     What the user should know of the certificate is added to `notes`.
     """
@@ -337,7 +364,8 @@ def newly_certified(document: Document, boxes: list[Box] | None, plan: Plan, not
     if notes is not None:
         notes += maker.notes
     head = sections_after_line(document.text).split("\nend\n", 2)
-    limits = limits_for(max(layout.width, layout.height), layout.steps, len(certificate.modules), len(circuit.gates), len(circuit.defined))
+    limits = limits_for(max(layout.width, layout.height), layout.steps, len(certificate.modules), len(circuit.gates),
+                        len(circuit.defined))
     return with_line(f"{head[0]}\nend\n{head[1]}\nend\n{certificate_text(certificate)}", limits)
 
 

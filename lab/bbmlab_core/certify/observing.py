@@ -1,4 +1,6 @@
-"""What a whole run shows of the cells of a layout: which wire each cell carries at each odd time, and which cells carry none."""
+"""What a whole run shows of the cells of a layout: which wire each cell carries at each odd time, and which cells carry
+none.
+"""
 
 from dataclasses import dataclass, field
 
@@ -20,7 +22,10 @@ NO_WIRES: frozenset[str] = frozenset()
 
 @dataclass
 class Observed:
-    """The cells of a whole run. `seen` has for a cell its odd times below the steps with their tables; `always` are live at all of them."""
+    """The cells of a whole run.
+
+    `seen` has for a cell its odd times below the steps with their tables; `always` are live at all of them.
+    """
 
     always: set[int] = field(default_factory=set)
     seen: dict[int, list[tuple[int, Table]]] = field(default_factory=dict)
@@ -29,7 +34,8 @@ class Observed:
 
 
 class Observer:
-    """Runs a layout once, under all choices of the inputs or under samples of them, and tells the wires of its cells."""
+    """Runs a layout once, under all choices of the inputs or under samples of them, and tells the wires of its cells.
+    """
 
     def __init__(self, circuit: Circuit, layout: Layout, remembers: bool = False, until: float | None = None) -> None:
         # `until` is the processor time at which the run is given up.
@@ -49,13 +55,16 @@ class Observer:
         self.wires: dict[int, frozenset[str] | None] = {}
 
     def equal_words(self) -> str:
-        """Says how many wires have the values of an earlier one, by whose name the cells go: a box may lack the wires that its gate takes."""
+        """Says how many wires have the values of an earlier one, by whose name the cells go: a box may lack the wires
+        that its gate takes."""
         named = set(self.signals.values())
-        hidden = [name for name, table in self.values.tables.items() if name not in named and 0 != table != self.values.full]
+        hidden = [name for name, table in self.values.tables.items() if name not in named
+                  and 0 != table != self.values.full]
         if not hidden:
             return ""
         first = self.signals[self.values.tables[hidden[0]]]
-        return (f". {len(hidden)} of {len(self.values.tables)} wires have the values of an earlier one {self.values.scope}, as `{hidden[0]}` has those of "
+        return (f". {len(hidden)} of {len(self.values.tables)} wires have the values of an earlier one "
+                f"{self.values.scope}, as `{hidden[0]}` has those of "
                 f"`{first}`, and the lab gives cells the earlier name, so a box may lack the wires that its gate takes")
 
     def require_rows(self) -> None:
@@ -63,7 +72,8 @@ class Observer:
         for number, table in self.values.rows.items():
             if table != self.values.full:
                 on = self.values.names_of(lowest_bit(self.values.full ^ table))
-                raise LabError(f"gate {number} has no row with {listed(on) or 'none of the inputs'} on: no certificate gets a yes", 1)
+                raise LabError(f"gate {number} has no row with {listed(on) or 'none of the inputs'} on: no certificate "
+                               "gets a yes", 1)
 
     def run(self) -> Observed:
         """Runs the layout, and returns what its cells were."""
@@ -87,7 +97,8 @@ class Observer:
                 raise LabError("no certificate was found in the time that was given", 1)
             if not run.step():
                 on = values.names_of(lowest_bit(run.left[1])) if run.left else []
-                raise LabError(f"step {run.time} leaves the rectangle with {listed(on) or 'none of the inputs'} on: no certificate gets a yes", 1)
+                raise LabError(f"step {run.time} leaves the rectangle with {listed(on) or 'none of the inputs'} on: no "
+                               "certificate gets a yes", 1)
             for key in run.field.changed:
                 self.note_change(observed, moving, key, run.field.live.get(key, 0), run.time)
 
@@ -107,15 +118,18 @@ class Observer:
         """Raises LabError if a cell of the rim is live at an odd time below the steps."""
         if self.layout.steps < 2:
             return
-        first = [(1, key) for key in self.observed.always] + [(times[0][0], key) for key, times in self.observed.seen.items()]
+        first = [(1, key) for key in self.observed.always] + [(times[0][0], key) for key,
+                                                              times in self.observed.seen.items()]
         rim = [(time, cell_of(key)) for time, key in first if self.layout.is_rim(cell_of(key))]
         if rim:
             time, (x, y) = min(rim, key=lambda place: (place[0], row_order(place[1])))
-            raise LabError(f"at time {time} the cell ({x}, {y}) is live, on the rim of the rectangle: no certificate allows it. "
+            raise LabError(f"at time {time} the cell ({x}, {y}) is live, on the rim of the rectangle: no certificate "
+                           "allows it. "
                            "Make the layout larger", 1)
 
     def names_at(self, key: int) -> frozenset[str] | None:
-        """Returns the wires that a cell carries at odd times, without constants; None if at some time it carries no wire."""
+        """Returns the wires that a cell carries at odd times, without constants; None if at some time it carries no
+        wire."""
         if key not in self.observed.seen:
             return NO_WIRES
         if key not in self.wires:
@@ -133,7 +147,8 @@ class Observer:
         time, y, x = self.unnamed_place(key)
         table = dict(self.observed.seen[key])[time]
         on = listed(self.values.names_of(lowest_bit(table))) or "none of the inputs"
-        return f"at time {time} the cell ({x}, {y}) is live with {on} on, and no wire of the circuit is true in just the cases in which it is live"
+        return (f"at time {time} the cell ({x}, {y}) is live with {on} on, and no wire of the circuit is true in just "
+                "the cases in which it is live")
 
     def first_times(self, keys: list[int]) -> dict[str, int]:
         """Returns for each wire that some cells carry the first odd time at which one of them does."""
@@ -150,10 +165,13 @@ def perimeter(layout: Layout, box: Box) -> tuple[list[int], list[int]]:
     """Returns the cells of a box's ring, and those of its halo that lie in the rectangle, as numbers."""
     def around(left: int, top: int, right: int, bottom: int) -> set[Cell]:
         """Returns the outermost cells of a rectangle that lie in the layout."""
-        cells = {(x, y) for x in range(left, right + 1) for y in (top, bottom)} | {(x, y) for y in range(top, bottom + 1) for x in (left, right)}
+        cells = {(x, y) for x in range(left, right + 1) for y in (top, bottom)} | {(x, y)
+                                                                                   for y in range(top, bottom + 1)
+                                                                                   for x in (left, right)}
         return {cell for cell in cells if layout.has(cell)}
 
     ring = around(box.x, box.y, box.x + box.width - 1, box.y + box.height - 1)
     halo = around(box.x - 1, box.y - 1, box.x + box.width, box.y + box.height)
-    return [key_of(cell) for cell in sorted(ring, key=row_order)], [key_of(cell) for cell in sorted(halo, key=row_order)]
+    return [key_of(cell) for cell in sorted(ring, key=row_order)], [key_of(cell)
+                                                                    for cell in sorted(halo, key=row_order)]
 

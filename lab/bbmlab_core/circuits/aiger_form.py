@@ -53,7 +53,10 @@ def aiger_text(circuit: Circuit) -> str:
         ins = [graph.literals[name] for name in gate.ins]
         graph.literals.update((name, graph.of_rows(rows, ins)) for name, rows in output_rows(gate))
     first, count = graph.input_count, len(graph.gates)
-    body = "".join(difference_bytes(2 * (first + at) - high) + difference_bytes(high - low) for at, (high, low) in enumerate(graph.gates, 1))
-    head = [f"aig {first + count} {first} 0 {len(circuit.outputs)} {count}", *(str(graph.literals[name]) for name in circuit.outputs)]
-    names = [f"i{at} {name}" for at, name in enumerate(circuit.inputs)] + [f"o{at} {name}" for at, name in enumerate(circuit.outputs)]
+    body = "".join(difference_bytes(2 * (first + at) - high) + difference_bytes(high - low) for at,
+                   (high, low) in enumerate(graph.gates, 1))
+    head = [f"aig {first + count} {first} 0 {len(circuit.outputs)} {count}",
+            *(str(graph.literals[name]) for name in circuit.outputs)]
+    names = [f"i{at} {name}" for at, name in enumerate(circuit.inputs)] + [f"o{at} {name}" for at,
+                                                                           name in enumerate(circuit.outputs)]
     return "\n".join([*head, body + "\n".join([*names, ""])])

@@ -4,16 +4,18 @@ from typing import Iterator
 
 from ..texts.circuits import Circuit, Gate
 
-# For each output of a gate the rows of its table, in the order of the inputs. An inverse gate has what it has where it has a row.
+# For each output of a gate the rows of its table, in the order of the inputs. An inverse gate has what it has where it
+# has a row.
 ROWS: dict[str, list[list[str]]] = {
     "fredkin": [["1--"], ["11-", "0-1"], ["1-1", "01-"]], "cswap": [["1--"], ["1-1", "01-"], ["11-", "0-1"]],
     "interact": [["11"], ["01"], ["10"], ["11"]], "switch": [["1-"], ["11"], ["01"]], "delay": [["1"]],
     "unswitch": [["1--"], ["-1-", "--1"]], "uninteract": [["1---", "--1-"], ["1---", "-1--"]],
 }
 # Words of Verilog that a wire of a circuit may be called.
-RESERVED = set("""always and assign begin buf case deassign default defparam disable edge else end endcase endfunction endmodule event for force
-forever fork function if initial inout input integer join module nand negedge nor not or output parameter posedge primitive real reg release
-repeat supply0 supply1 table task time tri wait wand while wire wor xnor xor""".split())
+RESERVED = set("""always and assign begin buf case deassign default defparam disable edge else end endcase endfunction
+endmodule event for force forever fork function if initial inout input integer join module nand negedge nor not or
+output parameter posedge primitive real reg release repeat supply0 supply1 table task time tri wait wand while wire
+wor xnor xor""".split())
 
 
 def output_rows(gate: Gate) -> Iterator[tuple[str, list[str]]]:
@@ -43,9 +45,11 @@ def expression(gate: Gate, rows: list[str]) -> str:
     """Returns the expression of a table's rows."""
     products = []
     for row in rows:
-        factors = [f"{'' if sign == '1' else '~'}{verilog_name(name)}" for sign, name in zip(row, gate.ins) if sign != "-"]
+        factors = [f"{'' if sign == '1' else '~'}{verilog_name(name)}" for sign,
+                   name in zip(row, gate.ins) if sign != "-"]
         products.append(" & ".join(factors) or "1'b1")
-    return " | ".join(f"({product})" if " " in product and len(products) > 1 else product for product in products) or "1'b0"
+    return " | ".join(f"({product})" if " " in product and len(products) > 1 else product
+                      for product in products) or "1'b0"
 
 
 def verilog_text(circuit: Circuit) -> str:
@@ -66,7 +70,8 @@ def verilog_text(circuit: Circuit) -> str:
     lines += [f"  input {verilog_name(name)};" for name in circuit.inputs] + [f"  output {name};" for name in outs]
     wires = [name for gate in circuit.gates for name in gate.outs if name not in circuit.outputs]
     lines += [f"  wire {verilog_name(name)};" for name in wires]
-    lines += [f"  assign {verilog_name(name)} = {expression(gate, rows)};" for gate in circuit.gates for name, rows in output_rows(gate)]
+    lines += [f"  assign {verilog_name(name)} = {expression(gate, rows)};" for gate in circuit.gates for name,
+              rows in output_rows(gate)]
     return "\n".join([*lines, *ends, "endmodule", ""])
 
 

@@ -1,7 +1,8 @@
-"""Removes garbage: computes, copies the outputs, and undoes the computation (Bennett 1973; Fredkin and Toffoli 1982, section 8).
+"""Removes garbage: computes, copies the outputs, and undoes the computation (Bennett 1973; Fredkin and Toffoli 1982,
+section 8).
 
-A copy is a `switch` with a constant 1, which makes the bit and its complement: no gate makes balls, so both leave as outputs. What is left
-are the inputs, and the constants.
+A copy is a `switch` with a constant 1, which makes the bit and its complement: no gate makes balls, so both leave as
+outputs. What is left are the inputs, and the constants.
 """
 
 from ..texts.circuits import Circuit
@@ -10,14 +11,17 @@ from .gate_lines import CircuitLines, GateLine, source_line
 from .inverting import INVERSES, require_rows
 from .netlists.naming import MAX_NAME, NameBook
 
-# So many gates at most are undone by inverse gates, each of which is searched for a cone that keeps it. Fredkin gates undo those of larger
-# circuits.
+# So many gates at most are undone by inverse gates, each of which is searched for a cone that keeps it. Fredkin gates
+# undo those of larger circuits.
 MAX_SEARCHED = 1000
 REPLACED = ("switch", "interact")
 
 
 class Cleaner:
-    """Makes the circuit without garbage. `separate` are the gates that Fredkin gates replace, since no cone keeps the inverse of theirs."""
+    """Makes the circuit without garbage.
+
+    `separate` are the gates that Fredkin gates replace, since no cone keeps the inverse of theirs.
+    """
 
     def __init__(self, circuit: Circuit, separate: frozenset[int]) -> None:
         self.circuit, self.separate = circuit, separate
@@ -70,7 +74,10 @@ class Cleaner:
         return complement
 
     def undo(self, number: int, line: GateLine) -> None:
-        """Adds the gate that undoes a line of the first half. A delay is not undone: its wire comes back with the same values."""
+        """Adds the gate that undoes a line of the first half.
+
+        A delay is not undone: its wire comes back with the same values.
+        """
         if line.word == "source":
             return
         ins = tuple(self.now.get(name, name) for name in line.outs)
@@ -83,9 +90,11 @@ class Cleaner:
 
 
 def clean(circuit: Circuit) -> CircuitLines:
-    """Returns a circuit with the outputs of another one and their complements, whose garbage are its inputs and constants.
+    """Returns a circuit with the outputs of another one and their complements, whose garbage are its inputs and
+    constants.
 
-    A cone keeps each inverse gate of the second half. Raises LabError if the circuit has no values at some inputs, or becomes too large.
+    A cone keeps each inverse gate of the second half. Raises LabError if the circuit has no values at some inputs, or
+    becomes too large.
     """
     require_rows(circuit, "the circuit")
     replaceable = frozenset(gate.number for gate in circuit.gates if gate.word in REPLACED)

@@ -9,11 +9,13 @@ from ..texts.circuits import Circuit, evaluate
 def fewest_cuts(circuit: Circuit, wires: Iterable[str], used: Iterable[int]) -> tuple[set[str], set[int]]:
     """Returns wires to cut and gates to use so that all given wires are local; `used` are gates that must be used.
 
-    A gate with more outputs among the wires than inputs that are not is used in place of cutting its outputs. Delays between two
-    local wires are used too.
+    A gate with more outputs among the wires than inputs that are not is used in place of cutting its outputs. Delays
+    between two local wires are used too.
     """
     gates, local = set(used), set(wires)
-    gates |= delays_between(circuit, local | {wire for number in gates for wire in circuit.gates[number].ins + circuit.gates[number].outs})
+    gates |= delays_between(circuit,
+                            local | {wire for number in gates
+                                     for wire in circuit.gates[number].ins + circuit.gates[number].outs})
     for number in gates:
         local |= set(circuit.gates[number].ins)
     cuts = local - {wire for number in gates for wire in circuit.gates[number].outs}
@@ -24,7 +26,8 @@ def fewest_cuts(circuit: Circuit, wires: Iterable[str], used: Iterable[int]) -> 
             if gate is not None and not gate.is_inverse:
                 outs[gate.number] = outs.get(gate.number, 0) + 1
         defined = cuts | {wire for number in gates for wire in circuit.gates[number].outs}
-        gains = [(count - sum(wire not in defined for wire in circuit.gates[number].ins), -number) for number, count in outs.items()]
+        gains = [(count - sum(wire not in defined for wire in circuit.gates[number].ins), -number) for number,
+                 count in outs.items()]
         gain, number = max(gains, default=(0, 0))
         if gain <= 0:
             break
@@ -37,7 +40,8 @@ def fewest_cuts(circuit: Circuit, wires: Iterable[str], used: Iterable[int]) -> 
 def delays_between(circuit: Circuit, wires: set[str]) -> set[int]:
     """Returns the delays that lead from one of some wires to another one.
 
-    One ball carries both wires in turn. A module that cut both would also run them with different values, which never occur.
+    One ball carries both wires in turn. A module that cut both would also run them with different values, which never
+    occur.
     """
     found: set[int] = set()
     for wire in wires:
@@ -53,7 +57,8 @@ def delays_between(circuit: Circuit, wires: set[str]) -> set[int]:
 
 
 def keeping_cone(circuit: Circuit, number: int) -> tuple[list[str], list[int]] | None:
-    """Returns wires to cut and gates to use under which an inverse gate has a row whenever the gates before it have theirs."""
+    """Returns wires to cut and gates to use under which an inverse gate has a row whenever the gates before it have
+    theirs."""
     used = {number}
     while len(used) <= MAX_USES:
         defined = {wire for own in used for wire in circuit.gates[own].outs}

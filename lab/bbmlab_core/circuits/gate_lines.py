@@ -21,7 +21,8 @@ class GateLine:
 
     def text(self) -> str:
         """Returns the line."""
-        return " ".join([self.word, *([] if self.parameter is None else [str(self.parameter)]), *self.ins, "->", *self.outs])
+        return " ".join([self.word, *([] if self.parameter is None else [str(self.parameter)]), *self.ins, "->",
+                         *self.outs])
 
 
 def source_line(bit: int, name: str) -> GateLine:
@@ -56,10 +57,12 @@ class CircuitLines:
         """Returns the circuit, as the lab reads it. Raises LabError if it is larger than a circuit section can be."""
         document = read_document(self.text(), "circuit")
         if document.refusal is not None or document.circuit is None:
-            raise LabError(f"the new circuit is refused: {refusal_words(document, None) if document.refusal else 'it is missing'}", 1)
+            raise LabError("the new circuit is refused: "
+                           f"{refusal_words(document, None) if document.refusal else 'it is missing'}", 1)
         return document.circuit
 
 
 def payload(gate: GateLine) -> tuple[str, ...]:
     """Returns the outputs of a gate, without the one that hands its control on."""
-    return gate.outs[1:] if GATE_SIZES[gate.word][0] and gate.word not in ("interact", "uninteract", "delay") else gate.outs
+    return gate.outs[1:] if GATE_SIZES[gate.word][0] and gate.word not in ("interact", "uninteract",
+                                                                           "delay") else gate.outs

@@ -1,4 +1,6 @@
-"""The inverse of a circuit: its gates turned round, outputs as inputs, and constants and garbage exchanged (Fredkin and Toffoli 1982)."""
+"""The inverse of a circuit: its gates turned round, outputs as inputs, and constants and garbage exchanged (Fredkin and
+Toffoli 1982).
+"""
 
 from ..host.terminal import LabError
 from ..texts.circuits import Circuit, Valuation, evaluate, evaluate_samples
@@ -8,7 +10,8 @@ from .row_check import missing_row
 # Up to so many inputs all choices are tried, and above them so many samples.
 MAX_ALL = 16
 SAMPLES = 4096
-INVERSES = {"fredkin": "fredkin", "cswap": "cswap", "delay": "delay", "switch": "unswitch", "unswitch": "switch", "interact": "uninteract",
+INVERSES = {"fredkin": "fredkin", "cswap": "cswap", "delay": "delay", "switch": "unswitch", "unswitch": "switch",
+            "interact": "uninteract",
             "uninteract": "interact"}
 
 
@@ -32,11 +35,14 @@ def choice_words(values: Valuation, name: str, bit: int) -> str:
 
 
 def inverse(circuit: Circuit) -> CircuitLines:
-    """Returns the inverse of a circuit. Its inputs are the outputs, and its constants the garbage, which must not change.
+    """Returns the inverse of a circuit. Its inputs are the outputs, and its constants the garbage, which must not
+    change.
 
-    The constants come first, so that the inverse of the inverse is the circuit again, line by line, if its constants come first.
+    The constants come first, so that the inverse of the inverse is the circuit again, line by line, if its constants
+    come first.
 
-    Raises LabError with the reason if a row would lack: at some inputs the inverse would have no values, or a constant would not come back.
+    Raises LabError with the reason if a row would lack: at some inputs the inverse would have no values, or a constant
+    would not come back.
     """
     require_rows(circuit, "the circuit")
     values = values_of(circuit)
@@ -44,7 +50,8 @@ def inverse(circuit: Circuit) -> CircuitLines:
     for name in circuit.spills:
         bit = constant_bit(values, name)
         if bit is None:
-            raise LabError(f"there is no inverse: the garbage `{name}` is 1 {choice_words(values, name, 1)} and 0 {choice_words(values, name, 0)}, so no "
+            raise LabError(f"there is no inverse: the garbage `{name}` is 1 {choice_words(values, name, 1)} and 0 "
+                           f"{choice_words(values, name, 0)}, so no "
                            "constant can take its place. Make it an output", 1)
         lines.gates.append(source_line(bit, name))
     lines.gates += [GateLine(INVERSES[gate.word], gate.parameter, tuple(gate.outs), tuple(gate.ins))
@@ -70,5 +77,6 @@ def require_constants(circuit: Circuit, back: Circuit) -> None:
             continue
         name, bit = gate.outs[0], gate.parameter or 0
         if constant_bit(values, name) != bit:
-            raise LabError(f"there is no inverse: {choice_words(values, name, 1 - bit)}, the constant `{name}` comes back as {1 - bit} and not as "
+            raise LabError(f"there is no inverse: {choice_words(values, name, 1 - bit)}, the constant `{name}` comes "
+                           f"back as {1 - bit} and not as "
                            f"{bit}. The circuit never has these outputs. Make `{name}` an input", 1)

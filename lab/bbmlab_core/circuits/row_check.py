@@ -1,6 +1,8 @@
-"""Whether a circuit has values under its inputs: an inverse gate has none for some values of its inputs, and then no layout gets a yes.
+"""Whether a circuit has values under its inputs: an inverse gate has none for some values of its inputs, and then no
+layout gets a yes.
 
-A circuit of up to 12 inputs is evaluated under all of them, a larger one under samples: the search for a route would take minutes to fail.
+A circuit of up to 12 inputs is evaluated under all of them, a larger one under samples: the search for a route would
+take minutes to fail.
 """
 
 from ..physics.simulation import lowest_bit
@@ -13,11 +15,15 @@ MAX_NAMED = 12
 
 
 def missing_row(circuit: Circuit) -> str | None:
-    """Returns the first gate that has no row, with the values that it gets and inputs that give them. None if none was found."""
+    """Returns the first gate that has no row, with the values that it gets and inputs that give them.
+
+    None if none was found.
+    """
     if not any(gate.is_inverse for gate in circuit.gates):
         return None
     is_all = len(circuit.inputs) <= MAX_INPUTS
-    values = evaluate(circuit, circuit.inputs, [gate.number for gate in circuit.gates]) if is_all else evaluate_samples(circuit, SAMPLES)
+    values = evaluate(circuit, circuit.inputs,
+                      [gate.number for gate in circuit.gates]) if is_all else evaluate_samples(circuit, SAMPLES)
     before = values.full
     for gate in circuit.gates:
         missing = before & ~values.rows[gate.number]
@@ -33,5 +39,6 @@ def row_words(values: Valuation, gate: Gate, column: int) -> str:
     on = values.names_of(column)
     more = f" and {len(on) - MAX_NAMED} more" if len(on) > MAX_NAMED else ""
     inputs = f"with {' '.join(on[:MAX_NAMED])}{more} on" if on else "with no input on"
-    return (f"gate {gate.number} (`{gate.word}`, line {gate.line}) has no row for {given}, which it gets {inputs}: the circuit has no values "
+    return (f"gate {gate.number} (`{gate.word}`, line {gate.line}) has no row for {given}, which it gets {inputs}: the "
+            "circuit has no values "
             "there, so no layout computes it")

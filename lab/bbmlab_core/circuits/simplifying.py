@@ -1,4 +1,5 @@
-"""Makes a circuit smaller: folds constants, removes dead gates and gates that undo another one, and shares copies. Outputs keep their values.
+"""Makes a circuit smaller: folds constants, removes dead gates and gates that undo another one, and shares copies.
+Outputs keep their values.
 
 Each wire gets a literal, by the rules of `netlists.graph`: wires with one literal always have one value.
 """
@@ -15,7 +16,8 @@ MAX_SEARCHED = 1000
 
 
 class Folder:
-    """One pass from the first gate to the last: folds constants, and removes pairs of gates of which the second undoes the first."""
+    """One pass from the first gate to the last: folds constants, and removes pairs of gates of which the second undoes
+    the first."""
 
     def __init__(self, lines: CircuitLines) -> None:
         self.before = lines
@@ -33,9 +35,11 @@ class Folder:
             ins = [self.wire(name) for name in gate.ins]
             if not self.is_folded(gate, ins) and not self.is_undone(gate, ins):
                 self.emit(gate.word, gate.parameter, ins, gate.outs)
-        gates = [GateLine(gate.word, gate.parameter, tuple(map(self.wire, gate.ins)), gate.outs) for gate in self.gates if gate is not None]
+        gates = [GateLine(gate.word, gate.parameter, tuple(map(self.wire, gate.ins)), gate.outs) for gate in self.gates
+                 if gate is not None]
         spills = [self.wire(name) for name in [*self.before.spills, *self.dropped]]
-        return with_names(CircuitLines(list(self.before.inputs), gates, [self.wire(name) for name in self.before.outputs], spills), self.before.outputs)
+        return with_names(CircuitLines(list(self.before.inputs), gates,
+                                       [self.wire(name) for name in self.before.outputs], spills), self.before.outputs)
 
     def wire(self, name: str) -> str:
         """Returns what a wire became."""
@@ -138,7 +142,8 @@ class Folder:
         return True
 
     def is_fredkin_folded(self, outs: list[str], ins: list[str], known: list[Literal]) -> bool:
-        """Replaces a Fredkin gate with a constant control or inputs that are alike, and makes it a switch if one of these is 0."""
+        """Replaces a Fredkin gate with a constant control or inputs that are alike, and makes it a switch if one of
+        these is 0."""
         control, high, low = known
         if control == FALSE:
             self.alias(outs, [ins[0], ins[2], ins[1]])
@@ -179,9 +184,11 @@ class Folder:
 
 
 def exchanged(first: str, second: str, is_same: bool, is_turned: bool, is_opposite: bool) -> bool | None:
-    """Returns whether a gate gives the inputs of an earlier one back in their order, False if in the other one, and None if it does not.
+    """Returns whether a gate gives the inputs of an earlier one back in their order, False if in the other one, and
+    None if it does not.
 
-    The gate takes the outputs of the earlier one in their order or turned round, under the same control or its opposite.
+    The gate takes the outputs of the earlier one in their order or turned round, under the same control or its
+    opposite.
     """
     if {first, second} <= {"fredkin", "cswap"} and (is_same or is_turned):
         return (first == second) ^ is_turned ^ is_opposite
@@ -195,7 +202,8 @@ def exchanged(first: str, second: str, is_same: bool, is_turned: bool, is_opposi
 def with_names(lines: CircuitLines, wanted: list[str]) -> CircuitLines:
     """Returns a circuit whose outputs have the wanted names. A delay names an input that leaves at once."""
     renamed = {found: name for found, name in zip(lines.outputs, wanted) if found != name and found not in lines.inputs}
-    late = [GateLine("delay", 1, (found,), (name,)) for found, name in zip(lines.outputs, wanted) if found != name and found in lines.inputs]
+    late = [GateLine("delay", 1, (found,), (name,)) for found,
+            name in zip(lines.outputs, wanted) if found != name and found in lines.inputs]
 
     def names(old: tuple[str, ...]) -> tuple[str, ...]:
         """Returns the new names of some wires."""
@@ -236,7 +244,9 @@ def literals_of(lines: CircuitLines) -> dict[str, Literal]:
     """Returns the literal of each wire."""
     folder = Folder(lines)
     for gate in lines.gates:
-        folder.literals.update(zip(gate.outs, folder.values(gate.word, gate.parameter, [folder.literals[name] for name in gate.ins])))
+        folder.literals.update(zip(gate.outs,
+                                   folder.values(gate.word, gate.parameter,
+                                                 [folder.literals[name] for name in gate.ins])))
     return folder.literals
 
 
@@ -254,7 +264,8 @@ def shared(lines: CircuitLines) -> CircuitLines:
         found: dict[str, str] = {}
         for name in used if gate.word != "source" else []:
             last = taker.get(name, len(lines.gates))
-            fits = [other for other in pool.get(literals[name], []) if born.get(other, -1) < last and other not in payload(gate) and other not in found.values()
+            fits = [other for other in pool.get(literals[name], []) if born.get(other, -1) < last
+                    and other not in payload(gate) and other not in found.values()
                     and (name in taker or other in born)]
             if fits:
                 found[name] = fits[0]
@@ -266,7 +277,8 @@ def shared(lines: CircuitLines) -> CircuitLines:
 
 def exchange(lines: CircuitLines, swaps: dict[str, str]) -> CircuitLines:
     """Returns a circuit in which those who use pairs of wires use the other one."""
-    gates = [GateLine(gate.word, gate.parameter, tuple(swaps.get(name, name) for name in gate.ins), gate.outs) for gate in lines.gates]
+    gates = [GateLine(gate.word, gate.parameter, tuple(swaps.get(name, name) for name in gate.ins), gate.outs)
+             for gate in lines.gates]
     outputs, spills = ([swaps.get(name, name) for name in names] for names in (lines.outputs, lines.spills))
     # An output keeps its name: the two wires of such a pair exchange their names.
     pairs = {found: name for found, name in zip(outputs, lines.outputs) if found != name}
@@ -298,7 +310,8 @@ def passes(lines: CircuitLines, may_share: bool) -> CircuitLines:
 
 
 def simplify(circuit: Circuit) -> CircuitLines:
-    """Returns a smaller circuit with the same outputs. Copies are not shared if an inverse gate would have no cone that keeps it then.
+    """Returns a smaller circuit with the same outputs. Copies are not shared if an inverse gate would have no cone that
+    keeps it then.
 
     Raises LabError if the circuit has no values at some inputs.
     """

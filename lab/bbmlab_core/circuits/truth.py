@@ -16,7 +16,10 @@ SAMPLES = 4096
 
 
 def rows(circuit: Circuit, on: list[str] | None) -> Iterator[list[str]]:
-    """Yields the names of the columns, and then each row: inputs and outputs, or the gate without a row. The first input changes last."""
+    """Yields the names of the columns, and then each row: inputs and outputs, or the gate without a row.
+
+    The first input changes last.
+    """
     inputs = circuit.inputs
     found = choices(circuit, on)
     yield [*inputs, *circuit.outputs]
@@ -31,7 +34,10 @@ def rows(circuit: Circuit, on: list[str] | None) -> Iterator[list[str]]:
 
 
 def choices(circuit: Circuit, on: list[str] | None) -> list[set[str]]:
-    """Returns which inputs are on in each row of a table: one row, or all. Raises LabError for other names, or for too many rows."""
+    """Returns which inputs are on in each row of a table: one row, or all.
+
+    Raises LabError for other names, or for too many rows.
+    """
     inputs = circuit.inputs
     if on is not None:
         unknown = next((name for name in on if name not in inputs), None)
@@ -39,7 +45,8 @@ def choices(circuit: Circuit, on: list[str] | None) -> list[set[str]]:
             raise LabError(f"{unknown} is no input", 2)
         return [set(on)]
     if len(inputs) > MAX_TABLE_INPUTS:
-        raise LabError(f"{len(inputs)} inputs have too many rows: at most {MAX_TABLE_INPUTS}, or choose one row by --on", 2)
+        raise LabError(
+            f"{len(inputs)} inputs have too many rows: at most {MAX_TABLE_INPUTS}, or choose one row by --on", 2)
     last = len(inputs) - 1
     return [{name for at, name in enumerate(inputs) if number >> (last - at) & 1} for number in range(1 << len(inputs))]
 
@@ -65,9 +72,11 @@ def width(circuit: Circuit) -> int:
 def circuit_figures(circuit: Circuit) -> list[tuple[str, str]]:
     """Returns the figures of a circuit with their names."""
     kinds = Counter(gate.word for gate in circuit.gates)
-    return [("inputs", str(len(circuit.inputs))), ("outputs", str(len(circuit.outputs))), ("constants", str(kinds["source"])),
+    return [("inputs", str(len(circuit.inputs))), ("outputs", str(len(circuit.outputs))),
+            ("constants", str(kinds["source"])),
             ("garbage", str(len(circuit.spills))), ("gates", str(len(circuit.gates) - kinds["source"])),
-            *((f"  {word}", str(kinds[word])) for word in sorted(kinds) if word != "source"), ("depth", str(depth(circuit))),
+            *((f"  {word}", str(kinds[word])) for word in sorted(kinds) if word != "source"),
+            ("depth", str(depth(circuit))),
             ("width", str(width(circuit)))]
 
 
@@ -87,7 +96,8 @@ def figures(document: Document) -> list[tuple[str, str]]:
 
 
 def both_values(one: Circuit, other: Circuit) -> tuple[Valuation, Valuation]:
-    """Returns the values of two circuits with the same inputs, in all choices of up to 16 inputs, or else in samples."""
+    """Returns the values of two circuits with the same inputs, in all choices of up to 16 inputs, or else in samples.
+    """
     gates = [gate.number for gate in one.gates]
     if len(one.inputs) <= MAX_ALL:
         values = evaluate(one, one.inputs, gates)
@@ -98,7 +108,8 @@ def both_values(one: Circuit, other: Circuit) -> tuple[Valuation, Valuation]:
 
 
 def difference(one: Circuit, other: Circuit, is_of_common: bool = False) -> tuple[str, str]:
-    """Returns how two circuits differ, or nothing, and in which inputs they were compared. Inputs and outputs are matched by their names.
+    """Returns how two circuits differ, or nothing, and in which inputs they were compared. Inputs and outputs are
+    matched by their names.
 
     Outputs that only one of the circuits has are a difference, unless those that both have are asked for.
     """

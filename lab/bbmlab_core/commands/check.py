@@ -54,7 +54,10 @@ def tell_of_left(words: str) -> None:
 
 
 def write_results(checker: Checker, files: list[str], writer: ResultWriter, counts: dict[str, int]) -> bool:
-    """Writes each result as it comes, and counts it. Returns whether the program contradicts itself, which ends the run."""
+    """Writes each result as it comes, and counts it.
+
+    Returns whether the program contradicts itself, which ends the run.
+    """
     progress = Progress(len(files))
     try:
         for result in checker.results(files):

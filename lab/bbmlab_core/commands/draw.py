@@ -15,18 +15,21 @@ from ..texts.reports import Report
 from ..texts.skimming import boxes_and_uses
 
 
-def picture_of(design: tuple[Document, Layout], names: str | None, time: int | None, report: Report | None = None, look: Look = Look()) -> str:
+def picture_of(design: tuple[Document, Layout], names: str | None, time: int | None, report: Report | None = None,
+               look: Look = Look()) -> str:
     """Returns the picture of a design at a time, or without a time the ways of its balls."""
     document, layout = design
     is_large = max(layout.width, layout.height) > drawing.LARGE_SIDE
     on = tracing.chosen_inputs(document, names)
     under = f" with {' '.join(on) or 'no input'} on"
-    picture = drawing.Drawing(modules=list(document.certificate.modules) if document.certificate and not is_large else [], view=view_of(look, layout),
+    picture = drawing.Drawing(modules=list(document.certificate.modules) if document.certificate and not is_large
+                              else [], view=view_of(look, layout),
                               ball=look.ball, has_arrows=look.has_arrows)
     if is_large and document.circuit:
         picture.gates = gate_boxes(document.text, document.circuit)
     if time is None:
-        picture.ways, picture.labels = drawing.ball_ways(document, on if names is not None else None, layout.steps, look.has_arrows)
+        picture.ways, picture.labels = drawing.ball_ways(document, on if names is not None else None, layout.steps,
+                                                         look.has_arrows)
         picture.title = "ways of the balls" + (under if names is not None else drawing.sampled_words(document))
     else:
         picture.live, picture.title = tracing.state_at(layout, on, time), f"time {time}{under}"
@@ -54,7 +57,8 @@ def view_of(look: Look, layout: Layout) -> Box | None:
 
 
 def gate_boxes(text: str, circuit: Circuit) -> list[tuple[Box, list[str]]]:
-    """Returns the boxes of the modules of a certificate that use gates and are larger than the smallest module, with the gates."""
+    """Returns the boxes of the modules of a certificate that use gates and are larger than the smallest module, with
+    the gates."""
     found = []
     for box, uses in boxes_and_uses(text):
         gates = [circuit.gates[number] for number in uses if number < len(circuit.gates)]
@@ -64,8 +68,10 @@ def gate_boxes(text: str, circuit: Circuit) -> list[tuple[Box, list[str]]]:
 
 
 def run(options: argparse.Namespace) -> int:
-    """Draws a layout. The certificate of a large one is read only for a report, since that takes longer than to draw."""
-    look = Look(Box(*options.crop) if options.crop else None, tuple(options.wires.split(",")) if options.wires else (), options.cone, options.arrows,
+    """Draws a layout. The certificate of a large one is read only for a report, since that takes longer than to draw.
+    """
+    look = Look(Box(*options.crop) if options.crop else None, tuple(options.wires.split(",")) if options.wires else (),
+                options.cone, options.arrows,
                 options.ball)
     if (look.wires or look.cone or look.has_arrows) and not options.ways:
         raise LabError("--wires, --cone and --arrows need --ways")

@@ -38,7 +38,8 @@ def write_in_place(file: str, spelling: Spelling, before: bytes, after: bytes, s
     """Writes a file again if it changes. Comments are left out only if that is asked for."""
     if spelling.comments and not strips:
         count = f"{spelling.comments} comment{'s' if spelling.comments != 1 else ''}"
-        raise LabError(f"{file}: its {count} would be lost, since the program takes no comments: use --strip-comments, or -o FILE", 1)
+        raise LabError(f"{file}: its {count} would be lost, since the program takes no comments: use --strip-comments, "
+                       "or -o FILE", 1)
     if after != before:
         write_bytes(file, after, before=before)
         print(f"{plain(file)}: written again", file=sys.stderr)
@@ -54,4 +55,5 @@ def tell(file: str, spelling: Spelling) -> None:
         return
     refusal = read_document(spelling.text).refusal
     if refusal:
-        print(f"bbmlab: {plain(file)}: line {refusal.line} is still refused, with code {refusal.code}: bbmlab explain says why", file=sys.stderr)
+        print(f"bbmlab: {plain(file)}: line {refusal.line} is still refused, with code {refusal.code}: bbmlab explain "
+              "says why", file=sys.stderr)

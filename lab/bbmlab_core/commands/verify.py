@@ -25,7 +25,8 @@ def differences(receipt: Receipt, text: bytes) -> list[str]:
     other = [name for name in SECTIONS if digests[name] != receipt.sections[name]]
     if not other:
         return ["the receipt is of another text: what stands behind the sections differs"]
-    return [f"the receipt is of another text: the {' and the '.join(other)} section differ{'' if len(other) > 1 else 's'}"]
+    return [f"the receipt is of another text: the {' and the '.join(other)} section "
+            f"differ{'' if len(other) > 1 else 's'}"]
 
 
 def run(options: argparse.Namespace) -> int:
@@ -46,7 +47,8 @@ def run(options: argparse.Namespace) -> int:
     if against:
         return 1
     again = ", and the program said the same again" if options.again else ""
-    print(f"{plain(options.file)}: {WORDS[receipt.verdict]}, by {plain(receipt.program.version or 'a release')} on {plain(receipt.date)}{again}")
+    print(f"{plain(options.file)}: {WORDS[receipt.verdict]}, by {plain(receipt.program.version or 'a release')} on "
+          f"{plain(receipt.date)}{again}")
     return 0
 
 
@@ -54,7 +56,8 @@ def checked_again(receipt: Receipt, text: bytes, options: argparse.Namespace) ->
     """Runs the program again, and returns what differs from the receipt."""
     program = find_program(options.program)
     if program.sha256 != receipt.program.sha256:
-        raise LabError(f"{program} is not the program of the receipt, so its answer would show nothing; name that program with --program")
+        raise LabError(f"{program} is not the program of the receipt, so its answer would show nothing; name that "
+                       "program with --program")
     said: Answer = ask(program, "check", text, options.timeout)
     if (said.status, said.output) == (receipt.status, receipt.report):
         return []
@@ -62,7 +65,8 @@ def checked_again(receipt: Receipt, text: bytes, options: argparse.Namespace) ->
 
 
 def run_summary(options: argparse.Namespace) -> int:
-    """Counts the receipts of a folder. The status is that of a run that gave these results, or 4 if one does not count."""
+    """Counts the receipts of a folder. The status is that of a run that gave these results, or 4 if one does not count.
+    """
     try:
         files = sorted(Path(options.folder) / name for name in os.listdir(options.folder) if name.endswith(".json"))
     except OSError as error:
@@ -84,6 +88,7 @@ def run_summary(options: argparse.Namespace) -> int:
             print(f"{plain(receipt.name)}: {WORDS[receipt.verdict]}")
     print(f"{len(files)} receipts: " + ", ".join(f"{counts[word]} {WORDS[word]}" for word in WORDS if counts.get(word)))
     if len(programs) > 1:
-        print(f"they are of {len(programs)} programs: " + ", ".join(f"{digest[:16]}.. {count}" for digest, count in sorted(programs.items())))
+        print(f"they are of {len(programs)} programs: " + ", ".join(f"{digest[:16]}.. {count}" for digest,
+                                                                    count in sorted(programs.items())))
         return 4
     return exit_status(counts)

@@ -19,7 +19,8 @@ def run(options: argparse.Namespace) -> int:
     if document.certificate:
         try:
             output = read_text(options.report) if options.report else report_of(document.text, options)
-            explanation = explaining.explain_answer(document.text, "check", output, options.file, trial_of(options), document)
+            explanation = explaining.explain_answer(document.text, "check", output, options.file, trial_of(options),
+                                                    document)
         except (ProgramError, ProgramTimeout) as error:
             print(f"bbmlab: the page has no report: {plain(str(error))}", file=sys.stderr)
     write_text(options.output, viewing.page(document, explanation, os.path.basename(options.file)))

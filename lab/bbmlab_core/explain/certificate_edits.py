@@ -37,7 +37,8 @@ class CertificateEditor:
         self.groups: list[Group] = self.check.groups()
 
     def for_all(self, findings: list[Finding]) -> Iterator[Proposal]:
-        """Yields edits for a whole report: all borders together, then each by itself, then those for each line of the report."""
+        """Yields edits for a whole report: all borders together, then each by itself, then those for each line of the
+        report."""
         together = tuple(dict.fromkeys(edit for group in self.groups for edit in group.edits))
         if together and len(together) <= MAX_TOGETHER:
             yield Proposal("border lines as the whole run has them", together)
@@ -60,7 +61,8 @@ class CertificateEditor:
             yield from self.for_meet(finding)
 
     def for_local(self, finding: Finding) -> Iterator[Proposal]:
-        """Yields edits for a `local` line: the borders of its module up to its time, its stop, and gates in place of cuts."""
+        """Yields edits for a `local` line: the borders of its module up to its time, its stop, and gates in place of
+        cuts."""
         module, time = self.diagnosis.module_of(finding), finding.number("time")
         cell = finding.number("x"), finding.number("y")
         if finding.values["kind"] == "stop":
@@ -73,12 +75,14 @@ class CertificateEditor:
             for edits in (group.edits, *group.others):
                 yield Proposal("border lines as the whole run has them", tuple(edits))
         if len(near) > 1:
-            yield Proposal("border lines as the whole run has them", tuple(dict.fromkeys(edit for group in near for edit in group.edits)))
+            yield Proposal("border lines as the whole run has them",
+                           tuple(dict.fromkeys(edit for group in near for edit in group.edits)))
         if self.diagnosis.occurring(module) != (1 << (1 << len(module.cuts))) - 1:
             yield from self.gates_for_cuts(module)
 
     def gates_for_cuts(self, module: Module) -> Iterator[Proposal]:
-        """Yields `use` lines in place of `cut` lines: for one gate whose outputs are cut, then for all gates back to the inputs."""
+        """Yields `use` lines in place of `cut` lines: for one gate whose outputs are cut, then for all gates back to
+        the inputs."""
         makers = {self.circuit.maker[name].number for name in module.cuts if name in self.circuit.maker}
         for number in sorted(makers, reverse=True):
             gate = self.circuit.gates[number]
@@ -100,7 +104,8 @@ class CertificateEditor:
                 break
             if kind == "cut" and name not in cuts or kind == "use" and int(name) not in uses:
                 edits.append(delete(number))
-        new = [f"cut {name}" for name in cuts if name not in module.cuts] + [f"use {number}" for number in uses if number not in module.uses]
+        new = [f"cut {name}" for name in cuts if name not in module.cuts] + [f"use {number}" for number in uses
+                                                                             if number not in module.uses]
         edits += [add(place_in_module(self.lines, module.line, text), text) for text in new]
         if edits:
             yield Proposal("gates in place of cuts", tuple(edits))
@@ -117,7 +122,9 @@ class CertificateEditor:
         for line, other, kind, place in ((edge, halo, "halo", module), (halo, edge, "edge", owner)):
             if line and place:
                 text = f"{kind}{str(line)[4:]}"
-                yield Proposal("lines that agree", (replace(other.line, text) if other else add(place_in_module(self.lines, place.line, text), text),))
+                yield Proposal("lines that agree",
+                               (replace(other.line, text) if other
+                                else add(place_in_module(self.lines, place.line, text), text),))
             elif other:
                 yield Proposal("lines that agree", (delete(other.line),))
 
@@ -137,7 +144,8 @@ class CertificateEditor:
                  for dx in (-1, 0, 1) for dy in (-1, 0, 1)]
         spots.sort(key=lambda spot: (spot[1] != stop.cell, abs(spot[0] - stop.time), spot))
         for time, cell in spots:
-            if 0 <= time <= self.diagnosis.layout.steps and module.box.has(cell) and self.table_at(time, cell) == self.carried(stop.name):
+            if (0 <= time <= self.diagnosis.layout.steps and module.box.has(cell)
+                and self.table_at(time, cell) == self.carried(stop.name)):
                 yield Proposal("stops", self.moved_stop(module, stop, StopLine(time, stop.name, *cell, 0)))
         for name in module.local:
             if name != stop.name and self.table_at(stop.time, stop.cell) == self.carried(name):
@@ -162,8 +170,10 @@ class CertificateEditor:
         return sorted(found, key=lambda pair: pair[1].place)
 
     def for_delay(self, finding: Finding) -> Iterator[Proposal]:
-        """Yields stops at other times for a delay, stops that are missing, and another number of steps in the circuit."""
-        gate, wanted, found = self.circuit.gates[finding.number("gate")], finding.number("wanted"), finding.values["found"]
+        """Yields stops at other times for a delay, stops that are missing, and another number of steps in the circuit.
+        """
+        gate, wanted, found = self.circuit.gates[finding.number("gate")], finding.number(
+            "wanted"), finding.values["found"]
         used, made = self.stops_of(gate.ins[0]), self.stops_of(gate.outs[0])
         if used and made:
             if found == "before":
@@ -177,12 +187,14 @@ class CertificateEditor:
             yield from self.new_stop(gate.outs[0] if used else gate.ins[0], time)
         else:
             for time in range(self.diagnosis.layout.steps - wanted + 1):
-                pairs = [(first, last) for first in self.new_stop(gate.ins[0], time) for last in self.new_stop(gate.outs[0], time + wanted)]
+                pairs = [(first, last) for first in self.new_stop(gate.ins[0], time)
+                         for last in self.new_stop(gate.outs[0], time + wanted)]
                 if pairs:
                     yield Proposal("stops", pairs[0][0].edits + pairs[0][1].edits)
                     break
         if isinstance(found, int) and 1 <= found <= 4096:
-            yield Proposal("the steps of a delay", (replace(gate.line, f"delay {found} {gate.ins[0]} -> {gate.outs[0]}"),))
+            yield Proposal("the steps of a delay",
+                           (replace(gate.line, f"delay {found} {gate.ins[0]} -> {gate.outs[0]}"),))
 
     def retimed(self, seen: tuple[Module, StopLine], time: int) -> Iterator[Proposal]:
         """Yields moves of a stop to a time, to the nearest cells of its module at which the whole run has its wire."""
@@ -205,11 +217,14 @@ class CertificateEditor:
                 yield Proposal("stops", (add(place_in_module(self.lines, module.line, text), text),))
 
     def for_meet(self, finding: Finding) -> Iterator[Proposal]:
-        """Yields stops after which the inputs of a gate have their last stops at one time, or only one of them has stops."""
+        """Yields stops after which the inputs of a gate have their last stops at one time, or only one of them has
+        stops."""
         gate = self.circuit.gates[finding.number("gate")]
         last = {name: self.stops_of(name)[-1] for name in gate.ins if self.stops_of(name)}
         for name, seen in last.items():
             for time in dict.fromkeys(stop.time for _, stop in last.values()):
                 yield from self.new_stop(name, time) if time > seen[1].time else self.retimed(seen, time)
         for name in last:
-            yield Proposal("stops", tuple(delete(stop.line) for other in last if other != name for _, stop in self.stops_of(other)))
+            yield Proposal("stops",
+                           tuple(delete(stop.line) for other in last if other != name for _,
+                                 stop in self.stops_of(other)))

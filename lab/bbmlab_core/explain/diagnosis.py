@@ -1,7 +1,8 @@
-"""What can be found out about a line of a report: the module's own run, the whole run, and which inputs give an assignment.
+"""What can be found out about a line of a report: the module's own run, the whole run, and which inputs give an
+assignment.
 
-What was not tried is `Truth.UNKNOWN`. Where the inputs are too many to try all choices, samples are tried: a fault in a sample is certain,
-and so is that a wire differs from a cell in a sample. That no sample has a fault is no proof.
+What was not tried is `Truth.UNKNOWN`. Where the inputs are too many to try all choices, samples are tried: a fault in a
+sample is certain, and so is that a wire differs from a cell in a sample. That no sample has a fault is no proof.
 """
 
 from dataclasses import dataclass, field
@@ -42,7 +43,8 @@ class Truth(Enum):
 class Occurrence:
     """Whether an assignment of a module's cuts occurs in the circuit.
 
-    `inputs` is a choice of inputs that gives it, if one was found; `count` of `total` choices do, if all were tried, else both are 0.
+    `inputs` is a choice of inputs that gives it, if one was found; `count` of `total` choices do, if all were tried,
+    else both are 0.
     """
 
     occurs: Truth
@@ -53,7 +55,8 @@ class Occurrence:
 
 @dataclass
 class Difference:
-    """The first time at which a module's own run differs from the whole one, a cell of it, and the cells that were not heard so."""
+    """The first time at which a module's own run differs from the whole one, a cell of it, and the cells that were not
+    heard so."""
 
     time: int
     cell: Cell
@@ -75,9 +78,11 @@ class Signal:
 
 @dataclass(frozen=True)
 class WholeOutcome:
-    """Whether some certificate may get a yes: the whole run ends as the layout asks, and its rim is dead at odd times before.
+    """Whether some certificate may get a yes: the whole run ends as the layout asks, and its rim is dead at odd times
+    before.
 
-    `fault` says what is wrong, where `is_right` is NO; `is_rim` that it is a live cell of the rim, whatever the circuit asks.
+    `fault` says what is wrong, where `is_right` is NO; `is_rim` that it is a live cell of the rim, whatever the circuit
+    asks.
     """
 
     is_right: Truth
@@ -88,14 +93,17 @@ class WholeOutcome:
     def words(self) -> str:
         """Why no certificate gets a yes, where `is_right` is NO."""
         if self.is_rim:
-            return (f"In the whole run {self.fault}. At odd times before the end the outermost cells must be dead, so no certificate gets a yes "
+            return (f"In the whole run {self.fault}. At odd times before the end the outermost cells must be dead, so "
+                    "no certificate gets a yes "
                     "before the layout is changed.")
-        return (f"The layout itself does not do what the circuit asks: {self.fault}. No certificate gets a yes before the layout or the circuit "
+        return (f"The layout itself does not do what the circuit asks: {self.fault}. No certificate gets a yes before "
+                "the layout or the circuit "
                 "is changed.")
 
 
 class RimWatch:
-    """Looks at each step of a whole run whether a cell of the rim is live at an odd time before the end, under assignments that count."""
+    """Looks at each step of a whole run whether a cell of the rim is live at an odd time before the end, under
+    assignments that count."""
 
     def __init__(self, layout: Layout, defined: Table) -> None:
         self.defined, self.steps = defined, layout.steps
@@ -108,7 +116,8 @@ class RimWatch:
         """Looks at the present state. A cell that did not change in two steps was live at the odd time before."""
         if self.found or run.time % 2 == 0 or run.time >= self.steps:
             return
-        live = [key for keys in (run.field.changed, run.field.changed_before) for key in keys & self.keys if run.field.live.get(key, 0) & self.defined]
+        live = [key for keys in (run.field.changed, run.field.changed_before) for key in keys & self.keys
+                if run.field.live.get(key, 0) & self.defined]
         if live:
             self.found = run.time, cell_of(min(live)), run.field.live[min(live)] & self.defined
 
@@ -159,7 +168,8 @@ class Diagnosis:
         return Occurrence(Truth.YES, given, table.bit_count() if is_all else 0, total)
 
     def occurring(self, module: Module) -> Table:
-        """Returns a table of assignments of the module's cuts that occur: all of them, or those that occur in the samples."""
+        """Returns a table of assignments of the module's cuts that occur: all of them, or those that occur in the
+        samples."""
         inputs, gates = self.circuit.cone(module.cuts)
         values = evaluate(self.circuit, inputs, gates) if len(inputs) <= MAX_INPUTS else self.values
         columns = values.full
@@ -176,7 +186,8 @@ class Diagnosis:
         return found
 
     def occurring_fault(self, module: Module) -> Fault | None:
-        """Returns the least fault of a module's own run under assignments that are known to occur, or None if there is none."""
+        """Returns the least fault of a module's own run under assignments that are known to occur, or None if there is
+        none."""
         run = ModuleRun(self.circuit, self.layout, self.certificate, module)
         run.restrict(self.occurring(module))
         return run.least_fault() if run.full else None
@@ -192,7 +203,8 @@ class Diagnosis:
         """Returns a new run of the whole layout under a choice of inputs; those not named are off."""
         return WholeRun(self.layout, {name: value for name, value in inputs.items() if value}, 1)
 
-    def first_difference(self, module: Module, assignment: int, inputs: dict[str, int], until: int) -> Difference | None:
+    def first_difference(self, module: Module, assignment: int, inputs: dict[str, int],
+                         until: int) -> Difference | None:
         """Returns where a module's own run first differs from the whole one, up to a time."""
         own, whole = ModuleRun(self.circuit, self.layout, self.certificate, module), self.whole_run(inputs)
         keys = {key_of(cell) for cell in module.box.cells()}
@@ -207,21 +219,24 @@ class Diagnosis:
             if time % 2 and time < self.layout.steps:
                 said = own.halos.at(time)
                 unheard = [(cell, bool(whole.field.live.get(key_of(cell)))) for cell in halo
-                           if bool(whole.field.live.get(key_of(cell))) != bool(said.get(key_of(cell), 0) >> assignment & 1)]
+                           if bool(whole.field.live.get(key_of(cell)))
+                           != bool(said.get(key_of(cell), 0) >> assignment & 1)]
             if time < until:
                 own.step()
                 whole.step()
         return None
 
     def whole_field(self, time: int) -> Field | None:
-        """Returns the whole run under the tried inputs at a time, or None where it is too long or leaves the rectangle before."""
+        """Returns the whole run under the tried inputs at a time, or None where it is too long or leaves the rectangle
+        before."""
         if time not in self._fields:
             run = self.whole_run_to(time)
             self._fields[time] = run.field if run and run.left is None else None
         return self._fields[time]
 
     def whole_run_to(self, time: int, look: Callable[[WholeRun], None] = lambda _: None) -> WholeRun | None:
-        """Returns the whole run under the tried inputs at a time, or at the step that leaves the rectangle; None where it is too long.
+        """Returns the whole run under the tried inputs at a time, or at the step that leaves the rectangle; None where
+        it is too long.
 
         `look` is called after each step.
         """
@@ -236,7 +251,10 @@ class Diagnosis:
         return run
 
     def signal_for(self, table: Table) -> Signal:
-        """Returns the signal that is true in just these choices of the inputs: `1`, a wire, or `0` where it is never true."""
+        """Returns the signal that is true in just these choices of the inputs:
+
+        `1`, a wire, or `0` where it is never true.
+        """
         if not table:
             return Signal(Truth.YES, "0")
         if table == self.values.full:
@@ -262,7 +280,8 @@ class Diagnosis:
             return WholeOutcome(Truth.UNKNOWN)
         if run.left is not None:
             inputs = self.inputs_of(lowest_bit(run.left[1]))
-            return WholeOutcome(Truth.NO, f"with {inputs} step {run.left[0]} makes the cell ({run.left[2][0]}, {run.left[2][1]}) "
+            return WholeOutcome(Truth.NO,
+                                f"with {inputs} step {run.left[0]} makes the cell ({run.left[2][0]}, {run.left[2][1]}) "
                                           "outside the rectangle live")
         wanted = {key_of(cell): table for cell, table in end_tables(self.layout, values.tables, values.full).items()}
         for key in sorted(wanted.keys() | run.field.live.keys()):
@@ -272,10 +291,12 @@ class Diagnosis:
                 inputs, (x, y) = self.inputs_of(lowest_bit(differs)), cell_of(key)
                 is_live = run.field.live.get(key, 0) >> lowest_bit(differs) & 1
                 found, asked = ("live", "dead") if is_live else ("dead", "live")
-                return WholeOutcome(Truth.NO, f"with {inputs} the cell ({x}, {y}) is {found} at the end and should be {asked}")
+                return WholeOutcome(Truth.NO,
+                                    f"with {inputs} the cell ({x}, {y}) is {found} at the end and should be {asked}")
         if rim.found:
             time, (x, y), table = rim.found
-            return WholeOutcome(Truth.NO, f"with {self.inputs_of(lowest_bit(table))} the cell ({x}, {y}) of the rim is live at time {time}", True)
+            return WholeOutcome(Truth.NO, f"with {self.inputs_of(lowest_bit(table))} the cell ({x}, {y}) of the rim is "
+                                f"live at time {time}", True)
         return WholeOutcome(Truth.YES if values.is_all else Truth.UNKNOWN)
 
     def inputs_of(self, column: int) -> str:
@@ -287,7 +308,8 @@ class Diagnosis:
             return " ".join(f"{name}={self.values.tables[name] >> column & 1}" for name in names)
         on = self.values.names_of(column)
         shown = " ".join(f"{name}=1" for name in on[:MAX_INPUTS])
-        return f"{len(on)} of the {len(names)} inputs on" + (f" ({shown}{' ..' if len(on) > MAX_INPUTS else ''})" if on else "")
+        return f"{len(on)} of the {len(names)} inputs on" + (f" ({shown}{' ..' if len(on) > MAX_INPUTS else ''})" if on
+                                                             else "")
 
     def module_of(self, finding: Finding) -> Module:
         """Returns the module of a line of a report."""

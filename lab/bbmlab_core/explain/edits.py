@@ -10,7 +10,8 @@ from ..texts.spelling import module_key, rank_of, SECTION_ORDERS
 ACTIONS = ("add", "replace", "delete")
 # The most lines between the first and the last difference of two texts for which the fewest edits are looked for.
 MAX_COMPARED = 4000
-# The most pairs of equal lines for that: a search for the longest match looks at all of them, and each match is searched by itself.
+# The most pairs of equal lines for that: a search for the longest match looks at all of them, and each match is
+# searched by itself.
 MAX_PAIRS = 40_000
 
 
@@ -22,7 +23,8 @@ class EditError(Exception):
 class Edit:
     """An edit of one line of a text. Lines count from 1, as they are before all edits.
 
-    An added line comes behind the line `line`, where 0 means before all lines. `text` has no line feed; it is empty for `delete`.
+    An added line comes behind the line `line`, where 0 means before all lines. `text` has no line feed; it is empty for
+    `delete`.
     """
 
     line: int
@@ -35,7 +37,8 @@ class Edit:
         if self.action == "add":
             if not self.text and self.line == len(lines):
                 return "Add a line feed at the end of the file."
-            return f"Add `{self.text}` after line {self.line} (`{old}`)." if self.line else f"Add `{self.text}` before the first line."
+            return (f"Add `{self.text}` after line {self.line} (`{old}`)." if self.line
+                    else f"Add `{self.text}` before the first line.")
         if self.action == "replace":
             return f"Replace line {self.line} (`{old}`) by `{self.text}`."
         return f"Delete line {self.line} (`{old}`)."

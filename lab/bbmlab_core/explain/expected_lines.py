@@ -1,4 +1,6 @@
-"""The lines about borders that a certificate should have: those of its text are compared with the whole run of the layout."""
+"""The lines about borders that a certificate should have: those of its text are compared with the whole run of the
+layout.
+"""
 
 from dataclasses import dataclass, field
 from functools import cached_property
@@ -18,7 +20,8 @@ MAX_WIRES = 4
 
 @dataclass
 class Group:
-    """The edits for one cell of a border: the first time at which its lines are wrong, and the modules whose lines change."""
+    """The edits for one cell of a border: the first time at which its lines are wrong, and the modules whose lines
+    change."""
 
     cell: Cell
     time: int
@@ -44,7 +47,8 @@ def neighbours_of(cell: Cell) -> list[Cell]:
 class LiveTimes:
     """Notes at which odd times cells of a run are live, with their tables.
 
-    Most of them are mirrors: those that are live since the start are looked at only when they change, and share what is noted of them.
+    Most of them are mirrors: those that are live since the start are looked at only when they change, and share what is
+    noted of them.
     """
 
     def __init__(self, live: dict[int, Table], is_noted: Callable[[Cell], bool], steps: int) -> None:
@@ -96,13 +100,15 @@ class BorderCheck:
         self.unnamed: list[UnnamedCell] = []
 
     def owner(self, cell: Cell) -> Module | None:
-        """Returns the module whose `edge` lines may name a cell: the one with the cell in its ring, if it is not on the rim."""
+        """Returns the module whose `edge` lines may name a cell: the one with the cell in its ring, if it is not on the
+        rim."""
         owner = None if self.layout.is_rim(cell) else self.certificate.owner(cell)
         return owner if owner and owner.box.has_in_ring(cell) else None
 
     @cached_property
     def seen(self) -> dict[Cell, dict[int, Table]] | None:
-        """The tables of the cells of all rings at the odd times at which they are live, or None if the run is too long or leaves."""
+        """The tables of the cells of all rings at the odd times at which they are live, or None if the run is too long
+        or leaves."""
         if not self.diagnosis.can_run_whole():
             return None
         values = self.diagnosis.values
@@ -125,7 +131,8 @@ class BorderCheck:
         """Returns the edits of all cells whose lines are wrong, in order of the first wrong time."""
         if self.seen is None:
             return []
-        found = [self.group(cell, self.lines_at.get(cell, [])) for cell in sorted(self.seen.keys() | self.lines_at.keys())]
+        found = [self.group(cell, self.lines_at.get(cell, []))
+                 for cell in sorted(self.seen.keys() | self.lines_at.keys())]
         return sorted((group for group in found if group), key=lambda group: group.time)
 
     @cached_property
@@ -149,7 +156,8 @@ class BorderCheck:
             wrong += [time for hearer in hearers for time in self.wrong_time(hearer, "halo", actual, lines)]
         if not wrong:
             return None
-        edits = [self.edits(cell, owner, hearers, signals) for signals in self.choices(cell, actual, [owner, *hearers], lines)]
+        edits = [self.edits(cell, owner, hearers, signals)
+                 for signals in self.choices(cell, actual, [owner, *hearers], lines)]
         if not edits:
             return None
         return Group(cell, min(wrong), {module.number for module in (owner, *hearers)}, edits[0], edits[1:])
@@ -163,8 +171,10 @@ class BorderCheck:
             edits += self.made_local(hearer, signals)
         return list(dict.fromkeys(edits + self.made_local(owner, signals)))
 
-    def choices(self, cell: Cell, actual: dict[int, Table], modules: list[Module], lines: list[tuple[Module, BorderLine]]) -> list[dict[int | None, str]]:
-        """Returns the signals that a cell may have, the likeliest first; none if no wire has its values, or if it needs too many lines."""
+    def choices(self, cell: Cell, actual: dict[int, Table], modules: list[Module],
+                lines: list[tuple[Module, BorderLine]]) -> list[dict[int | None, str]]:
+        """Returns the signals that a cell may have, the likeliest first; none if no wire has its values, or if it needs
+        too many lines."""
         found: list[dict[int | None, str]] = []
         for rank in range(MAX_WIRES):
             signals = self.signals(cell, actual, modules, lines, rank)
@@ -173,26 +183,31 @@ class BorderCheck:
             found.append(signals)
         return found
 
-    def wrong_time(self, module: Module, kind: str, actual: dict[int, Table], lines: list[tuple[Module, BorderLine]]) -> list[int]:
-        """Returns the first odd time at which the lines of a module about a cell differ from the run, in a list that may be empty."""
+    def wrong_time(self, module: Module, kind: str, actual: dict[int, Table],
+                   lines: list[tuple[Module, BorderLine]]) -> list[int]:
+        """Returns the first odd time at which the lines of a module about a cell differ from the run, in a list that
+        may be empty."""
         own = {line.time: self.table_of(line.signal) for other, line in lines if other is module and line.kind == kind}
         if None in own:
             return next(([time] for time in range(1, self.layout.steps, 2) if actual.get(time, 0) != own[None]), [])
         times = sorted(time for time in actual.keys() | own.keys() if time is not None)
         return next(([time] for time in times if actual.get(time, 0) != own.get(time, 0)), [])
 
-    def signals(self, cell: Cell, actual: dict[int, Table], modules: list[Module], lines: list[tuple[Module, BorderLine]],
+    def signals(self, cell: Cell, actual: dict[int, Table], modules: list[Module],
+                lines: list[tuple[Module, BorderLine]],
                 rank: int) -> dict[int | None, str] | None:
         """Returns the signals that a cell should have by time, or None if no wire has its values.
 
-        Where no line tells it, the wire is the one with this rank among those that have the values, or the last of them.
+        Where no line tells it, the wire is the one with this rank among those that have the values, or the last of
+        them.
         """
         full = self.diagnosis.values.full
         if actual and all(actual.get(time) == full for time in range(1, self.layout.steps, 2)):
             return {None: "1"}
         signals: dict[int | None, str] = {}
         for time, table in sorted(actual.items()):
-            told = [line.signal for _, line in lines if line.time in (None, time) and self.table_of(line.signal) == table]
+            told = [line.signal for _, line in lines if line.time in (None, time)
+                    and self.table_of(line.signal) == table]
             names = told[:1] or (["1"] if table == full else self.likely_wires(table, modules, cell, time))
             if not names:
                 self.unnamed.append(UnnamedCell(cell, time))
@@ -201,7 +216,8 @@ class BorderCheck:
         return signals
 
     def likely_wires(self, table: Table, modules: list[Module], cell: Cell, time: int) -> list[str]:
-        """Returns the wires with a table. First comes that of the line about the cell at the nearest time, then those that most modules know.
+        """Returns the wires with a table. First comes that of the line about the cell at the nearest time, then those
+        that most modules know.
 
         Of those that as many know, first comes the one of the nearest line about a cell next to this one.
         """
@@ -210,7 +226,9 @@ class BorderCheck:
             return wires
         here, around = self.near_times([cell], time), self.near_times(neighbours_of(cell), time)
         far = self.layout.steps + 1
-        return sorted(wires, key=lambda name: (here.get(name, far), -sum(name in module.local for module in modules), around.get(name, far)))
+        return sorted(wires,
+                      key=lambda name: (here.get(name, far), -sum(name in module.local for module in modules),
+                                        around.get(name, far)))
 
     def near_times(self, cells: Iterable[Cell], time: int) -> dict[str, int]:
         """Returns how far from a time the nearest line about one of some cells is, for each signal."""
@@ -233,13 +251,16 @@ class BorderCheck:
         return edits
 
     def made_local(self, module: Module, signals: dict[int | None, str]) -> list[Edit]:
-        """Returns the edits after which a module knows the wires of some signals: a gate that it can use, or else a cut."""
+        """Returns the edits after which a module knows the wires of some signals: a gate that it can use, or else a
+        cut."""
         edits = []
         for name in dict.fromkeys(signals.values()):
             if name == "1" or name in module.local:
                 continue
             gate = self.circuit.maker.get(name)
-            is_made = gate is not None and all(wire in module.local for wire in gate.ins) and not any(wire in module.local for wire in gate.outs)
+            is_made = gate is not None and all(wire in module.local
+                                               for wire in gate.ins) and not any(wire in module.local
+                                                                                 for wire in gate.outs)
             text = f"use {gate.number}" if gate is not None and is_made else f"cut {name}"
             edits.append(add(place_in_module(self.lines, module.line, text), text))
         return edits

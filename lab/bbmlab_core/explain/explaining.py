@@ -19,7 +19,8 @@ from .faults import Entry, assignment_words, explain_border, explain_keep, expla
 from .fixing import Fix, Fixer, outcome_words
 from .trials import Trial
 
-# Of how many modules the faults are told in full, with runs and pictures, and for how many lines of a report a fix is looked for.
+# Of how many modules the faults are told in full, with runs and pictures, and for how many lines of a report a fix is
+# looked for.
 MAX_DETAILED = 12
 # How many mirrors that fall apart are named.
 MAX_MIRRORS = 3
@@ -31,7 +32,8 @@ ANSWERS = {"run": RUN_ANSWER, "value": re.compile(r"([a-z]\w* [01]\n)*(undefined
 
 @dataclass
 class FixForm:
-    """A fix as a document has it: its edits, whether the certificate is made again after them, who was asked, the verdict, and sentences."""
+    """A fix as a document has it: its edits, whether the certificate is made again after them, who was asked, the
+    verdict, and sentences."""
 
     edits: list[Edit]
     certificate_again: bool
@@ -79,10 +81,12 @@ def stop_words(diagnosis: Diagnosis, wire: str, which: int) -> str:
 
 def explain_delay(diagnosis: Diagnosis, finding: Finding) -> Entry:
     """Returns a `delay` line in words."""
-    gate, found, wanted = diagnosis.circuit.gates[finding.number("gate")], finding.values["found"], finding.values["wanted"]
+    gate, found, wanted = diagnosis.circuit.gates[finding.number("gate")], finding.values["found"], finding.values[
+        "wanted"]
     used, made = gate.ins[0], gate.outs[0]
     seen = f"{stop_words(diagnosis, used, -1)}, and {stop_words(diagnosis, made, 0)}"
-    entry = Entry(finding.text, finding.is_against, [f"Gate {gate.number} is `delay {wanted} {used} -> {made}` (line {gate.line}): {seen}."],
+    entry = Entry(finding.text, finding.is_against,
+                  [f"Gate {gate.number} is `delay {wanted} {used} -> {made}` (line {gate.line}): {seen}."],
                   line=gate.line, facts={"gate": gate.number, "wanted": wanted, "found": found})
     if not finding.is_against:
         entry.what.append(f"So the delay takes {found} steps, as it says.")
@@ -101,8 +105,10 @@ def explain_meet(diagnosis: Diagnosis, finding: Finding) -> Entry:
     gate = diagnosis.circuit.gates[finding.number("gate")]
     seen = [(wire, stops_of(diagnosis, wire)[-1]) for wire in gate.ins if stops_of(diagnosis, wire)]
     told = ", ".join(f"`{wire}` at time {stop.time} (line {stop.line})" for wire, stop in seen)
-    entry = Entry(finding.text, finding.is_against, [f"Inputs of gate {gate.number} (`{gate.word}`, line {gate.line}) have their last stops: {told}."],
-                  line=seen[0][1].line if seen else None, facts={"gate": gate.number, "last_stops": {wire: stop.time for wire, stop in seen}})
+    entry = Entry(finding.text, finding.is_against, [f"Inputs of gate {gate.number} (`{gate.word}`, line {gate.line}) "
+                                                     f"have their last stops: {told}."],
+                  line=seen[0][1].line if seen else None,
+                  facts={"gate": gate.number, "last_stops": {wire: stop.time for wire, stop in seen}})
     if not finding.is_against:
         entry.what.append(f"So they meet at time {finding.values['found']}.")
         return entry
@@ -114,7 +120,8 @@ def explain_unkept(diagnosis: Diagnosis, finding: Finding) -> Entry:
     """Returns an `unkept` line in words."""
     gate = diagnosis.circuit.gates[finding.number("gate")]
     users = [module.number for module in diagnosis.certificate.modules if gate.number in module.uses]
-    entry = Entry(finding.text, True, [f"No module has a line `keep {gate.number}` for the inverse gate {gate.number} (`{gate.word}`, line {gate.line})."],
+    entry = Entry(finding.text, True, [f"No module has a line `keep {gate.number}` for the inverse gate {gate.number} "
+                                       f"(`{gate.word}`, line {gate.line})."],
                   line=gate.line, cause="unkept", facts={"gate": gate.number, "modules_that_use_it": users})
     used = f"Modules that use it: {', '.join(map(str, users))}." if users else "No module uses it."
     entry.what.append(used)
@@ -133,7 +140,8 @@ def explain_report(document: Document, report: Report, file: str, trial: Trial |
         raise ReportError("the report is not of this text: the lab's reader refuses the text")
     require_report_of(document, report)
     diagnosis = Diagnosis(document)
-    faults = sorted((finding for finding in report.faults if finding.word == "local"), key=lambda finding: finding.number("time"))
+    faults = sorted((finding for finding in report.faults if finding.word == "local"),
+                    key=lambda finding: finding.number("time"))
     diagnosis.detailed = {finding.text for finding in faults[:MAX_DETAILED]}
     entries = [EXPLAINERS[finding.word](diagnosis, finding) for finding in report.findings]
     count = len(report.faults)
@@ -145,7 +153,8 @@ def explain_report(document: Document, report: Report, file: str, trial: Trial |
             headline.append(f"Begin with `{faults[0].text}`, which has the least time: others may come of it.")
         headline += mirror_words(diagnosis)
         headline += whole_run_words(diagnosis, report.faults)
-    headline.append(f"The certificate has {report.modules} module{'s' if report.modules != 1 else ''}; its digest is {report.digest[:16]}..")
+    headline.append(f"The certificate has {report.modules} module{'s' if report.modules != 1 else ''}; its digest is "
+                    f"{report.digest[:16]}..")
     explanation = Explanation(file, "check", headline, report.verdict, entries)
     if trial and report.verdict == "no":
         add_fixes(explanation, diagnosis, report, trial)
@@ -164,12 +173,14 @@ def yes_words(count: int) -> str:
 def mirror_words(diagnosis: Diagnosis) -> list[str]:
     """Returns which mirrors fall apart by themselves."""
     fallen = falling_mirrors(diagnosis.layout)
-    words = [f"The mirror of line {mirror.part.line} (`{diagnosis.document.line(mirror.part.line)}`) falls apart by itself: step {mirror.step} "
+    words = [f"The mirror of line {mirror.part.line} (`{diagnosis.document.line(mirror.part.line)}`) falls apart by "
+             f"itself: step {mirror.step} "
              f"moves its cell {shown(mirror.cell)}." for mirror in fallen[:MAX_MIRRORS]]
     if len(fallen) > MAX_MIRRORS:
         words.append(f"{len(fallen) - MAX_MIRRORS} more mirrors do.")
     if fallen:
-        words.append("A mirror stays if its width and height are even and its upper left cell has exactly one odd coordinate.")
+        words.append("A mirror stays if its width and height are even and its upper left cell has exactly one odd "
+                     "coordinate.")
     return words
 
 
@@ -183,7 +194,8 @@ def add_fixes(explanation: Explanation, diagnosis: Diagnosis, report: Report, tr
     else:
         explanation.tried = tried_words(fixer, trial)
     left = {finding.text for finding in whole.report.faults} if whole else set()
-    detailed = [finding for finding in report.faults if finding.word != "local" or finding.text in (diagnosis.detailed or ())][:MAX_DETAILED]
+    detailed = [finding for finding in report.faults if finding.word != "local"
+                or finding.text in (diagnosis.detailed or ())][:MAX_DETAILED]
     entries = {entry.report_line: entry for entry in explanation.entries}
     for finding in detailed:
         fix = fixer.find_for(diagnosis, finding)
@@ -195,7 +207,8 @@ def add_fixes(explanation: Explanation, diagnosis: Diagnosis, report: Report, tr
 
 def fix_form(before: Report, fix: Fix) -> FixForm:
     """Returns a fix as a document has it."""
-    return FixForm(fix.edits, fix.remakes, fix.judge, fix.report.verdict, [*fix.words, outcome_words(before, fix)], fix.others)
+    return FixForm(fix.edits, fix.remakes, fix.judge, fix.report.verdict, [*fix.words, outcome_words(before, fix)],
+                   fix.others)
 
 
 def tried_words(fixer: Fixer, trial: Trial) -> list[str]:
@@ -203,11 +216,13 @@ def tried_words(fixer: Fixer, trial: Trial) -> list[str]:
     is_cut_short = fixer.is_cut_short or trial.is_over()
     end = " The search was ended by a limit, so some edits were not tried." if is_cut_short else ""
     kinds = [f"Kinds of edits that the search came to: {'; '.join(fixer.kinds)}."] if fixer.kinds else []
-    return [f"No fix was found. {trial.tries} text{'s were' if trial.tries != 1 else ' was'} checked by {trial.judge}.{end}", *kinds]
+    return [f"No fix was found. {trial.tries} text{'s were' if trial.tries != 1 else ' was'} checked by "
+            f"{trial.judge}.{end}", *kinds]
 
 
 def whole_run_words(diagnosis: Diagnosis, faults: list[Finding]) -> list[str]:
-    """Returns whether the whole run ends as the layout asks with a dead rim: a sentence for yes, no, and what was not found out."""
+    """Returns whether the whole run ends as the layout asks with a dead rim: a sentence for yes, no, and what was not
+    found out."""
     outcome, values = diagnosis.outcome, diagnosis.values
     if outcome.is_right is Truth.NO:
         return [outcome.words]
@@ -215,7 +230,8 @@ def whole_run_words(diagnosis: Diagnosis, faults: list[Finding]) -> list[str]:
         why = "it takes too long" if diagnosis.is_slow else f"it is longer than {MAX_STEPS} steps"
         return [f"The whole run was not tried to its end here: {why}."]
     if values.defined != values.full:
-        return [f"The circuit has no values under some choices of its inputs. Under the others that were tried ({diagnosis.scope}) the whole run "
+        return ["The circuit has no values under some choices of its inputs. Under the others that were tried "
+                f"({diagnosis.scope}) the whole run "
                 "ends as the layout asks."]
     tried = f"The whole run was tried here {diagnosis.scope}: it ends as the layout asks"
     if outcome.is_right is Truth.UNKNOWN:
@@ -225,23 +241,27 @@ def whole_run_words(diagnosis: Diagnosis, faults: list[Finding]) -> list[str]:
 
 
 def missing_certificate_words(document: Document) -> list[str]:
-    """Returns whether a certificate would help a design that has none: the whole run shows it, whatever certificate there is."""
+    """Returns whether a certificate would help a design that has none: the whole run shows it, whatever certificate
+    there is."""
     design = replace(document, certificate=Certificate(2, []))
     if design.circuit is None or design.layout is None or document.certificate and document.certificate.modules:
         return []
     outcome = Diagnosis(design).outcome
     if outcome.is_right is Truth.NO:
         return [outcome.words]
-    return ["The text has no certificate. In the choices of the inputs that were tried the whole run ends as the layout asks."]
+    return ["The text has no certificate. In the choices of the inputs that were tried the whole run ends as the "
+            "layout asks."]
 
 
 def explain_refused(document: Document, report: Report, file: str, trial: Trial | None = None) -> Explanation:
-    """Returns a refusal in words. Where the lab's reader does not come to the same line and code, only these are told."""
+    """Returns a refusal in words. Where the lab's reader does not come to the same line and code, only these are told.
+    """
     assert report.refused
     (line, code), refusal = report.refused, document.refusal
     same = refusal is not None and (refusal.line, refusal.code) == (line, code)
     told = explain_refusal(document, refusal) if same and refusal else explain_code(line, code)
-    explanation = Explanation(file, document.command, [f"The text was refused: line {line}, code {code}."], "refused", refused=told, line=line,
+    explanation = Explanation(file, document.command, [f"The text was refused: line {line}, code {code}."], "refused",
+                              refused=told, line=line,
                               code=code, line_text=document.line(line))
     if refusal and same and refusal.cause == "text_ended" and refusal.facts["section"] == "certificate":
         explanation.headline += missing_certificate_words(document)
@@ -260,7 +280,8 @@ def explain_run(document: Document, output: str, file: str) -> Explanation:
     word, count = output.split("\n", 1)[0].split(" ")
     on = listed(document.on or []) or "none of the inputs"
     if word == "cells":
-        headline = [f"With {on} on, {count} cells are live after {document.layout.steps if document.layout else 0} steps, all in the rectangle."]
+        headline = [f"With {on} on, {count} cells are live after {document.layout.steps if document.layout else 0} "
+                    "steps, all in the rectangle."]
     else:
         headline = [f"With {on} on, step {count} makes a cell outside the rectangle live.",
                     "A ball leaves: put a mirror on its way, make the layout larger, or take fewer steps."]
@@ -268,7 +289,10 @@ def explain_run(document: Document, output: str, file: str) -> Explanation:
 
 
 def undefined_gate(circuit: Circuit, output: str) -> int | None:
-    """Returns the gate without a row that an answer of `value` ends with, or None. A wire can have the name `undefined` too."""
+    """Returns the gate without a row that an answer of `value` ends with, or None.
+
+    A wire can have the name `undefined` too.
+    """
     lines = output.splitlines()
     is_gate = bool(lines) and lines[-1].startswith("undefined ") and len(lines) < len(circuit.defined)
     return int(lines[-1].split(" ")[1]) if is_gate else None
@@ -283,7 +307,8 @@ def explain_value(document: Document, output: str, file: str) -> Explanation:
     headline = [f"With {listed(document.on or []) or 'none of the inputs'} on, these wires are true: {true}."]
     if number is not None:
         gate = document.circuit.gates[number]
-        headline.append(f"Gate {gate.number} (`{gate.word}`, line {gate.line}) has no row for {assignment_words({n: int(values[n]) for n in gate.ins})}: "
+        headline.append(f"Gate {gate.number} (`{gate.word}`, line {gate.line}) has no row for "
+                        f"{assignment_words({n: int(values[n]) for n in gate.ins})}: "
                         "the gate that it turns back never gives these values.")
     return Explanation(file, "value", headline, "values" if number is None else "undefined")
 
@@ -294,7 +319,8 @@ def explain_listing(command: str, output: str, file: str) -> Explanation:
         count = len(output.splitlines())
         modules = "one module" if count == 1 else f"{count} modules"
         return Explanation(file, command, [f"The text is read, and its certificate has {modules}."], "read")
-    return Explanation(file, command, ["The text is read, and the program wrote it with a certificate of version 2."], "read")
+    return Explanation(file, command, ["The text is read, and the program wrote it with a certificate of version 2."],
+                       "read")
 
 
 def require_answer(document: Document, output: str) -> None:
@@ -311,7 +337,8 @@ def require_answer(document: Document, output: str) -> None:
             raise ReportError("the answer is not of this text: it names a gate that the text does not have there")
 
 
-def explain_answer(text: str, command: str, output: str, file: str, trial: Trial | None = None, known: Document | None = None) -> Explanation:
+def explain_answer(text: str, command: str, output: str, file: str, trial: Trial | None = None,
+                   known: Document | None = None) -> Explanation:
     """Returns what a command of the program wrote, in words. Fixes are looked for only if there is a trial.
 
     `known` is the text as it was read already, if it was.
@@ -341,12 +368,17 @@ def as_json(explanation: Explanation) -> str:
 
 
 def as_gcc(explanation: Explanation) -> list[str]:
-    """Writes an explanation as `file:line: error: text` lines for editors. A control character, also one of the file's name, is an escape."""
+    """Writes an explanation as `file:line: error: text` lines for editors.
+
+    A control character, also one of the file's name, is an escape.
+    """
     if explanation.refused:
         hints = [] if explanation.fix else [f"Hint: {hint}" for hint in explanation.refused.hints[:1]]
-        text = " ".join([*explanation.refused.what, *fix_words(explanation.fix.words if explanation.fix else []), *hints])
+        text = " ".join([*explanation.refused.what, *fix_words(explanation.fix.words if explanation.fix else []),
+                         *hints])
         return [plain(f"{explanation.file}:{explanation.line}: error: {text} [code {explanation.code}]")]
-    return [plain(f"{explanation.file}:{line_of(entry)}: error: {' '.join([*entry.what, *fix_words(entry.fixes)])} [{entry.report_line}]")
+    return [plain(f"{explanation.file}:{line_of(entry)}: error: {' '.join([*entry.what, *fix_words(entry.fixes)])} "
+                  f"[{entry.report_line}]")
             for entry in explanation.entries if entry.is_against]
 
 

@@ -85,12 +85,15 @@ def wanted_at_end(diagnosis: Diagnosis, module: Module, cell: Cell, assignment: 
     """Returns what the layout asks of a cell at the last time."""
     part = diagnosis.layout.part_at(cell, ("mirror", "out"))
     if part is None:
-        return Wanted(False, "the layout has no `out`, `waste` or mirror there, so the cell is to be dead at the end", None)
+        return Wanted(False, "the layout has no `out`, `waste` or mirror there, so the cell is to be dead at the end",
+                      None)
     text = diagnosis.document.line(part.line)
     if part.kind == "mirror":
         return Wanted(True, f"a mirror is there (line {part.line}, `{text}`)", part.line, text)
     value = wire_value(diagnosis, module, part.name or "", assignment)
-    return Wanted(bool(value), f"line {part.line} (`{text}`) asks for the value of `{part.name}`, which is {value} here", part.line, text)
+    return Wanted(bool(value),
+                  f"line {part.line} (`{text}`) asks for the value of `{part.name}`, which is {value} here", part.line,
+                  text)
 
 
 def occurrence_words(diagnosis: Diagnosis, occurrence: Occurrence, names: str) -> str:
@@ -102,7 +105,8 @@ def occurrence_words(diagnosis: Diagnosis, occurrence: Occurrence, names: str) -
     if not occurrence.inputs:
         return "This occurs whatever the inputs are."
     example = f"This can occur, for example with the inputs {assignment_words(occurrence.inputs)}"
-    return f"{example} ({occurrence.count} of {occurrence.total} choices of these inputs give it)." if occurrence.total else f"{example}."
+    return (f"{example} ({occurrence.count} of {occurrence.total} choices of these inputs give it)." if occurrence.total
+            else f"{example}.")
 
 
 def explain_local(diagnosis: Diagnosis, finding: Finding) -> Entry:
@@ -119,8 +123,10 @@ def explain_local(diagnosis: Diagnosis, finding: Finding) -> Entry:
         f"Module {module.number} (line {module.line}, box {module.box}) was run by itself with {names}.",
         f"At time {time}{last} the cell {shown(cell)} is {found} and should be {want}: {wanted.why}.",
         occurrence_words(diagnosis, occurrence, names)], line=wanted.line)
-    entry.facts = {"module": module.number, "module_line": module.line, "kind": finding.values["kind"], "time": time, "cell": list(cell),
-                   "assignment": values, "found": found, "wanted": want, "occurs": occurrence.occurs.json, "inputs": occurrence.inputs,
+    entry.facts = {"module": module.number, "module_line": module.line, "kind": finding.values["kind"], "time": time,
+                   "cell": list(cell),
+                   "assignment": values, "found": found, "wanted": want, "occurs": occurrence.occurs.json,
+                   "inputs": occurrence.inputs,
                    "text": wanted.text, "box": [module.box.x, module.box.y, module.box.width, module.box.height]}
     if diagnosis.detailed is not None and finding.text not in diagnosis.detailed:
         return entry
@@ -139,7 +145,8 @@ def explain_local(diagnosis: Diagnosis, finding: Finding) -> Entry:
 
 
 def add_never_occurs(diagnosis: Diagnosis, module: Module, entry: Entry) -> None:
-    """Adds the cause of a fault under an assignment that never occurs: the cuts, or a fault under assignments that do occur."""
+    """Adds the cause of a fault under an assignment that never occurs: the cuts, or a fault under assignments that do
+    occur."""
     fault = diagnosis.occurring_fault(module)
     if fault is None:
         entry.cause = "never_occurs"
@@ -147,7 +154,8 @@ def add_never_occurs(diagnosis: Diagnosis, module: Module, entry: Entry) -> None
         return
     names = assignment_words(module.assignment_names(fault.assignment))
     last = ", the last time," if fault.kind == "end" else ""
-    entry.what.append(f"Under values that do occur the module has a fault too: with {names}, at time {fault.time}{last} at the cell "
+    entry.what.append(f"Under values that do occur the module has a fault too: with {names}, at time "
+                      f"{fault.time}{last} at the cell "
                       f"{shown((fault.x, fault.y))}.")
     entry.facts["fault_that_occurs"] = {"kind": fault.kind, "time": fault.time, "cell": [fault.x, fault.y],
                                         "assignment": module.assignment_names(fault.assignment)}
@@ -164,15 +172,18 @@ def add_cause(diagnosis: Diagnosis, module: Module, finding: Finding, entry: Ent
         add_difference(diagnosis, module, entry, difference)
     elif diagnosis.layout.is_rim(cell) and finding.values["kind"] == "edge":
         entry.cause = "rim"
-        entry.what.append("The run of the whole layout has the cell live then too. No certificate allows that: balls and mirrors keep one cell "
+        entry.what.append("The run of the whole layout has the cell live then too. No certificate allows that: balls "
+                          "and mirrors keep one cell "
                           "away from the outermost cells of the layout.")
     elif finding.values["kind"] == "end":
         entry.cause = "layout"
-        entry.what.append("The run of the whole layout ends so too with these inputs: no certificate gives this layout a yes.")
+        entry.what.append("The run of the whole layout ends so too with these inputs: no certificate gives this layout "
+                          "a yes.")
         entry.what += signal_words(diagnosis, diagnosis.signal_of(cell, time), "the cell")
     else:
         entry.cause = "line"
-        entry.what.append("The run of the whole layout has the cell so too: the line of the certificate is wrong or missing.")
+        entry.what.append("The run of the whole layout has the cell so too: the line of the certificate is wrong or "
+                          "missing.")
         entry.what += signal_words(diagnosis, diagnosis.signal_of(cell, time), "the cell")
 
 
@@ -180,8 +191,10 @@ def add_difference(diagnosis: Diagnosis, module: Module, entry: Entry, differenc
     """Adds where a module's run leaves the whole one, and the cells of its halo that it does not hear so."""
     entry.cause = "not_heard"
     entry.facts["differs"] = {"time": difference.time, "cell": list(difference.cell)}
-    entry.what.append(f"In the run of the whole layout it is not so. The two runs first differ at time {difference.time}, at "
-                      f"{shown(difference.cell)}: what comes in over the border is not told to the module, or told wrongly.")
+    entry.what.append("In the run of the whole layout it is not so. The two runs first differ at time "
+                      f"{difference.time}, at "
+                      f"{shown(difference.cell)}: what comes in over the border is not told to the module, or told "
+                      "wrongly.")
     for cell, is_live in difference.unheard[:3]:
         entry.what += unheard_words(diagnosis, module, cell, difference.heard_time, is_live)
 
@@ -194,7 +207,8 @@ def unheard_words(diagnosis: Diagnosis, module: Module, cell: Cell, time: int, i
     kind, teller = ("halo", module) if certificate.version == 1 else ("edge", owner)
     line = teller.line_at(kind, time, cell)
     state = "live" if is_live else "dead"
-    against = f"against line {line.line} (`{line}`)" if line else f"and module {teller.number} has no `{kind}` line for it"
+    against = (f"against line {line.line} (`{line}`)" if line
+               else f"and module {teller.number} has no `{kind}` line for it")
     return [f"At time {time} the cell {shown(cell)} of module {owner.number} is {state} in the whole run, {against}.",
             *signal_words(diagnosis, diagnosis.signal_of(cell, time), "it")]
 
@@ -202,7 +216,8 @@ def unheard_words(diagnosis: Diagnosis, module: Module, cell: Cell, time: int, i
 def signal_words(diagnosis: Diagnosis, signal: Signal, cell: str) -> list[str]:
     """Returns which wire a cell has the values of, in words: a wire, none, or not found out."""
     if signal.known is Truth.UNKNOWN:
-        return [f"Which wire {cell} carries then was not found out: the whole run is too long, or leaves the rectangle."]
+        return [
+            f"Which wire {cell} carries then was not found out: the whole run is too long, or leaves the rectangle."]
     scope = "" if diagnosis.values.is_all else f" {diagnosis.scope}"
     if signal.known is Truth.NO:
         return [f"No wire of the circuit is true in just the choices of the inputs in which {cell} is live then."]
@@ -216,7 +231,8 @@ def mirror_note(diagnosis: Diagnosis, cell: Cell) -> list[str]:
     part = diagnosis.layout.part_at(cell, ("mirror",))
     if part is None or stays(part):
         return []
-    return [f"The cell is of the mirror of line {part.line} (`{diagnosis.document.line(part.line)}`), which by itself does not stay as it is."]
+    return [f"The cell is of the mirror of line {part.line} (`{diagnosis.document.line(part.line)}`), which by itself "
+            "does not stay as it is."]
 
 
 def explain_keep(diagnosis: Diagnosis, finding: Finding) -> Entry:
@@ -228,14 +244,18 @@ def explain_keep(diagnosis: Diagnosis, finding: Finding) -> Entry:
     ins = {name: wire_value(diagnosis, module, name, assignment) for name in gate.ins}
     keeps = module.keeps.get(gate.number)
     entry = Entry(finding.text, True, [
-        f"Module {module.number} keeps the inverse gate {gate.number} (`{gate.word}`, line {gate.line}) by line {keeps}.",
-        f"With {assignment_words(values)} that gate is fed {assignment_words(ins)}, and it has no row for these values.",
+        f"Module {module.number} keeps the inverse gate {gate.number} (`{gate.word}`, line {gate.line}) "
+        f"by line {keeps}.",
+        f"With {assignment_words(values)} that gate is fed {assignment_words(ins)}, "
+        "and it has no row for these values.",
         occurrence_words(diagnosis, occurrence, assignment_words(values))], line=keeps)
-    entry.facts = {"module": module.number, "gate": gate.number, "assignment": values, "fed": ins, "occurs": occurrence.occurs.json,
+    entry.facts = {"module": module.number, "gate": gate.number, "assignment": values, "fed": ins,
+                   "occurs": occurrence.occurs.json,
                    "inputs": occurrence.inputs}
     if occurrence.occurs is Truth.YES:
         entry.cause = "circuit"
-        entry.what.append(f"So the circuit is wrong: it feeds gate {gate.number} these values. `bbmcheck value` answers `undefined {gate.number}`.")
+        entry.what.append(f"So the circuit is wrong: it feeds gate {gate.number} these values. `bbmcheck value` "
+                          f"answers `undefined {gate.number}`.")
     elif occurrence.occurs is Truth.NO:
         entry.cause = "never_occurs"
     else:
@@ -245,7 +265,8 @@ def explain_keep(diagnosis: Diagnosis, finding: Finding) -> Entry:
 
 def said_words(line: BorderLine | None, kind: str, module: Module) -> str:
     """Returns what a line about a border says."""
-    return f"line {line.line} of module {module.number} says `{line}`" if line else f"module {module.number} has no `{kind}` line for it"
+    return (f"line {line.line} of module {module.number} says `{line}`" if line
+            else f"module {module.number} has no `{kind}` line for it")
 
 
 def explain_border(diagnosis: Diagnosis, finding: Finding) -> Entry:
@@ -256,7 +277,8 @@ def explain_border(diagnosis: Diagnosis, finding: Finding) -> Entry:
     assert owner is not None
     halo, edge = module.line_at("halo", time, cell), owner.line_at("edge", time, cell)
     entry = Entry(finding.text, True, [
-        f"At time {time} modules {module.number} and {owner.number} say different things of the cell {shown(cell)} on their border: "
+        f"At time {time} modules {module.number} and {owner.number} say different things of the cell {shown(cell)} on "
+        "their border: "
         f"{said_words(halo, 'halo', module)}, and {said_words(edge, 'edge', owner)}."],
         line=halo.line if halo else edge.line if edge else None, cause="border")
     entry.facts = {"module": module.number, "owner": owner.number, "time": time, "cell": list(cell),

@@ -14,7 +14,8 @@ from ..texts.skimming import head_of
 from .certificate_edits import CertificateEditor
 from .diagnosis import Diagnosis, Truth
 from .edits import Edit, EditError, applied, edits_between
-from .layout_changes import (Bench, Change, ball_changes, circuit_changes, drop_changes, exchange_changes, larger_changes, mirror_changes,
+from .layout_changes import (Bench, Change, ball_changes, circuit_changes, drop_changes, exchange_changes,
+                             larger_changes, mirror_changes,
                              missing_port_changes, move_changes, port_changes, start_changes, step_changes, wrong_cells)
 from .mirror_changes import mirror_place_changes
 from .refusal_edits import refusal_edits
@@ -68,7 +69,8 @@ def step_words(text: str, edits: list[Edit], remakes: bool) -> list[str]:
         words.append(f"And {len(edits) - MAX_EDITS} more edits: `bbmlab explain --fix` writes the whole text.")
     if remakes:
         verb = "make the certificate again" if head_of(text) != text else "add a certificate"
-        words.append(f"Then {verb}: `bbmlab certify` does." if edits else f"{verb.capitalize()}: `bbmlab certify` does.")
+        words.append(f"Then {verb}: `bbmlab certify` does." if edits
+                     else f"{verb.capitalize()}: `bbmlab certify` does.")
     return words
 
 
@@ -87,7 +89,8 @@ class Fixer:
     # ---- the whole text
 
     def find(self) -> Fix | None:
-        """Returns a fix of the whole text: rounds of edits, up to a yes or to the last text that was better; None if there is none."""
+        """Returns a fix of the whole text: rounds of edits, up to a yes or to the last text that was better; None if
+        there is none."""
         steps = [Step(self.text, self.report)]
         while len(steps) <= MAX_ROUNDS and not is_yes(steps[-1].report) and not self.trial.is_over():
             step = self.improved(steps[-1])
@@ -126,7 +129,8 @@ class Fixer:
     # ---- refusals
 
     def accepted(self, step: Step, document: Document) -> Step | None:
-        """Returns a text that is taken, or one that is refused at a later line: a yes if there is one, else one with the fewest faults."""
+        """Returns a text that is taken, or one that is refused at a later line: a yes if there is one, else one with
+        the fewest faults."""
         if document.refusal is None or step.report.refused != (document.refusal.line, document.refusal.code):
             return None
         changed = self.changed_head(step)
@@ -172,7 +176,8 @@ class Fixer:
         return None if is_right or bench.is_over() else self.changed_design(step, head)
 
     def certified_step(self, step: Step) -> Step | None:
-        """Returns a text whose certificate was made by the lab, if circuit and layout are taken; if that fails, with a changed design."""
+        """Returns a text whose certificate was made by the lab, if circuit and layout are taken; if that fails, with a
+        changed design."""
         head = read_document(head_of(step.text), "design")
         if head.refusal:
             return None
@@ -193,7 +198,8 @@ class Fixer:
     # ---- the certificate
 
     def edited(self, step: Step, diagnosis: Diagnosis) -> Step | None:
-        """Returns a text with an edited certificate, or one that the lab made again: a yes if there is one, else one that is better."""
+        """Returns a text with an edited certificate, or one that the lab made again: a yes if there is one, else one
+        that is better."""
         editor, best = self.editor_of(diagnosis), None
         for proposal in editor.for_all(step.report.faults):
             self.kinds[proposal.kind] = None
@@ -213,7 +219,10 @@ class Fixer:
         return made if made and removes(step.report, made.report, None) else None
 
     def editor_of(self, diagnosis: Diagnosis) -> CertificateEditor:
-        """Returns the editor of a certificate. That of the text itself is kept, since it compares all borders with a run."""
+        """Returns the editor of a certificate.
+
+        That of the text itself is kept, since it compares all borders with a run.
+        """
         if diagnosis is not self.own:
             return CertificateEditor(diagnosis, self.trial.seconds_left())
         if self._editor is None:
@@ -258,10 +267,12 @@ class Fixer:
     def bench(self, step: Step, document: Document) -> Bench:
         """Returns what changes of a design are tried on."""
         assert document.circuit and document.layout
-        return Bench(step.text, document.circuit, document.layout, max(0.1, 0.8 * self.trial.seconds_left()), self.near(step.report))
+        return Bench(step.text, document.circuit, document.layout, max(0.1, 0.8 * self.trial.seconds_left()),
+                     self.near(step.report))
 
     def changed_design(self, step: Step, document: Document) -> Step | None:
-        """Returns a text with a changed layout or circuit that gets a yes, with its certificate or with one that the lab makes."""
+        """Returns a text with a changed layout or circuit that gets a yes, with its certificate or with one that the
+        lab makes."""
         bench = self.bench(step, document)
         has_certificate = head_of(step.text) != step.text
         kept: list[tuple[Change, str]] = []
@@ -284,7 +295,8 @@ class Fixer:
         return None
 
     def other_texts(self, bench: Bench, text: str, found: str) -> tuple[str, ...]:
-        """Returns other texts with changes of names, ports and gates that get a yes too: which one is meant only the designer knows."""
+        """Returns other texts with changes of names, ports and gates that get a yes too: which one is meant only the
+        designer knows."""
         texts: list[str] = []
         for change in chain(exchange_changes(bench), port_changes(bench, None, True), circuit_changes(bench)):
             if len(texts) == MAX_OTHERS or self.trial.is_over() or bench.is_over():
@@ -297,7 +309,8 @@ class Fixer:
     # ---- one line of the report
 
     def find_for(self, diagnosis: Diagnosis, finding: Finding) -> Fix | None:
-        """Returns a fix of one line of the report: after its edits the line is gone, and nothing new is against the text."""
+        """Returns a fix of one line of the report: after its edits the line is gone, and nothing new is against the
+        text."""
         if self.trial.is_over():
             return None
         self.own = diagnosis
@@ -319,9 +332,12 @@ def design_changes(bench: Bench, kinds: dict[str, None]) -> Iterator[Change]:
         ("mirrors at legal places", mirror_place_changes(bench)), ("other names of outputs", exchange_changes(bench)),
         ("outputs that take each other's cells", port_changes(bench, None, True)),
         ("outputs at most 2 cells away", port_changes(bench, 2)), ("another number of steps", step_changes(bench)),
-        ("one gate line", circuit_changes(bench)), ("`in` and `ball` lines from the run backwards", start_changes(bench)),
-        ("one more mirror", mirror_changes(bench, True)), ("ports moved by at most 2 cells", move_changes(bench, ("in", "ball"))),
-        ("a mirror moved by at most 2 cells", move_changes(bench, ("mirror",))), ("a part left out", drop_changes(bench)),
+        ("one gate line", circuit_changes(bench)),
+        ("`in` and `ball` lines from the run backwards", start_changes(bench)),
+        ("one more mirror", mirror_changes(bench, True)),
+        ("ports moved by at most 2 cells", move_changes(bench, ("in", "ball"))),
+        ("a mirror moved by at most 2 cells", move_changes(bench, ("mirror",))),
+        ("a part left out", drop_changes(bench)),
         ("one more `ball`", ball_changes(bench)), ("outputs at any cell, and `waste`", port_changes(bench, None)),
         ("a larger layout", larger_changes(bench)), ("one more mirror", mirror_changes(bench, False))]
     if bench.near and bench.layout.is_rim(bench.near):
@@ -337,7 +353,8 @@ def outcome_words(before: Report, fix: Fix) -> str:
     made = "the new certificate" if fix.remakes else ""
     asked = f"With {' and '.join(part for part in (edited, made) if part)} {fix.judge}"
     if is_yes(fix.report):
-        return f"{asked} says yes." if fix.judge == "the program" else f"{asked} finds no fault; only the program gives a verdict."
+        return (f"{asked} says yes." if fix.judge == "the program"
+                else f"{asked} finds no fault; only the program gives a verdict.")
     count = len(fix.report.faults)
     left = f"{count} line{'s' if count != 1 else ''} of the report {'are' if count != 1 else 'is'} left"
     if before.refused:

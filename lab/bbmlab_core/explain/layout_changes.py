@@ -1,7 +1,8 @@
-"""Changes of a design that are tried where its whole run does not end as the layout asks: a few lines of the layout or of the circuit.
+"""Changes of a design that are tried where its whole run does not end as the layout asks: a few lines of the layout or
+of the circuit.
 
-Each kind of change is a generator. A change that passes `Bench.holds` ends as the layout asks, in the choices of the inputs that were
-tried; the program decides.
+Each kind of change is a generator. A change that passes `Bench.holds` ends as the layout asks, in the choices of the
+inputs that were tried; the program decides.
 """
 
 from dataclasses import dataclass, replace as with_fields
@@ -54,7 +55,8 @@ def few_values(circuit: Circuit) -> Valuation:
 
 def wrong_cells(circuit_values: Valuation, layout: Layout, live: dict[int, Table]) -> dict[int, Table]:
     """Returns the cells that do not end as the layout asks, with the columns in which they do not."""
-    wanted = {key_of(cell): table for cell, table in end_tables(layout, circuit_values.tables, circuit_values.full).items()}
+    wanted = {key_of(cell): table for cell,
+              table in end_tables(layout, circuit_values.tables, circuit_values.full).items()}
     wrong = {}
     for key in wanted.keys() | live.keys():
         table = wanted.get(key, 0)
@@ -67,7 +69,8 @@ def wrong_cells(circuit_values: Valuation, layout: Layout, live: dict[int, Table
 class Bench:
     """A design, its run under few choices of the inputs, and the changes that are tried on it."""
 
-    def __init__(self, text: str, circuit: Circuit, layout: Layout, seconds: float = 20.0, near: Cell | None = None) -> None:
+    def __init__(self, text: str, circuit: Circuit, layout: Layout, seconds: float = 20.0,
+                 near: Cell | None = None) -> None:
         self.circuit, self.layout, self.lines, self.limits = circuit, layout, text.split("\n"), limits_of(text)
         self.end = processor_seconds() + seconds
         # The cell at which the first fault was found; what lies near it is tried first.
@@ -84,7 +87,8 @@ class Bench:
         return processor_seconds() > self.end or self.layout.steps > MAX_STEPS
 
     def final(self, layout: Layout, values: Valuation, notes: bool = False) -> dict[int, Table] | None:
-        """Returns the live cells after the last step, or None if a step leaves the rectangle or the seconds are used up."""
+        """Returns the live cells after the last step, or None if a step leaves the rectangle or the seconds are used
+        up."""
         run = WholeRun(layout, values.tables, values.full)
         while run.time < layout.steps:
             if not run.step() or self.is_over():
@@ -95,7 +99,8 @@ class Bench:
         return run.field.live
 
     def holds(self, change: Change) -> bool:
-        """Whether the changed design ends as its layout asks, first in few choices of the inputs, then in all if they are at most 4096."""
+        """Whether the changed design ends as its layout asks, first in few choices of the inputs, then in all if they
+        are at most 4096."""
         self.tried += 1
         for all_of_them in (False, True):
             if change.circuit is self.circuit:
@@ -123,11 +128,13 @@ class Bench:
             cells = [cell for part in new if part.kind in kinds for cell in part.cells()]
             if len(set(cells)) < len(cells) or any(cell in taken and taken[cell] not in removed for cell in cells):
                 return False
-        return all(min(part.x, part.y) >= 0 and part.x + part.width <= self.layout.width and part.y + part.height <= self.layout.height
+        return all(min(part.x, part.y) >= 0 and part.x + part.width <= self.layout.width
+                   and part.y + part.height <= self.layout.height
                    for part in new)
 
     def changed(self, swaps: dict[Part, Part], more: Iterable[Part] = (), gone: Iterable[Part] = ()) -> Change | None:
-        """Returns the change that moves parts, adds some and drops some; None if cells would be taken twice or lie outside."""
+        """Returns the change that moves parts, adds some and drops some; None if cells would be taken twice or lie
+        outside."""
         dropped, added = set(gone), list(more)
         if not self.is_possible([*swaps.values(), *added], dropped | swaps.keys()):
             return None
@@ -139,13 +146,15 @@ class Bench:
 
     @cached_property
     def places(self) -> list[Cell]:
-        """The cells at which something is likely wrong: where the run and the run backwards from the wanted end are nearest to each other."""
+        """The cells at which something is likely wrong: where the run and the run backwards from the wanted end are
+        nearest to each other."""
         return [] if self.is_over() else meeting_places(self.layout, self.values)
 
     def distance(self, part: Part) -> int:
         """Returns how far a part lies from the places at which something is likely wrong, or from the first fault."""
         cells = self.places or ([self.near] if self.near else [])
-        return min((max(part.x - cell[0], cell[0] - part.x - part.width + 1, part.y - cell[1], cell[1] - part.y - part.height + 1)
+        return min((max(part.x - cell[0], cell[0] - part.x - part.width + 1, part.y - cell[1],
+                        cell[1] - part.y - part.height + 1)
                     for cell in cells), default=0)
 
 
@@ -157,7 +166,8 @@ def moved(part: Part, dx: int, dy: int) -> Part:
 # ---- the circuit and the ports, by the run that there is
 
 def circuit_changes(bench: Bench) -> Iterator[Change]:
-    """Yields changes of one gate line: two outputs or two inputs exchanged, the other bit of a source, `fredkin` for `cswap`."""
+    """Yields changes of one gate line: two outputs or two inputs exchanged, the other bit of a source, `fredkin` for
+    `cswap`."""
     for gate in bench.circuit.gates:
         texts = [gate_text(gate, ins, outs, word, bit) for word, bit, ins, outs in gate_forms(gate)]
         for text, (word, bit, ins, outs) in zip(texts, gate_forms(gate)):
@@ -199,7 +209,8 @@ def with_gate(circuit: Circuit, gate: Gate) -> Circuit:
 
 
 def port_changes(bench: Bench, reach: int | None, is_exchange: bool = False) -> Iterator[Change]:
-    """Yields the change that puts each wrong `out` where its output is at the end, at most `reach` cells away, and `waste` for what is left.
+    """Yields the change that puts each wrong `out` where its output is at the end, at most `reach` cells away, and
+    `waste` for what is left.
 
     If `is_exchange`, the wrong `out` lines only take each other's cells.
     """
@@ -213,7 +224,8 @@ def port_changes(bench: Bench, reach: int | None, is_exchange: bool = False) -> 
     swaps: dict[Part, Part] = {}
     for part in outs:
         table = bench.values.tables[part.name or ""]
-        cells = [cell for cell, other in places if other == table and cell not in taken and (not is_exchange or cell in own)
+        cells = [cell for cell, other in places if other == table and cell not in taken
+                 and (not is_exchange or cell in own)
                  and (reach is None or max(abs(cell[0] - part.x), abs(cell[1] - part.y)) <= reach)]
         cell = min(cells, key=lambda place: (abs(place[0] - part.x) + abs(place[1] - part.y)), default=None)
         if cell is None:
@@ -222,7 +234,8 @@ def port_changes(bench: Bench, reach: int | None, is_exchange: bool = False) -> 
         swaps[part] = moved(part, cell[0] - part.x, cell[1] - part.y)
     covered = {part.cell for part in bench.layout.of_kind("waste")}
     freed = [part for part in bench.layout.of_kind("waste") if part.cell in {new.cell for new in swaps.values()}]
-    wastes = [left_over(bench, cell, table) for cell, table in places if key_of(cell) in wrong and cell not in taken | covered]
+    wastes = [left_over(bench, cell, table) for cell, table in places if key_of(cell) in wrong
+              and cell not in taken | covered]
     if len(swaps) + len(wastes) + len(freed) <= MAX_LINES and (swaps or wastes):
         change = bench.changed(swaps, wastes, freed)
         if change:
@@ -231,20 +244,23 @@ def port_changes(bench: Bench, reach: int | None, is_exchange: bool = False) -> 
 
 def left_over(bench: Bench, cell: Cell, table: Table) -> Part:
     """Returns the part for a ball that no line asks for: the second cell of an `out`, or else `waste`."""
-    name = next((part.name for part in bench.layout.of_kind("out") if abs(part.x - cell[0]) == abs(part.y - cell[1]) == 2
+    name = next((part.name for part in bench.layout.of_kind("out")
+                 if abs(part.x - cell[0]) == abs(part.y - cell[1]) == 2
                  and bench.values.tables[part.name or ""] == table), None)
     return Part("waste" if name is None else "out", name, *cell, 1, 1, 0)
 
 
 def missing_port_changes(bench: Bench) -> Iterator[Change]:
-    """Yields the change that gives each output without a cell the live cells that have its value at the end and that no line asks for."""
+    """Yields the change that gives each output without a cell the live cells that have its value at the end and that no
+    line asks for."""
     if bench.last is None:
         return
     wrong = wrong_cells(bench.values, bench.layout, bench.last)
     named = {part.name for part in bench.layout.of_kind("out")}
     new: list[Part] = []
     for name in (name for name in bench.circuit.outputs if name not in named):
-        cells = [cell_of(key) for key in sorted(wrong) if bench.last.get(key) == bench.values.tables[name] and bench.layout.has(cell_of(key))]
+        cells = [cell_of(key) for key in sorted(wrong) if bench.last.get(key) == bench.values.tables[name]
+                 and bench.layout.has(cell_of(key))]
         new += [Part("out", name, *cell, 1, 1, 0) for cell in cells if cell not in {part.cell for part in new}]
     if new and len(new) <= MAX_LINES:
         change = bench.changed({}, new)
@@ -261,7 +277,8 @@ def exchange_changes(bench: Bench) -> Iterator[Change]:
     names = sorted({part.name or "" for part in outs if key_of(part.cell) in wrong})
     for index, one in enumerate(names):
         for two in names[index + 1:]:
-            swaps = {part: with_fields(part, name=two if part.name == one else one) for part in outs if part.name in (one, two)}
+            swaps = {part: with_fields(part, name=two if part.name == one else one) for part in outs
+                     if part.name in (one, two)}
             if len(swaps) <= MAX_LINES:
                 change = bench.changed(swaps)
                 if change:
@@ -291,16 +308,19 @@ def step_changes(bench: Bench) -> Iterator[Change]:
 
 
 def larger_changes(bench: Bench) -> Iterator[Change]:
-    """Yields the layout with two more cells on each side, if something is live on its rim at the start, at the end or between."""
+    """Yields the layout with two more cells on each side, if something is live on its rim at the start, at the end or
+    between."""
     layout = bench.layout
-    if not any(layout.is_rim(cell_of(key)) for key in bench.touched) and not any(layout.is_rim(cell) for cell in bench.taken[0]):
+    if not any(layout.is_rim(cell_of(key)) for key in bench.touched) and not any(layout.is_rim(cell)
+                                                                                 for cell in bench.taken[0]):
         return
     if max(layout.width, layout.height) + 4 > bench.limits.max_side:
         return
     header = next(number for number, line in enumerate(bench.lines, 1) if line.startswith("layout "))
     parts = [moved(part, 2, 2) for part in layout.parts]
     wide = with_fields(layout, width=layout.width + 4, height=layout.height + 4, parts=parts)
-    edits = [replace(header, f"layout {wide.width} {wide.height} {wide.steps}"), *(replace(part.line, part_text(part)) for part in parts)]
+    edits = [replace(header, f"layout {wide.width} {wide.height} {wide.steps}"),
+             *(replace(part.line, part_text(part)) for part in parts)]
     yield Change(tuple(edits), bench.circuit, wide)
 
 
@@ -315,7 +335,8 @@ def start_changes(bench: Bench) -> Iterator[Change]:
     parts = {key_of(part.cell): part for part in bench.layout.of_kind("in") + bench.layout.of_kind("ball")}
     full, mirrors = bench.values.full, {key_of(cell) for cell in bench.layout.mirror_cells()}
     own = {key: full if part.kind == "ball" else bench.values.tables[part.name or ""] for key, part in parts.items()}
-    differing = [key for key in start.keys() | own.keys() if key not in mirrors and start.get(key, 0) != own.get(key, 0)]
+    differing = [key for key in start.keys() | own.keys() if key not in mirrors
+                 and start.get(key, 0) != own.get(key, 0)]
     if len(differing) > MAX_LINES:
         return
     names = {bench.values.tables[name]: name for name in reversed(bench.circuit.inputs)}
@@ -343,7 +364,8 @@ def paired_changes(bench: Bench, gone: list[Part], new: list[Part]) -> Iterator[
 
 
 def move_changes(bench: Bench, kinds: tuple[str, ...], reach: int = 2) -> Iterator[Change]:
-    """Yields moves of one part by at most `reach` cells, and of both cells of a ball of two cells together, those near the fault first."""
+    """Yields moves of one part by at most `reach` cells, and of both cells of a ball of two cells together, those near
+    the fault first."""
     parts = sorted((part for part in bench.layout.parts if part.kind in kinds), key=bench.distance)
     offsets = [(dx, dy) for dx in range(-reach, reach + 1) for dy in range(-reach, reach + 1) if dx or dy]
     offsets.sort(key=lambda offset: abs(offset[0]) + abs(offset[1]))
@@ -369,14 +391,16 @@ def drop_changes(bench: Bench) -> Iterator[Change]:
     ports = [part for part in bench.layout.parts if part.kind in ("in", "out")]
     for part in sorted(bench.layout.parts, key=bench.distance):
         is_port = part.kind in ("in", "out")
-        if part.kind in ("ball", "mirror") or is_port and sum((other.kind, other.name) == (part.kind, part.name) for other in ports) > 1:
+        if part.kind in ("ball", "mirror") or is_port and sum((other.kind, other.name) == (part.kind, part.name)
+                                                              for other in ports) > 1:
             change = bench.changed({}, (), [part])
             if change:
                 yield change
 
 
 def ball_changes(bench: Bench) -> Iterator[Change]:
-    """Yields the layout with one more `ball`: first the second cell of a ball of two cells, then each cell if they are few."""
+    """Yields the layout with one more `ball`: first the second cell of a ball of two cells, then each cell if they are
+    few."""
     parts = sorted(bench.layout.of_kind("ball") + bench.layout.of_kind("in"), key=bench.distance)
     cells = [(part.x + dx, part.y + dy) for part in parts for dx in (-2, 2) for dy in (-2, 2)]
     if bench.layout.width * bench.layout.height <= 1600:
@@ -392,10 +416,12 @@ def mirror_changes(bench: Bench, is_near: bool) -> Iterator[Change]:
 
     If `is_near`, only places near those at which something is likely wrong; else all, in the order in which balls come.
     """
-    sizes = dict.fromkeys([(part.width, part.height) for part in bench.layout.of_kind("mirror")] + [(2, 2), (2, 4), (4, 2)])
+    sizes = dict.fromkeys([(part.width, part.height) for part in bench.layout.of_kind("mirror")]
+                          + [(2, 2), (2, 4), (4, 2)])
     keys = sorted(bench.touched, key=lambda key: bench.touched[key])
     if is_near:
-        keys = [key_of((x + dx, y + dy)) for x, y in bench.places for dy in range(-NEAR, NEAR + 1) for dx in range(-NEAR, NEAR + 1)]
+        keys = [key_of((x + dx, y + dy)) for x, y in bench.places for dy in range(-NEAR, NEAR + 1)
+                for dx in range(-NEAR, NEAR + 1)]
     seen = set()
     for x, y in map(cell_of, keys):
         for width, height in sizes:

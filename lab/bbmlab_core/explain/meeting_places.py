@@ -1,7 +1,7 @@
 """Where a layout is likely wrong: the run from the start and the run backwards from the wanted end are compared.
 
-Each step of the automaton is its own inverse (Margolus 1984), so the wanted end leads back to a start. If one mirror is missing or wrong,
-the two runs agree nearly everywhere at the time at which a ball should be at that mirror.
+Each step of the automaton is its own inverse (Margolus 1984), so the wanted end leads back to a start. If one mirror is
+missing or wrong, the two runs agree nearly everywhere at the time at which a ball should be at that mirror.
 """
 
 from ..physics.simulation import Field, Table, cell_of, end_tables, key_of, start_tables
@@ -18,7 +18,8 @@ State = dict[int, Table]
 def end_before(layout: Layout, values: Valuation, last: State | None) -> State:
     """Returns the end that the layout asks for; waste cells are as the run left them."""
     wanted = end_tables(layout, values.tables, values.full)
-    return {key_of(cell): (last or {}).get(key_of(cell), 0) if table is None else table for cell, table in wanted.items()}
+    return {key_of(cell): (last or {}).get(key_of(cell), 0) if table is None else table for cell,
+            table in wanted.items()}
 
 
 def start_before(layout: Layout, values: Valuation, last: State | None) -> State:
@@ -31,7 +32,10 @@ def start_before(layout: Layout, values: Valuation, last: State | None) -> State
 
 
 def moving_states(layout: Layout, values: Valuation) -> list[State] | None:
-    """Returns the live cells at each time, without mirror cells that never change. A ball that leaves the rectangle flies on."""
+    """Returns the live cells at each time, without mirror cells that never change.
+
+    A ball that leaves the rectangle flies on.
+    """
     field, touched = Field(start_tables(layout, values.tables, values.full)), set()
     while field.time < layout.steps:
         field.step()
@@ -49,9 +53,11 @@ def moving_states(layout: Layout, values: Valuation) -> list[State] | None:
 
 
 def meeting_places(layout: Layout, values: Valuation) -> list[Cell]:
-    """Returns the cells by which the two runs differ at the times, and under the inputs, at which they differ the least.
+    """Returns the cells by which the two runs differ at the times, and under the inputs, at which they differ the
+    least.
 
-    A choice of inputs under which they differ the least for a short time comes first: a difference that stays is of a ball elsewhere.
+    A choice of inputs under which they differ the least for a short time comes first: a difference that stays is of a
+    ball elsewhere.
     """
     states = moving_states(layout, values)
     if states is None:
@@ -76,7 +82,8 @@ def meeting_places(layout: Layout, values: Valuation) -> list[Cell]:
 
 
 def differences(one: State, two: State, mirrors: set[int]) -> dict[int, list[int]]:
-    """Returns the cells in which two states differ, by the choice of the inputs; mirror cells that do not move are left out."""
+    """Returns the cells in which two states differ, by the choice of the inputs; mirror cells that do not move are left
+    out."""
     columns: dict[int, list[int]] = {}
     for key in one.keys() | two.keys():
         table = 0 if key in mirrors and key not in one else one.get(key, 0) ^ two.get(key, 0)

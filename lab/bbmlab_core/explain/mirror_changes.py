@@ -12,7 +12,8 @@ PLACES = 6
 
 
 def mirror_place_changes(bench: Bench) -> Iterator[Change]:
-    """Yields the layout with each mirror that falls apart at a legal place next to it; a few of them together, then each by itself."""
+    """Yields the layout with each mirror that falls apart at a legal place next to it; a few of them together, then
+    each by itself."""
     fallen = sorted((mirror.part for mirror in falling_mirrors(bench.layout)), key=bench.distance)
     if not fallen:
         return
@@ -23,7 +24,8 @@ def mirror_place_changes(bench: Bench) -> Iterator[Change]:
             if change:
                 yield change
     for part in fallen:
-        for place in [*legal_places(part)[:PLACES], *(moved(part, dx, dy) for dy in (-1, 0, 1) for dx in (-1, 0, 1) if dx or dy)]:
+        for place in [*legal_places(part)[:PLACES],
+                      *(moved(part, dx, dy) for dy in (-1, 0, 1) for dx in (-1, 0, 1) if dx or dy)]:
             change = bench.changed({part: place})
             if change:
                 yield change

@@ -13,7 +13,8 @@ from .edits import Edit, add, delete, edits_between, place_in_module, replace
 Edits = tuple[Edit, ...]
 Finder = Callable[[Document, int, dict[str, Any]], Iterable[Edits]]
 # The arrows and signs that editors write for those of the formats, as their UTF-8 bytes read as Latin-1.
-SIGNS = {"\xe2\x86\x92": "->", "\xe2\x9f\xb6": "->", "\xe2\x87\x92": "->", "=>": "->", "\xe2\x80\x93>": "->", "\xe2\x88\x92>": "->",
+SIGNS = {"\xe2\x86\x92": "->", "\xe2\x9f\xb6": "->", "\xe2\x87\x92": "->", "=>": "->", "\xe2\x80\x93>": "->",
+         "\xe2\x88\x92>": "->",
          "\xe2\x80\x94>": "->", "\xc2\xa0": " ", "\xef\xbb\xbf": "", ",": " ", ";": " ", "\t": " ", "\r": ""}
 # The most names of near spelling, and the most lines that one fix changes in the same way.
 MAX_NEAR = 4
@@ -27,7 +28,8 @@ def cleaned(line: str) -> str:
 
 
 def shape_edits(document: Document, number: int, facts: dict[str, Any]) -> Iterator[Edits]:
-    """Yields edits for a line of no form: all lines with such signs cleaned, this one alone, a near keyword, the line left out."""
+    """Yields edits for a line of no form: all lines with such signs cleaned, this one alone, a near keyword, the line
+    left out."""
     lines = document.text.split("\n")
     forms, line = facts["forms"], cleaned(document.line(number))
     every = [(at, old, cleaned(old)) for at, old in enumerate(lines[:-1], 1)]
@@ -72,9 +74,11 @@ def consumed_edits(_document: Document, number: int, facts: dict[str, Any]) -> I
 
 
 def local_edits(lines: list[str], circuit: Circuit, first: int, local: Iterable[str], name: str) -> Iterator[Edit]:
-    """Yields lines by which a module comes to know a wire: the gate that makes it, if the module knows what it uses, and a cut."""
+    """Yields lines by which a module comes to know a wire: the gate that makes it, if the module knows what it uses,
+    and a cut."""
     gate = circuit.maker.get(name)
-    for text in ([f"use {gate.number}"] if gate and all(wire in set(local) for wire in gate.ins) else []) + [f"cut {name}"]:
+    for text in ([f"use {gate.number}"] if gate and all(wire in set(local) for wire in gate.ins)
+                 else []) + [f"cut {name}"]:
         yield add(place_in_module(lines, first, text), text)
 
 
@@ -119,12 +123,14 @@ def port_edits(document: Document, _number: int, facts: dict[str, Any]) -> Itera
 
 
 def heard_edits(document: Document, _number: int, facts: dict[str, Any]) -> Iterator[Edits]:
-    """Yields lines by which modules come to know the wires of the `edge` lines beside them, or the text without these lines."""
+    """Yields lines by which modules come to know the wires of the `edge` lines beside them, or the text without these
+    lines."""
     assert document.certificate and document.circuit
     lines = document.text.split("\n")
     wanted = dict.fromkeys((number, line.signal) for number, line, _ in facts["missing"])
     modules = document.certificate.modules
-    choices = [list(local_edits(lines, document.circuit, modules[number].line, modules[number].local, name)) for number, name in wanted]
+    choices = [list(local_edits(lines, document.circuit, modules[number].line, modules[number].local, name)) for number,
+               name in wanted]
     yield tuple(dict.fromkeys(choice[0] for choice in choices))
     yield tuple(dict.fromkeys(choice[-1] for choice in choices))
     yield tuple(dict.fromkeys(delete(line.line) for _, line, _ in facts["missing"]))
@@ -156,7 +162,8 @@ def place_edits(document: Document, number: int, facts: dict[str, Any]) -> Itera
     """Yields the line of a part at most 2 cells away, the nearest first, then with other numbers, then left out."""
     words = document.line(number).split(" ")
     at = 2 if words[0] in ("in", "out") else 1
-    steps = sorted(((dx, dy) for dx in range(-2, 3) for dy in range(-2, 3) if dx or dy), key=lambda step: abs(step[0]) + abs(step[1]))
+    steps = sorted(((dx, dy) for dx in range(-2, 3) for dy in range(-2, 3) if dx or dy),
+                   key=lambda step: abs(step[0]) + abs(step[1]))
     for dx, dy in steps:
         x, y = int(words[at]) + dx, int(words[at + 1]) + dy
         if min(x, y) >= 0:
@@ -216,11 +223,14 @@ FINDERS: dict[str, Finder] = {
     "shape": shape_edits, "kind_after_later_kind": left_out, "gate_not_rising": left_out, "border_not_rising": left_out,
     "before_first_module": left_out, "first_not_header": header_edits, "second_header": left_out,
     "wire_not_consumed": consumed_edits, "port_not_local": port_edits, "heard_not_local": heard_edits, "gap": gap_edits,
-    "no_module": no_module_edits, "wire_not_local": unknown_wire_edits, "use_input_not_local": many_wires_edits, "keep_not_used": left_out,
-    "wire_not_defined": name_edits, "wire_unknown": name_edits, "port_unknown": name_edits, "gate_unknown": number_edits,
+    "no_module": no_module_edits, "wire_not_local": unknown_wire_edits, "use_input_not_local": many_wires_edits,
+    "keep_not_used": left_out,
+    "wire_not_defined": name_edits, "wire_unknown": name_edits, "port_unknown": name_edits,
+    "gate_unknown": number_edits,
     "keep_not_inverse": number_edits, "wire_defined": left_out, "wire_consumed": consumer_edits, "cut_twice": left_out,
     "use_output_local": left_out, "border_place": number_edits, "box_odd": number_edits, "box_outside": number_edits,
-    "box_overlap": number_edits, "layout_side": limit_edits, "box_side": number_edits, "certificate_version": number_edits,
+    "box_overlap": number_edits, "layout_side": limit_edits, "box_side": number_edits,
+    "certificate_version": number_edits,
     "delay_limit": number_edits, "cell_outside": place_edits, "cell_taken": place_edits, "mirror_side": limit_edits,
     "layout_steps": limit_edits, "wire_count": limit_edits, "gate_count": limit_edits, "module_count": limit_edits,
     "cut_count": left_out, "text_ended": ended_edits, "line_not_ended": ended_edits, "text_goes_on": rest_edits,

@@ -1,4 +1,6 @@
-"""Trials of edited texts: the program is asked whether a text is taken and what its report is, within a number of tries and seconds."""
+"""Trials of edited texts: the program is asked whether a text is taken and what its report is, within a number of tries
+and seconds.
+"""
 
 from dataclasses import dataclass
 
@@ -19,7 +21,8 @@ MAX_OWN_STEPS = 50_000
 class Budget:
     """How many texts are tried, and for how many seconds of the processor, those of the program included.
 
-    If `is_of_search`, what was done before the search for fixes does not count: reading and explaining a large text takes long.
+    If `is_of_search`, what was done before the search for fixes does not count: reading and explaining a large text
+    takes long.
     """
 
     tries: int = 600
@@ -56,7 +59,8 @@ class Trial:
         return self.tries >= self.budget.tries or self.seconds_left() <= 0
 
     def report(self, text: str) -> Report | None:
-        """Returns the report of a text, or None if there is none: the budget is used up, or the program did not answer."""
+        """Returns the report of a text, or None if there is none: the budget is used up, or the program did not answer.
+        """
         if text not in self._known:
             if self.is_over():
                 return None
@@ -70,7 +74,8 @@ class Trial:
             return self.own_answer(text)
         try:
             # A second at least: a text that was made is worth an answer.
-            answer = ask(self.program, "check", text.encode("latin-1"), min(MAX_RUN_SECONDS, max(1.0, self.seconds_left())))
+            answer = ask(self.program, "check", text.encode("latin-1"),
+                         min(MAX_RUN_SECONDS, max(1.0, self.seconds_left())))
             report = parse_report(answer.output)
             return report if answer.status == STATUS_OF["refused" if report.refused else report.verdict] else None
         except (ProgramError, ProgramTimeout, ReportError):
@@ -96,14 +101,16 @@ def fault_times(report: Report) -> dict[int, int]:
 
 
 def others(report: Report) -> set[str]:
-    """Returns the lines against the text that are not about a module's own run, without the numbers that later edits move."""
+    """Returns the lines against the text that are not about a module's own run, without the numbers that later edits
+    move."""
     return {finding.text for finding in report.faults if finding.word != "local"}
 
 
 def removes(before: Report, after: Report | None, finding: Finding | None) -> bool:
     """Whether a fault is gone and nothing new is against the text: it is taken, and no module is worse off than before.
 
-    Without a finding, some fault is to be gone. A module is worse off if its own run has a fault that it did not have, or an earlier one.
+    Without a finding, some fault is to be gone. A module is worse off if its own run has a fault that it did not have,
+    or an earlier one.
     """
     if after is None or after.refused:
         return False

@@ -17,7 +17,8 @@ STATUS_OF = {"yes": 0, "no": 1, "refused": 3}
 class Result:
     """What came of one file. `detail` is the first reason against it.
 
-    `held`: it is from a receipt, and the program was not run. `is_fatal`: the program contradicts itself, so no more is to be checked.
+    `held`: it is from a receipt, and the program was not run. `is_fatal`: the program contradicts itself, so no more is
+    to be checked.
     """
 
     file: str

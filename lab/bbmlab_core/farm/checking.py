@@ -1,4 +1,7 @@
-"""`bbmlab check`: many texts through the program at once, by processes. Each result is passed on as soon as it is there."""
+"""`bbmlab check`: many texts through the program at once, by processes.
+
+Each result is passed on as soon as it is there.
+"""
 
 import multiprocessing
 import os
@@ -26,7 +29,8 @@ KEPT = ("yes", "no", "refused")
 def files_below(folder: str, tell: Callable[[str], None] = lambda _: None) -> list[str]:
     """Returns the `.txt` files of a folder, at any depth. Raises LabError if a folder cannot be listed.
 
-    A link to a folder is not followed, since links may make a circle. `tell` gets a sentence on each of them, and on what is no plain file.
+    A link to a folder is not followed, since links may make a circle. `tell` gets a sentence on each of them, and on
+    what is no plain file.
     """
     def stop(error: OSError) -> None:
         """Ends the search."""
@@ -46,7 +50,10 @@ def files_below(folder: str, tell: Callable[[str], None] = lambda _: None) -> li
 
 
 def text_files(names: list[str], tell: Callable[[str], None] = lambda _: None) -> list[str]:
-    """Returns the files of these names; a folder is all its `.txt` files, at any depth. `tell` gets a sentence on what is left out."""
+    """Returns the files of these names; a folder is all its `.txt` files, at any depth.
+
+    `tell` gets a sentence on what is left out.
+    """
     found: list[str] = []
     for name in names:
         if name != "-" and os.path.isdir(name):
@@ -97,7 +104,8 @@ class Order:
 
 
 def read_in_time(file: str, timeout: float | None) -> bytes:
-    """Returns the bytes of a file. Raises ProgramTimeout if it does not end in time, as a pipe to which nobody writes."""
+    """Returns the bytes of a file. Raises ProgramTimeout if it does not end in time, as a pipe to which nobody writes.
+    """
     if timeout is None or os.path.isfile(file):
         return read_bytes(file)
 
@@ -128,7 +136,10 @@ def children_seconds() -> float:
 
 
 def serve(order: Order, own: Connection, others: list[Connection]) -> None:
-    """Checks one file after another, in a worker process, until the pipe is closed. SIGTERM and SIGHUP end the program that runs, and the worker."""
+    """Checks one file after another, in a worker process, until the pipe is closed.
+
+    SIGTERM and SIGHUP end the program that runs, and the worker.
+    """
     running = Running()
 
     def stop(_number: int, _frame: FrameType | None) -> None:
@@ -184,7 +195,8 @@ class Worker:
 class Checker:
     """Checks files, some at a time. `stop` ends all that runs."""
 
-    def __init__(self, program: Executable, jobs: int = 1, timeout: float | None = None, keeper: Keeper | None = None) -> None:
+    def __init__(self, program: Executable, jobs: int = 1, timeout: float | None = None,
+                 keeper: Keeper | None = None) -> None:
         self.order, self.jobs = Order(program, timeout, keeper), jobs
         self.workers: list[Worker] = []
 
@@ -210,8 +222,10 @@ class Checker:
             yield from self.ready(busy, idle)
 
     def ready(self, busy: dict[Connection, Worker], idle: list[Worker]) -> Iterator[Result | None]:
-        """Yields the results that are there, or None after a fifth of a second. The workers that gave them become idle."""
-        connections = [connection for connection in wait(list(busy), LOOK_SECONDS) if isinstance(connection, Connection)]
+        """Yields the results that are there, or None after a fifth of a second. The workers that gave them become idle.
+        """
+        connections = [connection for connection in wait(list(busy), LOOK_SECONDS)
+                       if isinstance(connection, Connection)]
         if not connections:
             yield None
         for connection in connections:

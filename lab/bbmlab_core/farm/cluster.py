@@ -1,4 +1,7 @@
-"""`bbmlab check --dask`: the workers of a Dask cluster run the program. Dask is imported only here; it is no part of the lab."""
+"""`bbmlab check --dask`: the workers of a Dask cluster run the program.
+
+Dask is imported only here; it is no part of the lab.
+"""
 
 import importlib
 import os
@@ -37,11 +40,13 @@ class Group:
 
 
 def connected(address: str, jobs: int, program: Executable) -> Any:
-    """Returns a client of the scheduler at an address, or of a cluster of processes here if the address is empty, with the program."""
+    """Returns a client of the scheduler at an address, or of a cluster of processes here if the address is empty, with
+    the program."""
     try:
         cloudpickle, distributed = (importlib.import_module(name) for name in ("cloudpickle", "distributed"))
     except ImportError as error:
-        raise LabError("--dask needs Dask: apt-get install python3-distributed, or pip install 'bbmlab[dask]'") from error
+        raise LabError(
+            "--dask needs Dask: apt-get install python3-distributed, or pip install 'bbmlab[dask]'") from error
     for module in (remote, sealed):
         cloudpickle.register_pickle_by_value(module)
     try:
@@ -49,7 +54,8 @@ def connected(address: str, jobs: int, program: Executable) -> Any:
             client = distributed.Client(address, timeout=CONNECT_SECONDS)
         else:
             os.environ["BBMCHECK"] = program.path
-            client = distributed.Client(n_workers=jobs, threads_per_worker=1, processes=True, dashboard_address=":0", host="127.0.0.1", silence_logs=50)
+            client = distributed.Client(n_workers=jobs, threads_per_worker=1, processes=True, dashboard_address=":0",
+                                        host="127.0.0.1", silence_logs=50)
         client.wait_for_workers(1, timeout=CONNECT_SECONDS)
     except (OSError, TimeoutError, ValueError) as error:
         raise LabError(f"no Dask cluster with a worker {f'at {address}' if address else 'here'}: {error}") from error
@@ -57,19 +63,24 @@ def connected(address: str, jobs: int, program: Executable) -> Any:
 
 
 def outcome(future: Any) -> tuple[list[remote.Said], str]:
-    """Returns the answers of a worker, and why there are none. A worker that was killed may take along a result that was ready."""
+    """Returns the answers of a worker, and why there are none.
+
+    A worker that was killed may take along a result that was ready.
+    """
     if future.status != "finished":
         return [], str(future.exception() if future.status == "error" else future.status) or "unknown error"
     try:
         return list(future.result()), ""
-    except Exception as error:  # pylint: disable=broad-exception-caught  # It was raised in another process, and may be of any class.
+    # pylint: disable=broad-exception-caught  # It was raised in another process, and may be of any class.
+    except Exception as error:
         return [], str(error) or type(error).__name__
 
 
 class ClusterChecker(Checker):
     """Checks files by the workers of a cluster. The texts and the receipts are read and written here."""
 
-    def __init__(self, program: Executable, address: str, jobs: int, timeout: float | None, folder: ReceiptFolder | None, sends: bool) -> None:
+    def __init__(self, program: Executable, address: str, jobs: int, timeout: float | None,
+                 folder: ReceiptFolder | None, sends: bool) -> None:
         super().__init__(program, jobs, timeout, folder)
         self.digest = program.sha256
         self.client = connected(address, jobs, program)
@@ -122,11 +133,13 @@ class ClusterChecker(Checker):
     def is_full(self, group: Group) -> bool:
         """Whether a group is as large as it may be: by what a text took so far, one text at the start."""
         wanted = GROUP_SECONDS * self.answered / self.worked if self.worked else 1
-        return len(group.files) >= min(max(wanted, 1), GROUP_TEXTS) or sum(len(text) for _, text in group.files) >= GROUP_BYTES
+        return len(group.files) >= min(max(wanted, 1), GROUP_TEXTS) or sum(len(text) for _,
+                                                                           text in group.files) >= GROUP_BYTES
 
     def send(self, group: Group) -> None:
         """Sends a group to a worker."""
-        future = self.client.submit(remote.answers, self.digest, [text for _, text in group.files], self.order.timeout, pure=False)
+        future = self.client.submit(remote.answers, self.digest, [text for _, text in group.files], self.order.timeout,
+                                    pure=False)
         future.add_done_callback(lambda ended: self.done.put((group, ended)))
         group.sent += 1
         self.flying += 1
@@ -152,16 +165,21 @@ class ClusterChecker(Checker):
             yield self.taken(file, text, said)
 
     def taken(self, file: str, text: bytes, said: remote.Said) -> Result:
-        """Returns the result that an answer stands for, and keeps it. Two answers to one text end the run, and so does another program."""
+        """Returns the result that an answer stands for, and keeps it.
+
+        Two answers to one text end the run, and so does another program.
+        """
         host, status, output, seconds, kind, complaint = said
         if kind:
-            return Result(file, "timeout" if kind == "timeout" else "error", complaint, 0, is_fatal=kind == "other program")
+            return Result(file, "timeout" if kind == "timeout" else "error", complaint, 0,
+                          is_fatal=kind == "other program")
         why = foreign_report(text, output)
         result = Result(file, "error", f"on {host}: {why}", 0) if why else result_of_report(file, status, output)
         result.seconds = round(seconds, 3)
         other = self.said.setdefault(sha256(text), output)
         if other != output:
-            return Result(file, "error", f"two answers to {file} by one program: {other!r} and {output!r} (on {host})", 0, is_fatal=True)
+            return Result(file, "error", f"two answers to {file} by one program: {other!r} and {output!r} (on {host})",
+                          0, is_fatal=True)
         return kept(self.order.keeper, text, result, seconds) if self.order.keeper and result.result in KEPT else result
 
     def stop(self) -> None:

@@ -14,11 +14,13 @@ LOOK_SECONDS = 0.1
 def clock(seconds: float) -> str:
     """Returns a number of seconds as minutes and seconds."""
     whole = int(seconds + 0.5)
-    return f"{whole // 3600}:{whole // 60 % 60:02d}:{whole % 60:02d}" if whole >= 3600 else f"{whole // 60}:{whole % 60:02d}"
+    return (f"{whole // 3600}:{whole // 60 % 60:02d}:{whole % 60:02d}" if whole >= 3600
+            else f"{whole // 60}:{whole % 60:02d}")
 
 
 class Progress:
-    """Tells on standard error how many of `total` things are done, how many a second, and how long the rest may take."""
+    """Tells on standard error how many of `total` things are done, how many a second, and how long the rest may take.
+    """
 
     def __init__(self, total: int) -> None:
         self.total, self.done = total, 0
@@ -45,7 +47,8 @@ class Progress:
             print(f"bbmlab: {self.done} of {self.total}, {rate:.3g} a second{left}", file=sys.stderr, flush=True)
             return
         filled = BAR * self.done // max(1, self.total)
-        line = f"[{'#' * filled}{'.' * (BAR - filled)}] {self.done}/{self.total}  {rate:.3g} a second{left}  {plain(what)}"
+        line = (f"[{'#' * filled}{'.' * (BAR - filled)}] {self.done}/{self.total}  {rate:.3g} a second{left}  "
+                f"{plain(what)}")
         sys.stderr.write("\r\033[K" + line[:79])
         sys.stderr.flush()
         self.is_shown = True

@@ -1,6 +1,7 @@
 """Receipts: what a program said of one text, with the digests of both, as one JSON document.
 
-A receipt is no signature: whoever can write it can write another. It says which text and which program a stored report is of.
+A receipt is no signature: whoever can write it can write another. It says which text and which program a stored report
+is of.
 """
 
 import hashlib
@@ -38,7 +39,8 @@ def sha256(data: bytes) -> str:
 
 
 def section_digests(text: bytes) -> dict[str, str | None]:
-    """Returns the digest of each section of a text, from its header through the line feed of its `end`, or None for one that is not there."""
+    """Returns the digest of each section of a text, from its header through the line feed of its `end`, or None for one
+    that is not there."""
     digests: dict[str, str | None] = dict.fromkeys(SECTIONS)
     front = SECOND.head.encode()
     start = len(front) if text.startswith(front) else 0
@@ -56,8 +58,9 @@ def section_digests(text: bytes) -> dict[str, str | None]:
 class Receipt:
     """What a program said of a text.
 
-    `name` is the name under which the text was checked, `size` its length in bytes. `status` is the program's. `seconds` is the time of the
-    processor, and `date` the end of the run in UTC; all other members are the same at each run. `said` is the result that the report stands for.
+    `name` is the name under which the text was checked, `size` its length in bytes. `status` is the program's.
+    `seconds` is the time of the processor, and `date` the end of the run in UTC; all other members are the same at each
+    run. `said` is the result that the report stands for.
     """
 
     name: str
@@ -77,7 +80,8 @@ class Receipt:
         """Returns the document. The date and the seconds have lines of their own, at the end."""
         program = {"sha256": self.program.sha256, "version": self.program.version, "kit": self.program.kit,
                    "sources_sha256": self.program.sources}
-        document = {"format": FORMAT, "text": {"name": self.name, "bytes": self.size, "sha256": self.text}, "sections": self.sections,
+        document = {"format": FORMAT, "text": {"name": self.name, "bytes": self.size, "sha256": self.text},
+                    "sections": self.sections,
                     "program": program, "workers": self.workers, "verdict": self.verdict, "status": self.status,
                     "report_sha256": sha256(self.report.encode("latin-1")), "report": self.report,
                     "processor_seconds": round(self.seconds, 3), "date": self.date}
@@ -88,7 +92,8 @@ class Receipt:
 def receipt_of(text: bytes, result: Result, program: Program, seconds: float) -> Receipt:
     """Returns the receipt of a result that is a verdict or a refusal."""
     date = time.strftime("%Y-%m-%dT%H:%M:%SZ", time.gmtime())
-    return Receipt(result.file, len(text), sha256(text), section_digests(text), result.output, result.result, STATUS_OF[result.result], program,
+    return Receipt(result.file, len(text), sha256(text), section_digests(text), result.output, result.result,
+                   STATUS_OF[result.result], program,
                    1, seconds, date, result)
 
 
@@ -132,8 +137,10 @@ def parse_receipt(data: bytes) -> Receipt:
     name, report, status = member(text, "name", str), member(document, "report", str), member(document, "status", int)
     receipt = Receipt(
         name, member(text, "bytes", int), digest_of(text, "sha256"),
-        {name: member(sections, name, (str, nothing)) for name in SECTIONS}, report, member(document, "verdict", str), status,
-        Program(digest_of(program, "sha256"), member(program, "version", (str, nothing)), member(program, "kit", (str, nothing)),
+        {name: member(sections, name, (str, nothing)) for name in SECTIONS}, report, member(document, "verdict", str),
+        status,
+        Program(digest_of(program, "sha256"), member(program, "version", (str, nothing)),
+                member(program, "kit", (str, nothing)),
                 member(program, "sources_sha256", (str, nothing))),
         member(document, "workers", int), seconds_of(document), member(document, "date", str),
         result_of_report(name, status, report))
@@ -147,7 +154,8 @@ def require_same_report(receipt: Receipt, digest: str) -> None:
         raise ReceiptError("its report was changed: the digest of the report is another one")
     said = receipt.said
     if said.result == "error" or said.result != receipt.verdict:
-        raise ReceiptError(f"its verdict was changed: the report says {said.result if said.result != 'error' else said.detail}")
+        raise ReceiptError("its verdict was changed: the report says "
+                           f"{said.result if said.result != 'error' else said.detail}")
     certificate = parse_report(receipt.report).digest
     if certificate and certificate != receipt.sections["certificate"]:
         raise ReceiptError("its report is of another certificate than its text")
@@ -162,7 +170,8 @@ class ReceiptFolder:
     def path(self, file: str) -> str:
         """Returns the name of the receipt of a file: its own name, with `%2F` for `/`, or with a digest if it is long.
 
-        The name is that seen from where the folder of receipts is. So a file has one receipt, wherever the lab runs, and two files have two.
+        The name is that seen from where the folder of receipts is. So a file has one receipt, wherever the lab runs,
+        and two files have two.
         """
         seen = os.path.relpath(file, os.path.dirname(os.path.abspath(self.folder))) if file != "-" else "standard input"
         name = quote(os.fsencode(seen), safe=" ")
@@ -197,8 +206,10 @@ class ReceiptFolder:
         """Writes the receipt of a result. An earlier one of the same text and program must have the same report."""
         receipt = receipt_of(text, result, self.program, seconds)
         earlier = self.stored(result.file)
-        if earlier and (earlier.text, earlier.program.sha256) == (receipt.text, receipt.program.sha256) and earlier.report != receipt.report:
-            raise Contradiction(f"two answers to {result.file} by one program: {earlier.report!r} (in its receipt) and {receipt.report!r}")
+        if (earlier and (earlier.text, earlier.program.sha256) == (receipt.text, receipt.program.sha256)
+            and earlier.report != receipt.report):
+            raise Contradiction(f"two answers to {result.file} by one program: {earlier.report!r} (in its receipt) and "
+                                f"{receipt.report!r}")
         name = self.path(result.file)
         try:
             os.makedirs(self.folder, exist_ok=True)

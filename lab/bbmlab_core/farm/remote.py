@@ -1,5 +1,5 @@
-"""What runs on the worker of a cluster. It goes there by value: the worker needs Python alone, so only the standard library is used, and
-`sealed`, which also goes there."""
+"""What runs on the worker of a cluster. It goes there by value: the worker needs Python alone, so only the standard
+library is used, and `sealed`, which also goes there."""
 
 import hashlib
 import os
@@ -12,8 +12,8 @@ import tempfile
 from ..host.sealed import path_of, sealed_copy
 
 
-# What a program on a worker said of a text: the host, the status, the output, the processor seconds, and the kind of an error and its
-# sentence, both empty if there is an answer. Kinds: "timeout", "other program", "failed".
+# What a program on a worker said of a text: the host, the status, the output, the processor seconds, and the kind of an
+# error and its sentence, both empty if there is an answer. Kinds: "timeout", "other program", "failed".
 Said = tuple[str, int, str, float, str, str]
 
 
@@ -48,7 +48,8 @@ def store_program(data: bytes, digest: str) -> str:
 
 
 def program_with(digest: str) -> tuple[str, bytes, str]:
-    """Returns the path and the bytes of the program with a digest that this worker has, and a sentence about what it has if it has none."""
+    """Returns the path and the bytes of the program with a digest that this worker has, and a sentence about what it
+    has if it has none."""
     host = socket.gethostname()
     own = own_program()
     found = ""
@@ -70,7 +71,10 @@ def complaint_about(digest: str) -> str:
 
 
 def answers(digest: str, texts: list[bytes], timeout: float | None) -> list[Said]:
-    """Runs the program with a digest on some texts, one after another. The bytes that have the digest are those that run."""
+    """Runs the program with a digest on some texts, one after another.
+
+    The bytes that have the digest are those that run.
+    """
     path, data, complaint = program_with(digest)
     if complaint:
         return [(socket.gethostname(), 70, "", 0, "other program", complaint)]
@@ -86,7 +90,8 @@ def answer(program: str, copy: int, text: bytes, timeout: float | None) -> Said:
     host = socket.gethostname()
     before = sum(os.times()[2:4])
     try:
-        process = subprocess.Popen([program, "check"], executable=path_of(copy), pass_fds=[copy], stdin=subprocess.PIPE, stdout=subprocess.PIPE,
+        process = subprocess.Popen([program, "check"], executable=path_of(copy), pass_fds=[copy], stdin=subprocess.PIPE,
+                                   stdout=subprocess.PIPE,
                                    stderr=subprocess.PIPE, start_new_session=True)
     except OSError as error:
         return host, 70, "", 0, "failed", f"{program} can't be run on {host}: {error.strerror or error}"

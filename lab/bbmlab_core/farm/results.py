@@ -13,7 +13,10 @@ COLOURS = {"yes": "green", "no": "red", "refused": "red"}
 
 
 class ResultWriter(Protocol):
-    """Writes results: `begin` before the first, `add` for each as it comes, and `end` with the signal that stopped the run, if one did."""
+    """Writes results:
+
+    `begin` before the first, `add` for each as it comes, and `end` with the signal that stopped the run, if one did.
+    """
 
     def begin(self, files: list[str]) -> None:
         """Begins with the names of all files."""
@@ -44,7 +47,8 @@ class TextWriter:
         if result.held and result.result == "yes":
             return
         word = painted(WORDS[result.result].ljust(8), COLOURS.get(result.result, "yellow"))
-        print(f"{plain(result.file).ljust(self.width)}  {word}  {result.seconds:7.2f} s  {plain(result.detail)}".rstrip(), flush=True)
+        name, detail = plain(result.file).ljust(self.width), plain(result.detail)
+        print(f"{name}  {word}  {result.seconds:7.2f} s  {detail}".rstrip(), flush=True)
 
     def leave(self, result: Result) -> None:
         """Counts one result without listing it."""
@@ -88,7 +92,8 @@ class TapWriter:
 
 def row(result: Result) -> dict[str, Any]:
     """Returns a result as JSON values."""
-    return {"file": result.file, "result": result.result, "detail": result.detail, "seconds": result.seconds, "modules": result.modules,
+    return {"file": result.file, "result": result.result, "detail": result.detail, "seconds": result.seconds,
+            "modules": result.modules,
             "output": result.output, **({"held": True} if result.held else {}), **refusal_row(result)}
 
 
@@ -151,9 +156,11 @@ class JsonWriter(WholeWriter):
         """Returns the document. `stopped` is there only if a signal ended the run."""
         is_all_yes = not stopped and {*counted(results), *self.left} == {"yes"}
         left = sum(self.left.values())
-        more: dict[str, Any] = {"stopped": stopped, "not_checked": len(self.files) - len(results) - left} if stopped else {}
+        more: dict[str, Any] = {"stopped": stopped,
+                                "not_checked": len(self.files) - len(results) - left} if stopped else {}
         more |= {"left_out": self.left} if left else {}
-        return json.dumps({"format": "bbmlab check 1", "all_yes": is_all_yes, **more, "results": [row(result) for result in results]}, indent=2) + "\n"
+        return json.dumps({"format": "bbmlab check 1", "all_yes": is_all_yes, **more,
+                           "results": [row(result) for result in results]}, indent=2) + "\n"
 
 
 class JunitWriter(WholeWriter):
@@ -162,10 +169,12 @@ class JunitWriter(WholeWriter):
     def document(self, results: list[Result], stopped: str | None) -> str:
         """Returns the document. Files that were not checked are errors."""
         from xml.sax.saxutils import escape, quoteattr
-        missing = [] if not stopped else [Result(file, "error", f"not checked: stopped by {stopped}", 0) for file in self.files if file not in self.results]
+        missing = [] if not stopped else [Result(file, "error", f"not checked: stopped by {stopped}", 0)
+                                          for file in self.files if file not in self.results]
         rows = [*results, *missing]
         counts = counted(rows)
-        failures, errors = (sum(counts.get(word, 0) for word in words) for words in (("no", "refused"), ("timeout", "missing", "error")))
+        failures, errors = (sum(counts.get(word, 0) for word in words)
+                            for words in (("no", "refused"), ("timeout", "missing", "error")))
         lines = ['<?xml version="1.0" encoding="UTF-8"?>',
                  f'<testsuite name="bbmlab check" tests="{len(rows)}" failures="{failures}" errors="{errors}" '
                  f'time="{sum(result.seconds for result in rows):.3f}">']

@@ -13,4 +13,5 @@ def foreign_report(text: bytes, output: str) -> str | None:
         return None
     # The program read the text, so its last section begins at the only line with this header, and ends with the text.
     own = hashlib.sha256(text[text.rfind(HEADER) + 1:]).hexdigest()
-    return None if digest == own else f"its report is of a certificate with the digest {digest[:16]}.., and that of the text has {own[:16]}.."
+    return (None if digest == own else f"its report is of a certificate with the digest {digest[:16]}.., and that of "
+            f"the text has {own[:16]}..")

@@ -36,7 +36,10 @@ class Answer:
 
 
 class Executable:
-    """A program that was opened once. All its runs execute a private copy of the bytes whose digest it has, whatever becomes of its file."""
+    """A program that was opened once.
+
+    All its runs execute a private copy of the bytes whose digest it has, whatever becomes of its file.
+    """
 
     def __init__(self, path: str, descriptor: int, sha256: str) -> None:
         self.path, self.descriptor, self.sha256 = path, descriptor, sha256
@@ -56,7 +59,8 @@ class Executable:
 
     def start(self, *words: str) -> "subprocess.Popen[bytes]":
         """Starts the program in a session of its own. A script gets the descriptor's path as its own name."""
-        return subprocess.Popen([self.path, *words], executable=path_of(self.descriptor), pass_fds=[self.descriptor], stdin=subprocess.PIPE,
+        return subprocess.Popen([self.path, *words], executable=path_of(self.descriptor), pass_fds=[self.descriptor],
+                                stdin=subprocess.PIPE,
                                 stdout=subprocess.PIPE, stderr=subprocess.PIPE, start_new_session=True)
 
 
@@ -79,37 +83,50 @@ def candidates(given: str | None) -> list[str]:
     if os.environ.get("BBMCHECK"):
         return [os.environ["BBMCHECK"]]
     # The last is next to the command, or next to a link to it, as pipx makes.
-    own = [HERE.parent.parent / "bbmcheck", HERE.parent.parent.parent / "bin" / "bbmcheck", Path(sys.prefix) / "bin" / "bbmcheck",
+    own = [HERE.parent.parent / "bbmcheck", HERE.parent.parent.parent / "bin" / "bbmcheck",
+           Path(sys.prefix) / "bin" / "bbmcheck",
            Path(sys.argv[0]).absolute().parent / "bbmcheck"]
     return [*(str(place) for place in own if place.is_file()), "bbmcheck"]
 
 
 def behind_wrapper(found: str) -> str:
-    """Returns the program that the repository's wrapper runs, so that its choice is made once. Any other program is returned as it is."""
+    """Returns the program that the repository's wrapper runs, so that its choice is made once.
+
+    Any other program is returned as it is.
+    """
     wrapper = HERE.parent.parent / "bbmcheck"
     if not wrapper.is_file() or not os.path.samefile(found, wrapper):
         return found
-    asked = subprocess.run([os.path.abspath(found), "--wrapper-program"], stdin=subprocess.DEVNULL, stdout=subprocess.PIPE, check=False)
+    asked = subprocess.run([os.path.abspath(found), "--wrapper-program"], stdin=subprocess.DEVNULL,
+                           stdout=subprocess.PIPE, check=False)
     if asked.returncode:
         raise ProgramError(f"{found} ended with status {asked.returncode}")
     return os.fsdecode(asked.stdout.removesuffix(b"\n"))
 
 
 def find_program(given: str | None = None) -> Executable:
-    """Opens the program: `given`, else $BBMCHECK, else the repository's wrapper or that of the same installation, else PATH's."""
+    """Opens the program:
+
+    `given`, else $BBMCHECK, else the repository's wrapper or that of the same installation, else PATH's.
+    """
     tried = candidates(given)
     for place in tried:
         found = shutil.which(place)
         if found and os.path.isfile(found):
             return opened(os.path.abspath(found))
     is_named = given or os.environ.get("BBMCHECK")
-    where = f"there is no program at {tried[0]}" if is_named else "no program was found in the clone, next to bbmlab or on PATH"
-    raise ProgramError(f"{where}; name it with --program PATH or set BBMCHECK. The checker has a Debian package and archives of its own: the Python package "
+    where = (f"there is no program at {tried[0]}" if is_named
+             else "no program was found in the clone, next to bbmlab or on PATH")
+    raise ProgramError(f"{where}; name it with --program PATH or set BBMCHECK. The checker has a Debian package and "
+                       "archives of its own: the Python package "
                        "does not contain it")
 
 
 class Running:
-    """The runs of the program that have not ended, each with the processes that it started. All can be stopped from any thread."""
+    """The runs of the program that have not ended, each with the processes that it started.
+
+    All can be stopped from any thread.
+    """
 
     def __init__(self) -> None:
         # A signal may come while the lock is held by the thread that it interrupts.
@@ -151,7 +168,8 @@ class Running:
                 kill_session(process)
 
 
-# The runs that `ask` starts if it is not told otherwise. A process that can be stopped from outside sets it once, at its start.
+# The runs that `ask` starts if it is not told otherwise. A process that can be stopped from outside sets it once, at
+# its start.
 SHARED: Running | None = None
 
 
@@ -164,7 +182,10 @@ def kill_session(process: "subprocess.Popen[bytes]") -> None:
 
 
 def told(program: Executable, command: str, text: bytes, timeout: float | None, running: Running) -> Answer:
-    """Returns what a command of the program writes, whatever its status is. A signal is heard only when the program can be ended."""
+    """Returns what a command of the program writes, whatever its status is.
+
+    A signal is heard only when the program can be ended.
+    """
     with held():
         try:
             process = running.start(program, command)
@@ -180,12 +201,14 @@ def told(program: Executable, command: str, text: bytes, timeout: float | None, 
     return Answer(process.returncode, output.decode("latin-1"), written.decode("utf-8", "replace").strip())
 
 
-def ask(program: Executable | str, command: str, text: bytes, timeout: float | None = None, running: Running | None = None) -> Answer:
+def ask(program: Executable | str, command: str, text: bytes, timeout: float | None = None,
+        running: Running | None = None) -> Answer:
     """Runs a command of the program on a text. The program is opened already, or a path."""
     program = opened(program)
     answer = told(program, command, text, timeout, running or SHARED or Running())
     if answer.status not in (0, 1, 3, 4, 5):
-        raise ProgramError(f"{program} ended with status {answer.status}: {answer.errors.splitlines()[0] if answer.errors else 'no message'}")
+        raise ProgramError(f"{program} ended with status {answer.status}: "
+                           f"{answer.errors.splitlines()[0] if answer.errors else 'no message'}")
     why = foreign_report(text, answer.output) if command == "check" else None
     if why:
         raise ProgramError(f"{program} gave the report of another text: {why}")

@@ -7,7 +7,8 @@ from .program import HERE, Executable, ProgramError, kill_session
 from .terminal import LabError, read_bytes
 
 # Where a MANIFEST may be: in the repository, and in an installation.
-PLACES = [*(HERE.parent.parent / "release" / target / "MANIFEST" for target in ("x86_64-linux-gnu", "x86_64-v3-linux-gnu")),
+PLACES = [*(HERE.parent.parent / "release" / target / "MANIFEST"
+            for target in ("x86_64-linux-gnu", "x86_64-v3-linux-gnu")),
           HERE.parent.parent.parent / "share" / "doc" / "bbmcheck" / "MANIFEST"]
 # How long `--version` may take.
 VERSION_SECONDS = 10.0
@@ -15,8 +16,8 @@ VERSION_SECONDS = 10.0
 
 @dataclass(frozen=True)
 class Program:
-    """A program by its SHA-256. `version` is what `--version` prints first. `kit` and `sources` are of its release, or None if it is none that
-    is known here."""
+    """A program by its SHA-256. `version` is what `--version` prints first. `kit` and `sources` are of its release, or
+    None if it is none that is known here."""
 
     sha256: str
     version: str | None
@@ -30,7 +31,8 @@ def manifest_lines(text: str) -> dict[str, str]:
 
 
 def known_releases(more: tuple[str, ...] = ()) -> dict[str, dict[str, str]]:
-    """Returns the releases that are known here, by the SHA-256 of their program. `more` are names of other MANIFESTs."""
+    """Returns the releases that are known here, by the SHA-256 of their program. `more` are names of other MANIFESTs.
+    """
     texts = [place.read_text(encoding="utf-8", errors="replace") for place in PLACES if place.is_file()]
     for name in more:
         text = read_bytes(name).decode("utf-8", "replace")
@@ -42,7 +44,8 @@ def known_releases(more: tuple[str, ...] = ()) -> dict[str, dict[str, str]]:
 
 
 def program_of(program: Executable) -> Program:
-    """Returns which program was opened: by the digest of its copy, of which the copy itself is asked for its version."""
+    """Returns which program was opened: by the digest of its copy, of which the copy itself is asked for its version.
+    """
     release = known_releases().get(program.sha256, {})
     return Program(program.sha256, version_of(program), release.get("kit"), release.get("sources_sha256"))
 
@@ -58,6 +61,7 @@ def version_of(program: Executable) -> str | None:
     except subprocess.TimeoutExpired as error:
         kill_session(asked)
         asked.communicate()
-        raise ProgramError(f"{program} can't be run: `--version` gave no answer within {VERSION_SECONDS:g} seconds") from error
+        raise ProgramError(
+            f"{program} can't be run: `--version` gave no answer within {VERSION_SECONDS:g} seconds") from error
     lines = output.decode("utf-8", "replace").splitlines()
     return lines[0] if lines and not asked.returncode else None

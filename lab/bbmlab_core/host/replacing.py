@@ -1,4 +1,6 @@
-"""Files that are written as a whole: another program sees the old bytes or the new ones, and nothing of the file but its bytes changes."""
+"""Files that are written as a whole: another program sees the old bytes or the new ones, and nothing of the file but
+its bytes changes.
+"""
 
 import errno
 import os
@@ -12,15 +14,16 @@ class ChangedFileError(OSError):
     """A file that another program wrote after it was read. `kept` is where the new bytes are."""
 
     def __init__(self, name: str, kept: str) -> None:
-        super().__init__(errno.ESTALE, f"another program changed it meanwhile, so it stays as it is; the result is in {kept}", name)
+        super().__init__(errno.ESTALE,
+                         f"another program changed it meanwhile, so it stays as it is; the result is in {kept}", name)
         self.kept = kept
 
 
 def replace_file(name: str, data: bytes, before: bytes | None = None, follows: bool = True) -> None:
     """Writes a file beside the named one and renames it. A device or a pipe is written as it is.
 
-    Owner, mode and write protection stay. If `before` is given, a file with other bytes is left as it is, and the new ones stay beside it. A
-    link is followed only if `follows`. Raises OSError.
+    Owner, mode and write protection stay. If `before` is given, a file with other bytes is left as it is, and the new
+    ones stay beside it. A link is followed only if `follows`. Raises OSError.
     """
     target = os.path.realpath(name) if follows else os.path.abspath(name)
     old = status_of(target)
@@ -67,13 +70,17 @@ def write_device(path: str, data: bytes, old: os.stat_result) -> None:
 
 
 def require_writable(target: str, old: os.stat_result | None) -> None:
-    """Raises OSError if a file is protected against writing: for a rename its folder alone would count, and for root nothing."""
+    """Raises OSError if a file is protected against writing: for a rename its folder alone would count, and for root
+    nothing."""
     if old and (not old.st_mode & 0o222 or not os.access(target, os.W_OK)):
         raise OSError(errno.EACCES, "the file is protected against writing")
 
 
 def written_beside(target: str, data: bytes, old: os.stat_result | None) -> str:
-    """Writes bytes to a new file in the folder of another one, through to the disk, and returns its name. It gets the other's owner and mode."""
+    """Writes bytes to a new file in the folder of another one, through to the disk, and returns its name.
+
+    It gets the other's owner and mode.
+    """
     folder, base = os.path.split(target)
     # A name of a file has at most 255 bytes.
     beside = os.path.join(folder, f"{os.fsdecode(os.fsencode(base)[:200])}.{os.getpid()}.part")

@@ -1,14 +1,16 @@
-"""A private copy of a program, which every run executes by its descriptor. It also goes to the workers of a cluster, by value: only the
-standard library is used.
+"""A private copy of a program, which every run executes by its descriptor. It also goes to the workers of a cluster, by
+value: only the standard library is used.
 
-A path may name another file at each run, and a file may get other bytes. A copy that nobody else can write answers for one digest.
+A path may name another file at each run, and a file may get other bytes. A copy that nobody else can write answers for
+one digest.
 """
 
 import fcntl
 import os
 import tempfile
 
-# The flag of Linux 6.3 that lets a memory file be executed where others may not be (man memfd_create). Older kernels do not know it.
+# The flag of Linux 6.3 that lets a memory file be executed where others may not be (man memfd_create). Older kernels do
+# not know it.
 MFD_EXEC = 0x10
 SEALS = fcntl.F_SEAL_SEAL | fcntl.F_SEAL_SHRINK | fcntl.F_SEAL_GROW | fcntl.F_SEAL_WRITE
 
@@ -23,7 +25,8 @@ def memory_file() -> int:
 
 
 def above_streams(descriptor: int) -> int:
-    """Returns another descriptor of a file that is none of the standard streams', which a child process gets pipes for."""
+    """Returns another descriptor of a file that is none of the standard streams', which a child process gets pipes for.
+    """
     if descriptor > 2:
         return descriptor
     try:
@@ -33,7 +36,8 @@ def above_streams(descriptor: int) -> int:
 
 
 def sealed_copy(data: bytes) -> int:
-    """Returns the descriptor of a file with some bytes that cannot be changed: in memory, else a file without a name."""
+    """Returns the descriptor of a file with some bytes that cannot be changed: in memory, else a file without a name.
+    """
     try:
         descriptor = above_streams(memory_file())
     except OSError:

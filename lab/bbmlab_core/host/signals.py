@@ -1,10 +1,12 @@
-"""Signals that end a command: SIGINT, SIGTERM and SIGHUP become an exception, and a closed pipe ends the process as it ends `cat`.
+"""Signals that end a command: SIGINT, SIGTERM and SIGHUP become an exception, and a closed pipe ends the process as it
+ends `cat`.
 
 Python runs a handler in the main thread, between two of its instructions. Two gaps follow, and both are closed here:
 
-- A signal that comes after the last instruction and before a system call does not interrupt the call, so the handler waits for its end.
-  `beat` interrupts each call after half a second.
-- The exception may be raised where a program was started and nothing knows it yet, or in the middle of its end. `held` delays it.
+- A signal that comes after the last instruction and before a system call does not interrupt the call, so the handler
+  waits for its end. `beat` interrupts each call after half a second.
+- The exception may be raised where a program was started and nothing knows it yet, or in the middle of its end. `held`
+  delays it.
 """
 
 import atexit
@@ -16,7 +18,8 @@ from contextlib import contextmanager
 from types import FrameType
 from typing import Iterator, NoReturn
 
-# SIGHUP comes when the terminal is closed. Without the exception the program would go on, since it has a session of its own.
+# SIGHUP comes when the terminal is closed. Without the exception the program would go on, since it has a session of its
+# own.
 ENDING = (signal.SIGINT, signal.SIGTERM, signal.SIGHUP)
 # The longest time that a signal waits for the end of a system call.
 BEAT_SECONDS = 0.5
@@ -41,7 +44,8 @@ class Delay:
 def stop(number: int, _frame: FrameType | None) -> None:
     """Raises `Stopped`, or leaves that to the end of a delay.
 
-    A second SIGINT or SIGTERM ends the process at once. A second SIGHUP does nothing: the kernel and the shell send one each.
+    A second SIGINT or SIGTERM ends the process at once. A second SIGHUP does nothing: the kernel and the shell send one
+    each.
     """
     for own in ENDING:
         signal.signal(own, signal.SIG_IGN if own == signal.SIGHUP else signal.SIG_DFL)
@@ -88,7 +92,10 @@ def let_in() -> Iterator[None]:
 
 
 def beat() -> None:
-    """Interrupts the system calls of the main thread again and again. Python repeats them, after the handlers that wait."""
+    """Interrupts the system calls of the main thread again and again.
+
+    Python repeats them, after the handlers that wait.
+    """
     signal.signal(signal.SIGALRM, lambda _number, _frame: None)
     # At its end Python takes all handlers off, and SIGALRM would end the process.
     atexit.register(signal.setitimer, signal.ITIMER_REAL, 0)

@@ -19,7 +19,8 @@ class LabError(Exception):
 
 def has_colour(stream: IO[str] | None) -> bool:
     """Whether colours are written to a stream: it is open and a terminal, and NO_COLOR is not set."""
-    return stream is not None and stream.isatty() and not os.environ.get("NO_COLOR") and os.environ.get("TERM") != "dumb"
+    return stream is not None and stream.isatty() and not os.environ.get("NO_COLOR") and os.environ.get(
+        "TERM") != "dumb"
 
 
 def painted(text: str, colour: str, stream: IO[str] | None = None) -> str:
@@ -81,8 +82,8 @@ def standard_output() -> BinaryIO:
 def write_bytes(name: str | None, data: bytes, sources: Iterable[str] = (), before: bytes | None = None) -> None:
     """Writes bytes to a file, or to standard output for None and `-`.
 
-    A file keeps its old bytes until all new ones are written. It must be none of `sources`, the files that were read. If `before` is given, a
-    file with other bytes stays as it is.
+    A file keeps its old bytes until all new ones are written. It must be none of `sources`, the files that were read.
+    If `before` is given, a file with other bytes stays as it is.
     """
     if name is None or name == "-":
         output = standard_output()

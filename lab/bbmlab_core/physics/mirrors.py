@@ -1,4 +1,6 @@
-"""Mirrors that fall apart: whether a rectangle of live cells stays as it is, and the places next to it at which it would."""
+"""Mirrors that fall apart: whether a rectangle of live cells stays as it is, and the places next to it at which it
+would.
+"""
 
 from dataclasses import dataclass
 
@@ -7,7 +9,8 @@ from ..texts.layouts import Cell, Layout, Part
 
 @dataclass(frozen=True)
 class FallingMirror:
-    """A mirror that does not stay by itself: the first step, 1 or 2, that moves one of its cells, and a cell that it moves."""
+    """A mirror that does not stay by itself: the first step, 1 or 2, that moves one of its cells, and a cell that it
+    moves."""
 
     part: Part
     step: int
@@ -15,10 +18,11 @@ class FallingMirror:
 
 
 def moved_cell(part: Part, is_odd: int) -> Cell | None:
-    """Returns a cell of a rectangle that a step moves, if nothing else is live; `is_odd` is the parity of the step's time.
+    """Returns a cell of a rectangle that a step moves, if nothing else is live; `is_odd` is the parity of the step's
+    time.
 
-    A block moves if one of its cells is live, or two on a diagonal (Margolus 1984, block rule). A rectangle has no diagonal pair in a
-    block: so it stays if and only if it has two or four cells, or none, of each block.
+    A block moves if one of its cells is live, or two on a diagonal (Margolus 1984, block rule). A rectangle has no
+    diagonal pair in a block: so it stays if and only if it has two or four cells, or none, of each block.
     """
     columns = {x: sum(part.x <= u < part.x + part.width for u in (x, x + 1))
                for x in range(part.x - (part.x - is_odd) % 2, part.x + part.width, 2)}
@@ -37,7 +41,10 @@ def stays(part: Part) -> bool:
 
 
 def falling_mirrors(layout: Layout) -> list[FallingMirror]:
-    """Returns the mirrors that do not stay, in the order of their lines. Mirrors that touch others are looked at with them."""
+    """Returns the mirrors that do not stay, in the order of their lines.
+
+    Mirrors that touch others are looked at with them.
+    """
     found, cells = [], layout.mirror_cells()
     for part in layout.of_kind("mirror"):
         for step in (1, 2):
@@ -49,7 +56,8 @@ def falling_mirrors(layout: Layout) -> list[FallingMirror]:
 
 
 def unstable_cell(part: Part, is_odd: int, live: set[Cell]) -> Cell | None:
-    """Returns a cell of a mirror whose block has one live cell alone, or two on a diagonal, with all mirrors of the layout."""
+    """Returns a cell of a mirror whose block has one live cell alone, or two on a diagonal, with all mirrors of the
+    layout."""
     border = {(x, y) for x in (part.x, part.x + part.width - 1) for y in (part.y, part.y + part.height - 1)}
     for x, y in sorted(border):
         left, top = x - (x - is_odd) % 2, y - (y - is_odd) % 2
@@ -60,7 +68,8 @@ def unstable_cell(part: Part, is_odd: int, live: set[Cell]) -> Cell | None:
 
 
 def legal_places(part: Part, reach: int = 1) -> list[Part]:
-    """Returns mirrors that stay, next to one that does not: moved by at most `reach` cells, or one cell larger or smaller; nearest first."""
+    """Returns mirrors that stay, next to one that does not: moved by at most `reach` cells, or one cell larger or
+    smaller; nearest first."""
     found = []
     for dw in (0, 1, -1):
         for dh in (0, 1, -1):

@@ -1,4 +1,7 @@
-"""A report that the lab makes by itself, for a text that its reader takes. It is no verdict: only the program gives one."""
+"""A report that the lab makes by itself, for a text that its reader takes.
+
+It is no verdict: only the program gives one.
+"""
 
 from typing import Iterator
 
@@ -12,7 +15,8 @@ from .simulation import ModuleRun, local_values, lowest_bit
 
 
 def local_lines(circuit: Circuit, layout: Layout, certificate: Certificate) -> Iterator[str]:
-    """Yields the lines about modules in their order: the least fault, the least keep fault and the least border fault of each."""
+    """Yields the lines about modules in their order: the least fault, the least keep fault and the least border fault
+    of each."""
     for module in certificate.modules:
         fault = ModuleRun(circuit, layout, certificate, module).least_fault()
         if fault:
@@ -38,7 +42,8 @@ def border_lines(layout: Layout, certificate: Certificate, module: Module) -> It
     """Yields the least border fault of a module of version 1."""
     others = certificate.neighbours(module)
     said = {(line.time, line.cell): line.signal for line in module.halos}
-    told = {(line.time, line.cell): line.signal for other in others for line in other.edges if module.box.has_in_halo(line.cell)}
+    told = {(line.time, line.cell): line.signal for other in others for line in other.edges
+            if module.box.has_in_halo(line.cell)}
     # A line with `*` can differ from lines with times first at 1, or two steps behind one of these.
     odd = {1} | {time + later for time, _ in (*said, *told) if time is not None for later in (0, 2)}
     found = []

@@ -1,7 +1,8 @@
-"""The automaton under many assignments at once: a cell's state is a table, a number whose bit A is its state under assignment A.
+"""The automaton under many assignments at once: a cell's state is a table, a number whose bit A is its state under
+assignment A.
 
-Only blocks in which something changed are stepped: a block of one partition depends on its four cells alone, so a block whose
-cells are as they were two steps before changes no more than it did then. Source of the rule: Margolus 1984.
+Only blocks in which something changed are stepped: a block of one partition depends on its four cells alone, so a block
+whose cells are as they were two steps before changes no more than it did then. Source of the rule: Margolus 1984.
 """
 
 from bisect import bisect_left
@@ -14,8 +15,8 @@ from ..texts.circuits import Circuit, Valuation, evaluate
 from ..texts.layouts import Cell, Layout
 
 Table = int
-# A cell as one number: y + 2 above the lowest 13 bits, x + 2 in them, which is enough for the largest side. So a block's other cells are 1,
-# ROW and DIAGONAL further.
+# A cell as one number: y + 2 above the lowest 13 bits, x + 2 in them, which is enough for the largest side. So a
+# block's other cells are 1, ROW and DIAGONAL further.
 ROW = 8192
 DIAGONAL = ROW + 1
 # After so many steps without a change of a module, both kinds of steps with what it hears were tried twice.
@@ -260,7 +261,8 @@ class ModuleRun:
         """Makes steps up to the first time with a fault, and returns the least one."""
         events, idle = self.event_times(), 0
         while True:
-            found = [Fault(self.time, rank, cell[1], cell[0], lowest_bit(table)) for rank, cell, table in self.faults_now()]
+            found = [Fault(self.time, rank, cell[1], cell[0], lowest_bit(table)) for rank, cell,
+                     table in self.faults_now()]
             if found:
                 return min(found)
             if self.time == self.layout.steps:
@@ -268,11 +270,13 @@ class ModuleRun:
             self.step()
             idle = 0 if self.field.changed else idle + 1
             if idle >= QUIET_STEPS:
-                # As long as the module hears and says the same, nothing changes, and no time has another fault than the last two.
+                # As long as the module hears and says the same, nothing changes, and no time has another fault than the
+                # last two.
                 self.field.time = events[bisect_left(events, self.time)]
 
     def event_times(self) -> list[int]:
-        """Returns the times at which something is asked or heard that was not before: lines with a time, two steps after them, stops and the end."""
+        """Returns the times at which something is asked or heard that was not before: lines with a time, two steps
+        after them, stops and the end."""
         timed = self.edges.timed.keys() | self.halos.timed.keys()
         times = {time for event in timed for time in (event, event + 2) if time < self.layout.steps}
         return sorted(times | self.stops.keys() | {self.layout.steps})
@@ -284,7 +288,10 @@ def local_values(circuit: Circuit, module: Module) -> Valuation:
 
 
 def end_tables(layout: Layout, tables: dict[str, Table], full: Table) -> dict[Cell, Table | None]:
-    """Returns what the layout asks of cells at the end: a table, or None where anything is good. Other cells are to be dead."""
+    """Returns what the layout asks of cells at the end: a table, or None where anything is good.
+
+    Other cells are to be dead.
+    """
     wanted: dict[Cell, Table | None] = {cell: full for cell in layout.mirror_cells()}
     wanted.update((part.cell, tables.get(part.name or "", 0)) for part in layout.of_kind("out"))
     wanted.update((part.cell, None) for part in layout.of_kind("waste"))

@@ -15,7 +15,8 @@ from .simulation import ModuleRun, Table, cell_of, key_of, run_layout
 
 @dataclass(frozen=True)
 class Moment:
-    """How a state differs from the mirrors: other cells that are live, mirror cells that are dead, and what is heard from outside.
+    """How a state differs from the mirrors: other cells that are live, mirror cells that are dead, and what is heard
+    from outside.
 
     Of a large layout most live cells are mirrors that stay, so all of them at each time would take gigabytes.
     """
@@ -27,7 +28,10 @@ class Moment:
 
 @dataclass
 class Trace:
-    """The states from a time on. `left` is the step that leaves the rectangle, if there is one. `mirrors` are those of the box."""
+    """The states from a time on. `left` is the step that leaves the rectangle, if there is one.
+
+    `mirrors` are those of the box.
+    """
 
     title: str
     box: tuple[int, int, int, int]
@@ -84,14 +88,19 @@ def chosen_inputs(document: Document, words: str | None) -> list[str]:
     names = [word for word in words.replace(",", " ").split() if word]
     unknown = [name for name in names if name not in port_names(layout)]
     if unknown:
-        raise LabError(f"no `in` line has the name {unknown[0]}; the names are {', '.join(port_names(layout)) or 'none'}", 2)
+        raise LabError(f"no `in` line has the name {unknown[0]}; the names are "
+                       f"{', '.join(port_names(layout)) or 'none'}", 2)
     return list(dict.fromkeys(names))
 
 
 def trace_layout(layout: Layout, on: list[str], first: int, last: int, is_whole: bool = True) -> Trace:
-    """Returns the states of the whole layout from one time to another. Unless `is_whole`, the run ends at the last of these times."""
+    """Returns the states of the whole layout from one time to another.
+
+    Unless `is_whole`, the run ends at the last of these times.
+    """
     run = run_layout(layout, on)
-    trace = Trace(f"with {' '.join(on) or 'no input'} on", (0, 0, layout.width, layout.height), first, layout.mirror_cells())
+    trace = Trace(f"with {' '.join(on) or 'no input'} on", (0, 0, layout.width, layout.height), first,
+                  layout.mirror_cells())
     watch = MirrorWatch(run.field.live, trace.mirrors)
     for time in range((layout.steps if is_whole else min(last, layout.steps)) + 1):
         if time:
@@ -110,7 +119,8 @@ def state_at(layout: Layout, on: list[str], time: int) -> set[Cell]:
     """Returns the live cells of a layout at a time."""
     trace = trace_layout(layout, on, time, time, False)
     if not trace.moments:
-        raise LabError(f"there is no time {time}: the run ends at {layout.steps if trace.left is None else trace.left - 1}", 2)
+        raise LabError(f"there is no time {time}: the run ends at "
+                       f"{layout.steps if trace.left is None else trace.left - 1}", 2)
     return trace.live(trace.moments[0])
 
 
@@ -123,7 +133,8 @@ def trace_module(document: Document, number: int, assignment: int, first: int, l
         raise LabError(f"there is no module {number}: they are 0 to {len(certificate.modules) - 1}", 2)
     module = certificate.modules[number]
     if not 0 <= assignment < 1 << len(module.cuts):
-        raise LabError(f"module {number} has {len(module.cuts)} cuts: assignments are 0 to {(1 << len(module.cuts)) - 1}", 2)
+        raise LabError(f"module {number} has {len(module.cuts)} cuts: assignments are 0 to "
+                       f"{(1 << len(module.cuts)) - 1}", 2)
     run, box = ModuleRun(circuit, layout, certificate, module), module.box
     values = " ".join(f"{name}={value}" for name, value in module.assignment_names(assignment).items()) or "no cuts"
     mirrors = {cell for cell in clipped(layout, box).mirror_cells() if box.has(cell)}
@@ -146,7 +157,8 @@ def cells_text(cells: set[Cell]) -> list[list[int]]:
 
 def as_json(trace: Trace, mirrors: set[Cell]) -> str:
     """Writes a trace as one JSON document."""
-    document: dict[str, Any] = {"format": "bbmlab trace 1", "title": trace.title, "box": list(trace.box), "left": trace.left,
+    document: dict[str, Any] = {"format": "bbmlab trace 1", "title": trace.title, "box": list(trace.box),
+                                "left": trace.left,
                                 "mirrors": cells_text(mirrors)}
     states = (json.dumps({"time": time, "live": cells_text(trace.live(moment)), "heard": cells_text(moment.heard)})
               for time, moment in enumerate(trace.moments, trace.first))
@@ -158,7 +170,8 @@ def as_text(trace: Trace, mirrors: set[Cell], pictures: bool) -> str:
     lines = [f"# {trace.title}"]
     for time, moment in enumerate(trace.moments, trace.first):
         shown = " ".join(f"{x},{y}" for x, y in sorted(moment.balls, key=row_order)) or "none"
-        missing = f"; dead mirror cells: {' '.join(f'{x},{y}' for x, y in sorted(moment.gone, key=row_order))}" if moment.gone else ""
+        missing = (f"; dead mirror cells: {' '.join(f'{x},{y}' for x, y in sorted(moment.gone, key=row_order))}"
+                   if moment.gone else "")
         lines.append(f"{time:>5}: {shown}{missing}")
         if pictures:
             lines += text_picture(trace.box, trace.live(moment), mirrors, moment.heard) + [""]
@@ -168,12 +181,16 @@ def as_text(trace: Trace, mirrors: set[Cell], pictures: bool) -> str:
 
 
 def compare_with_run(trace: Trace, output: str) -> str | None:
-    """Returns how the program's `run` differs from the trace, or None where both are the same. Raises ReportError for no answer of `run`."""
+    """Returns how the program's `run` differs from the trace, or None where both are the same.
+
+    Raises ReportError for no answer of `run`.
+    """
     if not RUN_ANSWER.fullmatch(output):
         raise ReportError("this is no answer of `bbmcheck run`")
     lines = output.split("\n")
     if trace.left is not None:
-        return None if lines[0] == f"left {trace.left}" else f"the program's run says `{lines[0]}`, the lab says `left {trace.left}`"
+        return None if lines[
+            0] == f"left {trace.left}" else f"the program's run says `{lines[0]}`, the lab says `left {trace.left}`"
     cells = {tuple(map(int, line.split(" "))) for line in lines[1:] if line}
     if not lines[0].startswith("cells "):
         return f"the program's run says `{lines[0]}`, and the lab's run stays in the rectangle"

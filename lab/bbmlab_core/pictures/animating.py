@@ -63,7 +63,8 @@ def ball(number: int, cells: list[Cell], before: int, after: int) -> Iterator[st
     yield f'<rect x="-99" y="-99" width="{CELL}" height="{CELL}" rx="3" fill="{colour}">'
     for axis, name in enumerate("xy"):
         values = values_of(cells, axis, before, after)
-        yield f'<animate attributeName="{name}" dur="{seconds:.2f}s" repeatCount="indefinite" calcMode="discrete" values="{values}"/>'
+        yield (f'<animate attributeName="{name}" dur="{seconds:.2f}s" repeatCount="indefinite" calcMode="discrete" '
+               f'values="{values}"/>')
     yield "</rect>"
 
 
@@ -71,8 +72,10 @@ def caption(text: str, y: int, before: int, own: int, after: int) -> Iterator[st
     """Yields the lines of a caption that is seen during its own run."""
     seconds = STEP * (before + own + after)
     values = ";".join(["hidden"] * (before > 0) + ["visible"] + ["hidden"] * (after > 0))
-    times = ";".join(f"{at / (before + own + after):.4f}" for at in ([0] if before else []) + [before] + ([before + own] if after else []))
-    yield f'<text x="8" y="{y}" font-family="sans-serif" font-size="22" fill="#888888" visibility="{"hidden" if before else "visible"}">{text}'
+    times = ";".join(f"{at / (before + own + after):.4f}" for at in ([0] if before else []) + [before]
+                     + ([before + own] if after else []))
+    yield (f'<text x="8" y="{y}" font-family="sans-serif" font-size="22" fill="#888888" '
+           f'visibility="{"hidden" if before else "visible"}">{text}')
     yield (f'<animate attributeName="visibility" dur="{seconds:.2f}s" repeatCount="indefinite" calcMode="discrete" '
            f'keyTimes="{times}" values="{values}"/></text>')
 
@@ -81,7 +84,8 @@ def animation(layout: Layout, runs: list[list[str]], title: str) -> str:
     """Returns an SVG that plays runs one after the other, each with these inputs on."""
     own = layout.steps + 1 + REST
     width, height = CELL * layout.width, CELL * layout.height
-    lines = [f'<svg xmlns="http://www.w3.org/2000/svg" viewBox="0 0 {width} {height + 32}" width="{width}" height="{height + 32}">',
+    lines = [f'<svg xmlns="http://www.w3.org/2000/svg" viewBox="0 0 {width} {height + 32}" width="{width}" '
+             f'height="{height + 32}">',
              f"<title>{title}</title>"]
     for part in layout.of_kind("mirror"):
         box = f'x="{CELL * part.x}" y="{CELL * part.y}" width="{CELL * part.width}" height="{CELL * part.height}"'

@@ -20,8 +20,8 @@ NAME_SIZE = 8
 # Up to this many inputs all choices are tried, and else so many samples of them.
 MAX_INPUTS = 12
 SAMPLES = 256
-# Larger layouts get larger letters and wider ways, so that they can be read at the width of a page. Above `LARGE_SIDE` ways stay as wide as
-# they are at that side in a picture of one size: balls of the router keep four cells apart.
+# Larger layouts get larger letters and wider ways, so that they can be read at the width of a page. Above `LARGE_SIDE`
+# ways stay as wide as they are at that side in a picture of one size: balls of the router keep four cells apart.
 PLAIN_SIDE = 64
 MAX_WIDENING = 2.5
 LARGE_SIDE = 512
@@ -29,7 +29,8 @@ MAX_LEGEND = 40
 MAX_MIRRORS = 2000
 # More names of ports would cover each other and take minutes to place.
 MAX_NAMES = 512
-# In a picture of a large layout a ball is at least this part of its side, and the name of a gate is at least this part of a port's name.
+# In a picture of a large layout a ball is at least this part of its side, and the name of a gate is at least this part
+# of a port's name.
 LARGE_BALL, LEAST_NAME = 1 / 300, 0.5
 # More modules have faint borders and no numbers, which would hide the ways.
 MAX_NUMBERED = 64
@@ -46,15 +47,20 @@ stroke-linejoin:round;paint-order:stroke}.leader{stroke:#222;stroke-width:.7}.in
 .faint{stroke-width:1;stroke-dasharray:none;stroke-opacity:.2}.fault{fill:none;stroke:#d00000;stroke-width:2.5}
 .way{fill:none;stroke-width:2.2;stroke-linecap:round}.way[stroke-dasharray]{stroke-linecap:butt}
 .back{fill:#fff}.plane{fill:#f7f7f4}.line{stroke:#dcdcd6;stroke-width:.4}.w8{stroke:#777}
-@media(prefers-color-scheme:dark){text{fill:#eee}.name{stroke:#1e2126}.leader{stroke:#eee}.fault{stroke:#ff5a52}.in,.out,.waste{stroke:#eee}.mirror{fill:#7c828c}.ball{fill:#fff}
-.box{stroke:#c79bff}.number{fill:#c79bff}.back{fill:#16181c}.plane{fill:#1e2126}.line{stroke:#343840}.w8{stroke:#999}}"""
+@media(prefers-color-scheme:dark){text{fill:#eee}.name{stroke:#1e2126}.leader{stroke:#eee}.fault{stroke:#ff5a52}\
+.in,.out,.waste{stroke:#eee}.mirror{fill:#7c828c}.ball{fill:#fff}
+.box{stroke:#c79bff}.number{fill:#c79bff}.back{fill:#16181c}.plane{fill:#1e2126}\
+.line{stroke:#343840}.w8{stroke:#999}}"""
 LIGHT_WAYS = "".join(f".w{index}{{stroke:{colour}}}" for index, colour in enumerate(COLOURS))
 DARK_WAYS = "".join(f".w{index}{{stroke:{colour}}}" for index, colour in enumerate(DARK_COLOURS))
 
 
 @dataclass
 class Drawing:
-    """What a picture shows of a layout, apart from its parts. `labels` has the names of the wires that share a way with the key."""
+    """What a picture shows of a layout, apart from its parts.
+
+    `labels` has the names of the wires that share a way with the key.
+    """
 
     live: set[Cell] = field(default_factory=set)
     ways: dict[str, list[Piece]] = field(default_factory=dict)
@@ -64,7 +70,8 @@ class Drawing:
     gates: list[tuple[Box, list[str]]] = field(default_factory=list)
     faults: list[tuple[Cell, str]] = field(default_factory=list)
     title: str = ""
-    # The part of the layout that is shown, or all of it; the cells that a ball takes at least; whether the ways have arrows.
+    # The part of the layout that is shown, or all of it; the cells that a ball takes at least; whether the ways have
+    # arrows.
     view: Box | None = None
     ball: float = 0.0
     has_arrows: bool = False
@@ -92,7 +99,8 @@ def point(cell: Cell) -> str:
 
 def rectangle(kind: str, x: int, y: int, width: int, height: int) -> str:
     """Returns a rectangle of cells."""
-    return (f'<rect class="{kind}" x="{MARGIN + x * CELL}" y="{MARGIN + y * CELL}" width="{width * CELL}" height="{height * CELL}"/>')
+    return (f'<rect class="{kind}" x="{MARGIN + x * CELL}" y="{MARGIN + y * CELL}" width="{width * CELL}" '
+            f'height="{height * CELL}"/>')
 
 
 def number_step(size: int) -> int:
@@ -122,7 +130,10 @@ def plane(view: Box) -> list[str]:
 
 
 def labelled_cells(layout: Layout) -> dict[tuple[Cell, str], list[str]]:
-    """Returns the cells that get names, with their kinds. A ball of two cells has its name once: behind an `in`, ahead of an `out`."""
+    """Returns the cells that get names, with their kinds.
+
+    A ball of two cells has its name once: behind an `in`, ahead of an `out`.
+    """
     ports: dict[tuple[str, str], list[Cell]] = {}
     for part in layout.parts:
         if part.kind in ("in", "out"):
@@ -159,7 +170,10 @@ def left_out_words(layout: Layout) -> str:
 
 
 def port_labels(layout: Layout, view: Box, scale: float) -> list[str]:
-    """Returns the names of ports, inputs above and outputs below if they cover no other port there. Names of one cell are in one place."""
+    """Returns the names of ports, inputs above and outputs below if they cover no other port there.
+
+    Names of one cell are in one place.
+    """
     size = NAME_SIZE * scale
     labels = [(cell_rect(*cell), kind, "→" + names[0] if kind == "in" else names[0] + "→")
               for (cell, kind), names in labelled_cells(layout).items()]
@@ -173,7 +187,8 @@ def port_labels(layout: Layout, view: Box, scale: float) -> list[str]:
     signs = [cell_rect(*part.cell) for part in layout.parts if part.kind in ("waste", "ball")]
     walls = [cell_rect(part.x, part.y, part.width, part.height) for part in layout.of_kind("mirror")]
     room, lines, parts = MARGIN * scale, [], []
-    bounds = Rect(MARGIN + view.x * CELL - room, MARGIN + view.y * CELL - room, view.width * CELL + 2 * room, view.height * CELL + 2 * room)
+    bounds = Rect(MARGIN + view.x * CELL - room, MARGIN + view.y * CELL - room, view.width * CELL + 2 * room,
+                  view.height * CELL + 2 * room)
     for (cell, _, mark), place in zip(labels, place_names(names, signs + walls, bare, bounds)):
         line = leader(place, cell)
         if line:
@@ -189,7 +204,9 @@ def mirror_parts(mirrors: list[Part]) -> list[str]:
     """Returns mirrors: each by itself, or one path for very many."""
     if len(mirrors) <= MAX_MIRRORS:
         return [rectangle("mirror", part.x, part.y, part.width, part.height) for part in mirrors]
-    boxes = (f"M{MARGIN + part.x * CELL} {MARGIN + part.y * CELL}h{part.width * CELL}v{part.height * CELL}h-{part.width * CELL}z" for part in mirrors)
+    boxes = (f"M{MARGIN + part.x * CELL} "
+             f"{MARGIN + part.y * CELL}h{part.width * CELL}v{part.height * CELL}h-{part.width * CELL}z"
+             for part in mirrors)
     return [f'<path class="mirror" d="{"".join(boxes)}"/>']
 
 
@@ -197,7 +214,8 @@ def layout_parts(layout: Layout) -> list[str]:
     """Returns mirrors, ports and waste cells."""
     parts = mirror_parts(layout.of_kind("mirror"))
     parts += [rectangle("out", part.x, part.y, 1, 1) for part in layout.of_kind("out")]
-    parts += [f'<rect class="in" x="{MARGIN + part.x * CELL + 1.5}" y="{MARGIN + part.y * CELL + 1.5}" width="{CELL - 3}" height="{CELL - 3}"/>'
+    parts += [f'<rect class="in" x="{MARGIN + part.x * CELL + 1.5}" y="{MARGIN + part.y * CELL + 1.5}" '
+              f'width="{CELL - 3}" height="{CELL - 3}"/>'
               for part in layout.of_kind("in")]
     parts += [waste_sign(part) for part in layout.of_kind("waste")]
     return parts
@@ -217,13 +235,15 @@ def module_parts(modules: list[Module]) -> list[str]:
         box = module.box
         parts.append(rectangle("box" if is_numbered else "box faint", box.x, box.y, box.width, box.height))
         if is_numbered:
-            parts.append(f'<text class="number" x="{MARGIN + box.x * CELL + 3}" y="{MARGIN + box.y * CELL + 9}">{module.number}</text>')
+            parts.append(f'<text class="number" x="{MARGIN + box.x * CELL + 3}" '
+                         f'y="{MARGIN + box.y * CELL + 9}">{module.number}</text>')
     return parts
 
 
 def gate_parts(gates: list[tuple[Box, list[str]]]) -> list[str]:
     """Returns the boxes of modules that use gates, with what is said of them."""
-    return [f'<g><title>a module that uses {escape(", ".join(names))}</title>{rectangle("gate", box.x, box.y, box.width, box.height)}</g>'
+    return ['<g><title>a module that uses '
+            f'{escape(", ".join(names))}</title>{rectangle("gate", box.x, box.y, box.width, box.height)}</g>'
             for box, names in gates]
 
 
@@ -235,12 +255,14 @@ def gate_names(gates: list[tuple[Box, list[str]]], scale: float) -> list[str]:
         size = min(largest, box.width * CELL / (0.62 * len(shown)), box.height * CELL)
         x, y = MARGIN + (box.x + box.width / 2) * CELL, MARGIN + (box.y + box.height / 2) * CELL + size / 3
         if size >= LEAST_NAME * largest:
-            parts.append(f'<text class="gate-name" x="{short(x)}" y="{short(y)}" style="font-size:{short(size)}px">{escape(shown)}</text>')
+            parts.append(f'<text class="gate-name" x="{short(x)}" y="{short(y)}" '
+                         f'style="font-size:{short(size)}px">{escape(shown)}</text>')
     return parts
 
 
 def ball_parts(layout: Layout, live: set[Cell], least: float) -> list[str]:
-    """Returns the live cells that are no mirror's as discs of a least size in cells, and dead cells of mirrors as holes."""
+    """Returns the live cells that are no mirror's as discs of a least size in cells, and dead cells of mirrors as
+    holes."""
     mirrors = layout.mirror_cells()
     parts, radius = [], CELL * max(0.33, least / 2)
     for cell in sorted(live - mirrors):
@@ -253,12 +275,14 @@ def ball_parts(layout: Layout, live: set[Cell], least: float) -> list[str]:
 
 def wire_style(wires: list[str]) -> dict[str, tuple[int, str]]:
     """Returns the number of a colour, and a dash, for each wire."""
-    styles = {wire: (index % 8, DASHES[index // 8 % 8]) for index, wire in enumerate(wire for wire in wires if wire not in ("", OTHERS))}
+    styles = {wire: (index % 8, DASHES[index // 8 % 8]) for index,
+              wire in enumerate(wire for wire in wires if wire not in ("", OTHERS))}
     return styles | {"": (SEVERAL, "1 2"), OTHERS: (FAINT, "")}
 
 
 def way_order(drawing: Drawing, wires: list[str]) -> list[str]:
-    """Returns the wires that have a way: first those that are faint, then others in their order, then the constants, and then what is no wire's."""
+    """Returns the wires that have a way: first those that are faint, then others in their order, then the constants,
+    and then what is no wire's."""
     return [wire for wire in [OTHERS, *wires, "1", ""] if wire in drawing.ways]
 
 
@@ -273,16 +297,19 @@ def way_parts(drawing: Drawing, wires: list[str], widening: float) -> list[str]:
     styles = wire_style(order)
     for index, wire in enumerate(order):
         colour, dash = styles[wire]
-        # Later ways are thinner, so that one below another is still seen. In a large layout the thinnest must still be seen itself.
+        # Later ways are thinner, so that one below another is still seen. In a large layout the thinnest must still be
+        # seen itself.
         thinnest = 1.6 if widening == 1 else 2.6
         width = (5 - (5 - thinnest) * index / max(1, len(order) - 1)) * widening
         path = "".join(f"M{point(first)}L{point(last)}" for first, last in joined_pieces(drawing.ways[wire]))
         dashes = f' stroke-dasharray="{" ".join(short(int(part) * widening) for part in dash.split())}"' if dash else ""
         title = escape(label_of(drawing, wire))
-        parts.append(f'<path class="way w{colour}" style="stroke-width:{short(width)}"{dashes} d="{path}"><title>{title}</title></path>')
+        parts.append(f'<path class="way w{colour}" style="stroke-width:{short(width)}"{dashes} '
+                     f'd="{path}"><title>{title}</title></path>')
         heads = chevrons(drawing.ways[wire], 3 * width / CELL) if drawing.has_arrows and wire != OTHERS else []
         if heads:
-            path = "".join("M" + "L".join(f"{short(MARGIN + x * CELL)} {short(MARGIN + y * CELL)}" for x, y in head) for head in heads)
+            path = "".join("M" + "L".join(f"{short(MARGIN + x * CELL)} {short(MARGIN + y * CELL)}" for x, y in head)
+                           for head in heads)
             parts.append(f'<path class="way w{colour}" style="stroke-width:{short(width)}" d="{path}"/>')
     return parts
 
@@ -321,12 +348,14 @@ def shown_part(layout: Layout, drawing: Drawing) -> Layout:
 
 def overlaps(one: Box, other: Box) -> bool:
     """Returns whether two boxes share a cell."""
-    return (one.x < other.x + other.width and other.x < one.x + one.width and one.y < other.y + other.height and other.y < one.y + one.height)
+    return (one.x < other.x + other.width and other.x < one.x + one.width and one.y < other.y + other.height
+            and other.y < one.y + one.height)
 
 
 def more_style(drawing: Drawing, scale: float) -> str:
     """Returns the style that only some pictures need: of larger letters, of gates and of faint ways."""
-    letters = f"g.plan text{{font-size:{short(7 * scale)}px}}g.plan .name{{font-size:{short(8 * scale)}px}}" if scale > 1 else ""
+    letters = (f"g.plan text{{font-size:{short(7 * scale)}px}}g.plan .name{{font-size:{short(8 * scale)}px}}"
+               if scale > 1 else "")
     if drawing.gates:
         letters += (".gate{fill:#7a3db8;fill-opacity:.18}.gate-name{fill:#5c2a92;text-anchor:middle;font-weight:bold;"
                     f"stroke:#f7f7f4;stroke-width:{short(2 * scale)}px;stroke-linejoin:round;paint-order:stroke}}"
@@ -337,7 +366,10 @@ def more_style(drawing: Drawing, scale: float) -> str:
 
 
 def svg(layout: Layout, drawing: Drawing, wires: list[str]) -> str:
-    """Writes the picture. Above `PLAIN_SIDE` cells a side, letters and margins grow with the part of the layout that is shown."""
+    """Writes the picture.
+
+    Above `PLAIN_SIDE` cells a side, letters and margins grow with the part of the layout that is shown.
+    """
     view, layout = drawing.view_of(layout), shown_part(layout, drawing)
     side = max(view.width, view.height)
     scale = max(1.0, side / PLAIN_SIDE)
@@ -348,19 +380,23 @@ def svg(layout: Layout, drawing: Drawing, wires: list[str]) -> str:
     height = bottom + (34 + key_height) * scale
     ball = drawing.ball or (side * LARGE_BALL if side > LARGE_SIDE else 0.0)
     parts = [*plane(view), *layout_parts(layout), *module_parts(drawing.modules), *gate_parts(drawing.gates),
-             *way_parts(drawing, wires, widening), *gate_names(drawing.gates, scale), *ball_parts(layout, drawing.live, ball), *port_labels(layout, view, scale)]
+             *way_parts(drawing, wires, widening), *gate_names(drawing.gates, scale),
+             *ball_parts(layout, drawing.live, ball), *port_labels(layout, view, scale)]
     for cell, about in drawing.faults:
         x, y = centre(cell)
-        parts.append(f'<circle class="fault" cx="{short(x)}" cy="{short(y)}" r="{CELL * max(0.75, ball):.1f}"><title>{escape(about)}</title></circle>')
+        parts.append(f'<circle class="fault" cx="{short(x)}" cy="{short(y)}" '
+                     f'r="{CELL * max(0.75, ball):.1f}"><title>{escape(about)}</title></circle>')
     style = f"{STYLE}{LIGHT_WAYS}@media(prefers-color-scheme:dark){{{DARK_WAYS}}}{more_style(drawing, scale)}"
     words = escape(drawing.title + left_out_words(layout))
     title = f'<g transform="scale({short(scale)})"><text x="{MARGIN}" y="12">{words}</text></g>'
     below = f'<g transform="translate(0 {short(bottom)}) scale({short(scale)})">' + "\n".join(keys) + "</g>"
     size = f"{short(width)} {short(height)}"
-    return (f'<svg xmlns="http://www.w3.org/2000/svg" viewBox="0 0 {size}" width="{short(width)}" height="{short(height)}" role="img">'
+    return (f'<svg xmlns="http://www.w3.org/2000/svg" viewBox="0 0 {size}" width="{short(width)}" '
+            f'height="{short(height)}" role="img">'
             f"<title>{words}</title>\n<style>{style}</style>\n"
             f'<rect class="back" width="{short(width)}" height="{short(height)}"/>\n'
-            f'<g class="plan" transform="translate({short(margin - view.x * CELL)} {short(margin - view.y * CELL)})">\n' + "\n".join(parts)
+            f'<g class="plan" transform="translate({short(margin - view.x * CELL)} {short(margin - view.y * CELL)})">\n'
+            + "\n".join(parts)
             + f"\n</g>\n{title}\n{below}\n</svg>\n")
 
 
@@ -375,7 +411,8 @@ def wire_tables(document: Document, on: list[str]) -> tuple[dict[str, Table], Ta
     chosen = sum(1 << index for index, name in enumerate(inputs) if name in on)
     if len(inputs) > MAX_INPUTS:
         full = (1 << SAMPLES) - 1
-        return evaluate_samples(circuit, SAMPLES, on).tables if circuit else sampled_tables(inputs, SAMPLES, on), full, 0
+        return evaluate_samples(circuit, SAMPLES,
+                                on).tables if circuit else sampled_tables(inputs, SAMPLES, on), full, 0
     if circuit:
         values = evaluate(circuit, inputs, [gate.number for gate in circuit.gates])
         return values.tables, values.full, chosen
@@ -390,11 +427,13 @@ def sampled_words(document: Document) -> str:
     return f" in {SAMPLES} sampled choices of the {count} inputs" if count > MAX_INPUTS else ""
 
 
-def ball_ways(document: Document, on: list[str] | None, until: int, is_directed: bool = False) -> tuple[dict[str, list[Piece]], dict[str, str]]:
+def ball_ways(document: Document, on: list[str] | None, until: int,
+              is_directed: bool = False) -> tuple[dict[str, list[Piece]], dict[str, str]]:
     """Returns the ways of the balls by the wires that are true if and only if a ball takes them, as straight pieces.
 
-    With `on` only the ways under this choice of inputs are left. The empty name is for assignments that are no wire's. Of equal wires
-    the first one has the way: the second result is the list of their names, by this wire. Pieces go from left to right, or as the balls fly.
+    With `on` only the ways under this choice of inputs are left. The empty name is for assignments that are no wire's.
+    Of equal wires the first one has the way: the second result is the list of their names, by this wire. Pieces go from
+    left to right, or as the balls fly.
     """
     layout = document.layout
     assert layout is not None
@@ -412,7 +451,10 @@ def ball_ways(document: Document, on: list[str] | None, until: int, is_directed:
 
 
 def by_levels(drawing: Drawing, circuit: Circuit, most_wires: int = MAX_LEGEND) -> list[str]:
-    """Gives the ways of more wires than some to groups of levels, and returns the groups. A level counts the gates from the inputs to a wire."""
+    """Gives the ways of more wires than some to groups of levels, and returns the groups.
+
+    A level counts the gates from the inputs to a wire.
+    """
     levels = dict.fromkeys(circuit.inputs, 0)
     for gate in circuit.gates:
         level = max((levels[wire] for wire in gate.ins), default=0) + (gate.word not in ("source", "delay"))
@@ -423,7 +465,8 @@ def by_levels(drawing: Drawing, circuit: Circuit, most_wires: int = MAX_LEGEND) 
     most = max(levels[wire] for wire in present) + 1
     size = -(-most // len(COLOURS))
     lasts = {first: min(first + size, most) - 1 for first in range(0, most, size)}
-    groups = {first: f"level {first}" if first == last else f"levels {first} to {last}" for first, last in lasts.items()}
+    groups = {first: f"level {first}" if first == last else f"levels {first} to {last}" for first,
+              last in lasts.items()}
     ways: dict[str, list[Piece]] = {}
     for wire, pieces in drawing.ways.items():
         ways.setdefault(groups[levels[wire] // size * size] if wire in levels else wire, []).extend(pieces)

@@ -1,7 +1,8 @@
 """Golly's pattern files: writes a layout's start for Golly's rule of this automaton, and reads such a file.
 
-Golly emulates the Margolus neighbourhood by states: 1 and 3 are dead and live cells at the upper left of a block that is stepped
-next, 2 and 4 are dead and live cells elsewhere in blocks (see the comments of Golly's Patterns/Margolus/BBM.rle).
+Golly emulates the Margolus neighbourhood by states: 1 and 3 are dead and live cells at the upper left of a block that
+is stepped next, 2 and 4 are dead and live cells elsewhere in blocks (see the comments of Golly's
+Patterns/Margolus/BBM.rle).
 """
 
 import re
@@ -14,12 +15,16 @@ from ..texts.limits import SECOND, limits_for
 RULE = "BBM-Margolus-emulated"
 SIGNS = ".ABCD"
 MARGIN = 2
-# The most rows and columns of a file that are read, counted with those that are empty: those of the largest layout with its margin.
+# The most rows and columns of a file that are read, counted with those that are empty: those of the largest layout with
+# its margin.
 MAX_REACH = SECOND.max_side + 2 * MARGIN
 
 
 def row_of(y: int, columns: range, live: list[int]) -> str:
-    """Returns Golly's states of a row at an even time, as signs. `columns` begins at an even one; `live` are the columns of the live cells."""
+    """Returns Golly's states of a row at an even time, as signs.
+
+    `columns` begins at an even one; `live` are the columns of the live cells.
+    """
     row = list(SIGNS[1 if y % 2 == 0 else 2] + SIGNS[2]) * (len(columns) // 2)
     for x in live:
         row[x - columns[0]] = SIGNS[3 if x % 2 == 0 and y % 2 == 0 else 4]
@@ -40,7 +45,8 @@ def golly_text(layout: Layout, live: set[Cell], on: list[str], lines: list[str])
     body = "$\n".join(packed(row_of(y, columns, live_of.get(y, []))) for y in rows)
     comments = ["#C bbmlab: the start of a layout; states 1 and 3 are the upper left cells of blocks, 3 and 4 are live",
                 f"#C inputs on: {' '.join(on) or 'none'}", *(f"#C layout: {line}" for line in lines)]
-    return "\n".join([f"#CXRLE Pos={-MARGIN},{-MARGIN}", *comments, f"x = {len(columns)}, y = {len(rows)}, rule = {RULE}", body + "!"]) + "\n"
+    return "\n".join([f"#CXRLE Pos={-MARGIN},{-MARGIN}", *comments,
+                      f"x = {len(columns)}, y = {len(rows)}, rule = {RULE}", body + "!"]) + "\n"
 
 
 def golly_states(text: str) -> tuple[dict[Cell, int], list[str]]:
@@ -73,7 +79,8 @@ def unpacked(body: str, corner: Cell) -> dict[Cell, int]:
         if sign == "!":
             break
         if (y if sign == "$" else x) + number - corner[sign == "$"] > MAX_REACH:
-            raise LabError(f"the pattern takes more than {MAX_REACH} rows or columns; a layout takes {SECOND.max_side} at most")
+            raise LabError(f"the pattern takes more than {MAX_REACH} rows or columns; a layout takes {SECOND.max_side} "
+                           "at most")
         if sign == "$":
             x, y = corner[0], y + number
             continue

@@ -77,14 +77,16 @@ class Obstacles:
 
 
 def places_of(name: Name) -> Iterator[Place]:
-    """Yields the places for a name, the best first: above or below, at the sides, at the corners, and then further away."""
+    """Yields the places for a name, the best first: above or below, at the sides, at the corners, and then further
+    away."""
     cell, first = name.cell, -1 if name.is_above else 1
     x, y = cell.x + cell.width / 2, cell.y + cell.height / 2
     for away in range(MAX_AWAY + 1):
         lift = cell.height / 2 + name.height / 2 + 1 + away * name.height
         shift = cell.width / 2 + name.width / 2 + 2 + away * name.height
         half = name.width / 2
-        for dx, dy in ((0.0, first * lift), (0.0, -first * lift), (shift, 0.0), (-shift, 0.0), (half, first * lift), (-half, first * lift),
+        for dx, dy in ((0.0, first * lift), (0.0, -first * lift), (shift, 0.0), (-shift, 0.0), (half, first * lift),
+                       (-half, first * lift),
                        (half, -first * lift), (-half, -first * lift), (shift, first * lift), (-shift, first * lift),
                        (shift, -first * lift), (-shift, -first * lift)):
             yield Place(Rect(x + dx - name.width / 2, y + dy - name.height / 2, name.width, name.height), away)

@@ -10,8 +10,8 @@ from .ways import Piece
 
 # The name of the ways that are faint.
 OTHERS = "other wires"
-# A piece with an arrow is at least so many times as long as the arrow, which is at this part of its length: of two ways on one line that go
-# against each other each shows its own.
+# A piece with an arrow is at least so many times as long as the arrow, which is at this part of its length: of two ways
+# on one line that go against each other each shows its own.
 LEAST_ARROWS, ARROW_PLACE = 4, 0.6
 
 Point = tuple[float, float]
@@ -19,7 +19,8 @@ Point = tuple[float, float]
 
 @dataclass(frozen=True)
 class Look:
-    """What a reader asks for: a part of the layout, wires whose ways are brought out, one with all on which it depends, the least size of a ball."""
+    """What a reader asks for: a part of the layout, wires whose ways are brought out, one with all on which it depends,
+    the least size of a ball."""
 
     crop: Box | None = None
     wires: tuple[str, ...] = ()
@@ -56,7 +57,8 @@ def chevrons(pieces: Iterable[Piece], size: float) -> list[list[Point]]:
             continue
         dx, dy = (u > x) - (u < x), (v > y) - (v < y)
         tip = x + 0.5 + ARROW_PLACE * (u - x), y + 0.5 + ARROW_PLACE * (v - y)
-        # The arms of an arrow along a diagonal are level and upright; balls that meet move to the sides for one step only.
+        # The arms of an arrow along a diagonal are level and upright; balls that meet move to the sides for one step
+        # only.
         found.append([(tip[0] - dx * size, tip[1]), tip, (tip[0], tip[1] - dy * size)])
     return found
 
@@ -83,7 +85,10 @@ def wanted_wires(look: Look, circuit: Circuit | None, names: Iterable[str]) -> s
 
 
 def bring_out(ways: dict[str, list[Piece]], labels: dict[str, str], wanted: set[str]) -> dict[str, list[Piece]]:
-    """Returns the ways with all but those of some wires as one group. `labels` lists the equal wires, with commas between, of a way's own wire."""
+    """Returns the ways with all but those of some wires as one group.
+
+    `labels` lists the equal wires, with commas between, of a way's own wire.
+    """
     found: dict[str, list[Piece]] = {OTHERS: []}
     for wire, pieces in ways.items():
         if wanted.isdisjoint(labels.get(wire, wire).split(", ")):

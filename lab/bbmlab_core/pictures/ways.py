@@ -1,8 +1,8 @@
 """The ways of the balls of a layout over all times, as straight pieces.
 
-A run of a large layout makes millions of moves, and most of them are of a ball that flies by itself: it moves to the opposite cell of its
-block. Such a move costs a microsecond here, and nothing where a ball flies for many steps at once. All other blocks follow the block rule in
-full (Margolus 1984).
+A run of a large layout makes millions of moves, and most of them are of a ball that flies by itself: it moves to the
+opposite cell of its block. Such a move costs a microsecond here, and nothing where a ball flies for many steps at once.
+All other blocks follow the block rule in full (Margolus 1984).
 """
 
 from typing import Iterable, Iterator
@@ -12,20 +12,23 @@ from ..texts.layouts import Cell, Layout, cells_of
 
 # A straight piece of a way: its first and its last cell.
 Piece = tuple[Cell, Cell]
-# The directions of moves by the differences of their cells' numbers: along the diagonals, and to the sides after a collision.
+# The directions of moves by the differences of their cells' numbers: along the diagonals, and to the sides after a
+# collision.
 DIRECTIONS = (DIAGONAL, -DIAGONAL, ROW - 1, 1 - ROW, 1, -1)
 FALLING, BACK_FALLING, RISING, BACK_RISING = range(4)
 DIRECTION_OF = {step: number for number, step in enumerate(DIRECTIONS)}
 # By whether x and y of a ball differ from the parity of the time, the direction in which it flies.
 FLYING = ((FALLING, BACK_RISING), (RISING, BACK_FALLING))
-# How many steps a ball may fly at once, and the bits of the side of squares: 2 * steps + 2 cells. If no ball of another direction is in the square
-# of a ball or next to it, they do not meet in these steps, since nothing spreads by more than a cell a step.
+# How many steps a ball may fly at once, and the bits of the side of squares: 2 * steps + 2 cells. If no ball of another
+# direction is in the square of a ball or next to it, they do not meet in these steps, since nothing spreads by more
+# than a cell a step.
 FLIGHTS = ((31, 6), (7, 4))
 ROW_BITS = ROW.bit_length() - 1
 
 
 def block_moves(before: dict[int, Table], corner: int) -> list[tuple[int, int, Table]]:
-    """Returns the moves in a block: from where, to where, and under which assignments. A collision goes by the sides."""
+    """Returns the moves in a block: from where, to where, and under which assignments. A collision goes by the sides.
+    """
     a, b, c, d = corner, corner + 1, corner + ROW, corner + DIAGONAL
     live = {key: before.get(key, 0) for key in (a, b, c, d)}
     moves = []
@@ -41,17 +44,20 @@ class WayRun:
 
     def __init__(self, layout: Layout, tables: dict[str, Table], full: Table) -> None:
         self.live = {key: table for key, table in start_tables(layout, tables, full).items() if table}
-        # Cells of mirrors that never changed, the cells at which a mirror could stand in the same block, and those next to the rectangle.
+        # Cells of mirrors that never changed, the cells at which a mirror could stand in the same block, and those next
+        # to the rectangle.
         self.steady = {key_of(cell) for part in layout.of_kind("mirror") for cell in part.cells()}
         self.near = {key + side + across for key in self.steady for side in (-1, 0, 1) for across in (-ROW, 0, ROW)}
         self.outside = {key_of(cell) for cell in border_of(layout)}
         # Where no ball flies for many steps at once.
         self.stops = self.near | self.outside
-        # The cells whose blocks the next step looks at: moving ones, and ones that were left near a mirror in the last two steps.
+        # The cells whose blocks the next step looks at: moving ones, and ones that were left near a mirror in the last
+        # two steps.
         self.moving: list[int] = list(self.live)
         self.left: tuple[list[int], list[int]] = (list(self.live), [])
         self.time = 0
-        # By the number of its last cell and its direction, the first cell of a piece, its table and when it begins; and pieces that ended.
+        # By the number of its last cell and its direction, the first cell of a piece, its table and when it begins; and
+        # pieces that ended.
         self.open: dict[int, tuple[int, Table, int]] = {}
         self.ended: list[tuple[int, int, Table, int]] = []
 
@@ -71,7 +77,8 @@ class WayRun:
                 if a or d or b and c:
                     self.turn(corner, moving, left)
                     continue
-                start, end, direction = (corner + 1, corner + ROW, RISING) if b else (corner + ROW, corner + 1, BACK_RISING)
+                start, end, direction = (corner + 1, corner + ROW,
+                                         RISING) if b else (corner + ROW, corner + 1, BACK_RISING)
             elif a:
                 if d:
                     self.turn(corner, moving, left)
@@ -91,7 +98,8 @@ class WayRun:
         return self.outside.isdisjoint(moving)
 
     def fly(self, count: int, level: int = 0) -> bool:
-        """Makes steps up to a number of them, and returns whether everything stays in the rectangle: as `step`, but in fewer moves."""
+        """Makes steps up to a number of them, and returns whether everything stays in the rectangle: as `step`, but in
+        fewer moves."""
         if level == len(FLIGHTS):
             return all(self.step() for _ in range(count))
         until, (most, bits) = self.time + count, FLIGHTS[level]
@@ -125,7 +133,8 @@ class WayRun:
             wide[square] = mask
         rest += [key for key, direction, square in found if wide[square] != 1 << direction]
         self.moving = rest
-        return [(key, direction, self.live.pop(key)) for key, direction, square in found if wide[square] == 1 << direction]
+        return [(key, direction, self.live.pop(key)) for key, direction,
+                square in found if wide[square] == 1 << direction]
 
     def land(self, flying: list[tuple[int, int, Table]], count: int) -> None:
         """Puts balls back that flew for a number of steps."""
@@ -157,7 +166,10 @@ class WayRun:
                 moving.append(key)
 
     def note(self, start: int, end: int, direction: int, table: Table, time: int) -> None:
-        """Notes moves in a direction that begin at a time. They go on with a piece only if it comes to their start just then."""
+        """Notes moves in a direction that begin at a time.
+
+        They go on with a piece only if it comes to their start just then.
+        """
         piece, number = self.open.pop(start * 8 + direction, None), end * 8 + direction
         if piece is not None and (piece[1] != table or piece[2] + (start - piece[0]) // DIRECTIONS[direction] != time):
             self.ended.append((piece[0], start, piece[1], piece[2]))
@@ -168,7 +180,10 @@ class WayRun:
         self.open[number] = piece or (start, table, time)
 
     def pieces(self) -> Iterator[tuple[int, int, Table, int]]:
-        """Returns all pieces: the first and the last cell, under which assignments a ball takes them, and when. They end in the rectangle."""
+        """Returns all pieces: the first and the last cell, under which assignments a ball takes them, and when.
+
+        They end in the rectangle.
+        """
         for number, (start, table, time) in self.open.items():
             end, direction = divmod(number, 8)
             yield start, end - DIRECTIONS[direction] if end in self.outside else end, table, time
@@ -178,11 +193,15 @@ class WayRun:
 def border_of(layout: Layout) -> Iterable[Cell]:
     """Returns the cells next to the rectangle."""
     wide, high = layout.width + 2, layout.height + 2
-    return [*cells_of(-1, -1, wide, 1), *cells_of(-1, layout.height, wide, 1), *cells_of(-1, -1, 1, high), *cells_of(layout.width, -1, 1, high)]
+    return [*cells_of(-1, -1, wide, 1), *cells_of(-1, layout.height, wide, 1), *cells_of(-1, -1, 1, high),
+            *cells_of(layout.width, -1, 1, high)]
 
 
 def joined_pieces(pieces: Iterable[Piece]) -> list[Piece]:
-    """Joins pieces of one line that meet or share cells. Each goes from its left end to its right end, and they are in order."""
+    """Joins pieces of one line that meet or share cells.
+
+    Each goes from its left end to its right end, and they are in order.
+    """
     lines: dict[tuple[int, int], list[tuple[int, int]]] = {}
     for one, two in pieces:
         (x, y), (u, v) = (one, two) if one < two else (two, one)
@@ -201,7 +220,8 @@ def joined_pieces(pieces: Iterable[Piece]) -> list[Piece]:
 
 
 def all_pieces(layout: Layout, tables: dict[str, Table], full: Table, until: int) -> dict[Table, list[Piece]]:
-    """Returns the pieces of the ways of balls up to a time, as they fly, by the assignments under which a ball takes them."""
+    """Returns the pieces of the ways of balls up to a time, as they fly, by the assignments under which a ball takes
+    them."""
     run = WayRun(layout, tables, full)
     run.fly(until)
     found: dict[Table, list[Piece]] = {}
@@ -220,5 +240,6 @@ def directed_ways(layout: Layout, tables: dict[str, Table], full: Table, until: 
     found = {}
     for table, pieces in all_pieces(layout, tables, full, until).items():
         on = joined_pieces(piece for piece in pieces if piece[0] < piece[1])
-        found[table] = on + [(last, first) for first, last in joined_pieces(piece for piece in pieces if piece[0] >= piece[1])]
+        found[table] = on + [(last, first) for first,
+                             last in joined_pieces(piece for piece in pieces if piece[0] >= piece[1])]
     return found

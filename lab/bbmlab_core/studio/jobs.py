@@ -1,4 +1,5 @@
-"""Runs jobs in a process of their own, one at a time, and ends those that take too long or that a newer job replaces."""
+"""Runs jobs in a process of their own, one at a time, and ends those that take too long or that a newer job replaces.
+"""
 
 import json
 import os
@@ -24,10 +25,14 @@ class Worker:
     def __init__(self, program: Executable | str, seconds: float, memory: int) -> None:
         self.program = program = opened(program)
         # Compiled modules are kept where this process keeps its own.
-        compiled = ["-X", f"pycache_prefix={sys.pycache_prefix}"] if sys.pycache_prefix and not sys.dont_write_bytecode else ["-B"]
-        words = [sys.executable, *compiled, "-m", "bbmlab_core.studio.worker", program.path, str(program.descriptor), program.sha256, str(seconds), str(memory)]
+        compiled = ["-X",
+                    f"pycache_prefix={sys.pycache_prefix}"] if sys.pycache_prefix and not sys.dont_write_bytecode else [
+                        "-B"]
+        words = [sys.executable, *compiled, "-m", "bbmlab_core.studio.worker", program.path, str(program.descriptor),
+                 program.sha256, str(seconds), str(memory)]
         path = os.pathsep.join([str(PACKAGE_PARENT), *filter(None, [os.environ.get("PYTHONPATH")])])
-        self.process = subprocess.Popen(words, stdin=subprocess.PIPE, stdout=subprocess.PIPE, start_new_session=True, pass_fds=[program.descriptor],
+        self.process = subprocess.Popen(words, stdin=subprocess.PIPE, stdout=subprocess.PIPE, start_new_session=True,
+                                        pass_fds=[program.descriptor],
                                         env={**os.environ, "PYTHONPATH": path})
         self.is_ended = False
         # Whether the time for an answer was over.
@@ -69,11 +74,15 @@ class Worker:
         except subprocess.TimeoutExpired:
             return "the lab's process closed its output"
         if status < 0:
-            return f"the lab's process was ended by {signal.Signals(-status).name if -status in set(signal.Signals) else f'signal {-status}'}"
+            return ("the lab's process was ended by "
+                    f"{signal.Signals(-status).name if -status in set(signal.Signals) else f'signal {-status}'}")
         return f"the lab's process ended with status {status}, and standard error of `bbmlab studio` may say why"
 
     def release(self) -> None:
-        """Closes the pipes. Only the thread that waits for an answer may do so: another one could be given the number of a closed pipe."""
+        """Closes the pipes.
+
+        Only the thread that waits for an answer may do so: another one could be given the number of a closed pipe.
+        """
         for stream in (self.process.stdin, self.process.stdout):
             if stream:
                 try:
@@ -135,7 +144,8 @@ class Jobs:
         worker.release()
         if was_replaced:
             return {"replaced": True}
-        return {"error": f"There is no answer: the time limit of {self.seconds:g} seconds was reached." if worker.is_late else f"There is no answer: {ended}."}
+        return {"error": f"There is no answer: the time limit of {self.seconds:g} seconds was reached."
+                if worker.is_late else f"There is no answer: {ended}."}
 
     def close(self) -> None:
         """Ends the process. No job runs later."""

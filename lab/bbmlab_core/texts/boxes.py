@@ -38,7 +38,8 @@ class Box:
     def ring(self) -> set[Cell]:
         """Returns the outermost cells of the box."""
         columns, rows = range(self.x, self.x + self.width), range(self.y, self.y + self.height)
-        return {(x, y) for x in columns for y in (rows[0], rows[-1])} | {(x, y) for y in rows for x in (columns[0], columns[-1])}
+        return {(x, y) for x in columns for y in (rows[0], rows[-1])} | {(x, y) for y in rows
+                                                                         for x in (columns[0], columns[-1])}
 
     def halo(self) -> set[Cell]:
         """Returns the cells around the box."""

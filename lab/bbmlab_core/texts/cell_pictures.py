@@ -6,7 +6,8 @@ from .layouts import Cell
 
 MAX_COLUMNS = 48
 MAX_ROWS = 24
-LEGEND = "o live   # live mirror   . dead   - mirror that is dead   X live, to be dead   ? dead, to be live   + heard from a neighbour"
+LEGEND = ("o live   # live mirror   . dead   - mirror that is dead   X live, to be dead   ? dead, to be live   + heard "
+          "from a neighbour")
 
 
 def window(low: int, size: int, focus: int, most: int) -> range:
@@ -28,7 +29,10 @@ def cell_sign(cell: Cell, live: set[Cell], mirrors: set[Cell], heard: Collection
 
 def text_picture(box: tuple[int, int, int, int], live: set[Cell], mirrors: set[Cell], heard: Collection[Cell] = (),
                  marked: Cell | None = None) -> list[str]:
-    """Returns the rows of a picture of a box with the numbers of its columns and rows. Cells around the box show what is heard."""
+    """Returns the rows of a picture of a box with the numbers of its columns and rows.
+
+    Cells around the box show what is heard.
+    """
     x, y, width, height = box
     focus = marked or (x + width // 2, y + height // 2)
     columns = window(x - 1, width + 2, focus[0], MAX_COLUMNS)

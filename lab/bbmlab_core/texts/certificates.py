@@ -114,7 +114,8 @@ class Certificate:
         """Returns which module owns each block. It is made once for the modules that there are."""
         if self._owners is None or self._owners.module_count != len(self.modules):
             boxes = [module.box for module in self.modules]
-            self._owners = Owners(max((box.x + box.width for box in boxes), default=0), max((box.y + box.height for box in boxes), default=0))
+            self._owners = Owners(max((box.x + box.width for box in boxes), default=0),
+                                  max((box.y + box.height for box in boxes), default=0))
             for number, box in enumerate(boxes):
                 self._owners.take(box, number)
         return self._owners
@@ -194,7 +195,8 @@ class CertificateReader(SectionReader):
         if not self.owners.take(module.box, module.number):
             cell, number = self.owners.taken_in(module.box)
             other = self.certificate.modules[number]
-            self.lines.refuse(8, "box_overlap", box=module.box, other=other.number, other_box=other.box, at=other.line, cell=cell)
+            self.lines.refuse(8, "box_overlap", box=module.box, other=other.number, other_box=other.box, at=other.line,
+                              cell=cell)
         self.certificate.modules.append(module)
 
     def read_cut(self, name: str) -> None:
@@ -300,7 +302,8 @@ class CertificateReader(SectionReader):
             faults.append("star_cell")
         if faults:
             star = self.module.stars[line.kind].get(line.cell)
-            self.lines.refuse(10, "border_place", faults=faults, new=line, module=self.module.number, box=box, star=star,
+            self.lines.refuse(10, "border_place", faults=faults, new=line, module=self.module.number, box=box,
+                              star=star,
                               steps=self.layout.steps, size=(self.layout.width, self.layout.height))
 
     def read_stop(self, time: int, name: str, x: int, y: int) -> None:
@@ -313,7 +316,8 @@ class CertificateReader(SectionReader):
         late, outside = time > self.layout.steps, not self.module.box.has((x, y))
         if late or outside:
             faults = ["stop_late"] * late + ["stop_outside"] * outside
-            self.lines.refuse(10, "border_place", faults=faults, new=stop, module=self.module.number, box=self.module.box,
+            self.lines.refuse(10, "border_place", faults=faults, new=stop, module=self.module.number,
+                              box=self.module.box,
                               star=None, steps=self.layout.steps, size=(self.layout.width, self.layout.height))
         self.require_local(name, "stop")
         stops.append(stop)
@@ -331,7 +335,8 @@ class CertificateReader(SectionReader):
             if missing:
                 missing.sort(key=lambda port: port.line)
                 makers = {port.name: self.circuit.maker.get(port.name or "") for port in missing}
-                self.lines.refuse(11, "port_not_local", module=module.number, at=module.line, ports=missing, makers=makers)
+                self.lines.refuse(11, "port_not_local", module=module.number, at=module.line, ports=missing,
+                                  makers=makers)
 
     def read_end(self) -> None:
         """Reads the line `end`."""
@@ -357,7 +362,8 @@ class CertificateReader(SectionReader):
             self.lines.refuse(11, "heard_not_local", missing=missing)
 
     readers = {
-        "certificate VERSION": read_certificate, "module X Y W H": read_module, "cut NAME": read_cut, "use GATE": read_use,
+        "certificate VERSION": read_certificate, "module X Y W H": read_module, "cut NAME": read_cut,
+        "use GATE": read_use,
         "keep GATE": read_keep, "edge TIME X Y SIGNAL": partial(read_border, kind="edge"),
         "halo TIME X Y SIGNAL": partial(read_border, kind="halo"), "stop T NAME X Y": read_stop, "end": read_end}
     forms = forms_of(*readers)

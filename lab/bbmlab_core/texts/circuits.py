@@ -45,7 +45,8 @@ class Circuit:
     maker: dict[str, Gate] = field(default_factory=dict)
 
     def cone(self, wires: list[str], stop_at: frozenset[str] = frozenset()) -> tuple[list[str], list[int]]:
-        """Returns the free wires and the gates from which `wires` follow. Free are inputs and the wires of `stop_at`."""
+        """Returns the free wires and the gates from which `wires` follow. Free are inputs and the wires of `stop_at`.
+        """
         todo, free, used = list(wires), set(), set()
         while todo:
             wire = todo.pop()
@@ -67,8 +68,8 @@ class Circuit:
 class Valuation:
     """Tables of wires over assignments of some free wires, and where each gate has a row.
 
-    A bit of a table is a column. If `is_all`, column A is assignment A, and there is one for each choice of the free wires. Else the
-    columns are samples.
+    A bit of a table is a column. If `is_all`, column A is assignment A, and there is one for each choice of the free
+    wires. Else the columns are samples.
     """
 
     free: list[str]
@@ -106,10 +107,11 @@ def evaluate(circuit: Circuit, free: list[str], gates: list[int]) -> Valuation:
 
 
 def sampled_tables(names: list[str], count: int, first: Iterable[str] = (), seed: int = 1) -> dict[str, Table]:
-    """Returns a table for each of some free wires in `count` sampled choices of them. In the first choice those of `first` are on.
+    """Returns a table for each of some free wires in `count` sampled choices of them. In the first choice those of
+    `first` are on.
 
-    Among the samples are all wires off, all on, and many with one wire on or one off. The others are random, some with many ones and
-    some with few, so that wires that are seldom true or seldom false differ from constants.
+    Among the samples are all wires off, all on, and many with one wire on or one off. The others are random, some with
+    many ones and some with few, so that wires that are seldom true or seldom false differ from constants.
     """
     chance, number, all_on = random.Random(seed), len(names), (1 << len(names)) - 1
     chosen = set(first)
@@ -130,7 +132,10 @@ def number_of(bits: Iterable[str]) -> int:
 
 
 def evaluate_samples(circuit: Circuit, count: int, first: Iterable[str] = ()) -> Valuation:
-    """Returns the tables of all wires in `count` sampled choices of the inputs. In the first choice the inputs of `first` are on."""
+    """Returns the tables of all wires in `count` sampled choices of the inputs.
+
+    In the first choice the inputs of `first` are on.
+    """
     tables = sampled_tables(circuit.inputs, count, first)
     values = evaluate_under(circuit, tables, (1 << count) - 1, [gate.number for gate in circuit.gates])
     values.is_all = False
@@ -138,7 +143,10 @@ def evaluate_samples(circuit: Circuit, count: int, first: Iterable[str] = ()) ->
 
 
 def evaluate_under(circuit: Circuit, free: dict[str, Table], full: Table, gates: list[int]) -> Valuation:
-    """Returns the tables of wires that follow from those of the free wires by `gates`, in order of gates. `full` has all columns."""
+    """Returns the tables of wires that follow from those of the free wires by `gates`, in order of gates.
+
+    `full` has all columns.
+    """
     tables = dict(free)
     defined, rows = full, {}
     for number in gates:
@@ -151,7 +159,8 @@ def evaluate_under(circuit: Circuit, free: dict[str, Table], full: Table, gates:
 
 
 def values_under(circuit: Circuit, on: set[str]) -> tuple[dict[str, bool], int | None]:
-    """Returns the value of each wire under one assignment, and the first gate without a row, behind which there are none."""
+    """Returns the value of each wire under one assignment, and the first gate without a row, behind which there are
+    none."""
     values = {name: name in on for name in circuit.inputs}
     for gate in circuit.gates:
         outs, has_row = gate_row(gate.word, gate.parameter, [int(values[name]) for name in gate.ins], 1)

@@ -12,7 +12,8 @@ from .spelling import source_line, spelled
 
 
 def read_free(name: str, text: str, command: str | None = None) -> Document:
-    """Returns a text that may be written freely, with comments, any spaces and unsorted lists: as it is in the one spelling.
+    """Returns a text that may be written freely, with comments, any spaces and unsorted lists: as it is in the one
+    spelling.
 
     Raises LabError if it is refused. The line is that of the file.
     """
@@ -51,12 +52,15 @@ def read_design(name: str, has_certificate: bool = True) -> tuple[Document, Layo
 
 
 def require_report_of(document: Document, report: Report) -> None:
-    """Refuses a report whose digest is not that of the text's certificate, or whose lines are not of things that the text has."""
+    """Refuses a report whose digest is not that of the text's certificate, or whose lines are not of things that the
+    text has."""
     digest = certificate_digest(document.text)
     if digest != report.digest:
-        raise ReportError(f"the report is not of this text: its certificate has the digest {report.digest[:16]}.., and the text's has {digest[:16]}..")
+        raise ReportError(f"the report is not of this text: its certificate has the digest {report.digest[:16]}.., and "
+                          f"the text's has {digest[:16]}..")
     if (report.verdict == "no") != bool(report.faults):
-        raise ReportError(f"this is no whole report: it says {report.verdict}, with {len(report.faults)} reasons for a no")
+        raise ReportError(
+            f"this is no whole report: it says {report.verdict}, with {len(report.faults)} reasons for a no")
     for finding in report.findings:
         if not is_of(document, finding):
             raise ReportError(f"the report is not of this text: the text gives no line `{finding.text}`")
@@ -94,7 +98,10 @@ def is_of_module(document: Document, finding: Finding, values: dict[str, int]) -
 
 
 def report_for(options: argparse.Namespace, document: Document) -> Report | None:
-    """Returns the report of the option `--report`, if it is given. Raises ReportError if it is a verdict on another text."""
+    """Returns the report of the option `--report`, if it is given.
+
+    Raises ReportError if it is a verdict on another text.
+    """
     if not options.report:
         return None
     report = parse_report(read_text(options.report))

@@ -72,7 +72,8 @@ def command_for(text: str) -> str:
 
 @contextmanager
 def without_collector() -> Iterator[None]:
-    """Stops Python's search for cycles while many objects are made that all stay: it takes a sixth of the time to read a long text."""
+    """Stops Python's search for cycles while many objects are made that all stay: it takes a sixth of the time to read
+    a long text."""
     is_on = gc.isenabled()
     gc.disable()
     try:
@@ -94,7 +95,8 @@ def read_sections(document: Document, lines: Lines) -> str:
         document.layout = layout.layout
         layout.read()
     if command in ("run", "value"):
-        known = document.circuit.inputs if document.circuit else [part.name or "" for part in layout.layout.of_kind("in")]
+        known = document.circuit.inputs if document.circuit else [part.name or ""
+                                                                  for part in layout.layout.of_kind("in")]
         assign = AssignReader(lines, known, command)
         assign.read()
         document.on = list(assign.on)

@@ -64,7 +64,8 @@ RULES: dict[str, Callable[..., Row]] = {
 def gate_row(word: str, number: int | None, inputs: list[Table], full: Table) -> Row:
     """Returns the tables of a gate's outputs, and the table of the assignments under which the gate has a row.
 
-    A table is a number whose bit A says whether a wire is true under assignment A. `full` has the bits of all assignments.
+    A table is a number whose bit A says whether a wire is true under assignment A. `full` has the bits of all
+    assignments.
     """
     if word == "source":
         return [full if number == 1 else 0], full

@@ -22,7 +22,8 @@ written_text = json.JSONEncoder().encode
 
 def circuit_json(circuit: Circuit) -> dict[str, Any]:
     """Returns a circuit as JSON values."""
-    gates = [{"gate": gate.word, "parameter": gate.parameter, "ins": gate.ins, "outs": gate.outs} for gate in circuit.gates]
+    gates = [{"gate": gate.word, "parameter": gate.parameter, "ins": gate.ins, "outs": gate.outs}
+             for gate in circuit.gates]
     return {"inputs": circuit.inputs, "gates": gates, "outputs": circuit.outputs, "spills": circuit.spills}
 
 
@@ -39,7 +40,8 @@ def layout_json(layout: Layout) -> dict[str, Any]:
 def module_json(module: Module) -> dict[str, Any]:
     """Returns a module as JSON values. The time `*` is null."""
     box = module.box
-    return {"box": [box.x, box.y, box.width, box.height], "cuts": module.cuts, "uses": list(module.uses), "keeps": list(module.keeps),
+    return {"box": [box.x, box.y, box.width, box.height], "cuts": module.cuts, "uses": list(module.uses),
+            "keeps": list(module.keeps),
             "edges": [[line.time, line.x, line.y, line.signal] for line in module.edges],
             "halos": [[line.time, line.x, line.y, line.signal] for line in module.halos],
             "stops": [[stop.time, stop.name, stop.x, stop.y] for stop in module.stops]}
@@ -68,7 +70,8 @@ def document_json(document: Document, report: Report | None) -> str:
         parts["assign"] = {"on": document.on}
     if document.certificate:
         certificate: Certificate = document.certificate
-        parts["certificate"] = {"version": certificate.version, "modules": (module_json(module) for module in certificate.modules)}
+        parts["certificate"] = {"version": certificate.version,
+                                "modules": (module_json(module) for module in certificate.modules)}
     if report:
         parts["report"] = report_json(report)
     with without_collector():
@@ -76,7 +79,8 @@ def document_json(document: Document, report: Report | None) -> str:
 
 
 def indented(value: Any, begin: str) -> str:
-    """Writes a JSON value as `json.dumps` does with an indent of 1, in half of its time. `begin` is a line feed and the present indent.
+    """Writes a JSON value as `json.dumps` does with an indent of 1, in half of its time. `begin` is a line feed and the
+    present indent.
 
     The values of a generator are written as a list, and none is kept.
     """
@@ -86,19 +90,24 @@ def indented(value: Any, begin: str) -> str:
     if kind is str:
         return written_text(value)
     if kind is list and value:
-        members = f",{inner}".join([str(member) if type(member) is int else indented(member, inner) for member in value])
+        members = f",{inner}".join([str(member) if type(member) is int else indented(member, inner)
+                                    for member in value])
         return f"[{inner}{members}{begin}]"
     if kind is GeneratorType:
         members = f",{inner}".join([indented(member, inner) for member in value])
         return f"[{inner}{members}{begin}]" if members else "[]"
     if kind is dict and value:
-        members = f",{inner}".join([f"{written_text(name)}: {indented(member, inner)}" for name, member in value.items()])
+        members = f",{inner}".join([f"{written_text(name)}: {indented(member, inner)}" for name,
+                                    member in value.items()])
         return f"{{{inner}{members}{begin}}}"
     return json.dumps(value)
 
 
 class Member:
-    """A value of a JSON document with its path, such as `certificate.modules[2].cuts[0]`. What is wrong with it is a `LabError`."""
+    """A value of a JSON document with its path, such as `certificate.modules[2].cuts[0]`.
+
+    What is wrong with it is a `LabError`.
+    """
 
     def __init__(self, value: Any, path: str) -> None:
         self.value, self.path = value, path
@@ -161,13 +170,16 @@ def gate_text(gate: Member) -> str:
     number = [parameter.number()] if word in ("source", "delay") else []
     if not number and parameter.value is not None:
         raise parameter.wrong("null")
-    return " ".join([word, *number, *(item.name() for item in gate["ins"].items(ins)), "->", *(item.name() for item in gate["outs"].items(outs))])
+    return " ".join([word, *number, *(item.name() for item in gate["ins"].items(ins)), "->",
+                     *(item.name() for item in gate["outs"].items(outs))])
 
 
 def circuit_text(circuit: Member) -> list[str]:
     """Returns the lines of a circuit."""
-    return ["circuit", *(f"input {item.name()}" for item in circuit["inputs"].items()), *(gate_text(gate) for gate in circuit["gates"].items()),
-            *(f"output {item.name()}" for item in circuit["outputs"].items()), *(f"spill {item.name()}" for item in circuit["spills"].items()), "end"]
+    return ["circuit", *(f"input {item.name()}" for item in circuit["inputs"].items()),
+            *(gate_text(gate) for gate in circuit["gates"].items()),
+            *(f"output {item.name()}" for item in circuit["outputs"].items()),
+            *(f"spill {item.name()}" for item in circuit["spills"].items()), "end"]
 
 
 def layout_text(layout: Member) -> list[str]:
@@ -177,7 +189,8 @@ def layout_text(layout: Member) -> list[str]:
         return [f"{word} {port['name'].name()} {port['cell'].numbers(2)}" for port in layout[f"{word}s"].items()]
 
     return [f"layout {layout['width'].number()} {layout['height'].number()} {layout['steps'].number()}",
-            *(f"mirror {box.numbers(4)}" for box in layout["mirrors"].items()), *(f"ball {cell.numbers(2)}" for cell in layout["balls"].items()),
+            *(f"mirror {box.numbers(4)}" for box in layout["mirrors"].items()),
+            *(f"ball {cell.numbers(2)}" for cell in layout["balls"].items()),
             *ports("in"), *ports("out"), *(f"waste {cell.numbers(2)}" for cell in layout["wastes"].items()), "end"]
 
 
@@ -195,7 +208,8 @@ def stop_text(line: Member) -> str:
 
 def module_text(module: Member) -> list[str]:
     """Returns the lines of a module."""
-    kinds: list[tuple[str, Callable[[Member], str]]] = [("cut", Member.name), ("use", Member.number), ("keep", Member.number)]
+    kinds: list[tuple[str, Callable[[Member], str]]] = [("cut", Member.name), ("use", Member.number),
+                                                        ("keep", Member.number)]
     lines = [f"module {module['box'].numbers(4)}"]
     for word, value in kinds:
         lines += [f"{word} {value(item)}" for item in module[f"{word}s"].items()]

@@ -32,7 +32,8 @@ def cells_of(x: int, y: int, width: int, height: int) -> Iterator[Cell]:
 
 def tiles_of(x: int, y: int, width: int, height: int) -> Iterator[Cell]:
     """Yields the tiles that a rectangle touches, by their column and row."""
-    return cells_of(x // TILE, y // TILE, (x + width - 1) // TILE - x // TILE + 1, (y + height - 1) // TILE - y // TILE + 1)
+    return cells_of(x // TILE, y // TILE, (x + width - 1) // TILE - x // TILE + 1,
+                    (y + height - 1) // TILE - y // TILE + 1)
 
 
 @dataclass(frozen=True)
@@ -111,7 +112,8 @@ class LayoutReader(SectionReader):
         self.circuit = circuit
         self.layout = Layout()
         self.known = {"in": set(circuit.inputs), "out": set(circuit.outputs)} if circuit else {}
-        # The cells of each row that parts take at the start, and those that they take at the end: bit x is the cell in column x.
+        # The cells of each row that parts take at the start, and those that they take at the end: bit x is the cell in
+        # column x.
         self.starts: list[int] = []
         self.ends: list[int] = []
 
@@ -159,7 +161,8 @@ class LayoutReader(SectionReader):
         if self.circuit is None or name is None or name in self.known[kind]:
             return
         known = self.circuit.inputs if kind == "in" else self.circuit.outputs
-        self.lines.refuse(3, "port_unknown", kind=kind, name=name, known=list(known), is_wire=name in self.circuit.defined)
+        self.lines.refuse(3, "port_unknown", kind=kind, name=name, known=list(known),
+                          is_wire=name in self.circuit.defined)
 
     def take_cells(self, part: Part, rows: list[int], kinds: tuple[str, ...]) -> None:
         """Takes the cells of a part, none of which a part of these kinds or a mirror takes yet."""
@@ -170,7 +173,8 @@ class LayoutReader(SectionReader):
                 cell = (taken & -taken).bit_length() - 1, y
                 other = self.layout.part_at(cell, ("mirror", *kinds))
                 assert other is not None
-                self.lines.refuse(7, "cell_taken", kind=part.kind, cell=cell, other=other.kind, other_name=other.name, at=other.line)
+                self.lines.refuse(7, "cell_taken", kind=part.kind, cell=cell, other=other.kind, other_name=other.name,
+                                  at=other.line)
             rows[y] |= mask
 
     def read_end(self) -> None:

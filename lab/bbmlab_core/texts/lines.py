@@ -69,7 +69,8 @@ def word_value(word: str, placeholder: str) -> Any:
 
 
 def value_pattern(place: str) -> str:
-    """Returns the regular expression of the words that may be in the place of a placeholder, as a group; other words stand for themselves."""
+    """Returns the regular expression of the words that may be in the place of a placeholder, as a group; other words
+    stand for themselves."""
     if place in NUMBERS:
         return f"({NUMBER_WORD})"
     if place in NAMES:
@@ -142,7 +143,10 @@ class Lines:
 
 
 class SectionReader:
-    """Reads one section line by line. A subclass lists the forms of its lines, each with the method that takes the values of the line."""
+    """Reads one section line by line.
+
+    A subclass lists the forms of its lines, each with the method that takes the values of the line.
+    """
 
     name = ""
     readers: dict[str, Callable[..., None]] = {}

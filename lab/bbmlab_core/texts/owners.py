@@ -29,11 +29,13 @@ class Owners:
 
     def taken_in(self, box: Box) -> tuple[Cell, int]:
         """Returns the first block of a box that a module owns, and that module's number. There is one."""
-        place = next(place for start, end in self.spans(box) for place in range(start, end) if self.numbers[place] != NOBODY)
+        place = next(place for start, end in self.spans(box) for place in range(start, end)
+                     if self.numbers[place] != NOBODY)
         return self.cell_of(place), self.numbers[place]
 
     def take(self, box: Box, number: int) -> bool:
-        """Gives the blocks of a box to a module; returns whether nobody owned one of them, without which nothing changes."""
+        """Gives the blocks of a box to a module; returns whether nobody owned one of them, without which nothing
+        changes."""
         numbers, columns, count = self.numbers, box.width // 2, box.height // 2
         first = box.y // 2 * self.columns + box.x // 2
         starts = range(first, first + count * self.columns, self.columns)
@@ -51,14 +53,16 @@ class Owners:
     def owner_at(self, cell: Cell) -> int:
         """Returns the number of the module that owns a cell, or NOBODY."""
         column, row = cell[0] // 2, cell[1] // 2
-        return self.numbers[row * self.columns + column] if 0 <= column < self.columns and 0 <= row < self.rows else NOBODY
+        return self.numbers[row * self.columns
+                            + column] if 0 <= column < self.columns and 0 <= row < self.rows else NOBODY
 
     def near(self, box: Box) -> list[int]:
         """Returns the modules that own blocks of a box or blocks that touch it, in order."""
         spans = list(self.spans(Box(box.x - 2, box.y - 2, box.width + 4, box.height + 4)))
         found: set[int] = set()
         for index, (start, end) in enumerate(spans):
-            found.update(self.numbers[start:end] if index in (0, len(spans) - 1) else (self.numbers[start], self.numbers[end - 1]))
+            found.update(self.numbers[start:end] if index in (0, len(spans) - 1)
+                         else (self.numbers[start], self.numbers[end - 1]))
         return sorted(found - {NOBODY})
 
     def gaps(self) -> list[Box]:

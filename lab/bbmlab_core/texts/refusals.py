@@ -1,4 +1,6 @@
-"""Refusals in plain English: for each cause that the lab's reader finds, what is wrong, which rule it breaks, and a hint."""
+"""Refusals in plain English: for each cause that the lab's reader finds, what is wrong, which rule it breaks, and a
+hint.
+"""
 
 import difflib
 from dataclasses import dataclass, field
@@ -27,7 +29,8 @@ RULES = {
 
 @dataclass
 class Explained:
-    """A refusal in words: what is wrong, the rule, hints that were not tried, and the names and lines that are meant."""
+    """A refusal in words: what is wrong, the rule, hints that were not tried, and the names and lines that are meant.
+    """
 
     what: list[str]
     hints: list[str]
@@ -105,7 +108,8 @@ def _text_goes_on(facts: Facts) -> Explained:
 def _first_not_header(facts: Facts) -> Explained:
     """Explains a section that does not begin with its header."""
     header = {"layout": "layout W H STEPS", "certificate": "certificate 2"}.get(facts["section"], facts["section"])
-    return Explained([f"The {facts['section']} section begins here with a line `{facts['keyword']}` and not with its header."],
+    return Explained([f"The {facts['section']} section begins here with a line `{facts['keyword']}` and not with its "
+                      "header."],
                      [f"Write the header `{header}` first."])
 
 
@@ -120,7 +124,8 @@ def _second_header(facts: Facts) -> Explained:
 def _kind_after_later_kind(facts: Facts) -> Explained:
     """Explains a kind of line that comes too late in its section or module."""
     kind, other = ("gate" if facts[name] == "gate" else f"`{facts[name]}`" for name in ("kind", "later"))
-    return Explained([f"This {kind} line comes after the {other} line {facts['at']}; it belongs before all {other} lines."],
+    return Explained([f"This {kind} line comes after the {other} line {facts['at']}; it belongs before all {other} "
+                      "lines."],
                      ["Move the line up. `bbmlab fmt` sorts the kinds."], lines=[facts["at"]])
 
 
@@ -136,8 +141,10 @@ def _gate_not_rising(facts: Facts) -> Explained:
     """Explains a `use` or `keep` line whose gate number does not rise."""
     kind, number, last = facts["kind"], facts["number"], facts["last"]
     how = "the same number as" if number == last else "a lower number than"
-    return Explained([f"`{kind} {number}` has {how} `{kind} {last}` on line {facts['at']}; the gate numbers of a module rise."],
-                     ["Remove the line." if number == last else "Sort these lines by number. `bbmlab fmt` does."], lines=[facts["at"]])
+    return Explained([f"`{kind} {number}` has {how} `{kind} {last}` on line {facts['at']}; the gate numbers of a "
+                      "module rise."],
+                     ["Remove the line." if number == last else "Sort these lines by number. `bbmlab fmt` does."],
+                     lines=[facts["at"]])
 
 
 @tells("border_not_rising")
@@ -147,11 +154,13 @@ def _border_not_rising(facts: Facts) -> Explained:
     if new.place == last.place:
         what, hint = "names the same time and cell as", "Keep one of the two lines."
     elif new.place[0] == -1:
-        what, hint = "has `*`, and lines with `*` come first; it is out of order with", "Move it up. `bbmlab fmt` sorts."
+        what, hint = ("has `*`, and lines with `*` come first; it is out of order with",
+                      "Move it up. `bbmlab fmt` sorts.")
     else:
         part = next(name for name, a, b in zip(("time", "y", "x"), new.place, last.place) if a != b)
         what, hint = f"has a smaller {part} than", "Sort by time, then y, then x. `bbmlab fmt` does."
-    return Explained([f"`{new}` {what} the line before it in the list, `{last}` (line {last.line})."], [hint], lines=[last.line])
+    return Explained([f"`{new}` {what} the line before it in the list, `{last}` (line {last.line})."], [hint],
+                     lines=[last.line])
 
 
 # ---- code 11
@@ -164,7 +173,8 @@ def _wire_not_consumed(facts: Facts) -> Explained:
     where = ", ".join(f"`{name}` (line {line})" for name, line in list(zip(names, lines))[:8])
     verb = "wires are" if len(names) > 1 else "wire is"
     return Explained([f"{len(names)} {verb} defined and not consumed: {where}."],
-                     [f"Add `output {names[0]}`, or `spill {names[0]}` for a wire that is left over."], names=names, lines=lines)
+                     [f"Add `output {names[0]}`, or `spill {names[0]}` for a wire that is left over."], names=names,
+                     lines=lines)
 
 
 @tells("port_without_cell")
@@ -174,7 +184,8 @@ def _port_without_cell(facts: Facts) -> Explained:
     for kind, side in (("in", "inputs"), ("out", "outputs")):
         names = facts[side]
         if names:
-            what.append(f"The layout has no `{kind}` cell for {side[:-1] if len(names) == 1 else side} {listed(names)} of the circuit.")
+            what.append(f"The layout has no `{kind}` cell for {side[:-1] if len(names) == 1 else side} {listed(names)} "
+                        "of the circuit.")
             hints.append(f"Add a line `{kind} {names[0]} X Y`.")
     return Explained(what, hints, names=facts["inputs"] + facts["outputs"])
 
@@ -182,11 +193,13 @@ def _port_without_cell(facts: Facts) -> Explained:
 @tells("port_not_local")
 def _port_not_local(facts: Facts) -> Explained:
     """Explains a port in a box whose wire the module does not know."""
-    what = [f"Module {facts['module']} (line {facts['at']}) has the cell of `{port.kind} {port.name} {port.x} {port.y}` (line {port.line}) "
+    what = [f"Module {facts['module']} (line {facts['at']}) has the cell of `{port.kind} {port.name} {port.x} "
+            f"{port.y}` (line {port.line}) "
             f"in its box, and does not know the wire `{port.name}`." for port in facts["ports"][:8]]
     hints = [make_local(port.name, facts["makers"][port.name]) for port in facts["ports"][:8]]
     names = list(dict.fromkeys(port.name for port in facts["ports"]))
-    return Explained(what, list(dict.fromkeys(hints)), names=names, lines=[facts["at"]] + [port.line for port in facts["ports"]])
+    return Explained(what, list(dict.fromkeys(hints)), names=names,
+                     lines=[facts["at"]] + [port.line for port in facts["ports"]])
 
 
 def make_local(name: str, gate: Any) -> str:
@@ -195,7 +208,8 @@ def make_local(name: str, gate: Any) -> str:
         return f"Add `cut {name}` to the module."
     if not gate.ins:
         return f"Add `use {gate.number}` to the module: that source makes `{name}`."
-    return (f"Add `use {gate.number}` to the module: that {gate.word} makes `{name}` from {listed(gate.ins)}, which the module then knows too. "
+    return (f"Add `use {gate.number}` to the module: that {gate.word} makes `{name}` from {listed(gate.ins)}, which "
+            "the module then knows too. "
             f"Or add `cut {name}` if the module lies away from that gate.")
 
 
@@ -204,7 +218,8 @@ def _no_module(facts: Facts) -> Explained:
     """Explains a certificate without modules."""
     width, height = facts["size"]
     return Explained(["The certificate has no module."],
-                     [f"Add modules that cover the rectangle of {width} by {height} cells, such as `module 0 0 {min(width, 64)} {min(height, 64)}`."])
+                     [f"Add modules that cover the rectangle of {width} by {height} cells, such as `module 0 0 "
+                      f"{min(width, 64)} {min(height, 64)}`."])
 
 
 @tells("gap")
@@ -212,9 +227,11 @@ def _gap(facts: Facts) -> Explained:
     """Explains cells that are in no box."""
     gaps = facts["gaps"]
     shown = "; ".join(box_words(gap) for gap in gaps[:4]) + (f"; and {len(gaps) - 4} more" if len(gaps) > 4 else "")
-    boxes = "The box of the only module leaves" if facts["modules"] == 1 else f"The boxes of the {facts['modules']} modules leave"
+    boxes = "The box of the only module leaves" if facts[
+        "modules"] == 1 else f"The boxes of the {facts['modules']} modules leave"
     return Explained([f"{boxes} a gap: {shown} are in no box."],
-                     [f"Add a module for the gap, such as `module {gaps[0].x} {gaps[0].y} {min(gaps[0].width, 64)} {min(gaps[0].height, 64)}`, "
+                     [f"Add a module for the gap, such as `module {gaps[0].x} {gaps[0].y} {min(gaps[0].width, 64)} "
+                      f"{min(gaps[0].height, 64)}`, "
                       "or make a neighbour larger."])
 
 
@@ -222,11 +239,14 @@ def _gap(facts: Facts) -> Explained:
 def _heard_not_local(facts: Facts) -> Explained:
     """Explains an edge line beside a module that does not know its wire."""
     missing = facts["missing"]
-    what = [f"Module {module} does not know the wire `{line.signal}`: line {line.line} (`{line}`, of module {other}) speaks of a cell "
+    what = [f"Module {module} does not know the wire `{line.signal}`: line {line.line} (`{line}`, of module {other}) "
+            "speaks of a cell "
             f"beside its box." for module, line, other in missing[:4]]
     more = [f"There are {len(missing) - 4} more lines of that kind."] if len(missing) > 4 else []
-    hints = [f"Add `cut {line.signal}` to module {module}, or `use` the gate that makes it." for module, line, _ in missing[:4]]
-    return Explained(what + more, list(dict.fromkeys(hints)), names=list(dict.fromkeys(line.signal for _, line, _ in missing)),
+    hints = [f"Add `cut {line.signal}` to module {module}, or `use` the gate that makes it." for module, line,
+             _ in missing[:4]]
+    return Explained(what + more, list(dict.fromkeys(hints)),
+                     names=list(dict.fromkeys(line.signal for _, line, _ in missing)),
                      lines=[line.line for _, line, _ in missing])
 
 
@@ -245,7 +265,8 @@ def _layout_side(facts: Facts) -> Explained:
     why = f"outside 2 to {most}" if not 2 <= number <= most else "odd"
     size = {"width": "wider", "height": "higher"}[facts["what"]]
     return limit(f"The {facts['what']} of the layout is {number}, which is {why}.",
-                 f"Take an even {facts['what']} from 2 to {most}" + (f", such as {number + 1}." if number % 2 and number < most else ".")
+                 f"Take an even {facts['what']} from 2 to {most}"
+                 + (f", such as {number + 1}." if number % 2 and number < most else ".")
                  + (needs_line(f"A layout {size} than {most}", limits) if number > most else ""))
 
 
@@ -269,7 +290,8 @@ def _mirror_side(facts: Facts) -> Explained:
 @tells("delay_limit")
 def _delay_limit(facts: Facts) -> Explained:
     """Explains the number of a delay outside its limits."""
-    return limit(f"The delay has {facts['number']} steps; it has 1 to 4096.", "Take a number from 1 to 4096, or several delays in a row.")
+    return limit(f"The delay has {facts['number']} steps; it has 1 to 4096.",
+                 "Take a number from 1 to 4096, or several delays in a row.")
 
 
 @tells("wire_count")
@@ -277,7 +299,8 @@ def _wire_count(facts: Facts) -> Explained:
     """Explains the line that makes too many wires."""
     most = facts["limits"].max_wires
     return limit(f"With this line the circuit has more than {most} wires.",
-                 f"Split the design into smaller circuits.{needs_line(f'A circuit of more than {most} wires', facts['limits'])}")
+                 "Split the design into smaller "
+                 f"circuits.{needs_line(f'A circuit of more than {most} wires', facts['limits'])}")
 
 
 @tells("gate_count")
@@ -285,13 +308,15 @@ def _gate_count(facts: Facts) -> Explained:
     """Explains the line that makes too many gates."""
     most = facts["limits"].max_gates
     return limit(f"With this line the circuit has more than {most} gates, sources among them.",
-                 f"Split the design into smaller circuits.{needs_line(f'A circuit of more than {most} gates', facts['limits'])}")
+                 "Split the design into smaller "
+                 f"circuits.{needs_line(f'A circuit of more than {most} gates', facts['limits'])}")
 
 
 @tells("certificate_version")
 def _certificate_version(facts: Facts) -> Explained:
     """Explains an unknown version."""
-    return limit(f"There is no certificate version {facts['number']}.", "Write `certificate 2`, or `certificate 1` with `halo` lines.")
+    return limit(f"There is no certificate version {facts['number']}.",
+                 "Write `certificate 2`, or `certificate 1` with `halo` lines.")
 
 
 @tells("box_side")
@@ -299,7 +324,8 @@ def _box_side(facts: Facts) -> Explained:
     """Explains a side of a box that is odd or outside its limits."""
     number = facts["number"]
     why = "outside 2 to 64" if not 2 <= number <= 64 else "odd"
-    return limit(f"The {facts['what']} of the box is {number}, which is {why}.", f"Take an even {facts['what']} from 2 to 64.")
+    return limit(f"The {facts['what']} of the box is {number}, which is {why}.",
+                 f"Take an even {facts['what']} from 2 to 64.")
 
 
 @tells("module_count")
@@ -320,13 +346,15 @@ def _cut_count(facts: Facts) -> Explained:
 @tells("use_count")
 def _use_count(facts: Facts) -> Explained:
     """Explains one `use` line too many."""
-    return limit(f"Module {facts['module']} has 64 `use` lines already.", "Cut a wire in place of using the gates before it, or take a smaller box.")
+    return limit(f"Module {facts['module']} has 64 `use` lines already.",
+                 "Cut a wire in place of using the gates before it, or take a smaller box.")
 
 
 @tells("border_count")
 def _border_count(facts: Facts) -> Explained:
     """Explains one edge, halo or stop line too many."""
-    return limit(f"Module {facts['module']} has 65536 `edge`, `halo` and `stop` lines already.", "Take a smaller box, or a border that fewer balls cross.")
+    return limit(f"Module {facts['module']} has 65536 `edge`, `halo` and `stop` lines already.",
+                 "Take a smaller box, or a border that fewer balls cross.")
 
 
 # ---- codes 3, 4 and 5
@@ -336,7 +364,8 @@ def _wire_not_defined(facts: Facts) -> Explained:
     """Explains a wire that no line before defines."""
     name = facts["name"]
     return Explained([f"The wire `{name}` is not defined before this line.{near(name, facts['known'])}"],
-                     [f"Define `{name}` first, by an `input` or behind the arrow of an earlier gate. A circuit has no loops."], names=[name])
+                     [f"Define `{name}` first, by an `input` or behind the arrow of an earlier gate. A circuit has no "
+                      "loops."], names=[name])
 
 
 @tells("wire_unknown")
@@ -353,7 +382,8 @@ def _gate_unknown(facts: Facts) -> Explained:
     count = facts["count"]
     has = f"gates 0 to {count - 1}" if count > 1 else "gate 0 alone" if count else "no gate"
     return Explained([f"There is no gate {facts['number']}: the circuit has {has}."],
-                     ["Count gate lines from 0, `source` lines among them, in the order of their lines."], names=[str(facts["number"])])
+                     ["Count gate lines from 0, `source` lines among them, in the order of their lines."],
+                     names=[str(facts["number"])])
 
 
 @tells("keep_not_inverse")
@@ -362,7 +392,8 @@ def _keep_not_inverse(facts: Facts) -> Explained:
     gate, inverse = facts["gate"], facts["inverse"]
     has = f"Its inverse gates are {', '.join(map(str, inverse))}." if inverse else "The circuit has no inverse gate."
     return Explained([f"Gate {facts['number']} is `{gate.word}` (line {gate.line}), which is no inverse gate. {has}"],
-                     ["Remove the line, or give the number of an `unswitch` or `uninteract`."], names=[str(facts["number"])], lines=[gate.line])
+                     ["Remove the line, or give the number of an `unswitch` or `uninteract`."],
+                     names=[str(facts["number"])], lines=[gate.line])
 
 
 @tells("port_unknown")
@@ -372,7 +403,8 @@ def _port_unknown(facts: Facts) -> Explained:
     side = "input" if kind == "in" else "output"
     extra = f" It is a wire, and no {side}." if facts["is_wire"] else near(name, facts["known"])
     return Explained([f"`{name}` is no {side} of the circuit.{extra}"],
-                     [f"Name one of the {side}s: {listed(facts['known'])}." if facts["known"] else f"The circuit has no {side}."], names=[name])
+                     [f"Name one of the {side}s: {listed(facts['known'])}." if facts["known"]
+                      else f"The circuit has no {side}."], names=[name])
 
 
 @tells("on_unknown")
@@ -381,7 +413,8 @@ def _on_unknown(facts: Facts) -> Explained:
     name, known = facts["name"], facts["known"]
     what = "no `in` line of the layout has that name" if facts["command"] == "run" else "the circuit has no such input"
     return Explained([f"`{name}` can't be turned on: {what}.{near(name, known)}"],
-                     [f"The names are {listed(known)}." if known else "There is none: remove the `on` line."], names=[name])
+                     [f"The names are {listed(known)}." if known else "There is none: remove the `on` line."],
+                     names=[name])
 
 
 @tells("on_twice")
@@ -394,7 +427,8 @@ def _on_twice(facts: Facts) -> Explained:
 @tells("wire_defined")
 def _wire_defined(facts: Facts) -> Explained:
     """Explains a wire that is defined already."""
-    return Explained([f"The wire `{facts['name']}` is defined already ({earlier(facts)})."], ["Give one of the two another name."],
+    return Explained([f"The wire `{facts['name']}` is defined already ({earlier(facts)})."],
+                     ["Give one of the two another name."],
                      names=[facts["name"]], lines=[facts["at"]])
 
 
@@ -402,13 +436,15 @@ def _wire_defined(facts: Facts) -> Explained:
 def _wire_consumed(facts: Facts) -> Explained:
     """Explains a wire that is consumed already."""
     return Explained([f"The wire `{facts['name']}` is consumed already ({earlier(facts)}): no wire branches."],
-                     ["To use a wire twice, copy it: the standard cell `fan_out` does, by a `switch` and a `source` (`bbmlab cells fan_out`)."], names=[facts["name"]], lines=[facts["at"]])
+                     ["To use a wire twice, copy it: the standard cell `fan_out` does, by a `switch` and a `source` "
+                      "(`bbmlab cells fan_out`)."], names=[facts["name"]], lines=[facts["at"]])
 
 
 @tells("cut_twice")
 def _cut_twice(facts: Facts) -> Explained:
     """Explains a wire that is cut already."""
-    return Explained([f"Module {facts['module']} cuts `{facts['name']}` already (line {facts['at']})."], ["Remove one of the two lines."],
+    return Explained([f"Module {facts['module']} cuts `{facts['name']}` already (line {facts['at']})."],
+                     ["Remove one of the two lines."],
                      names=[facts["name"]], lines=[facts["at"]])
 
 
@@ -416,9 +452,11 @@ def _cut_twice(facts: Facts) -> Explained:
 def _use_output_local(facts: Facts) -> Explained:
     """Explains a gate whose output is local already."""
     gate, names = facts["gate"], facts["names"]
-    return Explained([f"Gate {gate.number} (`{gate.word}`, line {gate.line}) makes {listed(names)}, which module {facts['module']} "
+    return Explained([f"Gate {gate.number} (`{gate.word}`, line {gate.line}) makes {listed(names)}, which module "
+                      f"{facts['module']} "
                       f"cuts already (line {facts['at'][0]})."],
-                     [f"Remove `cut {names[0]}`: a wire is cut, or made by a used gate, and not both."], names=names, lines=facts["at"])
+                     [f"Remove `cut {names[0]}`: a wire is cut, or made by a used gate, and not both."], names=names,
+                     lines=facts["at"])
 
 
 # ---- codes 7 and 8
@@ -454,7 +492,8 @@ def _box_odd(facts: Facts) -> Explained:
 @tells("box_outside")
 def _box_outside(facts: Facts) -> Explained:
     """Explains a box outside the rectangle."""
-    return Explained([f"The box ({box_words(facts['box'])}) is not inside the rectangle of {facts['size'][0]} by {facts['size'][1]} cells."],
+    return Explained([f"The box ({box_words(facts['box'])}) is not inside the rectangle of {facts['size'][0]} by "
+                      f"{facts['size'][1]} cells."],
                      ["Make the box smaller, or move it."])
 
 
@@ -462,7 +501,8 @@ def _box_outside(facts: Facts) -> Explained:
 def _box_overlap(facts: Facts) -> Explained:
     """Explains a box over an earlier one."""
     x, y = facts["cell"]
-    return Explained([f"The box ({box_words(facts['box'])}) overlaps that of module {facts['other']} ({box_words(facts['other_box'])}, "
+    return Explained([f"The box ({box_words(facts['box'])}) overlaps that of module {facts['other']} "
+                      f"({box_words(facts['other_box'])}, "
                       f"line {facts['at']}): the cell ({x}, {y}) is in both."],
                      ["Move one of the boxes, or make it smaller."], lines=[facts["at"]])
 
@@ -474,9 +514,11 @@ def _use_input_not_local(facts: Facts) -> Explained:
     """Explains a gate whose input is not local."""
     gate, names = facts["gate"], facts["names"]
     is_are = "are" if len(names) > 1 else "is"
-    return Explained([f"Gate {gate.number} (`{gate.word}`, line {gate.line}) uses {listed(names)}, which {is_are} not local in module "
+    return Explained([f"Gate {gate.number} (`{gate.word}`, line {gate.line}) uses {listed(names)}, which {is_are} not "
+                      "local in module "
                       f"{facts['module']}."],
-                     [f"Add `cut {names[0]}`, or `use` the gate that makes `{names[0]}`, before this line."], names=names, lines=[gate.line])
+                     [f"Add `cut {names[0]}`, or `use` the gate that makes `{names[0]}`, before this line."],
+                     names=names, lines=[gate.line])
 
 
 @tells("wire_not_local")
@@ -484,15 +526,18 @@ def _wire_not_local(facts: Facts) -> Explained:
     """Explains a wire of a line that is not local."""
     name = facts["name"]
     local = f"Local there: {listed(facts['local'])}." if facts["local"] else "No wire is local there."
-    return Explained([f"The wire `{name}` is not local in module {facts['module']}. {local}"], [make_local(name, facts["gate"])], names=[name])
+    return Explained([f"The wire `{name}` is not local in module {facts['module']}. {local}"],
+                     [make_local(name, facts["gate"])], names=[name])
 
 
 @tells("keep_not_used")
 def _keep_not_used(facts: Facts) -> Explained:
     """Explains a `keep` line for a gate that the module does not use."""
     gate = facts["gate"]
-    return Explained([f"Module {facts['module']} keeps gate {gate.number} (`{gate.word}`, line {gate.line}) and does not use it."],
-                     [f"Add `use {gate.number}` before it, with the wires {listed(gate.ins)} local."], names=[str(gate.number)], lines=[gate.line])
+    return Explained([f"Module {facts['module']} keeps gate {gate.number} (`{gate.word}`, line {gate.line}) and does "
+                      "not use it."],
+                     [f"Add `use {gate.number}` before it, with the wires {listed(gate.ins)} local."],
+                     names=[str(gate.number)], lines=[gate.line])
 
 
 def even_time_hint(time: int, steps: int) -> str:
@@ -507,20 +552,26 @@ def place_words(fault: str, facts: Facts) -> tuple[str, str]:
     cell, last = f"({new.x}, {new.y})", steps - 1 if steps % 2 == 0 else steps - 2
     corner = f"({box.x + box.width - 1}, {box.y + box.height - 1})"
     return {
-        "not_in_ring": (f"The cell {cell} is not in the ring of module {facts['module']}, the outermost cells of its box ({box_words(box)}).",
+        "not_in_ring": (f"The cell {cell} is not in the ring of module {facts['module']}, the outermost cells of its "
+                        f"box ({box_words(box)}).",
                         "Name a cell of the ring; a cell inside the box needs no line."),
-        "on_rim": (f"The cell {cell} is on the rim, the outermost cells of the whole rectangle, where nothing is live at odd times.",
+        "on_rim": (f"The cell {cell} is on the rim, the outermost cells of the whole rectangle, where nothing is live "
+                   "at odd times.",
                    "Remove the line; make the layout larger if a ball or a mirror is there."),
-        "not_in_halo": (f"The cell {cell} is not in the halo of module {facts['module']}, the cells around its box ({box_words(box)}).",
+        "not_in_halo": (f"The cell {cell} is not in the halo of module {facts['module']}, the cells around its box "
+                        f"({box_words(box)}).",
                         "Name a cell that touches the box from outside."),
         "halo_outside": (f"The cell {cell} is outside the rectangle.", "Remove the line."),
         "even_time": (f"The time {new.time} is even; edge and halo lines have odd times.",
                       even_time_hint(new.time or 0, steps)),
         "time_not_below_steps": (f"The time {new.time} is not below the steps, {steps}.",
-                                 f"The last odd time below the steps is {last}." if last > 0 else "There is no odd time below the steps: remove the line."),
-        "star_cell": (f"The cell {cell} has a line with `*` already (line {facts['star']}).", "Remove one of the two lines."),
+                                 f"The last odd time below the steps is {last}." if last > 0
+                                 else "There is no odd time below the steps: remove the line."),
+        "star_cell": (f"The cell {cell} has a line with `*` already (line {facts['star']}).",
+                      "Remove one of the two lines."),
         "stop_late": (f"The time {new.time} is after the last time, {steps}.", f"Take a time from 0 to {steps}."),
-        "stop_outside": (f"The cell {cell} is not in the box of module {facts['module']}, from ({box.x}, {box.y}) to {corner}.",
+        "stop_outside": (f"The cell {cell} is not in the box of module {facts['module']}, from ({box.x}, {box.y}) to "
+                         f"{corner}.",
                          "Move the stop into the module that has the cell."),
     }[fault]
 
@@ -555,10 +606,12 @@ def refusal_words(document: Document, line: int | None = None) -> str:
     assert document.refusal
     explained = explain_refusal(document, document.refusal)
     hint = f" Hint: {explained.hints[0]}" if explained.hints else ""
-    return f"line {line or document.refusal.line} is refused with code {document.refusal.code}: {' '.join(explained.what)}{hint}"
+    return (f"line {line or document.refusal.line} is refused with code {document.refusal.code}: "
+            f"{' '.join(explained.what)}{hint}")
 
 
 def explain_code(line: int, code: int) -> Explained:
     """Returns what a refusal alone says, where the lab's reader does not come to the same one."""
     rule = RULES.get(code, "There is no such code.")
-    return Explained([f"The program refuses line {line} with code {code}."], ["docs/FORMATS.md has the rules of that line."], rule)
+    return Explained([f"The program refuses line {line} with code {code}."],
+                     ["docs/FORMATS.md has the rules of that line."], rule)

@@ -35,9 +35,11 @@ def character_hints(line: str) -> list[Hint]:
     """Returns what is wrong with the bytes of a line."""
     hints: list[Hint] = []
     if line.startswith("\xef\xbb\xbf"):
-        hints.append(("The text begins with a byte order mark (BOM), three bytes that editors hide.", f"Save without a BOM. {SEVERAL}"))
+        hints.append(("The text begins with a byte order mark (BOM), three bytes that editors hide.",
+                      f"Save without a BOM. {SEVERAL}"))
     if line.endswith("\r"):
-        hints.append(("The line ends with CR LF, as on Windows; a line ends with LF alone.", f"Save with LF line ends. {SEVERAL}"))
+        hints.append(("The line ends with CR LF, as on Windows; a line ends with LF alone.",
+                      f"Save with LF line ends. {SEVERAL}"))
     if "\t" in line:
         hints.append(("The line has a tab; words are parted by one space.", f"Write a space for each tab. {SEVERAL}"))
     if "#" in line or "//" in line:
@@ -50,11 +52,13 @@ def character_hints(line: str) -> list[Hint]:
         if bare.startswith(" ") or bare.endswith(" "):
             hints.append(("The line begins or ends with a space.", f"Remove the space. {SEVERAL}"))
         if "  " in bare.strip(" "):
-            hints.append(("Two spaces stand between two words; words are parted by exactly one.", f"Write one space. {SEVERAL}"))
+            hints.append(("Two spaces stand between two words; words are parted by exactly one.",
+                          f"Write one space. {SEVERAL}"))
     odd = sorted({char for char in line if not " " <= char <= "~" and char not in "\t\r\xef\xbb\xbf"})
     if odd:
         shown = ", ".join(f"0x{ord(char):02x}" for char in odd[:4])
-        hints.append((f"The line has bytes that no word may have: {shown}.", "Write plain ASCII: small letters, digits and underscores."))
+        hints.append((f"The line has bytes that no word may have: {shown}.",
+                      "Write plain ASCII: small letters, digits and underscores."))
     return hints
 
 
@@ -122,12 +126,14 @@ def form_hint(words: list[str], form: Form, section: str) -> Hint:
 
 
 def logic_hint(word: str) -> Hint | None:
-    """Returns how a gate of ordinary logic is made of those of conservative logic, or None if a word names no such gate."""
+    """Returns how a gate of ordinary logic is made of those of conservative logic, or None if a word names no such
+    gate."""
     if word not in LOGIC:
         return None
     gates = ", ".join(f"`{gate}`" for gate in GATE_SIZES)
     return (f"There is no gate `{word}`: the gates of conservative logic are {gates}.",
-            f"{LOGIC[word]} `bbmlab circuit` writes a circuit of a text of such gates, or of a netlist, and `bbmlab route` takes them too.")
+            f"{LOGIC[word]} `bbmlab circuit` writes a circuit of a text of such gates, or of a netlist, and `bbmlab "
+            "route` takes them too.")
 
 
 def keyword_hint(word: str, section: str, begun: bool, forms: dict[str, Form]) -> Hint:
@@ -146,7 +152,8 @@ def keyword_hint(word: str, section: str, begun: bool, forms: dict[str, Form]) -
         if word == other:
             return (f"`{word}` begins another section, and the {section} section "
                     + ("has not ended." if begun else "is expected here."),
-                    "End the section before it with `end`." if begun else f"Begin with the line `{' '.join(forms[section])}`.")
+                    "End the section before it with `end`." if begun
+                    else f"Begin with the line `{' '.join(forms[section])}`.")
         return (f"`{word}` is a line of the {other} section, and this is the {section} section.",
                 f"Move it into the {other} section, or write the header and `end` that are missing before it.")
     near = difflib.get_close_matches(word.lower(), forms, 1)
@@ -169,5 +176,6 @@ def shape_hints(line: str, section: str, begun: bool, forms: dict[str, Form]) ->
     if form is None:
         return [*hints, keyword_hint(words[0], section, begun, forms)]
     hint = form_hint(words, form, section)
-    is_fixed = len(words) == len(form) and all(word_hint(word, place) is None for word, place in zip(words[1:], form[1:]))
+    is_fixed = len(words) == len(form) and all(word_hint(word, place) is None for word,
+                                               place in zip(words[1:], form[1:]))
     return hints if hints and is_fixed else [*hints, hint]

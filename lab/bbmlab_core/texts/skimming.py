@@ -1,4 +1,6 @@
-"""Looks at parts of a text in its one spelling, without reading all of its lines: most lines of a large text are at borders of modules."""
+"""Looks at parts of a text in its one spelling, without reading all of its lines: most lines of a large text are at
+borders of modules.
+"""
 
 import hashlib
 import re
@@ -25,7 +27,10 @@ def head_of(text: str) -> str:
 
 
 def certificate_digest(text: str) -> str:
-    """Returns the digest of the last certificate section of a text: SHA-256 from its header to its `end`, with the line feed."""
+    """Returns the digest of the last certificate section of a text:
+
+    SHA-256 from its header to its `end`, with the line feed.
+    """
     lines = text.split("\n")
     headers = [index for index, line in enumerate(lines) if line.startswith(HEADER)]
     if not headers or "end" not in lines[headers[-1]:]:
@@ -38,7 +43,8 @@ def certificate_digest(text: str) -> str:
 def cuts_of(bundle: str) -> list[list[str]]:
     """Returns the wires that each module of a bundle cuts."""
     modules = bundle[certificate_place(bundle):].split("\nmodule ")[1:]
-    return [[line.split(" ")[1] for line in module.split("\n", MAX_CUTS + 1)[1:] if line.startswith("cut ")] for module in modules]
+    return [[line.split(" ")[1] for line in module.split("\n", MAX_CUTS + 1)[1:] if line.startswith("cut ")]
+            for module in modules]
 
 
 def boxes_and_uses(text: str) -> Iterator[tuple[Box, list[int]]]:

@@ -29,8 +29,9 @@ class Spelling:
 def free_words(line: str) -> list[str]:
     """Returns the words of a line that was written freely, without its comment and leading zeros.
 
-    A line ends with LF. Words are parted by spaces and tabs, and carriage returns behind the last word are dropped. All other characters
-    belong to words. The studio's page reads lines by the same rules (`circuit_text.js`): what it draws must be the text that the program reads.
+    A line ends with LF. Words are parted by spaces and tabs, and carriage returns behind the last word are dropped. All
+    other characters belong to words. The studio's page reads lines by the same rules (`circuit_text.js`): what it draws
+    must be the text that the program reads.
     """
     code = line.partition("#")[0].rstrip(" \t\r").replace("->", " -> ").replace("\t", " ")
     return [plain_number(word) for word in code.split(" ") if word]
@@ -42,7 +43,8 @@ def mark_length(text: str) -> int:
 
 
 def free_lines(text: str, spelling: Spelling) -> Iterator[str]:
-    """Yields the lines that contain a word, with single spaces, and without comments, byte order mark and leading zeros."""
+    """Yields the lines that contain a word, with single spaces, and without comments, byte order mark and leading
+    zeros."""
     start = mark_length(text)
     is_spelled, size = SPELLED.fullmatch, len(text)
     while start < size:
@@ -70,7 +72,10 @@ def number_at(words: list[str], index: int) -> int:
 
 
 def module_key(line: str) -> int:
-    """Returns the key of a line of a module: its kind, and then time, y and x, or the gate. Kinds without an order keep theirs."""
+    """Returns the key of a line of a module: its kind, and then time, y and x, or the gate.
+
+    Kinds without an order keep theirs.
+    """
     words = line.split(" ")
     kind = words[0]
     key = MODULE_RANKS.get(kind, len(MODULE_RANKS)) << 96
@@ -139,7 +144,8 @@ def sorted_section(lines: list[str], spelling: Spelling) -> list[str]:
 
 
 def source_line(source: str, text: str, line: int) -> int | None:
-    """Returns the line of a freely written text that became a line of its one spelling, or None if the lines were sorted."""
+    """Returns the line of a freely written text that became a line of its one spelling, or None if the lines were
+    sorted."""
     if source == text:
         return line
     lines = source[mark_length(source):].split("\n")

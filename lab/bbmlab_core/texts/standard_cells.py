@@ -1,7 +1,7 @@
 """`bbmlab cells`: the standard cells of lab/cells, with their ports, as their bundles say.
 
-A port is a ball of two cells. In the step from time t it moves to larger x if x + t is even, and else to smaller x; y likewise
-(Margolus 1984, block rule).
+A port is a ball of two cells. In the step from time t it moves to larger x if x + t is even, and else to smaller x; y
+likewise (Margolus 1984, block rule).
 """
 
 from dataclasses import dataclass
@@ -116,7 +116,8 @@ def ports_of(document: Document) -> list[Port]:
             stops.setdefault(stop.name, {}).setdefault(stop.time, []).append(stop.cell)
     ports = []
     for name in sorted(stops, key=circuit.rank):
-        role = "in" if name in circuit.inputs else "out" if name in circuit.outputs else "spill" if name in circuit.spills else "inner"
+        role = ("in" if name in circuit.inputs else "out" if name in circuit.outputs else "spill"
+                if name in circuit.spills else "inner")
         times = sorted(stops[name])
         for time in times if role == "in" and name in circuit.outputs else [times[-1] if role == "in" else times[0]]:
             ports.append(port_of(role, name, time, sorted(stops[name][time], key=row_order)))

@@ -1,4 +1,6 @@
-"""The ways of the balls for the viewer's page: straight pieces with their times, by wires, and how far each wire is from the inputs."""
+"""The ways of the balls for the viewer's page: straight pieces with their times, by wires, and how far each wire is
+from the inputs.
+"""
 
 from typing import Any
 
@@ -8,7 +10,8 @@ from ..pictures.ways import WayRun
 from ..texts.circuits import Circuit
 from ..texts.documents import Document
 
-# A run with more moves has no ways on the page: they take some 2 microseconds each here, and a page of them would be too large.
+# A run with more moves has no ways on the page: they take some 2 microseconds each here, and a page of them would be
+# too large.
 MAX_MOVES = 3_000_000
 # After so many steps the moves are counted.
 CHUNK = 31
@@ -44,8 +47,9 @@ def timed_run(document: Document, tables: dict[str, Table], full: Table) -> WayR
 def page_ways(document: Document) -> dict[str, Any] | None:
     """Returns the ways for the page, or None if there are too many moves.
 
-    Each wire has its pieces as numbers, five for each: x and y of the first cell and of the last one, and the time at the first. The name is
-    "1" for a constant, and empty for assignments that are no wire's. `equal` lists the wires that are equal to it.
+    Each wire has its pieces as numbers, five for each: x and y of the first cell and of the last one, and the time at
+    the first. The name is "1" for a constant, and empty for assignments that are no wire's. `equal` lists the wires
+    that are equal to it.
     """
     tables, full, _ = wire_tables(document, [])
     run = timed_run(document, tables, full)
@@ -62,5 +66,6 @@ def page_ways(document: Document) -> dict[str, Any] | None:
     levels = levels_of(document.circuit) if document.circuit else {}
     order = {table: number for number, table in enumerate(names)}
     return {"sampled": sampled_words(document).strip(),
-            "wires": [{"name": names[table][0] if table in names else "", "equal": names.get(table, [""])[1:], "level": levels.get(names.get(table, [""])[0], 0),
+            "wires": [{"name": names[table][0] if table in names else "", "equal": names.get(table, [""])[1:],
+                       "level": levels.get(names.get(table, [""])[0], 0),
                        "pieces": found[table]} for table in sorted(found, key=lambda table: order.get(table, -1))]}

@@ -16,7 +16,8 @@ from .page_ways import page_ways
 TEMPLATE = Path(__file__).resolve().parent
 # The scripts: the engine runs without a page, the others need one. The order is that in which they use each other.
 ENGINE = ["automaton.js", "limits.js"]
-PAGE = ["svg_pen.js", "labels.js", "address.js", "tiles.js", "wires.js", "painting.js", "waveform.js", "player.js", "stage.js", "minimap.js", "panels.js",
+PAGE = ["svg_pen.js", "labels.js", "address.js", "tiles.js", "wires.js", "painting.js", "waveform.js", "player.js",
+        "stage.js", "minimap.js", "panels.js",
         "controls.js"]
 
 
@@ -49,7 +50,8 @@ def page(document: Document, explanation: Explanation | None, title: str) -> str
     assert document.layout
     before, after = piece("page.html").split("DATA")
     style, scripts = piece("page.css"), {"ENGINE": f"\n{piece(*ENGINE)}", "PAGE": f"\n{piece(*PAGE)}"}
-    for mark, text in (("POLICY", policy(style, list(scripts.values()))), ("STYLE", style), ("TITLE", escape(plain(title)))):
+    for mark, text in (("POLICY", policy(style, list(scripts.values()))), ("STYLE", style),
+                       ("TITLE", escape(plain(title)))):
         before = before.replace(mark, text)
     for mark, text in scripts.items():
         after = after.replace(f"<script>{mark}</script>", f"<script>{text}</script>")

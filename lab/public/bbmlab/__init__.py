@@ -11,7 +11,8 @@ from bbmlab_core import VERSION as __version__
 TYPE_CHECKING = False
 if TYPE_CHECKING:
     from ._asking import Explanation, Finding, Report, check, explain
-    from ._circuits import Comparison, Netlist, Row, clean, equivalent, inverse, read_netlist, simplify, stats, table, to_conservative
+    from ._circuits import (Comparison, Netlist, Row, clean, equivalent, inverse, read_netlist, simplify, stats, table,
+                            to_conservative)
     from ._errors import NotFoundError, ProgramError, RefusedError
     from ._making import certify, route
     from ._reading import read
@@ -19,16 +20,20 @@ if TYPE_CHECKING:
     from ._sections import Border, Box, Bundle, Certificate, Circuit, Gate, Layout, Module, Port, Stop
 
 __all__ = [
-    "Border", "Box", "Bundle", "Certificate", "Circuit", "Comparison", "Explanation", "Finding", "Gate", "Layout", "Module", "Netlist",
-    "NotFoundError", "Port", "ProgramError", "RefusedError", "Report", "Row", "State", "Stop", "__version__", "certify", "check", "clean",
-    "equivalent", "explain", "inverse", "local_run", "read", "read_netlist", "route", "simplify", "simulate", "stats", "table",
+    "Border", "Box", "Bundle", "Certificate", "Circuit", "Comparison", "Explanation", "Finding", "Gate", "Layout",
+    "Module", "Netlist",
+    "NotFoundError", "Port", "ProgramError", "RefusedError", "Report", "Row", "State", "Stop", "__version__", "certify",
+    "check", "clean",
+    "equivalent", "explain", "inverse", "local_run", "read", "read_netlist", "route", "simplify", "simulate", "stats",
+    "table",
     "to_conservative",
 ]
 
 # The module of each name.
 _HOMES = {
     "_asking": ("Explanation", "Finding", "Report", "check", "explain"),
-    "_circuits": ("Comparison", "Netlist", "Row", "clean", "equivalent", "inverse", "read_netlist", "simplify", "stats", "table",
+    "_circuits": ("Comparison", "Netlist", "Row", "clean", "equivalent", "inverse", "read_netlist", "simplify", "stats",
+                  "table",
                   "to_conservative"),
     "_errors": ("NotFoundError", "ProgramError", "RefusedError"),
     "_making": ("certify", "route"),

@@ -71,7 +71,8 @@ class Report:
 
 @dataclass(frozen=True)
 class Explanation:
-    """An answer of the program in words, as `bbmlab explain` prints it and as its JSON document, and the text with a fix if there is one."""
+    """An answer of the program in words, as `bbmlab explain` prints it and as its JSON document, and the text with a
+    fix if there is one."""
 
     verdict: str
     text: str
@@ -116,7 +117,8 @@ def refused_error(text: str, line: int, code: int) -> RefusedError:
 def check(text: str | Bundle, *, program: str | None = None, timeout: float | None = None) -> Report:
     """Returns the report of the proved program.
 
-    Raises RefusedError if the program refuses the text, TimeoutError after `timeout` seconds, and ProgramError if it gives no report.
+    Raises RefusedError if the program refuses the text, TimeoutError after `timeout` seconds, and ProgramError if it
+    gives no report.
     """
     data = characters(text)
     answer = answer_of(opened_program(program), "check", data, timeout)
@@ -128,12 +130,14 @@ def check(text: str | Bundle, *, program: str | None = None, timeout: float | No
         raise refused_error(data, *report.refused)
     if report.refused or STATUSES.get(answer.status) != report.verdict:
         raise ProgramError(f"the program ended with status {answer.status}, which its report does not fit")
-    findings = tuple(Finding(finding.word, finding.text, finding.is_against, **finding.values) for finding in report.findings)  # type: ignore[arg-type]
+    findings = tuple(Finding(finding.word, finding.text, finding.is_against, **finding.values)  # type: ignore[arg-type]
+                     for finding in report.findings)
     return Report(report.verdict, answer.status, report.digest, report.modules, findings, answer.output)
 
 
 def explain(text: str | Bundle, *, effort: float = 30.0, program: str | None = None) -> Explanation:
-    """Returns what the program answers to a text, in words, with a fix that was tried if one was found in `effort` seconds of the processor.
+    """Returns what the program answers to a text, in words, with a fix that was tried if one was found in `effort`
+    seconds of the processor.
 
     Raises ProgramError if the program gives no answer.
     """
@@ -149,4 +153,5 @@ def explain(text: str | Bundle, *, effort: float = 30.0, program: str | None = N
     except ReportError as error:
         raise ProgramError(str(error)) from error
     fixed = None if explanation.fixed is None else explanation.fixed.encode("latin-1").decode("utf-8", "replace")
-    return Explanation(explanation.verdict, COLOUR.sub("", text_of(explanation)), json.loads(as_json(explanation)), fixed)
+    return Explanation(explanation.verdict, COLOUR.sub("", text_of(explanation)), json.loads(as_json(explanation)),
+                       fixed)

@@ -32,7 +32,10 @@ class Netlist:
 
 
 class Row(NamedTuple):
-    """A row of a circuit's table: the inputs that are on, and the outputs that are true. Without values: None, and the gate without a row."""
+    """A row of a circuit's table: the inputs that are on, and the outputs that are true. Without values:
+
+    None, and the gate without a row.
+    """
 
     inputs: frozenset[str]
     outputs: frozenset[str] | None
@@ -61,7 +64,8 @@ def read_netlist(text: str, *, form: str | None = None) -> Netlist:
 
 
 def to_conservative(netlist: Netlist | str, *, cycles: int | None = None, state: str = "ports") -> Circuit:
-    """Returns the circuit to which a netlist is mapped. A machine is unrolled for some cycles, and its state is `ports` or `initial`.
+    """Returns the circuit to which a netlist is mapped. A machine is unrolled for some cycles, and its state is `ports`
+    or `initial`.
 
     Raises ValueError if it cannot be mapped.
     """
@@ -91,14 +95,18 @@ def changed(circuit: Circuit, change: Callable[[circuits.Circuit], CircuitLines]
 
 
 def inverse(circuit: Circuit) -> Circuit:
-    """Returns the inverse of a circuit. Raises RefusedError if the circuit is refused, and NotFoundError with the reason if it has none."""
+    """Returns the inverse of a circuit.
+
+    Raises RefusedError if the circuit is refused, and NotFoundError with the reason if it has none.
+    """
     return changed(circuit, inverse_lines)
 
 
 def clean(circuit: Circuit) -> Circuit:
     """Returns a circuit whose garbage are its inputs and constants.
 
-    Raises RefusedError if the circuit is refused, and NotFoundError if it has no values at some inputs or becomes too large.
+    Raises RefusedError if the circuit is refused, and NotFoundError if it has no values at some inputs or becomes too
+    large.
     """
     return changed(circuit, clean_lines)
 
@@ -109,7 +117,10 @@ def simplify(circuit: Circuit) -> Circuit:
 
 
 def table(circuit: Circuit) -> tuple[Row, ...]:
-    """Returns the rows of a circuit of at most 12 inputs, of which the first changes last. Raises ValueError if it has more."""
+    """Returns the rows of a circuit of at most 12 inputs, of which the first changes last.
+
+    Raises ValueError if it has more.
+    """
     model = model_of(circuit)
     try:
         choices = truth.choices(model, None)
@@ -124,12 +135,17 @@ def table(circuit: Circuit) -> tuple[Row, ...]:
 
 
 def stats(text: Bundle | Circuit) -> dict[str, int]:
-    """Returns the figures of a circuit, and of a layout and a certificate if they are there. Raises RefusedError if the text is refused."""
-    document = document_of(text_of(text) if isinstance(text, Circuit) else str(text), "circuit" if isinstance(text, Circuit) else None)
+    """Returns the figures of a circuit, and of a layout and a certificate if they are there.
+
+    Raises RefusedError if the text is refused.
+    """
+    document = document_of(text_of(text) if isinstance(text, Circuit) else str(text),
+                           "circuit" if isinstance(text, Circuit) else None)
     return {name.strip(): int(value) for name, value in truth.figures(document) if value.isdecimal()}
 
 
 def equivalent(one: Circuit, other: Circuit, *, common: bool = False) -> Comparison:
-    """Compares the outputs of two circuits by their names, or only those that both have: in all choices of up to 16 inputs, or in samples."""
+    """Compares the outputs of two circuits by their names, or only those that both have: in all choices of up to 16
+    inputs, or in samples."""
     differs, scope = truth.difference(model_of(one), model_of(other), common)
     return Comparison(not differs, differs, scope)

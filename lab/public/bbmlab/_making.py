@@ -1,4 +1,7 @@
-"""Certificates and layouts that the lab makes, by `certify` and `route` of `bbmlab_core`. Only the program gives a verdict on them."""
+"""Certificates and layouts that the lab makes, by `certify` and `route` of `bbmlab_core`.
+
+Only the program gives a verdict on them.
+"""
 
 from __future__ import annotations
 
@@ -36,15 +39,18 @@ def known_stops(bundle: Bundle) -> list[StopLine]:
     """Returns the stops of a bundle's certificate, if the bundle is not refused."""
     if bundle.certificate is None or read_document(str(bundle), "check").refusal:
         return []
-    stops = [StopLine(stop.time, stop.name, stop.x, stop.y, 0) for module in bundle.certificate.modules for stop in module.stops]
+    stops = [StopLine(stop.time, stop.name, stop.x, stop.y, 0) for module in bundle.certificate.modules
+             for stop in module.stops]
     return sorted(stops, key=lambda stop: stop.place)
 
 
-def certify(bundle: Bundle, *, grid: tuple[int, int] | None = None, boxes: Iterable[tuple[int, int, int, int]] | None = None,
+def certify(bundle: Bundle, *, grid: tuple[int, int] | None = None,
+            boxes: Iterable[tuple[int, int, int, int]] | None = None,
             cuts: str = "auto", version: int = 2) -> Bundle:
     """Returns a circuit and a layout with a certificate that the lab makes. The program has not checked it.
 
-    Raises RefusedError if circuit or layout are refused, ValueError for wrong arguments, and NotFoundError if no certificate is found.
+    Raises RefusedError if circuit or layout are refused, ValueError for wrong arguments, and NotFoundError if no
+    certificate is found.
     """
     if bundle.circuit is None or bundle.layout is None:
         raise ValueError("certify takes a circuit and a layout")
@@ -82,15 +88,19 @@ def circuit_text(circuit: Circuit | str) -> str:
         raise ValueError(f"the netlist cannot be mapped: {error}") from error
 
 
-def route(circuit: Circuit | str, *, seed: int = 1, size: int | None = None, effort: float = 60.0, jobs: int = 1, compact: bool = False,
-          progress: Callable[[int, int, int, int], object] | None = None, cancel: Callable[[], bool] | None = None) -> Bundle:
+def route(circuit: Circuit | str, *, seed: int = 1, size: int | None = None, effort: float = 60.0, jobs: int = 1,
+          compact: bool = False,
+          progress: Callable[[int, int, int, int], object] | None = None,
+          cancel: Callable[[], bool] | None = None) -> Bundle:
     """Returns a circuit with a layout and a certificate, placed and routed by the lab. The program has not checked it.
 
-    A `str` is a netlist, in BLIF or the JSON of yosys, or a text that begins with a circuit. While gates are placed, `progress` is called with
-    the number of the attempt, its side, and how many gates of how many are placed, and a `cancel` that returns True ends the search.
+    A `str` is a netlist, in BLIF or the JSON of yosys, or a text that begins with a circuit. While gates are placed,
+    `progress` is called with the number of the attempt, its side, and how many gates of how many are placed, and a
+    `cancel` that returns True ends the search.
 
-    Raises RefusedError if the circuit is refused, ValueError for a wrong number or a netlist that cannot be mapped, and NotFoundError if the
-    circuit has no values under some inputs, if no route is found in `effort` seconds, or if the search was cancelled.
+    Raises RefusedError if the circuit is refused, ValueError for a wrong number or a netlist that cannot be mapped, and
+    NotFoundError if the circuit has no values under some inputs, if no route is found in `effort` seconds, or if the
+    search was cancelled.
     """
     if min(seed, jobs) < 1 or effort <= 0:
         raise ValueError("seed and jobs are from 1, and effort is more than 0 seconds")
@@ -105,7 +115,8 @@ def route(circuit: Circuit | str, *, seed: int = 1, size: int | None = None, eff
             raise NotFoundError(why)
         require_all_keeps("the circuit", model)
     except LabError as error:
-        raise ValueError(str(error).removeprefix("--")) if error.status == WRONG_ARGUMENTS else own_error(error) from error
+        raise ValueError(str(error).removeprefix("--")) if error.status == WRONG_ARGUMENTS else own_error(
+            error) from error
     is_cancelled = False
 
     def tell(attempt: int, side: int, placed: int, total: int) -> None:

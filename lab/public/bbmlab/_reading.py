@@ -45,7 +45,8 @@ def text_of(section: Circuit | Layout) -> str:
     if isinstance(section, Layout):
         limits = limits_for(max(section.width, section.height), section.steps)
     else:
-        limits = limits_for(gates=len(section.gates), wires=len(section.inputs) + sum(len(gate.outs) for gate in section.gates))
+        limits = limits_for(gates=len(section.gates),
+                            wires=len(section.inputs) + sum(len(gate.outs) for gate in section.gates))
     return limits.head + str(section)
 
 
@@ -64,7 +65,8 @@ def layout_of(layout: layouts.Layout) -> Layout:
     """Returns a layout as the API has it."""
     mirrors = tuple(Box(part.x, part.y, part.width, part.height) for part in layout.of_kind("mirror"))
     balls, wastes = (tuple(part.cell for part in layout.of_kind(kind)) for kind in ("ball", "waste"))
-    return Layout(layout.width, layout.height, layout.steps, mirrors, balls, ports_of(layout.of_kind("in")), ports_of(layout.of_kind("out")), wastes)
+    return Layout(layout.width, layout.height, layout.steps, mirrors, balls, ports_of(layout.of_kind("in")),
+                  ports_of(layout.of_kind("out")), wastes)
 
 
 def borders_of(lines: list[BorderLine]) -> tuple[Border, ...]:
@@ -76,7 +78,8 @@ def module_of(module: certificates.Module) -> Module:
     """Returns a module as the API has it."""
     box = Box(module.box.x, module.box.y, module.box.width, module.box.height)
     stops = tuple(Stop(stop.time, stop.name, stop.x, stop.y) for stop in module.stops)
-    return Module(box, tuple(module.cuts), tuple(module.uses), tuple(module.keeps), borders_of(module.edges), borders_of(module.halos), stops)
+    return Module(box, tuple(module.cuts), tuple(module.uses), tuple(module.keeps), borders_of(module.edges),
+                  borders_of(module.halos), stops)
 
 
 def certificate_of(certificate: certificates.Certificate) -> Certificate:

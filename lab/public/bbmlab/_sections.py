@@ -141,7 +141,8 @@ class Layout:
     def __str__(self) -> str:
         """Writes the section."""
         return section_text([
-            f"layout {self.width} {self.height} {self.steps}", *(f"mirror {box.x} {box.y} {box.width} {box.height}" for box in self.mirrors),
+            f"layout {self.width} {self.height} {self.steps}",
+            *(f"mirror {box.x} {box.y} {box.width} {box.height}" for box in self.mirrors),
             *(f"ball {x} {y}" for x, y in self.balls), *(f"in {name} {x} {y}" for name, x, y in self.ins),
             *(f"out {name} {x} {y}" for name, x, y in self.outs), *(f"waste {x} {y}" for x, y in self.wastes)])
 
@@ -190,14 +191,17 @@ class Module:
 
     def stop(self, time: int, name: str, x: int, y: int) -> Module:
         """Returns the module with one more `stop` line."""
-        return replace(self, stops=tuple(sorted((*self.stops, Stop(time, name, x, y)), key=lambda stop: (stop.time, stop.y, stop.x))))
+        return replace(self,
+                       stops=tuple(sorted((*self.stops, Stop(time, name, x, y)),
+                                          key=lambda stop: (stop.time, stop.y, stop.x))))
 
     def __str__(self) -> str:
         """Writes the module's lines."""
         box = self.box
         lines = [f"module {box.x} {box.y} {box.width} {box.height}", *(f"cut {name}" for name in self.cuts),
                  *(f"use {gate}" for gate in self.uses), *(f"keep {gate}" for gate in self.keeps),
-                 *(border_words("edge", line) for line in self.edges), *(border_words("halo", line) for line in self.halos),
+                 *(border_words("edge", line) for line in self.edges),
+                 *(border_words("halo", line) for line in self.halos),
                  *(f"stop {stop.time} {stop.name} {stop.x} {stop.y}" for stop in self.stops)]
         return "".join(f"{line}\n" for line in lines)
 
@@ -220,7 +224,10 @@ class Certificate:
 
 @dataclass(frozen=True)
 class Bundle:
-    """The sections of a text; None for a section that it lacks. `on` is the assign section, and `limits` 2 for a first line `limits 2`."""
+    """The sections of a text; None for a section that it lacks.
+
+    `on` is the assign section, and `limits` 2 for a first line `limits 2`.
+    """
 
     circuit: Circuit | None = None
     layout: Layout | None = None
@@ -232,4 +239,5 @@ class Bundle:
         """Writes the text."""
         front = SECOND.head if self.limits == SECOND.number else ""
         assign = None if self.on is None else section_text(["assign", *(f"on {name}" for name in self.on)])
-        return front + "".join(str(section) for section in (self.circuit, self.layout, assign, self.certificate) if section is not None)
+        return front + "".join(str(section) for section in (self.circuit, self.layout, assign, self.certificate)
+                               if section is not None)

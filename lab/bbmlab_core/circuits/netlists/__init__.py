@@ -1,6 +1,8 @@
-"""Netlists of Boolean logic, of machines and of reversible gates: reads their formats, and maps them to circuits of conservative logic.
+"""Netlists of Boolean logic, of machines and of reversible gates: reads their formats, and maps them to circuits of
+conservative logic.
 
-Sources: Fredkin and Toffoli 1982 for the gates, and for constants and garbage; Berkeley Logic Interchange Format (1992) for BLIF.
+Sources: Fredkin and Toffoli 1982 for the gates, and for constants and garbage; Berkeley Logic Interchange Format (1992)
+for BLIF.
 """
 
 import re
@@ -25,7 +27,8 @@ from .search import map_graph
 from .unrolling import unrolled
 from .yosys_json import read_yosys_json
 
-__all__ = ["MappedNetlist", "NetlistError", "NetlistFormat", "Reading", "circuit_from_netlist", "map_netlist", "map_read_netlist", "netlist_format",
+__all__ = ["MappedNetlist", "NetlistError", "NetlistFormat", "Reading", "circuit_from_netlist", "map_netlist",
+           "map_read_netlist", "netlist_format",
            "read_netlist"]
 
 MAX_NETLIST_BYTES = 16_777_216
@@ -40,7 +43,8 @@ QASM_HEAD = re.compile(r"OPENQASM\b|include\s*\"|qreg\b|qubit\b|creg\b|gate\s+\w
 # A comment of OpenQASM at the beginning of a text.
 BLOCK_COMMENT = re.compile(r"\A(?:\s|//[^\n]*\n|/\*.*?\*/)+", re.DOTALL)
 READERS: dict[NetlistFormat, Callable[[str], Netlist]] = {
-    NetlistFormat.BLIF: read_blif, NetlistFormat.YOSYS_JSON: read_yosys_json, NetlistFormat.REAL: read_real, NetlistFormat.QASM: read_qasm,
+    NetlistFormat.BLIF: read_blif, NetlistFormat.YOSYS_JSON: read_yosys_json, NetlistFormat.REAL: read_real,
+    NetlistFormat.QASM: read_qasm,
     NetlistFormat.PLA: read_pla, NetlistFormat.AIGER: read_aiger, NetlistFormat.GATES: read_gates,
 }
 
@@ -49,7 +53,8 @@ READERS: dict[NetlistFormat, Callable[[str], Netlist]] = {
 class Reading:
     """How a netlist is read: its format, or None if its content says it, and how a machine becomes a circuit.
 
-    A machine runs for some cycles, and None refuses it. Its state comes in and leaves by ports, or begins with its first values.
+    A machine runs for some cycles, and None refuses it. Its state comes in and leaves by ports, or begins with its
+    first values.
     """
 
     form: NetlistFormat | None = None
@@ -60,7 +65,8 @@ class Reading:
     def asked(cls, options: Any) -> "Reading":
         """Returns what the options `--from`, `--cycles` and `--state` of a command say."""
         given = getattr(options, "given", None)
-        return cls(NetlistFormat(given) if given else None, getattr(options, "cycles", None), getattr(options, "state", "ports") == "ports")
+        return cls(NetlistFormat(given) if given else None, getattr(options, "cycles", None),
+                   getattr(options, "state", "ports") == "ports")
 
 
 @dataclass(frozen=True)
@@ -111,7 +117,8 @@ def read_netlist(text: str, form: NetlistFormat | None = None) -> Netlist:
     text = text.removeprefix(BYTE_ORDER_MARK)
     form = form or netlist_format(text)
     if form is None:
-        raise NetlistError("The text is none of the netlists that are read: BLIF, the JSON of yosys, RevLib's .real, OpenQASM, PLA, AIGER and gates.")
+        raise NetlistError("The text is none of the netlists that are read: BLIF, the JSON of yosys, RevLib's .real, "
+                           "OpenQASM, PLA, AIGER and gates.")
     return READERS[form](text)
 
 
@@ -131,11 +138,14 @@ def map_read_netlist(netlist: Netlist, reading: Reading = Reading()) -> MappedNe
     if document.circuit is None or document.refusal is not None:
         raise NetlistError(f"The mapped circuit is wrong: {document.refusal}.")
     scope = compared(netlist, document.circuit)
-    return MappedNetlist(circuit.text(), [*netlist.notes, *circuit.notes, f"The circuit has the outputs of the netlist in {scope}."], circuit)
+    return MappedNetlist(circuit.text(),
+                         [*netlist.notes, *circuit.notes, f"The circuit has the outputs of the netlist in {scope}."],
+                         circuit)
 
 
 def cheapest_circuit(netlist: Netlist) -> NamedCircuit:
-    """Returns the circuit of a netlist's gates, or that of the tables of its outputs if the netlist is small and the circuit is cheaper.
+    """Returns the circuit of a netlist's gates, or that of the tables of its outputs if the netlist is small and the
+    circuit is cheaper.
 
     Networks of reversible gates often make values that no output needs, so that their tables are simpler than they are.
     """

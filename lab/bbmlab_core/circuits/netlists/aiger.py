@@ -1,4 +1,6 @@
-"""Reads AIGER, ASCII and binary (Biere 2006), with the first values of latches of version 1.9 (Biere, Heljanko and Wieringa 2011)."""
+"""Reads AIGER, ASCII and binary (Biere 2006), with the first values of latches of version 1.9 (Biere, Heljanko and
+Wieringa 2011).
+"""
 
 import re
 from dataclasses import replace
@@ -17,7 +19,8 @@ class AigerReader:
         if head is None:
             raise NetlistError("Line 1: the header of AIGER is `aag M I L O A` or `aig M I L O A`.")
         self.is_binary = head[1] == "aig"
-        self.most, self.input_count, self.latch_count, self.output_count, self.and_count = (int(head[at]) for at in range(2, 7))
+        self.most, self.input_count, self.latch_count, self.output_count, self.and_count = (int(head[at])
+                                                                                            for at in range(2, 7))
         if head[7].strip(" 0"):
             raise NetlistError("Line 1: properties of model checking are not read.")
         if max(self.and_count, self.input_count, self.output_count, self.latch_count) > MAX_NODES:
@@ -30,7 +33,8 @@ class AigerReader:
         """Returns the numbers of the next line: `count`, or up to `most`."""
         end = self.text.find("\n", self.at)
         words = self.text[self.at:end if end >= 0 else len(self.text)].split()
-        if not count <= len(words) <= max(count, most) or not all(word.isdecimal() and len(word) < 10 for word in words):
+        if not count <= len(words) <= max(count, most) or not all(word.isdecimal() and len(word) < 10
+                                                                  for word in words):
             raise NetlistError(f"Line {self.line}: here are {count} numbers.")
         self.at, self.line = (end + 1 if end >= 0 else len(self.text)), self.line + 1
         return [int(word) for word in words]
@@ -62,13 +66,18 @@ class AigerReader:
 
     def read(self) -> Netlist:
         """Returns the netlist."""
-        inputs = [2 * at + 2 for at in range(self.input_count)] if self.is_binary else [self.numbers(1)[0] for _ in range(self.input_count)]
+        inputs = [2 * at + 2
+                  for at in range(self.input_count)] if self.is_binary else [self.numbers(1)[0]
+                                                                             for _ in range(self.input_count)]
         latches = [self.latch(at) for at in range(self.latch_count)]
         outputs = [self.numbers(1)[0] for _ in range(self.output_count)]
         gates = [self.numbers(3) for _ in range(self.and_count)] if not self.is_binary else self.binary_gates()
-        names = {(found[1], int(found[2])): found[3] for found in SYMBOL.finditer(self.text[self.at:].split("\nc\n")[0]) if int(found[2]) < MAX_NODES}
+        names = {(found[1], int(found[2])): found[3] for found in SYMBOL.finditer(self.text[self.at:].split("\nc\n")[0])
+                 if int(found[2]) < MAX_NODES}
         stored = [numbers[0] for numbers in latches]
-        if any(literal & 1 or literal < 2 for literal in inputs + stored) or len({*inputs, *stored}) != len(inputs) + len(stored):
+        if any(literal & 1 or literal < 2 for literal in inputs + stored) or len({*inputs,
+                                                                                  *stored}) != len(inputs) + len(
+                                                                                      stored):
             raise NetlistError("The inputs and latches are distinct even numbers from 2.")
         self.netlist.inputs = [f" {literal}" for literal in inputs]
         for left, one, other in gates:
@@ -82,7 +91,8 @@ class AigerReader:
         return self.renamed(inputs, names, pairs)
 
     def latch(self, at: int) -> tuple[int, int, int]:
-        """Returns the literals of a latch, of its next value and of its first value, which is the latch's own if there is none."""
+        """Returns the literals of a latch, of its next value and of its first value, which is the latch's own if there
+        is none."""
         given = [] if not self.is_binary else [2 * (self.input_count + at + 1)]
         literal, follower, *start = given + self.numbers(2 - len(given), 3 - len(given))
         if start and start[0] not in (0, 1, literal):
@@ -111,7 +121,8 @@ class AigerReader:
             ins = tuple(own.get(net, net) for net in node.inputs)
             if node.output in own:
                 raise NetlistError(f"The input {node.output.strip()} is driven by a gate.")
-            netlist.add(CellNode(node.output, node.cell, ins) if isinstance(node, CellNode) else TableNode(node.output, ins, node.rows, node.value))
+            netlist.add(CellNode(node.output, node.cell, ins) if isinstance(node, CellNode)
+                        else TableNode(node.output, ins, node.rows, node.value))
         return netlist
 
 

@@ -7,8 +7,10 @@ from typing import Iterator
 from .model import MAX_PORTS, Latch, Netlist, NetlistError, TableNode
 
 # Lines that say nothing on the values: attributes of yosys, and timing.
-SKIPPED = {".attr", ".param", ".cname", ".area", ".delay", ".wire_load_slope", ".wire", ".input_arrival", ".default_input_arrival",
-           ".output_required", ".default_output_required", ".input_drive", ".default_input_drive", ".output_load", ".default_output_load",
+SKIPPED = {".attr", ".param", ".cname", ".area", ".delay", ".wire_load_slope", ".wire", ".input_arrival",
+           ".default_input_arrival",
+           ".output_required", ".default_output_required", ".input_drive", ".default_input_drive", ".output_load",
+           ".default_output_load",
            ".max_input_load", ".default_max_input_load", ".clock"}
 # The types of latches that change at an edge of their clock, and those that do not.
 EDGES = {"re": "rising edge", "fe": "falling edge"}
@@ -27,7 +29,8 @@ Words = tuple[int, list[str]]
 
 
 def word_lines(text: str) -> Iterator[Words]:
-    """Yields the number and the words of each line that has words. A backslash at its end joins a line to the next one."""
+    """Yields the number and the words of each line that has words. A backslash at its end joins a line to the next one.
+    """
     words: list[str] = []
     first = 0
     for number, line in enumerate(text.split("\n"), 1):
@@ -85,14 +88,17 @@ class BlifReader:
         """Reads `.latch INPUT OUTPUT [TYPE CONTROL] [INIT]`. The first values 2 and 3 are none."""
         init = words.pop() if len(words) in (3, 5) else "3"
         if len(words) not in (2, 4) or init not in ("0", "1", "2", "3"):
-            raise NetlistError(f"Line {number}: a latch is `.latch INPUT OUTPUT [TYPE CONTROL] [INIT]`, with INIT from 0 to 3.")
+            raise NetlistError(f"Line {number}: a latch is `.latch INPUT OUTPUT [TYPE CONTROL] [INIT]`, with INIT from "
+                               "0 to 3.")
         clock = None
         if len(words) == 4 and words[2] in LEVELS:
-            raise NetlistError(f"Line {number}: the latch `{words[1]}` changes {LEVELS[words[2]]} (`{words[2]}`). Those at an edge are read, `re` and "
+            raise NetlistError(f"Line {number}: the latch `{words[1]}` changes {LEVELS[words[2]]} (`{words[2]}`). "
+                               "Those at an edge are read, `re` and "
                                "`fe`.")
         if len(words) == 4:
             if words[2] not in EDGES:
-                raise NetlistError(f"Line {number}: `{words[2]}` is no type of a latch. They are `re`, `fe`, `ah`, `al` and `as`.")
+                raise NetlistError(f"Line {number}: `{words[2]}` is no type of a latch. They are `re`, `fe`, `ah`, "
+                                   "`al` and `as`.")
             clock = None if words[3] == "NIL" else (words[3], EDGES[words[2]])
         self.netlist.add_latch(Latch(words[1], words[1], words[0], {"0": False, "1": True}.get(init), clock))
 
@@ -103,7 +109,8 @@ class BlifReader:
         count = len(self.table[1]) - 1
         row, value = ("", words[0]) if len(words) == 1 and count == 0 else (words[0], words[-1])
         if len(words) > 2 or len(row) != count or not ROW.match(row) or value not in ("0", "1"):
-            raise NetlistError(f"Line {number}: a row of this table has {count} of `0`, `1` and `-`, a space, and `0` or `1`.")
+            raise NetlistError(f"Line {number}: a row of this table has {count} of `0`, `1` and `-`, a space, and `0` "
+                               "or `1`.")
         self.rows.append((row, value))
 
     def end_table(self) -> None:
@@ -115,7 +122,8 @@ class BlifReader:
         if len(values) > 1:
             raise NetlistError(f"Line {number}: the table of `{names[-1]}` has rows for both `0` and `1`.")
         value = "1" in values or not values
-        self.netlist.add(TableNode(names[-1], tuple(names[:-1]), tuple(dict.fromkeys(row for row, _ in self.rows)), value))
+        self.netlist.add(TableNode(names[-1], tuple(names[:-1]), tuple(dict.fromkeys(row for row, _ in self.rows)),
+                                   value))
         self.table, self.rows = None, []
 
     def finish(self) -> Netlist:

@@ -27,7 +27,8 @@ class NamedCircuit:
         """Returns the circuit section, after the line that raises its limits if one asks for it."""
         wires = len(self.inputs) + sum(len(line.partition(" -> ")[2].split()) for line in self.gates)
         front = limits_for(gates=len(self.gates), wires=wires).head.splitlines()
-        lines = [*front, "circuit", *(f"input {name}" for name in self.inputs), *self.gates, *(f"output {name}" for name in self.outputs)]
+        lines = [*front, "circuit", *(f"input {name}" for name in self.inputs), *self.gates,
+                 *(f"output {name}" for name in self.outputs)]
         return "\n".join([*lines, *(f"spill {name}" for name in self.spills), "end", ""])
 
 

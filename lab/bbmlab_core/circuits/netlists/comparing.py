@@ -15,8 +15,10 @@ def cell_table(cell: Cell, full: Table, ins: list[Table]) -> Table:
     """Returns the table of a simple cell of yosys."""
     a, b, c, d = (ins + [0, 0, 0])[:4]
     values = {
-        Cell.BUF: a, Cell.NOT: ~a, Cell.AND: a & b, Cell.NAND: ~(a & b), Cell.OR: a | b, Cell.NOR: ~(a | b), Cell.XOR: a ^ b, Cell.XNOR: ~(a ^ b),
-        Cell.ANDNOT: a & ~b, Cell.ORNOT: a | ~b, Cell.MUX: c & b | ~c & a, Cell.NMUX: ~(c & b | ~c & a), Cell.AOI3: ~(a & b | c),
+        Cell.BUF: a, Cell.NOT: ~a, Cell.AND: a & b, Cell.NAND: ~(a & b), Cell.OR: a | b, Cell.NOR: ~(a | b),
+        Cell.XOR: a ^ b, Cell.XNOR: ~(a ^ b),
+        Cell.ANDNOT: a & ~b, Cell.ORNOT: a | ~b, Cell.MUX: c & b | ~c & a, Cell.NMUX: ~(c & b | ~c & a),
+        Cell.AOI3: ~(a & b | c),
         Cell.OAI3: ~((a | b) & c), Cell.AOI4: ~(a & b | c & d), Cell.OAI4: ~((a | b) & (c | d)),
     }
     return values[cell] & full
@@ -38,15 +40,20 @@ def netlist_tables(netlist: Netlist, tables: dict[str, Table], full: Table) -> d
     found = dict(tables)
     for node in netlist.sorted_nodes():
         ins = [found[net] for net in node.inputs]
-        found[node.output] = cell_table(node.cell, full, ins) if isinstance(node, CellNode) else node_table(node, full, ins)
+        found[node.output] = cell_table(node.cell, full, ins) if isinstance(node,
+                                                                            CellNode) else node_table(node, full, ins)
     return found
 
 
 def compared(netlist: Netlist, circuit: Circuit) -> str:
-    """Returns in which inputs the circuit has the outputs of the netlist, in words. Raises NetlistError where it has others."""
+    """Returns in which inputs the circuit has the outputs of the netlist, in words.
+
+    Raises NetlistError where it has others.
+    """
     count = len(netlist.inputs)
     if count <= MAX_ALL:
-        full, scope = (1 << (1 << count)) - 1, f"all {1 << count} choices of the inputs" if count else "the one choice of the inputs"
+        full, scope = ((1 << (1 << count)) - 1, f"all {1 << count} choices of the inputs" if count
+                       else "the one choice of the inputs")
         columns = dict(zip(netlist.inputs, input_tables(count)))
     else:
         full, scope = (1 << SAMPLES) - 1, f"{SAMPLES} samples of the {count} inputs"
@@ -56,5 +63,6 @@ def compared(netlist: Netlist, circuit: Circuit) -> str:
     own = evaluate_under(circuit, mine, full, [gate.number for gate in circuit.gates])
     for name, (port, net) in zip(circuit.outputs, netlist.outputs):
         if own.defined != full or own.tables[name] != theirs[net]:
-            raise NetlistError(f"The mapped circuit is wrong: its output `{name}` is not always `{port}` of the netlist. This is a fault of the lab.")
+            raise NetlistError(f"The mapped circuit is wrong: its output `{name}` is not always `{port}` of the "
+                               "netlist. This is a fault of the lab.")
     return scope

@@ -7,7 +7,8 @@ from .reversible import LineNetlist
 
 
 def map_exchanges(netlist: LineNetlist) -> NamedCircuit:
-    """Returns the circuit of a netlist whose gates all exchange two lines: a gate `fredkin` for each that has a control.
+    """Returns the circuit of a netlist whose gates all exchange two lines: a gate `fredkin` for each that has a
+    control.
 
     `fredkin c x y` exchanges x and y if c is false, so the two lines come in exchanged.
     """

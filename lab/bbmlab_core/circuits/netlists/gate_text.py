@@ -1,4 +1,5 @@
-"""Reads a text of gates that anyone knows, such as `and a b -> c`. A wire may be used any number of times, and nothing is spilled.
+"""Reads a text of gates that anyone knows, such as `and a b -> c`. A wire may be used any number of times, and nothing
+is spilled.
 
 The conservative gates may occur too, but for the inverse ones: those have no values for some of their inputs.
 """
@@ -10,7 +11,8 @@ from ...texts.spelling import free_words
 from .model import MAX_PORTS, Cell, CellNode, Netlist, NetlistError, TableNode
 
 # Gates of two or more inputs: the cell that joins two of them, and the last one.
-JOINED = {"and": (Cell.AND, Cell.AND), "or": (Cell.OR, Cell.OR), "xor": (Cell.XOR, Cell.XOR), "nand": (Cell.AND, Cell.NAND),
+JOINED = {"and": (Cell.AND, Cell.AND), "or": (Cell.OR, Cell.OR), "xor": (Cell.XOR, Cell.XOR),
+          "nand": (Cell.AND, Cell.NAND),
           "nor": (Cell.OR, Cell.NOR), "xnor": (Cell.XOR, Cell.XNOR)}
 # Gates with a fixed number of inputs and outputs, and for each output its cell and the places of its inputs.
 FIXED: dict[str, tuple[int, list[tuple[Cell, tuple[int, ...]]]]] = {
@@ -25,14 +27,16 @@ HEAD = 100_000
 INVERSE = {"unswitch", "uninteract"}
 # A line of a gate that a circuit section does not have. It may be wrong: then the reader says how.
 PLAIN_LINE = re.compile(r"^[ \t]*(?:and|or|xor|nand|nor|xnor|not|buf|mux)[ \t][^\n>]*->", re.MULTILINE | re.IGNORECASE)
-FIRST_WORD = re.compile(r"(?:[ \t\r\n]|#[^\n]*\n)*(circuit|input|source|and|or|xor|nand|nor|xnor|not|buf|mux)(?:[ \t\r\n]|\Z)")
+FIRST_WORD = re.compile(r"(?:[ \t\r\n]|#[^\n]*\n)*(circuit|input|source|and|or|xor|nand|nor|xnor|not|buf|mux)(?:[ "
+                        r"\t\r\n]|\Z)")
 
 
 def is_gate_text(text: str) -> bool:
     """Whether a text is a circuit with at least one gate that a circuit section does not have, and no layout."""
     end = text.find("\nend")
     last = len(text) if end < 0 else end
-    return FIRST_WORD.match(text[:HEAD]) is not None and PLAIN_LINE.search(text, 0, last) is not None and "\nlayout " not in text
+    return FIRST_WORD.match(text[:HEAD]) is not None and PLAIN_LINE.search(text, 0,
+                                                                           last) is not None and "\nlayout " not in text
 
 
 class GateReader:
@@ -126,12 +130,14 @@ class GateReader:
     def require_counts(self, keyword: str, found: tuple[int, int], wanted: tuple[int, int]) -> None:
         """Refuses a gate with another number of inputs or outputs."""
         if found != wanted:
-            raise self.wrong(f"`{keyword}` takes {wanted[0]} before the arrow and {wanted[1]} behind it, and has {found[0]} and {found[1]}")
+            raise self.wrong(f"`{keyword}` takes {wanted[0]} before the arrow and {wanted[1]} behind it, and has "
+                             f"{found[0]} and {found[1]}")
 
     def define(self, name: str) -> None:
         """Notes a new wire."""
         if not NAME.match(name):
-            raise self.wrong(f"`{name[:40]}` is no name: a lower-case letter, then up to 31 of lower-case letters, digits and `_`")
+            raise self.wrong(f"`{name[:40]}` is no name: a lower-case letter, then up to 31 of lower-case letters, "
+                             "digits and `_`")
         if name in self.known:
             raise self.wrong(f"`{name}` is defined already")
         self.known.add(name)

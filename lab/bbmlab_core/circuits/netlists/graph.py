@@ -1,6 +1,7 @@
 """A graph of AND, XOR and join nodes with inverted edges, in which equal nodes are one.
 
-A literal is a number: twice the number of its node, plus 1 if it is inverted. Node 0 is the constant 0, so literal 1 is the constant 1.
+A literal is a number: twice the number of its node, plus 1 if it is inverted. Node 0 is the constant 0, so literal 1 is
+the constant 1.
 """
 
 from dataclasses import dataclass
@@ -55,7 +56,8 @@ class Graph:
         node = GraphNode(kind, inputs)
         if node not in self.numbers:
             if len(self.nodes) >= MAX_GRAPH_NODES:
-                raise NetlistError(f"The logic has more than {MAX_GRAPH_NODES} nodes. A circuit has at most {SECOND.max_gates} gates.")
+                raise NetlistError(f"The logic has more than {MAX_GRAPH_NODES} nodes. A circuit has at most "
+                                   f"{SECOND.max_gates} gates.")
             self.numbers[node] = len(self.nodes)
             self.nodes.append(node)
         return 2 * self.numbers[node]
@@ -88,7 +90,8 @@ class Graph:
         return self.literal(Kind.AND, left, right) if joined is None else joined ^ 1
 
     def _absorbed(self, one: Literal, other: Literal) -> tuple[Literal, Literal] | None:
-        """Returns two literals whose AND is a simpler form of "one and other" where `other` depends on the value of `one`."""
+        """Returns two literals whose AND is a simpler form of "one and other" where `other` depends on the value of
+        `one`."""
         factors, inverse_factors = self.product(other), self.product(other ^ 1)
         if factors and one in factors:
             return other, other
@@ -106,7 +109,8 @@ class Graph:
         return None
 
     def _joined(self, left: Literal, right: Literal) -> Literal | None:
-        """Returns the literal of the join whose inverse "left and right" is, if the inverses of both exclude each other."""
+        """Returns the literal of the join whose inverse "left and right" is, if the inverses of both exclude each
+        other."""
         first, second = self.conjuncts(left ^ 1), self.conjuncts(right ^ 1)
         common = sorted(literal for literal in first if literal ^ 1 in second)
         if not common or not (self.product(left ^ 1) and self.product(right ^ 1)):
@@ -174,7 +178,8 @@ class Graph:
 
 
 def table_literal(graph: Graph, table: int, literals: list[Literal]) -> Literal:
-    """Returns the literal of a table: bit A is its value at the assignment A, in which bit I is the value of literal I."""
+    """Returns the literal of a table: bit A is its value at the assignment A, in which bit I is the value of literal I.
+    """
     count = len(literals)
     if count == 0:
         return TRUE if table & 1 else FALSE
@@ -202,11 +207,13 @@ def table_literal(graph: Graph, table: int, literals: list[Literal]) -> Literal:
 
 
 def symmetric_literal(graph: Graph, table: int, literals: list[Literal]) -> Literal | None:
-    """Returns the literal of a table that treats two of its inputs alike, by the XOR of the two, as in a majority; else None."""
+    """Returns the literal of a table that treats two of its inputs alike, by the XOR of the two, as in a majority; else
+    None."""
     count = len(literals)
     pairs = [(low, high) for high in range(1, count) for low in range(high)]
     for low, high in sorted(pairs, key=lambda pair: not graph.has_xor(literals[pair[0]], literals[pair[1]])):
-        parts = [cofactor(cofactor(table, high, count, bool(first)), low, count - 1, bool(second)) for first in (0, 1) for second in (0, 1)]
+        parts = [cofactor(cofactor(table, high, count, bool(first)), low, count - 1, bool(second)) for first in (0, 1)
+                 for second in (0, 1)]
         if parts[1] == parts[2]:
             rest = literals[:low] + literals[low + 1:high] + literals[high + 1:]
             unlike, neither, both = (table_literal(graph, parts[number], rest) for number in (1, 0, 3))
@@ -214,7 +221,8 @@ def symmetric_literal(graph: Graph, table: int, literals: list[Literal]) -> Lite
     return None
 
 
-def split_literal(graph: Graph, halves: list[tuple[tuple[int, int], list[Literal]]], literals: list[Literal]) -> Literal:
+def split_literal(graph: Graph, halves: list[tuple[tuple[int, int], list[Literal]]],
+                  literals: list[Literal]) -> Literal:
     """Returns the literal of a table as a choice by the input that leaves the fewest inputs to its two halves."""
     def weight(index: int) -> int:
         """Returns on how many inputs the two halves depend."""
@@ -227,7 +235,8 @@ def split_literal(graph: Graph, halves: list[tuple[tuple[int, int], list[Literal
 
 
 def cofactor(table: int, index: int, count: int, value: bool) -> int:
-    """Returns the table of `count - 1` inputs that is left if input `index` of a table of `count` inputs has a value."""
+    """Returns the table of `count - 1` inputs that is left if input `index` of a table of `count` inputs has a value.
+    """
     run, result = 1 << index, 0
     for part in range(1 << count - 1 - index):
         bits = table >> (2 * part + value) * run & (1 << run) - 1
@@ -287,7 +296,10 @@ def cell_literal(graph: Graph, cell: Cell, inputs: list[Literal]) -> Literal:
 
 
 def graph_of(netlist: Netlist) -> Graph:
-    """Returns the graph of a netlist. Raises NetlistError at a loop, at a net without a driver, and where the logic is too large."""
+    """Returns the graph of a netlist.
+
+    Raises NetlistError at a loop, at a net without a driver, and where the logic is too large.
+    """
     graph = Graph(netlist.inputs)
     literals = {name: 2 * (index + 1) for index, name in enumerate(netlist.inputs)}
     for node in netlist.sorted_nodes():

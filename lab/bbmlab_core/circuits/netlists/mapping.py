@@ -1,7 +1,8 @@
 """Maps a graph of logic to gates of conservative logic, with constants and garbage.
 
-A `switch` computes "c and x" and "x without c", and gives c back. With a constant 1 as x it copies c and makes "not c". An `interact` of p
-and q followed by an `unswitch` makes their XOR. An `unswitch` merges two wires that exclude each other. Fredkin and Toffoli 1982.
+A `switch` computes "c and x" and "x without c", and gives c back. With a constant 1 as x it copies c and makes "not c".
+An `interact` of p and q followed by an `unswitch` makes their XOR. An `unswitch` merges two wires that exclude each
+other. Fredkin and Toffoli 1982.
 
 A gate consumes its wires, so each value has a pool of wires. `search` tries many preferences on the order and the ways.
 """
@@ -58,7 +59,8 @@ class Wiring:
 
 @dataclass
 class Preferences:
-    """What decides the order of the nodes, and between ways of nearly equal cost: a rank and some noise for each node."""
+    """What decides the order of the nodes, and between ways of nearly equal cost: a rank and some noise for each node.
+    """
 
     ranks: dict[int, float]
     noise: dict[int, list[float]]
@@ -67,7 +69,8 @@ class Preferences:
     def at_random(cls, graph: Graph, chooser: random.Random) -> "Preferences":
         """Returns random preferences. XOR nodes come rather early, since they make products too."""
         needed = graph.needed()
-        ranks = {number: chooser.random() + (graph.nodes[number].kind is not Kind.XOR) * chooser.choice((0, 1)) for number in needed}
+        ranks = {number: chooser.random() + (graph.nodes[number].kind is not Kind.XOR) * chooser.choice((0, 1))
+                 for number in needed}
         return cls(ranks, {number: [chooser.random() for _ in range(MAX_WAYS)] for number in needed})
 
     def changed(self, chooser: random.Random) -> "Preferences":
@@ -98,7 +101,8 @@ class Mapper:
         self.true_uses: dict[int, int] = {}
         for number in self.mapped:
             self.pool[2 * number] = [number - 1]
-        for literal in [literal for number in self.needed for literal in graph.nodes[number].inputs] + [out for _, out in graph.outputs]:
+        for literal in [literal for number in self.needed
+                        for literal in graph.nodes[number].inputs] + [out for _, out in graph.outputs]:
             self.uses[literal >> 1] = self.uses.get(literal >> 1, 0) + 1
             self.true_uses[literal >> 1] = self.true_uses.get(literal >> 1, 0) + 1 - (literal & 1)
 
@@ -119,7 +123,8 @@ class Mapper:
         # A node comes as late as the latest of its inputs, plus its own rank.
         for number in self.needed:
             rank[number] += max((rank.get(literal >> 1, 0) for literal in nodes[number].inputs), default=0)
-        return sorted((number for number in self.needed if number not in self.mapped and number), key=lambda number: (rank[number], number))
+        return sorted((number for number in self.needed if number not in self.mapped and number),
+                      key=lambda number: (rank[number], number))
 
     def map_node(self, number: int) -> None:
         """Maps one node by the cheapest way, or one of nearly the same cost."""
@@ -135,7 +140,8 @@ class Mapper:
 
     # ---- pools of wires
 
-    def gate(self, word: str, parameter: int | None, ins: list[Wire], count: int, node: int | None = None) -> list[Wire]:
+    def gate(self, word: str, parameter: int | None, ins: list[Wire], count: int,
+             node: int | None = None) -> list[Wire]:
         """Adds a gate with `count` outputs, and returns these."""
         outs = list(range(self.wire_count, self.wire_count + count))
         self.wire_count += count
@@ -169,7 +175,8 @@ class Mapper:
         return self.pool[literal].pop()
 
     def take_cost(self, literal: Literal, made: int = 0) -> float:
-        """Returns what `take` costs if `made` uses of the literal go, since their products are made by the same gate."""
+        """Returns what `take` costs if `made` uses of the literal go, since their products are made by the same gate.
+        """
         is_free = self.wires(literal) and (self.total(literal) > 1 or self.uses[literal >> 1] <= made)
         return 0 if is_free else COPY_COST
 
@@ -186,7 +193,10 @@ class Mapper:
             self.wires(literal).append(wire)
 
     def promise(self, left: Literal, right: Literal) -> Literal | None:
-        """Returns the literal of a product that the next gate makes. A needed node is mapped by it, so it no longer uses its inputs."""
+        """Returns the literal of a product that the next gate makes.
+
+        A needed node is mapped by it, so it no longer uses its inputs.
+        """
         literal = self.graph.known_and(left, right)
         if literal is not None and self.is_wanted(literal):
             self.mapped.add(literal >> 1)
@@ -199,7 +209,8 @@ class Mapper:
         return literal is not None and literal >> 1 not in self.mapped and self.uses.get(literal >> 1, 0) > 0
 
     def gain(self, left: Literal, right: Literal) -> int:
-        """Returns what a product that comes for nothing is worth: the cost of a `switch`, 1, if it is wanted, else 0."""
+        """Returns what a product that comes for nothing is worth: the cost of a `switch`, 1, if it is wanted, else 0.
+        """
         return int(self.is_wanted(self.graph.known_and(left, right)))
 
     # ---- AND
@@ -270,14 +281,16 @@ class Mapper:
                         gain = self.gain(one, two)
                         copies = (self.total(first) < 2) + (self.total(second) < 2 and self.uses[second >> 1] > gain)
                         ways.append((1.8 + COPY_COST * copies - gain, "meeting_join", (one, two)))
-            spare = self.wires(second) and self.wires(second ^ 1) and (self.total(second) > 2 or not self.uses[second >> 1])
+            spare = self.wires(second) and self.wires(second ^ 1) and (self.total(second) > 2
+                                                                       or not self.uses[second >> 1])
             if spare:
                 gains = sum(self.gain(one, two) for one in (first, first ^ 1) for two in (second, second ^ 1))
                 ways.append((3 - gains, "switch_join", (first, second)))
         return ways
 
     def map_meeting_join(self, number: int, left: Literal, right: Literal) -> None:
-        """Maps a XOR node by an interaction and a join. A wire of `left` is consumed, and another one is the control."""
+        """Maps a XOR node by an interaction and a join. A wire of `left` is consumed, and another one is the control.
+        """
         product = self.promise(left, right)
         if self.total(left) < 2:
             self.copy(left)
@@ -305,7 +318,8 @@ class Mapper:
 
     def map_fredkin(self, number: int, left: Literal, right: Literal) -> None:
         """Maps a XOR node by a Fredkin gate over a wire and its inverse."""
-        while not (self.wires(right) and self.wires(right ^ 1) and (self.total(right) > 2 or not self.uses[right >> 1])):
+        while not (self.wires(right) and self.wires(right ^ 1)
+                   and (self.total(right) > 2 or not self.uses[right >> 1])):
             self.copy(right if self.wires(right) else right ^ 1)
         found, select = self.read(left)
         ins = [select, self.pool[right ^ 1].pop(), self.pool[right].pop()]
@@ -327,7 +341,8 @@ class Mapper:
         parts = [self.take(high), self.take(low)]
         self.uses[select >> 1] -= 1
         found, control = self.read(select)
-        control, result = self.gate("unswitch", None, [control, *(parts if found == select else parts[::-1])], 2, number)
+        control, result = self.gate("unswitch", None, [control, *(parts if found == select else parts[::-1])], 2,
+                                    number)
         self.wires(found).append(control)
         self.wires(2 * number).append(result)
 
@@ -344,7 +359,8 @@ class Mapper:
 
 
 WAYS: dict[str, Callable[..., None]] = {
-    "product": Mapper.map_product, "meeting": Mapper.map_meeting, "sum": Mapper.map_sum, "meeting_join": Mapper.map_meeting_join,
+    "product": Mapper.map_product, "meeting": Mapper.map_meeting, "sum": Mapper.map_sum,
+    "meeting_join": Mapper.map_meeting_join,
     "switch_join": Mapper.map_switch_join, "fredkin": Mapper.map_fredkin, "join": Mapper.map_join,
     "inverse_product": Mapper.map_inverse_product,
 }

@@ -52,8 +52,10 @@ class Cell(Enum):
 
 
 PORTS = {
-    Cell.BUF: "A", Cell.NOT: "A", Cell.AND: "AB", Cell.NAND: "AB", Cell.OR: "AB", Cell.NOR: "AB", Cell.XOR: "AB", Cell.XNOR: "AB",
-    Cell.ANDNOT: "AB", Cell.ORNOT: "AB", Cell.MUX: "ABS", Cell.NMUX: "ABS", Cell.AOI3: "ABC", Cell.OAI3: "ABC", Cell.AOI4: "ABCD",
+    Cell.BUF: "A", Cell.NOT: "A", Cell.AND: "AB", Cell.NAND: "AB", Cell.OR: "AB", Cell.NOR: "AB", Cell.XOR: "AB",
+    Cell.XNOR: "AB",
+    Cell.ANDNOT: "AB", Cell.ORNOT: "AB", Cell.MUX: "ABS", Cell.NMUX: "ABS", Cell.AOI3: "ABC", Cell.OAI3: "ABC",
+    Cell.AOI4: "ABCD",
     Cell.OAI4: "ABCD",
 }
 
@@ -85,9 +87,11 @@ Node = CellNode | TableNode
 
 @dataclass(frozen=True)
 class Latch:
-    """A bit that is stored from one cycle to the next: the net that it drives, the net of its next value, and its first value if it has one.
+    """A bit that is stored from one cycle to the next: the net that it drives, the net of its next value, and its first
+    value if it has one.
 
-    `clock` is the net at whose edge the bit changes, with the word for the edge, or None for a clock that is not written.
+    `clock` is the net at whose edge the bit changes, with the word for the edge, or None for a clock that is not
+    written.
     """
 
     name: str
@@ -99,7 +103,8 @@ class Latch:
 
 @dataclass
 class Netlist:
-    """A netlist. `outputs` are pairs of a port's name and the net that drives it. Without latches it is combinational."""
+    """A netlist. `outputs` are pairs of a port's name and the net that drives it. Without latches it is combinational.
+    """
 
     name: str
     inputs: list[str] = field(default_factory=list)
@@ -111,7 +116,8 @@ class Netlist:
     def add_latch(self, latch: Latch) -> None:
         """Adds a latch. Raises NetlistError if there are too many."""
         if len(self.latches) >= MAX_PORTS:
-            raise NetlistError(f"The netlist has more than {MAX_PORTS} latches. A circuit has at most {MAX_PORTS} wires.")
+            raise NetlistError(f"The netlist has more than {MAX_PORTS} latches. A circuit has at most {MAX_PORTS} "
+                               "wires.")
         self.latches.append(latch)
 
     def add(self, node: Node) -> None:
@@ -119,7 +125,8 @@ class Netlist:
         if node.output in self.nodes:
             raise NetlistError(f"The net `{node.output}` has two drivers.")
         if len(self.nodes) >= MAX_NODES:
-            raise NetlistError(f"The netlist has more than {MAX_NODES} nodes. A circuit has at most {SECOND.max_gates} gates.")
+            raise NetlistError(f"The netlist has more than {MAX_NODES} nodes. A circuit has at most {SECOND.max_gates} "
+                               "gates.")
         self.nodes[node.output] = node
 
     def sorted_nodes(self) -> list[Node]:
@@ -136,7 +143,8 @@ class Netlist:
                 known.add(net)
                 ordered.append(self.nodes[net])
             elif net in open_nets:
-                raise NetlistError(f"The net `{net}` depends on itself. A circuit of conservative logic has no combinational loop.")
+                raise NetlistError(f"The net `{net}` depends on itself. A circuit of conservative logic has no "
+                                   "combinational loop.")
             elif net not in known:
                 if net not in self.nodes:
                     raise NetlistError(f"Nothing drives the net `{net}`.")

@@ -47,6 +47,7 @@ class NameBook:
 
 
 def legal(wanted: str) -> str:
-    """Returns a legal name that looks like `wanted`: lower-case letters, digits and underscores, a letter first, at most 32 bytes."""
+    """Returns a legal name that looks like `wanted`: lower-case letters, digits and underscores, a letter first, at
+    most 32 bytes."""
     name = ILLEGAL.sub("_", wanted.lower()).strip("_")
     return (name if name[:1].isalpha() else f"w{name}")[:MAX_NAME]

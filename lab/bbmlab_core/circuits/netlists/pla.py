@@ -42,7 +42,8 @@ class PlaReader:
         inputs, outputs = self.counts.get(".i", 0), self.counts.get(".o", 0)
         product, values = signs[:inputs].replace("2", "-"), signs[inputs:]
         if len(signs) != inputs + outputs or set(product) - set("01-") or set(values) - set("01-~2"):
-            raise NetlistError(f"Line {number}: a row has {inputs} of `0`, `1` and `-`, and then {outputs} of `0`, `1`, `-` and `~`.")
+            raise NetlistError(f"Line {number}: a row has {inputs} of `0`, `1` and `-`, and then {outputs} of `0`, "
+                               "`1`, `-` and `~`.")
         self.rows.append((product, values))
 
     def finish(self) -> Netlist:
@@ -51,7 +52,8 @@ class PlaReader:
             raise NetlistError("A PLA has the lines `.i` and `.o`.")
         ins = self.names.get(".ilb") or [f"i{at}" for at in range(self.counts[".i"])]
         outs = self.names.get(".ob") or [f"o{at}" for at in range(self.counts[".o"])]
-        if len(ins) != self.counts[".i"] or len(outs) != self.counts[".o"] or len(set(ins)) + len(set(outs)) != len(ins) + len(outs):
+        if len(ins) != self.counts[".i"] or len(outs) != self.counts[".o"] or len(set(ins)) + len(set(outs)) != len(
+            ins) + len(outs):
             raise NetlistError("`.ilb` and `.ob` name each input and each output once.")
         netlist = Netlist("", inputs=ins)
         for at, name in enumerate(outs):

@@ -1,4 +1,6 @@
-"""Reads OpenQASM 2 and 3 as far as bits can follow: networks of NOT, Toffoli and Fredkin gates (Cross et al. 2017 and 2022)."""
+"""Reads OpenQASM 2 and 3 as far as bits can follow: networks of NOT, Toffoli and Fredkin gates (Cross et al. 2017 and
+2022).
+"""
 
 import re
 from dataclasses import dataclass
@@ -9,7 +11,8 @@ from .reversible import Control, LineBuilder, LineNetlist, require_distinct
 
 COMMENT = re.compile(r"//[^\n]*|/\*.*?\*/", re.DOTALL)
 # The gates that are known: how many controls each has, and how many targets.
-GATES = {"x": (0, 1), "cx": (1, 1), "CX": (1, 1), "cnot": (1, 1), "ccx": (2, 1), "toffoli": (2, 1), "c3x": (3, 1), "c4x": (4, 1),
+GATES = {"x": (0, 1), "cx": (1, 1), "CX": (1, 1), "cnot": (1, 1), "ccx": (2, 1), "toffoli": (2, 1), "c3x": (3, 1),
+         "c4x": (4, 1),
          "swap": (0, 2), "cswap": (1, 2), "fredkin": (1, 2), "id": (0, 1)}
 REGISTER = re.compile(r"(?:(qreg|creg)\s+(\w+)\s*\[\s*(\d+)\s*\]|(qubit|bit)\s*(?:\[\s*(\d+)\s*\])?\s*(\w+))\Z")
 MEASURE = re.compile(r"(?:measure\s+(.+?)\s*->\s*(.+)|(.+?)\s*=\s*measure\s+(.+))\Z", re.DOTALL)
@@ -34,7 +37,8 @@ def statements(text: str, first: int = 1) -> Iterator[tuple[int, str]]:
     """Yields each statement with the number of its line. A block in braces belongs to the statement before it."""
     text = COMMENT.sub(lambda found: re.sub(r"[^\n]", " ", found[0]), text)
     start = depth = 0
-    # The line at which the next statement can begin: counted on, since counting from the first line each time takes quadratic time.
+    # The line at which the next statement can begin: counted on, since counting from the first line each time takes
+    # quadratic time.
     line = first
     for found in re.finditer(r"[{};]", text):
         depth += {"{": 1, "}": -1, ";": 0}[found[0]]
@@ -124,7 +128,8 @@ class QasmReader:
         """Makes lines constants 0, before any gate acts on them."""
         for line in [line for lines in self.operands(number, words, self.registers) for line in lines]:
             if line in self.touched:
-                raise NetlistError(f"Line {number}: `reset` of `{line}` after a gate loses its bit, which no reversible gate does.")
+                raise NetlistError(f"Line {number}: `reset` of `{line}` after a gate loses its bit, which no "
+                                   "reversible gate does.")
             self.zeros.add(line)
 
     def call_all(self, number: int, found: re.Match[str]) -> None:
@@ -159,7 +164,8 @@ class QasmReader:
     def call_definition(self, number: int, definition: Definition, lines: list[str], depth: int) -> None:
         """Adds the calls of a gate's definition."""
         if len(lines) != len(definition.arguments):
-            raise NetlistError(f"Line {number}: the gate takes {len(definition.arguments)} qubits, and {len(lines)} are named.")
+            raise NetlistError(f"Line {number}: the gate takes {len(definition.arguments)} qubits, and {len(lines)} "
+                               "are named.")
         names = dict(zip(definition.arguments, lines))
         for inner, words in definition.body:
             found = CALL.match(words)
@@ -174,12 +180,14 @@ class QasmReader:
         """Adds a known gate with more controls."""
         own, targets = GATES.get(name, (len(lines) - 1, 1) if name in ("mcx", "mct") else (-1, 0))
         if own < 0 or has_angle:
-            raise NetlistError(f"Line {number}: `{name}` is no gate that bits can follow. These are x, cx, ccx, c3x, c4x, mcx, swap and cswap.")
+            raise NetlistError(f"Line {number}: `{name}` is no gate that bits can follow. These are x, cx, ccx, c3x, "
+                               "c4x, mcx, swap and cswap.")
         if len(lines) != own + targets or not lines:
             raise NetlistError(f"Line {number}: `{name}` takes {own + targets} qubits, and {len(lines)} are named.")
         self.touched.update(lines, (line for line, _ in controls))
         if name != "id":
-            self.todo.append((controls + [(line, True) for line in lines[:own]], "swap" if targets == 2 else "x", lines[own:]))
+            self.todo.append((controls + [(line, True) for line in lines[:own]], "swap" if targets == 2 else "x",
+                              lines[own:]))
 
     def finish(self) -> LineNetlist:
         """Returns the netlist. Without a measurement each qubit is an output."""

@@ -8,7 +8,8 @@ from .reversible import Control, LineBuilder, LineNetlist, require_distinct
 
 GATE = re.compile(r"(t|f)([1-9][0-9]*)\Z")
 WORD = re.compile(r'"([^"]*)"|(\S+)')
-QUANTUM = {"v": "a square root of NOT", "v+": "a square root of NOT", "h": "a Hadamard gate", "q": "a rotation", "rx": "a rotation",
+QUANTUM = {"v": "a square root of NOT", "v+": "a square root of NOT", "h": "a Hadamard gate", "q": "a rotation",
+           "rx": "a rotation",
            "ry": "a rotation", "rz": "a rotation"}
 SKIPPED = {".version", ".inputbus", ".outputbus", ".state", ".specification"}
 
@@ -56,7 +57,8 @@ class RealReader:
         wanted = self.heads.get(".numvars", [])
         count = len(self.variables)
         if not count or wanted not in ([str(count)], []):
-            raise NetlistError(f"Line {number}: `.numvars` says {' '.join(wanted) or 'nothing'}, and `.variables` names {count}.")
+            raise NetlistError(f"Line {number}: `.numvars` says {' '.join(wanted) or 'nothing'}, and `.variables` "
+                               f"names {count}.")
         if count > MAX_PORTS:
             raise NetlistError(f"Line {number}: there are {count} variables. A circuit has at most {MAX_PORTS} wires.")
         if len(set(self.variables)) != count:
@@ -75,20 +77,23 @@ class RealReader:
         """Returns a sign for each variable, `-` if the line is missing."""
         signs = "".join(self.heads.get(keyword, [])) or "-" * len(self.variables)
         if len(signs) != len(self.variables) or set(signs) - set(allowed):
-            raise NetlistError(f"Line {number}: `{keyword}` has one of {', '.join(f'`{sign}`' for sign in allowed)} for each variable.")
+            raise NetlistError(f"Line {number}: `{keyword}` has one of {', '.join(f'`{sign}`' for sign in allowed)} "
+                               "for each variable.")
         return signs
 
     def names(self, number: int, keyword: str) -> list[str]:
         """Returns a name for each variable: its own if the line is missing."""
         names = self.heads.get(keyword) or self.variables
         if len(names) != len(self.variables):
-            raise NetlistError(f"Line {number}: `{keyword}` has {len(names)} names, and there are {len(self.variables)} variables.")
+            raise NetlistError(f"Line {number}: `{keyword}` has {len(names)} names, and there are "
+                               f"{len(self.variables)} variables.")
         return names
 
     def read_gate(self, number: int, keyword: str, words: list[str]) -> None:
         """Reads a gate: Toffoli `t`, Fredkin `f`, or Peres `p`."""
         if keyword in QUANTUM:
-            raise NetlistError(f"Line {number}: `{keyword}` is {QUANTUM[keyword]}, a quantum gate, which no bits can compute.")
+            raise NetlistError(f"Line {number}: `{keyword}` is {QUANTUM[keyword]}, a quantum gate, which no bits can "
+                               "compute.")
         controls = [self.control(number, word) for word in words]
         lines = [line for line, _ in controls]
         require_distinct(number, lines)
@@ -97,7 +102,8 @@ class RealReader:
         if keyword in ("p", "p3", "pi") and len(words) == 3:
             self.peres(keyword == "pi", controls)
         elif found is None:
-            raise NetlistError(f"Line {number}: `{keyword}` is no gate that is read. They are t1, t2, .., f2, f3, .., and p.")
+            raise NetlistError(f"Line {number}: `{keyword}` is no gate that is read. They are t1, t2, .., f2, f3, .., "
+                               "and p.")
         elif int(found[2]) != len(words) or len(words) < targets:
             raise NetlistError(f"Line {number}: `{keyword}` takes {found[2]} variables, and {len(words)} are named.")
         elif not all(value for _, value in controls[-targets:]):
@@ -108,7 +114,8 @@ class RealReader:
             self.builder.flip(controls[:-1], lines[-1])
 
     def peres(self, is_inverse: bool, controls: list[Control]) -> None:
-        """Adds a Peres gate: a Toffoli gate and then a NOT of the second line, controlled by the first; or its inverse."""
+        """Adds a Peres gate: a Toffoli gate and then a NOT of the second line, controlled by the first; or its inverse.
+        """
         (first, one), (second, other), (third, _) = controls
         if not is_inverse:
             self.builder.flip([(first, one), (second, other)], third)
@@ -137,7 +144,10 @@ class RealReader:
 
 
 def read_real(text: str) -> LineNetlist:
-    """Returns the netlist of a `.real` file. Raises NetlistError at the first line that is wrong or that no bits can compute."""
+    """Returns the netlist of a `.real` file.
+
+    Raises NetlistError at the first line that is wrong or that no bits can compute.
+    """
     reader, last = RealReader(), 1
     for last, words in word_lines(text):
         reader.read(last, words)

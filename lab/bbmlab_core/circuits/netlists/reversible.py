@@ -22,7 +22,10 @@ class Exchange:
 
 @dataclass
 class LineNetlist(Netlist):
-    """A netlist that was made of gates on lines. `exchanges` has them if all only exchange lines, which is conservative."""
+    """A netlist that was made of gates on lines.
+
+    `exchanges` has them if all only exchange lines, which is conservative.
+    """
 
     lines: list[str] = field(default_factory=list)
     constants: dict[str, bool] = field(default_factory=dict)

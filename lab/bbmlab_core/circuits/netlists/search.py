@@ -1,4 +1,5 @@
-"""Searches for a cheap circuit: maps a graph in many orders, and asks that each inverse gate can be kept by a module."""
+"""Searches for a cheap circuit: maps a graph in many orders, and asks that each inverse gate can be kept by a module.
+"""
 
 import random
 
@@ -39,7 +40,8 @@ def cheapest(graph: Graph, separate: frozenset[int], size: int) -> Wiring:
         return wiring.cost(), preferences, wiring
 
     first = min(tries, FIRST_TRIES)
-    cost, best, wiring = min((tried(Preferences.at_random(graph, chooser)) for _ in range(first)), key=lambda found: found[0])
+    cost, best, wiring = min((tried(Preferences.at_random(graph, chooser)) for _ in range(first)),
+                             key=lambda found: found[0])
     if best.ranks:
         for _ in range(tries - first):
             found = tried(best.changed(chooser))
@@ -58,13 +60,15 @@ def map_graph(graph: Graph) -> NamedCircuit:
     """Maps a graph. Raises NetlistError if the circuit does not fit the limits of a circuit section."""
     needed = graph.needed()
     if len(needed) > MAX_NEEDED_NODES:
-        raise NetlistError(f"The netlist needs {len(needed)} nodes of logic, and so more than {SECOND.max_gates} gates. "
+        raise NetlistError(f"The netlist needs {len(needed)} nodes of logic, and so more than {SECOND.max_gates} "
+                           "gates. "
                            f"A circuit has at most {SECOND.max_gates}.")
     separate: frozenset[int] = frozenset()
     while True:
         wiring = cheapest(graph, separate, len(needed) + len(graph.outputs))
         circuit = named(graph, wiring)
-        require_room(len(circuit.gates), len(circuit.inputs) + sum(len(line.split(" -> ")[1].split()) for line in circuit.gates))
+        require_room(len(circuit.gates),
+                     len(circuit.inputs) + sum(len(line.split(" -> ")[1].split()) for line in circuit.gates))
         document = read_document(circuit.text(), "circuit")
         if document.refusal or document.circuit is None:
             raise NetlistError(f"The mapped circuit is wrong: {document.refusal}.")

@@ -6,10 +6,12 @@ from .model import MAX_NODES, MAX_PORTS, CellNode, Latch, Netlist, NetlistError,
 
 
 def unrolled(netlist: Netlist, cycles: int | None, has_state_ports: bool) -> Netlist:
-    """Returns the logic of some cycles of a machine. A netlist without latches stays as it is, and takes no number of cycles.
+    """Returns the logic of some cycles of a machine. A netlist without latches stays as it is, and takes no number of
+    cycles.
 
-    The input `d` of cycle T, from 0, is `d_T`, and so are outputs. The state of `q` comes in by `q_start`, or is the first value of `q`, and
-    leaves by `q_end`. Raises NetlistError if a machine cannot be unrolled, or would be too large.
+    The input `d` of cycle T, from 0, is `d_T`, and so are outputs. The state of `q` comes in by `q_start`, or is the
+    first value of `q`, and leaves by `q_end`. Raises NetlistError if a machine cannot be unrolled, or would be too
+    large.
     """
     if not netlist.latches:
         if cycles is not None:
@@ -17,16 +19,21 @@ def unrolled(netlist: Netlist, cycles: int | None, has_state_ports: bool) -> Net
         return netlist
     if cycles is None:
         count = len(netlist.latches)
-        raise NetlistError(f"The netlist stores {count} bit{'s' if count > 1 else ''}: say for how many cycles it runs, such as --cycles 4.")
+        raise NetlistError(f"The netlist stores {count} bit{'s' if count > 1 else ''}: say for how many cycles it "
+                           "runs, such as --cycles 4.")
     require_names(netlist)
     clock = clock_of(netlist)
-    core = replace(netlist, inputs=[name for name in netlist.inputs if name != clock] + [latch.output for latch in netlist.latches], latches=[],
+    core = replace(netlist,
+                   inputs=[name for name in netlist.inputs if name != clock]
+                   + [latch.output for latch in netlist.latches], latches=[],
                    outputs=netlist.outputs + [(latch.name, latch.data) for latch in netlist.latches])
     order = ordered(core, clock)
     if cycles * max(1, len(order), len(core.inputs), len(core.outputs)) > MAX_NODES:
-        raise NetlistError(f"{cycles} cycles of {len(order)} nodes of logic and {len(netlist.latches)} stored bits are too many: all together "
+        raise NetlistError(f"{cycles} cycles of {len(order)} nodes of logic and {len(netlist.latches)} stored bits are "
+                           "too many: all together "
                            f"have at most {MAX_NODES} nodes and {MAX_PORTS} ports.")
-    return Unroller(replace(netlist, inputs=[name for name in netlist.inputs if name != clock]), order).run(cycles, has_state_ports)
+    return Unroller(replace(netlist, inputs=[name for name in netlist.inputs if name != clock]),
+                    order).run(cycles, has_state_ports)
 
 
 def ordered(core: Netlist, clock: str | None) -> list[Node]:
@@ -44,7 +51,8 @@ def ordered(core: Netlist, clock: str | None) -> list[Node]:
 
 def require_names(netlist: Netlist) -> None:
     """Raises NetlistError if two stored bits have one name or one net."""
-    for kind, names in (("name", [latch.name for latch in netlist.latches]), ("net", [latch.output for latch in netlist.latches])):
+    for kind, names in (("name", [latch.name for latch in netlist.latches]),
+                        ("net", [latch.output for latch in netlist.latches])):
         seen: set[str] = set()
         for name in names:
             if name in seen:
@@ -60,7 +68,8 @@ def clock_of(netlist: Netlist) -> str | None:
     clocks = {latch.clock: latch for latch in netlist.latches}
     if len(clocks) > 1:
         one, other = list(clocks.values())[:2]
-        raise NetlistError(f"The stored bits `{one.name}` and `{other.name}` have different clocks or edges. One edge of one clock is read.")
+        raise NetlistError(f"The stored bits `{one.name}` and `{other.name}` have different clocks or edges. One edge "
+                           "of one clock is read.")
     [(clock, latch)] = clocks.items()
     if clock is None:
         return None
@@ -68,7 +77,8 @@ def clock_of(netlist: Netlist) -> str | None:
     while net in netlist.nodes or net in stored:
         node = netlist.nodes.get(net)
         if net in passed or not (isinstance(node, TableNode) and node.rows == ("1",) and node.value):
-            raise NetlistError(f"Logic makes the clock of `{latch.name}`. The clock of a machine that is unrolled is an input.")
+            raise NetlistError(f"Logic makes the clock of `{latch.name}`. The clock of a machine that is unrolled is "
+                               "an input.")
         passed.add(net)
         net = node.inputs[0]
     return net
@@ -88,7 +98,8 @@ class Unroller:
             state = self.add_cycle(cycle, state)
         self.result.outputs += [(f"{latch.name}_end", state[latch.output]) for latch in self.netlist.latches]
         begins = "comes in by `NAME_start`" if has_state_ports else "begins with its first values"
-        self.result.notes.append(f"The machine runs for {cycles} cycle{'s' if cycles > 1 else ''}. Its state {begins} and leaves by `NAME_end`.")
+        self.result.notes.append(f"The machine runs for {cycles} cycle{'s' if cycles > 1 else ''}. Its state {begins} "
+                                 "and leaves by `NAME_end`.")
         return self.result
 
     def first(self, latch: Latch, has_state_ports: bool) -> str:
@@ -98,7 +109,8 @@ class Unroller:
             self.result.inputs.append(net)
             return net
         if latch.start is None:
-            raise NetlistError(f"The stored bit `{latch.name}` has no first value: use `--state ports`, or give it one.")
+            raise NetlistError(
+                f"The stored bit `{latch.name}` has no first value: use `--state ports`, or give it one.")
         self.result.add(TableNode(net, (), ("",) if latch.start else (), True))
         return net
 

@@ -9,10 +9,12 @@ from .model import MAX_PORTS, PORTS, Cell, CellNode, Latch, Netlist, NetlistErro
 
 MAX_LUT_WIDTH = 8
 SIMPLE_CELLS = {cell.value: cell for cell in Cell}
-STORING = ("$_DFF", "$_SDFF", "$_ALDFF", "$_DLATCH", "$_SR", "$_FF_", "$dff", "$adff", "$sdff", "$dlatch", "$mem", "$ff", "$aldff")
-# A flip-flop by its clock, with or without an enable or a reset at the edge of the clock: whether the enable comes before the reset, and the
-# polarities of clock, reset and enable, with the value of the reset.
-FLIP_FLOP = re.compile(r"\$_(?:FF_|DFF_(?P<c1>[NP])_|DFFE_(?P<c2>[NP])(?P<e2>[NP])_|SDFF_(?P<c3>[NP])(?P<r3>[NP])(?P<v3>[01])_"
+STORING = ("$_DFF", "$_SDFF", "$_ALDFF", "$_DLATCH", "$_SR", "$_FF_", "$dff", "$adff", "$sdff", "$dlatch", "$mem",
+           "$ff", "$aldff")
+# A flip-flop by its clock, with or without an enable or a reset at the edge of the clock: whether the enable comes
+# before the reset, and the polarities of clock, reset and enable, with the value of the reset.
+FLIP_FLOP = re.compile(
+    r"\$_(?:FF_|DFF_(?P<c1>[NP])_|DFFE_(?P<c2>[NP])(?P<e2>[NP])_|SDFF_(?P<c3>[NP])(?P<r3>[NP])(?P<v3>[01])_"
                        r"|SDFF(?P<first>C?)E_(?P<c4>[NP])(?P<r4>[NP])(?P<v4>[01])(?P<e4>[NP])_)\Z")
 RESET_AT_ONCE = re.compile(r"\$_DFFE?_[NP][NP][01][NP]?_\Z|\$_ALDFF|\$_DFFSR|\$al?dff")
 ADVICE = "Make a flat netlist of simple cells with `synth -flatten; abc -g AND,XOR,MUX` in yosys."
@@ -32,7 +34,8 @@ def top_module(document: Any) -> tuple[str, Any]:
     tops = [name for name, module in modules.items() if isinstance(module, dict) and is_top(module.get("attributes"))]
     names = tops or list(modules)
     if len(names) != 1:
-        raise NetlistError(f"The JSON has {len(names)} modules and no single top module. Flatten the design, and keep its top alone.")
+        raise NetlistError(f"The JSON has {len(names)} modules and no single top module. Flatten the design, and keep "
+                           "its top alone.")
     return names[0], modules[names[0]]
 
 
@@ -67,7 +70,8 @@ class ModuleReader:
         """Reads the ports. A bit of a port with more bits gets the port's name and its number."""
         ports = member(self.module, "ports", dict, f"the module `{self.netlist.name}`")
         for name, port in ports.items():
-            direction, bits = member(port, "direction", str, f"the port `{name}`"), member(port, "bits", list, f"the port `{name}`")
+            direction, bits = member(port, "direction", str,
+                                     f"the port `{name}`"), member(port, "bits", list, f"the port `{name}`")
             if direction not in ("input", "output"):
                 raise NetlistError(f"The port `{name}` is `{direction}`. A port of a circuit is an input or an output.")
             if len(bits) > MAX_PORTS:
@@ -98,32 +102,40 @@ class ModuleReader:
             elif kind == "$lut":
                 self.read_lut(name, cell)
             elif (found := FLIP_FLOP.match(kind)) is not None:
-                self.read_flip_flop(name, cell, {key[0]: sign for key, sign in found.groupdict().items() if sign is not None})
+                self.read_flip_flop(name, cell,
+                                    {key[0]: sign for key, sign in found.groupdict().items() if sign is not None})
             elif RESET_AT_ONCE.match(kind):
-                raise NetlistError(f"The cell `{name}` is `{kind}`, which is set without its clock. Use `async2sync` in yosys before `synth`.")
+                raise NetlistError(f"The cell `{name}` is `{kind}`, which is set without its clock. Use `async2sync` "
+                                   "in yosys before `synth`.")
             elif kind.startswith(STORING):
-                raise NetlistError(f"The cell `{name}` is `{kind}`, which stores a bit and is no simple flip-flop such as `$_DFF_P_`. {ADVICE}")
+                raise NetlistError(f"The cell `{name}` is `{kind}`, which stores a bit and is no simple flip-flop such "
+                                   f"as `$_DFF_P_`. {ADVICE}")
             elif kind != "$scopeinfo":
                 raise NetlistError(f"The cell `{name}` is `{kind}`, which is no simple cell. {ADVICE}")
 
     def name_latches(self) -> None:
-        """Gives each flip-flop the name and the first value of the net that it drives. Names that yosys made come last."""
+        """Gives each flip-flop the name and the first value of the net that it drives. Names that yosys made come last.
+        """
         nets, latches = self.module.get("netnames", {}), self.netlist.latches
         if not isinstance(nets, dict) or not latches:
             return
         stored, names = {latch.output for latch in latches}, dict[str, tuple[str, bool | None]]()
-        for name, net in sorted(nets.items(), key=lambda own: isinstance(own[1], dict) and bool(own[1].get("hide_name"))):
+        for name, net in sorted(nets.items(), key=lambda own: isinstance(own[1], dict)
+                                and bool(own[1].get("hide_name"))):
             bits = net.get("bits") if isinstance(net, dict) else None
             if not isinstance(bits, list):
                 continue
             attributes = net.get("attributes")
             init = attributes.get("init", "") if isinstance(attributes, dict) else ""
             signs = init[::-1] if isinstance(init, str) else ""
-            for position, wire in ((position, f"net {bit}") for position, bit in enumerate(bits) if isinstance(bit, int) and f"net {bit}" in stored):
-                before = names.get(wire, (name if len(bits) == 1 else f"{name}[{bit_index(net, position, len(bits))}]", None))
+            for position, wire in ((position, f"net {bit}") for position,
+                                   bit in enumerate(bits) if isinstance(bit, int) and f"net {bit}" in stored):
+                before = names.get(wire,
+                                   (name if len(bits) == 1 else f"{name}[{bit_index(net, position, len(bits))}]", None))
                 names[wire] = before[0], {"0": False, "1": True}.get(signs[position:position + 1], before[1])
         found = ((latch, *names.get(latch.output, (latch.name, None))) for latch in latches)
-        self.netlist.latches = sorted((replace(latch, name=name, start=start) for latch, name, start in found), key=lambda latch: number_order(latch.name))
+        self.netlist.latches = sorted((replace(latch, name=name, start=start) for latch, name, start in found),
+                                      key=lambda latch: number_order(latch.name))
 
     def cell_net(self, cell: Cell, *inputs: str) -> str:
         """Returns the net of a new cell."""
@@ -132,7 +144,10 @@ class ModuleReader:
         return f"made {self.made}"
 
     def read_flip_flop(self, name: str, cell: Any, signs: dict[str, str]) -> None:
-        """Reads a flip-flop. An enable keeps the bit or takes the new one, and a reset takes its value, both at the edge of the clock."""
+        """Reads a flip-flop.
+
+        An enable keeps the bit or takes the new one, and a reset takes its value, both at the edge of the clock.
+        """
         output, data = self.bits(cell, name, "Q", 1)[0], self.bits(cell, name, "D", 1)[0]
         chosen: list[tuple[str, bool, str]] = []
         if "r" in signs:
@@ -140,15 +155,18 @@ class ModuleReader:
         if "e" in signs:
             # Without the enable the flip-flop keeps its bit.
             chosen.append((self.bits(cell, name, "E", 1)[0], signs["e"] == "N", output))
-        # The choice that comes last in the list of cells is the first one to be made: a reset, unless the enable comes before it.
+        # The choice that comes last in the list of cells is the first one to be made: a reset, unless the enable comes
+        # before it.
         for select, is_high, value in chosen if signs.get("f") else chosen[::-1]:
             data = self.cell_net(Cell.MUX, *((data, value) if is_high else (value, data)), select)
-        clock = (self.bits(cell, name, "C", 1)[0], "rising edge" if signs["c"] == "P" else "falling edge") if "c" in signs else None
+        clock = (self.bits(cell, name, "C", 1)[0], "rising edge" if signs["c"] == "P"
+                 else "falling edge") if "c" in signs else None
         self.netlist.add_latch(Latch(name, output, data, None, clock))
 
     def bits(self, cell: Any, name: str, port: str, width: int) -> list[str]:
         """Returns the nets of a cell's port, which has `width` bits."""
-        bits = member(member(cell, "connections", dict, f"the cell `{name}`"), port, list, f"the connections of `{name}`")
+        bits = member(member(cell, "connections", dict, f"the cell `{name}`"), port, list,
+                      f"the connections of `{name}`")
         if len(bits) != width:
             raise NetlistError(f"The port `{port}` of the cell `{name}` has {len(bits)} bits in place of {width}.")
         return [self.net_of(bit, f"The port `{port}` of the cell `{name}`") for bit in bits]
@@ -164,13 +182,16 @@ class ModuleReader:
         if not 0 <= width <= MAX_LUT_WIDTH:
             raise NetlistError(f"The table of the cell `{name}` has {width} inputs. At most {MAX_LUT_WIDTH} are read.")
         if table < 0 or len(bits) > 1 << width or isinstance(parameters["LUT"], str) and len(bits) != 1 << width:
-            raise NetlistError(f"The table of the cell `{name}` has {len(bits)} bits, and {width} inputs make {1 << width}.")
+            raise NetlistError(f"The table of the cell `{name}` has {len(bits)} bits, and {width} inputs make "
+                               f"{1 << width}.")
         rows = tuple(f"{index:0{width}b}"[::-1] if width else "" for index in range(1 << width) if table >> index & 1)
-        self.netlist.add(TableNode(self.bits(cell, name, "Y", 1)[0], tuple(self.bits(cell, name, "A", width)), rows, True))
+        self.netlist.add(TableNode(self.bits(cell, name, "Y", 1)[0], tuple(self.bits(cell, name, "A", width)), rows,
+                                   True))
 
 
 def bit_index(port: Any, position: int, width: int) -> int:
-    """Returns the index that Verilog has for a bit of a port: bits come from the lowest, whose index is the last one of `[0:3]`."""
+    """Returns the index that Verilog has for a bit of a port: bits come from the lowest, whose index is the last one of
+    `[0:3]`."""
     offset = port.get("offset", 0)
     return (offset if isinstance(offset, int) else 0) + (width - 1 - position if port.get("upto") else position)
 
@@ -190,7 +211,10 @@ def parameter_number(value: Any) -> int:
 
 
 def read_yosys_json(text: str) -> Netlist:
-    """Returns the netlist of a JSON document of yosys. Raises NetlistError if it is none, or has more than simple cells."""
+    """Returns the netlist of a JSON document of yosys.
+
+    Raises NetlistError if it is none, or has more than simple cells.
+    """
     try:
         document = json.loads(text)
     except (ValueError, RecursionError) as error:
