@@ -192,7 +192,7 @@ const next = () => {
 };
 requestAnimationFrame(next);"""
 # Counts the steps of runs that go to a time. The run to the end, which goes on meanwhile, never does.
-COUNT = """const run = bbmlab.WholeRun.prototype, { jump, forward, backward } = run, sought = new Set();
+COUNT = """const run = bbmlab.automaton.WholeRun.prototype, { jump, forward, backward } = run, sought = new Set();
 window.stepCount = 0;
 run.jump = function (time) { sought.add(this); jump.call(this, time); };
 run.forward = function () { window.stepCount += Number(sought.has(this)); return forward.call(this); };

@@ -254,9 +254,10 @@ class Forms(unittest.TestCase):
         """The table of the pages is that of the lab."""
         if shutil.which("node") is None:
             raise unittest.SkipTest("node is not installed (apt-get install nodejs)")
-        source = "".join((viewing.TEMPLATE / name).read_text() for name in viewing.ENGINE)
-        script = f"{source}\nconst {{ FIRST, SECOND }} = bbmlab.limits;\nconsole.log(JSON.stringify([FIRST, SECOND]));"
-        ended = subprocess.run(["node", "-e", script], capture_output=True, text=True, check=True)
+        script = f"""import {{ FIRST, SECOND }} from {json.dumps((viewing.TEMPLATE / "limits.js").as_uri())};
+console.log(JSON.stringify([FIRST, SECOND]));"""
+        ended = subprocess.run(["node", "--input-type=module", "-e", script], capture_output=True, text=True,
+                               check=True)
         told = [(own["line"], own["maxSide"], own["maxSteps"]) for own in json.loads(ended.stdout)]
         self.assertEqual(told, [(own.head.strip(), own.max_side, own.max_steps) for own in (FIRST, SECOND)])
 
@@ -282,8 +283,7 @@ class Runs(unittest.TestCase):
         document = read_document(self.TEXT)
         assert document.layout
         data = {**json.loads(json_form.document_json(document, None)), "circuit": None, "certificate": None}
-        script, engine = support.LAB / "tests" / "run_states.js", viewing.TEMPLATE / "automaton.js"
-        ended = subprocess.run(["node", str(script), str(engine)],
+        ended = subprocess.run(["node", str(support.LAB / "tests" / "run_states.js")],
                                input=json.dumps([{"data": data, "on": [], "times": [0, 7, 40, 11]}]), text=True,
                                capture_output=True, check=True)
         wanted = tracing.trace_layout(document.layout, [], 0, 40).states

@@ -18,12 +18,9 @@ from bbmlab_core.texts import json_form
 from bbmlab_core.texts.circuits import values_under
 from bbmlab_core.texts.layouts import Layout, Part
 from bbmlab_core.texts.spelling import spelled
-from bbmlab_core.view import viewing
 
 SCRIPT = support.LAB / "tests" / "run_studio.js"
 STUDIO = Path(server.__file__).resolve().parent
-FILES = ["view/automaton.js", "view/limits.js",
-         *(f"studio/{name}.js" for name in ("circuit_text", "geometry", "model", "survey"))]
 MAX_FUNCTION_LINES = 40
 COMMENTED = """# A gate by hand.
 circuit  # begins
@@ -44,7 +41,7 @@ def node(*jobs: list[Any]) -> list[Any]:
     """Returns what the studio's modules make of some jobs."""
     if shutil.which("node") is None:
         raise unittest.SkipTest("node is not installed (apt-get install nodejs)")
-    ended = subprocess.run(["node", str(SCRIPT), str(viewing.TEMPLATE.parent), *FILES], input=json.dumps(jobs),
+    ended = subprocess.run(["node", str(SCRIPT)], input=json.dumps(jobs),
                            text=True, capture_output=True, check=False)
     if ended.returncode:
         raise AssertionError(ended.stderr)
@@ -425,7 +422,7 @@ class Sources(unittest.TestCase):
                          "setAttribute(\"on"):
                 self.assertNotIn(word, path.read_text(), path.name)
         page = (STUDIO / "studio.html").read_text()
-        self.assertIsNone(re.search(r"<script(?! src=)|<style|<[^>]* (?:style|on\w+)=", page))
+        self.assertIsNone(re.search(r"<script(?! type=.module. src=)|<style|<[^>]* (?:style|on\w+)=", page))
 
 
 if __name__ == "__main__":

@@ -19,14 +19,13 @@ from bbmlab_core.physics.simulation import ModuleRun, run_layout
 from bbmlab_core.texts import json_form
 from bbmlab_core.texts.circuits import values_under
 
-AUTOMATON = support.LAB / "bbmlab_core" / "view" / "automaton.js"
 
 
 def page_runs(jobs: list[dict]) -> list[dict]:
     """Returns what the page's script makes of some jobs, by node."""
     if shutil.which("node") is None:
         raise unittest.SkipTest("node is not installed")
-    ended = subprocess.run(["node", str(support.LAB / "tests" / "run_states.js"), str(AUTOMATON)],
+    ended = subprocess.run(["node", str(support.LAB / "tests" / "run_states.js")],
                            input=json.dumps(jobs), text=True,
                            capture_output=True, check=True)
     return json.loads(ended.stdout)
@@ -107,7 +106,7 @@ class Page(unittest.TestCase):
         ended = support.lab("view", support.example("wrong_edge"), "--program", support.program())
         for word in ("http://", "https://", "src=", "@import", "<link"):
             self.assertNotIn(word, ended.stdout.replace("http://www.w3.org/2000/svg", ""))
-        self.assertEqual(ended.stdout.count("</script>"), 3)
+        self.assertEqual(ended.stdout.count("</script>"), 2)
 
     def test_runs_its_own_scripts_only(self) -> None:
         """The Content-Security-Policy allows the page's own style and scripts by their digests, and nothing else from
@@ -122,7 +121,7 @@ class Page(unittest.TestCase):
                          {rule: [f"'sha256-{base64.b64encode(hashlib.sha256(part.encode()).digest()).decode()}'"
                                  for part in parts]
                           for rule, parts in found.items()})
-        self.assertEqual((len(rules["style-src"]), len(rules["script-src"])), (1, 2))
+        self.assertEqual((len(rules["style-src"]), len(rules["script-src"])), (1, 1))
         self.assertIsNone(re.search(r"<[^>]* (?:style|on\w+)=", text.split("<script")[0]))
 
     def test_in_a_browser(self) -> None:

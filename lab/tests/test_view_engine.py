@@ -16,7 +16,6 @@ from bbmlab_core.texts import json_form
 from bbmlab_core.texts.documents import Document
 
 STATES = support.LAB / "tests" / "run_states.js"
-AUTOMATON = support.LAB / "bbmlab_core" / "view" / "automaton.js"
 # With room for a busy machine. A step that looks at each cell takes longer.
 MAX_SECONDS = 200
 
@@ -25,7 +24,7 @@ def node(jobs: list[dict]) -> list[dict]:
     """Returns what the page's automaton makes of some jobs."""
     if shutil.which("node") is None:
         raise unittest.SkipTest("node is not installed (apt-get install nodejs)")
-    ended = subprocess.run(["node", str(STATES), str(AUTOMATON)], input=json.dumps(jobs), text=True,
+    ended = subprocess.run(["node", str(STATES)], input=json.dumps(jobs), text=True,
                            capture_output=True, check=True)
     return json.loads(ended.stdout)
 

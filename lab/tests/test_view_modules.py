@@ -19,8 +19,6 @@ from bbmlab_core.texts.documents import Document
 from bbmlab_core.view import viewing
 
 SCRIPT = support.LAB / "tests" / "run_modules.js"
-FILES = [*viewing.ENGINE, "svg_pen.js", "labels.js", "address.js", "tiles.js", "wires.js", "painting.js", "waveform.js",
-         "player.js"]
 SVG = "{http://www.w3.org/2000/svg}"
 LIMITS = {"steps": 30, "names": ["p", "q", "constructor"], "faults": 2}
 MAX_FUNCTION_LINES = 40
@@ -30,7 +28,7 @@ def node(jobs: list[list[Any]]) -> list[Any]:
     """Returns what the page's modules make of some jobs."""
     if shutil.which("node") is None:
         raise unittest.SkipTest("node is not installed (apt-get install nodejs)")
-    ended = subprocess.run(["node", str(SCRIPT), str(viewing.TEMPLATE), *FILES], input=json.dumps(jobs), text=True,
+    ended = subprocess.run(["node", str(SCRIPT)], input=json.dumps(jobs), text=True,
                            capture_output=True, check=False)
     if ended.returncode:
         raise AssertionError(ended.stderr)
