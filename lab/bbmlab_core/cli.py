@@ -476,7 +476,7 @@ def answered(run: Callable[[argparse.Namespace], int], options: argparse.Namespa
     """Runs a command and returns its exit status; what goes wrong is a line on standard error."""
     from .host.program import ProgramError, ProgramTimeout
     from .host.signals import Stopped, end_by_pipe, listen
-    from .host.terminal import LabError, plain, require_output
+    from .host.terminal import LabError, escape_controls, require_output
     from .texts.reports import ReportError
     listen()
     try:
@@ -487,10 +487,10 @@ def answered(run: Callable[[argparse.Namespace], int], options: argparse.Namespa
             sys.stdout.flush()
         return status
     except LabError as error:
-        print(f"bbmlab: {plain(str(error))}", file=sys.stderr)
+        print(f"bbmlab: {escape_controls(str(error))}", file=sys.stderr)
         return error.status
     except (ProgramError, ProgramTimeout, ReportError) as error:
-        print(f"bbmlab: {plain(str(error))}", file=sys.stderr)
+        print(f"bbmlab: {escape_controls(str(error))}", file=sys.stderr)
         return 4
     except BrokenPipeError:
         end_by_pipe()

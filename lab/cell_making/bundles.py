@@ -2,7 +2,7 @@
 
 from dataclasses import dataclass, field
 
-from bbmlab_core.certify.certifier import Plan, certified, grid_boxes
+from bbmlab_core.certify.certifier import CertificatePlan, certified, grid_boxes
 from bbmlab_core.route.balls import Ball, Mirror, Run, block_cells, mirror_cells, run_exactly, start_state
 from bbmlab_core.texts.certificates import MAX_BOX_SIDE, Module
 from bbmlab_core.texts.circuits import Circuit, evaluate
@@ -132,7 +132,7 @@ def certificate_for(design: str, circuit: Circuit, width: int, height: int) -> s
         return design + "\n".join([*lines, "end", ""])
     document = read_document(design, "design")
     assert document.layout is not None
-    return certified(document, grid_boxes(document.layout, MAX_BOX_SIDE, MAX_BOX_SIDE), Plan(2, "safe"))
+    return certified(document, grid_boxes(document.layout, MAX_BOX_SIDE, MAX_BOX_SIDE), CertificatePlan(2, "safe"))
 
 
 def with_stops(bundle: str, stops: list[tuple[int, str, Cell]]) -> str:

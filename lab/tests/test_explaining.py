@@ -6,7 +6,7 @@ import re
 import unittest
 
 import support
-from bbmlab_core.certify.certifier import Plan, certified, checked_boxes
+from bbmlab_core.certify.certifier import CertificatePlan, certified, checked_boxes
 from bbmlab_core.explain.diagnosis import Diagnosis, Truth
 from bbmlab_core.explain.explaining import as_gcc, explain_answer
 from bbmlab_core.explain.trials import Trial
@@ -174,7 +174,8 @@ class Fixes(unittest.TestCase):
     def test_cut_certificates_get_a_yes(self) -> None:
         """A design whose certificate `certify` makes again gets a yes."""
         document = support.read_document((support.EXAMPLES / "wrong_edge.txt").read_text())
-        self.assertIn("verdict yes", self.answer(certified(document, checked_boxes(document.layout, 8, 12), Plan())))
+        self.assertIn("verdict yes",
+                      self.answer(certified(document, checked_boxes(document.layout, 8, 12), CertificatePlan())))
 
     def answer(self, text: str) -> str:
         """Returns what the program's `check` says of a text."""

@@ -15,7 +15,7 @@ from pathlib import Path
 from unittest import mock
 
 import support
-from bbmlab_core.certify.certifier import Plan, certified
+from bbmlab_core.certify.certifier import CertificatePlan, certified
 from bbmlab_core.cli import main
 from bbmlab_core.explain.diagnosis import Diagnosis
 from bbmlab_core.explain.expected_lines import BorderCheck
@@ -324,7 +324,7 @@ class Once(unittest.TestCase):
             self.assertIsNone(BorderCheck(diagnosis, -1.0).seen)
             self.assertLessEqual(step.call_count, 1)
             with self.assertRaises(LabError):
-                certified(document, None, Plan(until=0.0))
+                certified(document, None, CertificatePlan(until=0.0))
             self.assertLessEqual(step.call_count, 2)
             self.assertIsNotNone(BorderCheck(Diagnosis(document), 30.0).seen)
             self.assertGreater(step.call_count, 5)

@@ -13,7 +13,7 @@ from pathlib import Path
 from typing import Callable
 
 import support
-from bbmlab_core.certify.certifier import Plan, certified
+from bbmlab_core.certify.certifier import CertificatePlan, certified
 from bbmlab_core.farm.receipts import section_digests
 from bbmlab_core.physics import tracing
 from bbmlab_core.pictures import golly
@@ -242,12 +242,12 @@ class Forms(unittest.TestCase):
         """A certificate of a layout within the first limits comes without the line, and any other with it."""
         for side, has_line in ((512, False), (514, True)):
             for front in {"", LINE} if not has_line else {LINE}:
-                made = certified(read_document(front + EMPTY + layout(side, 4), "design"), None, Plan())
+                made = certified(read_document(front + EMPTY + layout(side, 4), "design"), None, CertificatePlan())
                 self.assertEqual(made.startswith(LINE), has_line)
                 self.assertIsNone(refusal_of(made))
-        tall = certified(read_document(EMPTY + layout(512, 512), "design"), [], Plan())
+        tall = certified(read_document(EMPTY + layout(512, 512), "design"), [], CertificatePlan())
         self.assertFalse(tall.startswith(LINE))
-        many = certified(read_document(EMPTY + layout(128, 130), "design"), small_boxes(128, 130), Plan())
+        many = certified(read_document(EMPTY + layout(128, 130), "design"), small_boxes(128, 130), CertificatePlan())
         self.assertTrue(many.startswith(LINE))
 
     def test_studio_has_the_same_numbers(self) -> None:

@@ -13,7 +13,7 @@ from pathlib import Path
 from unittest import mock
 
 import support
-from bbmlab_core.certify.certifier import Maker, NoBoxError, Plan, certified, checked_boxes
+from bbmlab_core.certify.certifier import Maker, NoBoxError, CertificatePlan, certified, checked_boxes
 from bbmlab_core.host.program import ask
 from bbmlab_core.host.terminal import LabError
 from bbmlab_core.physics.simulation import run_layout
@@ -46,7 +46,7 @@ class Certificates(unittest.TestCase):
         for name, grid in GRIDS:
             for version in (1, 2):
                 for cuts in ("safe", "auto"):
-                    text = by_grid(name, grid, Plan(version, cuts))
+                    text = by_grid(name, grid, CertificatePlan(version, cuts))
                     with self.subTest(f"{name} {grid} {version} {cuts}"):
                         self.assertIn("verdict yes", ask(support.program(), "check", text.encode()).output)
 
@@ -60,7 +60,7 @@ class Certificates(unittest.TestCase):
         """Where a cell has the value of no wire, that is said with time and cell: here c without x goes to (8, 10)."""
         with self.assertRaisesRegex(LabError, r"at time 1 the cell \(8, 10\) is live with `c` on, and no wire of the "
                                     r"circuit is true in just"):
-            by_grid("fredkin_gate", (10, 10), Plan())
+            by_grid("fredkin_gate", (10, 10), CertificatePlan())
 
     def test_no_box_is_tried_twice(self) -> None:
         """If no certificate is found no box was tried twice, though both orders of cuts lead to it."""
@@ -76,7 +76,7 @@ class Certificates(unittest.TestCase):
             with (self.subTest(name), mock.patch.object(Maker, "module", module),
                   self.assertRaisesRegex(LabError, "no certificate was found: not here")):
                 tried.clear()
-                certified(design(name), None, Plan())
+                certified(design(name), None, CertificatePlan())
             self.assertGreater(len(tried), 20)
             self.assertEqual(max(tried.values()), 1)
 
@@ -89,16 +89,16 @@ class Certificates(unittest.TestCase):
         with mock.patch.object(Maker, "module", side_effect=NoBoxError("not here")):
             with self.assertRaisesRegex(LabError, "not here. 2 of 5 wires have the values of an earlier one in all 2 "
                                         "choices of the inputs, as `b` has those of `a`"):
-                certified(document, None, Plan())
+                certified(document, None, CertificatePlan())
             with self.assertRaisesRegex(LabError, "not here$"):
                 certified(support.read_document("circuit\ninput a\noutput a\nend\nlayout 8 8 0\nin a 4 4\nout a 4 "
-                                                "4\nend\n", "design"), None, Plan())
+                                                "4\nend\n", "design"), None, CertificatePlan())
 
     def test_own_boxes_avoid_cells_without_a_wire(self) -> None:
         """Without a grid the lab finds boxes by itself, though a grid of 10 by 10 cells has no certificate."""
         for name, _ in GRIDS:
             for version in (1, 2):
-                text = certified(design(name), None, Plan(version))
+                text = certified(design(name), None, CertificatePlan(version))
                 with self.subTest(f"{name} {version}"):
                     self.assertIn("verdict yes", ask(support.program(), "check", text.encode()).output)
 
@@ -117,7 +117,7 @@ class Certificates(unittest.TestCase):
 
     def test_auto_uses_fewer_gates(self) -> None:
         """Cuts at wires that come in use fewer gates somewhere than safe cuts."""
-        safe, auto = (by_grid("gate_and_mirror", (8, 12), Plan(2, cuts)) for cuts in ("safe", "auto"))
+        safe, auto = (by_grid("gate_and_mirror", (8, 12), CertificatePlan(2, cuts)) for cuts in ("safe", "auto"))
         self.assertLess(auto.count("\nuse "), safe.count("\nuse "))
 
     def test_own_stops_are_kept(self) -> None:
@@ -143,7 +143,7 @@ class Certificates(unittest.TestCase):
                 self.assertIn("\ncertificate 2\n", ended.stdout)
 
 
-def by_grid(name: str, grid: tuple[int, int], plan: Plan) -> str:
+def by_grid(name: str, grid: tuple[int, int], plan: CertificatePlan) -> str:
     """Returns an example with a certificate whose boxes are those of a grid."""
     document = design(name)
     assert document.layout is not None

@@ -21,8 +21,8 @@ from bbmlab_core.studio import routes
 from bbmlab_core.studio.answers import EMPTY, Answers
 from bbmlab_core.studio.folder import Folder
 from bbmlab_core.studio.guard import MAX_REQUEST_BYTES
-from bbmlab_core.studio.jobs import Jobs, Worker
-from bbmlab_core.studio.server import POLICY, Studio, studio
+from bbmlab_core.studio.jobs import Jobs, JobWorker
+from bbmlab_core.studio.server import POLICY, Studio, studio_server
 from bbmlab_core.texts.skimming import cuts_of
 from bbmlab_core.texts.spelling import source_line
 
@@ -44,7 +44,7 @@ class Served(unittest.TestCase):
         self.room = self.outside / "designs"
         self.room.mkdir()
         (self.room / "gate.txt").write_bytes(Path(support.example("not_gate")).read_bytes())
-        self.server: Studio = studio(0, Answers(Folder(str(self.room / "gate.txt")), self.jobs))
+        self.server: Studio = studio_server(0, Answers(Folder(str(self.room / "gate.txt")), self.jobs))
         thread = threading.Thread(target=self.server.serve_forever, kwargs={"poll_interval": 0.05})
         thread.start()
         self.addCleanup(thread.join)
@@ -536,7 +536,7 @@ class Limits(unittest.TestCase):
 
     def test_memory_limit(self) -> None:
         """The process of the jobs and the program run under a memory limit, and one that needs more gets no verdict."""
-        worker = Worker(self.fake("exit 0"), 5, 1024)
+        worker = JobWorker(self.fake("exit 0"), 5, 1024)
         self.addCleanup(worker.release)
         self.addCleanup(worker.end)
         worker.answer({"kind": "verdict", "text": EMPTY}, 60)

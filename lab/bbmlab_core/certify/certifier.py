@@ -32,7 +32,7 @@ class NoBoxError(Exception):
 
 
 @dataclass
-class Wiring:
+class CutsAndUses:
     """The wires that a module cuts, and the gates that it uses."""
 
     cuts: list[str]
@@ -44,7 +44,7 @@ class Wiring:
 
 
 @dataclass
-class Plan:
+class CertificatePlan:
     """What the user asked for: the kind of cuts, stops that are kept, and the processor time at which the search ends.
 
     Without `is_tried` the lab does not run the modules: the first cuts that fit are taken, and only the program finds a
@@ -61,7 +61,7 @@ class Plan:
 class Maker:
     """Makes certificates of one circuit and layout."""
 
-    def __init__(self, circuit: Circuit, layout: Layout, plan: Plan) -> None:
+    def __init__(self, circuit: Circuit, layout: Layout, plan: CertificatePlan) -> None:
         self.circuit, self.layout, self.plan = circuit, layout, plan
         self.observer = Observer(circuit, layout, bool(plan.stops), plan.until)
         self.observer.require_quiet_rim()
@@ -198,7 +198,7 @@ class Maker:
                       table in self.observer.observed.seen.get(key, ())]
         return sorted(lines, key=lambda line: line.place)
 
-    def wirings(self, box: Box, needed: set[str], inside: list[int], halo: list[int]) -> Iterable[Wiring]:
+    def wirings(self, box: Box, needed: set[str], inside: list[int], halo: list[int]) -> Iterable[CutsAndUses]:
         """Yields ways to know the wires of a box: with the wires cut that come in, then with gates before these, at
         last from the inputs."""
         if self.plan.cuts != "safe":
@@ -215,7 +215,7 @@ class Maker:
                     break
                 incoming = before
         cuts, uses = self.circuit.cone(sorted(needed))
-        yield Wiring(cuts, uses)
+        yield CutsAndUses(cuts, uses)
 
     def incoming(self, box: Box, needed: set[str], inside: list[int], halo: list[int]) -> set[str]:
         """Returns the wires that come into a box: those of its `in` cells, and those that are beside it before they are
@@ -225,14 +225,14 @@ class Maker:
         return starts | {name for name in needed if name not in starts
                          and beside.get(name, self.layout.steps) < here.get(name, self.layout.steps)}
 
-    def known_by(self, needed: set[str], incoming: set[str]) -> Iterable[Wiring]:
+    def known_by(self, needed: set[str], incoming: set[str]) -> Iterable[CutsAndUses]:
         """Yields the wiring that cuts the incoming wires, and one that uses the gates between them too."""
         cuts, uses = self.circuit.cone(sorted(needed), frozenset(incoming))
         made = {name for number in uses for name in self.circuit.gates[number].outs}
         if not set(cuts) & made:
-            yield Wiring(cuts, uses)
+            yield CutsAndUses(cuts, uses)
         fewer, more = fewest_cuts(self.circuit, needed | set(cuts), uses)
-        yield Wiring(sorted(fewer, key=self.circuit.rank), sorted(more))
+        yield CutsAndUses(sorted(fewer, key=self.circuit.rank), sorted(more))
 
     # ---- inverse gates
 
@@ -249,7 +249,7 @@ class Maker:
             raise LabError(f"gate {gate.number} (`{gate.word}`, line {gate.line}) always has a row only if more than "
                            f"{MAX_CUTS} wires or "
                            f"{MAX_USES} gates are looked at: no certificate keeps it", 1)
-        cone = Wiring(*found)
+        cone = CutsAndUses(*found)
         for module in sorted(modules, key=lambda module: len(set(cone.cuts) - set(module.cuts)) + len(module.cuts)):
             uses = sorted({*module.uses, *cone.uses})
             made = {name for number in uses for name in self.circuit.gates[number].outs}
@@ -341,7 +341,8 @@ def certificate_text(certificate: Certificate) -> str:
     return "\n".join([*lines, "end"]) + "\n"
 
 
-def certified(document: Document, boxes: list[Box] | None, plan: Plan, notes: list[str] | None = None) -> str:
+def certified(document: Document, boxes: list[Box] | None, plan: CertificatePlan,
+              notes: list[str] | None = None) -> str:
     """Returns the text of a circuit and a layout with a certificate of its own, with given boxes or with boxes that it
     chooses.
 
@@ -351,7 +352,7 @@ def certified(document: Document, boxes: list[Box] | None, plan: Plan, notes: li
         return newly_certified(document, boxes, plan, notes)
 
 
-def newly_certified(document: Document, boxes: list[Box] | None, plan: Plan, notes: list[str] | None) -> str:
+def newly_certified(document: Document, boxes: list[Box] | None, plan: CertificatePlan, notes: list[str] | None) -> str:
     """Returns the text of `certified`."""
     circuit, layout = document.circuit, document.layout
     if circuit is None or layout is None:

@@ -15,7 +15,7 @@ MAX_PASSES = 200
 MAX_SEARCHED = 1000
 
 
-class Folder:
+class ConstantFolder:
     """One pass from the first gate to the last: folds constants, and removes pairs of gates of which the second undoes
     the first."""
 
@@ -242,7 +242,7 @@ def without_dead(lines: CircuitLines) -> CircuitLines:
 
 def literals_of(lines: CircuitLines) -> dict[str, Literal]:
     """Returns the literal of each wire."""
-    folder = Folder(lines)
+    folder = ConstantFolder(lines)
     for gate in lines.gates:
         folder.literals.update(zip(gate.outs,
                                    folder.values(gate.word, gate.parameter,
@@ -302,7 +302,7 @@ def passes(lines: CircuitLines, may_share: bool) -> CircuitLines:
     """Returns a circuit after passes that change it no more."""
     for _ in range(MAX_PASSES):
         before = lines.text()
-        lines = without_dead(Folder(lines).run())
+        lines = without_dead(ConstantFolder(lines).run())
         lines = without_dead(shared(lines)) if may_share else lines
         if lines.text() == before:
             break

@@ -3,9 +3,9 @@
 import argparse
 import sys
 
-from ..certify.certifier import Plan, certified, checked_boxes
+from ..certify.certifier import CertificatePlan, certified, checked_boxes
 from ..host.program import ProgramError, ProgramTimeout, ask, find_program
-from ..host.terminal import LabError, plain, read_text, write_text
+from ..host.terminal import LabError, escape_controls, read_text, write_text
 from ..texts.boxes import Box
 from ..texts.certificates import MAX_BOX_SIDE
 from ..texts.documents import Document, read_document
@@ -22,7 +22,8 @@ def run(options: argparse.Namespace) -> int:
     document = design_of(text, options.file)
     # A plain certificate has no cuts to choose: the program's no to it is about the layout, and shows where it is
     # wrong.
-    plan = Plan(options.version_of_text, "safe" if options.plain else options.cuts, is_tried=not options.plain)
+    plan = CertificatePlan(options.version_of_text, "safe" if options.plain else options.cuts,
+                           is_tried=not options.plain)
     # Only the stops of an old certificate are kept.
     old = read_document(text, "check") if "\nstop " in text else document
     if old.certificate and not old.refusal:
@@ -32,7 +33,7 @@ def run(options: argparse.Namespace) -> int:
     notes: list[str] = []
     bundle = certified(document, chosen_boxes(options, document.layout), plan, notes)
     for note in notes:
-        print(f"bbmlab: {plain(note)}", file=sys.stderr)
+        print(f"bbmlab: {escape_controls(note)}", file=sys.stderr)
     status = verdict_status(bundle, options)
     write_text(options.output, bundle, [options.file])
     return status
@@ -88,7 +89,7 @@ def verdict_status(bundle: str, options: argparse.Namespace) -> int:
     try:
         answer = ask(find_program(options.program), "check", bundle.encode("latin-1"), options.timeout)
     except (ProgramError, ProgramTimeout) as error:
-        print(f"bbmlab: the certificate was not checked: {plain(str(error))}", file=sys.stderr)
+        print(f"bbmlab: the certificate was not checked: {escape_controls(str(error))}", file=sys.stderr)
         return 4
     lines = answer.output.split("\n")
     verdict = lines[3] if len(lines) > 3 else ""
@@ -97,8 +98,8 @@ def verdict_status(bundle: str, options: argparse.Namespace) -> int:
         return 0
     if answer.status == 3 or (answer.status, verdict) == (1, "verdict no"):
         what = lines[0] if answer.status == 3 else f"no: {lines[4]}"
-        print(f"bbmlab: the program does not say yes: {plain(what)}", file=sys.stderr)
+        print(f"bbmlab: the program does not say yes: {escape_controls(what)}", file=sys.stderr)
         return 1
-    print(f"bbmlab: the program gave no verdict: status {answer.status} {plain(answer.errors)}".rstrip(),
+    print(f"bbmlab: the program gave no verdict: status {answer.status} {escape_controls(answer.errors)}".rstrip(),
           file=sys.stderr)
     return 4

@@ -11,7 +11,7 @@ from ..farm.sharding import in_shard
 from ..host.program import find_program
 from ..host.releases import program_of
 from ..host.signals import Stopped
-from ..host.terminal import LabError, plain
+from ..host.terminal import LabError, escape_controls
 
 
 def source(options: argparse.Namespace) -> Checker:
@@ -50,7 +50,7 @@ def run(options: argparse.Namespace) -> int:
 
 def tell_of_left(words: str) -> None:
     """Says on standard error what is left out of a folder."""
-    print(f"bbmlab: {plain(words)}", file=sys.stderr)
+    print(f"bbmlab: {escape_controls(words)}", file=sys.stderr)
 
 
 def write_results(checker: Checker, files: list[str], writer: ResultWriter, counts: dict[str, int]) -> bool:

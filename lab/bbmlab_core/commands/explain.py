@@ -10,7 +10,7 @@ from ..explain.fixing import Fixer, outcome_words
 from ..explain.trials import Budget, Trial
 from ..farm.answering import why_no_verdict
 from ..host.program import Executable, ProgramError, ask, find_program
-from ..host.terminal import LabError, painted, plain, read_text, wrapped, write_bytes
+from ..host.terminal import LabError, painted, escape_controls, read_text, wrapped, write_bytes
 from ..texts.cell_pictures import LEGEND
 from ..texts.documents import command_for
 
@@ -81,11 +81,12 @@ def write_fix(text: str, command: str, program: Executable | None, options: argp
     fixer = Fixer(text, report, trial)
     fix = None if report.verdict == "yes" else fixer.find()
     if fix is None and report.verdict != "yes":
-        print("\n".join(f"bbmlab: {plain(line)}" for line in explaining.tried_words(fixer, trial)), file=sys.stderr)
+        print("\n".join(f"bbmlab: {escape_controls(line)}" for line in explaining.tried_words(fixer, trial)),
+              file=sys.stderr)
         return 1
     words = [*fix.words,
              outcome_words(report, fix)] if fix else [f"{trial.judge} says yes already: there is nothing to fix."]
-    print("\n".join(f"bbmlab: {plain(line)}" for line in words), file=sys.stderr)
+    print("\n".join(f"bbmlab: {escape_controls(line)}" for line in words), file=sys.stderr)
     data = (fix.text if fix else text).encode("latin-1")
     if options.in_place:
         if fix:

@@ -11,12 +11,12 @@ from html import escape
 from pathlib import Path
 
 from ..host.program import ProgramError, find_program
-from ..host.terminal import LabError, plain
+from ..host.terminal import LabError, escape_controls
 from ..studio.answers import Answers
 from ..studio.folder import Folder
 from ..studio.jobs import Jobs
 from ..studio.routes import Routes
-from ..studio.server import Studio, studio
+from ..studio.server import Studio, studio_server
 
 
 def run(options: argparse.Namespace) -> int:
@@ -31,9 +31,9 @@ def run(options: argparse.Namespace) -> int:
         program = find_program(options.program)
         jobs, routes = Jobs(program, options.timeout or 20.0, options.memory), Routes(str(program), options.memory)
     except ProgramError as error:
-        print(f"bbmlab: the studio gives no verdicts: {plain(str(error))}", file=sys.stderr)
+        print(f"bbmlab: the studio gives no verdicts: {escape_controls(str(error))}", file=sys.stderr)
     try:
-        server = studio(options.port, Answers(folder, jobs, routes))
+        server = studio_server(options.port, Answers(folder, jobs, routes))
     except OSError as error:
         raise LabError(f"port {options.port}: {error.strerror or error}") from error
     print(server.address, flush=True)

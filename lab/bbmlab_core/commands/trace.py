@@ -4,7 +4,7 @@ import argparse
 import sys
 
 from ..host.program import ProgramError, ProgramTimeout, ask, find_program
-from ..host.terminal import LabError, plain, write_text
+from ..host.terminal import LabError, escape_controls, write_text
 from ..physics import tracing
 from ..texts.designs import read_design
 
@@ -35,10 +35,10 @@ def warn_of_difference(options: argparse.Namespace, trace: tracing.Trace, text: 
     try:
         answer = ask(find_program(options.program), "run", text, options.timeout)
     except (ProgramError, ProgramTimeout) as error:
-        print(f"bbmlab: the last state was not compared: {plain(str(error))}", file=sys.stderr)
+        print(f"bbmlab: the last state was not compared: {escape_controls(str(error))}", file=sys.stderr)
         return
     if answer.status >= 3:
-        print(f"bbmlab: the last state was not compared: {plain(answer.errors or answer.output.strip())}",
+        print(f"bbmlab: the last state was not compared: {escape_controls(answer.errors or answer.output.strip())}",
               file=sys.stderr)
         return
     differs = tracing.compare_with_run(trace, answer.output)

@@ -9,7 +9,7 @@ from ..farm.checking import exit_status
 from ..farm.receipts import SECTIONS, Receipt, ReceiptError, parse_receipt, section_digests, sha256
 from ..host.program import Answer, ask, find_program
 from ..host.releases import known_releases
-from ..host.terminal import LabError, plain, read_bytes
+from ..host.terminal import LabError, escape_controls, read_bytes
 
 
 def read_receipt(name: str) -> Receipt:
@@ -34,7 +34,7 @@ def run(options: argparse.Namespace) -> int:
     try:
         receipt = read_receipt(options.receipt)
     except ReceiptError as error:
-        print(f"{plain(options.receipt)}: this receipt does not count: {error}")
+        print(f"{escape_controls(options.receipt)}: this receipt does not count: {error}")
         return 1
     text = read_bytes(options.file)
     against = differences(receipt, text)
@@ -43,12 +43,13 @@ def run(options: argparse.Namespace) -> int:
     if options.again and not against:
         against += checked_again(receipt, text, options)
     for reason in against:
-        print(f"{plain(options.file)}: {plain(reason)}")
+        print(f"{escape_controls(options.file)}: {escape_controls(reason)}")
     if against:
         return 1
     again = ", and the program said the same again" if options.again else ""
-    print(f"{plain(options.file)}: {WORDS[receipt.verdict]}, by {plain(receipt.program.version or 'a release')} on "
-          f"{plain(receipt.date)}{again}")
+    print(f"{escape_controls(options.file)}: {WORDS[receipt.verdict]}, by "
+          f"{escape_controls(receipt.program.version or 'a release')} on "
+          f"{escape_controls(receipt.date)}{again}")
     return 0
 
 
@@ -79,13 +80,13 @@ def run_summary(options: argparse.Namespace) -> int:
         try:
             receipt = read_receipt(str(file))
         except ReceiptError as error:
-            print(f"{plain(str(file))}: this receipt does not count: {error}")
+            print(f"{escape_controls(str(file))}: this receipt does not count: {error}")
             counts["error"] = counts.get("error", 0) + 1
             continue
         counts[receipt.verdict] = counts.get(receipt.verdict, 0) + 1
         programs[receipt.program.sha256] = programs.get(receipt.program.sha256, 0) + 1
         if receipt.verdict != "yes":
-            print(f"{plain(receipt.name)}: {WORDS[receipt.verdict]}")
+            print(f"{escape_controls(receipt.name)}: {WORDS[receipt.verdict]}")
     print(f"{len(files)} receipts: " + ", ".join(f"{counts[word]} {WORDS[word]}" for word in WORDS if counts.get(word)))
     if len(programs) > 1:
         print(f"they are of {len(programs)} programs: " + ", ".join(f"{digest[:16]}.. {count}" for digest,

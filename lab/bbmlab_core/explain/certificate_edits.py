@@ -9,7 +9,7 @@ from ..texts.layouts import Cell
 from ..texts.reports import Finding
 from .diagnosis import MAX_SECONDS, Diagnosis
 from .edits import Edit, add, delete, place_in_module, replace
-from .expected_lines import BorderCheck, Group
+from .expected_lines import BorderCheck, CellEdits
 
 Edits = tuple[Edit, ...]
 # The most edits of all borders together.
@@ -34,7 +34,7 @@ class CertificateEditor:
         self.circuit, self.certificate = diagnosis.circuit, diagnosis.certificate
         self.lines = diagnosis.document.text.split("\n")
         self.check = BorderCheck(diagnosis, seconds)
-        self.groups: list[Group] = self.check.groups()
+        self.groups: list[CellEdits] = self.check.groups()
 
     def for_all(self, findings: list[Finding]) -> Iterator[Proposal]:
         """Yields edits for a whole report: all borders together, then each by itself, then those for each line of the

@@ -19,7 +19,7 @@ MAX_WIRES = 4
 
 
 @dataclass
-class Group:
+class CellEdits:
     """The edits for one cell of a border: the first time at which its lines are wrong, and the modules whose lines
     change."""
 
@@ -127,7 +127,7 @@ class BorderCheck:
         """Returns the table of a signal."""
         return self.diagnosis.values.full if signal == "1" else self.diagnosis.values.tables[signal]
 
-    def groups(self) -> list[Group]:
+    def groups(self) -> list[CellEdits]:
         """Returns the edits of all cells whose lines are wrong, in order of the first wrong time."""
         if self.seen is None:
             return []
@@ -144,7 +144,7 @@ class BorderCheck:
                 lines.setdefault(line.cell, []).append((module, line))
         return lines
 
-    def group(self, cell: Cell, lines: list[tuple[Module, BorderLine]]) -> Group | None:
+    def group(self, cell: Cell, lines: list[tuple[Module, BorderLine]]) -> CellEdits | None:
         """Returns the edits for one cell, or None if its lines are right or no lines would be."""
         owner = self.owner(cell)
         if owner is None or self.seen is None:
@@ -160,7 +160,7 @@ class BorderCheck:
                  for signals in self.choices(cell, actual, [owner, *hearers], lines)]
         if not edits:
             return None
-        return Group(cell, min(wrong), {module.number for module in (owner, *hearers)}, edits[0], edits[1:])
+        return CellEdits(cell, min(wrong), {module.number for module in (owner, *hearers)}, edits[0], edits[1:])
 
     def edits(self, cell: Cell, owner: Module, hearers: list[Module], signals: dict[int | None, str]) -> list[Edit]:
         """Returns the edits after which all modules have just these signals of a cell, and know their wires."""

@@ -4,7 +4,7 @@ import json
 import re
 from dataclasses import asdict, dataclass, field, replace
 
-from ..host.terminal import plain
+from ..host.terminal import escape_controls
 from ..physics.mirrors import falling_mirrors
 from ..texts.certificates import Certificate, StopLine
 from ..texts.circuits import Circuit
@@ -376,8 +376,9 @@ def as_gcc(explanation: Explanation) -> list[str]:
         hints = [] if explanation.fix else [f"Hint: {hint}" for hint in explanation.refused.hints[:1]]
         text = " ".join([*explanation.refused.what, *fix_words(explanation.fix.words if explanation.fix else []),
                          *hints])
-        return [plain(f"{explanation.file}:{explanation.line}: error: {text} [code {explanation.code}]")]
-    return [plain(f"{explanation.file}:{line_of(entry)}: error: {' '.join([*entry.what, *fix_words(entry.fixes)])} "
+        return [escape_controls(f"{explanation.file}:{explanation.line}: error: {text} [code {explanation.code}]")]
+    return [escape_controls(f"{explanation.file}:{line_of(entry)}: error: "
+                            f"{' '.join([*entry.what, *fix_words(entry.fixes)])} "
                   f"[{entry.report_line}]")
             for entry in explanation.entries if entry.is_against]
 

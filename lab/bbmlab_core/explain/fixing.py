@@ -4,7 +4,7 @@ from dataclasses import dataclass, field
 from itertools import chain
 from typing import Iterable, Iterator
 
-from ..certify.certifier import Plan, certified
+from ..certify.certifier import CertificatePlan, certified
 from ..host.processor import processor_seconds
 from ..host.terminal import LabError
 from ..texts.documents import Document, read_document
@@ -34,7 +34,7 @@ CERTIFY_SHARE = 0.3
 
 
 @dataclass(frozen=True)
-class Step:
+class TriedText:
     """A text that was tried, whether its certificate was made again, and its report."""
 
     text: str
@@ -91,7 +91,7 @@ class Fixer:
     def find(self) -> Fix | None:
         """Returns a fix of the whole text: rounds of edits, up to a yes or to the last text that was better; None if
         there is none."""
-        steps = [Step(self.text, self.report)]
+        steps = [TriedText(self.text, self.report)]
         while len(steps) <= MAX_ROUNDS and not is_yes(steps[-1].report) and not self.trial.is_over():
             step = self.improved(steps[-1])
             if step is None:
@@ -103,7 +103,7 @@ class Fixer:
             fix.others = [step_words(self.text, edits_between(self.text, text), False) for text in steps[1].others]
         return fix
 
-    def fix_of(self, step: Step, remakes: bool) -> Fix | None:
+    def fix_of(self, step: TriedText, remakes: bool) -> Fix | None:
         """Returns a step as edits of the text; None if the edits do not lead to it."""
         old, new = (head_of(text) if remakes else text for text in (self.text, step.text))
         if remakes and old == self.text:
@@ -113,7 +113,7 @@ class Fixer:
             return None
         return Fix(step.text, step.report, edits, remakes, self.trial.judge, step_words(self.text, edits, remakes))
 
-    def improved(self, step: Step) -> Step | None:
+    def improved(self, step: TriedText) -> TriedText | None:
         """Returns a better text than that of a step."""
         is_own = self.own is not None and step.text == self.text
         document = self.own.document if self.own and is_own else read_document(step.text, "check")
@@ -128,7 +128,7 @@ class Fixer:
 
     # ---- refusals
 
-    def accepted(self, step: Step, document: Document) -> Step | None:
+    def accepted(self, step: TriedText, document: Document) -> TriedText | None:
         """Returns a text that is taken, or one that is refused at a later line: a yes if there is one, else one with
         the fewest faults."""
         if document.refusal is None or step.report.refused != (document.refusal.line, document.refusal.code):
@@ -136,19 +136,19 @@ class Fixer:
         changed = self.changed_head(step)
         if changed:
             return changed
-        best: Step | None = None
-        later: Step | None = None
+        best: TriedText | None = None
+        later: TriedText | None = None
         for text in self.texts_for(step.text, document):
             report = self.trial.report(text)
             if report is None or is_yes(report):
-                return Step(text, report) if report else best or later
+                return TriedText(text, report) if report else best or later
             if report.refused is None and (best is None or len(report.faults) < len(best.report.faults)):
-                best = Step(text, report)
+                best = TriedText(text, report)
             elif report.refused and later is None and self.is_later(step, text, report):
-                later = Step(text, report)
+                later = TriedText(text, report)
         return best or self.ported(step, document) or self.certified_step(step) or later
 
-    def is_later(self, step: Step, text: str, report: Report) -> bool:
+    def is_later(self, step: TriedText, text: str, report: Report) -> bool:
         """Whether a text is refused at a later line than that of a step, counted from the ends of both texts."""
         assert step.report.refused and report.refused
         was = len(step.text.split("\n")) - step.report.refused[0]
@@ -166,7 +166,7 @@ class Fixer:
             except EditError:
                 continue
 
-    def changed_head(self, step: Step) -> Step | None:
+    def changed_head(self, step: TriedText) -> TriedText | None:
         """Returns a text with a changed design, if circuit and layout are taken and do not end as the layout asks."""
         head = read_document(head_of(step.text), "design")
         if head.refusal or head_of(step.text) == step.text:
@@ -175,7 +175,7 @@ class Fixer:
         is_right = bench.last is not None and not wrong_cells(bench.values, bench.layout, bench.last)
         return None if is_right or bench.is_over() else self.changed_design(step, head)
 
-    def certified_step(self, step: Step) -> Step | None:
+    def certified_step(self, step: TriedText) -> TriedText | None:
         """Returns a text whose certificate was made by the lab, if circuit and layout are taken; if that fails, with a
         changed design."""
         head = read_document(head_of(step.text), "design")
@@ -183,7 +183,7 @@ class Fixer:
             return None
         return self.remade(head) or self.changed_design(step, head)
 
-    def ported(self, step: Step, document: Document) -> Step | None:
+    def ported(self, step: TriedText, document: Document) -> TriedText | None:
         """Returns a text with cells for inputs or outputs without one."""
         if document.refusal is None or document.refusal.cause != "port_without_cell":
             return None
@@ -192,12 +192,12 @@ class Fixer:
             text = applied(step.text, change.edits)
             report = self.trial.report(text)
             if report and not report.refused:
-                return Step(text, report)
+                return TriedText(text, report)
         return None
 
     # ---- the certificate
 
-    def edited(self, step: Step, diagnosis: Diagnosis) -> Step | None:
+    def edited(self, step: TriedText, diagnosis: Diagnosis) -> TriedText | None:
         """Returns a text with an edited certificate, or one that the lab made again: a yes if there is one, else one
         that is better."""
         editor, best = self.editor_of(diagnosis), None
@@ -207,9 +207,9 @@ class Fixer:
             report = self.trial.report(text) if text else None
             if text and is_yes(report):
                 assert report
-                return Step(text, report)
+                return TriedText(text, report)
             if text and report and best is None and removes(step.report, report, None):
-                best = Step(text, report)
+                best = TriedText(text, report)
             if self.trial.is_over():
                 self.is_cut_short = True
                 break
@@ -236,7 +236,7 @@ class Fixer:
         except EditError:
             return None
 
-    def remade(self, document: Document) -> Step | None:
+    def remade(self, document: Document) -> TriedText | None:
         """Returns a design with a certificate that the lab made: with the boxes that it has, or else with others."""
         self.kinds["a certificate that is made again"] = None
         certificate = document.certificate
@@ -247,13 +247,13 @@ class Fixer:
                 return None
             try:
                 until = processor_seconds() + self.trial.seconds_left() * CERTIFY_SHARE
-                text = certified(document, boxes, Plan(version, until=until))
+                text = certified(document, boxes, CertificatePlan(version, until=until))
             except LabError:
                 continue
             report = self.trial.report(text)
             if is_yes(report):
                 assert report
-                return Step(text, report, True)
+                return TriedText(text, report, True)
         return None
 
     # ---- the design
@@ -264,13 +264,13 @@ class Fixer:
         first = min(faults, key=lambda finding: finding.number("time"), default=None)
         return (first.number("x"), first.number("y")) if first else None
 
-    def bench(self, step: Step, document: Document) -> Bench:
+    def bench(self, step: TriedText, document: Document) -> Bench:
         """Returns what changes of a design are tried on."""
         assert document.circuit and document.layout
         return Bench(step.text, document.circuit, document.layout, max(0.1, 0.8 * self.trial.seconds_left()),
                      self.near(step.report))
 
-    def changed_design(self, step: Step, document: Document) -> Step | None:
+    def changed_design(self, step: TriedText, document: Document) -> TriedText | None:
         """Returns a text with a changed layout or circuit that gets a yes, with its certificate or with one that the
         lab makes."""
         bench = self.bench(step, document)
@@ -287,7 +287,7 @@ class Fixer:
             report = self.trial.report(text) if has_certificate else None
             if is_yes(report):
                 assert report
-                return Step(text, report, others=self.other_texts(bench, step.text, text))
+                return TriedText(text, report, others=self.other_texts(bench, step.text, text))
         for _, text in kept:
             made = self.remade(read_document(head_of(text), "design"))
             if made:

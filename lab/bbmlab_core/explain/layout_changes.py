@@ -158,7 +158,7 @@ class Bench:
                     for cell in cells), default=0)
 
 
-def moved(part: Part, dx: int, dy: int) -> Part:
+def shifted(part: Part, dx: int, dy: int) -> Part:
     """Returns a part at another place."""
     return with_fields(part, x=part.x + dx, y=part.y + dy)
 
@@ -231,7 +231,7 @@ def port_changes(bench: Bench, reach: int | None, is_exchange: bool = False) -> 
         if cell is None:
             return
         taken.add(cell)
-        swaps[part] = moved(part, cell[0] - part.x, cell[1] - part.y)
+        swaps[part] = shifted(part, cell[0] - part.x, cell[1] - part.y)
     covered = {part.cell for part in bench.layout.of_kind("waste")}
     freed = [part for part in bench.layout.of_kind("waste") if part.cell in {new.cell for new in swaps.values()}]
     wastes = [left_over(bench, cell, table) for cell, table in places if key_of(cell) in wrong
@@ -317,7 +317,7 @@ def larger_changes(bench: Bench) -> Iterator[Change]:
     if max(layout.width, layout.height) + 4 > bench.limits.max_side:
         return
     header = next(number for number, line in enumerate(bench.lines, 1) if line.startswith("layout "))
-    parts = [moved(part, 2, 2) for part in layout.parts]
+    parts = [shifted(part, 2, 2) for part in layout.parts]
     wide = with_fields(layout, width=layout.width + 4, height=layout.height + 4, parts=parts)
     edits = [replace(header, f"layout {wide.width} {wide.height} {wide.steps}"),
              *(replace(part.line, part_text(part)) for part in parts)]
@@ -355,7 +355,7 @@ def paired_changes(bench: Bench, gone: list[Part], new: list[Part]) -> Iterator[
     for part in list(gone):
         other = next((other for other in new if (other.kind, other.name) == (part.kind, part.name)), None)
         if other:
-            swaps[part] = moved(part, other.x - part.x, other.y - part.y)
+            swaps[part] = shifted(part, other.x - part.x, other.y - part.y)
             gone.remove(part)
             new.remove(other)
     change = bench.changed(swaps, new, gone)
@@ -374,9 +374,9 @@ def move_changes(bench: Bench, kinds: tuple[str, ...], reach: int = 2) -> Iterat
                  and abs(other.x - part.x) == abs(other.y - part.y) == 2 and part.kind != "mirror"]
         for group in ([part], *([part, mate] for mate in mates if part.line < mate.line)):
             for dx, dy in offsets:
-                if part.kind == "mirror" and has_mirror_parity(part) and not has_mirror_parity(moved(part, dx, dy)):
+                if part.kind == "mirror" and has_mirror_parity(part) and not has_mirror_parity(shifted(part, dx, dy)):
                     continue
-                change = bench.changed({member: moved(member, dx, dy) for member in group})
+                change = bench.changed({member: shifted(member, dx, dy) for member in group})
                 if change:
                     yield change
 

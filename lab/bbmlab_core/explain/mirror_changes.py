@@ -4,7 +4,7 @@ from itertools import product
 from typing import Iterator
 
 from ..physics.mirrors import falling_mirrors, legal_places
-from .layout_changes import Bench, Change, moved
+from .layout_changes import Bench, Change, shifted
 
 # The most mirrors that are moved together, and how many places of each are tried then.
 MAX_TOGETHER = 3
@@ -25,7 +25,7 @@ def mirror_place_changes(bench: Bench) -> Iterator[Change]:
                 yield change
     for part in fallen:
         for place in [*legal_places(part)[:PLACES],
-                      *(moved(part, dx, dy) for dy in (-1, 0, 1) for dx in (-1, 0, 1) if dx or dy)]:
+                      *(shifted(part, dx, dy) for dy in (-1, 0, 1) for dx in (-1, 0, 1) if dx or dy)]:
             change = bench.changed({part: place})
             if change:
                 yield change

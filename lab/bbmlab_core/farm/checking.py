@@ -161,10 +161,10 @@ def serve(order: Order, own: Connection, others: list[Connection]) -> None:
         return
 
 
-class Worker:
+class CheckWorker:
     """A process that checks files, one at a time."""
 
-    def __init__(self, order: Order, others: list["Worker"]) -> None:
+    def __init__(self, order: Order, others: list["CheckWorker"]) -> None:
         context = multiprocessing.get_context("fork")
         self.connection, theirs = context.Pipe()
         sys.stdout.flush()
@@ -198,12 +198,12 @@ class Checker:
     def __init__(self, program: Executable, jobs: int = 1, timeout: float | None = None,
                  keeper: Keeper | None = None) -> None:
         self.order, self.jobs = Order(program, timeout, keeper), jobs
-        self.workers: list[Worker] = []
+        self.workers: list[CheckWorker] = []
 
     def results(self, files: Iterable[str]) -> Iterator[Result | None]:
         """Yields the result of each file as soon as it is there, and None about each fifth of a second without one."""
-        idle: list[Worker] = []
-        busy: dict[Connection, Worker] = {}
+        idle: list[CheckWorker] = []
+        busy: dict[Connection, CheckWorker] = {}
         keeper = self.order.keeper
         for file in files:
             held = keeper.held(file) if keeper else None
@@ -213,7 +213,7 @@ class Checker:
             while not idle and len(self.workers) >= self.jobs:
                 yield from self.ready(busy, idle)
             if not idle:
-                idle.append(Worker(self.order, self.workers))
+                idle.append(CheckWorker(self.order, self.workers))
                 self.workers.append(idle[-1])
             worker = idle.pop()
             busy[worker.connection] = worker
@@ -221,7 +221,7 @@ class Checker:
         while busy:
             yield from self.ready(busy, idle)
 
-    def ready(self, busy: dict[Connection, Worker], idle: list[Worker]) -> Iterator[Result | None]:
+    def ready(self, busy: dict[Connection, CheckWorker], idle: list[CheckWorker]) -> Iterator[Result | None]:
         """Yields the results that are there, or None after a fifth of a second. The workers that gave them become idle.
         """
         connections = [connection for connection in wait(list(busy), LOOK_SECONDS)

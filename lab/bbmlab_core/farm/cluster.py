@@ -31,7 +31,7 @@ COUNT_SECONDS = 1.0
 CONNECT_SECONDS = 10
 
 
-class Group:
+class FileGroup:
     """Files with their texts, which one worker checks, and how often they were sent."""
 
     def __init__(self) -> None:
@@ -86,7 +86,7 @@ class ClusterChecker(Checker):
         self.client = connected(address, jobs, program)
         self.said: dict[str, str] = {}
         # The groups that came back, how many are on their way, and what the texts of those that came back took.
-        self.done: "queue.SimpleQueue[tuple[Group, Any]]" = queue.SimpleQueue()
+        self.done: "queue.SimpleQueue[tuple[FileGroup, Any]]" = queue.SimpleQueue()
         self.flying, self.answered, self.worked = 0, 0, 0.0
         self.thread_count, self.counted_until = 1, 0.0
         if sends:
@@ -97,14 +97,14 @@ class ClusterChecker(Checker):
 
     def results(self, files: Iterable[str]) -> Iterator[Result | None]:
         """Yields the result of each file as soon as it is there, and None about each fifth of a second without one."""
-        group = Group()
+        group = FileGroup()
         for file in files:
             ready = (self.order.keeper.held(file) if self.order.keeper else None) or self.added(file, group)
             if ready:
                 yield ready
             elif self.is_full(group):
                 self.send(group)
-                group = Group()
+                group = FileGroup()
                 while self.flying >= AHEAD * self.threads():
                     yield from self.landed()
         if group.files:
@@ -120,7 +120,7 @@ class ClusterChecker(Checker):
             self.counted_until = now + COUNT_SECONDS
         return self.thread_count
 
-    def added(self, file: str, group: Group) -> Result | None:
+    def added(self, file: str, group: FileGroup) -> Result | None:
         """Adds a file to a group. Returns a result only if it can't be read."""
         try:
             group.files.append((file, read_in_time(file, self.order.timeout)))
@@ -130,13 +130,13 @@ class ClusterChecker(Checker):
             return Result(file, "timeout", str(error), 0)
         return None
 
-    def is_full(self, group: Group) -> bool:
+    def is_full(self, group: FileGroup) -> bool:
         """Whether a group is as large as it may be: by what a text took so far, one text at the start."""
         wanted = GROUP_SECONDS * self.answered / self.worked if self.worked else 1
         return len(group.files) >= min(max(wanted, 1), GROUP_TEXTS) or sum(len(text) for _,
                                                                            text in group.files) >= GROUP_BYTES
 
-    def send(self, group: Group) -> None:
+    def send(self, group: FileGroup) -> None:
         """Sends a group to a worker."""
         future = self.client.submit(remote.answers, self.digest, [text for _, text in group.files], self.order.timeout,
                                     pure=False)

@@ -3,7 +3,7 @@
 import sys
 import time
 
-from ..host.terminal import plain
+from ..host.terminal import escape_controls
 
 BAR = 24
 # Seconds between two lines where there is no terminal, and between two looks of the bar.
@@ -48,7 +48,7 @@ class Progress:
             return
         filled = BAR * self.done // max(1, self.total)
         line = (f"[{'#' * filled}{'.' * (BAR - filled)}] {self.done}/{self.total}  {rate:.3g} a second{left}  "
-                f"{plain(what)}")
+                f"{escape_controls(what)}")
         sys.stderr.write("\r\033[K" + line[:79])
         sys.stderr.flush()
         self.is_shown = True

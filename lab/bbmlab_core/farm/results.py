@@ -4,7 +4,7 @@ import json
 import sys
 from typing import Any, Protocol
 
-from ..host.terminal import painted, plain
+from ..host.terminal import painted, escape_controls
 from ..texts.code_names import CODE_NAMES
 from .answering import WORDS, Result
 from .checking import counted, summary
@@ -38,7 +38,7 @@ class TextWriter:
         """Takes the width of the first column from the longest name."""
         self.results: dict[str, int] = {}
         self.total, self.held = len(files), 0
-        self.width = min(max((len(plain(file)) for file in files), default=0), 60)
+        self.width = min(max((len(escape_controls(file)) for file in files), default=0), 60)
 
     def add(self, result: Result) -> None:
         """Writes a line, unless the result is a yes that a receipt holds."""
@@ -47,7 +47,7 @@ class TextWriter:
         if result.held and result.result == "yes":
             return
         word = painted(WORDS[result.result].ljust(8), COLOURS.get(result.result, "yellow"))
-        name, detail = plain(result.file).ljust(self.width), plain(result.detail)
+        name, detail = escape_controls(result.file).ljust(self.width), escape_controls(result.detail)
         print(f"{name}  {word}  {result.seconds:7.2f} s  {detail}".rstrip(), flush=True)
 
     def leave(self, result: Result) -> None:
@@ -74,11 +74,12 @@ class TapWriter:
     def add(self, result: Result) -> None:
         """Writes a line."""
         self.number += 1
-        file = plain(result.file).replace("\\", "\\\\").replace("#", "\\#")
+        file = escape_controls(result.file).replace("\\", "\\\\").replace("#", "\\#")
         if result.result == "yes":
             print(f"ok {self.number} - {file}", flush=True)
         else:
-            print(f"not ok {self.number} - {file}: {WORDS[result.result]}, {plain(result.detail)}", flush=True)
+            print(f"not ok {self.number} - {file}: {WORDS[result.result]}, {escape_controls(result.detail)}",
+                  flush=True)
 
     def leave(self, result: Result) -> None:
         """Lists the result: a plan counts all of them."""
@@ -179,13 +180,15 @@ class JunitWriter(WholeWriter):
                  f'<testsuite name="bbmlab check" tests="{len(rows)}" failures="{failures}" errors="{errors}" '
                  f'time="{sum(result.seconds for result in rows):.3f}">']
         for result in rows:
-            head = f'  <testcase classname="bbmcheck" name={quoteattr(plain(result.file))} time="{result.seconds:.3f}"'
+            head = (f'  <testcase classname="bbmcheck" name={quoteattr(escape_controls(result.file))} '
+                    f'time="{result.seconds:.3f}"')
             if result.result == "yes":
                 lines.append(head + "/>")
                 continue
             tag = "failure" if result.result in ("no", "refused") else "error"
-            output = "\n".join(plain(line) for line in result.output.split("\n"))
-            lines.append(f"{head}><{tag} type={quoteattr(result.result)} message={quoteattr(plain(result.detail))}>"
+            output = "\n".join(escape_controls(line) for line in result.output.split("\n"))
+            lines.append(f"{head}><{tag} type={quoteattr(result.result)} "
+                         f"message={quoteattr(escape_controls(result.detail))}>"
                          f"{escape(output)}</{tag}></testcase>")
         return "\n".join([*lines, "</testsuite>"]) + "\n"
 

@@ -28,7 +28,7 @@ def painted(text: str, colour: str, stream: IO[str] | None = None) -> str:
     return f"\033[{CODES[colour]}m{text}\033[0m" if has_colour(stream or sys.stdout) else text
 
 
-def plain(text: str) -> str:
+def escape_controls(text: str) -> str:
     """Returns a text whose control characters are escapes, so that no terminal and no other program obeys them.
 
     Characters that stand for bytes of no character, as Python reads names of files, are shown as these bytes.
@@ -48,7 +48,8 @@ def escaped(code: int) -> str:
 def wrapped(text: str, first: str = "", rest: str | None = None, width: int = 100) -> str:
     """Returns a paragraph in lines of at most `width` columns."""
     import textwrap
-    return textwrap.fill(plain(text), width, initial_indent=first, subsequent_indent=first if rest is None else rest,
+    return textwrap.fill(escape_controls(text), width, initial_indent=first,
+                         subsequent_indent=first if rest is None else rest,
                          break_long_words=False, break_on_hyphens=False)
 
 

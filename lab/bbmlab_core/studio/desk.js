@@ -51,7 +51,7 @@ class Desk {
 
   listen(what, action) { this.listeners[what].push(action); }
 
-  tell(what) { for (const action of this.listeners[what]) action(); }
+  notify(what) { for (const action of this.listeners[what]) action(); }
 
   /** The circuit, if each of its lines can be read. */
   get circuit() { return this.model.circuit.isWhole ? this.model.circuit : null; }
@@ -74,9 +74,9 @@ class Desk {
     player.slice = SLICE;
     this.askWorker();
     player.restart(old ? Math.min(old.target, this.layout.steps) : 0);
-    for (const what of ["time", "end", "play"]) player.listen(what, () => this.tell(what));
-    this.tell("change");
-    if (player.isEnded) this.tell("end");
+    for (const what of ["time", "end", "play"]) player.listen(what, () => this.notify(what));
+    this.notify("change");
+    if (player.isEnded) this.notify("end");
   }
 
   /** Turns inputs on or off. */
@@ -93,7 +93,7 @@ class Desk {
     this.waysMode = mode;
     if (mode === "off") this.survey = null;
     this.askWorker();
-    this.tell("ways");
+    this.notify("ways");
   }
 
   /** Sets whether the waveform is shown. Its signals are recorded only then. */
@@ -118,7 +118,7 @@ class Desk {
       ...(isKnown ? {} : { circuit }) });
     if (!this.hasTable) {
       this.rows = null;
-      this.tell("table");
+      this.notify("table");
     }
   }
 
@@ -127,13 +127,13 @@ class Desk {
     if (number !== this.order) return;
     if (rows) {
       this.rows = rows;
-      this.tell("table");
+      this.notify("table");
       return;
     }
     this.survey = ways;
     this.surveyOrder = number;
     this.waysTime = performance.now() - this.askedAt;
-    this.tell("ways");
+    this.notify("ways");
   }
 
   /** Whether the ways are of all choices of the inputs. */

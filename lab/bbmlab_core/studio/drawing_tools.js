@@ -52,7 +52,7 @@ class Tools {
   select(lines) {
     this.selection = new Set(lines);
     this.sketch.selected = this.model.partsAt(this.selection);
-    this.sketch.paintOver();
+    this.sketch.requestOver();
     if (this.onSelect) this.onSelect();
   }
 
@@ -70,7 +70,7 @@ class Tools {
     this.pressed = null;
     this.sketch.ghost = null;
     this.sketch.frame2 = null;
-    this.sketch.paintOver();
+    this.sketch.requestOver();
   }
 
   /** Does a command, and says why if it cannot be done. Returns whether it was done. */
@@ -107,7 +107,7 @@ class Tools {
   /** Shows what a tool would do, and says why if it cannot. */
   show(ghost) {
     this.sketch.ghost = ghost;
-    this.sketch.paintOver();
+    this.sketch.requestOver();
     if (ghost && ghost.reason) this.say(ghost.reason, true);
     else if (ghost && ghost.words) this.say(ghost.words);
     else this.say("");
@@ -174,7 +174,7 @@ class Tools {
     if (this.clipboard.length === 0) return null;
     const [left, top] = geometry.evenFrame(this.clipboard.map(({ box }) => box));
     const [dx, dy] = [x - x % 2 - left, y - y % 2 - top];
-    const parts = geometry.moved(this.clipboard, dx, dy);
+    const parts = geometry.shifted(this.clipboard, dx, dy);
     return { parts, reason: this.model.whyNot(parts), words: "Press to paste here." };
   }
 
@@ -200,7 +200,7 @@ class Tools {
     else if (mode === "move") this.showMove(cell);
     else if (mode === "frame") {
       this.sketch.frame2 = between(start, cell);
-      this.sketch.paintOver();
+      this.sketch.requestOver();
     }
   }
 
@@ -217,7 +217,7 @@ class Tools {
     else if (CELL_KINDS.includes(mode)) this.attempt(() => this.model.addCells(this.partsFor(end)));
     this.sketch.ghost = null;
     this.sketch.frame2 = null;
-    this.sketch.paintOver();
+    this.sketch.requestOver();
   }
 
   /**
@@ -272,8 +272,8 @@ class Tools {
   showMove([x, y]) {
     const { start: [u, v] } = this.pressed, parts = this.model.partsAt(this.selection);
     const [dx, dy] = geometry.snapMove(parts, x - u, y - v);
-    const moved = geometry.moved(parts, dx, dy), isSnapped = dx !== x - u || dy !== y - v;
-    const [wanted] = geometry.moved(parts, x - u, y - v);
+    const moved = geometry.shifted(parts, dx, dy), isSnapped = dx !== x - u || dy !== y - v;
+    const [wanted] = geometry.shifted(parts, x - u, y - v);
     const why = isSnapped && parts.length === 1 ? geometry.fallReason(wanted.box) : null;
     this.pressed.move = [dx, dy];
     const words = why

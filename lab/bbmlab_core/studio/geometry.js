@@ -95,7 +95,7 @@ function turned(parts, how) {
 }
 
 /** Returns parts that are moved by some cells. */
-const moved = (parts, dx, dy) =>
+const shifted = (parts, dx, dy) =>
   parts.map((part) => ({ ...part, box: [part.box[0] + dx, part.box[1] + dy, part.box[2], part.box[3]] }));
 
 /**
@@ -110,7 +110,7 @@ function snapMove(parts, dx, dy) {
 }
 
 /** Returns output and waste cells as they fly on by some steps from a time, without mirrors. */
-function followed(parts, time, steps) {
+function flyOn(parts, time, steps) {
   return parts.map((part) => {
     const [x, y] = part.box, [dx, dy] = direction(x, y, time);
     return { ...part, box: [x + dx * steps, y + dy * steps, 1, 1] };
@@ -118,5 +118,5 @@ function followed(parts, time, steps) {
 }
 
 export {
-  stays, fallReason, snapMirror, direction, pairCells, fallingMirrors, evenFrame, turned, moved, snapMove, followed,
+  stays, fallReason, snapMirror, direction, pairCells, fallingMirrors, evenFrame, turned, shifted, snapMove, flyOn,
 };

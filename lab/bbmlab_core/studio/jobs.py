@@ -19,7 +19,7 @@ PACKAGE_PARENT = Path(__file__).resolve().parents[2]
 MORE_SECONDS, END_SECONDS = 10.0, 2.0
 
 
-class Worker:
+class JobWorker:
     """A process that answers jobs."""
 
     def __init__(self, program: Executable | str, seconds: float, memory: int) -> None:
@@ -99,7 +99,7 @@ class Jobs:
         self.turn, self.lock = threading.Lock(), threading.Lock()
         self.newest: dict[str, int] = {}
         self.count = 0
-        self.worker: Worker | None = None
+        self.worker: JobWorker | None = None
         # The tab whose job runs now.
         self.running: str | None = None
         self.is_closed = False
@@ -132,11 +132,11 @@ class Jobs:
             if self.worker is None and not self.is_closed:
                 self.worker = self.started()
 
-    def started(self) -> Worker:
+    def started(self) -> JobWorker:
         """Returns a new process."""
-        return Worker(self.program, self.seconds, self.memory)
+        return JobWorker(self.program, self.seconds, self.memory)
 
-    def ended(self, worker: Worker, tab: str, ticket: int) -> dict[str, Any]:
+    def ended(self, worker: JobWorker, tab: str, ticket: int) -> dict[str, Any]:
         """Ends a process that gave no answer, and says why there is none."""
         was_replaced = worker.is_ended or self.newest[tab] != ticket
         ended = "" if was_replaced or worker.is_late else worker.how_ended()

@@ -15,7 +15,7 @@ const NAME = /^[a-z][a-z0-9_]{0,31}$/, NUMBER = /^(0|[1-9][0-9]{0,8})$/;
 const LINE = /^(\ufeff?[ \t]*)([^#]*?)([ \t\r]*(?:#.*)?)$/s;
 
 /** A command that cannot be done. The message is for the user. */
-class Refusal extends Error {}
+class ModelRefusal extends Error {}
 
 /** Returns the first word of a line, without a comment. */
 const firstWord = (line) => wordsOf(line)[0] ?? "";
@@ -257,10 +257,10 @@ class Model {
     }
     this.future = [];
     this.put(splice);
-    this.tell();
+    this.notify();
   }
 
-  tell() { for (const action of this.listeners) action(); }
+  notify() { for (const action of this.listeners) action(); }
 
   /** Undoes the last command, and returns its name, or null if there is none. */
   undo() {
@@ -268,7 +268,7 @@ class Model {
     if (!last) return null;
     this.future.push(last);
     this.put({ at: last.at, removed: last.added, added: last.removed });
-    this.tell();
+    this.notify();
     return last.label;
   }
 
@@ -278,7 +278,7 @@ class Model {
     if (!next) return null;
     this.past.push(next);
     this.put(next);
-    this.tell();
+    this.notify();
     return next.label;
   }
 
@@ -336,7 +336,7 @@ class Model {
   /** Raises the reason why parts cannot be in the layout. */
   require(parts, without = []) {
     const reason = this.whyNot(parts, without);
-    if (reason) throw new Refusal(reason);
+    if (reason) throw new ModelRefusal(reason);
   }
 
   /** Adds parts, each behind the last part of its kind, and returns the numbers of their lines. */
@@ -357,7 +357,7 @@ class Model {
     if (isRead && kind === "in" && !names.has(name)) lines.push(`input ${name}`);
     if (isRead && kind === "out" && names.has(name) && !used.has(name)) lines.push(`output ${name}`);
     if (isRead && kind === "in" && names.has(name)
-        && !inputs.includes(name)) throw new Refusal(`\`${name}\` is no input of the circuit.`);
+        && !inputs.includes(name)) throw new ModelRefusal(`\`${name}\` is no input of the circuit.`);
     return this.edit(kind, (rows) => {
       const added = this.insert(rows, parts);
       circuitText.join(rows, this.start, lines, new Map());
@@ -412,14 +412,14 @@ class Model {
   }
 
   /** Moves the parts of some lines. */
-  move(lines, dx, dy) { return this.replace(geometry.moved(this.partsAt(lines), dx, dy), "move"); }
+  move(lines, dx, dy) { return this.replace(geometry.shifted(this.partsAt(lines), dx, dy), "move"); }
 
   /** Turns or reflects the parts of some lines about their frame. */
   turn(lines, how) { return this.replace(geometry.turned(this.partsAt(lines), how), how); }
 
   /** Gives the ports of some lines another wire. */
   rename(lines, name) {
-    if (!NAME.test(name)) throw new Refusal(`\`${name}\` is no name of a wire.`);
+    if (!NAME.test(name)) throw new ModelRefusal(`\`${name}\` is no name of a wire.`);
     return this.replace(this.partsAt(lines).map((part) => (part.name === null ? part : { ...part, name })), "rename");
   }
 
@@ -429,17 +429,18 @@ class Model {
   resize(width, height, steps, follows = false) {
     const { maxSide, maxSteps } = this.limits;
     const isSide = (side) => Number.isInteger(side) && side % 2 === 0 && side >= 2 && side <= maxSide;
-    if (this.start < 0) throw new Refusal("The text has no line `layout W H STEPS`.");
-    if (!isSide(width) || !isSide(height)) throw new Refusal(
+    if (this.start < 0) throw new ModelRefusal("The text has no line `layout W H STEPS`.");
+    if (!isSide(width) || !isSide(height)) throw new ModelRefusal(
         `Width and height are even numbers from 2 to ${maxSide}.${this.needsLine(Math.max(width, height) > maxSide)}`);
     if (!Number.isInteger(steps) || steps < 0 || steps > maxSteps)
-        throw new Refusal(`The steps are a number from 0 to ${maxSteps}.${this.needsLine(steps > maxSteps)}`);
+        throw new ModelRefusal(`The steps are a number from 0 to ${maxSteps}.${this.needsLine(steps > maxSteps)}`);
     const flying = follows && this.header ? this.parts.filter(({ kind }) => kind === "out" || kind === "waste") : [];
-    const fresh = flying.length ? geometry.followed(flying, this.header.steps, steps - this.header.steps) : [];
+    const fresh = flying.length ? geometry.flyOn(flying, this.header.steps, steps - this.header.steps) : [];
     const changed = new Set(flying);
     const all = [...this.parts.filter((part) => !changed.has(part)), ...fresh];
     const outside = all.find(({ box: [x, y, w, h] }) => x < 0 || y < 0 || x + w > width || y + h > height);
-    if (outside) throw new Refusal(`${titleOf(outside)} would be outside the layout of ${width} by ${height} cells.`);
+    if (outside)
+        throw new ModelRefusal(`${titleOf(outside)} would be outside the layout of ${width} by ${height} cells.`);
     if (fresh.length) this.require(fresh, flying.map(({ line }) => line));
     this.edit("size", (rows) => {
       rows[this.start].text = reworded(rows[this.start].text, `layout ${width} ${height} ${steps}`);
@@ -453,16 +454,17 @@ class Model {
    * limits gets the line that raises them.
    */
   enlarge(left, above, right, below) {
-    if (!this.header) throw new Refusal("The text has no layout whose size is allowed.");
+    if (!this.header) throw new ModelRefusal("The text has no layout whose size is allowed.");
     if (![left, above, right, below].every((count) => Number.isInteger(count) && count >= 0 && count % 2 === 0)) {
-      throw new Refusal("Columns and rows are added by even numbers, so that all balls keep their directions.");
+      throw new ModelRefusal("Columns and rows are added by even numbers, so that all balls keep their directions.");
     }
     const { width, height, steps } = this.header, wide = width + left + right, high = height + above + below;
     const most = Math.max(wide, high);
-    if (most > limits.SECOND.maxSide) throw new Refusal(`A side is at most ${limits.SECOND.maxSide} cells.`);
+    if (most > limits.SECOND.maxSide) throw new ModelRefusal(`A side is at most ${limits.SECOND.maxSide} cells.`);
     this.edit("enlarge", (rows) => {
       rows[this.start].text = reworded(rows[this.start].text, `layout ${wide} ${high} ${steps}`);
-      for (const part of geometry.moved(this.parts, left, above)) rows[part.line].text = reworded(rows[part.line].text,
+      for (const part of geometry.shifted(this.parts, left, above))
+          rows[part.line].text = reworded(rows[part.line].text,
           lineOf(part));
       if (most > this.limits.maxSide) {
         rows[0].text = unmarked(rows[0].text);
@@ -493,13 +495,13 @@ class Model {
    * @param {{layout: Layout, circuit: string[]}} cell @param {number} x @param {number} y @param {boolean} hasWires
    */
   insertCell({ layout, circuit }, x, y, hasWires) {
-    if (x % 2 || y % 2) throw new Refusal("A cell is moved by even numbers of columns and rows.");
+    if (x % 2 || y % 2) throw new ModelRefusal("A cell is moved by even numbers of columns and rows.");
     const names = circuitText.freshNames(circuit, this.circuit.names);
     const steps = Math.max(layout.steps, this.header ? this.header.steps : 0);
     const parts = cellParts(layout, x, y, hasWires ? (name) => names.get(name) : null, steps);
     const flying = hasWires && steps > this.header.steps
       ? this.parts.filter(({ kind }) => kind === "out" || kind === "waste") : [];
-    const fresh = geometry.followed(flying, this.header.steps, steps - this.header.steps);
+    const fresh = geometry.flyOn(flying, this.header.steps, steps - this.header.steps);
     this.require([...parts, ...fresh], flying.map(({ line }) => line));
     return this.edit("cell", (rows) => {
       for (const part of fresh) rows[part.line].text = reworded(rows[part.line].text, lineOf(part));
@@ -520,11 +522,11 @@ function cellParts(layout, x, y, nameOf, steps) {
   const one = (kind, name, cell) => ({ kind, name, box: [cell[0], cell[1], 1, 1], line: -1 });
   const firm = [...layout.mirrors.map((box) => ({ kind: "mirror", name: null, box, line: -1 })),
     ...layout.balls.map((cell) => one("ball", null, cell))];
-  if (nameOf === null) return geometry.moved(firm, x, y);
+  if (nameOf === null) return geometry.shifted(firm, x, y);
   const ins = layout.ins.map(({ name, cell }) => one("in", nameOf(name), cell));
   const late = [...layout.outs.map(({ name, cell }) => one("out", nameOf(name), cell)),
     ...layout.wastes.map((cell) => one("waste", null, cell))];
-  return geometry.moved([...firm, ...ins, ...geometry.followed(late, layout.steps, steps - layout.steps)], x, y);
+  return geometry.shifted([...firm, ...ins, ...geometry.flyOn(late, layout.steps, steps - layout.steps)], x, y);
 }
 
-export { Model, Refusal as ModelRefusal, cellParts };
+export { Model, ModelRefusal, cellParts };

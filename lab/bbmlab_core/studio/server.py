@@ -143,7 +143,7 @@ class Handler(BaseHTTPRequestHandler):
         """Logs nothing."""
 
 
-def studio(port: int | None, answers: Answers) -> Studio:
+def studio_server(port: int | None, answers: Answers) -> Studio:
     """Returns a server at a port.
 
     Without one a file gets the same port each time if it is free, so that the browser finds its drafts again.

@@ -50,7 +50,7 @@ class Sketch extends Stage {
     this.good = null;
     this.takeMirrors();
     if (isOther && this.isFit) this.fit();
-    else this.paint();
+    else this.requestPaint();
   }
 
   /** Draws the waveform, if it is open. */
@@ -63,13 +63,13 @@ class Sketch extends Stage {
   }
 
   /** Draws at the next frame. The layout with its ways is drawn again too. */
-  paint() {
+  requestPaint() {
     this.isStale = true;
-    super.paint();
+    super.requestPaint();
   }
 
   /** Draws at the next frame what changes while one draws: only what lies over the layout. */
-  paintOver() { super.paint(); }
+  requestOver() { super.requestPaint(); }
 
   /**
    * Draws the layout with its ways, and what lies over it. While only that changes, the layout comes from a canvas that
@@ -134,7 +134,7 @@ class Sketch extends Stage {
         list[at + 1], list[at + 2], list[at + 3]);
     this.shownWays = fresh;
     this.tiles.forget(changed);
-    this.paint();
+    this.requestPaint();
   }
 
   /** Draws the ways of the balls in a range of cells, in the colours of their wires. */

@@ -97,7 +97,7 @@ function showTime() {
   element("slider").setAttribute("aria-valuetext", `time ${run.time} of ${steps}`);
   element("time").textContent = `${run.time} of ${steps}`;
   sketch.moveCursor();
-  sketch.paint();
+  sketch.requestPaint();
 }
 
 function showCell() {
@@ -110,7 +110,7 @@ function showEnd() {
   const results = desk.player.results();
   sketch.good = results
     && new Map(results.flatMap(({ cells }) => cells.map(({ cell, isGood }) => [String(cell), isGood])));
-  sketch.paint();
+  sketch.requestPaint();
   sketch.paintWave();
 }
 
@@ -198,7 +198,7 @@ function onArrow(event, [dx, dy]) {
 function pressCursor() {
   if (!sketch.cursor) {
     sketch.cursor = tools.at || [desk.layout.width >> 1, desk.layout.height >> 1];
-    sketch.paint();
+    sketch.requestPaint();
     return;
   }
   if (tools.pressed) {
@@ -349,7 +349,7 @@ function listenToChanges() {
   tools.askLarger = (words, size) => ask("The cell is larger than the layout", [made("p", words)],
     [[`make the layout ${size.join(" by ")}`, () => true], ["cancel", () => null]]);
   verdicts.onInputs = () => panels.showInputs();
-  new ResizeObserver(() => (sketch.isFit ? sketch.fit() : sketch.paint())).observe(canvasParts.whole);
+  new ResizeObserver(() => (sketch.isFit ? sketch.fit() : sketch.requestPaint())).observe(canvasParts.whole);
   new ResizeObserver(() => sketch.paintWave()).observe(canvasParts.waveBox);
   element("wave-part").addEventListener("toggle", () => desk.setWave(element("wave-part").open));
   const { wave } = canvasParts;

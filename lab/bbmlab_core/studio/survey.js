@@ -183,7 +183,7 @@ class Survey {
       next[count + 1] = d;
       count += 2;
     }
-    else if ((la | ld) !== 0) count = this.leave(a, d, count);
+    else if ((la | ld) !== 0) count = this.passOn(a, d, count);
     if (across !== 0) {
       live[b] = lb ^ across;
       live[c] = lc ^ across;
@@ -191,7 +191,7 @@ class Survey {
       next[count + 1] = c;
       count += 2;
     }
-    else if ((lb | lc) !== 0) count = this.leave(b, c, count);
+    else if ((lb | lc) !== 0) count = this.passOn(b, c, count);
     this.nextCount = count;
     if ((diagonal | across) === 0) {
       if ((note & 72) === 64) this.noteBounce(a, any);
@@ -218,7 +218,7 @@ class Survey {
    * Leaves those of two cells that did not change to the next step that are live, and no mirror or no longer one.
    * Returns how many cells it has.
    */
-  leave(one, two, count) {
+  passOn(one, two, count) {
     const { live, isMirror, next } = this;
     if (live[one] !== 0 && isMirror[one] !== 1) {
       next[count] = one;

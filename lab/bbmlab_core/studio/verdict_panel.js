@@ -185,7 +185,7 @@ class VerdictPanel {
     for (const fault of verdict.faults) this.showFault(box, fault);
     this.sketch.faults = this.isCurrent
       ? verdict.faults.filter(({ cell }) => cell).slice(0, MAX_RINGS).map(({ cell }) => cell) : [];
-    this.sketch.paint();
+    this.sketch.requestPaint();
   }
 
   /** Shows the fix of the whole text, or what was tried. */

@@ -6,7 +6,7 @@ Only the program gives a verdict. The lab makes the certificates, the words and 
 from dataclasses import dataclass, field
 from typing import Any
 
-from ..certify.certifier import Plan, certificate_text, certified
+from ..certify.certifier import CertificatePlan, certificate_text, certified
 from ..explain.diagnosis import Diagnosis, Truth
 from ..explain.explaining import explain_report, tried_words
 from ..explain.fixing import Fix, Fixer, outcome_words
@@ -26,7 +26,7 @@ from ..texts.spelling import source_line, spelled
 
 # The most lines of a report for which fixes are looked for one by one, and the most lines that are sent to the page.
 MAX_FIXED, MAX_LINES = 6, 200
-SEARCHED = {"own": "The certificate of the text was checked. The lab found no other one:",
+NO_OTHER_FOUND = {"own": "The certificate of the text was checked. The lab found no other one:",
             "earlier": "The last certificate that got a yes was checked. The lab found no other one:"}
 
 
@@ -140,7 +140,7 @@ class Judge:
         self.inputs = design.circuit.inputs if design.circuit else []
         made = self.certified(design)
         if made.verdict == "none" and first.verdict == "no":
-            first.words += [SEARCHED[first.by], *made.words]
+            first.words += [NO_OTHER_FOUND[first.by], *made.words]
             first.is_last = True
             return first
         return made
@@ -149,14 +149,14 @@ class Judge:
         """Returns the verdict with a certificate that `certify` makes: first without runs of its modules, which the
         program repeats."""
         try:
-            quick = self.judged(certified(design, None, Plan(until=self.until, is_tried=False)), "certify")
+            quick = self.judged(certified(design, None, CertificatePlan(until=self.until, is_tried=False)), "certify")
             if quick.verdict == "yes":
                 return quick
             outcome = Diagnosis(read_document(quick.bundle, "check")).outcome
             if outcome.is_right is Truth.NO:
                 quick.words.append(outcome.words)
                 return quick
-            return self.judged(certified(design, None, Plan(until=self.until)), "certify")
+            return self.judged(certified(design, None, CertificatePlan(until=self.until)), "certify")
         except LabError as error:
             reason = str(error)
             return Verdict("none", [f"{reason[:1].upper()}{reason[1:]}."], "certify")

@@ -43,7 +43,7 @@ ABOUT = {
 
 
 @dataclass(frozen=True)
-class Port:
+class CellPort:
     """A wire at a cell's border: `role` is in, inner, out or spill, and the lead of its ball is at `lead` at the time.
 
     `dx` and `dy` are 1 or -1: the direction of the ball.
@@ -70,7 +70,7 @@ class StandardCell:
 
     name: str
     document: Document
-    ports: list[Port]
+    ports: list[CellPort]
     constants: int
     garbage: int
     mirror_box: tuple[int, int]
@@ -99,15 +99,15 @@ def parts_of(document: Document) -> tuple[Layout, Circuit]:
     return document.layout, document.circuit
 
 
-def port_of(role: str, name: str, time: int, cells: list[Cell]) -> Port:
+def port_of(role: str, name: str, time: int, cells: list[Cell]) -> CellPort:
     """Returns the port whose ball has two cells at a time: the lead is the one ahead in the ball's direction."""
     x, y = cells[0]
     dx, dy = (-1 if (value + time) % 2 else 1 for value in (x, y))
     lead = max(cells, key=lambda cell: (cell[0] * dx, cell[1] * dy))
-    return Port(role, name, lead, dx, dy, time)
+    return CellPort(role, name, lead, dx, dy, time)
 
 
-def ports_of(document: Document) -> list[Port]:
+def ports_of(document: Document) -> list[CellPort]:
     """Returns the ports of a bundle: each wire with stops, at its last stop if it is an input, else at its first."""
     _, circuit = parts_of(document)
     stops: dict[str, dict[int, list[Cell]]] = {}

@@ -268,7 +268,7 @@ class WholeRun {
   }
 
   /** Makes one step in a direction. Only blocks in which one of the last two steps changed a cell can change. */
-  turn(odd, direction) {
+  takeStep(odd, direction) {
     if (this.direction !== direction) this.recent = [this.recent[1], this.recent[0]];
     this.direction = direction;
     const changed = turnBlocks(this.live, this.recent, odd);
@@ -285,7 +285,7 @@ class WholeRun {
   /** Makes the next step, and returns whether there is one and it stays in the rectangle. */
   forward() {
     if (this.time === this.layout.steps || this.leftAt === this.time + 1) return false;
-    this.turn(this.time % 2, 1);
+    this.takeStep(this.time % 2, 1);
     this.time += 1;
     for (const key of this.recent[1]) {
       if (this.live.has(key) && !this.isInside(key)) {
@@ -302,7 +302,7 @@ class WholeRun {
   /** Undoes the last step, and returns whether there was one. */
   backward() {
     if (this.time === 0) return false;
-    this.turn((this.time - 1) % 2, -1);
+    this.takeStep((this.time - 1) % 2, -1);
     this.time -= 1;
     return true;
   }

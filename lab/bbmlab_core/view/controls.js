@@ -15,7 +15,7 @@ const stage = new Stage(player, parts), minimap = new Minimap(stage, element("ma
 const entries = data.explanation ? data.explanation.entries : [];
 const limits = { steps: layout.steps, names: player.names, faults: entries.length };
 // The buttons of the report, which of them is shown, and timers.
-const shown = { buttons: [], entry: null, addressTimer: 0, speechTimer: 0, place: null };
+const pageState = { buttons: [], entry: null, addressTimer: 0, speechTimer: 0, place: null };
 // How long the page waits after a change before it is spoken, and before it is written to the address, in milliseconds.
 const SPEECH_DELAY = 600, ADDRESS_DELAY = 250, PAN_STEP = 40;
 // Larger layouts show the ways at first: their cells are too small to be seen.
@@ -23,9 +23,9 @@ const LARGE_SIDE = 512, MAX_TIMES = 6;
 
 /** Says the state to who can't see it: when it has been still for a while, and not while it plays. */
 function speakSoon() {
-  clearTimeout(shown.speechTimer);
+  clearTimeout(pageState.speechTimer);
   if (player.direction !== 0) return;
-  shown.speechTimer = setTimeout(() => {
+  pageState.speechTimer = setTimeout(() => {
     const words = [`Time ${player.run.time} of ${layout.steps}.`, element("status").textContent,
       panels.resultWords(player)];
     if (player.own) words.push(element("beside-title").textContent, stage.differenceWords());
@@ -37,7 +37,7 @@ function speakSoon() {
 function stateNow() {
   const on = player.names.filter((name) => player.on.has(name));
   const isFirst = on.length === player.first.length && player.first.every((name) => player.on.has(name));
-  const { entry } = shown, { time } = player.run;
+  const { entry } = pageState, { time } = player.run;
   return { time: time > 0 || entry !== null ? time : undefined, on: isFirst && entry === null ? undefined : on,
     zoom: stage.isFit ? undefined : stage.zoomNow(), fault: entry === null ? undefined
       : entry + 1, trails: stage.hasTrails ? undefined : false };
@@ -45,9 +45,9 @@ function stateNow() {
 
 /** Writes the state to the address when it has been still for a while: browsers refuse to do it often. */
 function writeAddressSoon() {
-  clearTimeout(shown.addressTimer);
+  clearTimeout(pageState.addressTimer);
   if (player.direction !== 0) return;
-  shown.addressTimer = setTimeout(() => {
+  pageState.addressTimer = setTimeout(() => {
     const text = address.write(stateNow()), [page] = location.href.split("#");
     // A page that a frame shows may have no address of its own.
     try { history.replaceState(null, "", text ? `${page}#${text}` : page); } catch { return; }
@@ -96,19 +96,20 @@ function showEnd() {
     && new Map(results.flatMap(({ cells }) => cells.map(({ cell, isGood }) => [String(cell), isGood])));
   panels.showResults(player, goToCell);
   showTime();
-  stage.paint();
+  stage.requestPaint();
   stage.paintWave();
 }
 
 /** Shows the cell under the pointer with what there is. */
 function showCell() {
-  stage.pointed = shown.place ? stage.cellAt(...shown.place) : stage.mark;
+  stage.pointed = pageState.place ? stage.cellAt(...pageState.place) : stage.mark;
   element("cell").textContent = stage.pointed ? stage.wordsOf(stage.pointed) : "";
 }
 
 /** Lets the wire under the pointer stand out, or none while the picture moves. */
 function pointAtWire(isMoving) {
-  const found = shown.place && !isMoving && stage.cellAt(...shown.place) ? stage.wireAt(...shown.place) : null;
+  const found = pageState.place && !isMoving && stage.cellAt(...pageState.place) ? stage.wireAt(...pageState.place)
+    : null;
   stage.pointedWire = found && found.wire;
   showWireWords(found);
 }
@@ -123,7 +124,7 @@ function showWireWords(found) {
 /** Shows all ways of the wire whose name was typed. */
 function findWire() {
   const name = element("find-wire-name").value.trim(), wire = stage.wires.byName.get(name);
-  shown.place = null;
+  pageState.place = null;
   pointAtWire(false);
   if (name === "") {
     stage.showWire(null);
@@ -144,7 +145,7 @@ function findWire() {
 function goToCell(x, y) {
   if (x >= layout.width || y >= layout.height) return;
   stage.mark = [x, y];
-  shown.place = null;
+  pageState.place = null;
   stage.lookAt([x + 0.5, y + 0.5], null);
   showCell();
   if (innerWidth <= 800) element("whole").scrollIntoView({ block: "nearest" });
@@ -177,13 +178,13 @@ function closeOwn() {
   player.own = null;
   element("beside").hidden = true;
   if (stage.isFit) stage.fit();
-  else stage.paint();
+  else stage.requestPaint();
 }
 
 /** Notes which line of the report is shown: its button is pressed. */
 function press(number) {
-  shown.entry = number;
-  shown.buttons.forEach((button, index) => button.setAttribute("aria-pressed", String(index === number)));
+  pageState.entry = number;
+  pageState.buttons.forEach((button, index) => button.setAttribute("aria-pressed", String(index === number)));
 }
 
 /** Shows no line of the report. */
@@ -223,11 +224,11 @@ function chooseEntry(number) {
 function nextFault(direction) {
   const faults = entries.flatMap((entry, number) => (entry.is_against ? [number] : []));
   if (faults.length === 0) return;
-  const at = faults.indexOf(shown.entry);
+  const at = faults.indexOf(pageState.entry);
   const number = faults[at < 0 ? (direction > 0 ? 0 : faults.length - 1)
     : (at + direction + faults.length) % faults.length];
   showEntry(number);
-  shown.buttons[number].scrollIntoView({ block: "nearest" });
+  pageState.buttons[number].scrollIntoView({ block: "nearest" });
   if (innerWidth <= 800) element("whole").scrollIntoView({ block: "nearest" });
 }
 
@@ -235,7 +236,7 @@ function nextFault(direction) {
 function setTrails(isOn) {
   stage.hasTrails = isOn;
   element("trails").checked = isOn;
-  stage.paint();
+  stage.requestPaint();
   writeAddressSoon();
 }
 
@@ -345,18 +346,18 @@ function listenToFingers(canvas) {
 function listenToPointers() {
   const { whole, wave } = parts;
   const point = (event) => {
-    shown.place = [event.offsetX, event.offsetY];
+    pageState.place = [event.offsetX, event.offsetY];
     pointAtWire(event.buttons !== 0);
     showCell();
-    stage.paint();
+    stage.requestPaint();
   };
   whole.addEventListener("pointermove", point);
   whole.addEventListener("pointerdown", point);
   whole.addEventListener("pointerleave", (event) => {
     if (event.pointerType !== "mouse") return;
-    shown.place = null;
+    pageState.place = null;
     pointAtWire(false);
-    stage.paint();
+    stage.requestPaint();
   });
   const seek = (event) => { if (event.buttons & 1) {
     player.play(0);
@@ -410,7 +411,7 @@ function listenToChanges() {
     showTime();
     panels.showLines(player, stage.module);
     stage.moveCursor();
-    stage.paint();
+    stage.requestPaint();
     speakSoon();
     writeAddressSoon();
   });
@@ -434,7 +435,7 @@ function listenToChanges() {
   };
   stage.onPaint = showCell;
   stage.onPainted = () => minimap.paint();
-  new ResizeObserver(() => (stage.isFit ? stage.fit() : stage.paint())).observe(parts.whole);
+  new ResizeObserver(() => (stage.isFit ? stage.fit() : stage.requestPaint())).observe(parts.whole);
   new ResizeObserver(() => stage.paintWave()).observe(parts.waveBox);
   matchMedia("(prefers-color-scheme: dark)").addEventListener("change", () => {
     stage.redraw();
@@ -453,6 +454,7 @@ listenToButtons();
 listenToChanges();
 showRate();
 showPlay();
-if (panels.showVerdict(data.explanation, player.modules.length > 0)) shown.buttons = panels.showReport(data.explanation,
+if (panels.showVerdict(data.explanation, player.modules.length > 0))
+    pageState.buttons = panels.showReport(data.explanation,
     chooseEntry, goToCell);
 readAddress();

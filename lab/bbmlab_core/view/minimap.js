@@ -25,7 +25,7 @@ class Minimap {
   /** Puts a place of the small picture into the middle of the large one. */
   go(x, y) {
     this.stage.centre(x / this.scale, y / this.scale, this.stage.scale);
-    this.stage.moved();
+    this.stage.afterMove();
   }
 
   /** Draws it, if the large picture does not show everything. */
@@ -35,7 +35,7 @@ class Minimap {
     if (canvas.hidden) return;
     canvas.style.width = `${Math.ceil(layout.width * scale)}px`;
     canvas.style.height = `${Math.ceil(layout.height * scale)}px`;
-    const place = painting.placeOn(canvas, scale, 0, 0), { pen, inks } = place;
+    const place = painting.clearCanvas(canvas, scale, 0, 0), { pen, inks } = place;
     stage.tiles.paint(place);
     pen.strokeStyle = inks.box;
     pen.lineWidth = 2;

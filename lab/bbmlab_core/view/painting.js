@@ -34,7 +34,7 @@ function wireInks() {
 }
 
 /** Clears a canvas with its real number of pixels. @returns {Place} */
-function placeOn(canvas, scale, left, top) {
+function clearCanvas(canvas, scale, left, top) {
   const ratio = window.devicePixelRatio || 1, wide = canvas.clientWidth, high = canvas.clientHeight;
   const size = { width: Math.max(1, Math.floor(wide * ratio)), height: Math.max(1, Math.floor(high * ratio)) };
   const pen = canvas.getContext("2d");
@@ -482,6 +482,7 @@ function scene(place, shown) {
 }
 
 export {
-  placeOn, inksNow, scene, outline, grid, cells, ports, modules, lines, ring, differences, rulers, rulerStep, trails,
+  clearCanvas, inksNow, scene, outline, grid, cells, ports, modules, lines, ring, differences, rulers, rulerStep,
+    trails,
   bars, wireInks, seenRange, RULER,
 };

@@ -74,7 +74,7 @@ class Player {
    */
   listen(what, action) { this.listeners[what].push(action); }
 
-  tell(what) { for (const action of this.listeners[what]) action(); }
+  notify(what) { for (const action of this.listeners[what]) action(); }
 
   /** Begins the runs again with the inputs that are on, and goes to a time. */
   restart(time = this.target) {
@@ -99,13 +99,13 @@ class Player {
       if (moved) recorder.note(ahead);
     }
     if (moved) {
-      this.tell("progress");
+      this.notify("progress");
       this.aheadTimer = setTimeout(() => this.runAhead(), 0);
       return;
     }
     this.run.leftAt = ahead.leftAt;
     this.isEnded = true;
-    this.tell("end");
+    this.notify("end");
   }
 
   /** Goes to a time: in slices, so that a far one does not stop the page. */
@@ -134,7 +134,7 @@ class Player {
     }, 0);
     else this.target = run.time;
     if (this.own) this.own.seek(run.time);
-    this.tell("time");
+    this.notify("time");
   }
 
   /** Whether the run can go no further in a direction. */
@@ -153,7 +153,7 @@ class Player {
       this.playedAt = performance.now();
       this.playFrame = requestAnimationFrame(() => this.playOn());
     }
-    if (direction !== 0 || wasPlaying) this.tell("play");
+    if (direction !== 0 || wasPlaying) this.notify("play");
   }
 
   /** Makes the steps that are due since the last frame. */
@@ -174,7 +174,7 @@ class Player {
   /** Sets inputs, by their names. */
   setInputs(values) {
     for (const [name, value] of Object.entries(values)) if (value) this.on.add(name); else this.on.delete(name);
-    this.tell("inputs");
+    this.notify("inputs");
   }
 
   /** Opens the run of a module by itself. The bits of an assignment are in order of the cuts. */

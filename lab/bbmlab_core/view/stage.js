@@ -104,7 +104,7 @@ class Stage {
   /** Draws everything again at the next frame, since colours or ways have changed. */
   redraw() {
     this.tiles.clear();
-    this.paint();
+    this.requestPaint();
   }
 
   /** Returns the range of places that is seen: x, y, x, y. */
@@ -123,9 +123,9 @@ class Stage {
     if (wire) {
       const [x, y, w, h] = this.wires.boxOf(wire), { wide, high } = this.room();
       this.centre(x + w / 2, y + h / 2, Math.min(28, wide / (w + 8), high / (h + 8)));
-      this.moved();
+      this.afterMove();
     }
-    this.paint();
+    this.requestPaint();
   }
 
   /** Returns the size of the whole picture, and of its part beside the rulers, in pixels. */
@@ -140,7 +140,7 @@ class Stage {
     this.scale = Math.max(address.MIN_SCALE, Math.min(address.MAX_SCALE, scale));
     this.left = x - (RULER.wide + wide / 2) / this.scale;
     this.top = y - (RULER.high + high / 2) / this.scale;
-    this.paint();
+    this.requestPaint();
   }
 
   /** Returns the scale and the place in the middle. */
@@ -163,20 +163,20 @@ class Stage {
     this.left += x / this.scale - x / scale;
     this.top += y / this.scale - y / scale;
     this.scale = scale;
-    this.moved();
+    this.afterMove();
   }
 
   /** Moves the picture by pixels. */
   pan(x, y) {
     this.left += x / this.scale;
     this.top += y / this.scale;
-    this.moved();
+    this.afterMove();
   }
 
   /** Notes that the picture is no longer fitted. */
-  moved() {
+  afterMove() {
     this.isFit = false;
-    this.paint();
+    this.requestPaint();
     if (this.onMove) this.onMove();
   }
 
@@ -186,7 +186,7 @@ class Stage {
     if (this.scale >= 12) return;
     const { wide, high } = this.room(), side = box ? Math.max(box[2], box[3]) + 8 : 24;
     this.centre(x, y, Math.max(this.scale, Math.min(28, Math.max(8, Math.min(wide, high) / side))));
-    this.moved();
+    this.afterMove();
   }
 
   /** Returns the cell at a place of the canvas, or null beside the layout. @returns {?Cell} */
@@ -212,17 +212,17 @@ class Stage {
   }
 
   /** Draws at the next frame, once however often it is called. */
-  paint() {
+  requestPaint() {
     if (this.frame) return;
     this.frame = requestAnimationFrame(() => {
       this.frame = null;
       if (this.onPaint) this.onPaint();
       this.isWhole = true;
-      this.paintWhole(painting.placeOn(this.parts.whole, this.scale, this.left, this.top));
+      this.paintWhole(painting.clearCanvas(this.parts.whole, this.scale, this.left, this.top));
       if (this.player.own) this.paintOwn();
       if (this.onPainted) this.onPainted();
       // Tiles for which there was no time come with the next frames.
-      if (!this.isWhole) this.paint();
+      if (!this.isWhole) this.requestPaint();
     });
   }
 
@@ -267,7 +267,7 @@ class Stage {
   /** Calls an action with what is seen as a PNG file. */
   png(action) {
     const { whole } = this.parts, canvas = document.createElement("canvas");
-    this.paintWhole(painting.placeOn(whole, this.scale, this.left, this.top), null);
+    this.paintWhole(painting.clearCanvas(whole, this.scale, this.left, this.top), null);
     canvas.width = whole.width;
     canvas.height = whole.height;
     const pen = canvas.getContext("2d");
@@ -275,7 +275,7 @@ class Stage {
     pen.fillRect(0, 0, canvas.width, canvas.height);
     pen.drawImage(whole, 0, 0);
     canvas.toBlob(action, "image/png");
-    this.paint();
+    this.requestPaint();
   }
 
   /** Draws the module's own run, and marks the cells that differ from the whole run. */
@@ -283,7 +283,7 @@ class Stage {
     const canvas = this.parts.own, { own, run } = this.player, [x, y, w, h] = own.module.box;
     const { clientWidth, clientHeight } = canvas;
     const scale = Math.min(48, clientWidth / (w + 4), clientHeight / (h + 4));
-    const place = painting.placeOn(canvas, scale, x + w / 2 - clientWidth / scale / 2,
+    const place = painting.clearCanvas(canvas, scale, x + w / 2 - clientWidth / scale / 2,
       y + h / 2 - clientHeight / scale / 2);
     const heard = own.heardNow().map((key) => own.grid.cellOf(key)), { more, less } = this.differences();
     painting.grid(place, own.module.box, own.time % 2);
@@ -320,7 +320,7 @@ class Stage {
     const { wave, waveBox, waveRest } = this.parts, { probes, recorder, layout, values } = this.player;
     if (wave.clientHeight === 0) return;
     waveRest.style.height = `${Math.max(0, waveform.heightOf(probes) - waveBox.clientHeight)}px`;
-    const place = painting.placeOn(wave, 1, 0, 0);
+    const place = painting.clearCanvas(wave, 1, 0, 0);
     this.axis = waveform.paint(place, { probes, recorder, steps: layout.steps, values, scrolled: waveBox.scrollTop });
     this.moveCursor();
   }

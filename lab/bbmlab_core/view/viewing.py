@@ -9,7 +9,7 @@ from html import escape
 from pathlib import Path
 
 from ..explain.explaining import Explanation
-from ..host.terminal import plain
+from ..host.terminal import escape_controls
 from ..texts import json_form
 from ..texts.documents import Document
 from .page_ways import page_ways
@@ -79,6 +79,6 @@ def page(document: Document, explanation: Explanation | None, title: str) -> str
     assert document.layout
     before, after = source("page.html").split("DATA")
     style, script = source("page.css"), f"\n{joined(ENTRY)}"
-    for mark, text in (("POLICY", policy(style, script)), ("STYLE", style), ("TITLE", escape(plain(title)))):
+    for mark, text in (("POLICY", policy(style, script)), ("STYLE", style), ("TITLE", escape(escape_controls(title)))):
         before = before.replace(mark, text)
     return before + page_data(document, explanation) + after.replace("SCRIPT", script)

@@ -10,7 +10,7 @@ from bbmlab_core.circuits import truth
 from bbmlab_core.circuits.cleaning import clean as clean_lines
 from bbmlab_core.circuits.gate_lines import CircuitLines
 from bbmlab_core.circuits.inverting import inverse as inverse_lines
-from bbmlab_core.circuits.netlists.model import Netlist as CoreNetlist
+from bbmlab_core.circuits.netlists.model import LogicNetlist as CoreNetlist
 from bbmlab_core.circuits.simplifying import simplify as simple_lines
 from bbmlab_core.host.terminal import LabError
 from bbmlab_core.texts import circuits

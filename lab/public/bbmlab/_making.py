@@ -8,7 +8,7 @@ from __future__ import annotations
 from dataclasses import replace
 from typing import Callable, Iterable
 
-from bbmlab_core.certify.certifier import Plan, certified, checked_boxes
+from bbmlab_core.certify.certifier import CertificatePlan, certified, checked_boxes
 from bbmlab_core.circuits.netlists import NetlistError, map_netlist, netlist_format
 from bbmlab_core.circuits.row_check import missing_row
 from bbmlab_core.host.terminal import LabError
@@ -62,7 +62,7 @@ def certify(bundle: Bundle, *, grid: tuple[int, int] | None = None,
     try:
         if grid is not None:
             chosen = checked_boxes(document.layout, *grid)
-        text = certified(document, chosen, Plan(version, cuts, known_stops(bundle)))
+        text = certified(document, chosen, CertificatePlan(version, cuts, known_stops(bundle)))
     except LabError as error:
         raise own_error(error) from error
     try:

@@ -18,7 +18,7 @@ from .comparing import compared, netlist_tables
 from .exchanging import map_exchanges
 from .gate_text import is_gate_text, read_gates
 from .graph import MAX_TABLE_INPUTS, Graph, graph_of, table_literal
-from .model import Netlist, NetlistError, NetlistFormat
+from .model import LogicNetlist, NetlistError, NetlistFormat
 from .pla import read_pla
 from .qasm import read_qasm
 from .real import read_real
@@ -42,7 +42,7 @@ AIGER_HEAD = re.compile(r"a[ai]g [0-9]+ [0-9]+ [0-9]+ [0-9]+ [0-9]+")
 QASM_HEAD = re.compile(r"OPENQASM\b|include\s*\"|qreg\b|qubit\b|creg\b|gate\s+\w+\s*[\w(].*\{")
 # A comment of OpenQASM at the beginning of a text.
 BLOCK_COMMENT = re.compile(r"\A(?:\s|//[^\n]*\n|/\*.*?\*/)+", re.DOTALL)
-READERS: dict[NetlistFormat, Callable[[str], Netlist]] = {
+READERS: dict[NetlistFormat, Callable[[str], LogicNetlist]] = {
     NetlistFormat.BLIF: read_blif, NetlistFormat.YOSYS_JSON: read_yosys_json, NetlistFormat.REAL: read_real,
     NetlistFormat.QASM: read_qasm,
     NetlistFormat.PLA: read_pla, NetlistFormat.AIGER: read_aiger, NetlistFormat.GATES: read_gates,
@@ -107,7 +107,7 @@ def first_words(text: str) -> str:
     return ""
 
 
-def read_netlist(text: str, form: NetlistFormat | None = None) -> Netlist:
+def read_netlist(text: str, form: NetlistFormat | None = None) -> LogicNetlist:
     """Returns the netlist of a text, by its format or the one that the text seems to have.
 
     Raises NetlistError with a sentence for the user if the text is no netlist.
@@ -127,7 +127,7 @@ def map_netlist(text: str, form: NetlistFormat | None = None, reading: Reading =
     return map_read_netlist(read_netlist(text, form or reading.form), reading)
 
 
-def map_read_netlist(netlist: Netlist, reading: Reading = Reading()) -> MappedNetlist:
+def map_read_netlist(netlist: LogicNetlist, reading: Reading = Reading()) -> MappedNetlist:
     """Maps a netlist that was read, as `map_netlist` does."""
     netlist = unrolled(netlist, reading.cycles, reading.has_state_ports)
     if isinstance(netlist, LineNetlist) and netlist.exchanges is not None:
@@ -143,7 +143,7 @@ def map_read_netlist(netlist: Netlist, reading: Reading = Reading()) -> MappedNe
                          circuit)
 
 
-def cheapest_circuit(netlist: Netlist) -> NamedCircuit:
+def cheapest_circuit(netlist: LogicNetlist) -> NamedCircuit:
     """Returns the circuit of a netlist's gates, or that of the tables of its outputs if the netlist is small and the
     circuit is cheaper.
 

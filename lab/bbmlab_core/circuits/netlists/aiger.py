@@ -5,7 +5,7 @@ Wieringa 2011).
 import re
 from dataclasses import replace
 
-from .model import MAX_NODES, Cell, CellNode, Latch, Netlist, NetlistError, TableNode
+from .model import MAX_NODES, Cell, CellNode, Latch, LogicNetlist, NetlistError, TableNode
 
 HEAD = re.compile(r"(aag|aig) ([0-9]{1,9}) ([0-9]{1,9}) ([0-9]{1,9}) ([0-9]{1,9}) ([0-9]{1,9})((?: [0-9]{1,9})*)\n")
 SYMBOL = re.compile(r"^([ilo])([0-9]{1,9}) (.+)$", re.MULTILINE)
@@ -26,7 +26,7 @@ class AigerReader:
         if max(self.and_count, self.input_count, self.output_count, self.latch_count) > MAX_NODES:
             raise NetlistError(f"Line 1: a netlist has at most {MAX_NODES} inputs, latches, outputs and gates.")
         self.text, self.at, self.line = text, head.end(), 2
-        self.netlist = Netlist("")
+        self.netlist = LogicNetlist("")
         self.inverted: set[int] = set()
 
     def numbers(self, count: int, most: int = 0) -> list[int]:
@@ -64,7 +64,7 @@ class AigerReader:
             self.netlist.add(CellNode(name, Cell.NOT, (f" {literal - 1}",)))
         return name
 
-    def read(self) -> Netlist:
+    def read(self) -> LogicNetlist:
         """Returns the netlist."""
         inputs = [2 * at + 2
                   for at in range(self.input_count)] if self.is_binary else [self.numbers(1)[0]
@@ -110,12 +110,14 @@ class AigerReader:
                 raise NetlistError("The binary part of the file is wrong.")
         return gates
 
-    def renamed(self, inputs: list[int], names: dict[tuple[str, int], str], outputs: list[tuple[str, str]]) -> Netlist:
+    def renamed(self, inputs: list[int], names: dict[tuple[str, int], str],
+                outputs: list[tuple[str, str]]) -> LogicNetlist:
         """Returns the netlist with the names of its inputs and outputs."""
         own = {f" {literal}": names.get(("i", at), f"i{at}") for at, literal in enumerate(inputs)}
         if len(set(own.values())) != len(own) or len({name for name, _ in outputs}) != len(outputs):
             raise NetlistError("Two inputs or two outputs have one name.")
-        netlist = Netlist("", inputs=list(own.values()), outputs=[(name, own.get(net, net)) for name, net in outputs])
+        netlist = LogicNetlist("", inputs=list(own.values()),
+                               outputs=[(name, own.get(net, net)) for name, net in outputs])
         netlist.latches = [replace(latch, data=own.get(latch.data, latch.data)) for latch in self.netlist.latches]
         for node in self.netlist.nodes.values():
             ins = tuple(own.get(net, net) for net in node.inputs)
@@ -126,6 +128,6 @@ class AigerReader:
         return netlist
 
 
-def read_aiger(text: str) -> Netlist:
+def read_aiger(text: str) -> LogicNetlist:
     """Returns the netlist of an AIGER file. Raises NetlistError if it is wrong."""
     return AigerReader(text).read()

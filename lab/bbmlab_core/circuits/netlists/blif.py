@@ -4,7 +4,7 @@ import re
 from collections import Counter
 from typing import Iterator
 
-from .model import MAX_PORTS, Latch, Netlist, NetlistError, TableNode
+from .model import MAX_PORTS, Latch, LogicNetlist, NetlistError, TableNode
 
 # Lines that say nothing on the values: attributes of yosys, and timing.
 SKIPPED = {".attr", ".param", ".cname", ".area", ".delay", ".wire_load_slope", ".wire", ".input_arrival",
@@ -48,7 +48,7 @@ class BlifReader:
     """Reads the lines of one model."""
 
     def __init__(self) -> None:
-        self.netlist = Netlist("")
+        self.netlist = LogicNetlist("")
         self.outputs: list[str] = []
         self.table: tuple[int, list[str]] | None = None
         self.rows: list[tuple[str, str]] = []
@@ -126,7 +126,7 @@ class BlifReader:
                                    value))
         self.table, self.rows = None, []
 
-    def finish(self) -> Netlist:
+    def finish(self) -> LogicNetlist:
         """Returns the netlist after its last line."""
         self.end_table()
         inputs = self.netlist.inputs
@@ -143,7 +143,7 @@ class BlifReader:
         return self.netlist
 
 
-def read_blif(text: str) -> Netlist:
+def read_blif(text: str) -> LogicNetlist:
     """Returns the netlist of a BLIF text. Raises NetlistError at the first line that is not read."""
     reader = BlifReader()
     for number, words in word_lines(text):

@@ -2,7 +2,7 @@
 
 from ...texts.circuits import Circuit, evaluate_under, sampled_tables
 from ...texts.gates import input_tables
-from .model import Cell, CellNode, Netlist, NetlistError, TableNode
+from .model import Cell, CellNode, LogicNetlist, NetlistError, TableNode
 
 # Up to so many inputs all choices are tried, and above them so many samples.
 MAX_ALL = 16
@@ -35,7 +35,7 @@ def node_table(node: TableNode, full: Table, ins: list[Table]) -> Table:
     return fits if node.value else full & ~fits
 
 
-def netlist_tables(netlist: Netlist, tables: dict[str, Table], full: Table) -> dict[str, Table]:
+def netlist_tables(netlist: LogicNetlist, tables: dict[str, Table], full: Table) -> dict[str, Table]:
     """Returns the table of each net on which outputs depend, from those of the inputs."""
     found = dict(tables)
     for node in netlist.sorted_nodes():
@@ -45,7 +45,7 @@ def netlist_tables(netlist: Netlist, tables: dict[str, Table], full: Table) -> d
     return found
 
 
-def compared(netlist: Netlist, circuit: Circuit) -> str:
+def compared(netlist: LogicNetlist, circuit: Circuit) -> str:
     """Returns in which inputs the circuit has the outputs of the netlist, in words.
 
     Raises NetlistError where it has others.

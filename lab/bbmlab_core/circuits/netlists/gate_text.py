@@ -8,7 +8,7 @@ import re
 
 from ...texts.lines import NAME
 from ...texts.spelling import free_words
-from .model import MAX_PORTS, Cell, CellNode, Netlist, NetlistError, TableNode
+from .model import MAX_PORTS, Cell, CellNode, LogicNetlist, NetlistError, TableNode
 
 # Gates of two or more inputs: the cell that joins two of them, and the last one.
 JOINED = {"and": (Cell.AND, Cell.AND), "or": (Cell.OR, Cell.OR), "xor": (Cell.XOR, Cell.XOR),
@@ -43,7 +43,7 @@ class GateReader:
     """Reads the lines."""
 
     def __init__(self) -> None:
-        self.netlist = Netlist("")
+        self.netlist = LogicNetlist("")
         self.known: set[str] = set()
         self.outputs: set[str] = set()
         self.number = self.made = 0
@@ -148,7 +148,7 @@ class GateReader:
             raise self.wrong(f"no earlier line defines `{name[:40]}`")
 
 
-def read_gates(text: str) -> Netlist:
+def read_gates(text: str) -> LogicNetlist:
     """Returns the netlist of a text of gates. Raises NetlistError at the first line that is wrong."""
     reader, has_ended = GateReader(), False
     for number, line in enumerate(text.split("\n"), 1):

@@ -10,7 +10,7 @@ from typing import Callable
 
 from ...texts.gates import input_tables
 from ...texts.limits import SECOND
-from .model import Cell, CellNode, Netlist, NetlistError, TableNode
+from .model import Cell, CellNode, LogicNetlist, NetlistError, TableNode
 
 MAX_GRAPH_NODES = 200_000
 # Tables of more inputs become sums of products.
@@ -86,7 +86,7 @@ class Graph:
             if left in (TRUE, right):
                 return right
             simpler = self._absorbed(left, right) or self._absorbed(right, left)
-        joined = self._joined(left, right) if left & 1 and right & 1 else None
+        joined = self._join_literal(left, right) if left & 1 and right & 1 else None
         return self.literal(Kind.AND, left, right) if joined is None else joined ^ 1
 
     def _absorbed(self, one: Literal, other: Literal) -> tuple[Literal, Literal] | None:
@@ -108,7 +108,7 @@ class Graph:
             return one, rest ^ (other & 1) ^ (~one & 1)
         return None
 
-    def _joined(self, left: Literal, right: Literal) -> Literal | None:
+    def _join_literal(self, left: Literal, right: Literal) -> Literal | None:
         """Returns the literal of the join whose inverse "left and right" is, if the inverses of both exclude each
         other."""
         first, second = self.conjuncts(left ^ 1), self.conjuncts(right ^ 1)
@@ -116,9 +116,9 @@ class Graph:
         if not common or not (self.product(left ^ 1) and self.product(right ^ 1)):
             return None
         select = next((literal for literal in common if self.nodes[literal >> 1].kind is Kind.XOR), common[0])
-        return self._select(select, left ^ 1, right ^ 1)
+        return self._select_literal(select, left ^ 1, right ^ 1)
 
-    def _select(self, select: Literal, high: Literal, low: Literal) -> Literal:
+    def _select_literal(self, select: Literal, high: Literal, low: Literal) -> Literal:
         """Returns "high or low", where `high` implies `select` and `low` excludes it."""
         factors = self.product(high), self.product(low)
         if all(factors) and factors[0] and factors[1]:
@@ -166,7 +166,7 @@ class Graph:
         first, second = self.and_(select, high), self.and_(select ^ 1, low)
         if FALSE in (first, second) or first == select or second == select ^ 1:
             return self.or_(first, second)
-        return self._select(select, first, second)
+        return self._select_literal(select, first, second)
 
     def needed(self) -> list[int]:
         """Returns the nodes on which the outputs depend, each after its inputs."""
@@ -295,7 +295,7 @@ def cell_literal(graph: Graph, cell: Cell, inputs: list[Literal]) -> Literal:
     return rules[cell]()
 
 
-def graph_of(netlist: Netlist) -> Graph:
+def graph_of(netlist: LogicNetlist) -> Graph:
     """Returns the graph of a netlist.
 
     Raises NetlistError at a loop, at a net without a driver, and where the logic is too large.

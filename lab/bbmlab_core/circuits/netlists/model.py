@@ -102,7 +102,7 @@ class Latch:
 
 
 @dataclass
-class Netlist:
+class LogicNetlist:
     """A netlist. `outputs` are pairs of a port's name and the net that drives it. Without latches it is combinational.
     """
 

@@ -2,7 +2,7 @@
 
 import re
 
-from .model import MAX_PORTS, Netlist, NetlistError, TableNode
+from .model import MAX_PORTS, LogicNetlist, NetlistError, TableNode
 
 NUMBER = re.compile(r"[0-9]{1,9}\Z")
 SKIPPED = {".p", ".phase", ".pair", ".mv"}
@@ -46,7 +46,7 @@ class PlaReader:
                                "`1`, `-` and `~`.")
         self.rows.append((product, values))
 
-    def finish(self) -> Netlist:
+    def finish(self) -> LogicNetlist:
         """Returns the netlist. An output that no row asks for is 0; values that do not matter are 0 too."""
         if ".i" not in self.counts or ".o" not in self.counts:
             raise NetlistError("A PLA has the lines `.i` and `.o`.")
@@ -55,7 +55,7 @@ class PlaReader:
         if len(ins) != self.counts[".i"] or len(outs) != self.counts[".o"] or len(set(ins)) + len(set(outs)) != len(
             ins) + len(outs):
             raise NetlistError("`.ilb` and `.ob` name each input and each output once.")
-        netlist = Netlist("", inputs=ins)
+        netlist = LogicNetlist("", inputs=ins)
         for at, name in enumerate(outs):
             rows = tuple(dict.fromkeys(product for product, values in self.rows if values[at] == "1"))
             netlist.add(TableNode(f" {name}", tuple(ins), rows, True))
@@ -63,7 +63,7 @@ class PlaReader:
         return netlist
 
 
-def read_pla(text: str) -> Netlist:
+def read_pla(text: str) -> LogicNetlist:
     """Returns the netlist of a PLA. Raises NetlistError at the first line that is wrong."""
     reader = PlaReader()
     for number, line in enumerate(text.split("\n"), 1):

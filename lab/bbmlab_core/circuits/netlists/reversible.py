@@ -5,7 +5,7 @@ Sources: Toffoli 1980 and Fredkin and Toffoli 1982 for the gates; Peres 1985 for
 
 from dataclasses import dataclass, field
 
-from .model import MAX_NODES, Cell, CellNode, Netlist, NetlistError, TableNode
+from .model import MAX_NODES, Cell, CellNode, LogicNetlist, NetlistError, TableNode
 
 # A control: a line, and the value at which it lets the gate act.
 Control = tuple[str, bool]
@@ -21,7 +21,7 @@ class Exchange:
 
 
 @dataclass
-class LineNetlist(Netlist):
+class LineNetlist(LogicNetlist):
     """A netlist that was made of gates on lines.
 
     `exchanges` has them if all only exchange lines, which is conservative.

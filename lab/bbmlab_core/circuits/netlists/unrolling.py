@@ -2,10 +2,10 @@
 
 from dataclasses import replace
 
-from .model import MAX_NODES, MAX_PORTS, CellNode, Latch, Netlist, NetlistError, Node, TableNode
+from .model import MAX_NODES, MAX_PORTS, CellNode, Latch, LogicNetlist, NetlistError, Node, TableNode
 
 
-def unrolled(netlist: Netlist, cycles: int | None, has_state_ports: bool) -> Netlist:
+def unrolled(netlist: LogicNetlist, cycles: int | None, has_state_ports: bool) -> LogicNetlist:
     """Returns the logic of some cycles of a machine. A netlist without latches stays as it is, and takes no number of
     cycles.
 
@@ -36,7 +36,7 @@ def unrolled(netlist: Netlist, cycles: int | None, has_state_ports: bool) -> Net
                     order).run(cycles, has_state_ports)
 
 
-def ordered(core: Netlist, clock: str | None) -> list[Node]:
+def ordered(core: LogicNetlist, clock: str | None) -> list[Node]:
     """Returns the nodes of one cycle in order. Raises NetlistError if the clock is used as a bit."""
     driven = next((name for name in core.inputs if name in core.nodes), None)
     if driven is not None:
@@ -49,7 +49,7 @@ def ordered(core: Netlist, clock: str | None) -> list[Node]:
     return order
 
 
-def require_names(netlist: Netlist) -> None:
+def require_names(netlist: LogicNetlist) -> None:
     """Raises NetlistError if two stored bits have one name or one net."""
     for kind, names in (("name", [latch.name for latch in netlist.latches]),
                         ("net", [latch.output for latch in netlist.latches])):
@@ -60,7 +60,7 @@ def require_names(netlist: Netlist) -> None:
             seen.add(name)
 
 
-def clock_of(netlist: Netlist) -> str | None:
+def clock_of(netlist: LogicNetlist) -> str | None:
     """Returns the input that is the clock of all latches, or None if it is not written.
 
     Raises NetlistError if there are two clocks or edges, or if the clock is made by logic.
@@ -87,11 +87,11 @@ def clock_of(netlist: Netlist) -> str | None:
 class Unroller:
     """Adds one cycle after the other."""
 
-    def __init__(self, netlist: Netlist, order: list[Node]) -> None:
+    def __init__(self, netlist: LogicNetlist, order: list[Node]) -> None:
         self.netlist, self.order = netlist, order
-        self.result = Netlist(netlist.name, notes=list(netlist.notes))
+        self.result = LogicNetlist(netlist.name, notes=list(netlist.notes))
 
-    def run(self, cycles: int, has_state_ports: bool) -> Netlist:
+    def run(self, cycles: int, has_state_ports: bool) -> LogicNetlist:
         """Returns the netlist of all cycles."""
         state = {latch.output: self.first(latch, has_state_ports) for latch in self.netlist.latches}
         for cycle in range(cycles):

@@ -5,7 +5,7 @@ import re
 from dataclasses import replace
 from typing import Any
 
-from .model import MAX_PORTS, PORTS, Cell, CellNode, Latch, Netlist, NetlistError, TableNode
+from .model import MAX_PORTS, PORTS, Cell, CellNode, Latch, LogicNetlist, NetlistError, TableNode
 
 MAX_LUT_WIDTH = 8
 SIMPLE_CELLS = {cell.value: cell for cell in Cell}
@@ -49,7 +49,7 @@ class ModuleReader:
     """Reads the ports and the cells of a module."""
 
     def __init__(self, name: str, module: Any) -> None:
-        self.netlist, self.module = Netlist(name), module
+        self.netlist, self.module = LogicNetlist(name), module
         self.made = 0
 
     def net_of(self, bit: Any, where: str) -> str:
@@ -210,7 +210,7 @@ def parameter_number(value: Any) -> int:
     return int(value.replace("x", "0"), 2)
 
 
-def read_yosys_json(text: str) -> Netlist:
+def read_yosys_json(text: str) -> LogicNetlist:
     """Returns the netlist of a JSON document of yosys.
 
     Raises NetlistError if it is none, or has more than simple cells.
