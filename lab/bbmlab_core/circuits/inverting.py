@@ -3,8 +3,9 @@ Toffoli 1982).
 """
 
 from ..host.terminal import LabError
+from ..texts import sections
 from ..texts.circuits import Circuit, Valuation, evaluate, evaluate_samples
-from .gate_lines import CircuitLines, GateLine, source_line
+from .gate_lines import read_circuit, source_line
 from .row_check import missing_row
 
 # Up to so many inputs all choices are tried, and above them so many samples.
@@ -34,7 +35,7 @@ def choice_words(values: Valuation, name: str, bit: int) -> str:
     return f"with {' '.join(on[:12])}{' and more' if len(on) > 12 else ''} on" if on else "with no input on"
 
 
-def inverse(circuit: Circuit) -> CircuitLines:
+def inverse(circuit: Circuit) -> sections.Circuit:
     """Returns the inverse of a circuit. Its inputs are the outputs, and its constants the garbage, which must not
     change.
 
@@ -46,19 +47,20 @@ def inverse(circuit: Circuit) -> CircuitLines:
     """
     require_rows(circuit, "the circuit")
     values = values_of(circuit)
-    lines = CircuitLines(list(circuit.outputs), outputs=list(circuit.inputs))
+    gates = []
     for name in circuit.spills:
         bit = constant_bit(values, name)
         if bit is None:
             raise LabError(f"there is no inverse: the garbage `{name}` is 1 {choice_words(values, name, 1)} and 0 "
                            f"{choice_words(values, name, 0)}, so no "
                            "constant can take its place. Make it an output", 1)
-        lines.gates.append(source_line(bit, name))
-    lines.gates += [GateLine(INVERSES[gate.word], gate.parameter, tuple(gate.outs), tuple(gate.ins))
+        gates.append(source_line(bit, name))
+    gates += [sections.Gate(INVERSES[gate.word], tuple(gate.outs), tuple(gate.ins), gate.parameter)
                     for gate in reversed(circuit.gates) if gate.word != "source"]
-    lines.spills = [gate.outs[0] for gate in circuit.gates if gate.word == "source"]
-    require_constants(circuit, lines.circuit())
-    return lines
+    spills = tuple(gate.outs[0] for gate in circuit.gates if gate.word == "source")
+    back = sections.Circuit(tuple(circuit.outputs), tuple(gates), tuple(circuit.inputs), spills)
+    require_constants(circuit, read_circuit(back))
+    return back
 
 
 def require_rows(circuit: Circuit, what: str) -> None:

@@ -4,9 +4,10 @@ Outputs keep their values.
 Each wire gets a literal, by the rules of `netlists.graph`: wires with one literal always have one value.
 """
 
+from ..texts import sections
 from ..texts.circuits import Circuit
 from .cones import keeping_cone
-from .gate_lines import CircuitLines, GateLine, payload
+from .gate_lines import payload, read_circuit
 from .inverting import require_rows
 from .netlists.graph import FALSE, TRUE, Graph, Literal
 
@@ -19,27 +20,28 @@ class ConstantFolder:
     """One pass from the first gate to the last: folds constants, and removes pairs of gates of which the second undoes
     the first."""
 
-    def __init__(self, lines: CircuitLines) -> None:
+    def __init__(self, lines: sections.Circuit) -> None:
         self.before = lines
-        self.graph = Graph(lines.inputs)
+        self.graph = Graph(list(lines.inputs))
         self.literals: dict[str, Literal] = {name: 2 * at + 2 for at, name in enumerate(lines.inputs)}
-        self.gates: list[GateLine | None] = []
+        self.gates: list[sections.Gate | None] = []
         # Wires that became another wire, the place of the gate that makes a wire, and wires that nothing uses.
         self.became: dict[str, str] = {}
         self.place: dict[str, int] = {}
         self.dropped: list[str] = []
 
-    def run(self) -> CircuitLines:
+    def run(self) -> sections.Circuit:
         """Returns the circuit after the pass."""
         for gate in self.before.gates:
             ins = [self.wire(name) for name in gate.ins]
             if not self.is_folded(gate, ins) and not self.is_undone(gate, ins):
-                self.emit(gate.word, gate.parameter, ins, gate.outs)
-        gates = [GateLine(gate.word, gate.parameter, tuple(map(self.wire, gate.ins)), gate.outs) for gate in self.gates
+                self.emit(gate.kind, gate.parameter, ins, gate.outs)
+        gates = [sections.Gate(gate.kind, tuple(map(self.wire, gate.ins)), gate.outs, gate.parameter)
+                 for gate in self.gates
                  if gate is not None]
-        spills = [self.wire(name) for name in [*self.before.spills, *self.dropped]]
-        return with_names(CircuitLines(list(self.before.inputs), gates,
-                                       [self.wire(name) for name in self.before.outputs], spills), self.before.outputs)
+        outputs, spills = (tuple(map(self.wire, names)) for names in (
+            self.before.outputs, (*self.before.spills, *self.dropped)))
+        return with_names(sections.Circuit(self.before.inputs, tuple(gates), outputs, spills), self.before.outputs)
 
     def wire(self, name: str) -> str:
         """Returns what a wire became."""
@@ -62,7 +64,7 @@ class ConstantFolder:
     def emit(self, word: str, parameter: int | None, ins: list[str], outs: tuple[str, ...]) -> None:
         """Adds a gate."""
         self.place.update((name, len(self.gates)) for name in outs)
-        self.gates.append(GateLine(word, parameter, tuple(ins), outs))
+        self.gates.append(sections.Gate(word, tuple(ins), outs, parameter))
         self.literals.update(zip(outs, self.values(word, parameter, [self.literals[name] for name in ins])))
 
     def values(self, word: str, parameter: int | None, ins: list[Literal]) -> list[Literal]:
@@ -84,25 +86,25 @@ class ConstantFolder:
             return [ins[0], graph.or_(ins[1], ins[2])]
         return [graph.or_(ins[0], ins[2]), graph.or_(ins[0], ins[1])]
 
-    def is_folded(self, gate: GateLine, ins: list[str]) -> bool:
+    def is_folded(self, gate: sections.Gate, ins: list[str]) -> bool:
         """Replaces a gate whose inputs are constant, alike or opposite. Returns whether it did."""
         outs, known = list(gate.outs), [self.literals[name] for name in ins]
-        if gate.word == "delay" and known[0] in (FALSE, TRUE):
+        if gate.kind == "delay" and known[0] in (FALSE, TRUE):
             self.alias(outs, ins)
-        elif gate.word == "switch":
+        elif gate.kind == "switch":
             return self.is_switch_folded(outs, ins, known)
-        elif gate.word == "interact":
+        elif gate.kind == "interact":
             return self.is_interact_folded(outs, ins, known)
-        elif gate.word in ("fredkin", "cswap"):
-            return self.is_fredkin_folded(outs if gate.word == "fredkin" else [outs[0], outs[2], outs[1]], ins, known)
-        elif gate.word == "unswitch" and (known[0] in (FALSE, TRUE) or FALSE in known[1:]):
+        elif gate.kind in ("fredkin", "cswap"):
+            return self.is_fredkin_folded(outs if gate.kind == "fredkin" else [outs[0], outs[2], outs[1]], ins, known)
+        elif gate.kind == "unswitch" and (known[0] in (FALSE, TRUE) or FALSE in known[1:]):
             taken = 1 if known[0] == TRUE or known[0] != FALSE and known[2] == FALSE else 2
             self.dropped.append(ins[3 - taken])
             self.alias(outs, [ins[0], ins[taken]])
-        elif gate.word == "uninteract" and FALSE in (known[0], known[3]):
+        elif gate.kind == "uninteract" and FALSE in (known[0], known[3]):
             self.dropped += [ins[0], ins[3]]
             self.alias(outs, [ins[2], ins[1]])
-        elif gate.word == "uninteract" and known[1] == known[2] == FALSE:
+        elif gate.kind == "uninteract" and known[1] == known[2] == FALSE:
             self.dropped += [ins[1], ins[2]]
             self.alias(outs, [ins[0], ins[3]])
         else:
@@ -159,20 +161,20 @@ class ConstantFolder:
             return False
         return True
 
-    def is_undone(self, gate: GateLine, ins: list[str]) -> bool:
+    def is_undone(self, gate: sections.Gate, ins: list[str]) -> bool:
         """Removes a gate and the earlier one that it undoes. Returns whether it did."""
-        parts = ins[1:] if gate.word in ("switch", "unswitch", "fredkin", "cswap") else ins
+        parts = ins[1:] if gate.kind in ("switch", "unswitch", "fredkin", "cswap") else ins
         places = {self.place.get(name, -1) for name in parts}
         [place] = places if len(places) == 1 else [-1]
         before = self.gates[place] if place >= 0 else None
         if before is None or not parts:
             return False
         now, wires = [self.wire(name) for name in before.ins], [self.wire(name) for name in before.outs]
-        control = before.word in ("switch", "unswitch", "fredkin", "cswap")
+        control = before.kind in ("switch", "unswitch", "fredkin", "cswap")
         if control and self.literals[now[0]] | 1 != self.literals[ins[0]] | 1:
             return False
         is_opposite = control and self.literals[now[0]] != self.literals[ins[0]]
-        found = exchanged(before.word, gate.word, parts == wires[control:], parts[::-1] == wires[control:], is_opposite)
+        found = exchanged(before.kind, gate.kind, parts == wires[control:], parts[::-1] == wires[control:], is_opposite)
         if found is None:
             return False
         back = now[control:] if found else now[control:][::-1]
@@ -199,23 +201,23 @@ def exchanged(first: str, second: str, is_same: bool, is_turned: bool, is_opposi
     return True if {first, second} == {"interact", "uninteract"} and is_same else None
 
 
-def with_names(lines: CircuitLines, wanted: list[str]) -> CircuitLines:
+def with_names(lines: sections.Circuit, wanted: tuple[str, ...]) -> sections.Circuit:
     """Returns a circuit whose outputs have the wanted names. A delay names an input that leaves at once."""
     renamed = {found: name for found, name in zip(lines.outputs, wanted) if found != name and found not in lines.inputs}
-    late = [GateLine("delay", 1, (found,), (name,)) for found,
+    delays = [sections.Gate("delay", (found,), (name,), 1) for found,
             name in zip(lines.outputs, wanted) if found != name and found in lines.inputs]
 
     def names(old: tuple[str, ...]) -> tuple[str, ...]:
         """Returns the new names of some wires."""
         return tuple(renamed.get(name, name) for name in old)
 
-    gates = [GateLine(gate.word, gate.parameter, names(gate.ins), names(gate.outs)) for gate in lines.gates]
-    return CircuitLines(lines.inputs, gates + late, list(wanted), list(names(tuple(lines.spills))))
+    gates = [sections.Gate(gate.kind, names(gate.ins), names(gate.outs), gate.parameter) for gate in lines.gates]
+    return sections.Circuit(lines.inputs, (*gates, *delays), wanted, names(lines.spills))
 
 
-def without_dead(lines: CircuitLines) -> CircuitLines:
+def without_dead(lines: sections.Circuit) -> sections.Circuit:
     """Returns a circuit without the gates of which nothing is used but the control that they hand on."""
-    spare, became, kept = set(lines.spills), dict[str, str](), list[GateLine]()
+    spare, became, kept = set(lines.spills), dict[str, str](), list[sections.Gate]()
     order = list(lines.spills)
     for gate in reversed(lines.gates):
         own, unused = payload(gate), gate.outs[:len(gate.outs) - len(payload(gate))]
@@ -235,22 +237,23 @@ def without_dead(lines: CircuitLines) -> CircuitLines:
             name = became[name]
         return name
 
-    gates = [GateLine(gate.word, gate.parameter, tuple(map(wire, gate.ins)), gate.outs) for gate in reversed(kept)]
-    spills = [name for name in dict.fromkeys(order) if name in spare]
-    return with_names(CircuitLines(lines.inputs, gates, [wire(name) for name in lines.outputs], spills), lines.outputs)
+    gates = [sections.Gate(gate.kind, tuple(map(wire, gate.ins)), gate.outs, gate.parameter) for gate in reversed(kept)]
+    spills = tuple(name for name in dict.fromkeys(order) if name in spare)
+    outputs = tuple(map(wire, lines.outputs))
+    return with_names(sections.Circuit(lines.inputs, tuple(gates), outputs, spills), lines.outputs)
 
 
-def literals_of(lines: CircuitLines) -> dict[str, Literal]:
+def literals_of(lines: sections.Circuit) -> dict[str, Literal]:
     """Returns the literal of each wire."""
     folder = ConstantFolder(lines)
     for gate in lines.gates:
         folder.literals.update(zip(gate.outs,
-                                   folder.values(gate.word, gate.parameter,
+                                   folder.values(gate.kind, gate.parameter,
                                                  [folder.literals[name] for name in gate.ins])))
     return folder.literals
 
 
-def shared(lines: CircuitLines) -> CircuitLines:
+def shared(lines: sections.Circuit) -> sections.Circuit:
     """Returns a circuit in which garbage takes the place of wires with its values, if a gate is dead then."""
     literals, spare = literals_of(lines), list(lines.spills)
     born = {name: at for at, gate in enumerate(lines.gates) for name in gate.outs}
@@ -262,22 +265,22 @@ def shared(lines: CircuitLines) -> CircuitLines:
     for gate in reversed(lines.gates):
         used = [name for name in payload(gate) if name not in spare]
         found: dict[str, str] = {}
-        for name in used if gate.word != "source" else []:
+        for name in used if gate.kind != "source" else []:
             last = taker.get(name, len(lines.gates))
             fits = [other for other in pool.get(literals[name], []) if born.get(other, -1) < last
                     and other not in payload(gate) and other not in found.values()
                     and (name in taker or other in born)]
             if fits:
                 found[name] = fits[0]
-        if used and len(found) == len(used) and gate.word != "source":
+        if used and len(found) == len(used) and gate.kind != "source":
             swaps = {**found, **{other: name for name, other in found.items()}}
             break
     return exchange(lines, swaps)
 
 
-def exchange(lines: CircuitLines, swaps: dict[str, str]) -> CircuitLines:
+def exchange(lines: sections.Circuit, swaps: dict[str, str]) -> sections.Circuit:
     """Returns a circuit in which those who use pairs of wires use the other one."""
-    gates = [GateLine(gate.word, gate.parameter, tuple(swaps.get(name, name) for name in gate.ins), gate.outs)
+    gates = [sections.Gate(gate.kind, tuple(swaps.get(name, name) for name in gate.ins), gate.outs, gate.parameter)
              for gate in lines.gates]
     outputs, spills = ([swaps.get(name, name) for name in names] for names in (lines.outputs, lines.spills))
     # An output keeps its name: the two wires of such a pair exchange their names.
@@ -288,8 +291,8 @@ def exchange(lines: CircuitLines, swaps: dict[str, str]) -> CircuitLines:
         """Returns wires under their new names."""
         return tuple(names.get(name, name) for name in old)
 
-    gates = [GateLine(gate.word, gate.parameter, named(gate.ins), named(gate.outs)) for gate in gates]
-    return CircuitLines(lines.inputs, gates, lines.outputs, list(named(tuple(spills))))
+    gates = [sections.Gate(gate.kind, named(gate.ins), named(gate.outs), gate.parameter) for gate in gates]
+    return sections.Circuit(lines.inputs, tuple(gates), lines.outputs, named(tuple(spills)))
 
 
 def kept_count(circuit: Circuit) -> int:
@@ -298,28 +301,28 @@ def kept_count(circuit: Circuit) -> int:
     return sum(keeping_cone(circuit, number) is not None for number in inverse) if len(inverse) <= MAX_SEARCHED else 0
 
 
-def passes(lines: CircuitLines, may_share: bool) -> CircuitLines:
+def passes(lines: sections.Circuit, may_share: bool) -> sections.Circuit:
     """Returns a circuit after passes that change it no more."""
     for _ in range(MAX_PASSES):
-        before = lines.text()
+        before = lines
         lines = without_dead(ConstantFolder(lines).run())
         lines = without_dead(shared(lines)) if may_share else lines
-        if lines.text() == before:
+        if lines == before:
             break
     return lines
 
 
-def simplify(circuit: Circuit) -> CircuitLines:
+def simplify(circuit: Circuit) -> sections.Circuit:
     """Returns a smaller circuit with the same outputs. Copies are not shared if an inverse gate would have no cone that
     keeps it then.
 
     Raises LabError if the circuit has no values at some inputs.
     """
     require_rows(circuit, "the circuit")
-    lines = CircuitLines.of(circuit)
+    lines = sections.circuit_of(circuit)
     for may_share in (True, False):
         found = passes(lines, may_share)
-        result = found.circuit()
+        result = read_circuit(found)
         lost = sum(gate.is_inverse for gate in result.gates) - kept_count(result)
         if not lost or lost <= sum(gate.is_inverse for gate in circuit.gates) - kept_count(circuit):
             return found

@@ -10,13 +10,14 @@ from ..circuits import truth
 from ..circuits.aiger_form import aiger_text
 from ..circuits.circuit_forms import blif_text, dot_text, verilog_text
 from ..circuits.cleaning import clean
-from ..circuits.gate_lines import CircuitLines
+from ..circuits.gate_lines import read_circuit
 from ..circuits.inverting import inverse, values_of
 from ..circuits.line_forms import qasm_text, real_text
 from ..circuits.netlists import Reading
 from ..circuits.simplifying import simplify
 from ..host.terminal import LabError, read_text, write_bytes, write_text
 from ..route.command import circuit_of
+from ..texts import sections
 from ..texts.circuits import Circuit, evaluate_under
 from ..texts.documents import read_document
 from ..texts.limits import limits_for, with_line
@@ -32,7 +33,7 @@ def run_circuit(options: argparse.Namespace) -> int:
     try:
         for change in changes(options):
             lines, before = change(circuit), circuit
-            text, circuit = lines.text(), lines.circuit()
+            text, circuit = sections.text_of(lines), read_circuit(lines)
             if before.outputs:
                 print(f"bbmlab: the new circuit was compared with the one before {compared(change, before, circuit)}",
                       file=sys.stderr)
@@ -45,7 +46,7 @@ def run_circuit(options: argparse.Namespace) -> int:
     return 0
 
 
-def compared(change: Callable[[Circuit], CircuitLines], before: Circuit, after: Circuit) -> str:
+def compared(change: Callable[[Circuit], sections.Circuit], before: Circuit, after: Circuit) -> str:
     """Returns in which inputs a changed circuit has the values that it should have, in words.
 
     Raises LabError where it has others.
@@ -66,7 +67,7 @@ def returns_inputs(before: Circuit, after: Circuit) -> tuple[str, str]:
     return ("" if wrong is None else f"it does not give `{wrong}` back"), values.scope
 
 
-def changes(options: argparse.Namespace) -> list[Callable[[Circuit], CircuitLines]]:
+def changes(options: argparse.Namespace) -> list[Callable[[Circuit], sections.Circuit]]:
     """Returns what a circuit is put through, in order.
 
     To `simplify` the second half of a clean circuit is dead, so it comes before.

@@ -15,10 +15,10 @@ from bbmlab_core.host import program as programs
 from bbmlab_core.texts.documents import command_for, read_document
 from bbmlab_core.texts.refusals import explain_code, explain_refusal
 from bbmlab_core.texts.reports import ReportError, parse_report
+from bbmlab_core.texts.sections import Bundle
 
 from ._errors import ProgramError, RefusedError
 from ._reading import characters
-from ._sections import Bundle
 
 STATUSES = {0: "yes", 1: "no"}
 COLOUR = re.compile(r"\033\[\d*m")

@@ -8,16 +8,16 @@ from typing import Callable, NamedTuple
 from bbmlab_core.circuits import netlists as core
 from bbmlab_core.circuits import truth
 from bbmlab_core.circuits.cleaning import clean as clean_lines
-from bbmlab_core.circuits.gate_lines import CircuitLines
+from bbmlab_core.circuits.gate_lines import read_circuit
 from bbmlab_core.circuits.inverting import inverse as inverse_lines
 from bbmlab_core.circuits.netlists.model import LogicNetlist as CoreNetlist
 from bbmlab_core.circuits.simplifying import simplify as simple_lines
 from bbmlab_core.host.terminal import LabError
 from bbmlab_core.texts import circuits
+from bbmlab_core.texts.sections import Bundle, Circuit, circuit_of, text_of
 
 from ._errors import NotFoundError
-from ._reading import characters, circuit_of, document_of, text_of
-from ._sections import Bundle, Circuit
+from ._reading import characters, document_of
 
 
 @dataclass(frozen=True)
@@ -86,12 +86,14 @@ def model_of(circuit: Circuit | str) -> circuits.Circuit:
     return found
 
 
-def changed(circuit: Circuit, change: Callable[[circuits.Circuit], CircuitLines]) -> Circuit:
+def changed(circuit: Circuit, change: Callable[[circuits.Circuit], Circuit]) -> Circuit:
     """Returns what a change makes of a circuit."""
     try:
-        return circuit_of(change(model_of(circuit)).circuit())
+        found = change(model_of(circuit))
+        read_circuit(found)
     except LabError as error:
         raise NotFoundError(str(error)) from error
+    return found
 
 
 def inverse(circuit: Circuit) -> Circuit:

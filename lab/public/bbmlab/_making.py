@@ -20,11 +20,11 @@ from bbmlab_core.texts import boxes as core_boxes
 from bbmlab_core.texts.certificates import StopLine
 from bbmlab_core.texts.documents import read_document
 from bbmlab_core.texts.limits import sections_after_line
+from bbmlab_core.texts.sections import Bundle, Circuit, text_of
 from bbmlab_core.texts.spelling import spelled
 
 from ._errors import NotFoundError, RefusedError
-from ._reading import document_of, read, text_of
-from ._sections import Bundle, Circuit
+from ._reading import document_of, read
 
 # The status of a LabError for wrong arguments.
 WRONG_ARGUMENTS = 2

@@ -5,9 +5,9 @@ from __future__ import annotations
 from typing import Iterable, Iterator, NamedTuple
 
 from bbmlab_core.physics.simulation import ModuleRun, WholeRun, run_layout
+from bbmlab_core.texts.sections import Bundle, Cell, Layout, text_of
 
-from ._reading import document_of, text_of
-from ._sections import Bundle, Cell, Layout
+from ._reading import document_of
 
 
 class State(NamedTuple):

@@ -1,14 +1,20 @@
-"""The sections of a text as values that do not change. `str` writes the text of a section."""
+"""The sections of a text as values that do not change, for the lab's tools and for its API. `str` writes a section.
+
+The readers keep more: the line of each part, and of a text that is refused what came before. `bundle_of` and its kin
+make values of what they read.
+"""
 
 from __future__ import annotations
 
 from dataclasses import dataclass, replace
 from typing import NamedTuple
 
-from bbmlab_core.texts.circuits import WITH_PARAMETER, CircuitReader
-from bbmlab_core.texts.gates import GATE_SIZES
-from bbmlab_core.texts.limits import FIRST, SECOND
-from bbmlab_core.texts.lines import match_form
+from . import certificates, circuits, layouts
+from .circuits import WITH_PARAMETER, CircuitReader
+from .documents import Document
+from .gates import GATE_SIZES
+from .limits import FIRST, SECOND, limits_for
+from .lines import match_form
 
 Cell = tuple[int, int]
 
@@ -241,3 +247,58 @@ class Bundle:
         assign = None if self.on is None else section_text(["assign", *(f"on {name}" for name in self.on)])
         return front + "".join(str(section) for section in (self.circuit, self.layout, assign, self.certificate)
                                if section is not None)
+
+
+def text_of(section: Circuit | Layout) -> str:
+    """Returns the text of a circuit or a layout alone, after the line that raises its limits if one asks for it."""
+    if isinstance(section, Layout):
+        limits = limits_for(max(section.width, section.height), section.steps)
+    else:
+        limits = limits_for(gates=len(section.gates),
+                            wires=len(section.inputs) + sum(len(gate.outs) for gate in section.gates))
+    return limits.head + str(section)
+
+
+def circuit_of(circuit: circuits.Circuit) -> Circuit:
+    """Returns the values of a circuit that was read."""
+    gates = (Gate(gate.word, tuple(gate.ins), tuple(gate.outs), gate.parameter) for gate in circuit.gates)
+    return Circuit(tuple(circuit.inputs), tuple(gates), tuple(circuit.outputs), tuple(circuit.spills))
+
+
+def ports_of(parts: list[layouts.Part]) -> tuple[Port, ...]:
+    """Returns `in` or `out` cells."""
+    return tuple(Port(part.name or "", part.x, part.y) for part in parts)
+
+
+def layout_of(layout: layouts.Layout) -> Layout:
+    """Returns the values of a layout that was read."""
+    mirrors = tuple(Box(part.x, part.y, part.width, part.height) for part in layout.of_kind("mirror"))
+    balls, wastes = (tuple(part.cell for part in layout.of_kind(kind)) for kind in ("ball", "waste"))
+    return Layout(layout.width, layout.height, layout.steps, mirrors, balls, ports_of(layout.of_kind("in")),
+                  ports_of(layout.of_kind("out")), wastes)
+
+
+def borders_of(lines: list[certificates.BorderLine]) -> tuple[Border, ...]:
+    """Returns `edge` or `halo` lines."""
+    return tuple(Border(line.time, line.x, line.y, line.signal) for line in lines)
+
+
+def module_of(module: certificates.Module) -> Module:
+    """Returns the values of a module that was read."""
+    box = Box(module.box.x, module.box.y, module.box.width, module.box.height)
+    stops = tuple(Stop(stop.time, stop.name, stop.x, stop.y) for stop in module.stops)
+    return Module(box, tuple(module.cuts), tuple(module.uses), tuple(module.keeps), borders_of(module.edges),
+                  borders_of(module.halos), stops)
+
+
+def certificate_of(certificate: certificates.Certificate) -> Certificate:
+    """Returns the values of a certificate that was read."""
+    return Certificate(certificate.version, tuple(map(module_of, certificate.modules)))
+
+
+def bundle_of(document: Document) -> Bundle:
+    """Returns the values of a text that was read."""
+    return Bundle(None if document.circuit is None else circuit_of(document.circuit),
+                  None if document.layout is None else layout_of(document.layout),
+                  None if document.certificate is None else certificate_of(document.certificate),
+                  None if document.on is None else tuple(document.on), document.limits.number)
