@@ -154,9 +154,9 @@ class Maker:
         for y in range(box.y, box.y + box.height):
             for x in range(box.x, box.x + box.width):
                 if self.observer.names_at(key_of((x, y))) is None:
-                    return (f"each line through the rectangle {box} meets a cell without a wire: "
+                    return (f"each line through the rectangle {box.words} meets a cell without a wire: "
                             f"{self.observer.unnamed_words(key_of((x, y)))}")
-        return f"the rectangle {box} can't be cut further"
+        return f"the rectangle {box.words} can't be cut further"
 
     # ---- one module
 
@@ -170,7 +170,7 @@ class Maker:
         module.edges, module.halos = self.border_lines("edge", ring), self.border_lines("halo", halo)
         module.stops = [stop for stop in self.stops if box.has(stop.cell)]
         if len(module.edges) + max(len(module.halos), len(module.stops)) > MAX_BORDER_LINES:
-            raise NoBoxError(f"the box {box} takes more than {MAX_BORDER_LINES} lines")
+            raise NoBoxError(f"the box {box.words} takes more than {MAX_BORDER_LINES} lines")
         needed = {line.signal for line in (*module.edges, *module.halos)} - {"1"}
         inside = keys_of(box)
         needed |= {self.ports[key] for key in self.ports.keys() & inside} | {stop.name for stop in module.stops}
@@ -183,8 +183,10 @@ class Maker:
                 if fault is None:
                     return module
         if fault is None:
-            raise NoBoxError(f"the box {box} needs {len(needed)} wires, and no cuts that were tried fit one module")
-        raise NoBoxError(f"with the last cuts that were tried the cell ({fault.x}, {fault.y}) in the box {box} is "
+            raise NoBoxError(f"the box {box.words} needs {len(needed)} wires, and no cuts that were tried fit one "
+                             "module")
+        raise NoBoxError(
+            f"with the last cuts that were tried the cell ({fault.x}, {fault.y}) in the box {box.words} is "
                          f"wrong at time {fault.time}")
 
     def border_lines(self, kind: str, keys: list[int]) -> list[BorderLine]:
@@ -333,7 +335,7 @@ def certificate_text(certificate: Certificate) -> str:
     """Writes a certificate section."""
     lines = [f"certificate {certificate.version}"]
     for module in certificate.modules:
-        lines.append(f"module {module.box}")
+        lines.append(f"module {module.box.words}")
         lines += [f"cut {name}" for name in module.cuts]
         lines += [f"use {number}" for number in sorted(module.uses)]
         lines += [f"keep {number}" for number in sorted(module.keeps)]

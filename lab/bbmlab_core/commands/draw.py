@@ -52,7 +52,7 @@ def view_of(look: Look, layout: Layout) -> Box | None:
     box = look.crop
     right, bottom = min(box.x + box.width, layout.width), min(box.y + box.height, layout.height)
     if right <= box.x or bottom <= box.y:
-        raise LabError(f"the part {box} lies outside the layout of {layout.width} by {layout.height} cells")
+        raise LabError(f"the part {box.words} lies outside the layout of {layout.width} by {layout.height} cells")
     return Box(box.x, box.y, right - box.x, bottom - box.y)
 
 

@@ -120,14 +120,14 @@ def explain_local(diagnosis: Diagnosis, finding: Finding) -> Entry:
     found, want = ("dead", "live") if wanted.is_live else ("live", "dead")
     last = ", the last time," if finding.values["kind"] == "end" else ""
     entry = Entry(finding.text, True, [
-        f"Module {module.number} (line {module.line}, box {module.box}) was run by itself with {names}.",
+        f"Module {module.number} (line {module.line}, box {module.box.words}) was run by itself with {names}.",
         f"At time {time}{last} the cell {shown(cell)} is {found} and should be {want}: {wanted.why}.",
         occurrence_words(diagnosis, occurrence, names)], line=wanted.line)
     entry.facts = {"module": module.number, "module_line": module.line, "kind": finding.values["kind"], "time": time,
                    "cell": list(cell),
                    "assignment": values, "found": found, "wanted": want, "occurs": occurrence.occurs.json,
                    "inputs": occurrence.inputs,
-                   "text": wanted.text, "box": [module.box.x, module.box.y, module.box.width, module.box.height]}
+                   "text": wanted.text, "box": list(module.box)}
     if diagnosis.detailed is not None and finding.text not in diagnosis.detailed:
         return entry
     live, heard = diagnosis.module_state(module, assignment, time)

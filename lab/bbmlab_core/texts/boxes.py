@@ -1,14 +1,12 @@
 """Boxes of cells: their rings and halos."""
 
-from dataclasses import dataclass
-from typing import Iterator
+from typing import Iterator, NamedTuple
 
 from .layouts import Cell, Layout, Part, cells_of
 
 
-@dataclass(frozen=True)
-class Box:
-    """A rectangle with its upper left cell at (x, y)."""
+class Box(NamedTuple):
+    """A rectangle of cells with its upper left cell at (x, y)."""
 
     x: int
     y: int
@@ -45,8 +43,9 @@ class Box:
         """Returns the cells around the box."""
         return Box(self.x - 1, self.y - 1, self.width + 2, self.height + 2).ring()
 
-    def __str__(self) -> str:
-        """Writes the box as its line does."""
+    @property
+    def words(self) -> str:
+        """The box as its line has it."""
         return f"{self.x} {self.y} {self.width} {self.height}"
 
 

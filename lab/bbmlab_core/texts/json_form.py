@@ -40,7 +40,7 @@ def layout_json(layout: Layout) -> dict[str, Any]:
 def module_json(module: Module) -> dict[str, Any]:
     """Returns a module as JSON values. The time `*` is null."""
     box = module.box
-    return {"box": [box.x, box.y, box.width, box.height], "cuts": module.cuts, "uses": list(module.uses),
+    return {"box": list(box), "cuts": module.cuts, "uses": list(module.uses),
             "keeps": list(module.keeps),
             "edges": [[line.time, line.x, line.y, line.signal] for line in module.edges],
             "halos": [[line.time, line.x, line.y, line.signal] for line in module.halos],

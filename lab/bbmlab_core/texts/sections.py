@@ -10,22 +10,13 @@ from dataclasses import dataclass, replace
 from typing import NamedTuple
 
 from . import certificates, circuits, layouts
+from .boxes import Box
 from .circuits import WITH_PARAMETER, CircuitReader
 from .documents import Document
 from .gates import GATE_SIZES
+from .layouts import Cell
 from .limits import FIRST, SECOND, limits_for
 from .lines import match_form
-
-Cell = tuple[int, int]
-
-
-class Box(NamedTuple):
-    """A rectangle of cells with its upper left cell at (x, y)."""
-
-    x: int
-    y: int
-    width: int
-    height: int
 
 
 class Port(NamedTuple):
@@ -148,7 +139,7 @@ class Layout:
         """Writes the section."""
         return section_text([
             f"layout {self.width} {self.height} {self.steps}",
-            *(f"mirror {box.x} {box.y} {box.width} {box.height}" for box in self.mirrors),
+            *(f"mirror {box.words}" for box in self.mirrors),
             *(f"ball {x} {y}" for x, y in self.balls), *(f"in {name} {x} {y}" for name, x, y in self.ins),
             *(f"out {name} {x} {y}" for name, x, y in self.outs), *(f"waste {x} {y}" for x, y in self.wastes)])
 
@@ -203,8 +194,7 @@ class Module:
 
     def __str__(self) -> str:
         """Writes the module's lines."""
-        box = self.box
-        lines = [f"module {box.x} {box.y} {box.width} {box.height}", *(f"cut {name}" for name in self.cuts),
+        lines = [f"module {self.box.words}", *(f"cut {name}" for name in self.cuts),
                  *(f"use {gate}" for gate in self.uses), *(f"keep {gate}" for gate in self.keeps),
                  *(border_words("edge", line) for line in self.edges),
                  *(border_words("halo", line) for line in self.halos),
@@ -285,9 +275,8 @@ def borders_of(lines: list[certificates.BorderLine]) -> tuple[Border, ...]:
 
 def module_of(module: certificates.Module) -> Module:
     """Returns the values of a module that was read."""
-    box = Box(module.box.x, module.box.y, module.box.width, module.box.height)
     stops = tuple(Stop(stop.time, stop.name, stop.x, stop.y) for stop in module.stops)
-    return Module(box, tuple(module.cuts), tuple(module.uses), tuple(module.keeps), borders_of(module.edges),
+    return Module(module.box, tuple(module.cuts), tuple(module.uses), tuple(module.keeps), borders_of(module.edges),
                   borders_of(module.halos), stops)
 
 

@@ -10,8 +10,8 @@ from bbmlab_core import VERSION as __version__
 # Only for the types: nothing of it is imported when the package is.
 TYPE_CHECKING = False
 if TYPE_CHECKING:
-    from bbmlab_core.texts.sections import (Border, Box, Bundle, Certificate, Circuit, Gate, Layout, Module, Port,
-                                            Stop)
+    from bbmlab_core.texts.boxes import Box
+    from bbmlab_core.texts.sections import Border, Bundle, Certificate, Circuit, Gate, Layout, Module, Port, Stop
 
     from ._asking import Explanation, Finding, Report, check, explain
     from ._circuits import (Comparison, Netlist, Row, clean, equivalent, inverse, read_netlist, simplify, stats, table,
@@ -37,8 +37,9 @@ _HOMES = {
     "_making": ("certify", "route"),
     "_reading": ("read",),
     "_running": ("State", "local_run", "simulate"),
-    "bbmlab_core.texts.sections": ("Border", "Box", "Bundle", "Certificate", "Circuit", "Gate", "Layout", "Module",
-                                   "Port", "Stop"),
+    "bbmlab_core.texts.boxes": ("Box",),
+    "bbmlab_core.texts.sections": ("Border", "Bundle", "Certificate", "Circuit", "Gate", "Layout", "Module", "Port",
+                                   "Stop"),
 }
 
 # A type checker takes the imports above, so that it finds misspelt names.

@@ -16,7 +16,7 @@ from bbmlab_core.route.certificate import circuit_section
 from bbmlab_core.route.command import check_side, require_all_keeps
 from bbmlab_core.route.search import Options, Search
 from bbmlab_core.route.settings import Settings
-from bbmlab_core.texts import boxes as core_boxes
+from bbmlab_core.texts.boxes import Box
 from bbmlab_core.texts.certificates import StopLine
 from bbmlab_core.texts.documents import read_document
 from bbmlab_core.texts.limits import sections_after_line
@@ -58,7 +58,7 @@ def certify(bundle: Bundle, *, grid: tuple[int, int] | None = None,
         raise ValueError("cuts are auto or safe, and the version is 1 or 2")
     document = document_of(str(replace(bundle, certificate=None, on=None)), "design")
     assert document.layout is not None
-    chosen = [core_boxes.Box(*box) for box in boxes] if boxes is not None else None
+    chosen = [Box(*box) for box in boxes] if boxes is not None else None
     try:
         if grid is not None:
             chosen = checked_boxes(document.layout, *grid)
