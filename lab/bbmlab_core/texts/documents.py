@@ -47,12 +47,6 @@ def decode(data: bytes) -> str:
     return data.decode("latin-1")
 
 
-def sections_of(text: str) -> list[str]:
-    """Returns the headers of a text in their order."""
-    words = (line.split(" ")[0] for line in text.split("\n"))
-    return [word for word in words if word in HEADERS]
-
-
 def command_for(text: str) -> str:
     """Returns the command of the program that the text is meant for, by its sections.
 
