@@ -1014,8 +1014,7 @@ def is_expected(message: str) -> bool:
     A second tab with an address that was used is told that its token counts no more, and goes on with the key of the
     first.
     """
-    is_of_killed_server = "net::ERR_" in message or "NetworkError: Failed to execute 'importScripts'" in message
-    return (is_of_killed_server
+    return ("net::ERR_" in message
             or "/api/enter - Failed to load resource: the server responded with a status of 403" in message)
 
 

@@ -1,6 +1,6 @@
 /**
  * The layout on the desk: its model and its run, again at each change. A worker runs it for the ways of its balls and
- * its truth table. Adds `Desk`.
+ * its truth table.
  */
 import { Player } from "../view/player.js";
 import * as geometry from "./geometry.js";

@@ -1,6 +1,6 @@
 /**
  * Asks the server. Each request carries the key, which the page gets once for the token in its address, and the number
- * of the tab. Adds `server`.
+ * of the tab.
  */
 
 const TAB = "bbmlab tab", KEY = "bbmlab key";
@@ -8,11 +8,13 @@ const TAB = "bbmlab tab", KEY = "bbmlab key";
 const TAB_DELAY = 500;
 const lockOf = (tab) => `${TAB} ${tab}`;
 
-/** Holds the lock of a tab's number until the page is closed. Resolves to whether no other page holds it. */
-function hold(tab) {
+/**
+ * Holds the lock of a tab's number until the page is closed. Resolves to whether no other page holds it, as far as the
+ * options let it wait.
+ */
+function hold(tab, options = {}) {
   return new Promise((resolve) => {
-    const signal = AbortSignal.timeout(TAB_DELAY);
-    navigator.locks.request(lockOf(tab), { signal }, () => {
+    navigator.locks.request(lockOf(tab), options, () => {
       resolve(true);
       return new Promise(() => {});
     }).catch(() => resolve(false));
@@ -25,7 +27,7 @@ function hold(tab) {
  */
 async function tabNow() {
   const old = sessionStorage.getItem(TAB);
-  if (old && (!navigator.locks || await hold(old))) return old;
+  if (old && (!navigator.locks || await hold(old, { signal: AbortSignal.timeout(TAB_DELAY) }))) return old;
   const fresh = crypto.randomUUID();
   sessionStorage.setItem(TAB, fresh);
   if (navigator.locks) await hold(fresh);
