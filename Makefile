@@ -4,6 +4,7 @@
 #   make help         prints these lines
 #   make install [PREFIX=/usr/local] [DESTDIR=..] [PROGRAM=..]    the program and the lab, man pages, completions and pages
 #   make uninstall [PREFIX=..] [DESTDIR=..]          removes them
+#   make test         the worked cases, and the lab's quick tests, in about a minute (needs Python 3.11 or later)
 #   make check        the worked cases and the commands that the pages show (needs Python 3.11 or later)
 #   make dist         dist/bbmcheck-VERSION-x86_64-linux-gnu.tar.gz, and one for x86_64-v3, the same bytes each time
 #   make deb          dist/bbmcheck_VERSION_amd64.deb and dist/bbmlab_VERSION_all.deb (needs dpkg-deb)
@@ -22,7 +23,7 @@ quoted = $(subst ','\'',$1)
 top := $(call quoted,$(shell list='$(call quoted,$(MAKEFILE_LIST))'; dirname -- "$${list# }"))
 room = $(call quoted,$(DESTDIR)$(PREFIX))
 
-.PHONY: all help install uninstall check dist deb prove release mostlyclean clean
+.PHONY: all help install uninstall test check dist deb prove release mostlyclean clean
 
 all:
 	'$(top)/bbmcheck' --wrapper-program
@@ -37,6 +38,9 @@ install:
 uninstall:
 	'$(top)/tools/package/install_files' uninstall_lab '$(room)'
 	'$(top)/tools/package/install_files' uninstall '$(room)'
+
+test:
+	'$(top)/tools/dev' test "$$('$(top)/bbmcheck' --wrapper-program)"
 
 check:
 	@python3 -c 'import sys; sys.exit(sys.version_info < (3, 11))' 2>/dev/null || \

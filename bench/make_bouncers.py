@@ -1,9 +1,11 @@
 #!/usr/bin/env python3
-"""make_bouncers.py SIDE STEPS [APART] [--extent WIDTH HEIGHT]: writes a bundle of 512 by 512 cells in modules of SIDE by SIDE cells, which
-gets a yes. It is the same bundle each time. A larger one, up to 4096 by 4096 cells, begins with the line `limits 2`.
+"""make_bouncers.py SIDE STEPS [APART] [--extent WIDTH HEIGHT]: writes a bundle of 512 by 512 cells in modules of SIDE
+by SIDE cells, which gets a yes. It is the same bundle each time. A larger one, up to 4096 by 4096 cells, begins with
+the line `limits 2`.
 
-Balls run to and fro on diagonals that are APART columns apart (24 by default), each between two mirrors of its own, over the borders of
-modules. Each ball is an input that ends as an output of the same name. So the layout is mostly empty, and most of the text is border lines.
+Balls run to and fro on diagonals that are APART columns apart (24 by default), each between two mirrors of its own,
+over the borders of modules. Each ball is an input that ends as an output of the same name. So the layout is mostly
+empty, and most of the text is border lines.
 """
 import argparse
 import random
@@ -27,9 +29,11 @@ def turned(live, time):
         block = [(x, y), (x + 1, y), (x, y + 1), (x + 1, y + 1)]
         ul, ur, ll, lr = (cell in live for cell in block)
         if (ul or lr) and not (ur or ll):
-            block = [cell for cell, is_live in zip(block, (lr, False, False, ul)) if is_live] if ul != lr else [block[1], block[2]]
+            block = [cell for cell, is_live in zip(block, (lr, False, False, ul))
+                     if is_live] if ul != lr else [block[1], block[2]]
         elif (ur or ll) and not (ul or lr):
-            block = [cell for cell, is_live in zip(block, (False, ll, ur, False)) if is_live] if ur != ll else [block[0], block[3]]
+            block = [cell for cell, is_live in zip(block, (False, ll, ur, False))
+                     if is_live] if ur != ll else [block[0], block[3]]
         else:
             block = [cell for cell in block if cell in live]
         after.update(block)
@@ -56,7 +60,8 @@ def is_inside(x, y, side):
 
 
 def first_inside(y, diagonal, down, side, height):
-    """The first even row from y on where a mirror that is `down` rows off is away from the borders of modules, or one outside."""
+    """The first even row from y on where a mirror that is `down` rows off is away from the borders of modules, or one
+    outside."""
     return next((v for v in range(y, height, 2) if is_inside(v + diagonal, v + down, side)), height)
 
 
@@ -109,7 +114,8 @@ def bundle(rng, side, steps, apart, extent):
     lines = ["limits 2"] if max(extent) > MAX_EXTENT else []
     lines += ["circuit", *(f"input {name}" for name, _ in ins), *(f"output {name}" for name, _ in outs), "end"]
     lines += [f"layout {width} {height} {steps}", *(f"mirror {x} {y} 2 2" for x, y in mirrors)]
-    lines += [f"in {name} {x} {y}" for name, (x, y) in ins] + [f"out {name} {x} {y}" for name, (x, y) in outs] + ["end", "certificate 1"]
+    lines += [f"in {name} {x} {y}" for name, (x, y) in ins] + [f"out {name} {x} {y}" for name,
+                                                               (x, y) in outs] + ["end", "certificate 1"]
     for v in range(height // side):
         for u in range(width // side):
             lines.append(f"module {u * side} {v * side} {side} {side}")

@@ -1,6 +1,6 @@
 #!/usr/bin/env python3
-"""make_circuit.py: writes a text for `bbmcheck value` at the limits, 1023 collision gates and 4094 wires with names of 32
-bytes, and both inputs on."""
+"""make_circuit.py: writes a text for `bbmcheck value` at the limits, 1023 collision gates and 4094 wires with names of
+32 bytes, and both inputs on."""
 from collections import deque
 
 FREE = deque()

@@ -1,10 +1,11 @@
 #!/usr/bin/env python3
-"""make_gates.py grid [WIDTH HEIGHT] | channel: writes a bundle of 512 by 512 cells in 1024 modules of 16 by 16 cells, which gets a yes. It
-is the same bundle each time.
+"""make_gates.py grid [WIDTH HEIGHT] | channel: writes a bundle of 512 by 512 cells in 1024 modules of 16 by 16 cells,
+which gets a yes. It is the same bundle each time.
 
-grid: 256 collisions of two balls, each in the corner of four modules, 15 steps. channel: 16 channels of two long mirrors, in each of which
-three balls of two cells run to the right over the borders of modules, 440 steps. A grid of up to 4096 by 4096 cells begins with the line
-`limits 2`, and has collisions at five of eight such corners, since more would make too many wires.
+grid: 256 collisions of two balls, each in the corner of four modules, 15 steps. channel: 16 channels of two long
+mirrors, in each of which three balls of two cells run to the right over the borders of modules, 440 steps. A grid of up
+to 4096 by 4096 cells begins with the line `limits 2`, and has collisions at five of eight such corners, since more
+would make too many wires.
 """
 import sys
 from collections import defaultdict

@@ -1,9 +1,10 @@
 #!/usr/bin/env python3
 """make_hostile.py KIND [half|full|half_2|full_2] > text, or make_hostile.py --list
 
-Writes a text that costs as much as it can for its size, at half its size or (left out) at its full one. The last two sizes begin with the
-line `limits 2`: 256 MiB, or the largest count of what makes the text costly. It is the same text each time. Nothing here depends on the
-program's output. `bench/README.md` says what each text costs. Each kind is one function below, with the commands that read its text.
+Writes a text that costs as much as it can for its size, at half its size or (left out) at its full one. The last two
+sizes begin with the line `limits 2`: 256 MiB, or the largest count of what makes the text costly. It is the same text
+each time. Nothing here depends on the program's output. `bench/README.md` says what each text costs. Each kind is one
+function below, with the commands that read its text.
 """
 import random
 import sys
@@ -50,7 +51,8 @@ class Scale:
         return ["limits 2"] if self.is_second else []
 
 
-SCALES = {"half": Scale(False, True), "full": Scale(False, False), "half_2": Scale(True, True), "full_2": Scale(True, False)}
+SCALES = {"half": Scale(False, True), "full": Scale(False, False), "half_2": Scale(True, True),
+          "full_2": Scale(True, False)}
 
 
 def joined(*parts: Lines) -> Iterator[str]:
@@ -68,7 +70,8 @@ def boxes(w, h, a, b):
 
 def bundle(scale, layout, parts, modules, circuit=(), version=1):
     middle = ["end", "layout %d %d %d" % layout]
-    return joined(scale.begin(), ["circuit"], circuit, middle, parts, ["end", f"certificate {version}"], modules, ["end"])
+    return joined(scale.begin(), ["circuit"], circuit, middle, parts, ["end", f"certificate {version}"], modules,
+                  ["end"])
 
 
 def ring(x, y, w, h):
@@ -87,7 +90,8 @@ def halo_cells(w, h, box):
 def timed(kind, places, steps, most, signal):
     """The first lines of one kind for these cells, by time: at most so many."""
     most = min(most, len(places) * (steps // 2))
-    return [f"{kind} {2 * (k // len(places)) + 1} {u} {v} {signal}" for k in range(most) for u, v in [places[k % len(places)]]]
+    return [f"{kind} {2 * (k // len(places)) + 1} {u} {v} {signal}" for k in range(most) for u,
+            v in [places[k % len(places)]]]
 
 
 def stops(places, most, name):
@@ -110,8 +114,8 @@ def table_hash(state):
 
 
 def alike_names(count, is_alike, length=8):
-    """Names that a table with the kit's fixed hash would keep in few places: they differ in their last letters, and their hash, which
-    takes a name byte by byte, is tested."""
+    """Names that a table with the kit's fixed hash would keep in few places: they differ in their last letters, and
+    their hash, which takes a name byte by byte, is tested."""
     found, by = [], FACTOR ^ 2
     begun = fold(START ^ length, FACTOR ^ 16)
     last = [(letter, letter * 0x10101) for letter in LETTERS]
@@ -133,7 +137,8 @@ def alike_names(count, is_alike, length=8):
 
 
 def alike_cells(w, h, count):
-    """Cells that a table with the kit's fixed hash would keep in few places: those with the least hashes by the table's own size."""
+    """Cells that a table with the kit's fixed hash would keep in few places: those with the least hashes by the table's
+    own size."""
     groups = 1
     while 9 * groups < count:
         groups *= 2
@@ -179,7 +184,8 @@ def run_ports(scale):
 def run_mirrors(scale):
     """run: each cell but the corners a mirror of its own, and 4096 steps."""
     side, height = scale.side, scale.of(512, 3072)
-    lines = (f"mirror {x} {y} 1 1" for x, y in cells(side, height) if x not in (0, side - 1) or y not in (0, height - 1))
+    lines = (f"mirror {x} {y} 1 1" for x, y in cells(side, height) if x not in (0, side - 1)
+             or y not in (0, height - 1))
     return joined(scale.begin(), [f"layout {side} {height} 4096"], lines, ["end", "assign", "end"])
 
 
@@ -188,7 +194,8 @@ def run_balls(scale):
     side, height, rng = scale.side, scale.height, random.Random(1984)
     walls = [(2, 1, side - 4, 2), (2, height - 3, side - 4, 2), (2, 3, 2, height - 6), (side - 4, 3, 2, height - 6)]
     balls = (f"ball {x} {y}" for y in range(3, height - 3) for x in range(4, side - 4) if rng.random() < 0.5)
-    return joined(scale.begin(), [f"layout {side} {height} 4096"], ("mirror %d %d %d %d" % wall for wall in walls), balls, ["end", "assign", "end"])
+    return joined(scale.begin(), [f"layout {side} {height} 4096"], ("mirror %d %d %d %d" % wall for wall in walls),
+                  balls, ["end", "assign", "end"])
 
 
 # ---- any command
@@ -219,7 +226,8 @@ def value_alike(scale):
 
 def long_names(scale, count):
     """Names of 32 bytes."""
-    return [f"a_name_of_thirty_two_{k:011d}" if scale.is_second else f"a_name_of_thirty_two_bytes__{k:04d}" for k in range(count)]
+    return [f"a_name_of_thirty_two_{k:011d}" if scale.is_second else f"a_name_of_thirty_two_bytes__{k:04d}"
+            for k in range(count)]
 
 
 def wide_value(scale, names):
@@ -235,8 +243,9 @@ def alike_wires(scale, count):
 # ---- check and modules: reading, borders
 
 def borders(scale):
-    """check, migrate, modules: 15 MiB of lines at single times, for 64 modules of 64 by 64. A mirror lies over each border of two modules in a
-    row, and is named at every odd time, so the verdict is yes. With `limits 2`, 250 MiB for 4096 modules."""
+    """check, migrate, modules: 15 MiB of lines at single times, for 64 modules of 64 by 64. A mirror lies over each
+    border of two modules in a row, and is named at every odd time, so the verdict is yes. With `limits 2`, 250 MiB for
+    4096 modules."""
     steps, width, height, side = scale.fixed(3800, 790), scale.side, scale.height, 64
     mirrors = ((x - 2, y + 21, 4, 2) for y in range(0, height, side) for x in range(side, width, side))
 
@@ -252,7 +261,10 @@ def borders(scale):
 
 
 def most_lines(scale):
-    """check, migrate, modules: as many lines as 16 MiB have: short ones, for 1008 modules of 4 by 2. With `limits 2`, for 65,536."""
+    """check, migrate, modules: as many lines as 16 MiB have: short ones, for 1008 modules of 4 by 2.
+
+    With `limits 2`, for 65,536.
+    """
     w, h, steps = scale.fixed(96, 1024), scale.of(84, 512), scale.fixed(92, 19)
 
     def modules():
@@ -265,8 +277,8 @@ def most_lines(scale):
 
 
 def neighbours(scale):
-    """check: 12 modules of 64 by 64 with the most edge lines, each among 132 modules of 2 by 2, which all look at its lines. With `limits 2`,
-    204 such modules."""
+    """check: 12 modules of 64 by 64 with the most edge lines, each among 132 modules of 2 by 2, which all look at its
+    lines. With `limits 2`, 204 such modules."""
     return among_small(scale, ["module %d %d %d %d"], "1")
 
 
@@ -276,7 +288,8 @@ def near_edges(scale):
 
 
 def among_small(scale, begin, signal, circuit=(), version=1):
-    """Modules of 64 by 64 among ones of 2 by 2, each with these lines at its begin, and the most edge lines of each large one."""
+    """Modules of 64 by 64 among ones of 2 by 2, each with these lines at its begin, and the most edge lines of each
+    large one."""
     across, down, most = scale.fixed(4, 17), scale.fixed(3, 12), scale.of(65536, 65536)
     w, h, steps = 66 * across + 2, 66 * down + 2, 4096
     large = [(66 * i + 2, 66 * j + 2, 64, 64) for j in range(down) for i in range(across)]
@@ -293,8 +306,8 @@ def among_small(scale, begin, signal, circuit=(), version=1):
 
 
 def most_edges(scale):
-    """check, migrate, modules: as many edge lines of version 2 as 16 MiB have, of 1008 modules of 4 by 2 that all cut their wire. With
-    `limits 2`, of 65,536."""
+    """check, migrate, modules: as many edge lines of version 2 as 16 MiB have, of 1008 modules of 4 by 2 that all cut
+    their wire. With `limits 2`, of 65,536."""
     w, h, steps = scale.fixed(96, 1024), scale.of(84, 512), scale.fixed(264, 48)
 
     def modules():
@@ -341,10 +354,12 @@ def cuts_and_uses(scale):
 
 
 def one_wire_each(scale):
-    """check, migrate, modules: the most modules and the most wires, of which each module cuts one: not the first ones."""
+    """check, migrate, modules: the most modules and the most wires, of which each module cuts one: not the first ones.
+    """
     names = [f"w{k}" for k in range(scale.fixed(4086, 64_998))]
     last, height = len(names) - 1, scale.height
-    modules = (line for k, box in enumerate(boxes(scale.side, height, 16, 16)) for line in ["module %d %d %d %d" % box, f"cut w{last - k % 1000}"])
+    modules = (line for k, box in enumerate(boxes(scale.side, height, 16, 16))
+               for line in ["module %d %d %d %d" % box, f"cut w{last - k % 1000}"])
     return bundle(scale, (scale.side, height, 1), [], modules, forked(names, 2))
 
 
@@ -355,14 +370,15 @@ def alike_lines(scale):
     def modules():
         for box in boxes(scale.side, scale.height, 64, 64):
             yield from ("module %d %d %d %d" % box, f"cut {names[-1]}")
-            yield from timed("edge", edge_cells(scale.side, scale.height, box), 4096, scale.fixed(9500, 2400), names[-1])
+            yield from timed("edge", edge_cells(scale.side, scale.height, box), 4096, scale.fixed(9500, 2400),
+                             names[-1])
 
     return bundle(scale, (scale.side, scale.height, 4096), [], modules(), forked(names, 2))
 
 
 def most_stops(scale):
-    """check, migrate, modules: the most stop lines of 16 modules, of a wire that is false at cells that are dead: a yes. The modules have 24 or 26
-    columns and rows, so that the lines are short. With `limits 2`, of 216 modules."""
+    """check, migrate, modules: the most stop lines of 16 modules, of a wire that is false at cells that are dead: a
+    yes. The modules have 24 or 26 columns and rows, so that the lines are short. With `limits 2`, of 216 modules."""
     across, down = scale.fixed(4, 18), scale.of(4, 12)
 
     def modules():
@@ -420,20 +436,23 @@ def alike_places(scale):
     side, height = scale.fixed(512, 2048), scale.of(512, 2048)
     chosen = alike_cells(side, height, side * height // 4)
     u, v = min(set(cells(side, height)) - set(chosen))
-    parts = [f"ball {x} {y}" for x, y in chosen] + [f"in a {u} {v}", f"out a {u} {v}"] + [f"waste {x} {y}" for x, y in chosen]
+    parts = [f"ball {x} {y}" for x, y in chosen] + [f"in a {u} {v}",
+                                                    f"out a {u} {v}"] + [f"waste {x} {y}" for x, y in chosen]
     modules = (line for box in boxes(side, height, 16, 16) for line in ["module %d %d %d %d" % box, "cut a"])
     return bundle(scale, (side, height, 0), parts, modules, ["input a", "output a"])
 
 
 def many_modules(scale):
     """check, migrate, modules: the most modules without lines on the largest layout."""
-    return bundle(scale, (scale.side, scale.height, 0), [], ("module %d %d %d %d" % box for box in boxes(scale.side, scale.height, 16, 16)))
+    return bundle(scale, (scale.side, scale.height, 0), [],
+                  ("module %d %d %d %d" % box for box in boxes(scale.side, scale.height, 16, 16)))
 
 
 # ---- check: runs of modules
 
 def unlike(w, box, is_second):
-    """Waste cells that no other box of this size has, so that no two modules have one shape: two, or with the second limits up to 16."""
+    """Waste cells that no other box of this size has, so that no two modules have one shape: two, or with the second
+    limits up to 16."""
     x, y, a, b = box
     number = (y // b) * (w // a) + x // a
     if is_second:
@@ -443,7 +462,8 @@ def unlike(w, box, is_second):
 
 
 def runs_of(scale, height, side, steps, lines=0, cuts=10):
-    """Modules of these sides that run to the end without a fault, with so many cuts, each of another shape; with so many lines each."""
+    """Modules of these sides that run to the end without a fault, with so many cuts, each of another shape; with so
+    many lines each."""
     w, wires = scale.side, range(cuts)
     circuit = [*(f"source {k % 2} -> w{k}" for k in wires), "source 0 -> z", *(f"spill w{k}" for k in wires), "spill z"]
     wastes = sorted(cell for box in boxes(w, height, *side) for cell in unlike(w, box, scale.is_second))
@@ -458,7 +478,10 @@ def runs_of(scale, height, side, steps, lines=0, cuts=10):
 
 
 def long_runs(scale):
-    """check: 1024 modules of 64 by 4 cells, each of another shape, with ten cuts, that run for 4096 steps. With `limits 2`, 65,536 modules."""
+    """check: 1024 modules of 64 by 4 cells, each of another shape, with ten cuts, that run for 4096 steps.
+
+    With `limits 2`, 65,536 modules.
+    """
     return runs_of(scale, scale.height, (64, 4), 4096)
 
 
@@ -473,7 +496,10 @@ def flat_runs(scale):
 
 
 def long_runs_with_lines(scale):
-    """check: 1024 modules of 64 by 4, with ten cuts and 4096 steps, and 15 MiB of lines that are all dead. With `limits 2`, 65,536."""
+    """check: 1024 modules of 64 by 4, with ten cuts and 4096 steps, and 15 MiB of lines that are all dead.
+
+    With `limits 2`, 65,536.
+    """
     return runs_of(scale, scale.height, (64, 4), 4096, scale.fixed(830, 190))
 
 
@@ -481,14 +507,16 @@ CUTS = [f"w{k}" for k in range(12)]
 
 
 def crowded(scale, steps, gates, parts):
-    """Modules of 4 by 64 with twelve cuts, which use these gates and have a `*` line for each cell of ring and halo. Half of the cells,
-    at random, have a part of these."""
+    """Modules of 4 by 64 with twelve cuts, which use these gates and have a `*` line for each cell of ring and halo.
+    Half of the cells, at random, have a part of these."""
     w, h, rng = scale.side, scale.of(512, 1664), random.Random(1984)
-    placed = sorted((f"{rng.choice(parts)} {x} {y}" for x, y in cells(w, h) if rng.random() < 0.5), key=lambda line: line[0])
+    placed = sorted((f"{rng.choice(parts)} {x} {y}" for x, y in cells(w, h) if rng.random() < 0.5),
+                    key=lambda line: line[0])
 
     def modules():
         for box in boxes(w, h, 4, 64):
-            yield from ("module %d %d %d %d" % box, *(f"cut {name}" for name in CUTS), *(f"use {k}" for k in range(len(gates))))
+            yield from ("module %d %d %d %d" % box, *(f"cut {name}" for name in CUTS),
+                        *(f"use {k}" for k in range(len(gates))))
             for kind, places in (("edge", edge_cells(w, h, box)), ("halo", halo_cells(w, h, box))):
                 yield from (f"{kind} * {x} {y} {rng.choice(CUTS)}" for x, y in places)
 
@@ -498,27 +526,30 @@ def crowded(scale, steps, gates, parts):
 
 
 def never_defined(scale):
-    """check: 1024 modules of 4 by 64 with balls at random, twelve cuts and the most steps, which use an inverse gate that has no row under
-    any assignment. With `limits 2`, 26,624 modules."""
+    """check: 1024 modules of 4 by 64 with balls at random, twelve cuts and the most steps, which use an inverse gate
+    that has no row under any assignment. With `limits 2`, 26,624 modules."""
     gates = ["source 1 -> a", "source 0 -> b", "source 1 -> c", "unswitch a b c -> d e"]
     gates += [f"switch {CUTS[2 * k]} {CUTS[2 * k + 1]} -> x{k} y{k} z{k}" for k in range(6)]
     return crowded(scale, scale.fixed(65_536, 1_048_576), gates, [f"in {name}" for name in CUTS] + ["ball"] * 12)
 
 
 def once_defined(scale):
-    """check: the same with inverse gates that have rows if all cuts are false, and with balls only if a cut is true: no fault ends a
-    run."""
+    """check: the same with inverse gates that have rows if all cuts are false, and with balls only if a cut is true: no
+    fault ends a run."""
     gates = [f"source 1 -> one{k}" for k in range(6)]
     gates += [f"unswitch {CUTS[2 * k]} {CUTS[2 * k + 1]} one{k} -> x{k} y{k}" for k in range(6)]
     return crowded(scale, scale.fixed(65_536, 1_048_576), gates, [f"in {name}" for name in CUTS])
 
 
 def streams(scale, w, h, steps):
-    """Modules of 4 by 64 that balls cross from the upper left to the lower right at all times, each diagonal under a cut of its own. Only
-    the modules in the first and the last column have a fault before the last time. Each cell of ring and halo has a `*` line."""
+    """Modules of 4 by 64 that balls cross from the upper left to the lower right at all times, each diagonal under a
+    cut of its own. Only the modules in the first and the last column have a fault before the last time. Each cell of
+    ring and halo has a `*` line."""
     rng = random.Random(1984)
-    wires = {box: {c: rng.choice(CUTS) for c in range(-2, 64, 2) if (box[1] or c > 0) and (box[1] + 64 < h or c < 60)} for box in boxes(w, h, 4, 64)}
-    ins = {(x + k, y + k + c): name for (x, y, _, _), named in wires.items() for c, name in named.items() for k in (0, 2) if 0 <= k + c < 64}
+    wires = {box: {c: rng.choice(CUTS) for c in range(-2, 64, 2) if (box[1] or c > 0) and (box[1] + 64 < h or c < 60)}
+             for box in boxes(w, h, 4, 64)}
+    ins = {(x + k, y + k + c): name for (x, y, _, _), named in wires.items() for c,
+           name in named.items() for k in (0, 2) if 0 <= k + c < 64}
 
     def modules():
         for box in boxes(w, h, 4, 64):
@@ -526,24 +557,31 @@ def streams(scale, w, h, steps):
             for kind, places in (("edge", edge_cells(w, h, box)), ("halo", halo_cells(w, h, box))):
                 for x, y in places:
                     is_in = kind == "edge" or x < box[0] or y < box[1]
-                    yield f"{kind} * {x} {y} {wires[box].get(y - box[1] - x + box[0], 'z') if x % 2 and y % 2 and is_in else 'z'}"
+                    yield (f"{kind} * {x} {y} "
+                           f"{wires[box].get(y - box[1] - x + box[0], 'z') if x % 2 and y % 2 and is_in else 'z'}")
 
     circuit = [*(f"input {name}" for name in CUTS), "source 0 -> z", *(f"spill {name}" for name in [*CUTS, "z"])]
     return bundle(scale, (w, h, steps), (f"in {name} {x} {y}" for (x, y), name in ins.items()), modules(), circuit)
 
 
 def longest_runs(scale):
-    """check: four modules of 4 by 64 with twelve cuts that balls cross for the most steps, beside two that end early at a fault."""
+    """check: four modules of 4 by 64 with twelve cuts that balls cross for the most steps, beside two that end early at
+    a fault."""
     return streams(scale, 16 if scale.is_half else 24, 64, scale.fixed(65_536, 1_048_576))
 
 
 def many_long_runs(scale):
-    """check: 1008 modules of the same for 256 steps, beside sixteen that end early at a fault. With `limits 2`, 41,000 for 16 steps."""
+    """check: 1008 modules of the same for 256 steps, beside sixteen that end early at a fault.
+
+    With `limits 2`, 41,000 for 16 steps.
+    """
     return streams(scale, scale.side, scale.of(512, 2560), scale.fixed(256, 16))
 
 
-KINDS = [run_names, run_alike_names, run_ports, run_mirrors, run_balls, one_line, spaces, value_wide, value_alike, borders, most_lines,
-         neighbours, near_edges, most_edges, stars, cuts_and_uses, one_wire_each, alike_lines, most_stops, alike_stops, same_port, most_memory, alike_places,
+KINDS = [run_names, run_alike_names, run_ports, run_mirrors, run_balls, one_line, spaces, value_wide, value_alike,
+         borders, most_lines,
+         neighbours, near_edges, most_edges, stars, cuts_and_uses, one_wire_each, alike_lines, most_stops, alike_stops,
+         same_port, most_memory, alike_places,
          many_modules, long_runs, square_runs, flat_runs,
          long_runs_with_lines, never_defined, once_defined, longest_runs, many_long_runs]
 

@@ -5,7 +5,8 @@ Writes a text for `bbmcheck run`, the same one each time.
 
 balls: a layout of 512 by 512 cells with a frame of mirrors that nothing passes, and COUNT balls at random cells inside
 it, for STEPS steps; no name is on.
-lines: a layout of `in` and `out` lines with names of 32 bytes, cut off at BYTES bytes, so that it is refused at the end.
+lines: a layout of `in` and `out` lines with names of 32 bytes, cut off at BYTES bytes, so that it is refused at the
+end.
 """
 import random
 import sys

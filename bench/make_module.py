@@ -1,9 +1,10 @@
 #!/usr/bin/env python3
-"""make_module.py SIDE CUTS STEPS [ACROSS [BALLS]] [equal]: writes a bundle of ACROSS by ACROSS modules (one by default) of SIDE by SIDE
-cells, which have no fault: each another one, or all of one shape. It is the same bundle each time.
+"""make_module.py SIDE CUTS STEPS [ACROSS [BALLS]] [equal]: writes a bundle of ACROSS by ACROSS modules (one by default)
+of SIDE by SIDE cells, which have no fault: each another one, or all of one shape. It is the same bundle each time.
 
-Mirrors wall each module off. Inside the walls there are some more mirrors, an input cell for each cut and BALLS constant balls (none by
-default), which run for all steps. Every cell inside that is no mirror is waste, so whatever is live there at the end is no fault.
+Mirrors wall each module off. Inside the walls there are some more mirrors, an input cell for each cut and BALLS
+constant balls (none by default), which run for all steps. Every cell inside that is no mirror is waste, so whatever is
+live there at the end is no fault.
 """
 import argparse
 import random
@@ -15,8 +16,8 @@ def cells_of(x, y, w, h):
 
 
 def walls(side):
-    """Mirrors of two cells across that leave the ring free. A block has none of their cells, all four, or two side by side, so
-    they stay."""
+    """Mirrors of two cells across that leave the ring free. A block has none of their cells, all four, or two side by
+    side, so they stay."""
     top, bottom, left, right = 1, side - 3, 2, side - 4
     return [
         (left, top, right + 2 - left, 2), (left, bottom, right + 2 - left, 2),
@@ -62,7 +63,8 @@ def main(words):
     for name, default in (("side", None), ("cuts", None), ("steps", None), ("across", 1), ("balls", 0)):
         reader.add_argument(name, type=int, nargs=None if default is None else "?", default=default)
     given = reader.parse_args([word for word in words if word != "equal"])
-    sys.stdout.write(bundle(random.Random(1982), given.side, given.cuts, given.steps, given.across, given.balls, "equal" in words))
+    sys.stdout.write(bundle(random.Random(1982), given.side, given.cuts, given.steps, given.across, given.balls,
+                            "equal" in words))
 
 
 main(sys.argv[1:])

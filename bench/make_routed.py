@@ -1,9 +1,9 @@
 #!/usr/bin/env python3
 """make_routed.py NAME [--kept FOLDER] [--program PATH] > bundle, or make_routed.py --list
 
-Writes a bundle that `bbmlab route` makes of a circuit of random_circuits.py, with a fixed seed. Bundles of 16 gates or more take minutes
-to hours: with --kept a bundle that is in FOLDER as NAME.txt is taken from there, and one that is made is kept there. Another version of
-the lab may make another bundle. PATH is the program that the lab asks.
+Writes a bundle that `bbmlab route` makes of a circuit of random_circuits.py, with a fixed seed. Bundles of 16 gates or
+more take minutes to hours: with --kept a bundle that is in FOLDER as NAME.txt is taken from there, and one that is made
+is kept there. Another version of the lab may make another bundle. PATH is the program that the lab asks.
 """
 import argparse
 import subprocess
@@ -35,7 +35,8 @@ class Routed:
 # From ten gates to an adder of 16 bits, 160 gates with their sources.
 BUNDLES = {
     "any10": Routed("any", 10, 6, 600), "fred10": Routed("fredkin", 10, 6, 600), "wide48": Routed("wide", 48, 64, 600),
-    "mult2": Routed("multiply", 2, 0, 600), "inv40": Routed("inverse", 40, 10, 600), "adder8": Routed("ripple", 8, 0, 3600),
+    "mult2": Routed("multiply", 2, 0, 600), "inv40": Routed("inverse", 40, 10, 600),
+    "adder8": Routed("ripple", 8, 0, 3600),
     "adder16": Routed("ripple", 16, 0, 7200),
 }
 

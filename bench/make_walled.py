@@ -1,10 +1,10 @@
 #!/usr/bin/env python3
-"""make_walled.py SIDE CUTS STEPS BALLS: writes a bundle of 512 by 512 cells in modules of SIDE by SIDE cells, which gets a yes. It is the
-same bundle each time.
+"""make_walled.py SIDE CUTS STEPS BALLS: writes a bundle of 512 by 512 cells in modules of SIDE by SIDE cells, which
+gets a yes. It is the same bundle each time.
 
-Mirrors wall each module off. Inside the walls there are some more mirrors, an input cell for each of CUTS cuts, and BALLS constant balls,
-which run for all steps. Each module is another one. Every cell inside that is no mirror is waste, so whatever is live there at the end is
-no fault.
+Mirrors wall each module off. Inside the walls there are some more mirrors, an input cell for each of CUTS cuts, and
+BALLS constant balls, which run for all steps. Each module is another one. Every cell inside that is no mirror is waste,
+so whatever is live there at the end is no fault.
 """
 import random
 import sys
@@ -49,7 +49,8 @@ def bundle(side, cuts, steps, balls):
             wastes += [f"waste {u} {v}" for u, v in free]
             modules += [f"module {x} {y} {side} {side}", *(f"cut {name}" for name in names)]
     lines = ["circuit", *(f"input {name}" for name in names), *(f"spill {name}" for name in names), "end"]
-    lines += [f"layout {EXTENT} {EXTENT} {steps}", *mirrors, *constants, *ins, *wastes, "end", "certificate 1", *modules, "end"]
+    lines += [f"layout {EXTENT} {EXTENT} {steps}", *mirrors, *constants, *ins, *wastes, "end", "certificate 1",
+              *modules, "end"]
     return "".join(line + "\n" for line in lines)
 
 

@@ -3,7 +3,8 @@ import math
 from html import escape
 
 COLOURS = ("#1b6ca8", "#c8553d", "#3a7d44", "#7a4988", "#b8860b")
-STYLE = "<style>text{font:12px sans-serif;fill:#222}.axis{stroke:#888;stroke-width:1}.grid{stroke:#ddd;stroke-width:1}</style>"
+STYLE = ("<style>text{font:12px "
+         "sans-serif;fill:#222}.axis{stroke:#888;stroke-width:1}.grid{stroke:#ddd;stroke-width:1}</style>")
 
 
 def page(width: int, height: int, parts: list[str]) -> str:
@@ -31,10 +32,15 @@ def draw_ratios(path: str, rows: list[tuple[str, float]]) -> None:
 
 
 def draw_growth(path: str, lines: list[tuple[str, list[tuple[int, float]]]]) -> None:
-    """Writes a line for each text and program through its two sizes, on logarithmic axes. A text twice as long and as dear has the slope 1."""
+    """Writes a line for each text and program through its two sizes, on logarithmic axes.
+
+    A text twice as long and as dear has the slope 1.
+    """
     points = [point for _, found in lines for point in found]
-    low_x, high_x = (math.floor(math.log10(min(x for x, _ in points))), math.ceil(math.log10(max(x for x, _ in points))))
-    low_y, high_y = (math.floor(math.log10(min(y for _, y in points))), math.ceil(math.log10(max(y for _, y in points))))
+    low_x, high_x = (math.floor(math.log10(min(x for x, _ in points))),
+                     math.ceil(math.log10(max(x for x, _ in points))))
+    low_y, high_y = (math.floor(math.log10(min(y for _, y in points))),
+                     math.ceil(math.log10(max(y for _, y in points))))
     left, top, unit = 70, 20, 220
     across, down = (high_x - low_x) * unit, (high_y - low_y) * unit
 
@@ -54,10 +60,12 @@ def draw_growth(path: str, lines: list[tuple[str, list[tuple[int, float]]]]) -> 
         colour = COLOURS[place // 2 % len(COLOURS)]
         (x1, y1), (x2, y2) = (at(*point) for point in found)
         dash = ' stroke-dasharray="5 3"' if place % 2 else ""
-        parts.append(f'<line x1="{x1:.1f}" y1="{y1:.1f}" x2="{x2:.1f}" y2="{y2:.1f}" stroke="{colour}" stroke-width="2"{dash}/>')
+        parts.append(f'<line x1="{x1:.1f}" y1="{y1:.1f}" x2="{x2:.1f}" y2="{y2:.1f}" stroke="{colour}" '
+                     f'stroke-width="2"{dash}/>')
         parts += [f'<circle cx="{x:.1f}" cy="{y:.1f}" r="3" fill="{colour}"/>' for x, y in ((x1, y1), (x2, y2))]
         y = top + 14 + 17 * place
-        parts.append(f'<line x1="{left + across + 20}" y1="{y - 4}" x2="{left + across + 48}" y2="{y - 4}" stroke="{colour}" stroke-width="2"{dash}/>')
+        parts.append(f'<line x1="{left + across + 20}" y1="{y - 4}" x2="{left + across + 48}" y2="{y - 4}" '
+                     f'stroke="{colour}" stroke-width="2"{dash}/>')
         parts.append(f'<text x="{left + across + 54}" y="{y}">{escape(name)}</text>')
     with open(path, "w", encoding="utf-8") as out:
         out.write(page(int(left + across + 270), int(max(top + down + 34, top + 20 + 17 * len(lines))), parts))

@@ -1,8 +1,9 @@
 #!/usr/bin/env python3
 """random_circuits.py KIND GATES INPUTS SEED: writes a random circuit for the router to standard output.
 
-KIND is one of the names of KINDS below, or `ripple` (a ripple adder of GATES bits), `multiply` (two numbers of two bits) or
-`wide` (layers of switches: GATES of them on INPUTS inputs). Inverse gates get inputs at which they always have a row.
+KIND is one of the names of KINDS below, or `ripple` (a ripple adder of GATES bits), `multiply` (two numbers of two
+bits) or `wide` (layers of switches: GATES of them on INPUTS inputs). Inverse gates get inputs at which they always have
+a row.
 """
 
 import argparse
@@ -12,7 +13,7 @@ from pathlib import Path
 
 sys.path.insert(0, str(Path(__file__).resolve().parent.parent / "lab"))
 sys.dont_write_bytecode = True
-from bbmlab_core.gates import GATE_SIZES, INVERSE_GATES, gate_row, input_tables  # noqa: E402
+from bbmlab_core.texts.gates import GATE_SIZES, INVERSE_GATES, gate_row, input_tables  # noqa: E402
 
 EACH_GATE = ["switch", "interact", "fredkin", "cswap", "unswitch", "uninteract", "delay", "source"]
 KINDS = {
@@ -57,7 +58,8 @@ class Maker:
     def text(self, outputs):
         """Writes the circuit. Live wires that are no outputs are spilled."""
         lines = [f"input {wire}" for wire in self.inputs] + self.lines + [f"output {wire}" for wire in outputs]
-        return "\n".join(["circuit", *lines, *(f"spill {wire}" for wire in self.live if wire not in outputs), "end"]) + "\n"
+        return "\n".join(["circuit", *lines, *(f"spill {wire}" for wire in self.live if wire not in outputs),
+                          "end"]) + "\n"
 
     def inverse_inputs(self, word, chance):
         """Returns inputs at which an inverse gate always has a row, or None if none were found."""
@@ -68,7 +70,8 @@ class Maker:
         for _ in range(200 if self.tables is not None and len(self.live) >= size else 0):
             ins = chance.sample(self.live, size)
             tables = [self.tables[wire] for wire in ins]
-            if gate_row(word, None, tables, self.full)[1] & self.full == self.full and sum(table != 0 for table in tables) >= 2:
+            if gate_row(word, None, tables,
+                        self.full)[1] & self.full == self.full and sum(table != 0 for table in tables) >= 2:
                 return ins
         return None
 
@@ -145,7 +148,8 @@ def multiplier():
 
 
 def wide_layers(gates, inputs):
-    """Returns layers of switches: the first on all inputs, each further one on half of the wires of the layer before."""
+    """Returns layers of switches: the first on all inputs, each further one on half of the wires of the layer before.
+    """
     maker = Maker(f"i{index}" for index in range(inputs))
     layer = list(maker.inputs)
     while len(maker.lines) < gates and len(layer) > 1:
@@ -167,7 +171,8 @@ def straight_delay(steps):
 
 def made_circuit(kind, gates, inputs, seed):
     """Returns a circuit by the words of the command."""
-    special = {"ripple": lambda: ripple_adder(gates), "multiply": multiplier, "wide": lambda: wide_layers(gates, inputs)}
+    special = {"ripple": lambda: ripple_adder(gates), "multiply": multiplier,
+               "wide": lambda: wide_layers(gates, inputs)}
     return special[kind]() if kind in special else random_circuit(KINDS[kind], gates, inputs, seed)
 
 

@@ -1,7 +1,8 @@
-"""Worked cases: reads them from the repository's files, from the large bundles of conformance/data, and from case folders.
+"""Worked cases: reads them from the repository's files, from the large bundles of conformance/data, and from case
+folders.
 
-A Case has a name, the words of a command, what it is given on standard input, and what it must do: the exit status, and the bytes of
-standard output and of standard error. Where one of these two is None, anything may be written there.
+A Case has a name, the words of a command, what it is given on standard input, and what it must do: the exit status, and
+the bytes of standard output and of standard error. Where one of these two is None, anything may be written there.
 """
 import hashlib
 import json
@@ -14,7 +15,8 @@ from typing import Any
 from limit_texts import LIMITS, text_of
 
 DATA = Path(__file__).resolve().parent.parent / "crates" / "run_cases" / "data"
-# Large bundles: NAME.txt, and NAME.report, the report of `check`. Cases about the line `limits 2`, and the answers to texts at limits.
+# Large bundles: NAME.txt, and NAME.report, the report of `check`. Cases about the line `limits 2`, and the answers to
+# texts at limits.
 LARGE = Path(__file__).resolve().parent / "data"
 FRONT_CASES, LIMIT_ANSWERS = DATA / "front_line.txt", LARGE / "limits.json"
 # In this order: those of the specification, those that were written by hand, random bundles, those about the line.
@@ -28,7 +30,10 @@ PARTS = {b"input": "given", b"output": "output", b"errors": "errors"}
 
 @dataclass(frozen=True)
 class Case:
-    """A case. A text that is `given` by a function is made each time. `digest` is the SHA-256 of an output that is not here."""
+    """A case. A text that is `given` by a function is made each time.
+
+    `digest` is the SHA-256 of an output that is not here.
+    """
 
     name: str
     words: list[str]
@@ -52,7 +57,8 @@ class Case:
 
 def is_about_texts(case: Case) -> bool:
     """Whether it is about a text, and not about the words of a command alone."""
-    return bool(case.words) and case.words[0] in COMMANDS and case.status != 2 and not {"--help", "-h"} & set(case.words)
+    return bool(case.words) and case.words[0] in COMMANDS and case.status != 2 and not {"--help",
+                                                                                        "-h"} & set(case.words)
 
 
 def cases_of_file(path: Path) -> list[Case]:
@@ -89,7 +95,10 @@ def migrated(text: bytes) -> bytes:
 
 
 def large_cases() -> list[Case]:
-    """Returns the cases of `check` and `migrate` for the large bundles. Where there is a report NAME_v2.report, NAME_v1.txt is migrated."""
+    """Returns the cases of `check` and `migrate` for the large bundles.
+
+    Where there is a report NAME_v2.report, NAME_v1.txt is migrated.
+    """
     found = []
     for path in sorted(LARGE.glob("*_v[12].txt")):
         texts = {path.stem: path.read_bytes()}
@@ -114,7 +123,8 @@ def limit_cases() -> list[Case]:
     limits = {limit.name: limit for limit in LIMITS}
     for name, (status, told) in answers.items():
         limit, number, kind, command = name.split(" ")
-        text = lambda limit=limits[limit], number=int(number), has_front=kind == "front": text_of(limit, number, has_front)  # noqa: E731
+        text = (lambda limit=limits[limit], number=int(number),
+                has_front=kind == "front": text_of(limit, number, has_front))  # noqa: E731
         case = f"limit_{limit}_{number}_{kind}_{command}"
         output, digest = (None, told["sha256"]) if isinstance(told, dict) else (told.encode(), None)
         found.append(Case(case, [command], text, status, output, digest=digest, is_huge=limits[limit].huge))
@@ -122,7 +132,8 @@ def limit_cases() -> list[Case]:
 
 
 def behind_the_line(case: Case) -> Case | None:
-    """Returns the case with the line `limits 2` in front of its text, or None if a larger limit may give it another answer.
+    """Returns the case with the line `limits 2` in front of its text, or None if a larger limit may give it another
+    answer.
 
     The line moves a refusal one line further, and `migrate` keeps it. It changes nothing else.
     """
@@ -145,7 +156,8 @@ def bytes_or_none(path: Path) -> bytes | None:
 
 def case_of_folder(folder: Path) -> Case:
     """The case of a folder with args, stdin, status, and maybe stdout and stderr."""
-    return Case(folder.name, (folder / "args").read_text().split(), (folder / "stdin").read_bytes(), int((folder / "status").read_text()),
+    return Case(folder.name, (folder / "args").read_text().split(), (folder / "stdin").read_bytes(),
+                int((folder / "status").read_text()),
                 bytes_or_none(folder / "stdout"), bytes_or_none(folder / "stderr"))
 
 

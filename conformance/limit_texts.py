@@ -1,7 +1,8 @@
 """Texts at each limit of docs/FORMATS.md and one beyond it, made when they are asked for.
 
-LIMITS lists the limits. `text_of` makes the text for one value of a limit, with the line `limits 2` or without it. No number here comes
-from a program: `tools/oracle/make_limit_answers.py` compares what the plain Python programs answer with the table of limits.
+LIMITS lists the limits. `text_of` makes the text for one value of a limit, with the line `limits 2` or without it. No
+number here comes from a program: `tools/oracle/make_limit_answers.py` compares what the plain Python programs answer
+with the table of limits.
 """
 from collections.abc import Callable, Iterable, Iterator
 from dataclasses import dataclass
@@ -51,7 +52,8 @@ def numbered(letter: str, count: int) -> list[str]:
 
 
 def bundle(circuit: Lines, layout: Lines, certificate: Lines, version: int = 2) -> Iterator[str]:
-    """Yields the lines of a bundle from those between the headers and ends of its sections. The layout has its header."""
+    """Yields the lines of a bundle from those between the headers and ends of its sections. The layout has its header.
+    """
     yield from ("circuit", *circuit, "end")
     yield from layout
     yield from ("end", f"certificate {version}")
@@ -99,17 +101,20 @@ def height(value: Value) -> Lines:
 def bundle_width(value: Value) -> Lines:
     """A bundle whose layout is so wide, with a line at the border of the last two modules."""
     last = (value.number - 1) // BOX_SIDE * BOX_SIDE
-    return bundle([], [f"layout {value.number} 6 2", f"mirror {last - 1} 2 2 2"], mirror_lines(value.number, 6, (last, 2), across=True), 1)
+    return bundle([], [f"layout {value.number} 6 2", f"mirror {last - 1} 2 2 2"],
+                  mirror_lines(value.number, 6, (last, 2), across=True), 1)
 
 
 def bundle_height(value: Value) -> Lines:
     """The same with the height."""
     last = (value.number - 1) // BOX_SIDE * BOX_SIDE
-    return bundle([], [f"layout 6 {value.number} 2", f"mirror 2 {last - 1} 2 2"], mirror_lines(6, value.number, (2, last), across=False), 1)
+    return bundle([], [f"layout 6 {value.number} 2", f"mirror 2 {last - 1} 2 2"],
+                  mirror_lines(6, value.number, (2, last), across=False), 1)
 
 
 def mirror_lines(w: int, h: int, cell: tuple[int, int], across: bool) -> Iterator[str]:
-    """Yields modules, and the lines of a mirror of two by two over the border of the last two, whose second part begins at this cell."""
+    """Yields modules, and the lines of a mirror of two by two over the border of the last two, whose second part begins
+    at this cell."""
     x, y = cell
     before = [(x - 1, y), (x - 1, y + 1)] if across else [(x, y - 1), (x + 1, y - 1)]
     behind = [(x, y), (x, y + 1)] if across else [(x, y), (x + 1, y)]
@@ -184,11 +189,13 @@ def wires_by_a_gate(value: Value) -> Lines:
     """The same, of which a gate makes the last four."""
     names, made = numbered("w", value.number - 4), numbered("g", 4)
     free = names[2:] + made
-    return assigned([*(f"input {name}" for name in names), f"interact w0 w1 -> {' '.join(made)}", *(f"output {name}" for name in free)])
+    return assigned([*(f"input {name}" for name in names), f"interact w0 w1 -> {' '.join(made)}",
+                     *(f"output {name}" for name in free)])
 
 
 def forked(inputs: list[str], count: int) -> tuple[list[str], list[str]]:
-    """Returns so many gates that make four wires of two, and the wires that are free behind them, in order of definition."""
+    """Returns so many gates that make four wires of two, and the wires that are free behind them, in order of
+    definition."""
     gates, free, first = [], list(inputs), 0
     for number in range(count):
         made = [f"g{number}_{place}" for place in range(4)]
@@ -214,13 +221,15 @@ def wires_of_bundle(value: Value) -> Lines:
 def gates(value: Value) -> Lines:
     """So many gates, each a source."""
     names = numbered("g", value.number)
-    return assigned([*(f"source {number % 2} -> {name}" for number, name in enumerate(names)), *(f"output {name}" for name in names)])
+    return assigned([*(f"source {number % 2} -> {name}" for number, name in enumerate(names)),
+                     *(f"output {name}" for name in names)])
 
 
 def gates_in_a_row(value: Value) -> Lines:
     """An input, and so many delays in a row."""
     names = numbered("g", value.number + 1)
-    row = [f"delay {1 + number % 4096} {name} -> {following}" for number, (name, following) in enumerate(zip(names, names[1:]))]
+    row = [f"delay {1 + number % 4096} {name} -> {following}" for number,
+           (name, following) in enumerate(zip(names, names[1:]))]
     return assigned(["input g0", *row, f"output {names[-1]}"])
 
 
@@ -240,7 +249,8 @@ def gate_beyond(value: Value) -> Lines:
 def kept_gates(count: int) -> list[str]:
     """Returns a circuit of so many gates, the last of which is an inverse gate."""
     sources = numbered("s", count - 1)
-    return [*(f"source 0 -> {name}" for name in sources), f"unswitch {' '.join(sources[-3:])} -> d x", *(f"spill {name}" for name in [*sources[:-3], "d", "x"])]
+    return [*(f"source 0 -> {name}" for name in sources), f"unswitch {' '.join(sources[-3:])} -> d x",
+            *(f"spill {name}" for name in [*sources[:-3], "d", "x"])]
 
 
 def kept_lines(last: int) -> list[str]:
@@ -276,7 +286,8 @@ def small_boxes(count: int) -> tuple[int, list[str]]:
     rows = -(-count // 256)
     doubles = 256 * rows - count
     cells = [(2 * (number % 256), 2 * (number // 256)) for number in range(256 * rows)]
-    places = [f"module {x} {y} 4 2" for x, y in cells[:2 * doubles:2]] + [f"module {x} {y} 2 2" for x, y in cells[2 * doubles:]]
+    places = [f"module {x} {y} 4 2" for x, y in cells[:2 * doubles:2]] + [f"module {x} {y} 2 2" for x,
+                                                                          y in cells[2 * doubles:]]
     return rows, places
 
 
@@ -290,7 +301,8 @@ def module_without_a_wire(value: Value) -> Lines:
     """So many modules, the last of which doesn't know the wire of its port, and one more."""
     rows, places = small_boxes(value.number)
     port = f"510 {2 * rows - 1}"
-    return bundle(["input a", "output a"], [f"layout 512 {2 * rows} 1", f"in a {port}", f"out a {port}"], [*places, places[0]])
+    return bundle(["input a", "output a"], [f"layout 512 {2 * rows} 1", f"in a {port}", f"out a {port}"],
+                  [*places, places[0]])
 
 
 def box_width(value: Value) -> Lines:
@@ -353,7 +365,8 @@ def ports(side: int) -> Iterator[str]:
 
 
 def text_bytes(value: Value) -> Lines:
-    """A layout of cells with long names, so many bytes long with its assign section and the line in front of it, if it has one."""
+    """A layout of cells with long names, so many bytes long with its assign section and the line in front of it, if it
+    has one."""
     begin, end = f"layout {value.side} {value.side} 0", ["end", "assign", "end"]
     room = value.number - front_bytes(value) - sum(len(line) + 1 for line in [begin, *end])
     yield begin

@@ -1,15 +1,16 @@
 #!/usr/bin/env python3
 """conformance/run.py PROGRAM [FOLDER..] [--commands A,B] [--all] [--huge] [--seconds N] [--jobs N]
 
-Runs PROGRAM on each worked case and compares the exit status and standard output. Prints a line for each case that does not hold, and last
-how many held. The status is 0 if all did.
+Runs PROGRAM on each worked case and compares the exit status and standard output. Prints a line for each case that does
+not hold, and last how many held. The status is 0 if all did.
 
-Without FOLDER the cases are those of the repository, with the large bundles of conformance/data, texts at each limit and one beyond it, and
-each case once more with the line `limits 2` in front of its text, if the line cannot change the answer. With FOLDER they are the case
-folders at or below each FOLDER, such as conformance/unpack.py writes. --commands takes the cases of these commands alone. --all also takes
-the cases that are about the words of a command and no text, unless --commands is given, and compares standard error if a case gives it:
-both are this project's own. --huge also takes texts of 16 and 256 MiB, which need some GB of memory for each case that runs. A case has
-120 seconds, or N. Two run at a time, or N.
+Without FOLDER the cases are those of the repository, with the large bundles of conformance/data, texts at each limit
+and one beyond it, and each case once more with the line `limits 2` in front of its text, if the line cannot change the
+answer. With FOLDER they are the case folders at or below each FOLDER, such as conformance/unpack.py writes. --commands
+takes the cases of these commands alone. --all also takes the cases that are about the words of a command and no text,
+unless --commands is given, and compares standard error if a case gives it: both are this project's own. --huge also
+takes texts of 16 and 256 MiB, which need some GB of memory for each case that runs. A case has 120 seconds, or N. Two
+run at a time, or N.
 """
 import argparse
 import shutil
@@ -39,7 +40,8 @@ def difference(what, wanted, got):
 def fault_of(program, case, errors, seconds):
     """What the program does on a case that it must not do, or None."""
     try:
-        ended = subprocess.run([program, *case.words], input=case.input, capture_output=True, timeout=seconds, check=False)
+        ended = subprocess.run([program, *case.words], input=case.input, capture_output=True, timeout=seconds,
+                               check=False)
     except subprocess.TimeoutExpired:
         return f"it had not ended after {seconds} seconds"
     except BrokenPipeError:
@@ -47,7 +49,8 @@ def fault_of(program, case, errors, seconds):
     if ended.returncode != case.status:
         return f"the status is {ended.returncode} and not {case.status}"
     if not case.has_output(ended.stdout):
-        return "the output has another digest" if case.output is None else difference("standard output", case.output, ended.stdout)
+        return "the output has another digest" if case.output is None else difference("standard output", case.output,
+                                                                                      ended.stdout)
     if errors and case.errors is not None and case.errors != ended.stderr:
         return difference("standard error", case.errors, ended.stderr)
     return None
@@ -58,7 +61,8 @@ def behind_wrapper(program):
     wrapper = Path(__file__).resolve().parent.parent / "bbmcheck"
     if program != wrapper or program.read_bytes()[:2] != b"#!":
         return program
-    asked = subprocess.run([program, "--wrapper-program"], stdin=subprocess.DEVNULL, stdout=subprocess.PIPE, check=False)
+    asked = subprocess.run([program, "--wrapper-program"], stdin=subprocess.DEVNULL, stdout=subprocess.PIPE,
+                           check=False)
     if asked.returncode:
         sys.exit(f"run.py: {program} ended with status {asked.returncode}")
     return Path(asked.stdout.decode().removesuffix("\n"))

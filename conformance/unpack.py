@@ -1,9 +1,9 @@
 #!/usr/bin/env python3
 """conformance/unpack.py FOLDER [--largest BYTES] [--all]
 
-Writes the worked cases into FOLDER, which is made, a folder for each: args, stdin, status, stdout, and stderr if a case gives it.
---largest leaves out cases with more bytes of standard input; left out, it is 200000. --all also writes the cases that are about the words
-of a command and no text.
+Writes the worked cases into FOLDER, which is made, a folder for each: args, stdin, status, stdout, and stderr if a case
+gives it. --largest leaves out cases with more bytes of standard input; left out, it is 200000. --all also writes the
+cases that are about the words of a command and no text.
 """
 import argparse
 import sys

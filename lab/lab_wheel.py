@@ -1,5 +1,5 @@
-"""Builds the wheel of the lab for pip (PEP 517). It needs nothing but Python, so `pip install ./lab` works without a network, and it writes
-nothing next to the sources.
+"""Builds the wheel of the lab for pip (PEP 517). It needs nothing but Python, so `pip install ./lab` works without a
+network, and it writes nothing next to the sources.
 
 The packages are pure Python, and what a wheel contains is written in `pyproject.toml`.
 """
@@ -26,7 +26,8 @@ def project() -> dict[str, Any]:
 
 def version() -> str:
     """Returns the version of the lab."""
-    found = re.search(r'^VERSION = "([^"]+)"$', (HERE / "bbmlab_core" / "__init__.py").read_text(encoding="utf-8"), re.MULTILINE)
+    found = re.search(r'^VERSION = "([^"]+)"$', (HERE / "bbmlab_core" / "__init__.py").read_text(encoding="utf-8"),
+                      re.MULTILINE)
     assert found, "bbmlab_core/__init__.py has no line VERSION"
     return found[1]
 
@@ -41,7 +42,8 @@ def files_of(settings: dict[str, Any]) -> Iterator[tuple[str, Path]]:
 
 def metadata(about: dict[str, Any]) -> str:
     """Returns the description of the package."""
-    lines = ["Metadata-Version: 2.1", f"Name: {about['name']}", f"Version: {version()}", f"Summary: {about['description']}",
+    lines = ["Metadata-Version: 2.1", f"Name: {about['name']}", f"Version: {version()}",
+             f"Summary: {about['description']}",
              f"License: {about['license']['text']}", f"Requires-Python: {about['requires-python']}"]
     for extra, needed in about["optional-dependencies"].items():
         lines += [f"Provides-Extra: {extra}", *(f'Requires-Dist: {name}; extra == "{extra}"' for name in needed)]
@@ -54,7 +56,8 @@ def contents() -> dict[str, bytes]:
     about, folder = settings["project"], f"bbmlab-{version()}.dist-info"
     scripts = "".join(f"{name} = {target}\n" for name, target in about["scripts"].items())
     found = {name: path.read_bytes() for name, path in files_of(settings["tool"]["lab_wheel"])}
-    return {**found, f"{folder}/METADATA": metadata(about).encode(), f"{folder}/entry_points.txt": f"[console_scripts]\n{scripts}".encode(),
+    return {**found, f"{folder}/METADATA": metadata(about).encode(),
+            f"{folder}/entry_points.txt": f"[console_scripts]\n{scripts}".encode(),
             f"{folder}/WHEEL": b"Wheel-Version: 1.0\nGenerator: lab_wheel\nRoot-Is-Purelib: true\nTag: py3-none-any\n"}
 
 
@@ -62,7 +65,8 @@ def build_wheel(wheel_directory: str, config_settings: Any = None, metadata_dire
     """Writes the wheel to a folder, and returns its name."""
     files, name = contents(), f"bbmlab-{version()}-py3-none-any.whl"
     record = f"bbmlab-{version()}.dist-info/RECORD"
-    digests = {file: base64.urlsafe_b64encode(hashlib.sha256(data).digest()).rstrip(b"=").decode() for file, data in files.items()}
+    digests = {file: base64.urlsafe_b64encode(hashlib.sha256(data).digest()).rstrip(b"=").decode() for file,
+               data in files.items()}
     lines = [f"{file},sha256={digests[file]},{len(data)}" for file, data in files.items()]
     files[record] = "\n".join([*lines, f"{record},,", ""]).encode()
     with zipfile.ZipFile(Path(wheel_directory) / name, "w", zipfile.ZIP_DEFLATED) as wheel:

@@ -2,13 +2,13 @@
 
 from dataclasses import dataclass, field
 
-from bbmlab_core.certificates import MAX_BOX_SIDE, Module
-from bbmlab_core.certify import Plan, certified, grid_boxes
-from bbmlab_core.circuits import Circuit, evaluate
-from bbmlab_core.documents import read_document
-from bbmlab_core.gates import Table
-from bbmlab_core.layouts import Cell, row_order
+from bbmlab_core.certify.certifier import CertificatePlan, certified, grid_boxes
 from bbmlab_core.route.balls import Ball, Mirror, Run, block_cells, mirror_cells, run_exactly, start_state
+from bbmlab_core.texts.certificates import MAX_BOX_SIDE, Module
+from bbmlab_core.texts.circuits import Circuit, evaluate
+from bbmlab_core.texts.documents import read_document
+from bbmlab_core.texts.gates import Table
+from bbmlab_core.texts.layouts import Cell, row_order
 
 # Dead cells between the machine and the rim, so that nothing is live on the rim.
 MARGIN = 2
@@ -18,9 +18,9 @@ MARGIN = 2
 class Machine:
     """A circuit as balls and mirrors.
 
-    An input's ball has the time at which the wire arrives, and an output's ball the time at which it leaves, as garbage does.
-    `inner` has the wires from one gate to another that get stops too. The run begins at time 0, at which all inputs and
-    constants are on their way, and ends `rest` steps after the last output or garbage has left.
+    An input's ball has the time at which the wire arrives, and an output's ball the time at which it leaves, as garbage
+    does. `inner` has the wires from one gate to another that get stops too. The run begins at time 0, at which all
+    inputs and constants are on their way, and ends `rest` steps after the last output or garbage has left.
     """
 
     name: str
@@ -44,7 +44,8 @@ class Machine:
 
     def circuit_text(self) -> str:
         """Returns the circuit section."""
-        lines = ["circuit", *(f"input {name}" for name in self.ins), *self.gates, *(f"output {name}" for name in self.outs)]
+        lines = ["circuit", *(f"input {name}" for name in self.ins), *self.gates,
+                 *(f"output {name}" for name in self.outs)]
         return "\n".join([*lines, *(f"spill {name}" for name in self.garbage), "end", ""])
 
 
@@ -58,7 +59,8 @@ def read_circuit(text: str) -> Circuit:
 
 def run_machine(machine: Machine, tables: dict[str, Table], full: Table) -> Run:
     """Returns the run of a machine under all its inputs. Raises ValueError if a mirror breaks or an output is wrong."""
-    start = [(ball.at(0), tables[name]) for name, ball in machine.ins.items()] + [(ball.at(0), full) for ball in machine.constants]
+    start = [(ball.at(0), tables[name]) for name, ball in machine.ins.items()] + [(ball.at(0), full)
+                                                                                  for ball in machine.constants]
     run = run_exactly(mirror_cells(machine.mirrors), start_state(start), 0, machine.last)
     if not run.is_stable:
         raise ValueError(f"{machine.name}: a mirror breaks in the step from time {len(run.blocks)}")
@@ -71,7 +73,8 @@ def run_machine(machine: Machine, tables: dict[str, Table], full: Table) -> Run:
 
 def frame_of(machine: Machine, run: Run) -> tuple[int, int, int, int]:
     """Returns how far to move the machine, by even numbers, and the even width and height of its layout."""
-    cells = mirror_cells(machine.mirrors) | {cell for corners in run.blocks for corner in corners for cell in block_cells(corner)}
+    cells = mirror_cells(machine.mirrors) | {cell for corners in run.blocks for corner in corners
+                                             for cell in block_cells(corner)}
     columns, rows = [x for x, _ in cells], [y for _, y in cells]
     left, top = min(columns) // 2 * 2 - MARGIN, min(rows) // 2 * 2 - MARGIN
     width, height = (largest - least + 1 + MARGIN for largest, least in ((max(columns), left), (max(rows), top)))
@@ -129,7 +132,7 @@ def certificate_for(design: str, circuit: Circuit, width: int, height: int) -> s
         return design + "\n".join([*lines, "end", ""])
     document = read_document(design, "design")
     assert document.layout is not None
-    return certified(document, grid_boxes(document.layout, MAX_BOX_SIDE, MAX_BOX_SIDE), Plan(2, "safe"))
+    return certified(document, grid_boxes(document.layout, MAX_BOX_SIDE, MAX_BOX_SIDE), CertificatePlan(2, "safe"))
 
 
 def with_stops(bundle: str, stops: list[tuple[int, str, Cell]]) -> str:
@@ -144,9 +147,11 @@ def with_stops(bundle: str, stops: list[tuple[int, str, Cell]]) -> str:
         own = sorted((time, y, x, name) for time, name, (x, y) in stops if module.box.has((x, y)))
         if not own:
             continue
-        end = next(number for number in range(module.line, len(lines)) if lines[number].startswith("module ") or lines[number] == "end")
+        end = next(number for number in range(module.line, len(lines)) if lines[number].startswith("module ")
+                   or lines[number] == "end")
         cuts, uses = circuit.cone(sorted({*module.local, *(name for _, _, _, name in own)}))
-        lines[module.line:end] = [*(f"cut {name}" for name in cuts), *(f"use {number}" for number in uses), *other_lines(module),
+        lines[module.line:end] = [*(f"cut {name}" for name in cuts), *(f"use {number}" for number in uses),
+                                  *other_lines(module),
                                   *(f"stop {time} {name} {x} {y}" for time, y, x, name in own)]
     return "\n".join(lines)
 

@@ -26,7 +26,8 @@ def path_machine(name: str, legs: list[Leg], gates: list[str], out: str) -> Mach
 def delay_machine(steps: int) -> Machine:
     """Returns a delay: two flat mirrors move the track aside, and two upright ones move it back.
 
-    The ball leaves on the track on which it came, `steps` later than without mirrors. The steps are even, and at least 10.
+    The ball leaves on the track on which it came, `steps` later than without mirrors. The steps are even, and at least
+    10.
     """
     aside = (steps - 4) // 2
     legs = [Leg(3, FLAT), Leg(aside, FLAT), Leg(5, UPRIGHT), Leg(aside, UPRIGHT), Leg(4, None)]
@@ -75,14 +76,20 @@ def mirrors_of(sides: list[tuple[int, int, int, int]]) -> list[Mirror]:
     return [Mirror(*side) for side in sides]
 
 
-def found_machine(name: str, gates: list[str], ports: dict[str, dict[str, Ball]], sides: list[tuple[int, int, int, int]]) -> Machine:
-    """Returns a machine that a search found: `ports` has the balls of `ins`, `inner` and `outs`, and `sides` the mirrors."""
+def found_machine(name: str, gates: list[str], ports: dict[str, dict[str, Ball]],
+                  sides: list[tuple[int, int, int, int]]) -> Machine:
+    """Returns a machine that a search found:
+
+    `ports` has the balls of `ins`, `inner` and `outs`, and `sides` the mirrors.
+    """
     return Machine(name, gates, ports["ins"], ports["outs"], mirrors_of(sides), inner=ports["inner"])
 
 
 UNSWITCH_MIRRORS = [
-    (25, -32, 4, 2), (40, -19, 2, 4), (-1, -16, 8, 2), (-8, -9, 2, 4), (-11, -4, 2, 4), (-6, -3, 4, 2), (18, -3, 2, 4), (6, -1, 2, 4),
-    (-1, 0, 2, 4), (8, 2, 1, 4), (7, 3, 1, 3), (12, 3, 4, 2), (-5, 4, 4, 2), (24, 5, 2, 4), (17, 6, 2, 4), (26, 8, 1, 4), (25, 9, 1, 3),
+    (25, -32, 4, 2), (40, -19, 2, 4), (-1, -16, 8, 2), (-8, -9, 2, 4), (-11, -4, 2, 4), (-6, -3, 4, 2), (18, -3, 2, 4),
+    (6, -1, 2, 4),
+    (-1, 0, 2, 4), (8, 2, 1, 4), (7, 3, 1, 3), (12, 3, 4, 2), (-5, 4, 4, 2), (24, 5, 2, 4), (17, 6, 2, 4),
+    (26, 8, 1, 4), (25, 9, 1, 3),
     (13, 10, 4, 2), (-6, 11, 4, 2), (-2, 12, 3, 2), (-3, 13, 1, 1), (12, 17, 4, 2), (16, 18, 3, 2), (15, 19, 1, 1),
 ]
 
@@ -98,7 +105,8 @@ def unswitch_machine() -> Machine:
 
 
 UNINTERACT_MIRRORS = [
-    (11, -2, 4, 2), (8, -1, 3, 2), (11, 0, 1, 1), (15, 0, 2, 4), (14, 3, 1, 4), (15, 4, 1, 3), (16, 5, 2, 2), (20, 9, 2, 4), (-3, 14, 2, 6),
+    (11, -2, 4, 2), (8, -1, 3, 2), (11, 0, 1, 1), (15, 0, 2, 4), (14, 3, 1, 4), (15, 4, 1, 3), (16, 5, 2, 2),
+    (20, 9, 2, 4), (-3, 14, 2, 6),
     (9, 14, 4, 2), (8, 15, 1, 2), (9, 16, 3, 1), (21, 18, 2, 4), (14, 25, 4, 2),
 ]
 
@@ -107,35 +115,44 @@ def uninteract_machine() -> Machine:
     """Returns a collision, twelve mirrors that lead its outputs on, and a collision run backwards."""
     ports = {
         "ins": {"p": Ball(5, 5, 1, 1, 3), "q": Ball(5, 8, 1, -1, 3)},
-        "inner": {"a": Ball(5, 23, 1, 1, 37), "b": Ball(5, 21, 1, 1, 37), "c": Ball(6, 21, -1, 1, 37), "d": Ball(6, 23, -1, 1, 37)},
+        "inner": {"a": Ball(5, 23, 1, 1, 37), "b": Ball(5, 21, 1, 1, 37), "c": Ball(6, 21, -1, 1, 37),
+                  "d": Ball(6, 23, -1, 1, 37)},
         "outs": {"r": Ball(2, 25, -1, 1, 41), "s": Ball(9, 25, 1, 1, 41)},
     }
-    return found_machine("uninteract", ["interact p q -> a b c d", "uninteract a b c d -> r s"], ports, UNINTERACT_MIRRORS)
+    return found_machine("uninteract", ["interact p q -> a b c d", "uninteract a b c d -> r s"], ports,
+                         UNINTERACT_MIRRORS)
 
 
 HALF_ADDER_MIRRORS = [
-    (-15, -40, 4, 2), (5, -40, 4, 2), (12, -39, 4, 2), (-2, -33, 2, 6), (-23, -32, 2, 4), (-10, -29, 4, 2), (0, -29, 2, 2), (24, -29, 2, 4),
-    (-23, -24, 2, 4), (-9, -24, 2, 4), (-16, -23, 2, 4), (-24, -21, 1, 4), (-23, -20, 1, 3), (-14, -19, 4, 2), (3, -16, 2, 4),
-    (34, -13, 2, 4), (-13, -12, 4, 2), (-5, -12, 2, 4), (-16, -11, 3, 2), (-13, -10, 1, 1), (6, -7, 2, 4), (22, -7, 2, 4), (9, -6, 4, 2),
-    (-22, -1, 2, 4), (-9, 0, 2, 4), (6, 1, 4, 2), (7, 3, 2, 3), (12, 3, 4, 2), (-6, 5, 4, 2), (24, 5, 2, 4), (17, 6, 2, 4), (26, 8, 1, 4),
+    (-15, -40, 4, 2), (5, -40, 4, 2), (12, -39, 4, 2), (-2, -33, 2, 6), (-23, -32, 2, 4), (-10, -29, 4, 2),
+    (0, -29, 2, 2), (24, -29, 2, 4),
+    (-23, -24, 2, 4), (-9, -24, 2, 4), (-16, -23, 2, 4), (-24, -21, 1, 4), (-23, -20, 1, 3), (-14, -19, 4, 2),
+    (3, -16, 2, 4),
+    (34, -13, 2, 4), (-13, -12, 4, 2), (-5, -12, 2, 4), (-16, -11, 3, 2), (-13, -10, 1, 1), (6, -7, 2, 4),
+    (22, -7, 2, 4), (9, -6, 4, 2),
+    (-22, -1, 2, 4), (-9, 0, 2, 4), (6, 1, 4, 2), (7, 3, 2, 3), (12, 3, 4, 2), (-6, 5, 4, 2), (24, 5, 2, 4),
+    (17, 6, 2, 4), (26, 8, 1, 4),
     (25, 9, 1, 3), (-13, 10, 4, 2), (13, 10, 4, 2), (12, 17, 4, 2), (16, 18, 3, 2), (15, 19, 1, 1),
 ]
 
 
 def half_adder_machine() -> Machine:
-    """Returns a switch that copies a, a collision of a copy with b, and an inverse switch that joins the two lone balls."""
+    """Returns a switch that copies a, a collision of a copy with b, and an inverse switch that joins the two lone
+    balls."""
     gates = ["source 1 -> k", "switch a k -> a1 a2 not_a", "interact a1 b -> carry b_alone a_alone again",
              "unswitch a2 a_alone b_alone -> a3 sum"]
     ins = {"a": Ball(6, 6, 1, 1, 0).at(2), "b": Ball(0, -23, 1, -1, 0).at(2)}
     outs = {"sum": Ball(-21, -31, -1, -1, 98).at(96), "carry": Ball(4, -23, 1, -1, 98).at(76)}
-    garbage = {"not_a": Ball(34, 2, 1, 1, 98).at(66), "again": Ball(2, -22, 1, 1, 98).at(84), "a3": Ball(-10, -31, 1, -1, 98).at(96)}
+    garbage = {"not_a": Ball(34, 2, 1, 1, 98).at(66), "again": Ball(2, -22, 1, 1, 98).at(84),
+               "a3": Ball(-10, -31, 1, -1, 98).at(96)}
     return Machine("half_adder", gates, ins, outs, mirrors_of(HALF_ADDER_MIRRORS), [Ball(6, 15, 1, -1, 0)], garbage)
 
 
 def xor_machine() -> Machine:
     """Returns the half adder with the carry as garbage."""
     half = half_adder_machine()
-    return replace(half, name="xor", outs={"sum": half.outs["sum"]}, garbage={"carry": half.outs["carry"], **half.garbage})
+    return replace(half, name="xor", outs={"sum": half.outs["sum"]},
+                   garbage={"carry": half.outs["carry"], **half.garbage})
 
 
 def switch_machines(switch: Machine) -> list[Machine]:

@@ -1,8 +1,9 @@
 #!/usr/bin/python3
-"""browse_features.py FOLDER: tries what FOLDER/adder.html, FOLDER/faults.html and FOLDER/outputs.html do in headless Chromium.
+"""browse_features.py FOLDER: tries what FOLDER/adder.html, FOLDER/faults.html and FOLDER/outputs.html do in headless
+Chromium.
 
-The pages are of full_adder.txt, wrong_edge.txt and of a layout with 48 outputs of which three are wrong. It runs with Debian's
-python3-selenium. Each test opens its page anew. BBMLAB_ONLY names one test.
+The pages are of full_adder.txt, wrong_edge.txt and of a layout with 48 outputs of which three are wrong. It runs with
+Debian's python3-selenium. Each test opens its page anew. BBMLAB_ONLY names one test.
 """
 import os
 import re
@@ -23,8 +24,11 @@ WIDE, PHONE = (1280, 800), (390, 844)
 # The picture as a file.
 INK = "return document.getElementById('whole').toDataURL()"
 # Counts what changes in live regions, which screen readers speak.
-LISTEN = """window.spoken = []; for (const part of document.querySelectorAll('[role=status],[role=alert],[aria-live],output'))
-  new MutationObserver(() => window.spoken.push(part.textContent)).observe(part, {childList: true, characterData: true, subtree: true});"""
+LISTEN = """window.spoken = [];
+for (const part of document.querySelectorAll('[role=status],[role=alert],[aria-live],output')) {
+  const seen = {childList: true, characterData: true, subtree: true};
+  new MutationObserver(() => window.spoken.push(part.textContent)).observe(part, seen);
+}"""
 
 
 class Page(unittest.TestCase):
@@ -45,9 +49,11 @@ class Page(unittest.TestCase):
         """Opens a page with an address, as new."""
         width, height = size
         self.browser.get("about:blank")
-        self.browser.execute_cdp_cmd("Emulation.setDeviceMetricsOverride", {"width": width, "height": height, "deviceScaleFactor": 1,
-                                                                            "mobile": size == PHONE})
-        self.browser.execute_cdp_cmd("Emulation.setTouchEmulationEnabled", {"enabled": size == PHONE, "maxTouchPoints": 2})
+        self.browser.execute_cdp_cmd("Emulation.setDeviceMetricsOverride",
+                                     {"width": width, "height": height, "deviceScaleFactor": 1,
+                                      "mobile": size == PHONE})
+        self.browser.execute_cdp_cmd("Emulation.setTouchEmulationEnabled",
+                                     {"enabled": size == PHONE, "maxTouchPoints": 2})
         self.browser.get_log("browser")
         self.browser.get((FOLDER / f"{name}.html").as_uri() + hash_text)
         self.wait(lambda: is_of_size(self.browser, *size), f"the page has the size {size}")
@@ -56,7 +62,8 @@ class Page(unittest.TestCase):
 
     def tearDown(self) -> None:
         """The console has no error, whatever was done."""
-        self.assertEqual([entry["message"] for entry in self.browser.get_log("browser") if entry["level"] in ("SEVERE", "WARNING")], [])
+        self.assertEqual([entry["message"] for entry in self.browser.get_log("browser")
+                          if entry["level"] in ("SEVERE", "WARNING")], [])
 
     def run_script(self, text: str, *words: Any) -> Any:
         """Runs a script on the page."""
@@ -86,12 +93,14 @@ class Page(unittest.TestCase):
             time.sleep(0.05)
 
     def rest(self) -> None:
-        """Waits until nothing on the page can change by itself: it is drawn, has spoken, and its address says what it shows."""
+        """Waits until nothing on the page can change by itself: it is drawn, has spoken, and its address says what it
+        shows."""
         self.wait(lambda: is_still(self.browser), "the page comes to rest")
 
     def point(self, x: float, y: float, kind: str = "mouseMoved", selector: str = "#whole") -> None:
         """Moves the mouse to a place of an element, in pixels from its corner."""
-        left, top = self.run_script("const box = document.querySelector(arguments[0]).getBoundingClientRect(); return [box.left, box.top]", selector)
+        left, top = self.run_script("const box = document.querySelector(arguments[0]).getBoundingClientRect(); return "
+                                    "[box.left, box.top]", selector)
         button = {} if kind == "mouseMoved" else {"button": "left", "clickCount": 1, "buttons": 1}
         self.browser.execute_cdp_cmd("Input.dispatchMouseEvent", {"type": kind, "x": left + x, "y": top + y, **button})
 
@@ -102,11 +111,14 @@ class Picture(Page):
     def test_cell_under_the_pointer(self) -> None:
         """The cell is shown as messages write it, with what there is."""
         self.open("adder", "#z=20,20,17")
-        width, height = self.run_script("const c = document.getElementById('whole'); return [c.clientWidth, c.clientHeight]")
-        # The middle, beside the rulers of 32 and 18 pixels, is the place (20, 17): `in a 15 19` is 4.5 cells to the left and 2.5 below.
+        width, height = self.run_script("const c = document.getElementById('whole'); return [c.clientWidth, "
+                                        "c.clientHeight]")
+        # The middle, beside the rulers of 32 and 18 pixels, is the place (20, 17): `in a 15 19` is 4.5 cells to the
+        # left and 2.5 below.
         middle = 32 + (width - 32) / 2, 18 + (height - 18) / 2
         self.point(middle[0] - 4.5 * 20, middle[1] + 2.5 * 20)
-        self.wait(lambda: self.text("cell") == "(15, 19): ball, in a", f"the cell and what there is: {self.text('cell')}")
+        self.wait(lambda: self.text("cell") == "(15, 19): ball, in a",
+                  f"the cell and what there is: {self.text('cell')}")
         self.point(middle[0] + 10.5 * 20, middle[1] + 2.5 * 20)
         self.wait(lambda: self.text("cell") == "(30, 19): mirror", f"a mirror: {self.text('cell')}")
         self.point(2, 2)
@@ -136,13 +148,17 @@ class Picture(Page):
         self.open("adder", "#t=8")
         self.keys("b")
         self.wait(lambda: self.text("time") == "0 of 8" and "reverse" in self.text("reverse"), "it comes to the start")
-        # A step in four seconds, so that a slow machine stops it on its way, and a list of the times, so that it misses none.
-        self.run_script("const speed = document.getElementById('speed'); speed.min = speed.value = -2; speed.dispatchEvent(new Event('input'));"
+        # A step in four seconds, so that a slow machine stops it on its way, and a list of the times, so that it misses
+        # none.
+        self.run_script("const speed = document.getElementById('speed'); speed.min = speed.value = -2; "
+                        "speed.dispatchEvent(new Event('input'));"
                         "const time = document.getElementById('time'); window.times = [];"
-                        "new MutationObserver(() => window.times.push(time.textContent)).observe(time, {childList: true})")
+                        "new MutationObserver(() => window.times.push(time.textContent)).observe(time, {childList: "
+                        "true})")
         self.click("#reverse")
         self.wait(lambda: self.run_script("return window.times.length") >= 2, "it plays")
-        self.assertEqual(self.run_script("return window.times.slice(0, 2)"), ["8 of 8", "7 of 8"], "it begins at the end")
+        self.assertEqual(self.run_script("return window.times.slice(0, 2)"), ["8 of 8", "7 of 8"],
+                         "it begins at the end")
         self.keys(" ")
         self.wait(lambda: "reverse" in self.text("reverse"), "space stops")
         self.assertNotEqual(self.text("time"), "0 of 8", "it stopped at the start, and not by the key")
@@ -151,8 +167,10 @@ class Picture(Page):
         """The waveform is drawn under the picture, and a click on it goes to that time."""
         self.open("adder", "#on=a")
         self.rest()
-        box = self.run_script("const b = document.getElementById('wave').getBoundingClientRect(); return [b.width, b.height, b.top]")
-        self.assertGreater(box[2], self.run_script("return document.getElementById('whole').getBoundingClientRect().bottom"))
+        box = self.run_script("const b = document.getElementById('wave').getBoundingClientRect(); return [b.width, "
+                              "b.height, b.top]")
+        self.assertGreater(box[2],
+                           self.run_script("return document.getElementById('whole').getBoundingClientRect().bottom"))
         line = "return parseFloat(document.getElementById('wave-cursor').style.left)"
         first = self.run_script(line)
         self.point(box[0] * 0.7, 20, "mousePressed", "#wave")
@@ -168,10 +186,13 @@ class Picture(Page):
             file = FOLDER / f"adder_8.{kind}"
             file.unlink(missing_ok=True)
             self.click(f"#{kind}")
-            self.wait(lambda: file.exists() and file.read_bytes().rstrip().endswith(end), f"the whole {kind} file comes")
-        width, height = self.run_script("const c = document.getElementById('whole'); return [c.clientWidth, c.clientHeight]")
+            self.wait(lambda: file.exists() and file.read_bytes().rstrip().endswith(end),
+                      f"the whole {kind} file comes")
+        width, height = self.run_script("const c = document.getElementById('whole'); return [c.clientWidth, "
+                                        "c.clientHeight]")
         png, svg = (FOLDER / "adder_8.png").read_bytes(), ET.parse(FOLDER / "adder_8.svg").getroot()
-        self.assertEqual((png[:8], int.from_bytes(png[16:20]), int.from_bytes(png[20:24])), (b"\x89PNG\r\n\x1a\n", width, height))
+        self.assertEqual((png[:8], int.from_bytes(png[16:20]), int.from_bytes(png[20:24])),
+                         (b"\x89PNG\r\n\x1a\n", width, height))
         self.assertEqual((float(svg.get("width")), float(svg.get("height"))), (width, height))
         texts = [part.text for part in svg.iter("{http://www.w3.org/2000/svg}text")]
         self.assertLessEqual({"✓ sum→", "→carry", "→a", "12"}, set(texts))
@@ -185,10 +206,13 @@ class Report(Page):
         self.open("outputs")
         self.wait(lambda: self.text("outputs-count") == "3 of 48 outputs differ", self.text("outputs-count"))
         shown = [part.text for part in self.browser.find_elements(By.CSS_SELECTOR, "#outputs > span")]
-        self.assertEqual([text.split()[:2] for text in shown[:4]], [["✗", "w5=1"], ["✗", "w17=1"], ["✗", "w40=1"], ["✓", "w0=1"]])
-        self.assertTrue(all(part.is_displayed() for part in self.browser.find_elements(By.CSS_SELECTOR, "#outputs .bad")))
+        self.assertEqual([text.split()[:2] for text in shown[:4]],
+                         [["✗", "w5=1"], ["✗", "w17=1"], ["✗", "w40=1"], ["✓", "w0=1"]])
+        self.assertTrue(all(part.is_displayed()
+                            for part in self.browser.find_elements(By.CSS_SELECTOR, "#outputs .bad")))
         self.click("#none")
-        self.wait(lambda: self.text("outputs-count") == "All 48 outputs are as the circuit says.", self.text("outputs-count"))
+        self.wait(lambda: self.text("outputs-count") == "All 48 outputs are as the circuit says.",
+                  self.text("outputs-count"))
 
     def test_all_and_none(self) -> None:
         """Two buttons put all inputs on and off."""
@@ -213,8 +237,11 @@ class Report(Page):
     def test_faults_by_key(self) -> None:
         """n and p go through the lines that are against the design, and round."""
         self.open("faults")
-        count = len([button for button in self.browser.find_elements(By.CSS_SELECTOR, "#report button") if button.text.startswith("✗")])
-        pressed = lambda: [at for at, part in enumerate(self.browser.find_elements(By.CSS_SELECTOR, "#report button"))  # noqa: E731
+        count = len([button for button in self.browser.find_elements(By.CSS_SELECTOR, "#report button")
+                     if button.text.startswith("✗")])
+        pressed = lambda: [at for at,
+                           part in enumerate(self.browser.find_elements(By.CSS_SELECTOR,
+                                                                        "#report button"))  # noqa: E731
                            if part.get_attribute("aria-pressed") == "true"]
         self.assertEqual((count, pressed()), (2, []))
         for key, wanted in (("n", 0), ("n", 1), ("n", 0), ("p", 1), ("p", 0), ("p", 1)):
@@ -229,7 +256,8 @@ class Report(Page):
         self.assertGreaterEqual(self.run_script("return document.activeElement.getBoundingClientRect().top"), 0)
         self.keys(Keys.ENTER)
         self.keys(Keys.TAB)
-        self.assertTrue(self.run_script("return document.getElementById('report-box').contains(document.activeElement)"))
+        self.assertTrue(
+            self.run_script("return document.getElementById('report-box').contains(document.activeElement)"))
 
     def test_speaks_when_it_stops(self) -> None:
         """While it plays no live region changes; when it has stopped one says the time and the outputs, once."""
@@ -240,7 +268,8 @@ class Report(Page):
         # What it spoke while it played would be in the list too.
         self.wait(lambda: self.run_script("return window.spoken.length"), "it speaks")
         self.rest()
-        self.assertEqual(self.run_script("return window.spoken"), ["Time 8 of 8. The last time. All 2 outputs are as the circuit says."])
+        self.assertEqual(self.run_script("return window.spoken"),
+                         ["Time 8 of 8. The last time. All 2 outputs are as the circuit says."])
 
 
 class State(Page):
@@ -252,7 +281,8 @@ class State(Page):
         self.keys("n")
         self.click("#inputs input")
         self.keys("+", "+", Keys.ARROW_RIGHT)
-        look = ("return [document.getElementById('time').textContent, [...document.querySelectorAll('#inputs input')].map((box) => box.checked),"
+        look = ("return [document.getElementById('time').textContent, [...document.querySelectorAll('#inputs "
+                "input')].map((box) => box.checked),"
                 "document.getElementById('beside-title').textContent, document.getElementById('cell').textContent]")
         self.rest()
         kept = self.hash()
@@ -272,18 +302,22 @@ class State(Page):
         self.open("adder")
         self.run_script("location.hash = '#t=3&on=b'")
         self.wait(lambda: self.text("time") == "3 of 8", self.text("time"))
-        on = self.run_script("return [...document.querySelectorAll('#inputs input')].filter((box) => box.checked).map((box) => box.value)")
+        on = self.run_script("return [...document.querySelectorAll('#inputs input')].filter((box) => "
+                             "box.checked).map((box) => box.value)")
         self.assertEqual(on, ["b"])
 
     def test_a_hostile_address(self) -> None:
         """Nothing of an address becomes part of the page, and the page is as without it."""
-        for text in ("#t=<img src=x onerror=alert(1)>&on=__proto__,<b>x</b>&z=1e9,NaN,0&fault=99", "#%E0%A4%A", "#" + "t=9&" * 20000,
-                     "#z=0,0,0&t=99999999999999999999", "#constructor=1&__proto__=2&fault=constructor", "#t=4;z=javascript:alert(1)"):
+        for text in ("#t=<img src=x onerror=alert(1)>&on=__proto__,<b>x</b>&z=1e9,NaN,0&fault=99", "#%E0%A4%A",
+                     "#" + "t=9&" * 20000,
+                     "#z=0,0,0&t=99999999999999999999", "#constructor=1&__proto__=2&fault=constructor",
+                     "#t=4;z=javascript:alert(1)"):
             self.open("adder", text)
             self.wait(lambda: self.text("outputs-count").startswith("All 2 outputs"), f"the page works at {text[:60]}")
             self.assertEqual(self.text("time"), "0 of 8")
             self.assertEqual(self.run_script("return document.querySelectorAll('img, b, iframe').length"), 0)
-            self.assertNotIn("NaN", self.run_script("return document.body.textContent.split('Lines of the certificate')[0]"))
+            self.assertNotIn("NaN",
+                             self.run_script("return document.body.textContent.split('Lines of the certificate')[0]"))
 
 
 class Phone(Page):
@@ -323,22 +357,28 @@ class Phone(Page):
         self.assertEqual(self.run_script("return scrollY"), 0)
 
     def drag(self, places: list[list[tuple[float, float]]]) -> None:
-        """Puts fingers at the first places, moves them over the others, and lifts them. Waits until the page knows that they are lifted."""
+        """Puts fingers at the first places, moves them over the others, and lifts them.
+
+        Waits until the page knows that they are lifted.
+        """
         lifts = self.run_script("return watched.lifts")
         for number, fingers in enumerate(places):
             points = [{"x": x, "y": y, "id": at} for at, (x, y) in enumerate(fingers)]
-            self.browser.execute_cdp_cmd("Input.dispatchTouchEvent", {"type": "touchMove" if number else "touchStart", "touchPoints": points})
+            self.browser.execute_cdp_cmd("Input.dispatchTouchEvent",
+                                         {"type": "touchMove" if number else "touchStart", "touchPoints": points})
             # The page hears of places between two frames only by the last one of them.
             await_frames(self.browser)
         self.browser.execute_cdp_cmd("Input.dispatchTouchEvent", {"type": "touchEnd", "touchPoints": []})
-        self.wait(lambda: self.run_script("return watched.lifts") >= lifts + len(places[0]), "the page has heard of the fingers")
+        self.wait(lambda: self.run_script("return watched.lifts") >= lifts + len(places[0]),
+                  "the page has heard of the fingers")
 
     def test_fits(self) -> None:
         """Nothing is wider than the window, and the buttons are large enough for a finger."""
         for name in ("adder", "faults", "outputs"):
             self.open(name, size=PHONE)
             self.assertFalse(self.run_script("return document.documentElement.scrollWidth > innerWidth"), name)
-        small = self.run_script("return [...document.querySelectorAll('#transport button, #tools button')].filter((part) => part.offsetHeight < 30)"
+        small = self.run_script("return [...document.querySelectorAll('#transport button, #tools "
+                                "button')].filter((part) => part.offsetHeight < 30)"
                                 ".map((part) => part.id)")
         self.assertEqual(small, [])
 

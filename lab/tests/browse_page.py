@@ -1,8 +1,9 @@
 #!/usr/bin/python3
-"""browse_page.py PAGE FOLDER: uses a page of wrong_edge.txt in headless Chromium, and writes screenshots of two sizes to FOLDER.
+"""browse_page.py PAGE FOLDER: uses a page of wrong_edge.txt in headless Chromium, and writes screenshots of two sizes
+to FOLDER.
 
-It runs with Debian's python3-selenium. The status is 1 where the page does not do what it should. The other scripts take the browser and
-what waits for a page from here.
+It runs with Debian's python3-selenium. The status is 1 where the page does not do what it should. The other scripts
+take the browser and what waits for a page from here.
 """
 import sys
 import time
@@ -14,12 +15,13 @@ from selenium.webdriver.chrome.service import Service
 from selenium.webdriver.common.by import By
 from selenium.webdriver.common.keys import Keys
 
-# Runs in each page before its own scripts. It lists the timers and frames that the page waits for, and counts the fingers and buttons of the
-# mouse that were lifted. A timer of ten seconds only frees the memory of a saved file.
+# Runs in each page before its own scripts. It lists the timers and frames that the page waits for, and counts the
+# fingers and buttons of the mouse that were lifted. A timer of ten seconds only frees the memory of a saved file.
 WATCH = """
 window.watched = { timers: new Set(), frames: new Set(), lifts: 0 };
 {
-  const { timers, frames } = watched, { setTimeout, clearTimeout, requestAnimationFrame, cancelAnimationFrame } = window;
+  const { timers, frames } = watched;
+  const { setTimeout, clearTimeout, requestAnimationFrame, cancelAnimationFrame } = window;
   window.setTimeout = (action, delay, ...words) => {
     const timer = setTimeout(() => { timers.delete(timer); action(...words); }, delay);
     if (!(delay >= 10000)) timers.add(timer);
@@ -61,18 +63,21 @@ def watch(browser: webdriver.Chrome) -> None:
 
 def await_frames(browser: webdriver.Chrome) -> None:
     """Waits for two frames of the page. The first one lays the page out and tells it of parts whose size changed."""
-    browser.execute_async_script("const done = arguments[0]; requestAnimationFrame(() => requestAnimationFrame(() => done()));")
+    browser.execute_async_script("const done = arguments[0]; requestAnimationFrame(() => requestAnimationFrame(() => "
+                                 "done()));")
 
 
 def is_still(browser: webdriver.Chrome) -> bool:
-    """Waits for two frames, and returns whether the page waits for no timer and no frame: nothing but an event can change it then."""
+    """Waits for two frames, and returns whether the page waits for no timer and no frame: nothing but an event can
+    change it then."""
     await_frames(browser)
     return bool(browser.execute_script("return watched.timers.size + watched.frames.size === 0"))
 
 
 def is_of_size(browser: webdriver.Chrome, width: int, height: int) -> bool:
     """Returns whether the page is laid out for a size of the window."""
-    return bool(browser.execute_script("const { clientWidth, clientHeight } = document.documentElement; return clientWidth === arguments[0] && "
+    return bool(browser.execute_script("const { clientWidth, clientHeight } = document.documentElement; return "
+                                       "clientWidth === arguments[0] && "
                                        "clientHeight === arguments[1]", width, height))
 
 
@@ -102,7 +107,8 @@ def use(browser: webdriver.Chrome, folder: Path) -> None:
     browser.find_elements(By.CSS_SELECTOR, "#report button")[1].click()
     assert shown(browser, "time") == "5 of 6" and "Module 1 by itself with a=0 c=1" in shown(browser, "beside-title")
     for name, (width, height) in {"large": (1300, 850), "small": (420, 900)}.items():
-        browser.execute_cdp_cmd("Emulation.setDeviceMetricsOverride", {"width": width, "height": height, "deviceScaleFactor": 1, "mobile": False})
+        browser.execute_cdp_cmd("Emulation.setDeviceMetricsOverride",
+                                {"width": width, "height": height, "deviceScaleFactor": 1, "mobile": False})
         wait(lambda: is_of_size(browser, width, height) and is_still(browser), f"the page is drawn at the size {name}")
         browser.save_screenshot(str(folder / f"{name}.png"))
 

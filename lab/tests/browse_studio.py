@@ -1,8 +1,8 @@
 #!/usr/bin/python3
 """browse_studio.py FOLDER PROGRAM LAB: uses the studio in headless Chromium, as `studio_driver.py` does.
 
-It starts servers for files of FOLDER, and writes screenshots of two sizes, light and dark, to FOLDER. `collision.txt` must be missing.
-BBMLAB_USES names the uses to run, all if it is missing.
+It starts servers for files of FOLDER, and writes screenshots of two sizes, light and dark, to FOLDER. `collision.txt`
+must be missing. BBMLAB_USES names the uses to run, all if it is missing.
 """
 import json
 import lzma
@@ -22,33 +22,62 @@ COLLISION = "circuit\ninput p\ninput q\ninteract p q -> a b c d\noutput a\noutpu
 EMPTY = "circuit\nend\nlayout 24 16 6\nend\n"
 CROSSED = "circuit\ninput p\noutput p\nend\nlayout 66 66 4\nin p 2 2\nout p 8 6\nend\n"
 # Whether the canvas of the waveform has a size of its own, and is not empty.
-HAS_WAVE = """const wave = document.getElementById("wave"), { width, height } = wave, empty = Object.assign(document.createElement("canvas"), { width, height });
+HAS_WAVE = """const wave = document.getElementById("wave"), { width, height } = wave;
+const empty = Object.assign(document.createElement("canvas"), { width, height });
 return wave.clientHeight > 20 && width === wave.clientWidth && wave.toDataURL() !== empty.toDataURL();"""
 # The page does 500 commands by its own buttons, keys and pointers, by a fixed sequence of random numbers.
 COMMANDS = """
-const { desk, tools, sketch } = bbmlab.studio, whole = document.getElementById("whole"), { width, height } = desk.layout;
+const { desk, tools, sketch } = bbmlab.studio, whole = document.getElementById("whole");
+const { width, height } = desk.layout;
 let state = 20261127, done = 0;
 const draw = (count) => { state = state * 1664525 + 1013904223 >>> 0; return Math.floor(state / 2 ** 32 * count); };
 const cell = () => [draw(width), draw(height)];
 const point = (type, [x, y], buttons) => {
   const { left, top } = whole.getBoundingClientRect(), at = (value, from) => (value + 0.5 - from) * sketch.scale;
-  whole.dispatchEvent(new PointerEvent(type, { pointerId: 1, bubbles: true, buttons, clientX: left + at(x, sketch.left), clientY: top + at(y, sketch.top) }));
+  const clientX = left + at(x, sketch.left), clientY = top + at(y, sketch.top);
+  whole.dispatchEvent(new PointerEvent(type, { pointerId: 1, bubbles: true, buttons, clientX, clientY }));
 };
 const drag = (from, to) => { point("pointerdown", from, 1); point("pointermove", to, 1); point("pointerup", to, 0); };
-const key = (name, more = {}) => whole.dispatchEvent(new KeyboardEvent("keydown", { key: name, bubbles: true, ...more }));
+const key = (name, more = {}) => {
+  whole.dispatchEvent(new KeyboardEvent("keydown", { key: name, bubbles: true, ...more }));
+};
 const tool = (name) => document.getElementById(`tool-${name}`).click();
 const near = ([x, y]) => [Math.min(width - 1, x + draw(8)), Math.min(height - 1, y + draw(8))];
-const partCell = () => { const { parts } = desk.model; return parts.length ? parts[draw(parts.length)].box.slice(0, 2) : cell(); };
-const some = [() => { tool("mirror"); const from = cell(); drag(from, near(from)); }, () => { tool(["ball", "waste"][draw(2)]); const at = cell(); drag(at, at); },
-  () => { tool(["in", "out"][draw(2)]); const at = cell(); drag(at, at); }, () => { tool("select"); const from = cell(); drag(from, [width - 1, height - 1]); },
-  () => { tool("select"); const from = partCell(); drag(from, near(from)); }, () => key(["r", "x", "y"][draw(3)]), () => key("Delete"),
-  () => key(["ArrowUp", "ArrowLeft", "ArrowDown", "ArrowRight"][draw(4)], { altKey: true }), () => key("c", { ctrlKey: true }),
-  () => { key("v", { ctrlKey: true }); const at = cell(); drag(at, at); }, () => { tool("erase"); const at = partCell(); drag(at, near(at)); },
-  () => { tool("cell"); const list = document.getElementById("cell-name"); list.selectedIndex = draw(list.length); list.dispatchEvent(new Event("change"));
-    const at = cell(); drag(at, at); document.getElementById("dialog").close(); },
-  () => { const field = document.getElementById("steps"); field.value = desk.layout.steps + draw(5); field.dispatchEvent(new Event("change")); },
+const partCell = () => {
+  const { parts } = desk.model;
+  return parts.length ? parts[draw(parts.length)].box.slice(0, 2) : cell();
+};
+const put = (at) => drag(at, at), dragNear = (from) => drag(from, near(from));
+const some = [
+  () => { tool("mirror"); dragNear(cell()); },
+  () => { tool(["ball", "waste"][draw(2)]); put(cell()); },
+  () => { tool(["in", "out"][draw(2)]); put(cell()); },
+  () => { tool("select"); drag(cell(), [width - 1, height - 1]); },
+  () => { tool("select"); dragNear(partCell()); },
+  () => key(["r", "x", "y"][draw(3)]), () => key("Delete"),
+  () => key(["ArrowUp", "ArrowLeft", "ArrowDown", "ArrowRight"][draw(4)], { altKey: true }),
+  () => key("c", { ctrlKey: true }),
+  () => { key("v", { ctrlKey: true }); put(cell()); },
+  () => { tool("erase"); dragNear(partCell()); },
+  () => {
+    tool("cell");
+    const list = document.getElementById("cell-name");
+    list.selectedIndex = draw(list.length);
+    list.dispatchEvent(new Event("change"));
+    put(cell());
+    document.getElementById("dialog").close();
+  },
+  () => {
+    const field = document.getElementById("steps");
+    field.value = desk.layout.steps + draw(5);
+    field.dispatchEvent(new Event("change"));
+  },
   () => key("z", { ctrlKey: true }), () => key("y", { ctrlKey: true })];
-while (done < 500) { const before = desk.model.text; some[draw(some.length)](); if (desk.model.text !== before) done += 1; }
+while (done < 500) {
+  const before = desk.model.text;
+  some[draw(some.length)]();
+  if (desk.model.text !== before) done += 1;
+}
 return desk.model.past.length;
 """
 
@@ -73,12 +102,14 @@ def draw_collision(studio: Studio) -> None:
     studio.await_text("truth", "All 4 rows are as the circuit says.")
     studio.await_text("who", "says bbmcheck")
     text = studio.layout_text()
-    assert [line for line in text.split("\n") if line.startswith("in ")] == ["in p 4 4", "in p 2 2", "in q 4 11", "in q 2 13"], text
+    assert [line for line in text.split("\n") if line.startswith("in ")] == ["in p 4 4", "in p 2 2", "in q 4 11",
+                                                                             "in q 2 13"], text
     studio.click("#tool-select")
     studio.shoot("collision")
     studio.click("#save")
     studio.wait(lambda: (studio.folder / "collision.txt").exists(), "the file is written")
-    checked = subprocess.run([studio.program, "check"], input=(studio.folder / "collision.txt").read_bytes(), capture_output=True, check=False)
+    checked = subprocess.run([studio.program, "check"], input=(studio.folder / "collision.txt").read_bytes(),
+                             capture_output=True, check=False)
     assert checked.returncode == 0 and checked.stdout.endswith(b"verdict yes\n"), checked.stdout
 
 
@@ -90,7 +121,8 @@ def drag_mirror(studio: Studio) -> None:
     mirror = studio.script("return bbmlab.studio.desk.model.parts.find(({ kind }) => kind === 'mirror').box")
     studio.click("#tool-select")
     studio.script("const badge = document.getElementById('badge'); window.badges = [];"
-                  "new MutationObserver(() => window.badges.push(badge.className)).observe(badge, { attributes: true })")
+                  "new MutationObserver(() => window.badges.push(badge.className))"
+                  ".observe(badge, { attributes: true })")
     studio.drag((mirror[0], mirror[1]), (mirror[0] + 4, mirror[1] + 2))
     assert studio.layout_text() != first, "the mirror is moved"
     taken = studio.verdict("no")
@@ -98,7 +130,8 @@ def drag_mirror(studio: Studio) -> None:
     assert badges[0] == "old" and badges[-1] == "no", f"an outdated verdict is grey: {badges}"
     studio.await_text("truth", "rows differ")
     # The table is another one whenever the worker has made it again.
-    text, colour = studio.script("const cell = document.querySelector('#truth td.bad'); return [cell.textContent, getComputedStyle(cell).color]")
+    text, colour = studio.script("const cell = document.querySelector('#truth td.bad'); return [cell.textContent, "
+                                 "getComputedStyle(cell).color]")
     assert "wanted" in text and colour == "rgb(179, 0, 12)", (text, colour)
     studio.wait(lambda: studio.script("return bbmlab.studio.sketch.faults.length") > 0, "faults are drawn")
     studio.shoot("fredkin_no")
@@ -128,17 +161,20 @@ def draw_by_keyboard(studio: Studio) -> None:
     studio.tab_to("circuit")
     studio.press_keys(Keys.CONTROL + "a", COLLISION)
     studio.tab_to("whole")
-    studio.press_keys("i", Keys.ENTER, *[Keys.ARROW_LEFT] * 16, *[Keys.ARROW_UP] * 16, *[Keys.ARROW_RIGHT] * 4, *[Keys.ARROW_DOWN] * 4, Keys.ENTER,
+    studio.press_keys("i", Keys.ENTER, *[Keys.ARROW_LEFT] * 16, *[Keys.ARROW_UP] * 16, *[Keys.ARROW_RIGHT] * 4,
+                      *[Keys.ARROW_DOWN] * 4, Keys.ENTER,
                       *[Keys.ARROW_DOWN] * 7, Keys.ENTER, "o")
     studio.tab_to("ends")
     studio.press_keys(Keys.ENTER)
     studio.verdict("yes")
     studio.tab_to("whole")
     # A frame about everything by Enter at two corners, and then a turn by a quarter.
-    studio.press_keys("v", *[Keys.ARROW_LEFT] * 16, *[Keys.ARROW_UP] * 16, Keys.ENTER, *[Keys.ARROW_RIGHT] * 16, *[Keys.ARROW_DOWN] * 16, Keys.ENTER, "r")
+    studio.press_keys("v", *[Keys.ARROW_LEFT] * 16, *[Keys.ARROW_UP] * 16, Keys.ENTER, *[Keys.ARROW_RIGHT] * 16,
+                      *[Keys.ARROW_DOWN] * 16, Keys.ENTER, "r")
     studio.wait(lambda: "in p 11 4" in studio.layout_text(), "everything is turned")
     studio.verdict("yes")
-    studio.press_keys(Keys.ALT + Keys.ARROW_UP, Keys.ALT + Keys.ARROW_DOWN, Keys.CONTROL + "z", Keys.CONTROL + "z", Keys.CONTROL + "z", Keys.CONTROL + "s")
+    studio.press_keys(Keys.ALT + Keys.ARROW_UP, Keys.ALT + Keys.ARROW_DOWN, Keys.CONTROL + "z", Keys.CONTROL + "z",
+                      Keys.CONTROL + "z", Keys.CONTROL + "s")
     studio.wait(lambda: "in p 4 4" in (studio.folder / "keys.txt").read_text(), "Ctrl-S writes the file")
 
 
@@ -149,8 +185,10 @@ def refuse_circuit(studio: Studio) -> None:
     good = studio.script("return document.getElementById('circuit').value")
     studio.type_circuit(good.replace("spill a", "spill <img src=x onerror=alert(1)>"))
     # While it is typed other lines are refused.
-    studio.wait(lambda: "<img src=x onerror=alert(1)>" in studio.text("refusal") and studio.text("refusal").startswith("Line 6: "), "the refusal is shown")
-    studio.wait(lambda: studio.script("return document.querySelector('#gutter .bad')?.textContent") == "\u2717 6", "the gutter marks the line")
+    studio.wait(lambda: "<img src=x onerror=alert(1)>" in studio.text("refusal")
+                and studio.text("refusal").startswith("Line 6: "), "the refusal is shown")
+    studio.wait(lambda: studio.script("return document.querySelector('#gutter .bad')?.textContent") == "\u2717 6",
+                "the gutter marks the line")
     studio.verdict("refused")
     assert studio.browser.find_elements(By.CSS_SELECTOR, "img") == [], "a text of the page is HTML"
     studio.shoot("refused")
@@ -158,7 +196,8 @@ def refuse_circuit(studio: Studio) -> None:
     studio.wait(lambda: studio.text("refusal") == "", "the refusal is gone")
     studio.verdict("yes")
     studio.put("width", "9")
-    studio.wait(lambda: studio.text("status") == "Width and height are even numbers from 2 to 512.", "the size is refused")
+    studio.wait(lambda: studio.text("status") == "Width and height are even numbers from 2 to 512.",
+                "the size is refused")
 
 
 def place_mirrors(studio: Studio) -> None:
@@ -179,10 +218,13 @@ def place_mirrors(studio: Studio) -> None:
     studio.aim(7, 10)
     studio.await_text("status", "would fall apart")
     studio.lift()
-    assert all((x + y) % 2 == 1 for x, y, _, _ in studio.script("return bbmlab.studio.desk.model.parts.map(({ box }) => box)"))
+    assert all((x + y) % 2 == 1 for x, y, _,
+               _ in studio.script("return bbmlab.studio.desk.model.parts.map(({ box }) => box)"))
     studio.type_circuit("circuit\nend")
-    studio.script("const { desk } = bbmlab.studio; desk.model.setText('circuit\\nend\\nlayout 24 16 6\\nmirror 4 4 2 2\\nend\\n')")
-    assert "The mirror 4 4 2 2 falls apart: its upper left cell is (4, 4)" in studio.text("status"), studio.text("status")
+    studio.script("const { desk } = bbmlab.studio; desk.model.setText('circuit\\nend\\nlayout 24 16 6\\nmirror 4 4 2 "
+                  "2\\nend\\n')")
+    assert "The mirror 4 4 2 2 falls apart: its upper left cell is (4, 4)" in studio.text("status"), studio.text(
+        "status")
 
 
 def change_selection(studio: Studio) -> None:
@@ -224,11 +266,14 @@ def insert_cell(studio: Studio) -> None:
     """Sees the ports of a standard cell and their times while placing it, and gets a yes."""
     studio.begin("cell.txt", "circuit\nend\nlayout 48 48 0\nend\n")
     studio.click("#hint-cell")
-    studio.script("const list = document.getElementById('cell-name'); list.value = 'not'; list.dispatchEvent(new Event('change'))")
+    studio.script("const list = document.getElementById('cell-name'); list.value = 'not'; list.dispatchEvent(new "
+                  "Event('change'))")
     studio.aim(24, 24)
-    studio.wait(lambda: studio.text("status").startswith("not ") and studio.text("status").endswith("; 37 steps."), "the cell and its steps are named")
+    studio.wait(lambda: studio.text("status").startswith("not ") and studio.text("status").endswith("; 37 steps."),
+                "the cell and its steps are named")
     ports = studio.script("return bbmlab.studio.sketch.ghost.ports.map(({ name, time }) => [name, time])")
-    stops = [line.split(" ") for line in (TOP / "lab" / "cells" / "not.txt").read_text().split("\n") if line.startswith("stop ")]
+    stops = [line.split(" ") for line in (TOP / "lab" / "cells" / "not.txt").read_text().split("\n")
+             if line.startswith("stop ")]
     assert sorted(ports) == sorted(map(list, {(name, int(at)) for _, at, name, _, _ in stops})), ports
     studio.shoot("cell")
     studio.press(24, 24)
@@ -237,7 +282,8 @@ def insert_cell(studio: Studio) -> None:
 
 
 def draw_not_gate(studio: Studio) -> None:
-    """Comes from nothing to a yes for a NOT gate by what the page says: by a ready cell, and by hand with a constant ball."""
+    """Comes from nothing to a yes for a NOT gate by what the page says: by a ready cell, and by hand with a constant
+    ball."""
     studio.begin("ready_not.txt", "circuit\nend\nlayout 48 48 40\nend\n")
     start = time.monotonic()
     studio.click("#hint-cell")
@@ -249,7 +295,8 @@ def draw_not_gate(studio: Studio) -> None:
     studio.begin("drawn_not.txt", "circuit\nend\nlayout 48 48 40\nend\n")
     start = time.monotonic()
     studio.click("#hint-circuit")
-    studio.press_keys(Keys.CONTROL + "a", "circuit\ninput a\nsource 1 -> one\ninteract a one -> b c d e\noutput c\nspill b\nspill d\nspill e\nend")
+    studio.press_keys(Keys.CONTROL + "a", "circuit\ninput a\nsource 1 -> one\ninteract a one -> b c d e\noutput c\n"
+                      "spill b\nspill d\nspill e\nend")
     for name, value in (("width", "16"), ("height", "16"), ("steps", "6")):
         studio.put(name, value)
     studio.click("#tool-in")
@@ -269,13 +316,15 @@ def type_cell(studio: Studio, name: str) -> None:
         studio.press_keys(*name)
         if studio.script("return document.getElementById('cell-name').value") == name:
             return
-        # The browser takes letters as one word if less than a second lies between them, which a slow machine may not do. A word ends so too.
+        # The browser takes letters as one word if less than a second lies between them, which a slow machine may not
+        # do. A word ends so too.
         time.sleep(2)
     raise AssertionError(f"the list does not go to {name}")
 
 
 def take_fix(studio: Studio) -> None:
-    """Takes a fix that was tried, by its button, and gets a yes; a line of the report shows its time, its inputs and its cell."""
+    """Takes a fix that was tried, by its button, and gets a yes; a line of the report shows its time, its inputs and
+    its cell."""
     studio.begin("fix.txt", example("not_gate").replace("out b 4 4\nwaste 7 4\n", "out b 7 4\nwaste 4 4\n"))
     studio.verdict("no")
     studio.wait(lambda: studio.browser.find_elements(By.CSS_SELECTOR, "#report .fix"), "a fix is found")
@@ -300,13 +349,16 @@ def see_ways(studio: Studio) -> None:
     assert {"bounce", "meet"} == set(marks), set(marks)
     names = studio.script("return bbmlab.studio.desk.player.names")
     assert [name for name in names if name not in studio.text("legend").split()] == [], studio.text("legend")
-    studio.script("const list = document.getElementById('ways'); list.value = 'on'; list.dispatchEvent(new Event('change'))")
+    studio.script("const list = document.getElementById('ways'); list.value = 'on'; list.dispatchEvent(new "
+                  "Event('change'))")
     for name in names:
         studio.click(f"#inputs input[value={name}]")
     studio.still()
     assert studio.script(ways) < every
-    studio.script("const list = document.getElementById('ways'); list.value = 'all'; list.dispatchEvent(new Event('change'))")
-    studio.script("const field = document.getElementById('slider'); field.value = 20; field.dispatchEvent(new Event('input'))")
+    studio.script("const list = document.getElementById('ways'); list.value = 'all'; list.dispatchEvent(new "
+                  "Event('change'))")
+    studio.script("const field = document.getElementById('slider'); field.value = 20; field.dispatchEvent(new "
+                  "Event('input'))")
     studio.wait(lambda: studio.text("time").startswith("20 of "), "the slider's time is shown")
     studio.script("document.getElementById('wave-part').open = true")
     studio.wait(lambda: studio.script(HAS_WAVE), "the waveform is drawn")
@@ -327,7 +379,8 @@ def draw_by_touch(studio: Studio) -> None:
     studio.click("#tool-ball")
     studio.touch("Start", (13, 9))
     studio.touch("End")
-    studio.wait(lambda: "mirror 5 4 4 2" in studio.layout_text() and "ball 13 9" in studio.layout_text(), f"drawn by touch: {studio.layout_text()}")
+    studio.wait(lambda: "mirror 5 4 4 2" in studio.layout_text() and "ball 13 9" in studio.layout_text(),
+                f"drawn by touch: {studio.layout_text()}")
     before, text, count = studio.script("return bbmlab.studio.sketch.scale"), studio.layout_text(), studio.lift_count()
     studio.touch("Start", (10, 8))
     studio.touch("Start", (10, 8), (14, 8))
@@ -348,13 +401,16 @@ def do_many_commands(studio: Studio) -> None:
     count = studio.script(COMMANDS)
     print(f"500 commands: {time.monotonic() - start:.1f} s, {count} to undo", file=sys.stderr)
     assert count > 100 and studio.layout_text() != first
-    undone = studio.script("let count = 0; const undo = document.getElementById('undo'); while (!undo.disabled) { undo.click(); count += 1; } return count")
+    undone = studio.script("let count = 0; const undo = document.getElementById('undo'); while (!undo.disabled) { "
+                           "undo.click(); count += 1; } return count")
     assert undone == count and studio.layout_text() == first, (undone, count)
 
 
 def use_dialogs(studio: Studio) -> None:
-    """Opens a file, begins from a template and from an example, and exports in each form; the exported page works without a network."""
-    studio.browser.execute_cdp_cmd("Browser.setDownloadBehavior", {"behavior": "allow", "downloadPath": str(studio.folder)})
+    """Opens a file, begins from a template and from an example, and exports in each form; the exported page works
+    without a network."""
+    studio.browser.execute_cdp_cmd("Browser.setDownloadBehavior",
+                                   {"behavior": "allow", "downloadPath": str(studio.folder)})
     (studio.folder / "other.txt").write_text(example("head_on"))
     for old in studio.folder.glob("made_*"):
         old.unlink()
@@ -369,30 +425,35 @@ def use_dialogs(studio: Studio) -> None:
         studio.answer("New layout", "make")
         studio.wait(lambda: studio.text("name") == f"made_{number}.txt", "the template is opened")
         studio.verdict("yes")
-    for form, ending, word, last in (("svg", "svg", "<svg ", "</svg>"), ("golly", "rle", "rule = BBM-Margolus-emulated", "!"),
+    for form, ending, word, last in (("svg", "svg", "<svg ", "</svg>"),
+                                     ("golly", "rle", "rule = BBM-Margolus-emulated", "!"),
                                      ("page", "html", "Content-Security-Policy", "</html>")):
         studio.click("#export")
         choose(studio, form)
         studio.answer("Export", "export")
         path = studio.folder / f"made_1.{ending}"
-        studio.wait(lambda: path.exists() and word in path.read_text() and path.read_text().rstrip().endswith(last), f"the whole file {path.name}")
+        studio.wait(lambda: path.exists() and word in path.read_text() and path.read_text().rstrip().endswith(last),
+                    f"the whole file {path.name}")
     studio.click("#save")
     studio.await_text("status", "Saved made_1.txt.")
     assert (studio.folder / "made_1.txt").exists(), "the new file is written"
     studio.browser.get((studio.folder / "made_1.html").as_uri())
     studio.click("#last")
-    studio.wait(lambda: studio.text("time") != "" and studio.text("time").split(" of ")[0] == studio.text("time").split(" of ")[1], "the page plays")
+    studio.wait(lambda: studio.text("time") != "" and studio.text("time").split(" of ")[0]
+                == studio.text("time").split(" of ")[1], "the page plays")
 
 
 def choose(studio: Studio, value: str) -> None:
     """Chooses a value in the list of the dialog."""
-    studio.wait(lambda: studio.script("return document.querySelector('#dialog[open] select') !== null"), "the dialog is open")
+    studio.wait(lambda: studio.script("return document.querySelector('#dialog[open] select') !== null"),
+                "the dialog is open")
     studio.script("document.querySelector('#dialog select').value = arguments[0]", value)
     assert studio.script("return document.querySelector('#dialog select').value") == value
 
 
 def keep_draft(studio: Studio) -> None:
-    """The server is killed while the text is not saved; a new server's page offers the draft, and the text is as it was."""
+    """The server is killed while the text is not saved; a new server's page offers the draft, and the text is as it
+    was."""
     (studio.folder / "draft.txt").write_text(example("not_gate"))
     studio.start("draft.txt")
     studio.verdict("yes")
@@ -411,20 +472,24 @@ def keep_draft(studio: Studio) -> None:
     studio.click("#notice button")
     assert studio.layout_text() == text
     studio.click("#save")
-    studio.wait(lambda: (studio.folder / "draft.txt").read_text().startswith(text.split("certificate")[0][:40]) and studio.text("name") == "draft.txt", "saved")
+    studio.wait(lambda: (studio.folder / "draft.txt").read_text().startswith(text.split("certificate")[0][:40])
+                and studio.text("name") == "draft.txt", "saved")
 
 
 def await_draft(studio: Studio) -> None:
     """Waits until the browser keeps a draft with the mirror that was drawn."""
-    studio.wait(lambda: studio.script("return Object.keys(localStorage).some((key) => localStorage[key].includes('mirror 9 2'))"), "the draft is kept")
+    studio.wait(lambda: studio.script("return Object.keys(localStorage).some((key) => "
+                                      "localStorage[key].includes('mirror 9 2'))"), "the draft is kept")
 
 
 def offer_draft_again(studio: Studio) -> None:
-    """A draft that was offered stays until it is answered, though the page is loaded again, and its buttons are not shown for another file."""
+    """A draft that was offered stays until it is answered, though the page is loaded again, and its buttons are not
+    shown for another file."""
     (studio.folder / "draft.txt").write_text(example("not_gate"))
     (studio.folder / "other.txt").write_text(example("gate_and_mirror"))
     studio.start("draft.txt")
-    studio.script("for (const key of Object.keys(localStorage)) if (key.startsWith('bbmlab draft')) localStorage.removeItem(key)")
+    studio.script("for (const key of Object.keys(localStorage)) if (key.startsWith('bbmlab draft')) "
+                  "localStorage.removeItem(key)")
     studio.click("#tool-mirror")
     studio.drag((9, 2), (10, 3))
     await_draft(studio)
@@ -475,7 +540,8 @@ def forget_old_draft(studio: Studio) -> None:
 
 
 def ask_about_draft(studio: Studio) -> None:
-    """A draft that began from another version of the file is offered as such, and saving it asks before it writes over the newer one."""
+    """A draft that began from another version of the file is offered as such, and saving it asks before it writes over
+    the newer one."""
     newer = example("not_gate").replace("ball", "mirror 1 8 2 2\nball", 1)
     (studio.folder / "versions.txt").write_text(example("not_gate"))
     draft_mirror(studio, "versions.txt")
@@ -505,9 +571,11 @@ def duplicate_tab(studio: Studio) -> None:
     assert not studio.browser.find_element(By.ID, "notice").is_displayed(), "the draft of an open tab is not offered"
     assert studio.layout_text() == example("not_gate")
     studio.script("bbmlab.studio.desk.model.setText(arguments[0])", example("not_gate") + "# two\n")
-    studio.wait(lambda: studio.script("return Object.keys(localStorage).filter((key) => key.startsWith('bbmlab draft')).length") == 2, "each tab has a draft")
+    studio.wait(lambda: studio.script("return Object.keys(localStorage).filter((key) => key.startsWith('bbmlab "
+                                      "draft')).length") == 2, "each tab has a draft")
     studio.script("bbmlab.studio.desk.model.undo()")
-    studio.wait(lambda: studio.script("return Object.keys(localStorage).filter((key) => key.startsWith('bbmlab draft')).length") == 1, "the other draft stays")
+    studio.wait(lambda: studio.script("return Object.keys(localStorage).filter((key) => key.startsWith('bbmlab "
+                                      "draft')).length") == 1, "the other draft stays")
     studio.browser.close()
     studio.browser.switch_to.window(first)
     studio.click("#save")
@@ -534,7 +602,10 @@ def say_what_is_kept(studio: Studio) -> None:
 
 
 def keep_selection(studio: Studio) -> None:
-    """The selection stays on its part while lines are typed, and another file begins without one. Words of the page can be copied."""
+    """The selection stays on its part while lines are typed, and another file begins without one.
+
+    Words of the page can be copied.
+    """
     studio.begin("chosen.txt", example("not_gate"))
     studio.verdict("yes")
     studio.click("#tool-select")
@@ -542,14 +613,16 @@ def keep_selection(studio: Studio) -> None:
     chosen = "return bbmlab.studio.sketch.selected.map(({ kind, box }) => `${kind} ${box[0]} ${box[1]}`)"
     found = studio.script(chosen)
     assert len(found) == 1, found
-    studio.script("const { model } = bbmlab.studio.desk; model.setHead(model.headText.replace('circuit', 'circuit\\n# one'), 'typing')")
+    studio.script("const { model } = bbmlab.studio.desk; model.setHead(model.headText.replace('circuit', 'circuit\\n# "
+                  "one'), 'typing')")
     assert studio.script(chosen) == found, (found, studio.script(chosen))
     studio.press_keys(Keys.CONTROL + "c")
     # Another report would take the place of the words that are marked next.
     studio.verdict("yes")
     studio.script("getSelection().selectAllChildren(document.getElementById('report')); document.activeElement.blur()")
     # The key Control comes before.
-    studio.script("addEventListener('keydown', (event) => { if (event.key === 'c') window.isTaken = event.defaultPrevented; })")
+    studio.script("addEventListener('keydown', (event) => { if (event.key === 'c') window.isTaken = "
+                  "event.defaultPrevented; })")
     studio.press_keys(Keys.CONTROL + "c")
     studio.wait(lambda: studio.script("return window.isTaken !== undefined"), "the page hears of the key")
     assert studio.script("return window.isTaken") is False, "the browser copies the words"
@@ -565,7 +638,8 @@ def ask_twice(studio: Studio) -> None:
     """A question that another one replaces is answered with null, and the other one waits for its button."""
     studio.script("window.answers = []; const { ask, element } = bbmlab.parts;"
                   "element('dialog').addEventListener('close', () => { window.isClosed = true; }, { once: true });"
-                  "for (const name of ['one', 'two']) ask(name, [], [['ok', () => 7]]).then((value) => window.answers.push([name, value]))")
+                  "for (const name of ['one', 'two']) ask(name, [], [['ok', () => 7]]).then((value) => "
+                  "window.answers.push([name, value]))")
     studio.wait(lambda: studio.script("return window.isClosed"), "the event of the first question comes")
     assert studio.script("return window.answers") == [["one", None]], studio.script("return window.answers")
     studio.answer("two", "ok")
@@ -597,17 +671,22 @@ def use_two_tabs(studio: Studio) -> None:
     studio.click("#save")
     studio.answer("The file is another one now", "save under this name")
     studio.wait(lambda: (studio.folder / "tabs_2.txt").exists(), "saved under the other name")
-    assert "mirror 9 2" in (studio.folder / "tabs_2.txt").read_text() and "mirror 1 8" in (studio.folder / "tabs.txt").read_text()
+    assert "mirror 9 2" in (studio.folder / "tabs_2.txt").read_text() and "mirror 1 8" in (
+        studio.folder / "tabs.txt").read_text()
 
 
 def let_in_once(studio: Studio) -> None:
-    """The address lets one browser in. The page takes it out of its own address, and another browser with it is told what to do."""
+    """The address lets one browser in.
+
+    The page takes it out of its own address, and another browser with it is told what to do.
+    """
     (studio.folder / "once.txt").write_text(example("not_gate"))
     address = studio.serve("once.txt")
     page = studio.folder / "once.html"
     page.write_text(f'<!DOCTYPE html><meta http-equiv="refresh" content="0; url={address}">')
     studio.browser.get(page.as_uri())
-    studio.wait(lambda: studio.script("return document.getElementById('name')?.textContent") == "once.txt", "the page that leads to the address opens the file")
+    studio.wait(lambda: studio.script("return document.getElementById('name')?.textContent") == "once.txt",
+                "the page that leads to the address opens the file")
     assert studio.browser.current_url == address.split("#")[0], studio.browser.current_url
     studio.browser.refresh()
     studio.wait(lambda: studio.text("name") == "once.txt", "the page is loaded again")
@@ -656,7 +735,8 @@ def see_nothing_yet(studio: Studio) -> None:
 
 
 def undo_numbers(studio: Studio) -> None:
-    """Ctrl-Z in a field of a number undoes what was typed, then commands: the field always shows the layout's number."""
+    """Ctrl-Z in a field of a number undoes what was typed, then commands: the field always shows the layout's number.
+    """
     studio.begin("numbers.txt", example("not_gate"))
     field = studio.browser.find_element(By.ID, "width")
     studio.click("#follow")
@@ -666,15 +746,20 @@ def undo_numbers(studio: Studio) -> None:
     assert "layout 16 12 3" in studio.layout_text()
     field.send_keys("9")
     field.send_keys(Keys.CONTROL, "z")
-    assert (field.get_property("value"), "layout 16 12 3" in studio.layout_text()) == ("16", True), field.get_property("value")
+    assert (field.get_property("value"),
+            "layout 16 12 3" in studio.layout_text()) == ("16", True), field.get_property("value")
     for number, word in (("14", "z"), ("12", "z"), ("14", "y")):
         field.send_keys(Keys.CONTROL, word)
-        assert (field.get_property("value"), f"layout {number} 12 3" in studio.layout_text()) == (number, True), (field.get_property("value"), studio.layout_text())
+        assert (field.get_property("value"),
+                f"layout {number} 12 3" in studio.layout_text()) == (number,
+                                                                     True), (field.get_property("value"),
+                                                                             studio.layout_text())
     studio.click("#follow")
 
 
 def follow_turns(studio: Studio) -> None:
-    """Outputs that are where the balls end follow them around a mirror, to another number of steps and back, by one command each."""
+    """Outputs that are where the balls end follow them around a mirror, to another number of steps and back, by one
+    command each."""
     studio.begin("turns.txt", cell_text("turn_left"))
     studio.verdict("yes")
     before, field = studio.layout_text(), studio.browser.find_element(By.ID, "steps")
@@ -692,7 +777,8 @@ def follow_turns(studio: Studio) -> None:
 
 
 def see_kind_of_no(studio: Studio) -> None:
-    """The line of the badge says what kind of no it is, the explanation comes before the report's lines, and a fix has a button."""
+    """The line of the badge says what kind of no it is, the explanation comes before the report's lines, and a fix has
+    a button."""
     for name, words in (("plain_rim", "the rim is live at ("), ("plain_no", "the end is wrong at (")):
         studio.begin(f"{name}.txt", example(name))
         studio.verdict("no")
@@ -701,9 +787,11 @@ def see_kind_of_no(studio: Studio) -> None:
     studio.verdict("no")
     studio.wait(lambda: studio.browser.find_elements(By.CSS_SELECTOR, "#report .fix"), "a fix is found")
     assert studio.script("return document.querySelector('#report .fix').textContent") == "apply this fix"
-    assert studio.script("const [fix, fault] = ['.fix-box', '.fault'].map((name) => document.querySelector(`#report ${name}`)); "
+    assert studio.script("const [fix, fault] = ['.fix-box', '.fault'].map((name) => document.querySelector(`#report "
+                         "${name}`)); "
                          "return Boolean(fix.compareDocumentPosition(fault) & Node.DOCUMENT_POSITION_FOLLOWING)")
-    top, height = studio.script("return [document.querySelector('#report .fix').getBoundingClientRect().bottom, innerHeight]")
+    top, height = studio.script("return [document.querySelector('#report .fix').getBoundingClientRect().bottom, "
+                                "innerHeight]")
     assert top < height, (top, height)
     studio.shoot("kind")
     studio.click("#report .fix")
@@ -713,7 +801,8 @@ def see_kind_of_no(studio: Studio) -> None:
 def enlarge_for_cell(studio: Studio) -> None:
     """A cell that is larger than the layout is put after the user agrees to make the layout larger."""
     studio.begin("enlarge.txt", EMPTY)
-    studio.script("const list = document.getElementById('cell-name'); list.value = 'not'; list.dispatchEvent(new Event('change'))")
+    studio.script("const list = document.getElementById('cell-name'); list.value = 'not'; list.dispatchEvent(new "
+                  "Event('change'))")
     studio.click("#tool-cell")
     studio.press(9, 9)
     studio.answer("The cell is larger than the layout", "cancel")
@@ -740,14 +829,20 @@ def choose_spelling(studio: Studio) -> None:
     studio.click("#save")
     studio.answer("How to write the text", "write the one spelling, without comments")
     studio.wait(lambda: studio.text("status") == "Saved free_2.txt.", "saved in the one spelling")
-    checked = subprocess.run([studio.program, "check"], input=(studio.folder / "free_2.txt").read_bytes(), capture_output=True, check=False)
+    checked = subprocess.run([studio.program, "check"], input=(studio.folder / "free_2.txt").read_bytes(),
+                             capture_output=True, check=False)
     assert checked.returncode == 0, checked.stdout
 
 
 # Each answer of the server waits until `answerNow` is called with its name, or `answerAll`.
 HOLD = """const { server } = bbmlab, { request } = server;
 window.held = [];
-const go = (isWanted) => { const all = window.held.splice(0); for (const one of all) if (isWanted(one)) one.done(); else window.held.push(one); };
+const go = (isWanted) => {
+  for (const one of window.held.splice(0)) {
+    if (isWanted(one)) one.done();
+    else window.held.push(one);
+  }
+};
 window.answerNow = (wanted) => go(({ name }) => name === wanted);
 window.answerAll = () => { server.request = request; go(() => true); };
 server.request = async (name, body) => {
@@ -758,9 +853,11 @@ server.request = async (name, body) => {
 
 
 def answer_late(studio: Studio) -> None:
-    """Answers of the server that come late change nothing: a verdict on a text that was undone, and the end of a save after another file was opened."""
+    """Answers of the server that come late change nothing: a verdict on a text that was undone, and the end of a save
+    after another file was opened."""
     def await_held(name: str) -> None:
-        studio.wait(lambda: studio.script("return window.held.some(({ name }) => name === arguments[0])", name), f"the server answers {name}")
+        studio.wait(lambda: studio.script("return window.held.some(({ name }) => name === arguments[0])", name),
+                    f"the server answers {name}")
 
     studio.begin("late.txt", example("not_gate"))
     studio.verdict("yes")
@@ -804,9 +901,11 @@ def enlarge_at_sides(studio: Studio) -> None:
     """Adds columns and rows at the sides by the dialog: the parts move by them, and the verdict is asked again."""
     studio.begin("wider.txt", example("fredkin_gate"))
     studio.verdict("yes")
-    width, height = (int(studio.script(f"return document.getElementById('{name}').value")) for name in ("width", "height"))
+    width, height = (int(studio.script(f"return document.getElementById('{name}').value"))
+                     for name in ("width", "height"))
     studio.click("#enlarge")
-    studio.script("const sides = [...document.querySelectorAll('#dialog input')]; [4, 6, 8, 2].forEach((count, index) => { sides[index].value = count; });")
+    studio.script("const sides = [...document.querySelectorAll('#dialog input')]; [4, 6, 8, 2].forEach((count, index) "
+                  "=> { sides[index].value = count; });")
     studio.answer("Enlarge the layout", "enlarge")
     studio.await_text("status", "Enlarged.")
     assert f"layout {width + 12} {height + 8} " in studio.layout_text()
@@ -816,11 +915,13 @@ def enlarge_at_sides(studio: Studio) -> None:
 
 
 def route_circuit(studio: Studio) -> None:
-    """Routes the circuit of a text in the background: a cancelled search changes nothing, and a found layout gets a yes and can be undone."""
+    """Routes the circuit of a text in the background: a cancelled search changes nothing, and a found layout gets a yes
+    and can be undone."""
     text = "circuit\ninput p\ninput q\nswitch p q -> a b c\noutput a\noutput b\nspill c\nend\nlayout 48 48 40\nend\n"
     studio.begin("routed.txt", text)
     studio.script("bbmlab.studio.router.begin(600, 3)")
-    studio.wait(lambda: "Routing since" in studio.text("routing") or "Begins" in studio.text("routing"), "the search is shown")
+    studio.wait(lambda: "Routing since" in studio.text("routing") or "Begins" in studio.text("routing"),
+                "the search is shown")
     studio.script("bbmlab.server.request('unroute')")
     studio.wait(lambda: not studio.browser.find_element(By.ID, "routing").is_displayed(), "the search has ended", 120)
     if "cancelled" in studio.text("status"):
@@ -840,12 +941,16 @@ def route_circuit(studio: Studio) -> None:
 
 
 def see_large(studio: Studio) -> None:
-    """A machine of 832 by 832 cells: the fit shows all of it with its ways, the small picture leads elsewhere, and an edit changes the picture there."""
-    studio.begin("machine.txt", lzma.decompress((TOP / "examples" / "machines" / "adder_4.txt.xz").read_bytes()).decode("ascii"))
+    """A machine of 832 by 832 cells: the fit shows all of it with its ways, the small picture leads elsewhere, and an
+    edit changes the picture there."""
+    studio.begin("machine.txt",
+                 lzma.decompress((TOP / "examples" / "machines" / "adder_4.txt.xz").read_bytes()).decode("ascii"))
     studio.verdict("yes", 120)
     studio.still()
     studio.rest()
-    count = "const { width, height } = document.getElementById('whole'); return new Set(new Uint32Array(document.getElementById('whole').getContext('2d').getImageData(40, 30, width - 50, height - 40).data.buffer)).size"
+    count = ("const { width, height } = document.getElementById('whole'); return new Set(new "
+             "Uint32Array(document.getElementById('whole').getContext('2d').getImageData(40, 30, width - 50, height - "
+             "40).data.buffer)).size")
     assert studio.script(count) > 50, "the ways are there"
     assert not studio.browser.find_element(By.ID, "map").is_displayed(), "everything is shown"
     for _ in range(12):
@@ -854,16 +959,19 @@ def see_large(studio: Studio) -> None:
     assert studio.browser.find_element(By.ID, "map").is_displayed(), "the small picture shows where one is"
     before = studio.script("return bbmlab.studio.sketch.seen()")
     studio.browser.find_element(By.ID, "map").click()
-    studio.script("bbmlab.studio.sketch.tiles.made.clear(); bbmlab.studio.sketch.centre(100, 100, bbmlab.studio.sketch.scale)")
+    studio.script("bbmlab.studio.sketch.tiles.made.clear(); bbmlab.studio.sketch.centre(100, 100, "
+                  "bbmlab.studio.sketch.scale)")
     studio.rest()
     assert studio.script("return bbmlab.studio.sketch.seen()") != before
     studio.script("bbmlab.studio.sketch.centre(300, 300, 1)")
     studio.rest()
     made = studio.script("return [...bbmlab.studio.sketch.tiles.made.values()].length")
-    kept = studio.script("const { sketch, desk } = bbmlab.studio, old = new Set(sketch.tiles.made.values()); desk.model.add([{ kind: 'mirror', name: null, box: [1, 2, 2, 2], line: -1 }]); "
+    kept = studio.script("const { sketch, desk } = bbmlab.studio, old = new Set(sketch.tiles.made.values()); "
+                         "desk.model.add([{ kind: 'mirror', name: null, box: [1, 2, 2, 2], line: -1 }]); "
                          "return [...sketch.tiles.made.values()].filter((tile) => old.has(tile)).length")
     assert kept == made, f"{kept} of {made} tiles are kept after a mirror was added: it is drawn over them"
-    removed = studio.script("const { sketch, desk } = bbmlab.studio; desk.model.remove([desk.model.parts.find(({ box }) => box[0] === 1 && box[1] === 2).line]); "
+    removed = studio.script("const { sketch, desk } = bbmlab.studio; desk.model.remove([desk.model.parts.find(({ box "
+                            "}) => box[0] === 1 && box[1] === 2).line]); "
                             "return sketch.tiles.made.size")
     assert 0 < removed < made, f"{removed} of {made} tiles are kept after a mirror at a corner was removed"
     studio.still()
@@ -871,15 +979,19 @@ def see_large(studio: Studio) -> None:
     studio.browser.save_screenshot(str(studio.folder / "large.png"))
 
 
-USES = [draw_collision, drag_mirror, draw_by_keyboard, refuse_circuit, place_mirrors, change_selection, insert_cell, draw_not_gate, take_fix, see_ways, draw_by_touch,
-        do_many_commands, choose_spelling, answer_late, see_dark, use_dialogs, keep_draft, offer_draft_again, keep_selection,
+USES = [draw_collision, drag_mirror, draw_by_keyboard, refuse_circuit, place_mirrors, change_selection, insert_cell,
+        draw_not_gate, take_fix, see_ways, draw_by_touch,
+        do_many_commands, choose_spelling, answer_late, see_dark, use_dialogs, keep_draft, offer_draft_again,
+        keep_selection,
         ask_twice, use_two_tabs, let_in_once, see_other_picture,
-        forget_old_draft, ask_about_draft, duplicate_tab, say_what_is_kept, see_nothing_yet, undo_numbers, follow_turns, see_kind_of_no,
+        forget_old_draft, ask_about_draft, duplicate_tab, say_what_is_kept, see_nothing_yet, undo_numbers, follow_turns,
+        see_kind_of_no,
         enlarge_for_cell, enlarge_at_sides, route_circuit, see_large]
 
 
 def run_uses(studio: Studio, wanted: list[str]) -> list[str]:
-    """Runs the uses that are wanted, and returns the errors of the console, apart from those that a killed server leaves."""
+    """Runs the uses that are wanted, and returns the errors of the console, apart from those that a killed server
+    leaves."""
     errors: list[str] = []
     for use in USES:
         if wanted and use.__name__ not in wanted:
@@ -896,16 +1008,19 @@ def run_uses(studio: Studio, wanted: list[str]) -> list[str]:
 
 
 def is_expected(message: str) -> bool:
-    """Whether an error says that no server answers, or that one ended in the middle of an answer: each `start` kills the one before.
+    """Whether an error says that no server answers, or that one ended in the middle of an answer: each `start` kills
+    the one before.
 
-    A second tab with an address that was used is told that its token counts no more, and goes on with the key of the first.
+    A second tab with an address that was used is told that its token counts no more, and goes on with the key of the
+    first.
     """
-    is_of_killed_server = "net::ERR_" in message or "NetworkError: Failed to execute 'importScripts'" in message
-    return is_of_killed_server or "/api/enter - Failed to load resource: the server responded with a status of 403" in message
+    return ("net::ERR_" in message
+            or "/api/enter - Failed to load resource: the server responded with a status of 403" in message)
 
 
 def main() -> int:
-    """Uses the studio, and returns the exit status: 1 where the console has an error that is none of the killed server's."""
+    """Uses the studio, and returns the exit status: 1 where the console has an error that is none of the killed
+    server's."""
     folder = Path(sys.argv[1])
     studio = Studio(folder, sys.argv[2], sys.argv[3])
     try:

@@ -1,6 +1,6 @@
 #!/usr/bin/python3
-"""browse_view.py FOLDER: uses FOLDER/fault.html (of wrong_border.txt), FOLDER/wrong.html, FOLDER/machine.html (of the machine adder_4) and
-FOLDER/large.html in headless Chromium.
+"""browse_view.py FOLDER: uses FOLDER/fault.html (of wrong_border.txt), FOLDER/wrong.html, FOLDER/machine.html (of the
+machine adder_4) and FOLDER/large.html in headless Chromium.
 
 It runs with Debian's python3-selenium, and writes screenshots of two sizes, light and dark, to FOLDER.
 """
@@ -16,7 +16,8 @@ from selenium.webdriver.common.by import By
 from selenium.webdriver.common.keys import Keys
 
 SIZES = {"wide": (1280, 800), "phone": (390, 844)}
-# The run to 65,536 takes 7 s on four processors that are busy with other work (2026-11-29): a machine may be 40 times slower.
+# The run to 65,536 takes 7 s on four processors that are busy with other work (2026-11-29): a machine may be 40 times
+# slower.
 END_SECONDS = 300
 
 
@@ -35,12 +36,14 @@ class Page:
     def size(self, name: str) -> None:
         """Sets the size of the window."""
         width, height = SIZES[name]
-        self.browser.execute_cdp_cmd("Emulation.setDeviceMetricsOverride", {"width": width, "height": height, "deviceScaleFactor": 1, "mobile": False})
+        self.browser.execute_cdp_cmd("Emulation.setDeviceMetricsOverride",
+                                     {"width": width, "height": height, "deviceScaleFactor": 1, "mobile": False})
         self.wait(lambda: is_of_size(self.browser, width, height), f"the page has the size {name}")
 
     def scheme(self, name: str) -> None:
         """Sets light or dark."""
-        self.browser.execute_cdp_cmd("Emulation.setEmulatedMedia", {"features": [{"name": "prefers-color-scheme", "value": name}]})
+        self.browser.execute_cdp_cmd("Emulation.setEmulatedMedia",
+                                     {"features": [{"name": "prefers-color-scheme", "value": name}]})
 
     def text(self, name: str) -> str:
         """Returns the text of an element."""
@@ -88,7 +91,8 @@ def use_controls(page: Page) -> None:
     page.wait(lambda: "c=1" in page.text("outputs"), "the switch of q changes the outputs")
     assert "✗" not in page.text("outputs") and "(p=1)" in page.text("lines"), page.text("lines")
     page.keys(" ")
-    page.wait(lambda: page.text("time") == "3 of 3" and "play" in page.text("play"), "playing comes to the end and stops")
+    page.wait(lambda: page.text("time") == "3 of 3" and "play" in page.text("play"),
+              "playing comes to the end and stops")
     page.keys("+", "+", Keys.SHIFT + Keys.ARROW_LEFT + Keys.NULL, "0")
     assert "Nothing on this page is proved" in page.browser.find_element(By.TAG_NAME, "footer").text
 
@@ -96,7 +100,8 @@ def use_controls(page: Page) -> None:
 def use_report(page: Page) -> None:
     """Clicks lines of the report."""
     page.click("#report button")
-    assert page.text("time") == "3 of 3" and "Module 0 by itself with p=0 q=1" in page.text("beside-title"), page.text("beside-title")
+    assert page.text("time") == "3 of 3" and "Module 0 by itself with p=0 q=1" in page.text("beside-title"), page.text(
+        "beside-title")
     page.wait(lambda: "1 cell differs" in page.text("beside-note"), "the cell that differs is counted")
     assert not page.browser.find_element(By.CSS_SELECTOR, "#inputs input[value=p]").is_selected()
     page.shoot("fault")
@@ -117,7 +122,8 @@ def use_wrong(page: Page) -> None:
 
 
 # Returns the middle cell of the longest piece of a wire, and the time there.
-PIECE = """const wire = JSON.parse(document.getElementById('data').textContent).ways.wires.find(({ name, equal }) => [name, ...equal].includes(arguments[0]));
+PIECE = """const { wires } = JSON.parse(document.getElementById('data').textContent).ways;
+const wire = wires.find(({ name, equal }) => [name, ...equal].includes(arguments[0]));
 let best = [0];
 for (let at = 0; at < wire.pieces.length; at += 5) {
   const [x, y, u, v, time] = wire.pieces.slice(at, at + 5), far = Math.abs(u - x), half = far >> 1;
@@ -125,56 +131,68 @@ for (let at = 0; at < wire.pieces.length; at += 5) {
 }
 return best.slice(1);"""
 # Returns what is not clear among the pixels of the picture: the ways are seen at once.
-SEEN = """const { width, height } = document.getElementById('whole'), pen = document.getElementById('whole').getContext('2d');
+SEEN = """const whole = document.getElementById('whole'), { width, height } = whole, pen = whole.getContext('2d');
 return new Set(new Uint32Array(pen.getImageData(40, 30, width - 50, height - 40).data.buffer)).size;"""
 
 
 def zoom_of(page: Page) -> list[float] | None:
     """Returns the scale and the middle that the address says, or None."""
-    found = [part for part in page.browser.execute_script("return location.hash").lstrip("#").split("&") if part.startswith("z=")]
+    found = [part for part in page.browser.execute_script("return location.hash").lstrip("#").split("&")
+             if part.startswith("z=")]
     return [float(number) for number in found[0][2:].split(",")] if found else None
 
 
 def use_machine(page: Page) -> None:
-    """Looks for a wire, goes to it by the small picture and by its cell, points at it, and plays at the highest speed."""
+    """Looks for a wire, goes to it by the small picture and by its cell, points at it, and plays at the highest speed.
+    """
     page.open("machine")
     page.wait(lambda: is_still(page.browser), "the machine is drawn")
     assert page.browser.find_element(By.ID, "ways").is_selected(), "a large layout shows its ways"
     assert page.browser.execute_script(SEEN) > 100, "the ways are drawn at once"
     assert not page.browser.find_element(By.ID, "map").is_displayed(), "all is shown, so there is no small picture"
     page.browser.find_element(By.ID, "find-wire-name").send_keys("s2", Keys.ENTER)
-    page.wait(lambda: "made by" in page.text("wire-words") and "an output" in page.text("wire-words"), "the wire's gate is told")
+    page.wait(lambda: "made by" in page.text("wire-words") and "an output" in page.text("wire-words"),
+              "the wire's gate is told")
     page.click("#in")
     page.click("#in")
     page.wait(lambda: page.browser.find_element(By.ID, "map").is_displayed(), "the small picture shows where one is")
     page.shoot("machine")
     page.wait(lambda: (zoom_of(page) or [9.0])[1] > 100, "the address says the place")
     page.click("#map")
-    ActionChains(page.browser).move_to_element_with_offset(page.browser.find_element(By.ID, "map"), -60, -60).click().perform()
-    page.wait(lambda: all(part < 200 for part in (zoom_of(page) or [0, 999, 999])[1:]), "a press on the small picture goes there")
+    ActionChains(page.browser).move_to_element_with_offset(page.browser.find_element(By.ID, "map"), -60,
+                                                           -60).click().perform()
+    page.wait(lambda: all(part < 200 for part in (zoom_of(page) or [0, 999, 999])[1:]),
+              "a press on the small picture goes there")
     x, y, time = page.browser.execute_script(PIECE, "s2")
     page.browser.find_element(By.ID, "go-to-cell").send_keys(f"{x}, {y}", Keys.ENTER)
     page.wait(lambda: f"({x}, {y})" in page.text("cell"), "it goes to the cell")
     # The cell is in the middle of the picture beside its rulers.
     ActionChains(page.browser).move_to_element_with_offset(page.browser.find_element(By.ID, "whole"), 16, 9).perform()
-    page.wait(lambda: f"({x}, {y})" in page.text("cell") and "s2" in page.text("wire-words") and re.search(rf"here at time .*\b{time}\b", page.text("wire-words")),
+    page.wait(lambda: f"({x}, {y})" in page.text("cell") and "s2" in page.text("wire-words")
+              and re.search(rf"here at time .*\b{time}\b", page.text("wire-words")),
               "the way under the pointer tells its wire and time")
     page.scheme("dark")
     page.shoot("machine_dark")
     page.scheme("light")
-    page.browser.execute_script("const s = document.getElementById('speed'); s.value = s.max; s.dispatchEvent(new Event('input'));")
+    page.browser.execute_script("const s = document.getElementById('speed'); s.value = s.max; s.dispatchEvent(new "
+                                "Event('input'));")
     page.click("#play")
     steps = page.text("time").split(" of ")[1]
-    page.wait(lambda: page.text("time") == f"{steps} of {steps}", "it plays to the end at the highest speed", END_SECONDS)
+    page.wait(lambda: page.text("time") == f"{steps} of {steps}", "it plays to the end at the highest speed",
+              END_SECONDS)
     page.wait(lambda: "outputs are as the circuit says" in page.text("outputs-count"), "the outputs are there")
 
 
 FRAMES = """const done = arguments[arguments.length - 1], start = performance.now();
 let count = 0;
-const next = () => { count += 1; if (performance.now() - start < 3000) requestAnimationFrame(next); else done(count / 3); };
+const next = () => {
+  count += 1;
+  if (performance.now() - start < 3000) requestAnimationFrame(next);
+  else done(count / 3);
+};
 requestAnimationFrame(next);"""
 # Counts the steps of runs that go to a time. The run to the end, which goes on meanwhile, never does.
-COUNT = """const run = bbmlab.WholeRun.prototype, { jump, forward, backward } = run, sought = new Set();
+COUNT = """const run = bbmlab.automaton.WholeRun.prototype, { jump, forward, backward } = run, sought = new Set();
 window.stepCount = 0;
 run.jump = function (time) { sought.add(this); jump.call(this, time); };
 run.forward = function () { window.stepCount += Number(sought.has(this)); return forward.call(this); };
@@ -193,7 +211,8 @@ def go_to(page: Page, action: Callable[[], object], time_text: str, most: int, s
 
 
 def use_large(page: Page) -> None:
-    """Goes to the last of 65,536 times of 512 by 512 cells with 1,024 balls, and back, while the page still answers, and plays smoothly."""
+    """Goes to the last of 65,536 times of 512 by 512 cells with 1,024 balls, and back, while the page still answers,
+    and plays smoothly."""
     page.open("large")
     page.wait(lambda: page.text("time") == "0 of 65536", "the page answers while it runs ahead")
     page.browser.execute_script(COUNT)

@@ -1,9 +1,11 @@
-"""Compares the sentences of `explain` about faulty texts with the simulation and the circuits of tools/oracle, which share no code with the lab.
+"""Compares the sentences of `explain` about faulty texts with the simulation and the circuits of tools/oracle, which
+share no code with the lab.
 
     python3 lab/tests/check_sentences.py [COUNT [SEED]]
 
-COUNT texts of each family of mutations are explained. Each sentence that says something about a run, about values of the circuit, or about
-what the program says after a fix is tried again. The tool prints each false sentence, and last how many were true, false, and not read.
+COUNT texts of each family of mutations are explained. Each sentence that says something about a run, about values of
+the circuit, or about what the program says after a fix is tried again. The tool prints each false sentence, and last
+how many were true, false, and not read.
 """
 
 import json
@@ -15,7 +17,7 @@ from itertools import product
 from typing import Any, Callable, Iterator
 
 import support
-from bbmlab_core.trials import Trial, is_yes
+from bbmlab_core.explain.trials import Trial, is_yes
 from measure_fixes import right_texts
 from mutations import FAMILIES, mutants
 
@@ -93,12 +95,16 @@ def named(words: str) -> frozenset[str]:
 
 
 class Sentences:
-    """Tries each sentence of the explanation of one text: True, False, or None for a sentence that says nothing that is tried here."""
+    """Tries each sentence of the explanation of one text:
+
+    True, False, or None for a sentence that says nothing that is tried here.
+    """
 
     def __init__(self, text: str, explanation: dict[str, Any], program: str) -> None:
         self.text, self.explanation, self.program = text, explanation, program
         self.whole = Whole(text)
-        # The inputs, the time and the cell that the sentences before are about, and what the module's own run has there.
+        # The inputs, the time and the cell that the sentences before are about, and what the module's own run has
+        # there.
         self.on: frozenset[str] = frozenset()
         self.at: tuple[int, Cell] | None = None
         self.is_found_live = False
@@ -106,33 +112,39 @@ class Sentences:
         self.rules: list[tuple[str, Callable[[re.Match[str]], bool]]] = [
             (r"tried here in all (\d+) choices of the inputs: it ends as the layout asks", self.ends_right),
             (rf"circuit asks: with ([\w= ]+) the cell {CELL} is (live|dead) at the end", self.ends_wrong),
-            (r"circuit asks: with ([\w= ]+) step (\d+) makes the cell \((-?\d+), (-?\d+)\) outside the rectangle live", self.leaves),
+            (r"circuit asks: with ([\w= ]+) step (\d+) makes the cell \((-?\d+), (-?\d+)\) outside the rectangle live",
+             self.leaves),
             (rf"In the whole run with ([\w= ]+) the cell {CELL} of the rim is live at time (\d+)", self.has_live_rim),
             (rf"^At time (\d+)(?:, the last time,)? the cell {CELL} is (live|dead) and should be", self.takes_place),
-            (r"^This can occur, for example with the inputs ([\w= ]+?)(?: \((\d+) of (\d+) choices.*)?\.?$", self.can_occur),
+            (r"^This can occur, for example with the inputs ([\w= ]+?)(?: \((\d+) of (\d+) choices.*)?\.?$",
+             self.can_occur),
             (r"^The circuit never gives ([\w= ]+):", lambda _: self.count_of_values(self.whole.inputs) == 0),
             (r"^The run of the whole layout (has the cell|ends) ", lambda _: self.has_found()),
             (r"^In the run of the whole layout it is not so", lambda _: not self.has_found()),
             (rf"^At time (\d+) the cell {CELL} of module \d+ is (live|dead) in the whole run", self.is_so),
             (r"^In the whole run (?:it|the cell) is live then if and only if `(\w+)` is true\.$", self.carries),
-            (r"^In the whole run (?:it|the cell) is (always|never) live then\.$", lambda match: self.is_always(match.group(1) == "always")),
+            (r"^In the whole run (?:it|the cell) is (always|never) live then\.$",
+             lambda match: self.is_always(match.group(1) == "always")),
             (rf"The mirror of line (\d+) .* falls apart by itself: step (\d+) moves its cell {CELL}", self.falls_apart),
             (r"^No wire of the circuit is true in just the choices", lambda _: self.carries_none()),
         ]
 
     def ends_right(self, match: re.Match[str]) -> bool:
         """All choices end as the layout asks, and there are so many."""
-        return int(match.group(1)) == 2 ** len(self.whole.inputs) and not any(self.whole.faults(on) for on in self.whole.choices())
+        return int(match.group(1)) == 2 ** len(self.whole.inputs) and not any(self.whole.faults(on)
+                                                                              for on in self.whole.choices())
 
     def ends_wrong(self, match: re.Match[str]) -> bool:
         """A cell is wrong at the end, and so as it says."""
         on, cell = named(match.group(1)), (int(match.group(2)), int(match.group(3)))
         last = self.whole.run(on)
-        return len(last) == self.whole.plane.steps + 1 and cell in self.whole.faults(on) and (cell in last[-1]) == (match.group(4) == "live")
+        return len(last) == self.whole.plane.steps + 1 and cell in self.whole.faults(on) and (cell in last[-1]) == (
+            match.group(4) == "live")
 
     def leaves(self, match: re.Match[str]) -> bool:
         """A step is the first that makes cells outside the rectangle live, and the cell is one of them."""
-        states, step, cell = self.whole.run(named(match.group(1))), int(match.group(2)), (int(match.group(3)), int(match.group(4)))
+        states, step, cell = self.whole.run(named(match.group(1))), int(match.group(2)), (int(match.group(3)),
+                                                                                          int(match.group(4)))
         return len(states) == step + 1 and cell in states[-1] and not self.whole.is_inside({cell})
 
     def falls_apart(self, match: re.Match[str]) -> bool:
@@ -146,7 +158,8 @@ class Sentences:
     def has_live_rim(self, match: re.Match[str]) -> bool:
         """A cell of the rim is live at an odd time before the end."""
         cell, time = (int(match.group(2)), int(match.group(3))), int(match.group(4))
-        return self.whole.is_rim(cell) and time % 2 == 1 and time < self.whole.plane.steps and self.whole.is_live(named(match.group(1)), time, cell)
+        return self.whole.is_rim(cell) and time % 2 == 1 and time < self.whole.plane.steps and self.whole.is_live(
+            named(match.group(1)), time, cell)
 
     def takes_place(self, match: re.Match[str]) -> bool:
         """Takes the place that the next sentences are about. The report's line has the same one."""
@@ -156,15 +169,18 @@ class Sentences:
 
     def count_of_values(self, names: list[str]) -> int:
         """Returns how many choices of some inputs give the values of the module; others are off."""
-        choices = [frozenset(name for name, bit in zip(names, bits) if bit) for bits in product((0, 1), repeat=len(names))]
-        return sum(all(self.whole.values(on)[name] == value for name, value in self.module_values.items()) for on in choices)
+        choices = [frozenset(name for name, bit in zip(names, bits) if bit)
+                   for bits in product((0, 1), repeat=len(names))]
+        return sum(all(self.whole.values(on)[name] == value for name, value in self.module_values.items())
+                   for on in choices)
 
     def can_occur(self, match: re.Match[str]) -> bool:
         """The inputs give the values of the module, and so do as many choices as it says."""
         self.on = named(match.group(1))
         values = self.whole.values(self.on)
         names = re.findall(r"(\w+)=", match.group(1))
-        is_count_right = match.group(2) is None or (self.count_of_values(names), 2 ** len(names)) == (int(match.group(2)), int(match.group(3)))
+        is_count_right = match.group(2) is None or (self.count_of_values(names),
+                                                    2 ** len(names)) == (int(match.group(2)), int(match.group(3)))
         return all(values[name] == value for name, value in self.module_values.items()) and is_count_right
 
     def has_found(self) -> bool:
@@ -209,12 +225,14 @@ class Sentences:
             yield self.tried(sentence), sentence
         for entry in self.explanation["entries"]:
             yield from self.of_entry(entry)
-        for fixes in [(self.explanation.get("fix") or {}).get("words", []), *(entry["fixes"] for entry in self.explanation["entries"])]:
+        for fixes in [(self.explanation.get("fix") or {}).get("words", []),
+                      *(entry["fixes"] for entry in self.explanation["entries"])]:
             if fixes:
                 yield self.fixed(fixes), " ".join(fixes)
 
     def of_entry(self, entry: dict[str, Any]) -> Iterator[tuple[bool | None, str]]:
-        """Yields each sentence about a line of the report, and whether it is true, up to one about another fault of the module."""
+        """Yields each sentence about a line of the report, and whether it is true, up to one about another fault of the
+        module."""
         facts = entry.get("facts", {})
         self.at = (facts["time"], (facts["cell"][0], facts["cell"][1])) if isinstance(facts.get("time"), int) else None
         self.module_values = facts.get("assignment", {})
@@ -229,7 +247,8 @@ class Sentences:
         edited = with_edits(self.text, fixes[:-1])
         if edited is None:
             return None
-        report = subprocess.run([self.program, "check"], input=edited.encode(), capture_output=True, check=False).stdout.decode()
+        report = subprocess.run([self.program, "check"], input=edited.encode(), capture_output=True,
+                                check=False).stdout.decode()
         left = re.search(r"still says no: (\d+) lines? of the report", fixes[-1])
         if left:
             return "\nverdict no\n" in report and sum(map(is_against, report.splitlines())) == int(left.group(1))
@@ -245,7 +264,8 @@ def is_against(line: str) -> bool:
 
 
 def with_edits(text: str, edits: list[str]) -> str | None:
-    """Returns a text with the edits of a fix, all by the numbers of the lines that were there, or None for an edit of another kind."""
+    """Returns a text with the edits of a fix, all by the numbers of the lines that were there, or None for an edit of
+    another kind."""
     lines: list[list[str]] = [[line] for line in text.split("\n")]
     for edit in edits:
         added = re.match(r"Add `([^`]*)` after line (\d+) ", edit)

@@ -7,8 +7,8 @@ import sys
 import time
 
 import support
-from bbmlab_core.fixing import Fixer
-from bbmlab_core.trials import Budget, Trial, is_yes
+from bbmlab_core.explain.fixing import Fixer
+from bbmlab_core.explain.trials import Budget, Trial, is_yes
 from mutations import FAMILIES, mutants
 
 MAX_BYTES = 12_000
@@ -18,8 +18,10 @@ ROUNDS = 2
 def right_texts(most: int = MAX_BYTES) -> dict[str, str]:
     """Returns the small right bundles of the repository: examples, standard cells, and large worked bundles."""
     program = support.program()
-    files = [*support.EXAMPLES.glob("*.txt"), *(support.LAB / "cells").glob("*.txt"), *(support.TOP / "conformance" / "data").glob("cascade*.txt")]
-    texts = {path.stem: path.read_text() for path in sorted(files) if path.stat().st_size <= most or "cascade" in path.stem and most >= MAX_BYTES}
+    files = [*support.EXAMPLES.glob("*.txt"), *(support.LAB / "cells").glob("*.txt"),
+             *(support.TOP / "conformance" / "data").glob("cascade*.txt")]
+    texts = {path.stem: path.read_text() for path in sorted(files) if path.stat().st_size <= most
+             or "cascade" in path.stem and most >= MAX_BYTES}
     return {name: text for name, text in texts.items() if is_yes(Trial(program).report(text))}
 
 
@@ -43,7 +45,8 @@ def rounds_to_yes(text: str, program: str) -> tuple[int | None, list[str]]:
 
 def main() -> int:
     """Prints a line for each family, and each text that was not fixed."""
-    count, seed = (int(word) for word in [*sys.argv[1:], "30", "1"][:2]) if len(sys.argv) < 3 else map(int, sys.argv[1:3])
+    count, seed = (int(word) for word in [*sys.argv[1:], "30",
+                                          "1"][:2]) if len(sys.argv) < 3 else map(int, sys.argv[1:3])
     program, texts = support.program(), right_texts()
     fixed = total = 0
     for family in FAMILIES:
@@ -59,9 +62,11 @@ def main() -> int:
                 print(f"  refused after a fix: {name}: {words}")
             if number is None:
                 old, new = texts[name].split("\n"), text.split("\n")
-                print(f"  not fixed: {name}: {sorted(set(old) - set(new))} -> {sorted(set(new) - set(old))} in {time.monotonic() - begun:.1f} s")
+                print(f"  not fixed: {name}: {sorted(set(old) - set(new))} -> {sorted(set(new) - set(old))} in "
+                      f"{time.monotonic() - begun:.1f} s")
         fixed, total = fixed + good, total + made
-        print(f"{family}: {good} of {made} fixed, {rounds[1]} in one round; {time.monotonic() - started:.0f} s", flush=True)
+        print(f"{family}: {good} of {made} fixed, {rounds[1]} in one round; {time.monotonic() - started:.0f} s",
+              flush=True)
     print(f"in all: {fixed} of {total}, {100 * fixed / max(1, total):.1f} percent")
     return 0
 

@@ -39,7 +39,8 @@ def rename(lines: Lines, chance: random.Random) -> Lines | None:
 
 def late(lines: Lines, chance: random.Random) -> Lines | None:
     """Moves an `edge`, `halo` or `stop` line by some steps in time, or the end of the run."""
-    places = [index for index in numbered(lines, "edge", "halo", "stop") if lines[index].split(" ")[1] != "*"] + numbered(lines, "layout")
+    places = [index for index in numbered(lines, "edge", "halo", "stop")
+              if lines[index].split(" ")[1] != "*"] + numbered(lines, "layout")
     index = chance.choice(places)
     words = lines[index].split(" ")
     place, step = (3, chance.choice((1, 2, 3, -1))) if words[0] == "layout" else (1, chance.choice((2, -2)))
@@ -105,12 +106,15 @@ def moved(lines: Lines, index: int, place: int, step: tuple[int, int]) -> Lines 
     return with_line(lines, index, words) if min(x, y) >= 0 else None
 
 
-FAMILIES: dict[str, Mutation] = {"drop": drop, "rename": rename, "late": late, "swap": swap, "waste": waste, "phantom": phantom,
+FAMILIES: dict[str, Mutation] = {"drop": drop, "rename": rename, "late": late, "swap": swap, "waste": waste,
+                                 "phantom": phantom,
                                  "mirror parity": mirror_parity, "moved port": moved_port}
 
 
-def mutants(family: str, texts: dict[str, str], count: int, seed: int, is_yes: Callable[[str], bool]) -> Iterator[tuple[str, str]]:
-    """Yields `count` faulty texts of a family with the names of the texts that they come from; those that get a yes are left out."""
+def mutants(family: str, texts: dict[str, str], count: int, seed: int,
+            is_yes: Callable[[str], bool]) -> Iterator[tuple[str, str]]:
+    """Yields `count` faulty texts of a family with the names of the texts that they come from; those that get a yes are
+    left out."""
     chance, found = random.Random(f"{family} {seed}"), 0
     names = sorted(texts)
     seen: set[str] = set(texts.values())

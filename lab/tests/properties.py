@@ -1,4 +1,6 @@
-"""What tests of properties share: circuits, layouts, certificates and damaged texts that hypothesis chooses, and runs of the lab's commands."""
+"""What tests of properties share: circuits, layouts, certificates and damaged texts that hypothesis chooses, and runs
+of the lab's commands.
+"""
 
 import atexit
 import os
@@ -16,19 +18,22 @@ import support
 sys.path.insert(0, str(support.LAB / "public"))
 import bbmlab  # noqa: E402
 from bbmlab_core.cli import main  # noqa: E402
-from bbmlab_core.gates import GATE_SIZES, INVERSE_GATES  # noqa: E402
+from bbmlab_core.texts.gates import GATE_SIZES, INVERSE_GATES  # noqa: E402
 
 # Where hypothesis keeps its tables of characters, in place of a folder beside the tests.
 ROOM = tempfile.TemporaryDirectory(prefix="hypothesis-")
 atexit.register(ROOM.cleanup)
 set_hypothesis_home_dir(ROOM.name)
 
-NAMES = st.from_regex(r"[a-z][a-z0-9_]{0,5}", fullmatch=True) | st.from_regex(r"[a-z][a-z0-9_]{31}", fullmatch=True) | st.sampled_from(
+NAMES = st.from_regex(r"[a-z][a-z0-9_]{0,5}", fullmatch=True) | st.from_regex(r"[a-z][a-z0-9_]{31}",
+                                                                              fullmatch=True) | st.sampled_from(
     ["circuit", "end", "input", "layout", "certificate", "cut", "x"])
 # Texts of examples/ that are damaged: each kind of section and of line.
-SEEDS = ["one_wire", "not_gate", "wrong_edge", "wrong_border", "four_modules", "there_and_back", "not_kept", "timed_modules", "head_on",
+SEEDS = ["one_wire", "not_gate", "wrong_edge", "wrong_border", "four_modules", "there_and_back", "not_kept",
+         "timed_modules", "head_on",
          "collision_values", "half_adder", "outside_values", "leaves"]
-WORDS = ["0", "1", "-1", "00", "7", "8", "513", "65537", "999999999", "9999999999", "*", "->", "", " ", "end", "p", "zz", "P", "a.b", "\u00e9", "\t", "#",
+WORDS = ["0", "1", "-1", "00", "7", "8", "513", "65537", "999999999", "9999999999", "*", "->", "", " ", "end", "p",
+         "zz", "P", "a.b", "\u00e9", "\t", "#",
          "\x1b[31m", "\x00", "circuit", "layout 8 8 3", "certificate 2", "assign", "module 0 0 8 8"]
 # A child that takes longer is ended by SIGALRM.
 MAX_SECONDS = 60
@@ -85,7 +90,8 @@ def ring_and_halo(box: bbmlab.Box, layout: bbmlab.Layout) -> tuple[list[tuple[in
 
 
 @st.composite
-def modules(draw: st.DrawFn, box: bbmlab.Box, circuit: bbmlab.Circuit, layout: bbmlab.Layout, version: int) -> bbmlab.Module:
+def modules(draw: st.DrawFn, box: bbmlab.Box, circuit: bbmlab.Circuit, layout: bbmlab.Layout,
+            version: int) -> bbmlab.Module:
     """Draws a module that knows all wires, with lines at any allowed cell and time."""
     module = bbmlab.Module(box).cut(*draw(st.permutations(circuit.inputs))).use(*range(len(circuit.gates)))
     wires = [*circuit.inputs, *(name for gate in circuit.gates for name in gate.outs)]
@@ -154,7 +160,10 @@ def damaged(lines: list[str], index: int, kind: str, draw: st.DrawFn) -> list[st
 
 @st.composite
 def damaged_texts(draw: st.DrawFn) -> bytes:
-    """Draws a text of examples/ with some damages. Most of them change a number a little, so that many texts are still taken."""
+    """Draws a text of examples/ with some damages.
+
+    Most of them change a number a little, so that many texts are still taken.
+    """
     lines = (support.EXAMPLES / f"{draw(st.sampled_from(SEEDS))}.txt").read_text().split("\n")
     for _ in range(draw(st.integers(0, 3))):
         kind = draw(st.sampled_from(["step"] * 8 + ["drop", "drop", "swap", "twice", "word", "line", "cut", "more"]))
@@ -163,7 +172,10 @@ def damaged_texts(draw: st.DrawFn) -> bytes:
 
 
 def run_in_child(words: list[str], seconds: int, out: IO[bytes], errors: IO[bytes]) -> int:
-    """Runs a command in a process of its own, and returns its status: CRASHED after a traceback, and less than 0 after a signal."""
+    """Runs a command in a process of its own, and returns its status:
+
+    CRASHED after a traceback, and less than 0 after a signal.
+    """
     child = os.fork()
     if child:
         return os.waitstatus_to_exitcode(os.waitpid(child, 0)[1])
@@ -172,7 +184,8 @@ def run_in_child(words: list[str], seconds: int, out: IO[bytes], errors: IO[byte
         os.dup2(os.open(os.devnull, os.O_RDONLY), 0)
         os.dup2(out.fileno(), 1)
         os.dup2(errors.fileno(), 2)
-        sys.stdin, sys.stdout, sys.stderr = open(0, closefd=False), open(1, "w", closefd=False), open(2, "w", closefd=False)
+        sys.stdin, sys.stdout, sys.stderr = open(0, closefd=False), open(1, "w",
+                                                                         closefd=False), open(2, "w", closefd=False)
         signal.alarm(seconds)
         try:
             status = main(words)

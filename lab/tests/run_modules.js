@@ -1,11 +1,15 @@
-// run_modules.js FOLDER FILE..: loads files of the page that need no browser, reads a JSON list of [name, arguments..] and writes what each
-// of the functions below returns.
-"use strict";
-const fs = require("fs"), path = require("path"), vm = require("vm");
-const [folder, ...files] = process.argv.slice(2);
-const text = files.map((file) => fs.readFileSync(path.join(folder, file), "utf8")).join("\n");
-const bbmlab = vm.runInThisContext(`${text}\n;bbmlab`);
-const { Grid, WholeRun, Cells, Player, SvgPen, startKeys } = bbmlab;
+// run_modules.js: reads a JSON list of [name, arguments..] and writes what each of the functions below returns. They
+// use modules of the page that need no browser.
+import fs from "node:fs";
+import * as address from "../bbmlab_core/view/address.js";
+import { Cells, Grid, mirrorsOf, startKeys, trail as movesBefore, WholeRun } from "../bbmlab_core/view/automaton.js";
+import { placeNames } from "../bbmlab_core/view/labels.js";
+import * as painting from "../bbmlab_core/view/painting.js";
+import { Player } from "../bbmlab_core/view/player.js";
+import { SvgPen } from "../bbmlab_core/view/svg_pen.js";
+import { Buckets, Tiles } from "../bbmlab_core/view/tiles.js";
+import * as waveform from "../bbmlab_core/view/waveform.js";
+import { Wires } from "../bbmlab_core/view/wires.js";
 
 /** Returns a run at a time. */
 function runAt(data, on, time) {
@@ -24,35 +28,42 @@ function ended(data, on) {
 }
 
 /** Returns the moves of each of the last steps, the latest first. */
-const trail = (data, on, time, length) => bbmlab.trail(runAt(data, on, time), length).map((moves) => moves.map((key) => new Grid(data.layout).cellOf(key)));
+const trail = (data, on, time, length) =>
+  movesBefore(runAt(data, on, time), length).map((moves) => moves.map((key) => new Grid(data.layout).cellOf(key)));
 
 /** Returns what is watched, when the cells are live, and what the marks say. */
 function waves(data, on) {
   const { probes, recorder, layout, values } = ended(data, on);
   return probes.map(({ wire, cell, key, marks }) => ({ wire, cell, marks: marks.map(({ time, kind }) => [time, kind]),
-    live: [...Array(layout.steps + 1).keys()].map((time) => recorder.isLive(key, time) ?? null), value: values ? values.get(wire) ?? null : null,
-    spans: bbmlab.waveform.liveSpans(recorder.signalOf(key), recorder.until) }));
+    live: [...Array(layout.steps + 1).keys()].map((time) => recorder.isLive(key, time) ?? null), value: values
+      ? values.get(wire) ?? null : null,
+    spans: waveform.liveSpans(recorder.signalOf(key), recorder.until) }));
 }
 
 /** Returns the picture of a layout as SVG, with letters that are 0.6 of their size wide. */
 function scene(data, on, time, { scale, left, top, pointed }) {
   const measure = (words, font) => 0.6 * Number(font.match(/([\d.]+)px/)[1]) * words.length;
-  const pen = new SvgPen(900, 600, measure), inks = new Proxy({}, { get: (_, name) => `var(--${String(name)})` }), run = runAt(data, on, time);
-  const mirrors = new Cells(startKeys({ mirrors: data.layout.mirrors, balls: [], ins: [] }, () => false, run.grid), run.grid);
+  const pen = new SvgPen(900, 600, measure), inks = new Proxy({}, { get: (_, name) => `var(--${String(name)})` });
+  const run = runAt(data, on, time);
+  const mirrors = new Cells(startKeys({ mirrors: data.layout.mirrors, balls: [], ins: [] }, () => false, run.grid),
+    run.grid);
   const good = new Map(data.layout.outs.map((port) => [String(port.cell), true]));
-  bbmlab.painting.scene({ pen, scale, left, top, wide: 900, high: 600, inks }, { layout: data.layout, modules: [], live: run.live, mirrors,
-    odd: time % 2, trail: bbmlab.trail(run, 8), chosen: null, lines: [], fault: null, mark: null, good, pointed });
+  painting.scene({ pen, scale, left, top, wide: 900, high: 600, inks },
+    { layout: data.layout, modules: [], live: run.live, mirrors,
+    odd: time % 2, trail: movesBefore(run, 8), chosen: null, lines: [], fault: null, mark: null, good, pointed });
   return pen.text("#fff", "a <title> & \"more\"");
 }
 
 const results = (data, on) => ended(data, on).results().map(({ name, isGood }) => [name, isGood]);
-const read = (hash, limits) => bbmlab.address.read(hash, limits);
-const write = (shown) => bbmlab.address.write(shown);
-const places = (names, signs, ports) => bbmlab.placeNames(names, signs, ports).map(({ box, away }) => [box.x, box.y, away]);
+const read = (hash, limits) => address.read(hash, limits);
+const write = (shown) => address.write(shown);
+const places = (names, signs, ports) => placeNames(names, signs, ports).map(({ box, away }) => [box.x, box.y, away]);
 
-/** Returns for each time, sought in this order, what differs from the mirrors, as the run knows it and as its cells say. */
+/**
+ * Returns for each time, sought in this order, what differs from the mirrors, as the run knows it and as its cells say.
+ */
 function different(data, on, times) {
-  const run = new WholeRun(data.layout, new Set(on)), { cells } = bbmlab.mirrorsOf(data.layout), found = [];
+  const run = new WholeRun(data.layout, new Set(on)), { cells } = mirrorsOf(data.layout), found = [];
   for (const time of times) {
     run.seek(time);
     const wanted = [...cells.bytes.keys()].filter((key) => cells.bytes[key] !== run.live.bytes[key]);
@@ -63,7 +74,7 @@ function different(data, on, times) {
 
 /** Returns the numbers of the rectangles and pieces that are filed under a range, in order. */
 function filed(boxes, pieces, range) {
-  const found = new bbmlab.Buckets(), numbers = [];
+  const found = new Buckets(), numbers = [];
   for (const box of boxes) found.addBox(...box);
   for (const piece of pieces) found.addPiece(...piece);
   found.visit(range, (number) => numbers.push(number));
@@ -72,20 +83,27 @@ function filed(boxes, pieces, range) {
 
 /** Returns what is said of the wire at a place, and the time there, or null. */
 function wireAt(ways, circuit, [x, y], most) {
-  const wires = new bbmlab.Wires(ways, circuit), found = wires.at(x, y, most);
+  const wires = new Wires(ways, circuit), found = wires.at(x, y, most);
   return found && [wires.wordsOf(found.wire), found.times, wires.boxOf(found.wire), wires.groupOf(found.wire)];
 }
 
-/** Returns how many tiles a place needs, which of them are made at first, and after it was drawn often. A tile takes some milliseconds to draw. */
+/**
+ * Returns how many tiles a place needs, which of them are made at first, and after it was drawn often. A tile takes
+ * some milliseconds to draw.
+ */
 function tiles(size, place, milliseconds) {
   const drawn = [], canvas = { getContext: () => ({}) };
   globalThis.document = { createElement: () => ({ ...canvas }) };
-  const made = new bbmlab.Tiles(size, ({ scale, left, top }) => { drawn.push([scale, left, top]); for (const end = performance.now() + milliseconds; performance.now() < end;); });
+  const made = new Tiles(size, ({ scale, left, top }) => {
+    drawn.push([scale, left, top]);
+    for (const end = performance.now() + milliseconds; performance.now() < end;);
+  });
   const shown = { pen: { drawImage: () => { copies += 1; } }, ...place };
   let copies = 0, frames = 1;
   const isFirst = made.paint(shown), first = drawn.length, firstCopies = copies;
   while (!made.paint(shown)) frames += 1;
-  return { level: made.levelOf(place.scale), wanted: made.shown(place, made.levelOf(place.scale)).length, isFirst, first, firstCopies, drawn: drawn.length, frames };
+  return { level: made.levelOf(place.scale), wanted: made.shown(place, made.levelOf(place.scale)).length, isFirst,
+    first, firstCopies, drawn: drawn.length, frames };
 }
 
 const functions = { different, filed, wireAt, tiles, trail, waves, scene, results, read, write, places };

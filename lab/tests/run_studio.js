@@ -1,11 +1,12 @@
-// run_studio.js: loads the studio's modules that need no browser, reads a JSON list of [name, arguments..] and writes what each of the
-// functions below returns.
-"use strict";
-const fs = require("fs"), path = require("path"), vm = require("vm");
-const [folder, ...files] = process.argv.slice(2);
-const source = files.map((file) => fs.readFileSync(path.join(folder, file), "utf8")).join("\n");
-const bbmlab = vm.runInThisContext(`${source}\n;bbmlab`);
-const { Model, ModelRefusal, Survey, TruthTable, surveys, geometry } = bbmlab;
+// run_studio.js: reads a JSON list of [name, arguments..] and writes what each of the functions below returns. They use
+// modules of the studio that need no browser.
+import fs from "node:fs";
+import * as circuitText from "../bbmlab_core/studio/circuit_text.js";
+import * as geometry from "../bbmlab_core/studio/geometry.js";
+import { Model, ModelRefusal } from "../bbmlab_core/studio/model.js";
+import * as surveys from "../bbmlab_core/studio/survey.js";
+
+const { Survey, TruthTable } = surveys;
 
 /** Returns whether text, model, text gives the same text, for each text. */
 const law = (texts) => texts.map((text) => new Model(text).text === text);
@@ -26,27 +27,48 @@ function commandsOf(model, draw, cells) {
   const part = (kind, box, name = null) => ({ kind, name, box, line: -1 });
   const names = () => ["a", "b", "c_2", "zz"][draw(4)];
   return [
-    () => { const box = geometry.snapMirror([...cell(), 1 + draw(6), 1 + draw(6)], model.header.width, model.header.height); if (box) model.add([part("mirror", box)]); },
+    () => {
+      const box = geometry.snapMirror([...cell(), 1 + draw(6), 1 + draw(6)], model.header.width, model.header.height);
+      if (box) model.add([part("mirror", box)]);
+    },
     () => model.add([part("mirror", [...cell(), 1 + draw(4), 1 + draw(4)])]),
     () => model.addCells(geometry.pairCells(cell(), 0).map((at) => part("ball", [...at, 1, 1]))),
-    () => { const name = names(); model.addCells(geometry.pairCells(cell(), 0).map((at) => part("in", [...at, 1, 1], name))); },
-    () => { const name = names(); model.addCells([part("out", [...cell(), 1, 1], name)]); },
+    () => {
+      const name = names();
+      model.addCells(geometry.pairCells(cell(), 0).map((at) => part("in", [...at, 1, 1], name)));
+    },
+    () => {
+      const name = names();
+      model.addCells([part("out", [...cell(), 1, 1], name)]);
+    },
     () => model.addCells([part("waste", [...cell(), 1, 1])]),
-    () => model.remove(lines()), () => model.move(lines(), draw(9) - 4, draw(9) - 4), () => model.turn(lines(), ["rotate", "flip-x", "flip-y"][draw(3)]),
-    () => model.rename(lines(), names()), () => model.add(geometry.moved(model.partsAt(lines()).slice(0, 6), 2 * draw(9), 2 * draw(9)), "paste"),
-    () => model.resize(model.header.width + 2 * draw(3) - 2, model.header.height + 2 * draw(3) - 2, Math.max(0, model.header.steps + draw(7) - 3), draw(2) === 1),
+    () => model.remove(lines()), () => model.move(lines(), draw(9) - 4, draw(9) - 4),
+      () => model.turn(lines(), ["rotate", "flip-x", "flip-y"][draw(3)]),
+    () => model.rename(lines(), names()),
+      () => model.add(geometry.shifted(model.partsAt(lines()).slice(0, 6), 2 * draw(9), 2 * draw(9)), "paste"),
+    () => model.resize(model.header.width + 2 * draw(3) - 2, model.header.height + 2 * draw(3) - 2,
+      Math.max(0, model.header.steps + draw(7) - 3), draw(2) === 1),
     () => model.insertCell(cells[draw(cells.length)], 2 * draw(10), 2 * draw(10), draw(2) === 1),
-    () => model.setHead(`${model.headText}# ${draw(100)}`.replace(/(# \d+)+$/, (found) => found.slice(0, 40)), draw(2) ? "typing" : null),
-    () => model.setTail(draw(2) ? `certificate 2\nmodule 0 0 ${2 * draw(9)} 2\nend\n` : ""), () => model.undo(), () => model.redo(),
+    () => model.setHead(`${model.headText}# ${draw(100)}`.replace(/(# \d+)+$/, (found) => found.slice(0, 40)),
+      draw(2) ? "typing" : null),
+    () => model.setTail(draw(2) ? `certificate 2\nmodule 0 0 ${2 * draw(9)} 2\nend\n` : ""), () => model.undo(),
+      () => model.redo(),
   ];
 }
 
-/** Does some random commands, and returns the last text, how many were done, and whether undo and redo give the first and the last text. */
+/**
+ * Does some random commands, and returns the last text, how many were done, and whether undo and redo give the first
+ * and the last text.
+ */
 function random(text, cells, seed, count, isWild) {
-  const model = new Model(text), draw = draws(seed), commands = commandsOf(model, draw, cells).slice(0, isWild ? undefined : 13), texts = [];
+  const model = new Model(text), draw = draws(seed);
+  const commands = commandsOf(model, draw, cells).slice(0, isWild ? undefined : 13), texts = [];
   let done = 0;
   for (let tries = 0; done < count && tries < 40 * count; tries += 1) {
-    try { commands[draw(commands.length)](); done += 1; } catch (error) { if (!(error instanceof ModelRefusal)) throw error; }
+    try {
+      commands[draw(commands.length)]();
+      done += 1;
+    } catch (error) { if (!(error instanceof ModelRefusal)) throw error; }
     if (tries % 50 === 0) texts.push(model.text);
   }
   const last = model.text;
@@ -59,7 +81,10 @@ function random(text, cells, seed, count, isWild) {
 /** Returns the text after commands, each [name, arguments..], or the reason why one cannot be done. */
 function commands(text, list) {
   const model = new Model(text);
-  try { for (const [name, ...words] of list) model[name](...words); } catch (error) { if (!(error instanceof ModelRefusal)) throw error; return error.message; }
+  try { for (const [name, ...words] of list) model[name](...words); } catch (error) {
+    if (!(error instanceof ModelRefusal)) throw error;
+    return error.message;
+  }
   return model.text;
 }
 
@@ -74,17 +99,20 @@ function moved(text, [name, ...words], lines) {
 
 /** Returns the cells that are live at the end under each choice of the inputs, and the kinds of marks. */
 function ends(text) {
-  const { layout, circuit } = new Model(text), choices = surveys.allChoices(circuit.inputs), run = new Survey(layout, circuit, choices);
+  const { layout, circuit } = new Model(text), choices = surveys.allChoices(circuit.inputs);
+  const run = new Survey(layout, circuit, choices);
   run.advance(1e6);
-  const keys = [...Array(layout.width * layout.height).keys()].map((index) => run.grid.keyOf(index % layout.width, Math.floor(index / layout.width)));
-  const states = choices.map((on, lane) => ({ on: [...on], live: keys.filter((key) => run.live[key] >>> lane & 1).map((key) => run.grid.cellOf(key)) }));
+  const keys = [...Array(layout.width * layout.height).keys()].map(
+    (index) => run.grid.keyOf(index % layout.width, Math.floor(index / layout.width)));
+  const states = choices.map((on, lane) => ({ on: [...on],
+    live: keys.filter((key) => run.live[key] >>> lane & 1).map((key) => run.grid.cellOf(key)) }));
   return { states, leftAt: run.leftAt, marks: [...new Set(run.marks.filter((_, index) => index % 3 === 2))].sort() };
 }
 
 /** Returns the size, whether the circuit is whole, and the kinds and places of the parts. */
 function parts(text) {
   const model = new Model(text), { width, height, steps } = model.header;
-  return { size: [width, height, steps], isWhole: bbmlab.circuitText.read(model.headText).isWhole,
+  return { size: [width, height, steps], isWhole: circuitText.read(model.headText).isWhole,
     parts: model.parts.map(({ kind, box }) => [kind, box[0], box[1]]).sort() };
 }
 
@@ -100,19 +128,25 @@ function timed(text, count) {
   const { layout, circuit } = new Model(text), inputs = circuit.inputs, times = [];
   for (let run = 0; run < count; run += 1) {
     const start = performance.now();
-    const survey = new Survey(layout, circuit, inputs.length <= 5 ? surveys.allChoices(inputs) : surveys.sampledChoices(inputs));
+    const survey = new Survey(layout, circuit, inputs.length <= 5 ? surveys.allChoices(inputs)
+      : surveys.sampledChoices(inputs));
     survey.advance(1e6);
     times.push(performance.now() - start);
   }
-  return { median: times.sort((a, b) => a - b)[count >> 1], ways: new Survey(layout, circuit, [new Set()]).ways.length };
+  return { median: times.sort((a, b) => a - b)[count >> 1],
+    ways: new Survey(layout, circuit, [new Set()]).ways.length };
 }
 
 const fallen = (mirrors) => geometry.fallingMirrors(mirrors).map(({ box }) => box);
 const snapped = (boxes, width, height) => boxes.map((box) => geometry.snapMirror(box, width, height));
-const circuit = (text) => { const { isWhole, inputs, outputs, spills, gates } = bbmlab.circuitText.read(text); return { isWhole, inputs, outputs, spills, gates }; };
+const circuit = (text) => {
+  const { isWhole, inputs, outputs, spills, gates } = circuitText.read(text);
+  return { isWhole, inputs, outputs, spills, gates };
+};
 
 /** Returns the words of the lines that contain one, for each text. */
-const words = (texts) => texts.map((text) => bbmlab.circuitText.unmarked(text).split("\n").map(bbmlab.circuitText.wordsOf).filter((found) => found.length));
+const words = (texts) =>
+  texts.map((text) => circuitText.unmarked(text).split("\n").map(circuitText.wordsOf).filter((found) => found.length));
 
 /** Returns the text that is drawn, for each text. */
 const drawn = (texts) => texts.map((text) => new Model(text).drawnText);

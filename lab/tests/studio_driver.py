@@ -42,10 +42,12 @@ class Studio:
     def start(self, name: str) -> str:
         """Starts a server of a file, opens its page, and returns the address."""
         address = self.serve(name)
-        # A page of the same address is not loaded by a new part behind `#`: it loads itself again, which takes a moment.
+        # A page of the same address is not loaded by a new part behind `#`: it loads itself again, which takes a
+        # moment.
         self.script("window.isOld = true")
         self.browser.get(address)
-        self.wait(lambda: self.script("return window.isOld !== true && document.readyState === 'complete'"), "the page is loaded")
+        self.wait(lambda: self.script("return window.isOld !== true && document.readyState === 'complete'"),
+                  "the page is loaded")
         self.wait(lambda: self.text("name").startswith(name), "the file is opened")
         self.wait(lambda: self.script("return bbmlab.studio.tools.cell !== null"), "the cells are there")
         return address
@@ -95,7 +97,8 @@ class Studio:
 
     def is_verdict(self, wanted: str) -> bool:
         """Returns whether the page shows a verdict that is not outdated."""
-        return bool(self.script("return document.getElementById('badge').textContent === arguments[0] && bbmlab.studio.verdicts.isCurrent", wanted))
+        return bool(self.script("return document.getElementById('badge').textContent === arguments[0] && "
+                                "bbmlab.studio.verdicts.isCurrent", wanted))
 
     def verdict(self, wanted: str, seconds: float = 60) -> float:
         """Waits for a verdict that is not outdated, and returns how many seconds it took."""
@@ -111,15 +114,18 @@ class Studio:
         """Waits until the page waits for no timer and no frame, and knows which tabs are open."""
         self.wait(lambda: is_still(self.browser), "the page comes to rest")
         # The browser answers such questions in their order, so that an earlier one of the page is answered then.
-        self.browser.execute_async_script("const done = arguments[0]; navigator.locks.query().then(() => setTimeout(done));")
+        self.browser.execute_async_script("const done = arguments[0]; navigator.locks.query().then(() => "
+                                          "setTimeout(done));")
 
     def still(self) -> None:
         """Waits until the ways are of the text as it is."""
-        self.wait(lambda: self.script("const { desk } = bbmlab.studio; return desk.surveyOrder === desk.order"), "the ways are there")
+        self.wait(lambda: self.script("const { desk } = bbmlab.studio; return desk.surveyOrder === desk.order"),
+                  "the ways are there")
 
     def place(self, x: float, y: float) -> tuple[int, int]:
         """Returns the place of a cell on the canvas, from its middle, in pixels."""
-        found = self.script("const s = bbmlab.studio.sketch, c = document.getElementById('whole'); return [s.scale, s.left, s.top, c.clientWidth, c.clientHeight]")
+        found = self.script("const s = bbmlab.studio.sketch, c = document.getElementById('whole'); return [s.scale, "
+                            "s.left, s.top, c.clientWidth, c.clientHeight]")
         scale, left, top, wide, high = found
         return round((x + 0.5 - left) * scale - wide / 2), round((y + 0.5 - top) * scale - high / 2)
 
@@ -174,7 +180,8 @@ class Studio:
     def touch(self, kind: str, *cells: tuple[float, float]) -> None:
         """Sends an event of fingers at cells: `Start`, `Move` or `End`."""
         await_frames(self.browser)
-        left, top, wide, high = self.script("const b = document.getElementById('whole').getBoundingClientRect(); return [b.left, b.top, b.width, b.height]")
+        left, top, wide, high = self.script("const b = document.getElementById('whole').getBoundingClientRect(); "
+                                            "return [b.left, b.top, b.width, b.height]")
         points = []
         for number, cell in enumerate(cells):
             x, y = self.place(*cell)
@@ -191,7 +198,10 @@ class Studio:
         raise AssertionError(f"Tab does not come to {name}")
 
     def press_keys(self, *keys: str) -> None:
-        """Presses keys one by one where the focus is. A key with Control or Alt is a tuple's text, such as Keys.CONTROL + "z"."""
+        """Presses keys one by one where the focus is.
+
+        A key with Control or Alt is a tuple's text, such as Keys.CONTROL + "z".
+        """
         chain = ActionChains(self.browser, duration=0)
         for key in keys:
             if len(key) == 2 and key[0] in (Keys.CONTROL, Keys.ALT, Keys.SHIFT):
@@ -202,7 +212,8 @@ class Studio:
 
     def answer(self, title: str, button: str) -> None:
         """Presses a button of the dialog with a title."""
-        self.wait(lambda: self.script("return document.getElementById('dialog').open") and self.text("dialog-title") == title, f"the dialog {title}")
+        self.wait(lambda: self.script("return document.getElementById('dialog').open")
+                  and self.text("dialog-title") == title, f"the dialog {title}")
         for found in self.browser.find_elements(By.CSS_SELECTOR, "#dialog-buttons button"):
             if found.text == button:
                 found.click()
@@ -225,15 +236,19 @@ class Studio:
         """Writes a screenshot at each size, with nothing wider than the window."""
         for size, (width, height) in SIZES.items():
             self.set_size(width, height)
-            assert not self.script("return document.documentElement.scrollWidth > innerWidth"), f"{name} is wider than the window at {size}"
+            is_wide = self.script("return document.documentElement.scrollWidth > innerWidth")
+            assert not is_wide, f"{name} is wider than the window at {size}"
             self.browser.save_screenshot(str(self.folder / f"{name}_{size}.png"))
         self.set_size(*SIZES["wide"])
 
     def set_size(self, width: int, height: int) -> None:
         """Sets the size of the window, and waits until the page is drawn at it."""
-        self.browser.execute_cdp_cmd("Emulation.setDeviceMetricsOverride", {"width": width, "height": height, "deviceScaleFactor": 1, "mobile": False})
-        self.wait(lambda: is_of_size(self.browser, width, height) and is_still(self.browser), f"the page is drawn at {width} by {height}")
+        self.browser.execute_cdp_cmd("Emulation.setDeviceMetricsOverride",
+                                     {"width": width, "height": height, "deviceScaleFactor": 1, "mobile": False})
+        self.wait(lambda: is_of_size(self.browser, width, height) and is_still(self.browser),
+                  f"the page is drawn at {width} by {height}")
 
     def scheme(self, name: str) -> None:
         """Sets light or dark."""
-        self.browser.execute_cdp_cmd("Emulation.setEmulatedMedia", {"features": [{"name": "prefers-color-scheme", "value": name}]})
+        self.browser.execute_cdp_cmd("Emulation.setEmulatedMedia",
+                                     {"features": [{"name": "prefers-color-scheme", "value": name}]})

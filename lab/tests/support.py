@@ -12,12 +12,13 @@ EXAMPLES = TOP / "examples"
 sys.path[:0] = [str(path) for path in (LAB, TOP / "conformance") if str(path) not in sys.path]
 sys.dont_write_bytecode = True
 import cases  # noqa: E402
-from bbmlab_core.documents import Document, decode, read_document  # noqa: E402
+from bbmlab_core.texts.documents import Document, decode, read_document  # noqa: E402
 
 
 def worked_cases() -> list[cases.Case]:
     """Returns the worked cases that are about a text."""
-    return [case for case in cases.all_cases() if cases.is_about_texts(case) and "-h" not in case.words and case.status in (0, 1, 3)]
+    return [case for case in cases.all_cases() if cases.is_about_texts(case) and "-h" not in case.words
+            and case.status in (0, 1, 3)]
 
 
 def document_of(case: cases.Case) -> Document:
@@ -49,7 +50,8 @@ def program_of_limits_2() -> str:
 def require_limits_of(text: str, path: str) -> None:
     """Skips the test if a text begins with `limits 2` and the program at a path refuses this line."""
     if text.startswith("limits 2\n"):
-        said = subprocess.run([path, "value"], input=b"limits 2\ncircuit\nend\nassign\nend\n", capture_output=True, check=False)
+        said = subprocess.run([path, "value"], input=b"limits 2\ncircuit\nend\nassign\nend\n", capture_output=True,
+                              check=False)
         if said.returncode != 0:
             raise unittest.SkipTest(f"the program refuses `limits 2`: {path}")
 
@@ -59,4 +61,5 @@ def lab(*words: str, text: str | bytes = b"", **environment: str) -> subprocess.
     data = text.encode("latin-1") if isinstance(text, str) else text
     ended = subprocess.run([sys.executable, str(LAB / "bbmlab"), *words], input=data, capture_output=True, check=False,
                            env={**os.environ, **environment})
-    return subprocess.CompletedProcess(ended.args, ended.returncode, ended.stdout.decode("utf-8"), ended.stderr.decode("utf-8"))
+    return subprocess.CompletedProcess(ended.args, ended.returncode, ended.stdout.decode("utf-8"),
+                                       ended.stderr.decode("utf-8"))

@@ -5,8 +5,9 @@ import unittest
 import xml.etree.ElementTree as ET
 
 import support
-from bbmlab_core import animating, tracing
-from bbmlab_core.designs import read_design
+from bbmlab_core.physics import tracing
+from bbmlab_core.pictures import animating
+from bbmlab_core.texts.designs import read_design
 
 CELLS = ["fredkin", "switch", "interact", "half_adder", "crossing", "delay_10", "unswitch"]
 
@@ -35,7 +36,8 @@ class Picture(unittest.TestCase):
         layout = read_design(str(support.LAB / "cells" / "fredkin.txt"))[1]
         picture = ET.fromstring(animating.animation(layout, [["c"], ["x", "y"]], "two runs"))
         space = "{http://www.w3.org/2000/svg}"
-        values = [it.attrib["values"].split(";") for it in picture.iter(f"{space}animate") if it.attrib["attributeName"] in "xy"]
+        values = [it.attrib["values"].split(";") for it in picture.iter(f"{space}animate")
+                  if it.attrib["attributeName"] in "xy"]
         own = layout.steps + 1 + animating.REST
         self.assertEqual({len(it) for it in values}, {2 * own})
         self.assertEqual(len(values), 2 * 6)

@@ -23,15 +23,19 @@ LEAST_LINES = 30
 # Longer worked texts are not read here, for time.
 MAX_BYTES = 50_000
 # The fields of records and the arguments of calls are on the page too.
-RECORDS = ["Border", "Box", "Bundle", "Certificate", "Circuit", "Comparison", "Explanation", "Gate", "Layout", "Module", "Netlist", "Port", "Report",
+RECORDS = ["Border", "Box", "Bundle", "Certificate", "Circuit", "Comparison", "Explanation", "Gate", "Layout", "Module",
+           "Netlist", "Port", "Report",
            "Row", "State", "Stop"]
-CALLS = ["certify", "check", "clean", "equivalent", "explain", "inverse", "local_run", "read", "read_netlist", "route", "simplify", "simulate", "stats",
+CALLS = ["certify", "check", "clean", "equivalent", "explain", "inverse", "local_run", "read", "read_netlist", "route",
+         "simplify", "simulate", "stats",
          "table", "to_conservative"]
 
 
 def fields_of(record: type) -> list[str]:
     """Returns the public fields of a record in their order."""
-    fields = [field.name for field in dataclasses.fields(record)] if dataclasses.is_dataclass(record) else list(record._fields)  # type: ignore[attr-defined]
+    fields = [field.name
+              for field in dataclasses.fields(record)] if dataclasses.is_dataclass(record) else list(
+                  record._fields)  # type: ignore[attr-defined]
     return [name for name in fields if not name.startswith("_")]
 
 
@@ -63,7 +67,8 @@ class Page(unittest.TestCase):
         self.assertEqual([name for name in bbmlab.__all__ if getattr(bbmlab, name, None) is None], [])
 
     def test_fields_and_arguments(self) -> None:
-        """The page has each record with its fields and each call with its arguments, in their order, and each builder."""
+        """The page has each record with its fields and each call with its arguments, in their order, and each builder.
+        """
         shown = dict(re.findall(r"`(\w+)\(([^)`]*)\)", self.page))
         for name in RECORDS:
             with self.subTest(name):
@@ -75,8 +80,11 @@ class Page(unittest.TestCase):
         for record in (bbmlab.Circuit, bbmlab.Layout, bbmlab.Certificate, bbmlab.Module):
             for name, builder in vars(record).items():
                 if inspect.isfunction(builder) and not name.startswith("_"):
-                    self.assertEqual(shown.get(name), str(inspect.signature(builder))[len("(self, "):].split(") ->")[0] and
-                                     ", ".join(str(part).split(":")[0] for part in list(inspect.signature(builder).parameters.values())[1:]), name)
+                    self.assertEqual(shown.get(name), str(inspect.signature(builder))[len("(self, "):].split(") ->")[0]
+                                     and
+                                     ", ".join(str(part).split(":")[0]
+                                               for part in list(inspect.signature(builder).parameters.values())[1:]),
+                                     name)
 
 
 class Import(unittest.TestCase):
@@ -135,7 +143,8 @@ class Sections(unittest.TestCase):
         self.assertEqual(layout, read.layout)
         certificate = bbmlab.Certificate(read.certificate.version)
         for module in read.certificate.modules:
-            again = bbmlab.Module(module.box).cut(*module.cuts).use(*reversed(module.uses)).keep(*reversed(module.keeps))
+            again = bbmlab.Module(module.box).cut(*module.cuts).use(*reversed(module.uses)).keep(
+                *reversed(module.keeps))
             for line in reversed(module.edges):
                 again = again.edge(*line)
             for line in reversed(module.halos):
@@ -170,7 +179,8 @@ class Runs(unittest.TestCase):
             assert bundle.layout and bundle.on is not None
             *_, last = bbmlab.simulate(bundle.layout, bundle.on)
             cells = sorted(last.cells, key=lambda cell: (cell[1], cell[0]))
-            told = f"cells {len(cells)}\n" + "".join(f"{x} {y}\n" for x, y in cells) if last.is_inside else f"left {last.time}\n"
+            told = f"cells {len(cells)}\n" + "".join(f"{x} {y}\n" for x,
+                                                     y in cells) if last.is_inside else f"left {last.time}\n"
             with self.subTest(case.name):
                 self.assertEqual(told, case.output.decode())
             count += 1
@@ -194,8 +204,10 @@ class Runs(unittest.TestCase):
         bundle = bbmlab.read(Path(support.example("one_wire")).read_text())
         assert bundle.layout
         layout = bundle.layout
-        for call in (lambda: bbmlab.simulate(layout, {"q"}), lambda: bbmlab.simulate(layout, steps=-1), lambda: bbmlab.local_run(bundle, 1),
-                     lambda: bbmlab.local_run(bundle, -1), lambda: bbmlab.local_run(bundle, 0, 2), lambda: bbmlab.local_run(bundle, 0, -1)):
+        for call in (lambda: bbmlab.simulate(layout, {"q"}), lambda: bbmlab.simulate(layout, steps=-1),
+                     lambda: bbmlab.local_run(bundle, 1),
+                     lambda: bbmlab.local_run(bundle, -1), lambda: bbmlab.local_run(bundle, 0, 2),
+                     lambda: bbmlab.local_run(bundle, 0, -1)):
             with self.assertRaises(ValueError):
                 call()
         outside = bbmlab.read(Path(support.example("outside_domain")).read_text())
@@ -210,7 +222,8 @@ class Program(unittest.TestCase):
     def test_report(self) -> None:
         """The report is the program's, with each line of it as an object."""
         program = support.program()
-        for name, verdict, status in (("fredkin_gate", "yes", 0), ("wrong_times", "no", 1), ("wrong_border", "no", 1), ("not_kept", "no", 1)):
+        for name, verdict, status in (("fredkin_gate", "yes", 0), ("wrong_times", "no", 1), ("wrong_border", "no", 1),
+                                      ("not_kept", "no", 1)):
             text = Path(support.example(name)).read_text()
             printed = subprocess.run([program, "check"], input=text, capture_output=True, text=True, check=False)
             report = bbmlab.check(text)
@@ -224,14 +237,16 @@ class Program(unittest.TestCase):
         """Each way to hand in a refused text raises RefusedError with the program's line and code."""
         support.program()
         text = Path(support.example("not_local")).read_text()
-        program = subprocess.run([support.program(), "check"], input=text, capture_output=True, text=True, check=False).stdout.split()
+        program = subprocess.run([support.program(), "check"], input=text, capture_output=True, text=True,
+                                 check=False).stdout.split()
         for call in (bbmlab.read, bbmlab.check):
             with self.assertRaises(bbmlab.RefusedError) as raised:
                 call(text)
             self.assertEqual(["refused", str(raised.exception.line), str(raised.exception.code)], program)
             self.assertTrue(raised.exception.reason)
             again = pickle.loads(pickle.dumps(raised.exception))
-            self.assertEqual((again.line, again.code, str(again)), (raised.exception.line, raised.exception.code, str(raised.exception)))
+            self.assertEqual((again.line, again.code, str(again)),
+                             (raised.exception.line, raised.exception.code, str(raised.exception)))
         for call in (bbmlab.read, bbmlab.check, bbmlab.explain):
             with self.assertRaises(TypeError):
                 call(text.encode())  # type: ignore[arg-type]
@@ -241,10 +256,12 @@ class Program(unittest.TestCase):
                     call(strange)
 
     def test_missing_program(self) -> None:
-        """A program that is not there, or gives no report, is a ProgramError; one that takes too long a TimeoutError."""
+        """A program that is not there, or gives no report, is a ProgramError; one that takes too long a TimeoutError.
+        """
         text = Path(support.example("one_wire")).read_text()
         with tempfile.TemporaryDirectory() as room:
-            fakes = {"silent": "exit 0", "liar": "printf 'bbmcheck 1\\ncertificate %064d\\nmodules 1\\nverdict yes\\n' 0; exit 1",
+            fakes = {"silent": "exit 0",
+                     "liar": "printf 'bbmcheck 1\\ncertificate %064d\\nmodules 1\\nverdict yes\\n' 0; exit 1",
                      "full": "echo 'bbmcheck: out of memory' >&2; exit 5", "slow": "exec sleep 20"}
             for name, script in fakes.items():
                 path = Path(room) / name
@@ -286,7 +303,8 @@ class Making(unittest.TestCase):
         for made in (bbmlab.certify(bare), bbmlab.certify(bundle), bbmlab.certify(bare, grid=(64, 64), cuts="safe"),
                      bbmlab.certify(bare, boxes=[module.box for module in bundle.certificate.modules], version=1)):
             self.assertTrue(bbmlab.check(made).is_yes)
-        for wrong in ({"grid": (3, 3)}, {"boxes": [(0, 0, 3, 3)]}, {"boxes": [(0, 0, 4, 4)]}, {"cuts": "few"}, {"version": 3}):
+        for wrong in ({"grid": (3, 3)}, {"boxes": [(0, 0, 3, 3)]}, {"boxes": [(0, 0, 4, 4)]}, {"cuts": "few"},
+                      {"version": 3}):
             with self.subTest(wrong), self.assertRaises(ValueError) as raised:
                 bbmlab.certify(bare, **wrong)  # type: ignore[arg-type]
             self.assertNotIsInstance(raised.exception, bbmlab.RefusedError)

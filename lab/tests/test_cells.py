@@ -6,11 +6,11 @@ import sys
 import unittest
 
 import support
-from bbmlab_core.circuits import values_under
-from bbmlab_core.layouts import Cell, Layout
-from bbmlab_core.program import ask
-from bbmlab_core.simulation import run_layout
-from bbmlab_core.standard_cells import ABOUT, FOLDER, cell_names, read_cell
+from bbmlab_core.host.program import ask
+from bbmlab_core.physics.simulation import run_layout
+from bbmlab_core.texts.circuits import values_under
+from bbmlab_core.texts.layouts import Cell, Layout
+from bbmlab_core.physics.standard_cells import ABOUT, FOLDER, cell_names, read_cell
 
 # The Boolean function of a cell with constants and garbage: for each output its value at the inputs.
 FUNCTIONS = {
@@ -46,7 +46,8 @@ class Bundles(unittest.TestCase):
 
     def test_they_are_what_the_script_makes(self) -> None:
         """`make_cells --check` finds no difference."""
-        ended = subprocess.run([sys.executable, str(support.LAB / "make_cells"), "--check"], capture_output=True, text=True, check=False)
+        ended = subprocess.run([sys.executable, str(support.LAB / "make_cells"), "--check"], capture_output=True,
+                               text=True, check=False)
         self.assertEqual((ended.returncode, ended.stdout), (0, ""))
 
 
@@ -62,7 +63,8 @@ class Meaning(unittest.TestCase):
                 values, undefined = values_under(circuit, {wire for wire, value in on.items() if value})
                 with self.subTest(name, on=on):
                     self.assertIsNone(undefined)
-                    self.assertEqual({wire: values[wire] for wire in circuit.outputs}, {wire: rule(on) for wire, rule in outputs.items()})
+                    self.assertEqual({wire: values[wire] for wire in circuit.outputs},
+                                     {wire: rule(on) for wire, rule in outputs.items()})
 
     def test_ports(self) -> None:
         """At a port's time its ball is there if and only if the wire is true, and it flies in the port's direction.

@@ -1,4 +1,7 @@
-"""Circuits of examples/circuits, routed: the program says yes to each. `bench/circuits` routes the large ones too, which takes minutes."""
+"""Circuits of examples/circuits, routed: the program says yes to each.
+
+`bench/circuits` routes the large ones too, which takes minutes.
+"""
 
 import tempfile
 import unittest
@@ -8,14 +11,16 @@ import support
 
 CIRCUITS = support.EXAMPLES / "circuits"
 # Each of these took less than ten seconds on a busy machine.
-ROUTED = ["4mod5.real", "decoder_2.blif", "ham3.real", "majority_3.gates", "peres.real", "rd32.real", "reverse_3.real", "toffoli.real"]
+ROUTED = ["4mod5.real", "decoder_2.blif", "ham3.real", "majority_3.gates", "peres.real", "rd32.real", "reverse_3.real",
+          "toffoli.real"]
 
 
 class Routed(unittest.TestCase):
     """Netlists that become bundles with a yes."""
 
     def test_examples(self) -> None:
-        """The bundle begins with the circuit of the netlist, a note says how the mapping was compared, and the verdict is yes."""
+        """The bundle begins with the circuit of the netlist, a note says how the mapping was compared, and the verdict
+        is yes."""
         program = support.program()
         for name in ROUTED:
             path = str(CIRCUITS / name)
@@ -23,7 +28,8 @@ class Routed(unittest.TestCase):
                 bundle = Path(room) / "b.txt"
                 done = support.lab("route", path, "-o", str(bundle), BBMCHECK=program)
                 self.assertEqual(done.returncode, 0, done.stderr)
-                self.assertRegex(done.stderr, r"bbmlab: The circuit has the outputs of the netlist in all [0-9]+ choices of the inputs\.")
+                self.assertRegex(done.stderr, r"bbmlab: The circuit has the outputs of the netlist in all [0-9]+ "
+                                 r"choices of the inputs\.")
                 self.assertIn("verdict yes", done.stderr)
                 self.assertTrue(bundle.read_text().startswith(support.lab("circuit", path).stdout))
 

@@ -9,11 +9,11 @@ import unittest
 from pathlib import Path
 
 import support
-from bbmlab_core import circuit_forms, truth
-from bbmlab_core.circuits import Circuit, values_under
-from bbmlab_core.documents import read_document
-from bbmlab_core.gates import GATE_SIZES
-from bbmlab_core.netlists import Reading, map_netlist
+from bbmlab_core.circuits import circuit_forms, truth
+from bbmlab_core.circuits.netlists import Reading, map_netlist
+from bbmlab_core.texts.circuits import Circuit, values_under
+from bbmlab_core.texts.documents import read_document
+from bbmlab_core.texts.gates import GATE_SIZES
 
 CIRCUITS = support.EXAMPLES / "circuits"
 
@@ -42,7 +42,8 @@ def random_circuit(chance: random.Random, count: int, words: list[str]) -> Circu
         lines.append(" ".join([f"{word}{number}", *ins, "->", *outs]))
     outs = [name for name in wires if chance.random() < 0.6] or wires[:1]
     spills = [name for name in wires if name not in outs]
-    return circuit_of("\n".join([*lines, *(f"output {name}" for name in outs), *(f"spill {name}" for name in spills), "end", ""]))
+    return circuit_of("\n".join([*lines, *(f"output {name}" for name in outs), *(f"spill {name}" for name in spills),
+                                 "end", ""]))
 
 
 def number(bits: list[int]) -> int:
@@ -82,8 +83,10 @@ class Forms(unittest.TestCase):
                     continue
                 (room / "a.blif").write_text(circuit_forms.blif_text(circuit))
                 (room / "b.v").write_text(circuit_forms.verilog_text(circuit))
-                subprocess.run(["yosys", "-q", "-p", "read_verilog b.v; synth -flatten -noabc; write_blif b.blif"], cwd=room, check=True)
-                said = subprocess.run([abc, "-c", "cec a.blif b.blif"], cwd=room, capture_output=True, text=True, check=False).stdout
+                subprocess.run(["yosys", "-q", "-p", "read_verilog b.v; synth -flatten -noabc; write_blif b.blif"],
+                               cwd=room, check=True)
+                said = subprocess.run([abc, "-c", "cec a.blif b.blif"], cwd=room, capture_output=True, text=True,
+                                      check=False).stdout
                 self.assertIn("Networks are equivalent", said, (number, said))
 
     def test_dot_has_each_wire(self) -> None:
@@ -102,7 +105,8 @@ class Commands(unittest.TestCase):
         """The rows of a half adder, and one row."""
         text = support.lab("table", support.example("half_adder")).stdout
         self.assertEqual(text, "a b | sum carry\n0 0 |   0     0\n0 1 |   1     0\n1 0 |   1     0\n1 1 |   0     1\n")
-        self.assertEqual(support.lab("table", "--csv", "--on", "b", support.example("half_adder")).stdout, "a,b,sum,carry\n0,1,1,0\n")
+        self.assertEqual(support.lab("table", "--csv", "--on", "b", support.example("half_adder")).stdout,
+                         "a,b,sum,carry\n0,1,1,0\n")
         failed = support.lab("table", "--on", "q", support.example("half_adder"))
         self.assertEqual((failed.returncode, failed.stderr), (2, "bbmlab: q is no input\n"))
 
@@ -117,34 +121,44 @@ class Commands(unittest.TestCase):
 
     def test_stats(self) -> None:
         """The figures of a circuit and of a bundle were counted by hand."""
-        figures = dict(line.rsplit(None, 1) for line in support.lab("stats", support.example("half_adder")).stdout.splitlines())
+        figures = dict(line.rsplit(None, 1) for line in support.lab("stats",
+                                                                    support.example("half_adder")).stdout.splitlines())
         self.assertEqual({key.strip(): value for key, value in figures.items()}, {
-            "inputs": "2", "outputs": "2", "constants": "1", "garbage": "3", "gates": "3", "interact": "1", "switch": "1", "unswitch": "1",
+            "inputs": "2", "outputs": "2", "constants": "1", "garbage": "3", "gates": "3", "interact": "1",
+            "switch": "1", "unswitch": "1",
             "depth": "3", "width": "6"})
         text = support.lab("stats", support.example("gate_and_mirror")).stdout
-        for line in ("layout           16 by 12", "area             192", "area times steps 1152", "mirror cells     8", "modules          2"):
+        for line in ("layout           16 by 12", "area             192", "area times steps 1152", "mirror cells     8",
+                     "modules          2"):
             self.assertIn(line, text)
 
     def test_standard_input(self) -> None:
-        """A netlist and a circuit on standard input are read once: `stats` read a netlist twice, and found nothing the second time."""
+        """A netlist and a circuit on standard input are read once:
+
+        `stats` read a netlist twice, and found nothing the second time.
+        """
         text = "input a b\nand a b -> c\noutput c\n"
         for command in ("circuit", "table", "stats"):
             done = support.lab(command, "-", text=text)
-            self.assertEqual((done.returncode, done.stderr), (0, "bbmlab: The circuit has the outputs of the netlist in all 4 choices of the inputs.\n"))
+            self.assertEqual((done.returncode, done.stderr), (
+                0, "bbmlab: The circuit has the outputs of the netlist in all 4 choices of the inputs.\n"))
         self.assertIn("inputs", support.lab("stats", "-", text="circuit\ninput a\noutput a\nend\n").stdout)
 
     def test_equal(self) -> None:
         """Equal circuits, circuits that differ at one row, and other ports."""
         with tempfile.TemporaryDirectory() as room:
             own = Path(room) / "own.txt"
-            own.write_text(Path(support.example("half_adder")).read_text().replace("output sum\noutput carry\n", "output carry\noutput sum\n"))
+            own.write_text(Path(support.example("half_adder")).read_text().replace("output sum\noutput carry\n",
+                                                                                   "output carry\noutput sum\n"))
             done = support.lab("equal", support.example("half_adder"), str(own))
             self.assertEqual((done.returncode, done.stdout), (0, "equal in all 4 choices of the inputs\n"))
-            own.write_text("circuit\ninput a\ninput b\nfredkin a b k -> x carry y\n".replace(" k ", " z ").replace("input b\n", "input b\nsource 0 -> z\n")
+            own.write_text("circuit\ninput a\ninput b\nfredkin a b k -> x carry y\n".replace(" k ", " z ")
+                           .replace("input b\n", "input b\nsource 0 -> z\n")
                            + "output carry\noutput x\nspill y\nend\n")
             done = support.lab("equal", support.example("half_adder"), str(own))
             self.assertEqual((done.returncode, done.stdout), (1, "not equal: only one of them has the output sum\n"))
-            own.write_text("circuit\ninput a\ninput b\ndelay 1 a -> sum\ndelay 1 b -> carry\noutput sum\noutput carry\nend\n")
+            own.write_text("circuit\ninput a\ninput b\ndelay 1 a -> sum\ndelay 1 b -> carry\noutput sum\noutput "
+                           "carry\nend\n")
             done = support.lab("equal", support.example("half_adder"), str(own))
             self.assertEqual((done.returncode, done.stdout), (1, "not equal: with b on, sum differs\n"))
 
@@ -204,10 +218,12 @@ class Examples(unittest.TestCase):
 
     def test_tables(self) -> None:
         """The digits on seven segments, and the S-box of PRESENT with a key."""
-        digits = [" _ | ||_|", "     |  |", " _  _||_ ", " _  _| _|", "   |_|  |", " _ |_  _|", " _ |_ |_|", " _   |  |", " _ |_||_|", " _ |_| _|"]
+        digits = [" _ | ||_|", "     |  |", " _  _||_ ", " _  _| _|", "   |_|  |", " _ |_  _|", " _ |_ |_|",
+                  " _   |  |", " _ |_||_|", " _ |_| _|"]
         for ins, (a, b, c, d, e, f, g) in self.rows("seven_segments.pla"):
             digit = number(ins[::-1])
-            signs = [" ", "_" if a else " ", " ", "|" if f else " ", "_" if g else " ", "|" if b else " ", "|" if e else " ", "_" if d else " ", "|" if c else " "]
+            signs = [" ", "_" if a else " ", " ", "|" if f else " ", "_" if g else " ", "|" if b else " ",
+                     "|" if e else " ", "_" if d else " ", "|" if c else " "]
             self.assertEqual("".join(signs), digits[digit] if digit < 10 else " " * 9)
         for ins, outs in self.rows("sbox.blif"):
             self.assertEqual(number(outs[::-1]), int("C56B90AD3EF84712"[number(ins[3::-1]) ^ number(ins[:3:-1])], 16))
@@ -217,7 +233,8 @@ class Examples(unittest.TestCase):
         for cycles in (1, 4):
             for ins, outs in self.rows("counter_4.blif", cycles):
                 counted = [(number(ins) + at) % 16 for at in range(cycles + 1)]
-                self.assertEqual([number(outs[4 * at:4 * at + 4][::-1]) for at in range(cycles)] + [number(outs[4 * cycles:])], counted)
+                self.assertEqual([number(outs[4 * at:4 * at + 4][::-1]) for at in range(cycles)]
+                                 + [number(outs[4 * cycles:])], counted)
         for ins, outs in self.rows("lfsr_4.blif", 3):
             states = [ins]
             for _ in range(3):

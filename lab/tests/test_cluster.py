@@ -20,14 +20,16 @@ SLOW = "[ \"$1\" != check ] || sleep 0.3"
 def python_with_dask() -> str:
     """Returns a Python that has Dask; skips the test where there is none."""
     for python in (sys.executable, "/usr/bin/python3"):
-        if shutil.which(python) and not subprocess.run([python, "-c", "import distributed"], capture_output=True, check=False).returncode:
+        if shutil.which(python) and not subprocess.run([python, "-c", "import distributed"], capture_output=True,
+                                                       check=False).returncode:
             return python
     raise unittest.SkipTest("Dask is not installed (apt-get install python3-distributed)")
 
 
 def stable(folder: Path) -> dict[str, list[str]]:
     """Returns the lines of the receipts in a folder, without those of the date and the time."""
-    return {path.name: [line for line in path.read_text().splitlines() if '"date"' not in line and '"processor_seconds"' not in line]
+    return {path.name: [line for line in path.read_text().splitlines() if '"date"' not in line
+                        and '"processor_seconds"' not in line]
             for path in folder.iterdir()}
 
 
@@ -50,14 +52,17 @@ class Cluster(unittest.TestCase):
 
     def start(self, module: str, *words: str, **environment: str) -> "subprocess.Popen[bytes]":
         """Starts a scheduler or a worker."""
-        process = subprocess.Popen([self.python, "-m", module, "--scheduler-file", self.scheduler, *words], start_new_session=True, cwd=self.room,
-                                   env={**os.environ, **environment}, stdin=subprocess.DEVNULL, stdout=subprocess.DEVNULL, stderr=subprocess.DEVNULL)
+        process = subprocess.Popen([self.python, "-m", module, "--scheduler-file", self.scheduler, *words],
+                                   start_new_session=True, cwd=self.room,
+                                   env={**os.environ, **environment}, stdin=subprocess.DEVNULL,
+                                   stdout=subprocess.DEVNULL, stderr=subprocess.DEVNULL)
         self.started.append(process)
         return process
 
     def worker(self, program: str, **environment: str) -> "subprocess.Popen[bytes]":
         """Starts a worker with a program."""
-        return self.start("distributed.cli.dask_worker", "--no-nanny", "--nthreads", "1", "--no-dashboard", "--host", "127.0.0.1", "--local-directory",
+        return self.start("distributed.cli.dask_worker", "--no-nanny", "--nthreads", "1", "--no-dashboard", "--host",
+                          "127.0.0.1", "--local-directory",
                           str(self.room), BBMCHECK=program, **environment)
 
     def end_all(self) -> None:
@@ -82,7 +87,8 @@ class Cluster(unittest.TestCase):
 
     def command(self, *words: str) -> list[str]:
         """Returns the command that checks the designs by the cluster."""
-        return [self.python, str(support.LAB / "bbmlab"), "check", "--program", self.program, "--dask", self.address(), *words, str(self.designs)]
+        return [self.python, str(support.LAB / "bbmlab"), "check", "--program", self.program, "--dask", self.address(),
+                *words, str(self.designs)]
 
     def check(self, *words: str) -> "subprocess.CompletedProcess[str]":
         """Checks the designs by the cluster."""
@@ -95,14 +101,16 @@ class Cluster(unittest.TestCase):
         return stable(folder)
 
     def test_the_receipts_are_those_of_a_plain_run(self) -> None:
-        """Three workers give the receipts of one machine, and so do two, after one was killed in the middle of the run."""
+        """Three workers give the receipts of one machine, and so do two, after one was killed in the middle of the run.
+        """
         workers = [self.worker(self.program) for _ in range(3)]
         ended = self.check("--receipts", str(self.room / "first"))
         self.assertEqual(ended.returncode, 1, ended.stderr)
         self.assertIn("12 files: 6 yes, 3 no, 3 refused", ended.stdout)
         plain = self.plain()
         self.assertEqual(stable(self.room / "first"), plain)
-        running = subprocess.Popen(self.command("--receipts", str(self.room / "second")), stdout=subprocess.PIPE, stderr=subprocess.PIPE)
+        running = subprocess.Popen(self.command("--receipts", str(self.room / "second")), stdout=subprocess.PIPE,
+                                   stderr=subprocess.PIPE)
         until = time.monotonic() + 60
         while not (self.room / "second").exists() and time.monotonic() < until:
             time.sleep(0.02)
@@ -130,8 +138,10 @@ class Cluster(unittest.TestCase):
     def test_two_answers_end_the_run(self) -> None:
         """A program that gives two answers to one text ends the run with 4, and both are told."""
         coin = self.room / "coin"
-        coin.write_text(f"#!/bin/sh\n[ \"$1\" = check ] || exec '{support.program()}' \"$@\"\ncat >/dev/null\necho >>'{self.room}/count'\n"
-                        f"printf 'bbmcheck 1\\ncertificate %064d\\nmodules 1\\nverdict yes\\n' \"$(wc -l <'{self.room}/count')\"\n")
+        coin.write_text(f"#!/bin/sh\n[ \"$1\" = check ] || exec '{support.program()}' \"$@\"\ncat >/dev/null\necho "
+                        f">>'{self.room}/count'\n"
+                        "printf 'bbmcheck 1\\ncertificate %064d\\nmodules 1\\nverdict yes\\n' \"$(wc -l "
+                        f"<'{self.room}/count')\"\n")
         coin.chmod(0o755)
         self.program = str(coin)
         self.worker(self.program)
@@ -147,7 +157,8 @@ class Alone(unittest.TestCase):
     def test_no_scheduler(self) -> None:
         """An address without a scheduler is told in a line, with 4."""
         python = python_with_dask()
-        ended = subprocess.run([python, str(support.LAB / "bbmlab"), "check", "--program", support.program(), "--dask", "tcp://127.0.0.1:9",
+        ended = subprocess.run([python, str(support.LAB / "bbmlab"), "check", "--program", support.program(), "--dask",
+                                "tcp://127.0.0.1:9",
                                 support.example("full_adder")], capture_output=True, text=True, timeout=60, check=False)
         self.assertEqual((ended.returncode, ended.stdout), (4, ""))
         self.assertIn("no Dask cluster with a worker at tcp://127.0.0.1:9", ended.stderr)
@@ -155,8 +166,10 @@ class Alone(unittest.TestCase):
     def test_a_cluster_here(self) -> None:
         """Without an address a cluster is started, which ends with the run."""
         python = python_with_dask()
-        ended = subprocess.run([python, str(support.LAB / "bbmlab"), "check", "--program", support.program(), "--jobs", "2",
-                                support.example("full_adder"), support.example("wrong_edge"), "--dask"], capture_output=True, text=True, timeout=120, check=False)
+        ended = subprocess.run([python, str(support.LAB / "bbmlab"), "check", "--program", support.program(), "--jobs",
+                                "2",
+                                support.example("full_adder"), support.example("wrong_edge"), "--dask"],
+                               capture_output=True, text=True, timeout=120, check=False)
         self.assertEqual(ended.returncode, 1, ended.stderr)
         self.assertIn("2 files: 1 yes, 1 no", ended.stdout)
 
@@ -165,8 +178,10 @@ class Alone(unittest.TestCase):
         with tempfile.TemporaryDirectory() as room:
             (Path(room) / "distributed.py").write_text("raise ImportError\n")
             environment: dict[str, Any] = {**os.environ, "PYTHONPATH": room}
-            ended = subprocess.run([sys.executable, str(support.LAB / "bbmlab"), "check", "--dask", "x", "--program", support.program(),
-                                    support.example("full_adder")], capture_output=True, text=True, env=environment, check=False)
+            ended = subprocess.run([sys.executable, str(support.LAB / "bbmlab"), "check", "--dask", "x", "--program",
+                                    support.program(),
+                                    support.example("full_adder")], capture_output=True, text=True, env=environment,
+                                   check=False)
         self.assertEqual(ended.returncode, 4)
         self.assertIn("python3-distributed", ended.stderr)
 

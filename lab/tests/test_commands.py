@@ -10,7 +10,7 @@ import xml.etree.ElementTree as ET
 from pathlib import Path
 
 import support
-from bbmlab_core.program import ask
+from bbmlab_core.host.program import ask
 
 
 def fake_program(room: str, body: str) -> str:
@@ -27,24 +27,31 @@ class Documents(unittest.TestCase):
     def members(self, kind: str) -> set[str]:
         """Returns the members that the page lists for a kind of document."""
         part = (support.TOP / "docs" / "JSON.md").read_text().split(f"## `{kind}`\n")[1].split("\n##")[0]
-        return {name for line in part.splitlines() if line.startswith("- ") for name in re.findall(r"`(\w+)`", line.split(":")[0])}
+        return {name for line in part.splitlines() if line.startswith("- ")
+                for name in re.findall(r"`(\w+)`", line.split(":")[0])}
 
     def test_page_is_short(self) -> None:
         """docs/LAB.md has at most 1700 words, bars and dashes not counted, and names each command."""
         page = (support.TOP / "docs" / "LAB.md").read_text(encoding="utf-8")
         self.assertLessEqual(sum(bool(re.search(r"\w", piece)) for piece in page.split()), 1700)
-        for name in ("check", "verify", "summary", "explain", "trace", "draw", "view", "studio", "certify", "circuit", "table", "stats", "equal", "route", "join", "cells", "fmt", "json", "golly",
+        for name in ("check", "verify", "summary", "explain", "trace", "draw", "view", "studio", "certify", "circuit",
+                     "table", "stats", "equal", "route", "join", "cells", "fmt", "json", "golly",
                      "from-golly"):
             self.assertRegex(page, rf"`(lab/|)(bbmlab |){name}\b")
 
     def test_lists_are_whole(self) -> None:
-        """Each document has the members that the page lists, besides `format`. A bundle has no assign section, and `limits` only with its line."""
+        """Each document has the members that the page lists, besides `format`.
+
+        A bundle has no assign section, and `limits` only with its line.
+        """
         file, program = support.example("wrong_edge"), support.program()
         with tempfile.TemporaryDirectory() as room:
             report = Path(room) / "report"
             report.write_text(ask(program, "check", Path(file).read_bytes()).output)
-            for words, without in [(("json", "--report", str(report), file), {"assign", "limits"}), (("explain", "--json", file), set()),
-                                   (("check", "--format", "json", file), {"stopped", "not_checked", "left_out"}), (("trace", "--json", file), set())]:
+            for words, without in [(("json", "--report", str(report), file), {"assign", "limits"}),
+                                   (("explain", "--json", file), set()),
+                                   (("check", "--format", "json", file), {"stopped", "not_checked", "left_out"}),
+                                   (("trace", "--json", file), set())]:
                 more = () if words[0] == "json" else ("--program", program)
                 document = json.loads(support.lab(*words, *more).stdout)
                 self.assertEqual(set(document) - {"format"}, self.members(document["format"]) - without, words[0])
@@ -67,11 +74,13 @@ class Check(unittest.TestCase):
     def test_formats(self) -> None:
         """JSON, TAP and JUnit have a place for each file."""
         program, files = support.program(), [support.example("gate_and_mirror"), support.example("wrong_edge")]
-        told = {name: support.lab("check", "--program", program, "--format", name, *files).stdout for name in ("json", "tap", "junit")}
+        told = {name: support.lab("check", "--program", program, "--format", name, *files).stdout
+                for name in ("json", "tap", "junit")}
         self.assertEqual([row["result"] for row in json.loads(told["json"])["results"]], ["yes", "no"])
         lines = told["tap"].splitlines()[2:]
         self.assertEqual([line.split(" - ")[0].split(" ")[-1] for line in lines], ["1", "2"])
-        self.assertEqual([line.split(" ")[0] for line in sorted(lines, key=lambda line: line.split(" - ")[1])], ["ok", "not"])
+        self.assertEqual([line.split(" ")[0] for line in sorted(lines, key=lambda line: line.split(" - ")[1])],
+                         ["ok", "not"])
         self.assertEqual(ET.fromstring(told["junit"]).get("failures"), "1")
 
     def test_troubles_are_told_apart(self) -> None:
@@ -79,7 +88,8 @@ class Check(unittest.TestCase):
         with tempfile.TemporaryDirectory() as room:
             file = support.example("gate_and_mirror")
             yes = r"printf 'bbmcheck 1\ncertificate %064d\nmodules 1\nverdict yes\n' 0; exit 1" + "\n"
-            for body, word in [("exec sleep 5\n", "time-out"), ("exit 70\n", "error"), ("echo hello\n", "error"), (yes, "error")]:
+            for body, word in [("exec sleep 5\n", "time-out"), ("exit 70\n", "error"), ("echo hello\n", "error"),
+                               (yes, "error")]:
                 ended = support.lab("check", "--program", fake_program(room, body), "--timeout", "0.3", file)
                 with self.subTest(word):
                     self.assertEqual(ended.returncode, 4)
@@ -99,7 +109,8 @@ class Others(unittest.TestCase):
 
     def test_help_of_each(self) -> None:
         """Each command has a help with an example."""
-        for name in ("check", "explain", "trace", "draw", "view", "studio", "certify", "fmt", "json", "golly", "from-golly"):
+        for name in ("check", "explain", "trace", "draw", "view", "studio", "certify", "fmt", "json", "golly",
+                     "from-golly"):
             ended = support.lab(name, "--help")
             with self.subTest(name):
                 self.assertEqual(ended.returncode, 0)
@@ -120,12 +131,17 @@ class Others(unittest.TestCase):
         """Without the program a refusal is explained by the lab's reader, and that is said."""
         ended = support.lab("explain", support.example("not_known"), "--program", "/no/such/program")
         self.assertIn("lab's reading", ended.stdout)
-        self.assertEqual(support.lab("explain", support.example("gate_and_mirror"), "--program", "/no/such/program").returncode, 4)
+        self.assertEqual(support.lab("explain", support.example("gate_and_mirror"), "--program",
+                                     "/no/such/program").returncode, 4)
 
     def test_trace_of_a_module_lists_its_own_mirror_cells(self) -> None:
-        """A mirror that goes on in the next module has no dead cells there: `trace` looks at the cells of the box alone."""
+        """A mirror that goes on in the next module has no dead cells there:
+
+        `trace` looks at the cells of the box alone.
+        """
         for module in ("0", "1"):
-            ended = support.lab("trace", "--module", module, "--assignment", "1", support.example("gate_and_mirror"), "--program", support.program())
+            ended = support.lab("trace", "--module", module, "--assignment", "1", support.example("gate_and_mirror"),
+                                "--program", support.program())
             self.assertEqual(ended.returncode, 0)
             self.assertNotIn("dead mirror", ended.stdout)
 
@@ -149,7 +165,8 @@ class Others(unittest.TestCase):
         import subprocess
         if not os.path.exists("/usr/bin/python3"):
             self.skipTest("there is no /usr/bin/python3")
-        ended = subprocess.run(["/usr/bin/python3", str(support.LAB / "bbmlab"), "--version"], capture_output=True, check=False)
+        ended = subprocess.run(["/usr/bin/python3", str(support.LAB / "bbmlab"), "--version"], capture_output=True,
+                               check=False)
         self.assertEqual(ended.returncode, 0)
 
 

@@ -1,13 +1,15 @@
-"""Contrast of the page's and the pictures' colours, from the sources, in light and dark: 3 to 1 for shapes and borders, 4.5 to 1 for texts.
+"""Contrast of the page's and the pictures' colours, from the sources, in light and dark: 3 to 1 for shapes and borders,
+4.5 to 1 for texts.
 
-The ratio is that of the Web Content Accessibility Guidelines 2.1: (L1 + 0.05) / (L2 + 0.05) with the relative luminances L1 and L2.
+The ratio is that of the Web Content Accessibility Guidelines 2.1: (L1 + 0.05) / (L2 + 0.05) with the relative
+luminances L1 and L2.
 """
 
 import re
 import unittest
 
 import support
-from bbmlab_core import drawing
+from bbmlab_core.pictures import drawing
 
 SHAPES, TEXTS = 3.0, 4.5
 # The lines of blocks are no borders: they are faint on purpose, and nothing but them has their colour.
@@ -62,7 +64,8 @@ class Contrast(unittest.TestCase):
     def test_shapes_of_the_page(self) -> None:
         """Mirrors, balls, boxes and the waveform can be seen on their grounds."""
         for scheme, colours in page_colours().items():
-            for name, ground in (("mirror", "plane"), ("ball", "plane"), ("box", "plane"), ("ball", "mirror"), ("wave", "paper"), ("box", "paper")):
+            for name, ground in (("mirror", "plane"), ("ball", "plane"), ("box", "plane"), ("ball", "mirror"),
+                                 ("wave", "paper"), ("box", "paper")):
                 with self.subTest(scheme, name=name, ground=ground):
                     self.assertGreaterEqual(contrast(colours[name], colours[ground]), SHAPES)
 
@@ -71,7 +74,8 @@ class Contrast(unittest.TestCase):
         names = set(re.findall(r"border(?:-top|-color)?: *(?:\d+px solid )?var\(--(\w+)\)", STYLE))
         self.assertLessEqual({"border", "box"}, names)
         borders, understood = (len(re.findall(form, STYLE)) for form in (r"border(?:-\w+)?: *[^;}]*var\(",
-                                                                          r"border(?:-top|-color)?: *(?:\d+px solid )?var\("))
+                                                                          r"border(?:-top|-color)?: *(?:\d+px solid "
+                                                                         r")?var\("))
         self.assertEqual(borders, understood)
         for scheme, colours in page_colours().items():
             for name in names:
@@ -94,7 +98,8 @@ class Contrast(unittest.TestCase):
         """Mirrors, balls, ports, waste cells and modules of `draw` can be seen on the plane."""
         for scheme, classes in picture_colours().items():
             plane = classes["plane"]["fill"]
-            for name, kind in (("mirror", "fill"), ("ball", "fill"), ("in", "stroke"), ("out", "stroke"), ("waste", "stroke"), ("box", "stroke"),
+            for name, kind in (("mirror", "fill"), ("ball", "fill"), ("in", "stroke"), ("out", "stroke"),
+                               ("waste", "stroke"), ("box", "stroke"),
                                ("fault", "stroke"), ("number", "fill"), ("text", "fill")):
                 with self.subTest(scheme, name=name):
                     self.assertGreaterEqual(contrast(classes[name][kind], plane), SHAPES)

@@ -1,4 +1,7 @@
-"""Machines that store bits, unrolled for some cycles. The expected values come from the rules of each machine, or from an evaluator in this file."""
+"""Machines that store bits, unrolled for some cycles.
+
+The expected values come from the rules of each machine, or from an evaluator in this file.
+"""
 
 import itertools
 import random
@@ -11,12 +14,12 @@ from typing import Callable
 from unittest import mock
 
 import support
-from bbmlab_core.circuits import Circuit, values_under
-from bbmlab_core.netlists import NetlistError, Reading, map_netlist
+from bbmlab_core.circuits.netlists import NetlistError, Reading, map_netlist
+from bbmlab_core.texts.circuits import Circuit, values_under
 from test_netlists import blif_values, random_table
 
 # Fewer tries than users get, which save time: each try is one that a search can end with.
-FEW_TRIES = mock.patch("bbmlab_core.netlists.search.MAX_TRIES", 8)
+FEW_TRIES = mock.patch("bbmlab_core.circuits.netlists.search.MAX_TRIES", 8)
 INITIAL = False
 COUNTER = """module counter(input clk, input up, input clear, output reg [2:0] q);
   initial q = 3'd5;
@@ -28,7 +31,8 @@ endmodule
 def circuit_of(text: str, cycles: int, has_state_ports: bool = True) -> Circuit:
     """Returns the circuit of a machine."""
     with FEW_TRIES:
-        circuit = support.read_document(map_netlist(text, reading=Reading(None, cycles, has_state_ports)).text, "circuit").circuit
+        circuit = support.read_document(map_netlist(text, reading=Reading(None, cycles, has_state_ports)).text,
+                                        "circuit").circuit
     assert circuit is not None
     return circuit
 
@@ -47,7 +51,8 @@ class Blif(unittest.TestCase):
         """Random logic between latches, for one to four cycles, with the state at ports."""
         chance = random.Random(82)
         for _ in range(30):
-            inputs, stored = [f"i{at}" for at in range(chance.randint(0, 2))], [f"q{at}" for at in range(chance.randint(1, 2))]
+            inputs, stored = [f"i{at}" for at in range(chance.randint(0, 2))], [f"q{at}"
+                                                                                for at in range(chance.randint(1, 2))]
             known, lines = [*inputs, *stored], list[str]()
             for at in range(chance.randint(2, 6)):
                 lines += random_table(chance, f"n{at}", known)
@@ -55,7 +60,8 @@ class Blif(unittest.TestCase):
             made = [name for name in known if name[0] == "n"]
             data, outputs = {name: chance.choice(known) for name in stored}, chance.sample(made, 2)
             latches = [f".latch {data[name]} {name} re clk 3" for name in stored]
-            text = "\n".join([".model m", f".inputs clk {' '.join(inputs)}", f".outputs {' '.join(outputs)}", *latches, *lines, ".end", ""])
+            text = "\n".join([".model m", f".inputs clk {' '.join(inputs)}", f".outputs {' '.join(outputs)}", *latches,
+                              *lines, ".end", ""])
             tables, cycles = "\n".join(lines), chance.randint(1, 4)
             circuit = circuit_of(text, cycles)
             for _ in range(12):
@@ -92,9 +98,12 @@ class Blif(unittest.TestCase):
             (model + ".latch d q re x 2\n.names clk x\n0 1\n.end\n", Reading(None, 2), "Logic makes the clock"),
             (model + ".latch y q re clk 2\n.names clk d y\n11 1\n.end\n", Reading(None, 2), "also used as a bit"),
             (model + ".latch d q re clk 2\n.latch d q re clk 2\n.end\n", Reading(None, 2), "Two stored bits"),
-            (model + ".latch d q re clk 2\n.names d q\n1 1\n.end\n", Reading(None, 2), "driven by a latch or an input and by logic"),
-            (model + ".latch d q re clk 2\n.end\n", Reading(None, 999_999), "too many"), (model + ".latch x q re clk\n.end\n", Reading(None, 1), "Nothing drives"),
-            (model + ".names d q\n1 1\n.end\n", Reading(None, 2), "no cycles"), (model + ".latch d q\n.end\n", Reading(), "say for how many cycles"),
+            (model + ".latch d q re clk 2\n.names d q\n1 1\n.end\n", Reading(None, 2),
+             "driven by a latch or an input and by logic"),
+            (model + ".latch d q re clk 2\n.end\n", Reading(None, 999_999), "too many"),
+            (model + ".latch x q re clk\n.end\n", Reading(None, 1), "Nothing drives"),
+            (model + ".names d q\n1 1\n.end\n", Reading(None, 2), "no cycles"),
+            (model + ".latch d q\n.end\n", Reading(), "say for how many cycles"),
         ):
             with self.assertRaises(NetlistError, msg=text) as found:
                 map_netlist(text, reading=reading)
@@ -104,7 +113,8 @@ class Blif(unittest.TestCase):
 class Others(unittest.TestCase):
     """Flip-flops of yosys and latches of AIGER."""
 
-    def compare(self, circuit: Circuit, follower: Callable[[int, dict[str, bool]], int], inputs: list[str], cycles: int) -> None:
+    def compare(self, circuit: Circuit, follower: Callable[[int, dict[str, bool]], int], inputs: list[str],
+                cycles: int) -> None:
         """Compares a machine of three bits with the number that follows, for all states and all inputs."""
         for start, bits in itertools.product(range(8), itertools.product((False, True), repeat=len(inputs) * cycles)):
             given = [dict(zip(inputs, bits[at * len(inputs):])) for at in range(cycles)]
@@ -117,7 +127,8 @@ class Others(unittest.TestCase):
             wanted.update((f"q_{at}__end", bool(number >> at & 1)) for at in range(3))
             # An input that is an output at once has a delay, and so an output of another name.
             found = outputs_of(circuit, on)
-            self.assertEqual({name: found[name] for name in wanted if name in found}, {name: bit for name, bit in wanted.items() if name in found})
+            self.assertEqual({name: found[name] for name in wanted if name in found},
+                             {name: bit for name, bit in wanted.items() if name in found})
             self.assertGreaterEqual(len(set(wanted) & set(found)), 3)
 
     def test_yosys(self) -> None:
@@ -132,17 +143,24 @@ class Others(unittest.TestCase):
         with tempfile.TemporaryDirectory() as name:
             room = Path(name)
             kinds = set[str]()
-            for steps, write in (("", "write_json c.json"), ("negedge", "write_json c.json"), ("dfflegalize -cell $_DFF_P_ 01; opt_clean; abc -g AND,XOR,MUX;", "write_json c.json"),
-                                 ("dfflegalize -cell $_DFFE_PN_ 01; opt_clean; abc -g AND,XOR,MUX;", "write_json c.json"),
-                                 ("dfflegalize -cell $_SDFFCE_PN?N_ 01; opt_clean; abc -g AND,XOR,MUX;", "write_json c.json"),
-                                 ("dfflegalize -cell $_DFF_P_ 01; opt_clean; abc -g AND,XOR,MUX;", "write_blif c.json")):
+            for steps, write in (("", "write_json c.json"), ("negedge", "write_json c.json"),
+                                 ("dfflegalize -cell $_DFF_P_ 01; opt_clean; abc -g AND,XOR,MUX;", "write_json c.json"),
+                                 ("dfflegalize -cell $_DFFE_PN_ 01; opt_clean; abc -g AND,XOR,MUX;",
+                                  "write_json c.json"),
+                                 ("dfflegalize -cell $_SDFFCE_PN?N_ 01; opt_clean; abc -g AND,XOR,MUX;",
+                                  "write_json c.json"),
+                                 ("dfflegalize -cell $_DFF_P_ 01; opt_clean; abc -g AND,XOR,MUX;",
+                                  "write_blif c.json")):
                 (room / "c.v").write_text(COUNTER.replace("posedge", "negedge") if steps == "negedge" else COUNTER)
                 steps = steps.removeprefix("negedge")
-                done = subprocess.run(["yosys", "-q", "-p", f"read_verilog c.v; synth -flatten; abc -g AND,XOR,MUX; {steps} opt_clean; {write}"],
+                done = subprocess.run(["yosys", "-q", "-p",
+                                       f"read_verilog c.v; synth -flatten; abc -g AND,XOR,MUX; {steps} opt_clean; "
+                                       f"{write}"],
                                       cwd=room, capture_output=True, text=True, check=False)
                 self.assertEqual(done.returncode, 0, done.stderr)
                 text = (room / "c.json").read_text()
-                kinds |= {word for word in ("$_SDFFE_PP0P_", "$_SDFFE_PP1P_", "$_DFF_P_", "$_SDFFE_NP0P_", "$_DFFE_PN_", "$_SDFFCE_PN0N_", "$_SDFFCE_PN1N_", ".latch") if word in text}
+                kinds |= {word for word in ("$_SDFFE_PP0P_", "$_SDFFE_PP1P_", "$_DFF_P_", "$_SDFFE_NP0P_", "$_DFFE_PN_",
+                                            "$_SDFFCE_PN0N_", "$_SDFFCE_PN1N_", ".latch") if word in text}
                 for cycles in (1, 2):
                     self.compare(circuit_of(text, cycles), follower, ["up", "clear"], cycles)
             self.assertGreaterEqual(len(kinds), 5, kinds)
@@ -154,7 +172,9 @@ class Others(unittest.TestCase):
         with tempfile.TemporaryDirectory() as name:
             room = Path(name)
             (room / "c.v").write_text(COUNTER)
-            subprocess.run(["yosys", "-q", "-p", "read_verilog c.v; synth -flatten; abc -g AND,XOR,MUX; opt_clean; write_json c.json"], cwd=room, check=True)
+            subprocess.run(["yosys", "-q", "-p",
+                            "read_verilog c.v; synth -flatten; abc -g AND,XOR,MUX; opt_clean; write_json c.json"],
+                           cwd=room, check=True)
             circuit = circuit_of((room / "c.json").read_text(), 2, INITIAL)
         found = outputs_of(circuit, {"up_0", "up_1"})
         self.assertEqual([found[f"q_{at}__end"] for at in range(3)], [True, True, True])

@@ -18,12 +18,14 @@ from test_commands import fake_program
 
 LAB = [sys.executable, str(support.LAB / "bbmlab")]
 # Says yes to a text of one line, $word, as if it were a certificate.
-YES = r"digest=$(printf '%s\n' $word | sha256sum); printf 'bbmcheck 1\ncertificate %s\nmodules 1\nverdict yes\n' ${digest%% *}" + "\n"
+YES = (r"digest=$(printf '%s\n' $word | sha256sum); printf 'bbmcheck 1\ncertificate %s\nmodules 1\nverdict yes\n' "
+       r"${digest%% *}" + "\n")
 
 
 def run(*words: str, **more: object) -> "subprocess.CompletedProcess[bytes]":
     """Runs the lab's executable."""
-    return subprocess.run([*LAB, *words], stderr=subprocess.PIPE, check=False, **more)  # type: ignore[call-overload,no-any-return]
+    return subprocess.run([*LAB, *words], stderr=subprocess.PIPE, check=False,
+                          **more)  # type: ignore[call-overload,no-any-return]
 
 
 class Devices(unittest.TestCase):
@@ -32,7 +34,8 @@ class Devices(unittest.TestCase):
     def test_full_device(self) -> None:
         """What can't be written ends with 4 and a line, for each command that writes, and never with a traceback."""
         file = support.example("head_on_bundle")
-        for words in (("check", file), ("trace", file), ("draw", file), ("json", file), ("fmt", file), ("golly", file), ("explain", file)):
+        for words in (("check", file), ("trace", file), ("draw", file), ("json", file), ("fmt", file), ("golly", file),
+                      ("explain", file)):
             with open("/dev/full", "wb") as full, self.subTest(words[0]):
                 ended = run(*words, stdout=full, env={**os.environ, "BBMCHECK": support.program()})
                 self.assertEqual(ended.returncode, 4)
@@ -68,7 +71,8 @@ class Signals(unittest.TestCase):
         self.addCleanup(signal.signal, signal.SIGINT, before)
 
     def test_check_ends_at_once(self) -> None:
-        """SIGINT and SIGTERM kill the programs and write the results so far; the files that are left are not started."""
+        """SIGINT and SIGTERM kill the programs and write the results so far; the files that are left are not started.
+        """
         for number, status in ((signal.SIGINT, 130), (signal.SIGTERM, 143)):
             for form in ("text", "json"):
                 with tempfile.TemporaryDirectory() as room, self.subTest(f"{number.name} {form}"):
@@ -91,7 +95,8 @@ class Signals(unittest.TestCase):
         self.assertEqual((room / "begun").read_text().count("x"), 2)
         if form == "json":
             document = json.loads(output)
-            self.assertEqual((document["stopped"], len(document["results"]), document["not_checked"]), (number.name, 1, 4))
+            self.assertEqual((document["stopped"], len(document["results"]), document["not_checked"]),
+                             (number.name, 1, 4))
         else:
             self.assertIn(f"1 file: 1 yes; stopped by {number.name}, 4 not checked".encode(), output)
 
@@ -110,7 +115,8 @@ class Signals(unittest.TestCase):
                 for name in ("quick", "slow"):
                     (Path(room) / f"{name}.txt").write_text(f"{name}\n")
                 body = f"read word; [ $word = quick ] || while [ ! -e {room}/go ]; do sleep 0.05; done\n" + YES
-                ran = subprocess.Popen([*LAB, "check", "--jobs", "2", "--format", form, "--program", fake_program(room, body), room],
+                ran = subprocess.Popen([*LAB, "check", "--jobs", "2", "--format", form, "--program",
+                                        fake_program(room, body), room],
                                        stdout=subprocess.PIPE, stderr=subprocess.DEVNULL, text=True)
                 assert ran.stdout is not None
                 while "quick" not in ran.stdout.readline():
@@ -125,12 +131,14 @@ class Names(unittest.TestCase):
     """Names and texts with control characters."""
 
     def test_no_control_character_comes_out(self) -> None:
-        """A file whose name has control characters and bytes of no character is shown by escapes in each form, and the XML can be read."""
+        """A file whose name has control characters and bytes of no character is shown by escapes in each form, and the
+        XML can be read."""
         with tempfile.TemporaryDirectory() as room:
             name = os.fsencode(room) + b"/a\x1b[31m\nok 1\xff.txt"
             Path(os.fsdecode(name)).write_text("circuit\x1b[2J\n")
             for form in ("text", "tap", "junit", "json", "jsonl"):
-                ended = run("check", "--format", form, "--program", support.program(), os.fsdecode(name), stdout=subprocess.PIPE)
+                ended = run("check", "--format", form, "--program", support.program(), os.fsdecode(name),
+                            stdout=subprocess.PIPE)
                 with self.subTest(form):
                     self.assertEqual(ended.returncode, 1)
                     self.assertNotIn(b"\x1b", ended.stdout + ended.stderr)
@@ -153,7 +161,8 @@ class Files(unittest.TestCase):
             link.symlink_to(file)
             for words in (("certify", str(file), "-o", str(link)), ("fmt", str(file), "-o", str(file))):
                 with self.subTest(words[0]):
-                    self.assertEqual(run(*words, stdout=subprocess.PIPE, env={**os.environ, "BBMCHECK": support.program()}).returncode, 2)
+                    self.assertEqual(run(*words, stdout=subprocess.PIPE,
+                                         env={**os.environ, "BBMCHECK": support.program()}).returncode, 2)
                     self.assertEqual(file.read_text(), text)
             self.assertEqual(run("fmt", "-o", str(link), str(file), str(file), stdout=subprocess.PIPE).returncode, 2)
 
@@ -163,7 +172,8 @@ class Files(unittest.TestCase):
             file = Path(room) / "out.svg"
             file.write_text("old")
             script = 'ulimit -f 1; trap "" XFSZ; exec "$@"'
-            ended = subprocess.run(["bash", "-c", script, "bash", *LAB, "draw", support.example("full_adder"), "-o", str(file)],
+            ended = subprocess.run(["bash", "-c", script, "bash", *LAB, "draw", support.example("full_adder"), "-o",
+                                    str(file)],
                                    capture_output=True, check=False)
             self.assertEqual(ended.returncode, 4, ended.stderr)
             self.assertEqual((file.read_text(), [path.name for path in Path(room).iterdir()]), ("old", ["out.svg"]))
@@ -202,8 +212,10 @@ class Hostile(unittest.TestCase):
         """A wrong member is named, and no name can smuggle a line into the text."""
         document = json.loads(support.lab("json", support.example("timed_modules")).stdout)
         changes = [(("circuit", "inputs", 0), "p\nend", "circuit.inputs[0]"), (("layout", "width"), -2, "layout.width"),
-                   (("layout", "balls", 0), [1], "layout.balls[0]"), (("certificate", "modules", 1, "cuts", 0), 7, "certificate.modules[1].cuts[0]"),
-                   (("circuit", "gates", 0, "gate"), "and", "circuit.gates[0].gate"), (("certificate", "version"), True, "certificate.version")]
+                   (("layout", "balls", 0), [1], "layout.balls[0]"),
+                   (("certificate", "modules", 1, "cuts", 0), 7, "certificate.modules[1].cuts[0]"),
+                   (("circuit", "gates", 0, "gate"), "and", "circuit.gates[0].gate"),
+                   (("certificate", "version"), True, "certificate.version")]
         document["layout"]["balls"] = [[0, 0]]
         for path, value, name in changes:
             changed = json.loads(json.dumps(document))
@@ -217,7 +229,8 @@ class Hostile(unittest.TestCase):
                 self.assertIn(f"bbmlab: {name} is ", ended.stderr)
 
     def test_ways_of_many_inputs_are_sampled(self) -> None:
-        """With 360 inputs the ways are drawn from samples, the picture says so, and the ways of two levels of gates share a colour."""
+        """With 360 inputs the ways are drawn from samples, the picture says so, and the ways of two levels of gates
+        share a colour."""
         file = str(support.TOP / "conformance" / "data" / "trains_36_cut_v1.txt")
         picture = support.lab("draw", "--ways", file).stdout
         self.assertIn("in 256 sampled choices of the 360 inputs", picture)

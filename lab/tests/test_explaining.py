@@ -6,13 +6,13 @@ import re
 import unittest
 
 import support
-from bbmlab_core.certify import Plan, certified, checked_boxes
-from bbmlab_core.circuits import values_under
-from bbmlab_core.diagnosis import Diagnosis, Truth
-from bbmlab_core.explaining import as_gcc, explain_answer
-from bbmlab_core.own_report import certificate_digest
-from bbmlab_core.reports import ReportError, parse_report
-from bbmlab_core.trials import Trial
+from bbmlab_core.certify.certifier import CertificatePlan, certified, checked_boxes
+from bbmlab_core.explain.diagnosis import Diagnosis, Truth
+from bbmlab_core.explain.explaining import as_gcc, explain_answer
+from bbmlab_core.explain.trials import Trial
+from bbmlab_core.texts.skimming import certificate_digest
+from bbmlab_core.texts.circuits import values_under
+from bbmlab_core.texts.reports import ReportError, parse_report
 
 
 def small_noes() -> list:
@@ -32,15 +32,18 @@ class OtherAnswers(unittest.TestCase):
     def test_what_is_no_answer(self) -> None:
         """A file that no command of the program wrote, or one of another text, is refused with a sentence."""
         run, value = ((support.EXAMPLES / f"{name}.txt").read_text() for name in ("head_on", "collision_values"))
-        for text, command, output in [(run, "run", "0\n"), (run, "run", ""), (run, "run", "cells x\n"), (run, "run", "bbmcheck 1\n"),
-                                      (value, "value", "p\n"), (value, "value", "undefined 99\n"), (value, "value", "p 1\nundefined 0\n"),
+        for text, command, output in [(run, "run", "0\n"), (run, "run", ""), (run, "run", "cells x\n"),
+                                      (run, "run", "bbmcheck 1\n"),
+                                      (value, "value", "p\n"), (value, "value", "undefined 99\n"),
+                                      (value, "value", "p 1\nundefined 0\n"),
                                       (value + "more\n", "value", "p 1\nq 0\n"), (run, "modules", "cells 1\n")]:
             with self.subTest(output), self.assertRaises(ReportError):
                 explain_answer(text, command, output, "text")
 
     def test_wire_named_undefined(self) -> None:
         """A wire can have the name `undefined`: its value is no gate without a row."""
-        told = explain_answer("circuit\ninput undefined\noutput undefined\nend\nassign\non undefined\nend\n", "value", "undefined 1\n", "text")
+        told = explain_answer("circuit\ninput undefined\noutput undefined\nend\nassign\non undefined\nend\n", "value",
+                              "undefined 1\n", "text")
         self.assertEqual((told.verdict, "`undefined`" in told.headline[0]), ("values", True))
 
 
@@ -53,17 +56,20 @@ class Reports(unittest.TestCase):
         for case, _ in small_noes():
             told = explain_answer(support.decode(case.input), "check", case.output.decode(), case.name)
             report = parse_report(case.output.decode())
-            self.assertEqual([entry.report_line for entry in told.entries], [finding.text for finding in report.findings])
+            self.assertEqual([entry.report_line for entry in told.entries],
+                             [finding.text for finding in report.findings])
             for entry, finding in zip(told.entries, report.findings):
                 words = " ".join(entry.what)
                 count += 1
                 if finding.word in ("local", "border"):
                     self.assertIn(f"({finding.values['x']}, {finding.values['y']})", words, case.name)
-                    self.assertRegex(words, rf"[Mm]odules? {finding.values['module']}\b|{finding.values['module']} and", case.name)
+                    self.assertRegex(words, rf"[Mm]odules? {finding.values['module']}\b|{finding.values['module']} and",
+                                     case.name)
         self.assertGreater(count, 100)
 
     def test_occurrence_is_that_of_all_values(self) -> None:
-        """Whether an assignment occurs is what trying all inputs one by one says, and the inputs that are named give it."""
+        """Whether an assignment occurs is what trying all inputs one by one says, and the inputs that are named give
+        it."""
         tried = 0
         for case, document in small_noes():
             diagnosis = Diagnosis(document)
@@ -82,7 +88,8 @@ class Reports(unittest.TestCase):
         self.assertGreater(tried, 50)
 
     def test_examples_name_their_cause(self) -> None:
-        """docs/GUIDE.md shows these lines of reports, and their causes are those that it names, with the lines that fix them."""
+        """docs/GUIDE.md shows these lines of reports, and their causes are those that it names, with the lines that fix
+        them."""
         page = (support.TOP / "docs" / "GUIDE.md").read_text(encoding="utf-8")
         for name, report_line, cause, fix in [
                 ("extra_cut", "local 0 edge 3 7 4 3", "never_occurs", "use 0"),
@@ -104,14 +111,19 @@ class Reports(unittest.TestCase):
     def test_keep_of_many_inputs_has_no_cause(self) -> None:
         """With 13 inputs only samples are tried. None of them gives these values, so a `keep` line names no cause."""
         inputs = [f"i{number}" for number in range(1, 14)]
-        chain = [f"interact {'i1' if number == 2 else f'x{number - 1}'} i{number} -> x{number} b{number} c{number} d{number}"
+        chain = [f"interact {'i1' if number == 2 else f'x{number - 1}'} i{number} -> x{number} b{number} c{number} "
+                 f"d{number}"
                  for number in range(2, 14)]
-        left_over = [name for number in range(2, 14) for name in (f"b{number}", f"c{number}", f"d{number}") if name not in ("b13", "c13")]
+        left_over = [name for number in range(2, 14) for name in (f"b{number}", f"c{number}", f"d{number}")
+                     if name not in ("b13", "c13")]
         cells = [f"in {name} {number % 12} {number // 12}" for number, name in enumerate(inputs)]
         cells.sort(key=lambda line: int(line.split()[2]) // 4)
-        modules = [[f"module {x} 0 4 4", *(f"cut {name}" for number, name in enumerate(inputs) if x <= number % 12 < x + 4)] for x in (0, 4, 8)]
+        modules = [[f"module {x} 0 4 4",
+                    *(f"cut {name}" for number, name in enumerate(inputs) if x <= number % 12 < x + 4)]
+                   for x in (0, 4, 8)]
         lines = ["circuit", *(f"input {name}" for name in inputs), *chain, "unswitch x13 b13 c13 -> u v",
-                 *(f"spill {name}" for name in [*left_over, "u", "v"]), "end", "layout 12 4 0", *cells, "end", "certificate 1",
+                 *(f"spill {name}" for name in [*left_over, "u", "v"]), "end", "layout 12 4 0", *cells, "end",
+                 "certificate 1",
                  *modules[0], *modules[1], *modules[2], "cut x13", "cut b13", "cut c13", "use 12", "keep 12", "end", ""]
         assignment = 0b101 << (len(modules[2]) - 1)
         text = "\n".join(lines)
@@ -153,7 +165,8 @@ class Fixes(unittest.TestCase):
             broken = text.replace(line + "\n", "", 1)
             output = self.answer(broken)
             told = explain_answer(broken, "check", output, "broken", Trial(support.program()))
-            first = min((entry for entry in told.entries if entry.facts.get("time") is not None), key=lambda entry: entry.facts["time"])
+            first = min((entry for entry in told.entries if entry.facts.get("time") is not None),
+                        key=lambda entry: entry.facts["time"])
             wires = {"a": "ad", "d": "ad"}.get(line[-1], line[-1])
             with self.subTest(line):
                 self.assertTrue(any(f"`{line[:-1]}{wire}`" in " ".join(first.fixes) for wire in wires), first.fixes)
@@ -161,11 +174,12 @@ class Fixes(unittest.TestCase):
     def test_cut_certificates_get_a_yes(self) -> None:
         """A design whose certificate `certify` makes again gets a yes."""
         document = support.read_document((support.EXAMPLES / "wrong_edge.txt").read_text())
-        self.assertIn("verdict yes", self.answer(certified(document, checked_boxes(document.layout, 8, 12), Plan())))
+        self.assertIn("verdict yes",
+                      self.answer(certified(document, checked_boxes(document.layout, 8, 12), CertificatePlan())))
 
     def answer(self, text: str) -> str:
         """Returns what the program's `check` says of a text."""
-        from bbmlab_core.program import ask
+        from bbmlab_core.host.program import ask
         return ask(support.program(), "check", text.encode("latin-1")).output
 
 
@@ -175,7 +189,8 @@ class Listings(unittest.TestCase):
     def test_listings_are_told_as_their_own(self) -> None:
         """They are no values of a circuit."""
         text = (support.EXAMPLES / "four_modules.txt").read_text()
-        for command, output, words in (("modules", "module 0 0 0 4 4\nmodule 1 4 0 4 4\n", "2 modules"), ("modules", "module 0 0 0 8 8\n", "one module"),
+        for command, output, words in (("modules", "module 0 0 0 4 4\nmodule 1 4 0 4 4\n", "2 modules"),
+                                       ("modules", "module 0 0 0 8 8\n", "one module"),
                                        ("migrate", text, "version 2")):
             told = explain_answer(text, command, output, "four_modules.txt")
             with self.subTest(command):
@@ -195,7 +210,8 @@ def explained_example(name: str):
     sys.path.insert(0, str(support.TOP / "tools" / "oracle"))
     import reference_reports
     data = (support.EXAMPLES / f"{name}.txt").read_bytes()
-    return explain_answer(data.decode(), "check", reference_reports.answer(data)[1].decode(), name, Trial(support.program()))
+    return explain_answer(data.decode(), "check", reference_reports.answer(data)[1].decode(), name,
+                          Trial(support.program()))
 
 
 if __name__ == "__main__":

@@ -1,4 +1,6 @@
-"""Answers that come before a search, and answers for programs: missing rows, plain certificates, lists of some results, and the API's search."""
+"""Answers that come before a search, and answers for programs: missing rows, plain certificates, lists of some results,
+and the API's search.
+"""
 
 import json
 import tempfile
@@ -7,8 +9,8 @@ import unittest
 from pathlib import Path
 
 import support
-from bbmlab_core.code_names import CODE_NAMES
-from bbmlab_core.row_check import missing_row
+from bbmlab_core.circuits.row_check import missing_row
+from bbmlab_core.texts.code_names import CODE_NAMES
 
 UNSWITCH = "circuit\ninput c\ninput y\ninput z\nunswitch c y z -> d x\noutput d\noutput x\nend\n"
 
@@ -24,7 +26,8 @@ class Rows(unittest.TestCase):
             started = time.monotonic()
             ended = support.lab("route", "--effort", "25", str(path), BBMCHECK=support.program())
             self.assertEqual((ended.returncode, time.monotonic() - started < 20), (1, True))
-            self.assertIn("gate 0 (`unswitch`, line 5) has no row for c=0 y=1 z=0, which it gets with y on", ended.stderr)
+            self.assertIn("gate 0 (`unswitch`, line 5) has no row for c=0 y=1 z=0, which it gets with y on",
+                          ended.stderr)
             ended = support.lab("explain", str(self.valued(path, ["y"])), BBMCHECK=support.program())
             self.assertIn("has no row for", ended.stdout)
 
@@ -35,11 +38,13 @@ class Rows(unittest.TestCase):
         return other
 
     def test_rows(self) -> None:
-        """The first gate without a row is named, in circuits of few inputs and of many, and none where all inputs have values."""
+        """The first gate without a row is named, in circuits of few inputs and of many, and none where all inputs have
+        values."""
         many = "".join(f"input i{place}\n" for place in range(14))
         spills = "".join(f"spill i{place}\n" for place in range(14))
         circuits = [(UNSWITCH, "gate 0"), ("circuit\ninput a\noutput a\nend\n", None),
-                    ("circuit\ninput c\ninput x\nswitch c x -> d y z\nunswitch d y z -> e w\noutput e\noutput w\nend\n", None),
+                    ("circuit\ninput c\ninput x\nswitch c x -> d y z\nunswitch d y z -> e w\noutput e\noutput w\nend\n",
+                     None),
                     (UNSWITCH.replace("circuit\n", f"circuit\n{many}").replace("end\n", f"{spills}end\n"), "gate 0")]
         for text, wanted in circuits:
             document = support.read_document(text, "circuit")
@@ -55,7 +60,8 @@ class Commands(unittest.TestCase):
         """`--plain` writes the certificate also if the program says no to it, with the no."""
         with tempfile.TemporaryDirectory() as room:
             out = Path(room) / "plain.txt"
-            ended = support.lab("certify", "--plain", support.example("plain_no"), "-o", str(out), BBMCHECK=support.program())
+            ended = support.lab("certify", "--plain", support.example("plain_no"), "-o", str(out),
+                                BBMCHECK=support.program())
             self.assertEqual(ended.returncode, 1)
             self.assertIn("the program does not say yes: no: local 0 end 3", ended.stderr)
             self.assertEqual(support.lab("check", str(out), BBMCHECK=support.program()).returncode, 1)
@@ -68,7 +74,8 @@ class Commands(unittest.TestCase):
         self.assertEqual((ended.returncode, len(ended.stdout.splitlines())), (1, 3))
         self.assertNotIn("plain_yes", ended.stdout)
         self.assertIn("3 files: 1 yes, 1 no, 1 refused", ended.stdout)
-        document = json.loads(support.lab("check", "--only", "refused", "--format", "json", *files, BBMCHECK=support.program()).stdout)
+        document = json.loads(support.lab("check", "--only", "refused", "--format", "json", *files,
+                                          BBMCHECK=support.program()).stdout)
         self.assertEqual((document["all_yes"], document["left_out"]), (False, {"yes": 1, "no": 1}))
         row, = document["results"]
         line, code = map(int, row["output"].split()[1:])
@@ -81,16 +88,21 @@ class Commands(unittest.TestCase):
     def test_names_of_codes(self) -> None:
         """The names are those of the program's sources."""
         source = support.TOP / "crates" / "section_text" / "src" / "code.rt"
-        names = {line.split("RefusalCode::")[1].split(" ")[0]: int(line.split("=> ")[1].rstrip(",")) for line in source.read_text().splitlines()
+        names = {line.split("RefusalCode::")[1].split(" ")[0]: int(line.split("=> ")[1].rstrip(","))
+                 for line in source.read_text().splitlines()
                  if "RefusalCode::" in line and "=> " in line and line.split("=> ")[1].rstrip(",").isdigit()}
-        self.assertEqual({number: name.lower() for name, number in names.items()}, {number: name.replace("_", "") for number, name in CODE_NAMES.items()})
+        self.assertEqual({number: name.lower() for name, number in names.items()},
+                         {number: name.replace("_", "") for number, name in CODE_NAMES.items()})
 
 
 class Search(unittest.TestCase):
     """`bbmlab.route`."""
 
     def test_netlists_progress_and_cancel(self) -> None:
-        """A netlist is mapped and routed, progress is told, and a search can be cancelled. Messages name no option of the command."""
+        """A netlist is mapped and routed, progress is told, and a search can be cancelled.
+
+        Messages name no option of the command.
+        """
         import sys
         sys.path.insert(0, str(support.LAB / "public"))
         import bbmlab

@@ -1,4 +1,6 @@
-"""Fixes: edits that `explain` names were tried, the usual mistakes lead to their fix, and what was not tried is unknown."""
+"""Fixes: edits that `explain` names were tried, the usual mistakes lead to their fix, and what was not tried is
+unknown.
+"""
 
 import os
 import tempfile
@@ -8,20 +10,21 @@ from pathlib import Path
 from types import SimpleNamespace
 
 import support
-from bbmlab_core.boxes import Box
-from bbmlab_core.certificates import BorderLine, Module
-from bbmlab_core.diagnosis import Diagnosis, Truth
-from bbmlab_core.edits import EditError, add, applied, delete, edits_between, replace
-from bbmlab_core.expected_lines import BorderCheck
-from bbmlab_core.explaining import Explanation, explain_answer
-from bbmlab_core.fixing import Fixer
-from bbmlab_core.layouts import Layout, Part
-from bbmlab_core.mirrors import stays
-from bbmlab_core.own_report import certificate_digest, own_report
-from bbmlab_core.program import ask
-from bbmlab_core.reports import ReportError, parse_report
-from bbmlab_core.simulation import Field, key_of
-from bbmlab_core.trials import Budget, Trial, is_yes
+from bbmlab_core.explain.diagnosis import Diagnosis, Truth
+from bbmlab_core.explain.edits import EditError, add, applied, delete, edits_between, replace
+from bbmlab_core.explain.expected_lines import BorderCheck
+from bbmlab_core.explain.explaining import Explanation, explain_answer
+from bbmlab_core.explain.fixing import Fixer
+from bbmlab_core.explain.trials import Budget, Trial, is_yes
+from bbmlab_core.host.program import ask
+from bbmlab_core.physics.mirrors import stays
+from bbmlab_core.physics.own_report import own_report
+from bbmlab_core.texts.skimming import certificate_digest
+from bbmlab_core.physics.simulation import Field, key_of
+from bbmlab_core.texts.boxes import Box
+from bbmlab_core.texts.certificates import BorderLine, Module
+from bbmlab_core.texts.layouts import Layout, Part
+from bbmlab_core.texts.reports import ReportError, parse_report
 from measure_fixes import right_texts, rounds_to_yes
 from mutations import FAMILIES, mutants
 
@@ -56,7 +59,8 @@ class Edits(unittest.TestCase):
 
     def test_edits_between_lead_from_one_to_the_other(self) -> None:
         """What is found by comparing two texts makes one of the other."""
-        for one, two in (("a\nb\nc\n", "a\nc\nd\n"), ("a\n", "a\n"), ("", "x\ny\n"), ("p\nq\nr\n", "r\nq\np\n"), ("a\na\na\n", "a\n")):
+        for one, two in (("a\nb\nc\n", "a\nc\nd\n"), ("a\n", "a\n"), ("", "x\ny\n"), ("p\nq\nr\n", "r\nq\np\n"),
+                         ("a\na\na\n", "a\n")):
             with self.subTest(one=one, two=two):
                 self.assertEqual(applied(one, edits_between(one, two)), two)
 
@@ -65,10 +69,12 @@ class DeletedLines(unittest.TestCase):
     """Lines that are left out of a certificate in which several wires have the same values."""
 
     def test_one_edit(self) -> None:
-        """Each `edge` line of such a wire that is left out is put back by one edit: it names the wire of the nearest line, or else another is tried."""
+        """Each `edge` line of such a wire that is left out is put back by one edit: it names the wire of the nearest
+        line, or else another is tried."""
         for circuit in ("switch p q -> d y z\ndelay 40 d -> e\ndelay 30 y -> f\noutput e\noutput f\noutput z\n",
                         "switch p q -> d y z\ndelay 40 d -> e\noutput e\noutput y\noutput z\n"):
-            bundle = support.lab("route", "-", "--program", support.program(), text=f"circuit\ninput p\ninput q\n{circuit}end\n").stdout
+            bundle = support.lab("route", "-", "--program", support.program(),
+                                 text=f"circuit\ninput p\ninput q\n{circuit}end\n").stdout
             self.assertTrue(says_yes(bundle))
             lines = bundle.split("\n")
             numbers = [number for number, line in enumerate(lines) if line.startswith("edge ") and line[-1] in "def"]
@@ -80,25 +86,34 @@ class DeletedLines(unittest.TestCase):
                 if not is_yes(report):
                     fix = Fixer(text, report, Trial(support.program())).find()
                     assert fix
-                    self.assertEqual((len(fix.edits), fix.remakes, is_yes(fix.report)), (1, False, True), (lines[number], fix.words))
+                    self.assertEqual((len(fix.edits), fix.remakes, is_yes(fix.report)), (1, False, True),
+                                     (lines[number], fix.words))
 
 
     def test_nearest_line(self) -> None:
-        """The wire of the line about the cell at the nearest time comes first, then those that most modules know, then that of a line next to it."""
+        """The wire of the line about the cell at the nearest time comes first, then those that most modules know, then
+        that of a line next to it."""
         tables, layout = {"p": 5, "d": 5, "e": 5, "z": 3}, Layout(32, 32, 100)
-        knowing = [Module(number, Box(8 * number, 0, 8, 8), 1, local=dict.fromkeys(names, 1)) for number, names in enumerate(("p", "pe", "pe"))]
-        for lines, modules, wanted in (([(8, 3, 41, "e"), (8, 3, 61, "p"), (9, 4, 49, "d")], [], "epd"), ([(8, 3, 41, "p"), (8, 3, 53, "e")], [], "epd"),
-                                       ([(9, 4, 49, "d")], knowing, "ped"), ([(9, 4, 49, "d"), (7, 2, 47, "e"), (12, 3, 49, "p")], [], "dep"), ([], [], "pde")):
+        knowing = [Module(number, Box(8 * number, 0, 8, 8), 1, local=dict.fromkeys(names, 1)) for number,
+                   names in enumerate(("p", "pe", "pe"))]
+        for lines, modules, wanted in (([(8, 3, 41, "e"), (8, 3, 61, "p"), (9, 4, 49, "d")], [], "epd"),
+                                       ([(8, 3, 41, "p"), (8, 3, 53, "e")], [], "epd"),
+                                       ([(9, 4, 49, "d")], knowing, "ped"),
+                                       ([(9, 4, 49, "d"), (7, 2, 47, "e"), (12, 3, 49, "p")], [], "dep"),
+                                       ([], [], "pde")):
             check = BorderCheck.__new__(BorderCheck)
             at: dict[tuple[int, int], list[tuple[Module, BorderLine]]] = {}
             for x, y, time, name in lines:
                 at.setdefault((x, y), []).append((knowing[0], BorderLine("edge", time, x, y, name, 1)))
-            check.__dict__.update(lines_at=at, layout=layout, diagnosis=SimpleNamespace(values=SimpleNamespace(tables=tables)))
+            check.__dict__.update(lines_at=at, layout=layout,
+                                  diagnosis=SimpleNamespace(values=SimpleNamespace(tables=tables)))
             self.assertEqual("".join(check.likely_wires(5, modules, (8, 3), 49)), wanted, lines)
 
     def test_first_edit(self) -> None:
-        """The first edit that is tried for such a line is the line itself, if others about its cell or next to it name its wire."""
-        bundle = support.lab("route", "-", "--program", support.program(), text="circuit\ninput p\ninput q\nswitch p q -> d y z\ndelay 40 d -> e\noutput e\n"
+        """The first edit that is tried for such a line is the line itself, if others about its cell or next to it name
+        its wire."""
+        bundle = support.lab("route", "-", "--program", support.program(),
+                             text="circuit\ninput p\ninput q\nswitch p q -> d y z\ndelay 40 d -> e\noutput e\n"
                              "output y\noutput z\nend\n").stdout
         lines = bundle.split("\n")
         tried = Counter[bool]()
@@ -106,7 +121,8 @@ class DeletedLines(unittest.TestCase):
             document = support.read_document("\n".join(lines[:number] + lines[number + 1:]), "check")
             _, time, x, y, name = lines[number].split(" ")
             near = [line.split(" ") for line in lines if line.startswith("edge ") and line != lines[number]]
-            has_near = any(words[4] == name and max(abs(int(words[2]) - int(x)), abs(int(words[3]) - int(y))) <= 1 for words in near)
+            has_near = any(words[4] == name and max(abs(int(words[2]) - int(x)), abs(int(words[3]) - int(y))) <= 1
+                           for words in near)
             group, = (group for group in BorderCheck(Diagnosis(document)).groups() if group.cell == (int(x), int(y)))
             tried[[edit.text for edit in group.edits] == [lines[number]]] += has_near
         self.assertGreater(tried[True], 5)
@@ -188,7 +204,8 @@ class Mistakes(unittest.TestCase):
                 self.assertIn(f"`{word} ", " ".join(edit.text and f"`{edit.text}`" for edit in told.fix.edits))
 
     def test_two_fixes(self) -> None:
-        """If two outputs of a gate are exchanged, both the gate and the `out` lines can be changed: each is named, and the program tried both."""
+        """If two outputs of a gate are exchanged, both the gate and the `out` lines can be changed: each is named, and
+        the program tried both."""
         text = text_of("fredkin_gate")
         for old, new in (("-> d u v", "-> d v u"), ("out u 8 11\nout v 11 8", "out v 8 11\nout u 11 8")):
             told = self.fixed(text, text.replace(old, new))
@@ -220,7 +237,8 @@ class Reports(unittest.TestCase):
     """Reports that are not of the text, and the lab's own reports."""
 
     def test_another_report_is_refused(self) -> None:
-        """`explain --report` and `view --report` refuse a report with another digest, and one that names a module that there is not."""
+        """`explain --report` and `view --report` refuse a report with another digest, and one that names a module that
+        there is not."""
         text, other = text_of("wrong_edge"), text_of("extra_cut")
         report = ask(support.program(), "check", other.encode()).output
         with self.assertRaisesRegex(ReportError, "not of this text"):
@@ -240,13 +258,15 @@ class Reports(unittest.TestCase):
         """The digest of a certificate is that of the program's report."""
         for name in ("wrong_edge", "four_modules", "without_halos"):
             text = text_of(name)
-            self.assertEqual(certificate_digest(text), parse_report(ask(support.program(), "check", text.encode()).output).digest)
+            self.assertEqual(certificate_digest(text),
+                             parse_report(ask(support.program(), "check", text.encode()).output).digest)
 
     def test_own_reports_are_the_program_s(self) -> None:
         """The report that the lab makes without the program is the program's, for each worked case that is small."""
         count = 0
         for case in support.worked_cases():
-            if case.words[0] == "check" and case.output and len(case.input) < 6000 and not case.output.startswith(b"refused"):
+            if case.words[0] == "check" and case.output and len(case.input) < 6000 and not case.output.startswith(
+                b"refused"):
                 document = support.document_of(case)
                 report, own = parse_report(case.output.decode()), own_report(document)
                 count += 1
@@ -259,15 +279,18 @@ class ThreeValues(unittest.TestCase):
     """What was not tried is unknown, and a sentence that rests on samples names them."""
 
     def many_inputs(self, is_right: bool) -> str:
-        """Returns a bundle with 13 inputs, each of whose balls flies straight on; one `out` is at a wrong cell if it is not right."""
+        """Returns a bundle with 13 inputs, each of whose balls flies straight on; one `out` is at a wrong cell if it is
+        not right."""
         names = [f"i{number}" for number in range(13)]
         spots = [(2 + 4 * (number % 7), 2 + 4 * (number // 7)) for number in range(13)]
         ins = [f"in {name} {x} {y}" for name, (x, y) in zip(names, spots)]
         outs = [f"out {name} {x + 2} {y + 2}" for name, (x, y) in zip(names, spots)]
         if not is_right:
             outs[4] = "out i4 20 2"
-        modules = [["module 0 0 32 6", *(f"cut {name}" for name in names[:7])], ["module 0 6 32 6", *(f"cut {name}" for name in names[7:])]]
-        return "\n".join(["circuit", *(f"input {name}" for name in names), *(f"output {name}" for name in names), "end", "layout 32 12 2",
+        modules = [["module 0 0 32 6", *(f"cut {name}" for name in names[:7])],
+                   ["module 0 6 32 6", *(f"cut {name}" for name in names[7:])]]
+        return "\n".join(["circuit", *(f"input {name}" for name in names), *(f"output {name}" for name in names), "end",
+                          "layout 32 12 2",
                           *ins, *outs, "end", "certificate 2", *modules[0], *modules[1], "end", ""])
 
     def test_samples_are_named(self) -> None:
@@ -293,7 +316,8 @@ class ThreeValues(unittest.TestCase):
         self.assertIn("in 256 sampled choices of the inputs", words)
         self.assertNotIn("The layout itself does not", words)
         assert told.fix
-        self.assertEqual([(edit.action, edit.line) for edit in told.fix.edits], [("delete", lines.index("edge 1 5 5 1") + 1)])
+        self.assertEqual([(edit.action, edit.line) for edit in told.fix.edits],
+                         [("delete", lines.index("edge 1 5 5 1") + 1)])
 
     def test_never_occurs_does_not_mask_a_missing_line(self) -> None:
         """With a cut that never occurs so and a missing line too, the missing line is the cause."""
@@ -315,8 +339,10 @@ class Command(unittest.TestCase):
             path.write_text(text_of("wrong_edge"))
             program = support.program()
             ended = support.lab("explain", "--fix", str(path), "--program", program)
-            self.assertEqual((ended.returncode, says_yes(ended.stdout), path.read_text()), (0, True, text_of("wrong_edge")))
-            self.assertEqual(support.lab("explain", "--fix", str(path), "-o", str(path), "--program", program).returncode, 2)
+            self.assertEqual((ended.returncode, says_yes(ended.stdout), path.read_text()),
+                             (0, True, text_of("wrong_edge")))
+            self.assertEqual(support.lab("explain", "--fix", str(path), "-o", str(path), "--program",
+                                         program).returncode, 2)
             self.assertEqual(path.read_text(), text_of("wrong_edge"))
             support.lab("explain", "--fix", str(path), "-o", str(other), "--program", program)
             self.assertTrue(says_yes(other.read_text()))
@@ -325,15 +351,18 @@ class Command(unittest.TestCase):
             self.assertEqual(support.lab("explain", "-o", str(other), str(path), "--program", program).returncode, 2)
 
     def test_without_the_program(self) -> None:
-        """Without the program the lab tries the edits by its own runs, says so, and ends with 1: it gives no verdict."""
+        """Without the program the lab tries the edits by its own runs, says so, and ends with 1: it gives no verdict.
+        """
         ended = support.lab("explain", "--fix", support.example("wrong_edge"), "--program", "/no/such/program")
         self.assertEqual(ended.returncode, 1)
         self.assertIn("only the program gives a verdict", ended.stderr)
         self.assertTrue(says_yes(ended.stdout))
 
     def test_no_fix_says_what_was_tried(self) -> None:
-        """If nothing is found, standard error says how many texts were tried and which kinds of edits; nothing is written."""
-        lines = ["circuit", "input c", "input x", "input y", "fredkin c x y -> d u v", "output d", "output u", "output v", "end", "layout 8 8 1",
+        """If nothing is found, standard error says how many texts were tried and which kinds of edits; nothing is
+        written."""
+        lines = ["circuit", "input c", "input x", "input y", "fredkin c x y -> d u v", "output d", "output u",
+                 "output v", "end", "layout 8 8 1",
                  "in c 2 2", "in x 4 4", "in y 2 5", "out d 3 3", "out u 5 5", "out v 3 4", "end",
                  "certificate 2", "module 0 0 8 8", "cut c", "cut x", "cut y", "use 0", "end", ""]
         ended = support.lab("explain", "--fix", "-", text="\n".join(lines), BBMCHECK=support.program())
@@ -363,7 +392,8 @@ class Measure(unittest.TestCase):
     def test_each_printed_fix_was_tried(self) -> None:
         """Each fix of a line of a report, applied to the text, leads to no refusal, and the line is gone."""
         program, tried = support.program(), 0
-        for name in ("wrong_edge", "wrong_border", "wrong_times", "wrong_stop", "extra_cut", "two_names", "outside_domain", "not_kept"):
+        for name in ("wrong_edge", "wrong_border", "wrong_times", "wrong_stop", "extra_cut", "two_names",
+                     "outside_domain", "not_kept"):
             text = text_of(name)
             trial = Trial(program, Budget(200, 20))
             report = trial.report(text)

@@ -12,13 +12,14 @@ from typing import Callable
 from unittest import mock
 
 import support
-from bbmlab_core.circuits import values_under
-from bbmlab_core.netlists import NetlistError, NetlistFormat, map_netlist, netlist_format
+from bbmlab_core.circuits.netlists import NetlistError, NetlistFormat, map_netlist, netlist_format
+from bbmlab_core.texts.circuits import values_under
 
 # Fewer tries than users get, which save time: each try is one that a search can end with.
-FEW_TRIES = mock.patch("bbmlab_core.netlists.search.MAX_TRIES", 8)
+FEW_TRIES = mock.patch("bbmlab_core.circuits.netlists.search.MAX_TRIES", 8)
 RULES: dict[str, Callable[[list[bool]], bool]] = {
-    "and": all, "or": any, "xor": lambda bits: sum(bits) % 2 == 1, "nand": lambda bits: not all(bits), "nor": lambda bits: not any(bits),
+    "and": all, "or": any, "xor": lambda bits: sum(bits) % 2 == 1, "nand": lambda bits: not all(bits),
+    "nor": lambda bits: not any(bits),
     "xnor": lambda bits: sum(bits) % 2 == 0, "not": lambda bits: not bits[0], "buf": lambda bits: bits[0],
     "mux": lambda bits: bits[1] if bits[0] else bits[2],
 }
@@ -37,7 +38,8 @@ def random_text(chance: random.Random) -> tuple[str, list[str], list[tuple[str, 
     lines = [f"{word}  {' '.join(ins)} -> {out} # a gate" for word, ins, out in gates]
     head = ["circuit"] if chance.random() < 0.5 else ["# comment", ""]
     tail = ["end"] if chance.random() < 0.5 else []
-    return "\n".join([*head, f"input {' '.join(inputs)}", *lines, *(f"output {name}" for name in outputs), *tail, ""]), inputs, gates, outputs
+    return "\n".join([*head, f"input {' '.join(inputs)}", *lines, *(f"output {name}" for name in outputs), *tail,
+                      ""]), inputs, gates, outputs
 
 
 class Gates(unittest.TestCase):
@@ -62,8 +64,10 @@ class Gates(unittest.TestCase):
 
     def test_conservative_gates(self) -> None:
         """The gates of circuit sections keep their meaning, and their wires may be used twice."""
-        text = ("input c x\ninput y\nsource 1 -> k\nfredkin c x y -> d u v\nswitch c k -> e copy inverse\ninteract x y -> p q r s\n"
-                "and d e -> both\nxor p s -> zero\n" + "".join(f"output {name}\n" for name in "u v copy inverse p q r both zero".split()))
+        text = ("input c x\ninput y\nsource 1 -> k\nfredkin c x y -> d u v\nswitch c k -> e copy inverse\ninteract x y "
+                "-> p q r s\n"
+                "and d e -> both\nxor p s -> zero\n" + "".join(f"output {name}\n"
+                                                               for name in "u v copy inverse p q r both zero".split()))
         circuit = support.read_document(map_netlist(text, NetlistFormat.GATES).text, "circuit").circuit
         assert circuit is not None
         for c, x, y in itertools.product((False, True), repeat=3):
@@ -84,19 +88,26 @@ class Refused(unittest.TestCase):
     def test_sentences(self) -> None:
         """Each wrong line, and what its sentence says."""
         for line, said in (
-            ("and a -> c", "Line 3: `and` takes 2 before the arrow and 1 behind it, and has 1 and 1."), ("and a q -> c", "Line 3: no earlier line defines `q`"),
-            ("not a b -> c", "Line 3: `not` takes 1"), ("and a b -> a", "Line 3: `a` is defined already"), ("and a b -> C", "Line 3: `C` is no name"),
-            ("and a b c", "Line 3: `and a b c` is no line"), ("unswitch a b b -> c d", "Line 3: `unswitch` has no values for some"),
-            ("andor a b -> c", "Line 3: `andor` is no gate"), ("source 2 -> c", "Line 3: `source` takes 0 or 1"), ("output", "Line 3: `output` takes names"),
-            ("output a\noutput a", "Line 4: the output `a` is named twice"), ("end\noutput a", "Line 4 follows `end`"), ("not a -> c", "names no output"),
+            ("and a -> c", "Line 3: `and` takes 2 before the arrow and 1 behind it, and has 1 and 1."),
+            ("and a q -> c", "Line 3: no earlier line defines `q`"),
+            ("not a b -> c", "Line 3: `not` takes 1"), ("and a b -> a", "Line 3: `a` is defined already"),
+            ("and a b -> C", "Line 3: `C` is no name"),
+            ("and a b c", "Line 3: `and a b c` is no line"),
+            ("unswitch a b b -> c d", "Line 3: `unswitch` has no values for some"),
+            ("andor a b -> c", "Line 3: `andor` is no gate"), ("source 2 -> c", "Line 3: `source` takes 0 or 1"),
+            ("output", "Line 3: `output` takes names"),
+            ("output a\noutput a", "Line 4: the output `a` is named twice"), ("end\noutput a", "Line 4 follows `end`"),
+            ("not a -> c", "names no output"),
         ):
             with self.assertRaises(NetlistError, msg=line) as found:
                 map_netlist(f"circuit\ninput a b\n{line}\n", NetlistFormat.GATES)
             self.assertIn(said, str(found.exception))
 
     def test_wrong_lines_are_still_told(self) -> None:
-        """A wrong gate line of such a text is refused as one, and not as a line of a circuit section; Windows' line ends are read."""
-        for line, said in (("AND a b -> c", "Line 4: `AND` is no gate. These are and, or"), ("and a,b -> c", "Line 4: no earlier line defines `a,b`")):
+        """A wrong gate line of such a text is refused as one, and not as a line of a circuit section; Windows' line
+        ends are read."""
+        for line, said in (("AND a b -> c", "Line 4: `AND` is no gate. These are and, or"),
+                           ("and a,b -> c", "Line 4: no earlier line defines `a,b`")):
             text = f"circuit\r\ninput a b\r\nnot a -> d\r\n{line}\r\noutput c\r\nend\r\n"
             for given in (text, text.replace("not a -> d\r\n", "\r\n")):
                 with self.assertRaises(NetlistError) as found:
@@ -104,12 +115,14 @@ class Refused(unittest.TestCase):
                 self.assertIn(said, str(found.exception))
 
     def test_explain_names_the_command(self) -> None:
-        """`explain` says what reads such a text: as a hint behind the line `circuit`, which the program refuses, or else in one line."""
+        """`explain` says what reads such a text: as a hint behind the line `circuit`, which the program refuses, or
+        else in one line."""
         with tempfile.TemporaryDirectory() as room:
             path = Path(room) / "a.txt"
             path.write_text("input a\nnot a -> b\noutput b\n")
             said = support.lab("explain", str(path))
-            self.assertEqual((said.returncode, said.stderr), (1, f"bbmlab: {path}: this is a text of plain gates: `bbmlab circuit` and `route` read it\n"))
+            self.assertEqual((said.returncode, said.stderr), (
+                1, f"bbmlab: {path}: this is a text of plain gates: `bbmlab circuit` and `route` read it\n"))
             path.write_text("circuit\ninput a\nnot a -> b\noutput b\nend\n")
             said = support.lab("explain", str(path), BBMCHECK=support.program())
             self.assertIn("`bbmlab circuit` writes a circuit of a text of such gates", " ".join(said.stdout.split()))
@@ -118,12 +131,16 @@ class Refused(unittest.TestCase):
         """Files of 50 MB end with a sentence and status 1, in bounded time and memory."""
         with tempfile.TemporaryDirectory() as room:
             path = Path(room) / "large"
-            for head, line in (("input a\nnot a -> b\n", "not a -> c\n"), (".model m\n.inputs a\n", ".names a b\n"), ("{", "{"), ("OPENQASM 3;\n", "x q;\n"),
-                               ("aig 9 9 9 9 9\n", "\x01"), (".numvars 1\n.variables a\n", "t1 a\n"), (".i 1\n.o 1\n", "1 1\n"), (" ", " "),
+            for head, line in (("input a\nnot a -> b\n", "not a -> c\n"), (".model m\n.inputs a\n", ".names a b\n"),
+                               ("{", "{"), ("OPENQASM 3;\n", "x q;\n"),
+                               ("aig 9 9 9 9 9\n", "\x01"), (".numvars 1\n.variables a\n", "t1 a\n"),
+                               (".i 1\n.o 1\n", "1 1\n"), (" ", " "),
                                ("/*", "*"), ("//\n", "//\n")):
                 path.write_text(head + line * (50_000_000 // len(line)))
-                done = subprocess.run([sys.executable, str(support.LAB / "bbmlab"), "circuit", str(path)], capture_output=True, text=True, timeout=200,
-                                      check=False, preexec_fn=lambda: resource.setrlimit(resource.RLIMIT_AS, (1_500_000_000,) * 2))
+                done = subprocess.run([sys.executable, str(support.LAB / "bbmlab"), "circuit", str(path)],
+                                      capture_output=True, text=True, timeout=200,
+                                      check=False,
+                                      preexec_fn=lambda: resource.setrlimit(resource.RLIMIT_AS, (1_500_000_000,) * 2))
                 self.assertEqual((done.returncode, done.stdout), (1, ""), (head, done.stderr[-300:]))
                 self.assertRegex(done.stderr, r"\Abbmlab: [^\n]+\n\Z")
 

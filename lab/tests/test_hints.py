@@ -1,12 +1,14 @@
-"""Hints for people who write their first circuits: gates of logic, forms, copies, comments, and designs without a certificate."""
+"""Hints for people who write their first circuits: gates of logic, forms, copies, comments, and designs without a
+certificate.
+"""
 
 import tempfile
 import unittest
 from pathlib import Path
 
 import support
-from bbmlab_core.gates import GATE_SIZES
-from bbmlab_core.standard_cells import cell_names
+from bbmlab_core.texts.gates import GATE_SIZES
+from bbmlab_core.physics.standard_cells import cell_names
 
 
 class Hints(unittest.TestCase):
@@ -29,7 +31,8 @@ class Hints(unittest.TestCase):
 
     def test_gates_of_logic(self) -> None:
         """A gate that conservative logic lacks is answered by its gates and by the cell that makes one."""
-        for word, cell in (("and", "and"), ("AND", "and"), ("or", "or"), ("xor", "xor"), ("not", "not"), ("nand", "and"), ("mux", "fredkin"), ("copy", "fan_out")):
+        for word, cell in (("and", "and"), ("AND", "and"), ("or", "or"), ("xor", "xor"), ("not", "not"),
+                           ("nand", "and"), ("mux", "fredkin"), ("copy", "fan_out")):
             said = self.explained(f"circuit\ninput a\ninput b\n{word} a b -> c\noutput c\nend\n")
             self.assertIn(f"`bbmlab cells {cell}`", said, word)
             self.assertIn(cell, cell_names())
@@ -50,36 +53,45 @@ class Hints(unittest.TestCase):
     def test_a_design_without_certificate(self) -> None:
         """Of a design without a certificate `explain` says whether one would help."""
         good = Path(support.example("not_gate")).read_text()
-        self.assertIn("The text has no certificate. In the choices of the inputs that were tried the whole run ends as the layout asks.", self.explained(good))
+        self.assertIn("The text has no certificate. In the choices of the inputs that were tried the whole run ends as "
+                      "the layout asks.", self.explained(good))
         crossing = (support.LAB / "cells" / "crossing.txt").read_text().split("certificate ")[0]
         lines = crossing.split("\n")
         # One of the two balls comes two steps later: each of its cells begins two steps further back.
         late = []
         for line in lines:
             words = line.split(" ")
-            late.append(" ".join([*words[:2], str(int(words[2]) - 2), str(int(words[3]) - 2)]) if words[:2] == ["in", "a"] else line)
+            late.append(" ".join([*words[:2], str(int(words[2]) - 2), str(int(words[3]) - 2)])
+                        if words[:2] == ["in", "a"] else line)
         self.assertNotEqual(late, lines)
         said = self.explained("\n".join(late))
-        self.assertRegex(said, r"The layout itself does not do what the circuit asks: with a=\d b=\d the cell \(\d+, \d+\) is (live|dead) at the end")
+        self.assertRegex(said, r"The layout itself does not do what the circuit asks: with a=\d b=\d the cell \(\d+, "
+                         r"\d+\) is (live|dead) at the end")
 
 
 class Comments(unittest.TestCase):
     """Texts with comments."""
 
     def test_commands_that_take_comments(self) -> None:
-        """What only reads a text takes comments, any spaces and unsorted lists, and says what it says of the one spelling."""
-        free = "# by hand\n\n" + Path(support.example("wrong_edge")).read_text().replace("\nlayout", "\n  layout").replace("\nend\n", "  # the end\nend # of it\n")
+        """What only reads a text takes comments, any spaces and unsorted lists, and says what it says of the one
+        spelling."""
+        free = "# by hand\n\n" + Path(support.example("wrong_edge")).read_text()
+        free = free.replace("\nlayout", "\n  layout").replace("\nend\n", "  # the end\nend # of it\n")
         plain = Path(support.example("wrong_edge")).read_text()
         with tempfile.TemporaryDirectory() as room:
             (Path(room) / "free").mkdir()
             (Path(room) / "free" / "a.txt").write_text(free)
             (Path(room) / "a.txt").write_text(plain)
             for words in (["trace"], ["draw"], ["draw", "--ways"], ["view"], ["golly"], ["json"]):
-                one, other = (support.lab(*words, str(Path(room) / name), BBMCHECK=support.program()) for name in ("free/a.txt", "a.txt"))
-                self.assertEqual((one.returncode, one.stdout.replace("free/a.txt", "a.txt")), (other.returncode, other.stdout), words)
+                one, other = (support.lab(*words, str(Path(room) / name), BBMCHECK=support.program())
+                              for name in ("free/a.txt", "a.txt"))
+                self.assertEqual((one.returncode, one.stdout.replace("free/a.txt", "a.txt")),
+                                 (other.returncode, other.stdout), words)
             route = Path(room) / "circuit.txt"
-            route.write_text("# an adder\n" + Path(support.example("half_adder")).read_text().replace("\n", "  # why\n"))
-            one, other = (support.lab("route", "--circuit-only", name) for name in (str(route), support.example("half_adder")))
+            route.write_text("# an adder\n"
+                             + Path(support.example("half_adder")).read_text().replace("\n", "  # why\n"))
+            one, other = (support.lab("route", "--circuit-only", name)
+                          for name in (str(route), support.example("half_adder")))
             self.assertEqual((one.returncode, one.stdout), (0, other.stdout))
 
     def test_lines_of_the_file(self) -> None:
@@ -94,7 +106,8 @@ class Comments(unittest.TestCase):
 
     def test_commands_give_hints(self) -> None:
         """What only refuses a text says in its one line how to write it, as `explain` does."""
-        for line, hint in (("and a b -> c", "`bbmlab cells and`"), ("interact a b -> c", "Write it as `interact A B -> C D E F`."),
+        for line, hint in (("and a b -> c", "`bbmlab cells and`"),
+                           ("interact a b -> c", "Write it as `interact A B -> C D E F`."),
                            ("fredkin a b a -> c d e", "`bbmlab cells fan_out`")):
             text = f"circuit\ninput a\ninput b\n{line}\noutput c\nend\n"
             # `route` takes plain gates.

@@ -16,18 +16,18 @@ from pathlib import Path
 from unittest import mock
 
 import support
-from bbmlab_core.circuits import values_under
-from bbmlab_core.documents import Document, read_document
 from bbmlab_core.joining import command, modules, planning, wiring
 from bbmlab_core.joining.composing import Composed, Connection, composed
 from bbmlab_core.joining.parts import balls_of, read_part
+from bbmlab_core.physics.simulation import run_layout
 from bbmlab_core.route.attempt import Attempt
 from bbmlab_core.route.balls import Ball, mirror_cells
 from bbmlab_core.route.command import ProgressLine
 from bbmlab_core.route.netlist import Netlist
 from bbmlab_core.route.settings import OPEN_STEPS, Settings
 from bbmlab_core.route.world import Item
-from bbmlab_core.simulation import run_layout
+from bbmlab_core.texts.circuits import values_under
+from bbmlab_core.texts.documents import Document, read_document
 
 INTERRUPT_SECONDS = 6.0
 BLOCK = "circuit\ninput a\nsource 1 -> one\nswitch a one -> b c d\noutput b\nspill c\nspill d\nend\n"

@@ -1,4 +1,6 @@
-"""Cells that are joined by hand, by the steps of docs/GUIDE.md ("Join two cells by hand"), and two waves through a cell (docs/FAQ.md)."""
+"""Cells that are joined by hand, by the steps of docs/GUIDE.md ("Join two cells by hand"), and two waves through a cell
+(docs/FAQ.md).
+"""
 
 import tempfile
 import unittest
@@ -7,12 +9,12 @@ from pathlib import Path
 from typing import Callable, NamedTuple
 
 import support
-from bbmlab_core.circuits import Circuit, evaluate
-from bbmlab_core.documents import read_document
-from bbmlab_core.layouts import Cell, Layout
-from bbmlab_core.program import ask
-from bbmlab_core.simulation import WholeRun, cell_of, end_tables, key_of
-from bbmlab_core.standard_cells import Port, parts_of, read_cell
+from bbmlab_core.host.program import ask
+from bbmlab_core.physics.simulation import WholeRun, cell_of, end_tables, key_of
+from bbmlab_core.texts.circuits import Circuit, evaluate
+from bbmlab_core.texts.documents import read_document
+from bbmlab_core.texts.layouts import Cell, Layout
+from bbmlab_core.physics.standard_cells import CellPort, parts_of, read_cell
 
 KINDS = ("mirror", "ball", "in", "out", "waste")
 # Dead cells around a joined layout.
@@ -31,7 +33,9 @@ class Line(NamedTuple):
 
 @dataclass
 class Joint:
-    """Two cells, the output of the first that is the input of the second, and a ball of the first that a mirror turns some steps later."""
+    """Two cells, the output of the first that is the input of the second, and a ball of the first that a mirror turns
+    some steps later.
+    """
 
     first: str
     output: str
@@ -41,7 +45,8 @@ class Joint:
     steps: int = 8
 
 
-JOINTS = [Joint("delay_10", "b", "collision", "p"), Joint("turn_left", "a", "switch", "x"), Joint("not", "z", "fredkin", "c", "y"),
+JOINTS = [Joint("delay_10", "b", "collision", "p"), Joint("turn_left", "a", "switch", "x"),
+          Joint("not", "z", "fredkin", "c", "y"),
           Joint("collision", "a", "and", "b", "b"), Joint("and", "y", "or", "a", "z")]
 
 
@@ -51,7 +56,7 @@ def flown(cell: Cell, time: int, steps: int) -> Cell:
     return cell[0] + steps * dx, cell[1] + steps * dy
 
 
-def port_of(name: str, wire: str, roles: tuple[str, ...]) -> Port:
+def port_of(name: str, wire: str, roles: tuple[str, ...]) -> CellPort:
     """Returns a port of a cell."""
     return next(port for port in read_cell(name).ports if port.name == wire and port.role in roles)
 
@@ -61,8 +66,10 @@ def lines_of(layout: Layout) -> list[Line]:
     return [Line(part.kind, part.name, part.cell, part.width, part.height) for part in layout.parts]
 
 
-def turned(port: Port, steps: int, last: int) -> tuple[Line, list[Cell]]:
-    """Returns an upright mirror that turns a ball some steps after it left, by the table of docs/PHYSICS.md, and its cells at the last time."""
+def turned(port: CellPort, steps: int, last: int) -> tuple[Line, list[Cell]]:
+    """Returns an upright mirror that turns a ball some steps after it left, by the table of docs/PHYSICS.md, and its
+    cells at the last time.
+    """
     (x, y), time = (port.lead[0] + steps * port.dx, port.lead[1] + steps * port.dy), port.time + steps
     mirror = Line("mirror", None, (x + 1 if port.dx > 0 else x - 2, y - 2 if port.dy > 0 else y - 1), 2, 4)
     dx, dy, left = -port.dx, port.dy, last - time
@@ -80,16 +87,20 @@ def gate_lines(circuit: Circuit, renamed: Callable[[str], str]) -> list[str]:
 
 
 def joined_circuit(joint: Joint) -> str:
-    """Returns the circuit: the gates of the first cell, then those of the second, whose other wires get the prefix `v_`."""
+    """Returns the circuit: the gates of the first cell, then those of the second, whose other wires get the prefix
+    `v_`.
+    """
     first, second = (parts_of(read_cell(name).document)[1] for name in (joint.first, joint.second))
 
     def own(wire: str) -> str:
         """Returns the name that a wire of the second cell gets."""
         return joint.output if wire == joint.input else f"v_{wire}"
 
-    lines = [f"input {wire}" for wire in first.inputs] + [f"input {own(wire)}" for wire in second.inputs if wire != joint.input]
+    lines = [f"input {wire}" for wire in first.inputs] + [f"input {own(wire)}" for wire in second.inputs
+                                                          if wire != joint.input]
     lines += [*gate_lines(first, lambda wire: wire), *gate_lines(second, own)]
-    lines += [f"output {wire}" for wire in first.outputs if wire != joint.output] + [f"output {own(wire)}" for wire in second.outputs]
+    lines += [f"output {wire}" for wire in first.outputs if wire
+              != joint.output] + [f"output {own(wire)}" for wire in second.outputs]
     lines += [f"spill {wire}" for wire in first.spills] + [f"spill {own(wire)}" for wire in second.spills]
     return "\n".join(["circuit", *lines, "end", ""])
 
@@ -107,8 +118,10 @@ def joined(joint: Joint, k: int) -> str:
         port = port_of(joint.first, joint.aside, ("out", "spill"))
         mirror, cells = turned(port, joint.steps, last)
         is_output = port.role == "out"
-        lines = [mirror, *(Line("out" if is_output else "waste", joint.aside if is_output else None, cell) for cell in cells)]
-        ignored = {flown((port.lead[0] - back * port.dx, port.lead[1] - back * port.dy), port.time, first.steps - port.time) for back in (0, 2)}
+        lines = [mirror,
+                 *(Line("out" if is_output else "waste", joint.aside if is_output else None, cell) for cell in cells)]
+        ignored = {flown((port.lead[0] - back * port.dx, port.lead[1] - back * port.dy), port.time,
+                         first.steps - port.time) for back in (0, 2)}
     for kind, name, cell, width, height in lines_of(first):
         if kind in ("out", "waste"):
             if name == joint.output or cell in ignored:
@@ -140,14 +153,18 @@ def layout_text(lines: list[Line], steps: int) -> str:
 
 
 def waves(name: str, distance: int) -> str:
-    """Returns a circuit and a layout that let two waves of inputs through a cell: the second starts some steps further back."""
+    """Returns a circuit and a layout that let two waves of inputs through a cell: the second starts some steps further
+    back.
+    """
     layout, circuit = parts_of(read_cell(name).document)
     lines: list[Line] = []
     for kind, wire, cell, width, height in lines_of(layout):
         if kind == "mirror":
             lines.append(Line(kind, wire, cell, width, height))
             continue
-        early, late = (cell, flown(cell, 0, -distance)) if kind in ("ball", "in") else (flown(cell, layout.steps, distance), cell)
+        early, late = (cell, flown(cell, 0, -distance)) if kind in ("ball",
+                                                                    "in") else (flown(cell, layout.steps, distance),
+                                                                                cell)
         lines += [Line(kind, wire, early), Line(kind, wire and f"{wire}_2", late)]
     return doubled(circuit) + layout_text(lines, layout.steps + distance)
 
@@ -196,7 +213,9 @@ class Joining(unittest.TestCase):
                 self.assertIn("\nverdict yes\n", verdict(joined(joint, 20)))
 
     def test_a_parallel_ball(self) -> None:
-        """A ball that flies parallel to the joined one disturbs the second cell, however far it is, and an upright mirror helps."""
+        """A ball that flies parallel to the joined one disturbs the second cell, however far it is, and an upright
+        mirror helps.
+        """
         for joint in JOINTS:
             if joint.aside is None:
                 continue

@@ -6,11 +6,11 @@ import sys
 import unittest
 
 import support
-from bbmlab_core.certificates import MAX_CUTS, MAX_USES
-from bbmlab_core.circuits import Circuit, evaluate
-from bbmlab_core.cones import keeping_cone
-from bbmlab_core.documents import read_document
-from bbmlab_core.keeps import KeepSearch, kept_cone, why_not_kept
+from bbmlab_core.circuits.cones import keeping_cone
+from bbmlab_core.circuits.keeps import KeepSearch, kept_cone, why_not_kept
+from bbmlab_core.texts.certificates import MAX_CUTS, MAX_USES
+from bbmlab_core.texts.circuits import Circuit, evaluate
+from bbmlab_core.texts.documents import read_document
 
 sys.path.insert(0, str(support.TOP / "bench"))
 from random_circuits import made_circuit  # noqa: E402
@@ -24,7 +24,8 @@ def read_circuit(text: str) -> Circuit:
 
 
 def lacks_a_row(circuit: Circuit, gates: list[int]) -> bool:
-    """Whether the last of some gates lacks a row under an assignment of the wires that come to them, while the others have theirs."""
+    """Whether the last of some gates lacks a row under an assignment of the wires that come to them, while the others
+    have theirs."""
     made = {wire for number in gates for wire in circuit.gates[number].outs}
     cuts = sorted({wire for number in gates for wire in circuit.gates[number].ins} - made)
     rows = evaluate(circuit, cuts, gates).rows
@@ -35,7 +36,8 @@ class Keeps(unittest.TestCase):
     """Keeps that the greedy cone does not give."""
 
     def test_found_keeps_show_the_row(self) -> None:
-        """Some gates without a greedy keep get one, within the limits of a module, under which no row is missing; the others are said to get none."""
+        """Some gates without a greedy keep get one, within the limits of a module, under which no row is missing; the
+        others are said to get none."""
         found = missed = 0
         for seed in range(1, 7):
             circuit = read_circuit(made_circuit("any", 100, 8, seed))
@@ -58,14 +60,16 @@ class Keeps(unittest.TestCase):
         self.assertGreater(missed, 0)
 
     def test_necessary_gates(self) -> None:
-        """In small circuits the necessary gates are those without which some row is missing, by all assignments; more gates never show less."""
+        """In small circuits the necessary gates are those without which some row is missing, by all assignments; more
+        gates never show less."""
         count, seed = 0, random.randrange(10**6)
         for index in range(40):
             circuit = read_circuit(made_circuit("any", 24, 5, seed + index))
             for gate in (gate for gate in circuit.gates if gate.is_inverse):
                 search = KeepSearch(circuit, gate.number)
                 every = [*search.before, gate.number]
-                wanted = {number for number in search.before if lacks_a_row(circuit, [own for own in every if own != number])}
+                wanted = {number for number in search.before
+                          if lacks_a_row(circuit, [own for own in every if own != number])}
                 self.assertLessEqual(set(search.necessary()), wanted, f"seed {seed + index}")
                 count += len(search.necessary())
         self.assertGreater(count, 40)
@@ -77,8 +81,11 @@ class Keeps(unittest.TestCase):
             circuit = read_circuit(made_circuit("forward", 9, 4, index))
             search = KeepSearch(circuit, 8)
             core = frozenset({8, *chance.sample(search.before, min(len(search.before), 1))})
-            others = [number for number in circuit.cone([wire for number in core for wire in circuit.gates[number].ins])[1] if number not in core]
-            sets = (core | set(more) for count in range(len(others) + 1) for more in itertools.combinations(others, count))
+            others = [number
+                      for number in circuit.cone([wire for number in core for wire in circuit.gates[number].ins])[1]
+                      if number not in core]
+            sets = (core | set(more) for count in range(len(others) + 1)
+                    for more in itertools.combinations(others, count))
             least = min(len(search.cuts(gates)) for gates in sets)
             found = search.cut_off(core)
             self.assertTrue(core <= found)
@@ -87,9 +94,11 @@ class Keeps(unittest.TestCase):
         self.assertGreater(larger, 3)
 
     def test_why(self) -> None:
-        """If a row follows only from more gates than a module can use, that is said: here 70 delays of a wire that a switch made."""
+        """If a row follows only from more gates than a module can use, that is said: here 70 delays of a wire that a
+        switch made."""
         delays = "\n".join(f"delay 1 q{number} -> q{number + 1}" for number in range(70))
-        text = f"circuit\ninput a\ninput b\nswitch a b -> p q0 r\n{delays}\nunswitch p q70 r -> c d\noutput c\noutput d\nend\n"
+        text = (f"circuit\ninput a\ninput b\nswitch a b -> p q0 r\n{delays}\nunswitch p q70 r -> c d\noutput c\noutput "
+                "d\nend\n")
         circuit = read_circuit(text)
         self.assertIsNone(kept_cone(circuit, 71))
         self.assertIn(f"at least {MAX_USES} gates before it", why_not_kept(circuit, 71))

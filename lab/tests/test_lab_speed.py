@@ -15,26 +15,27 @@ from pathlib import Path
 from unittest import mock
 
 import support
-from bbmlab_core import designs, tracing
-from bbmlab_core.assigns import AssignReader
-from bbmlab_core.boxes import Box, clipped
-from bbmlab_core.certificates import CertificateReader
-from bbmlab_core.certify import Plan, certified
-from bbmlab_core.circuits import Circuit, CircuitReader, Gate, evaluate_samples, sampled_tables
+from bbmlab_core.certify.certifier import CertificatePlan, certified
 from bbmlab_core.cli import main
-from bbmlab_core.diagnosis import Diagnosis
-from bbmlab_core.documents import HEADER_LINE, HEADERS, Document
-from bbmlab_core.expected_lines import BorderCheck
-from bbmlab_core.explaining import explain_answer
-from bbmlab_core.fixing import Fixer
-from bbmlab_core.golly import golly_text
-from bbmlab_core.json_form import indented
-from bbmlab_core.layouts import Layout, LayoutReader, Part
-from bbmlab_core.lines import Form, Values, match_line, word_value
-from bbmlab_core.program import ask
-from bbmlab_core.simulation import Fault, ModuleRun, WholeRun, key_of, lowest_bit, run_layout
-from bbmlab_core.terminal import LabError
-from bbmlab_core.trials import Budget, Trial
+from bbmlab_core.explain.diagnosis import Diagnosis
+from bbmlab_core.explain.expected_lines import BorderCheck
+from bbmlab_core.explain.explaining import explain_answer
+from bbmlab_core.explain.fixing import Fixer
+from bbmlab_core.explain.trials import Budget, Trial
+from bbmlab_core.host.program import ask
+from bbmlab_core.host.terminal import LabError
+from bbmlab_core.physics import tracing
+from bbmlab_core.physics.simulation import Fault, ModuleRun, WholeRun, key_of, lowest_bit, run_layout
+from bbmlab_core.pictures.golly import golly_text
+from bbmlab_core.texts import designs
+from bbmlab_core.texts.assigns import AssignReader
+from bbmlab_core.texts.boxes import Box, clipped
+from bbmlab_core.texts.certificates import CertificateReader
+from bbmlab_core.texts.circuits import Circuit, CircuitReader, Gate, evaluate_samples, sampled_tables
+from bbmlab_core.texts.documents import HEADER_LINE, HEADERS, Document
+from bbmlab_core.texts.json_form import indented
+from bbmlab_core.texts.layouts import Layout, LayoutReader, Part
+from bbmlab_core.texts.lines import Form, Values, match_line, word_value
 
 # Memory in which the trace of a large layout fits.
 MEMORY = 400 << 20
@@ -47,9 +48,11 @@ def read(text: str) -> Document:
 
 def bundles() -> dict[str, Document]:
     """Returns the worked cases and examples that are read, with few steps, by their names."""
-    found = {case.name: read(case.input.decode("latin-1")) for case in support.worked_cases() if case.words[0] == "check" and len(case.input) < 9_000}
+    found = {case.name: read(case.input.decode("latin-1")) for case in support.worked_cases()
+             if case.words[0] == "check" and len(case.input) < 9_000}
     found |= {path.stem: read(path.read_text("latin-1")) for path in sorted(support.EXAMPLES.glob("*.txt"))}
-    return {name: document for name, document in found.items() if document.certificate and not document.refusal and document.layout and document.layout.steps <= 130}
+    return {name: document for name, document in found.items() if document.certificate and not document.refusal
+            and document.layout and document.layout.steps <= 130}
 
 
 def plain_least_fault(run: ModuleRun) -> Fault | None:
@@ -65,7 +68,8 @@ class Runs(unittest.TestCase):
     """What runs say."""
 
     def test_least_faults(self) -> None:
-        """The least fault of each module is that of a run that makes each step, also where lines with times are left out or changed."""
+        """The least fault of each module is that of a run that makes each step, also where lines with times are left
+        out or changed."""
         count = faults = 0
         chooser = random.Random(81)
         for name, document in bundles().items():
@@ -77,13 +81,15 @@ class Runs(unittest.TestCase):
                         lines = chooser.choice([kind for kind in (module.edges, module.halos, module.stops) if kind])
                         del lines[chooser.randrange(len(lines))]  # type: ignore[attr-defined]
                     wanted = plain_least_fault(ModuleRun(circuit, layout, certificate, module))
-                    self.assertEqual(ModuleRun(circuit, layout, certificate, module).least_fault(), wanted, (name, module.number))
+                    self.assertEqual(ModuleRun(circuit, layout, certificate, module).least_fault(), wanted,
+                                     (name, module.number))
                     count, faults = count + 1, faults + (wanted is not None)
         self.assertGreater(min(count, faults), 150)
 
     def test_quiet_modules(self) -> None:
         """A module in which nothing moves makes few of many steps."""
-        document = read("circuit\nsource 1 -> a\noutput a\nend\nlayout 16 16 65534\nmirror 2 5 4 2\nball 8 7\nball 9 7\nball 8 8\nball 9 8\nout a 8 7\nwaste 9 7\nwaste 8 8\n"
+        document = read("circuit\nsource 1 -> a\noutput a\nend\nlayout 16 16 65534\nmirror 2 5 4 2\nball 8 7\nball 9 "
+                        "7\nball 8 8\nball 9 8\nout a 8 7\nwaste 9 7\nwaste 8 8\n"
                         "waste 9 8\nend\ncertificate 2\nmodule 0 0 16 16\nuse 0\nend\n")
         self.assertIsNone(document.refusal)
         assert document.circuit and document.layout and document.certificate
@@ -114,8 +120,10 @@ class Runs(unittest.TestCase):
         """The tables of ring cells by time are those of a run that looks at all cells at each odd time."""
         for name, document in bundles().items():
             diagnosis = Diagnosis(document)
-            check, run = BorderCheck(diagnosis), WholeRun(diagnosis.layout, diagnosis.values.tables, diagnosis.values.full)
-            borders = {cell for module in diagnosis.certificate.modules for cell in module.box.ring() if not diagnosis.layout.is_rim(cell)}
+            check, run = BorderCheck(diagnosis), WholeRun(diagnosis.layout, diagnosis.values.tables,
+                                                          diagnosis.values.full)
+            borders = {cell for module in diagnosis.certificate.modules for cell in module.box.ring()
+                       if not diagnosis.layout.is_rim(cell)}
             wanted: dict[tuple[int, int], dict[int, int]] | None = {}
             while wanted is not None and run.time < diagnosis.layout.steps:
                 if run.time % 2:
@@ -131,12 +139,14 @@ def random_layout(chooser: random.Random) -> Layout:
     """Returns a layout of mirrors, some of which fall apart, and of balls."""
     free, parts = {(x, y) for x in range(20) for y in range(20)}, []
     for _ in range(chooser.randrange(1, 6)):
-        part = Part("mirror", None, chooser.randrange(2, 14), chooser.randrange(2, 14), chooser.randrange(1, 5), chooser.randrange(1, 5), 1)
+        part = Part("mirror", None, chooser.randrange(2, 14), chooser.randrange(2, 14), chooser.randrange(1, 5),
+                    chooser.randrange(1, 5), 1)
         if set(part.cells()) <= free:
             free -= set(part.cells())
             parts.append(part)
     cells = chooser.sample(sorted(free), chooser.randrange(1, 12))
-    parts += [Part("ball", None, *cell, 1, 1, 1) for cell in cells[::2]] + [Part("in", "pq"[x % 2], x, y, 1, 1, 1) for x, y in cells[1::2]]
+    parts += [Part("ball", None, *cell, 1, 1, 1) for cell in cells[::2]] + [Part("in", "pq"[x % 2], x, y, 1, 1, 1)
+                                                                            for x, y in cells[1::2]]
     return Layout(20, 20, chooser.randrange(1, 30), parts)
 
 
@@ -144,24 +154,33 @@ class ManyModules(unittest.TestCase):
     """What a layout of many modules asks for each of them."""
 
     def test_parts_of_a_box(self) -> None:
-        """The parts in a box are those that a look at all parts finds, clipped, and the look is at few of many parts."""
+        """The parts in a box are those that a look at all parts finds, clipped, and the look is at few of many parts.
+        """
         chooser = random.Random(82)
-        parts = [Part("mirror", None, chooser.randrange(990), chooser.randrange(990), chooser.choice((1, 2, 9, 90)), chooser.choice((1, 2, 9, 90)), 1) for _ in range(90)]
+        parts = [Part("mirror", None, chooser.randrange(990), chooser.randrange(990), chooser.choice((1, 2, 9, 90)),
+                      chooser.choice((1, 2, 9, 90)), 1) for _ in range(90)]
         layout = Layout(1000, 1000, 9, parts)
         every = [set(part.cells()) for part in parts]
         for _ in range(60):
-            box = Box(chooser.randrange(0, 990, 2), chooser.randrange(0, 990, 2), chooser.randrange(2, 66, 2), chooser.randrange(2, 66, 2))
+            box = Box(chooser.randrange(0, 990, 2), chooser.randrange(0, 990, 2), chooser.randrange(2, 66, 2),
+                      chooser.randrange(2, 66, 2))
             inside = set(box.cells())
             wanted = [sorted(cells & inside) for cells in every]
-            self.assertEqual([sorted(part.cells()) for part in clipped(layout, box).parts], [cells for cells in wanted if cells])
-            self.assertEqual(box.ring(), {(x, y) for x, y in box.cells() if {x - box.x, y - box.y} & {0} or x - box.x == box.width - 1 or y - box.y == box.height - 1})
-        grid = Layout(4096, 4096, 9, [Part("ball", None, x, y, 1, 1, 1) for x in range(0, 4096, 16) for y in range(0, 4096, 16)])
+            self.assertEqual([sorted(part.cells()) for part in clipped(layout, box).parts],
+                             [cells for cells in wanted if cells])
+            self.assertEqual(box.ring(),
+                             {(x, y) for x, y in box.cells() if {x - box.x, y - box.y} & {0}
+                              or x - box.x == box.width - 1 or y - box.y == box.height - 1})
+        grid = Layout(4096, 4096, 9,
+                      [Part("ball", None, x, y, 1, 1, 1) for x in range(0, 4096, 16) for y in range(0, 4096, 16)])
         self.assertLess(len(grid.parts_near(640, 640, 64, 64)), 50)
         grid.parts.append(Part("ball", None, 641, 641, 1, 1, 1))
-        self.assertEqual(clipped(grid, Box(640, 640, 4, 4)).parts, [grid.parts[640 // 16 * 256 + 640 // 16], grid.parts[-1]])
+        self.assertEqual(clipped(grid, Box(640, 640, 4, 4)).parts,
+                         [grid.parts[640 // 16 * 256 + 640 // 16], grid.parts[-1]])
 
     def test_samples(self) -> None:
-        """Column A of a table is bit A of its number, as in a sum of single bits; the columns with all rows are found once."""
+        """Column A of a table is bit A of its number, as in a sum of single bits; the columns with all rows are found
+        once."""
         names = [f"w{number}" for number in range(70)]
         tables = sampled_tables(names, 64, names[::3])
         columns = [{name for name in names if tables[name] >> column & 1} for column in range(64)]
@@ -176,12 +195,15 @@ class ManyModules(unittest.TestCase):
         self.assertIs(values.defined, values.defined)
 
     def test_golly_rows(self) -> None:
-        """Each sign of a Golly file is the state of its cell: 1 and 2 dead, 3 and 4 live, 1 and 3 upper left in a block at even times."""
+        """Each sign of a Golly file is the state of its cell: 1 and 2 dead, 3 and 4 live, 1 and 3 upper left in a block
+        at even times."""
         chooser = random.Random(83)
         live = {(chooser.randrange(30), chooser.randrange(20)) for _ in range(200)}
         body = golly_text(Layout(30, 20, 5), live, [], []).split("\n", 4)[-1].replace("\n", "").rstrip("!")
-        rows = ["".join(sign * int(count or 1) for count, sign in re.findall(r"(\d*)([A-D])", row)) for row in body.split("$")]
-        wanted = ["".join("ABCD"[(x % 2 or y % 2) + 2 * ((x, y) in live)] for x in range(-2, 32)) for y in range(-2, 22)]
+        rows = ["".join(sign * int(count or 1) for count, sign in re.findall(r"(\d*)([A-D])", row))
+                for row in body.split("$")]
+        wanted = ["".join("ABCD"[(x % 2 or y % 2) + 2 * ((x, y) in live)] for x in range(-2, 32))
+                  for y in range(-2, 22)]
         self.assertEqual(rows, wanted)
 
 
@@ -191,11 +213,14 @@ class Forms(unittest.TestCase):
     def test_lines(self) -> None:
         """A line fits a form if each of its words fits the placeholder there."""
         chance, counts = random.Random(3), Counter[bool]()
-        words = ["0", "1", "01", "17", "999999999", "1000000000", "*", "->", "a", "b_2", "_a", "A", "X", "TIME", "a" * 32, "a" * 33, "", "a\n", "1\r", "\xb2"]
-        for forms in (CircuitReader.forms, LayoutReader.forms, CertificateReader.all_forms, AssignReader.forms):
+        words = ["0", "1", "01", "17", "999999999", "1000000000", "*", "->", "a", "b_2", "_a", "A", "X", "TIME",
+                 "a" * 32, "a" * 33, "", "a\n", "1\r", "\xb2"]
+        for forms in (CircuitReader.forms, LayoutReader.forms, CertificateReader.forms, AssignReader.forms):
             for keyword, form in forms.items():
                 for _ in range(400):
-                    line = [keyword, *(place if place == "->" else chance.choice(words) for place in form[1:])][:chance.choice((9, 9, 2))]
+                    line = [keyword,
+                            *(place if place == "->" else chance.choice(words)
+                              for place in form[1:])][:chance.choice((9, 9, 2))]
                     found = match_line(" ".join(line), forms)
                     wanted = plain_values(line, form)
                     self.assertEqual(found, None if wanted is None else (keyword, wanted), line)
@@ -203,8 +228,10 @@ class Forms(unittest.TestCase):
         self.assertGreater(min(counts.values()), 100)
 
     def test_json(self) -> None:
-        """JSON is as Python's own module writes it with an indent of 1, and what a generator yields is written as a list."""
-        value = {"a": [], "b": {}, "c": [1, [2, "x\n\xe9\"", None], {"d": True, "e": [-1.5, {"f": [[]]}]}], "g": None, "\x85": [[1, 2], ["a", "b"]]}
+        """JSON is as Python's own module writes it with an indent of 1, and what a generator yields is written as a
+        list."""
+        value = {"a": [], "b": {}, "c": [1, [2, "x\n\xe9\"", None], {"d": True, "e": [-1.5, {"f": [[]]}]}], "g": None,
+                 "\x85": [[1, 2], ["a", "b"]]}
         self.assertEqual(indented(value, "\n"), json.dumps(value, indent=1))
         self.assertEqual(indented({"a": (part for part in [[1], {"b": 2}]), "c": (part for part in [])}, "\n"),
                          json.dumps({"a": [[1], {"b": 2}], "c": []}, indent=1))
@@ -212,7 +239,8 @@ class Forms(unittest.TestCase):
     def test_headers(self) -> None:
         """The sections of a text are those of its lines whose first word is a header, with any blanks around."""
         chance = random.Random(4)
-        parts = ["circuit", "layout", "assign", "certificate", "end", "x", "#", "layout2", *"\t\r\v\x1c\x85\xa0", *" " * 3, *"\n" * 6]
+        parts = ["circuit", "layout", "assign", "certificate", "end", "x", "#", "layout2", *"\t\r\v\x1c\x85\xa0",
+                 *" " * 3, *"\n" * 6]
         for _ in range(5000):
             text = "".join(chance.choice(parts) for _ in range(chance.randrange(1, 14)))
             lines = [line.strip().split(" ")[0] for line in text.split("\n")]
@@ -223,8 +251,9 @@ class Forms(unittest.TestCase):
         for words in (("trace", "--on", "p"), ("golly",)):
             read_sections = []
             right = CertificateReader.read
-            with mock.patch.object(designs, "LONG_TEXT", 0), mock.patch.object(CertificateReader, "read", lambda own: read_sections.append(right(own))), \
-                    contextlib.redirect_stdout(io.TextIOWrapper(io.BytesIO())), contextlib.redirect_stderr(io.StringIO()):
+            read = mock.patch.object(CertificateReader, "read", lambda own: read_sections.append(right(own)))
+            with (mock.patch.object(designs, "LONG_TEXT", 0), read, contextlib.redirect_stderr(io.StringIO()),
+                  contextlib.redirect_stdout(io.TextIOWrapper(io.BytesIO()))):
                 self.assertEqual(main([*words, support.example("four_modules")]), 0)
             self.assertEqual(read_sections, [], words)
 
@@ -244,13 +273,18 @@ class Once(unittest.TestCase):
     def test_one_reading_of_a_page(self) -> None:
         """`view` reads the text once, and `explain` compares the borders of its text once."""
         text = Path(support.example("wrong_edge")).read_text()
-        with tempfile.TemporaryDirectory() as room, mock.patch("bbmlab_core.certificates.CertificateReader.read", autospec=True, side_effect=CertificateReader.read) as reader:
+        with tempfile.TemporaryDirectory() as room, mock.patch("bbmlab_core.texts.certificates.CertificateReader.read",
+                                                               autospec=True,
+                                                               side_effect=CertificateReader.read) as reader:
             out = str(Path(room) / "page.html")
             with mock.patch("bbmlab_core.commands.view.trial_of", return_value=None):
-                self.assertEqual(main(["view", "--program", support.program(), support.example("wrong_edge"), "-o", out]), 0)
+                self.assertEqual(main(["view", "--program", support.program(), support.example("wrong_edge"), "-o",
+                                       out]), 0)
             self.assertEqual(reader.call_count, 1)
-        with mock.patch("bbmlab_core.expected_lines.BorderCheck.groups", autospec=True, side_effect=BorderCheck.groups) as groups:
-            explain_answer(text, "check", ask(support.program(), "check", text.encode()).output, "text", Trial(support.program()))
+        with mock.patch("bbmlab_core.explain.expected_lines.BorderCheck.groups", autospec=True,
+                        side_effect=BorderCheck.groups) as groups:
+            explain_answer(text, "check", ask(support.program(), "check", text.encode()).output, "text",
+                           Trial(support.program()))
         own = [call for call in groups.call_args_list if call.args[0].diagnosis.document.text == text]
         self.assertEqual(len(own), 1)
 
@@ -263,12 +297,14 @@ class Once(unittest.TestCase):
         fixer, diagnosis = Fixer(text, report, trial), Diagnosis(read(text))
         trial.budget = Budget(seconds=0)
         with mock.patch.object(fixer, "applied_or_none") as applied:
-            self.assertEqual([fixer.find_for(diagnosis, finding) for finding in report.faults], [None] * len(report.faults))
+            self.assertEqual([fixer.find_for(diagnosis, finding) for finding in report.faults],
+                             [None] * len(report.faults))
         self.assertEqual(applied.call_count, 0)
 
 
     def test_the_effort_is_that_of_the_search(self) -> None:
-        """What `explain` did before the search does not count, so that a large text gets its search too; in the studio it counts."""
+        """What `explain` did before the search does not count, so that a large text gets its search too; in the studio
+        it counts."""
         text = Path(support.example("wrong_edge")).read_text()
         output = ask(support.program(), "check", text.encode()).output
         for is_of_search in (True, False):
@@ -277,16 +313,18 @@ class Once(unittest.TestCase):
             self.assertEqual(explain_answer(text, "check", output, "text", trial).fix is not None, is_of_search)
 
     def test_no_run_goes_on_after_the_effort(self) -> None:
-        """No run of the search goes on when the time is over: the one that compares borders, and the one for another certificate, end at their first step."""
+        """No run of the search goes on when the time is over: the one that compares borders, and the one for another
+        certificate, end at their first step."""
         text = Path(support.example("wrong_edge")).read_text()
         document = read(text)
         diagnosis = Diagnosis(document)
         self.assertTrue(diagnosis.can_run_whole())
-        with mock.patch("bbmlab_core.expected_lines.WholeRun.step", autospec=True, side_effect=WholeRun.step) as step:
+        with mock.patch("bbmlab_core.explain.expected_lines.WholeRun.step", autospec=True,
+                        side_effect=WholeRun.step) as step:
             self.assertIsNone(BorderCheck(diagnosis, -1.0).seen)
             self.assertLessEqual(step.call_count, 1)
             with self.assertRaises(LabError):
-                certified(document, None, Plan(until=0.0))
+                certified(document, None, CertificatePlan(until=0.0))
             self.assertLessEqual(step.call_count, 2)
             self.assertIsNotNone(BorderCheck(Diagnosis(document), 30.0).seen)
             self.assertGreater(step.call_count, 5)
@@ -303,8 +341,10 @@ class Memory(unittest.TestCase):
             path = Path(room) / "mirrors.txt"
             path.write_text(text)
             for more in ([], ["--from", "490"]):
-                ended = subprocess.run([sys.executable, str(support.LAB / "bbmlab"), "trace", *more, "--program", "/nonexistent", str(path)], capture_output=True,
-                                       text=True, check=False, preexec_fn=lambda: resource.setrlimit(resource.RLIMIT_AS, (MEMORY, MEMORY)))
+                ended = subprocess.run([sys.executable, str(support.LAB / "bbmlab"), "trace", *more, "--program",
+                                        "/nonexistent", str(path)], capture_output=True,
+                                       text=True, check=False,
+                                       preexec_fn=lambda: resource.setrlimit(resource.RLIMIT_AS, (MEMORY, MEMORY)))
                 self.assertIn(ended.returncode, (0, 1), ended.stderr)
                 self.assertNotIn("dead mirror cells", ended.stdout)
                 self.assertEqual(ended.stderr[:42], "bbmlab: the last state was not compared: t")

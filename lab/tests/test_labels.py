@@ -1,4 +1,6 @@
-"""Names of ports: in the pictures of `draw` they cover no port of another and no other name; and the page places them by the same rules."""
+"""Names of ports: in the pictures of `draw` they cover no port of another and no other name; and the page places them
+by the same rules.
+"""
 
 import unittest
 import xml.etree.ElementTree as ET
@@ -6,13 +8,14 @@ from pathlib import Path
 
 import support
 from bbmlab_core.commands.draw import picture_of
-from bbmlab_core.designs import read_design
-from bbmlab_core.label_places import Name, Rect, place_names
+from bbmlab_core.pictures.label_places import Name, Rect, place_names
+from bbmlab_core.texts.designs import read_design
 
 SVG = "{http://www.w3.org/2000/svg}"
 # Less than the width of any bold letter, as a part of the size, so that names that meet here meet in any font.
 LEAST_WIDTH = 0.5
-BUNDLES = ["examples/full_adder.txt", "examples/fredkin_gate.txt", "examples/machine_full_adder.txt", "examples/timed_modules.txt",
+BUNDLES = ["examples/full_adder.txt", "examples/fredkin_gate.txt", "examples/machine_full_adder.txt",
+           "examples/timed_modules.txt",
            "lab/cells/crossing.txt", "lab/cells/half_adder.txt"]
 
 
@@ -33,8 +36,10 @@ def covered(picture: str, size: float) -> list[str]:
     names = [(part.text or "", name_box(part, size)) for part in root.iter(f"{SVG}text") if part.get("class") == "name"]
     ports = [Rect(number(part, "x"), number(part, "y"), number(part, "width"), number(part, "height"))
              for part in root.iter(f"{SVG}rect") if part.get("class") in ("in", "out")]
-    found = [f"{text} covers the port at {port.x}, {port.y}" for text, box in names for port in ports if box.shared(port) > 0.5]
-    found += [f"{text} covers {other}" for index, (text, box) in enumerate(names) for other, rect in names[:index] if box.shared(rect) > 0.5]
+    found = [f"{text} covers the port at {port.x}, {port.y}" for text,
+             box in names for port in ports if box.shared(port) > 0.5]
+    found += [f"{text} covers {other}" for index, (text, box) in enumerate(names) for other,
+              rect in names[:index] if box.shared(rect) > 0.5]
     return found
 
 

@@ -1,4 +1,6 @@
-"""The two limits of texts: each at its last value and one beyond, with the line `limits 2` and without it (docs/FORMATS.md)."""
+"""The two limits of texts: each at its last value and one beyond, with the line `limits 2` and without it
+(docs/FORMATS.md).
+"""
 
 import json
 import shutil
@@ -11,14 +13,17 @@ from pathlib import Path
 from typing import Callable
 
 import support
-from bbmlab_core import golly, json_form, tracing, viewing
-from bbmlab_core.boxes import Box
-from bbmlab_core.certify import Plan, certified
-from bbmlab_core.documents import Document, read_document
-from bbmlab_core.limits import FIRST, SECOND
-from bbmlab_core.receipts import section_digests
-from bbmlab_core.refusals import explain_refusal, refusal_words
-from bbmlab_core.spelling import spelled
+from bbmlab_core.certify.certifier import CertificatePlan, certified
+from bbmlab_core.farm.receipts import section_digests
+from bbmlab_core.physics import tracing
+from bbmlab_core.pictures import golly
+from bbmlab_core.texts import json_form
+from bbmlab_core.texts.boxes import Box
+from bbmlab_core.texts.documents import Document, read_document
+from bbmlab_core.texts.limits import FIRST, SECOND
+from bbmlab_core.texts.refusals import explain_refusal, refusal_words
+from bbmlab_core.texts.spelling import spelled
+from bbmlab_core.view import viewing
 
 sys.path.insert(0, str(support.LAB / "public"))
 import bbmlab  # noqa: E402
@@ -26,7 +31,8 @@ from bbmlab._reading import characters  # noqa: E402
 
 LINE = "limits 2\n"
 # The last value without the line, and with it (docs/FORMATS.md, Limits).
-SIDE, STEPS, MODULES, GATES, WIRES, BYTES = (512, 4096), (65_536, 1_048_576), (1024, 65_536), (1024, 16_384), (4096, 65_000), (16_777_216, 268_435_456)
+SIDE, STEPS, MODULES, GATES, WIRES, BYTES = ((512, 4096), (65_536, 1_048_576), (1024, 65_536), (1024, 16_384),
+                                             (4096, 65_000), (16_777_216, 268_435_456))
 EMPTY = "circuit\nend\n"
 
 
@@ -38,13 +44,15 @@ def layout(width: int = 2, height: int = 2, steps: int = 0, *parts: str) -> str:
 def gates(count: int) -> str:
     """Returns a circuit of some sources."""
     names = [f"w{number}" for number in range(count)]
-    return "\n".join(["circuit", *(f"source 0 -> {name}" for name in names), *(f"spill {name}" for name in names), "end"]) + "\n"
+    return "\n".join(["circuit", *(f"source 0 -> {name}" for name in names), *(f"spill {name}" for name in names),
+                      "end"]) + "\n"
 
 
 def wires(count: int) -> str:
     """Returns a circuit of some inputs that are outputs."""
     names = [f"w{number}" for number in range(count)]
-    return "\n".join(["circuit", *(f"input {name}" for name in names), *(f"output {name}" for name in names), "end"]) + "\n"
+    return "\n".join(["circuit", *(f"input {name}" for name in names), *(f"output {name}" for name in names),
+                      "end"]) + "\n"
 
 
 def modules(count: int) -> str:
@@ -59,7 +67,8 @@ def small_boxes(width: int, height: int) -> list[Box]:
     return [Box(x, y, 2, min(4, height - y)) for y in range(0, height, 4) for x in range(0, width, 2)]
 
 
-# For each limit its two values, the next value that is refused, the text of a value, the command, and the line that is refused without `limits 2`.
+# For each limit its two values, the next value that is refused, the text of a value, the command, and the line that is
+# refused without `limits 2`.
 Case = tuple[tuple[int, int], int, Callable[[int], str], str, Callable[[int], int]]
 CASES: dict[str, Case] = {
     "width": (SIDE, 2, lambda side: layout(side), "layout", lambda _: 1),
@@ -80,7 +89,8 @@ class Values(unittest.TestCase):
     """The last value of each limit, and the one after it."""
 
     def test_last_value_and_one_beyond(self) -> None:
-        """The last value is taken, and the next is refused with code 2 at the line that makes it so; `limits 2` counts as line 1."""
+        """The last value is taken, and the next is refused with code 2 at the line that makes it so; `limits 2` counts
+        as line 1."""
         for name, ((low, high), step, maker, command, line) in CASES.items():
             with self.subTest(name):
                 self.assertIsNone(refusal_of(maker(low), command))
@@ -90,12 +100,14 @@ class Values(unittest.TestCase):
                 self.assertEqual(refusal_of(LINE + maker(high + step), command), f"refused {1 + line(high + step)} 2")
 
     def test_mirrors(self) -> None:
-        """A mirror of the largest side is taken, one longer is refused with code 2 before it is outside the rectangle."""
+        """A mirror of the largest side is taken, one longer is refused with code 2 before it is outside the rectangle.
+        """
         for front, most in (("", SIDE[0]), (LINE, SIDE[1])):
             for turned in (False, True):
                 shape = (lambda side: f"mirror 0 0 1 {side}") if turned else (lambda side: f"mirror 0 0 {side} 1")
                 self.assertIsNone(refusal_of(front + layout(most, most, 0, shape(most)), "layout"))
-                self.assertEqual(refusal_of(front + layout(most, most, 0, shape(most + 1)), "layout"), f"refused {2 + bool(front)} 2")
+                self.assertEqual(refusal_of(front + layout(most, most, 0, shape(most + 1)), "layout"),
+                                 f"refused {2 + bool(front)} 2")
 
     def test_modules(self) -> None:
         """The last module is taken, and one more is refused with code 2."""
@@ -114,16 +126,21 @@ class Values(unittest.TestCase):
                 characters(text + "x")
 
     def test_small_texts_of_large_layouts(self) -> None:
-        """A mirror over the whole of the largest layout, and a module that is missing there, take little time and memory."""
+        """A mirror over the whole of the largest layout, and a module that is missing there, take little time and
+        memory."""
         begun = time.process_time()
         self.assertIsNone(refusal_of(LINE + layout(4096, 4096, 0, "mirror 0 0 4096 4096"), "layout"))
-        self.assertEqual(refusal_of(LINE + layout(4096, 4096, 0, "mirror 0 0 4096 4096", "ball 4095 4095"), "layout"), "refused 4 7")
-        self.assertEqual(refusal_of(LINE + EMPTY + layout(4096, 4096) + "certificate 2\nmodule 0 0 64 64\nend\n"), "refused 8 11")
+        self.assertEqual(refusal_of(LINE + layout(4096, 4096, 0, "mirror 0 0 4096 4096", "ball 4095 4095"), "layout"),
+                         "refused 4 7")
+        self.assertEqual(refusal_of(LINE + EMPTY + layout(4096, 4096) + "certificate 2\nmodule 0 0 64 64\nend\n"),
+                         "refused 8 11")
         self.assertLess(time.process_time() - begun, 2.0)
 
     def test_all_else_is_as_before(self) -> None:
-        """A box of 66 cells, the thirteenth cut, a delay of 4097 steps and a name of 33 bytes are refused with the line too."""
-        self.assertEqual(refusal_of(LINE + EMPTY + layout(128, 2) + "certificate 2\nmodule 0 0 66 2\nend\n"), "refused 7 2")
+        """A box of 66 cells, the thirteenth cut, a delay of 4097 steps and a name of 33 bytes are refused with the line
+        too."""
+        self.assertEqual(refusal_of(LINE + EMPTY + layout(128, 2) + "certificate 2\nmodule 0 0 66 2\nend\n"),
+                         "refused 7 2")
         self.assertEqual(refusal_of(LINE + "circuit\ninput a\ndelay 4097 a -> b\n", "circuit"), "refused 4 2")
         self.assertEqual(refusal_of(LINE + f"circuit\ninput {'a' * 33}\n", "circuit"), "refused 3 1")
 
@@ -133,7 +150,8 @@ class Line(unittest.TestCase):
 
     def test_other_first_lines(self) -> None:
         """Other numbers and other spellings are refused as any first line that begins no section."""
-        for line in ("limits 1", "limits 3", "limits 02", "limits", "limits 2 ", " limits 2", "limits  2", "limits 2\r", "Limits 2", "limits two"):
+        for line in ("limits 1", "limits 3", "limits 02", "limits", "limits 2 ", " limits 2", "limits  2", "limits 2\r",
+                     "Limits 2", "limits two"):
             for command in ("check", "run", "value", "modules", "migrate"):
                 self.assertEqual(refusal_of(f"{line}\n{EMPTY}", command), "refused 1 1", line)
         self.assertEqual(refusal_of("limits 2", "check"), "refused 1 12")
@@ -174,10 +192,14 @@ class Forms(unittest.TestCase):
         self.assertEqual(spelled(text).text, text)
         self.assertEqual(spelled(f"\ufeff# large\n\n  limits   02 # as below\r\n{EMPTY}{layout(514)}").text, text)
         self.assertEqual(spelled(LINE + LINE + EMPTY).text, LINE + LINE + EMPTY)
-        self.assertEqual(spelled(LINE + "circuit\noutput a\ninput a\nend\n").text, LINE + "circuit\ninput a\noutput a\nend\n")
+        self.assertEqual(spelled(LINE + "circuit\noutput a\ninput a\nend\n").text,
+                         LINE + "circuit\ninput a\noutput a\nend\n")
 
     def test_json(self) -> None:
-        """A document has the member `limits` only if the text has the line, and gives the text again. Older documents have none."""
+        """A document has the member `limits` only if the text has the line, and gives the text again.
+
+        Older documents have none.
+        """
         for text in (EMPTY + layout(512), LINE + EMPTY + layout(512), LINE + EMPTY + layout(4096)):
             made = json_form.document_json(read_document(text), None)
             self.assertEqual(json.loads(made).get("limits"), 2 if text.startswith(LINE) else None)
@@ -220,21 +242,22 @@ class Forms(unittest.TestCase):
         """A certificate of a layout within the first limits comes without the line, and any other with it."""
         for side, has_line in ((512, False), (514, True)):
             for front in {"", LINE} if not has_line else {LINE}:
-                made = certified(read_document(front + EMPTY + layout(side, 4), "design"), None, Plan())
+                made = certified(read_document(front + EMPTY + layout(side, 4), "design"), None, CertificatePlan())
                 self.assertEqual(made.startswith(LINE), has_line)
                 self.assertIsNone(refusal_of(made))
-        tall = certified(read_document(EMPTY + layout(512, 512), "design"), [], Plan())
+        tall = certified(read_document(EMPTY + layout(512, 512), "design"), [], CertificatePlan())
         self.assertFalse(tall.startswith(LINE))
-        many = certified(read_document(EMPTY + layout(128, 130), "design"), small_boxes(128, 130), Plan())
+        many = certified(read_document(EMPTY + layout(128, 130), "design"), small_boxes(128, 130), CertificatePlan())
         self.assertTrue(many.startswith(LINE))
 
     def test_studio_has_the_same_numbers(self) -> None:
         """The table of the pages is that of the lab."""
         if shutil.which("node") is None:
             raise unittest.SkipTest("node is not installed (apt-get install nodejs)")
-        source = "".join((viewing.TEMPLATE / name).read_text() for name in viewing.ENGINE)
-        script = f"{source}\nconst {{ FIRST, SECOND }} = bbmlab.limits;\nconsole.log(JSON.stringify([FIRST, SECOND]));"
-        ended = subprocess.run(["node", "-e", script], capture_output=True, text=True, check=True)
+        script = f"""import {{ FIRST, SECOND }} from {json.dumps((viewing.TEMPLATE / "limits.js").as_uri())};
+console.log(JSON.stringify([FIRST, SECOND]));"""
+        ended = subprocess.run(["node", "--input-type=module", "-e", script], capture_output=True, text=True,
+                               check=True)
         told = [(own["line"], own["maxSide"], own["maxSteps"]) for own in json.loads(ended.stdout)]
         self.assertEqual(told, [(own.head.strip(), own.max_side, own.max_steps) for own in (FIRST, SECOND)])
 
@@ -242,13 +265,16 @@ class Forms(unittest.TestCase):
 class Runs(unittest.TestCase):
     """Runs of large layouts."""
 
-    TEXT = LINE + layout(4096, 4096, 40, "mirror 4081 4080 2 2", "mirror 1031 1030 2 2", "ball 4064 4064", "ball 1020 1020", "ball 4091 4000",
+    TEXT = LINE + layout(4096, 4096, 40, "mirror 4081 4080 2 2", "mirror 1031 1030 2 2", "ball 4064 4064",
+                         "ball 1020 1020", "ball 4091 4000",
                          "ball 45 4089", "ball 2044 1023")
 
     def test_cells_do_not_depend_on_their_place(self) -> None:
-        """Balls far from the corner fly as those near it do: a ball at an even cell goes right and down (Margolus 1984, block rule)."""
+        """Balls far from the corner fly as those near it do: a ball at an even cell goes right and down (Margolus 1984,
+        block rule)."""
         states = list(bbmlab.simulate(bbmlab.Layout(4096, 4096, 9).ball(4080, 2050)))
-        self.assertEqual([sorted(state.cells) for state in states], [[(4080 + time, 2050 + time)] for time in range(10)])
+        self.assertEqual([sorted(state.cells) for state in states],
+                         [[(4080 + time, 2050 + time)] for time in range(10)])
 
     def test_page_and_lab_agree(self) -> None:
         """The page's runs give the lab's states, up to the largest side."""
@@ -257,8 +283,8 @@ class Runs(unittest.TestCase):
         document = read_document(self.TEXT)
         assert document.layout
         data = {**json.loads(json_form.document_json(document, None)), "circuit": None, "certificate": None}
-        script, engine = support.LAB / "tests" / "run_states.js", viewing.TEMPLATE / "automaton.js"
-        ended = subprocess.run(["node", str(script), str(engine)], input=json.dumps([{"data": data, "on": [], "times": [0, 7, 40, 11]}]), text=True,
+        ended = subprocess.run(["node", str(support.LAB / "tests" / "run_states.js")],
+                               input=json.dumps([{"data": data, "on": [], "times": [0, 7, 40, 11]}]), text=True,
                                capture_output=True, check=True)
         wanted = tracing.trace_layout(document.layout, [], 0, 40).states
         for moment, cells in json.loads(ended.stdout)[0]["states"]:
@@ -284,7 +310,8 @@ class Program(unittest.TestCase):
         """`explain` proposes the line, which it tried."""
         path = support.program_of_limits_2()
         boxes = "".join(f"module {x} 0 64 2\n" for x in range(0, 1024, 64))
-        ended = support.lab("explain", "-", "--program", path, text=EMPTY + layout(1024, 2) + f"certificate 2\n{boxes}end\n")
+        ended = support.lab("explain", "-", "--program", path,
+                            text=EMPTY + layout(1024, 2) + f"certificate 2\n{boxes}end\n")
         self.assertIn("Add `limits 2` before the first line", ended.stdout + ended.stderr)
 
     def test_route_writes_the_line_only_if_asked(self) -> None:
@@ -293,7 +320,8 @@ class Program(unittest.TestCase):
         for side in ("512", "528"):
             with tempfile.TemporaryDirectory() as room:
                 made = Path(room) / "made.txt"
-                ended = support.lab("route", support.example("half_adder"), "--size", side, "-o", str(made), "--program", path)
+                ended = support.lab("route", support.example("half_adder"), "--size", side, "-o", str(made),
+                                    "--program", path)
                 self.assertEqual(ended.returncode, 0, ended.stderr)
                 self.assertIn("verdict yes", ended.stderr)
                 self.assertEqual(made.read_text().startswith(LINE), side == "528")

@@ -11,28 +11,31 @@ from pathlib import Path
 from unittest import mock
 
 import support
-from bbmlab_core import aiger_form, circuit_forms, line_forms
-from bbmlab_core.netlists import map_netlist
+from bbmlab_core.circuits import aiger_form, circuit_forms, line_forms
+from bbmlab_core.circuits.netlists import map_netlist
 from test_gate_text import random_text as random_gate_text
 from test_netlists import random_blif
 from test_reversible import Gate, qasm_text, random_gates, real_text
 from test_reworking import circuit_of, names, random_text, values_of
 
-FEW_TRIES = mock.patch("bbmlab_core.netlists.search.MAX_TRIES", 8)
+FEW_TRIES = mock.patch("bbmlab_core.circuits.netlists.search.MAX_TRIES", 8)
 
 
 def run_real(text: str, on: dict[str, bool]) -> dict[str, bool]:
     """Returns the outputs of a .real text by their names."""
     rows = [line.split() for line in text.splitlines() if not line.startswith("#")]
     heads = {row[0]: row[1:] for row in rows if row[0][0] == "."}
-    values = {line: on[name] if sign == "-" else sign == "1" for line, name, sign in zip(heads[".variables"], heads[".inputs"], heads[".constants"][0])}
+    values = {line: on[name] if sign == "-" else sign == "1" for line, name,
+              sign in zip(heads[".variables"], heads[".inputs"], heads[".constants"][0])}
     for word, *lines in (row for row in rows if row[0][0] != "."):
         count = 2 if word[0] == "f" else 1
         assert int(word[1:]) == len(lines) and word[0] in "tf"
         if all(values[line] for line in lines[:-count]):
             one, other = lines[-count], lines[-1]
-            values[one], values[other] = (values[other], values[one]) if count == 2 else (not values[one], not values[one])
-    return {name: values[line] for line, name, sign in zip(heads[".variables"], heads[".outputs"], heads[".garbage"][0]) if sign == "-"}
+            values[one], values[other] = (values[other],
+                                          values[one]) if count == 2 else (not values[one], not values[one])
+    return {name: values[line] for line, name, sign in zip(heads[".variables"], heads[".outputs"], heads[".garbage"][0])
+            if sign == "-"}
 
 
 def run_qasm(text: str, on: dict[str, bool]) -> dict[str, bool]:
@@ -87,20 +90,23 @@ class Written(unittest.TestCase):
             text = random_text(chance, chance.randint(1, 12))
             inputs, outputs, circuit = names(text, "input"), names(text, "output"), circuit_of(text)
             words |= {gate.word for gate in circuit.gates}
-            real, qasm, aiger = line_forms.real_text(circuit), line_forms.qasm_text(circuit), aiger_form.aiger_text(circuit)
+            real, qasm, aiger = line_forms.real_text(circuit), line_forms.qasm_text(circuit), aiger_form.aiger_text(
+                circuit)
             for bits in itertools.product((False, True), repeat=len(inputs)):
                 values = values_of(text, bits)
                 assert values is not None
                 wanted, on = {name: values[name] for name in outputs}, dict(zip(inputs, bits))
                 self.assertEqual(run_real(real, on), wanted, text)
                 # An output that is an input is measured into a bit of another name.
-                self.assertEqual(sorted(run_qasm(qasm, on).items()), sorted((f"{name}_2" if name in inputs else name, bit) for name, bit in wanted.items()))
+                self.assertEqual(sorted(run_qasm(qasm, on).items()),
+                                 sorted((f"{name}_2" if name in inputs else name, bit) for name, bit in wanted.items()))
                 self.assertEqual(run_aiger(aiger, bits), list(wanted.values()))
         self.assertEqual(words, {"source", "fredkin", "cswap", "interact", "switch", "delay", "unswitch", "uninteract"})
 
     def test_reserved_words(self) -> None:
         """Wires that are called as gates of OpenQASM get other names."""
-        circuit = circuit_of("circuit\ninput x\ninput cx\nswitch x cx -> y z measure\noutput y\noutput z\noutput measure\nend\n")
+        circuit = circuit_of("circuit\ninput x\ninput cx\nswitch x cx -> y z measure\noutput y\noutput z\noutput "
+                             "measure\nend\n")
         text = line_forms.qasm_text(circuit)
         self.assertEqual(run_qasm(text, {"x": True, "cx": True}), {"y_": True, "z_": True, "measure_": False})
         self.assertIn("qubit x_;\nqubit cx_;\n", text)
@@ -110,7 +116,8 @@ class Written(unittest.TestCase):
         with tempfile.TemporaryDirectory() as room:
             for form in ("blif", "aiger", "real", "qasm"):
                 path = str(Path(room) / form)
-                self.assertEqual(support.lab("circuit", "--to", form, support.example("half_adder"), "-o", path).returncode, 0)
+                self.assertEqual(support.lab("circuit", "--to", form, support.example("half_adder"), "-o",
+                                             path).returncode, 0)
                 done = support.lab("equal", support.example("half_adder"), path)
                 self.assertEqual((done.returncode, done.stdout), (0, "equal in all 4 choices of the inputs\n"), form)
 
@@ -128,14 +135,19 @@ def gates_blif(gates: list[Gate], lines: int, starts: list[str], ends: list[str]
         for number, target in enumerate(targets):
             own, other = (low, high) if number == 0 else (high, low)
             now[target] = f"n{at}_{target}"
-            rows += [f".names on{at} {own} {now[target]}", "01 1", "10 1"] if len(targets) == 1 else [f".names on{at} {own} {other} {now[target]}", "01- 1", "1-1 1"]
+            rows += [f".names on{at} {own} {now[target]}", "01 1",
+                     "10 1"] if len(targets) == 1 else [f".names on{at} {own} {other} {now[target]}", "01- 1", "1-1 1"]
     outs = [line for line in range(lines) if ends[line] == "-"]
     rows += [row for line in outs for row in (f".names {now[line]} o{line}", "1 1")]
-    return "\n".join([".model m", f".inputs {' '.join(f'x{line}' for line in inputs)}", f".outputs {' '.join(f'o{line}' for line in outs)}", *rows, ".end", ""])
+    return "\n".join([".model m", f".inputs {' '.join(f'x{line}' for line in inputs)}",
+                      f".outputs {' '.join(f'o{line}' for line in outs)}", *rows, ".end", ""])
 
 
 class Judged(unittest.TestCase):
-    """abc and yosys say that a circuit is equivalent to its source. Without them the lab's own comparison and the simulators remain."""
+    """abc and yosys say that a circuit is equivalent to its source.
+
+    Without them the lab's own comparison and the simulators remain.
+    """
 
     def setUp(self) -> None:
         """Looks for the programs."""
@@ -150,7 +162,8 @@ class Judged(unittest.TestCase):
         """Asks abc whether a source and a mapped circuit are equivalent."""
         (self.room / f"a.{suffix}").write_bytes(source.encode("latin-1"))
         (self.room / f"b.{form}").write_bytes(mapped.encode("latin-1"))
-        said = subprocess.run([str(self.abc), "-c", f"cec a.{suffix} b.{form}"], cwd=self.room, capture_output=True, text=True, check=False).stdout
+        said = subprocess.run([str(self.abc), "-c", f"cec a.{suffix} b.{form}"], cwd=self.room, capture_output=True,
+                              text=True, check=False).stdout
         self.assertIn("Networks are equivalent", said, source)
 
     def test_abc_of_blif_and_gates(self) -> None:
@@ -174,7 +187,8 @@ class Judged(unittest.TestCase):
     def is_read(self, text: str) -> bool:
         """Whether abc reads a BLIF text. It ends by an assertion of its own at some tables that are always 1."""
         (self.room / "c.blif").write_text(text)
-        return subprocess.run([str(self.abc), "-c", "read c.blif; strash"], cwd=self.room, capture_output=True, check=False).returncode == 0
+        return subprocess.run([str(self.abc), "-c", "read c.blif; strash"], cwd=self.room, capture_output=True,
+                              check=False).returncode == 0
 
     def test_abc_of_lines(self) -> None:
         """Random .real and OpenQASM texts, whose gates this file writes in BLIF."""
@@ -188,7 +202,8 @@ class Judged(unittest.TestCase):
                 text, starts, ends = qasm_text(chance, lines, gates, 3), ["-"] * lines, ["-"] * lines
             with FEW_TRIES:
                 circuit = circuit_of(map_netlist(text).text)
-            self.require_equivalent(gates_blif(gates, lines, starts, ends), "blif", renamed_blif(circuit_forms.blif_text(circuit), starts, ends))
+            self.require_equivalent(gates_blif(gates, lines, starts, ends), "blif",
+                                    renamed_blif(circuit_forms.blif_text(circuit), starts, ends))
 
     def test_yosys(self) -> None:
         """yosys proves the Verilog of a circuit equivalent to its source in BLIF."""
@@ -199,8 +214,10 @@ class Judged(unittest.TestCase):
                 circuit = circuit_of(map_netlist(source).text)
             (self.room / "a.blif").write_text(source)
             (self.room / "b.v").write_text(circuit_forms.verilog_text(circuit))
-            steps = ("read_blif a.blif; rename -top gold; design -stash gold; read_verilog b.v; rename -top gate; proc; design -stash gate; "
-                     "design -copy-from gold -as gold gold; design -copy-from gate -as gate gate; equiv_make gold gate equiv; hierarchy -top equiv; "
+            steps = ("read_blif a.blif; rename -top gold; design -stash gold; read_verilog b.v; rename -top gate; "
+                     "proc; design -stash gate; "
+                     "design -copy-from gold -as gold gold; design -copy-from gate -as gate gate; equiv_make gold gate "
+                     "equiv; hierarchy -top equiv; "
                      "opt_clean; equiv_simple; equiv_status -assert")
             done = subprocess.run(["yosys", "-p", steps], cwd=self.room, capture_output=True, text=True, check=False)
             self.assertEqual(done.returncode, 0, source + done.stdout[-1500:] + done.stderr)
@@ -208,9 +225,12 @@ class Judged(unittest.TestCase):
 
 
 def gate_blif(text: str, outputs: list[str]) -> str:
-    """Returns a text of plain gates in BLIF: a table of all rows for each gate. Outputs get the names of the circuit's."""
-    rows, rules = list[str](), {"and": all, "or": any, "nand": lambda b: not all(b), "nor": lambda b: not any(b), "xor": lambda b: sum(b) % 2,
-                                "xnor": lambda b: 1 - sum(b) % 2, "not": lambda b: not b[0], "buf": lambda b: b[0], "mux": lambda b: b[1] if b[0] else b[2]}
+    """Returns a text of plain gates in BLIF: a table of all rows for each gate. Outputs get the names of the circuit's.
+    """
+    rows, rules = list[str](), {"and": all, "or": any, "nand": lambda b: not all(b), "nor": lambda b: not any(b),
+                                "xor": lambda b: sum(b) % 2,
+                                "xnor": lambda b: 1 - sum(b) % 2, "not": lambda b: not b[0], "buf": lambda b: b[0],
+                                "mux": lambda b: b[1] if b[0] else b[2]}
     wanted = iter(outputs)
     inputs: list[str] = []
     for line in text.splitlines():
@@ -222,7 +242,8 @@ def gate_blif(text: str, outputs: list[str]) -> str:
         elif "->" in words:
             ins = words[1:-2]
             rows.append(" ".join([".names", *(f"n_{name}" for name in ins), f"n_{words[-1]}"]))
-            rows += ["".join(map(str, bits)) + " 1" for bits in itertools.product((0, 1), repeat=len(ins)) if rules[words[0]](bits)]
+            rows += ["".join(map(str, bits)) + " 1" for bits in itertools.product((0, 1), repeat=len(ins))
+                     if rules[words[0]](bits)]
     rows += [row for name in inputs for row in (f".names {name} n_{name}", "1 1")]
     return "\n".join([".model m", f".inputs {' '.join(inputs)}", f".outputs {' '.join(outputs)}", *rows, ".end", ""])
 
@@ -231,12 +252,15 @@ def renamed_blif(text: str, starts: list[str], ends: list[str]) -> str:
     """Returns a circuit in BLIF with the ports `x` and `o` of its lines."""
     rows = text.splitlines()
     ins, outs = rows[1].split()[1:], rows[2].split()[1:]
-    inputs, outputs = ([f"{stem}{line}" for line, sign in enumerate(signs) if sign == "-"] for stem, signs in (("x", starts), ("o", ends)))
-    body = [re.sub(r"[a-z_0-9]+", lambda word: f"c_{word[0]}", row[7:]) if row.startswith(".names") else row for row in rows[3:]]
+    inputs, outputs = ([f"{stem}{line}" for line, sign in enumerate(signs) if sign == "-"] for stem,
+                       signs in (("x", starts), ("o", ends)))
+    body = [re.sub(r"[a-z_0-9]+", lambda word: f"c_{word[0]}", row[7:]) if row.startswith(".names") else row
+            for row in rows[3:]]
     tables = [f".names {own}" if row.startswith(".names") else row for row, own in zip(rows[3:], body)][:-1]
     joins = [row for outer, inner in zip(inputs, ins) for row in (f".names {outer} c_{inner}", "1 1")]
     joins += [row for outer, inner in zip(outputs, outs) for row in (f".names c_{inner} {outer}", "1 1")]
-    return "\n".join([".model m", f".inputs {' '.join(inputs)}", f".outputs {' '.join(outputs)}", *tables, *joins, ".end", ""])
+    return "\n".join([".model m", f".inputs {' '.join(inputs)}", f".outputs {' '.join(outputs)}", *tables, *joins,
+                      ".end", ""])
 
 
 if __name__ == "__main__":

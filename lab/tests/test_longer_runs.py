@@ -1,18 +1,22 @@
-"""How much earlier the balls of a standard cell can start, and for how long they fly on after the end, as docs/CELLS.md says."""
+"""How much earlier the balls of a standard cell can start, and for how long they fly on after the end, as docs/CELLS.md
+says.
+"""
 
 import itertools
 import unittest
 
 import support
-from bbmlab_core.circuits import values_under
-from bbmlab_core.documents import read_document
-from bbmlab_core.layouts import Cell
-from bbmlab_core.longer_runs import longer_runs
-from bbmlab_core.program import ask
-from bbmlab_core.standard_cells import StandardCell, cell_names, longer_runs_text, parts_of, read_cell
+from bbmlab_core.host.program import ask
+from bbmlab_core.physics.longer_runs import longer_runs
+from bbmlab_core.texts.circuits import values_under
+from bbmlab_core.texts.documents import read_document
+from bbmlab_core.texts.layouts import Cell
+from bbmlab_core.physics.standard_cells import StandardCell, cell_names, longer_runs_text, parts_of, read_cell
 
-# The cells in which not every longer run is good: the most steps by which all balls can start earlier, and for which they fly on.
-LIMITS = {"uninteract": (1, None), "unswitch": (3, None), "fredkin_inverse": (5, None), "cswap_inverse": (5, None), "fredkin": (None, 7),
+# The cells in which not every longer run is good: the most steps by which all balls can start earlier, and for which
+# they fly on.
+LIMITS = {"uninteract": (1, None), "unswitch": (3, None), "fredkin_inverse": (5, None), "cswap_inverse": (5, None),
+          "fredkin": (None, 7),
           "cswap": (None, 7), "or": (None, 7), "xor": (8, 0), "half_adder": (8, 0), "full_adder": (0, 0)}
 # How much is tried of a cell without a limit.
 MANY = 31
@@ -31,7 +35,8 @@ def longer_layout(cell: StandardCell, before: int, after: int) -> str:
     """
     layout, _ = parts_of(cell.document)
     room = before + after + (after % 2) + 2
-    lines = [f"layout {(layout.width + 2 * room + 1) // 2 * 2} {(layout.height + 2 * room + 1) // 2 * 2} {layout.steps + before + after}"]
+    lines = [f"layout {(layout.width + 2 * room + 1) // 2 * 2} {(layout.height + 2 * room + 1) // 2 * 2} "
+             f"{layout.steps + before + after}"]
     for part in layout.parts:
         x, y = part.cell
         if part.kind == "mirror":
@@ -54,7 +59,8 @@ def is_good(program: str, cell: StandardCell, before: int, after: int) -> bool:
         on = {wire for wire, bit in zip(circuit.inputs, bits) if bit}
         assign = "\n".join(["assign", *(f"on {name}" for name in sorted(on)), "end", ""])
         answer = ask(program, "run", (text + assign).encode())
-        live = {(int(x), int(y)) for x, y in (line.split() for line in answer.output.splitlines()[1:])} if answer.status == 0 else set()
+        live = {(int(x), int(y)) for x,
+                y in (line.split() for line in answer.output.splitlines()[1:])} if answer.status == 0 else set()
         values, _ = values_under(circuit, on)
         outs = {part.cell for part in layout.of_kind("out") if values[part.name or ""]}
         if live - wastes != mirrors | outs:

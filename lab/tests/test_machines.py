@@ -1,4 +1,6 @@
-"""The released machines of examples/machines: what they compute, by the lab's run under sampled inputs and by the program."""
+"""The released machines of examples/machines: what they compute, by the lab's run under sampled inputs and by the
+program.
+"""
 
 import lzma
 import random
@@ -7,10 +9,10 @@ import sys
 import unittest
 
 import support
-from bbmlab_core.circuits import Circuit, values_under
-from bbmlab_core.documents import Document, read_document
-from bbmlab_core.layouts import Layout
-from bbmlab_core.simulation import WholeRun, key_of
+from bbmlab_core.physics.simulation import WholeRun, key_of
+from bbmlab_core.texts.circuits import Circuit, values_under
+from bbmlab_core.texts.documents import Document, read_document
+from bbmlab_core.texts.layouts import Layout
 
 sys.path.insert(0, str(support.TOP / "bench"))
 from random_circuits import ripple_adder  # noqa: E402
@@ -28,7 +30,8 @@ def number_of(names: list[str], on: set[str]) -> int:
 
 def sum_of_adder_4(on: set[str]) -> dict[str, bool]:
     """Returns the outputs of the adder of two numbers of four bits and a carry."""
-    total = number_of([f"a{bit}" for bit in range(4)], on) + number_of([f"b{bit}" for bit in range(4)], on) + ("c0" in on)
+    total = number_of([f"a{bit}" for bit in range(4)], on) + number_of([f"b{bit}" for bit in range(4)],
+                                                                       on) + ("c0" in on)
     return {name: bool(total >> bit & 1) for bit, name in enumerate(["s0", "s1", "s2", "s3", "c4"])}
 
 
@@ -64,7 +67,8 @@ class Machines(unittest.TestCase):
     def choices(self, circuit: Circuit, seed: int) -> list[set[str]]:
         """Returns choices of the inputs: none, all, and others at random."""
         chance = random.Random(seed)
-        return [set(), set(circuit.inputs)] + [{name for name in circuit.inputs if chance.random() < 0.5} for _ in range(SAMPLES - 2)]
+        return [set(), set(circuit.inputs)] + [{name for name in circuit.inputs if chance.random() < 0.5}
+                                               for _ in range(SAMPLES - 2)]
 
     def test_circuits_compute_their_arithmetic(self) -> None:
         """The circuit of each machine adds or multiplies."""
@@ -81,7 +85,8 @@ class Machines(unittest.TestCase):
         for name, rule in RULES.items():
             _, circuit, layout = self.read(name)
             choices = self.choices(circuit, seed)
-            tables = {wire: sum(1 << column for column, on in enumerate(choices) if wire in on) for wire in circuit.inputs}
+            tables = {wire: sum(1 << column for column, on in enumerate(choices) if wire in on)
+                      for wire in circuit.inputs}
             run = WholeRun(layout, tables, (1 << SAMPLES) - 1)
             self.assertTrue(run.run_to(layout.steps))
             for part in layout.of_kind("out"):

@@ -13,20 +13,22 @@ from pathlib import Path
 from unittest import mock
 
 import support
-from bbmlab_core import golly, json_form
-from bbmlab_core.boxes import Box
-from bbmlab_core.certificates import Module
-from bbmlab_core.certify import Maker, NoBoxError, Plan, certified, checked_boxes
-from bbmlab_core.drawing import centre, module_parts
-from bbmlab_core.program import ask
-from bbmlab_core.reports import parse_report
-from bbmlab_core.simulation import run_layout
-from bbmlab_core.spelling import spelled
-from bbmlab_core.terminal import LabError
-from bbmlab_core.ways import joined_pieces
+from bbmlab_core.certify.certifier import Maker, NoBoxError, CertificatePlan, certified, checked_boxes
+from bbmlab_core.host.program import ask
+from bbmlab_core.host.terminal import LabError
+from bbmlab_core.physics.simulation import run_layout
+from bbmlab_core.pictures import golly
+from bbmlab_core.pictures.drawing import centre, module_parts
+from bbmlab_core.pictures.ways import joined_pieces
+from bbmlab_core.texts import json_form
+from bbmlab_core.texts.boxes import Box
+from bbmlab_core.texts.certificates import Module
+from bbmlab_core.texts.reports import parse_report
+from bbmlab_core.texts.spelling import spelled
 
 # Examples, and grids by which they have a certificate.
-GRIDS = [("fredkin_gate", (14, 14)), ("full_adder", (26, 34)), ("timed_modules", (4, 4)), ("gate_and_mirror", (8, 12)), ("not_gate", (6, 6)),
+GRIDS = [("fredkin_gate", (14, 14)), ("full_adder", (26, 34)), ("timed_modules", (4, 4)), ("gate_and_mirror", (8, 12)),
+         ("not_gate", (6, 6)),
          ("delay_line", (4, 4)), ("there_and_back", (2, 2)), ("meeting", (4, 4)), ("head_on_bundle", (4, 4))]
 
 
@@ -44,7 +46,7 @@ class Certificates(unittest.TestCase):
         for name, grid in GRIDS:
             for version in (1, 2):
                 for cuts in ("safe", "auto"):
-                    text = by_grid(name, grid, Plan(version, cuts))
+                    text = by_grid(name, grid, CertificatePlan(version, cuts))
                     with self.subTest(f"{name} {grid} {version} {cuts}"):
                         self.assertIn("verdict yes", ask(support.program(), "check", text.encode()).output)
 
@@ -56,8 +58,9 @@ class Certificates(unittest.TestCase):
 
     def test_says_why_there_is_none(self) -> None:
         """Where a cell has the value of no wire, that is said with time and cell: here c without x goes to (8, 10)."""
-        with self.assertRaisesRegex(LabError, r"at time 1 the cell \(8, 10\) is live with `c` on, and no wire of the circuit is true in just"):
-            by_grid("fredkin_gate", (10, 10), Plan())
+        with self.assertRaisesRegex(LabError, r"at time 1 the cell \(8, 10\) is live with `c` on, and no wire of the "
+                                    r"circuit is true in just"):
+            by_grid("fredkin_gate", (10, 10), CertificatePlan())
 
     def test_no_box_is_tried_twice(self) -> None:
         """If no certificate is found no box was tried twice, though both orders of cuts lead to it."""
@@ -70,33 +73,38 @@ class Certificates(unittest.TestCase):
                     raise NoBoxError("not here")
                 return right(self, box)
 
-            with self.subTest(name), mock.patch.object(Maker, "module", module), self.assertRaisesRegex(LabError, "no certificate was found: not here"):
+            with (self.subTest(name), mock.patch.object(Maker, "module", module),
+                  self.assertRaisesRegex(LabError, "no certificate was found: not here")):
                 tried.clear()
-                certified(design(name), None, Plan())
+                certified(design(name), None, CertificatePlan())
             self.assertGreater(len(tried), 20)
             self.assertEqual(max(tried.values()), 1)
 
     def test_wires_with_equal_values(self) -> None:
-        """If no certificate is found, wires that have the values of an earlier one are counted: here b and c are true if and only if a is."""
+        """If no certificate is found, wires that have the values of an earlier one are counted: here b and c are true
+        if and only if a is."""
         text = "circuit\ninput a\nsource 1 -> k\nswitch a k -> b c d\noutput b\noutput c\noutput d\nend\n"
         routed = support.lab("route", "-", "--program", support.program(), text=text).stdout
         document = support.read_document(routed.split("certificate ")[0], "design")
         with mock.patch.object(Maker, "module", side_effect=NoBoxError("not here")):
-            with self.assertRaisesRegex(LabError, "not here. 2 of 5 wires have the values of an earlier one in all 2 choices of the inputs, as `b` has those of `a`"):
-                certified(document, None, Plan())
+            with self.assertRaisesRegex(LabError, "not here. 2 of 5 wires have the values of an earlier one in all 2 "
+                                        "choices of the inputs, as `b` has those of `a`"):
+                certified(document, None, CertificatePlan())
             with self.assertRaisesRegex(LabError, "not here$"):
-                certified(support.read_document("circuit\ninput a\noutput a\nend\nlayout 8 8 0\nin a 4 4\nout a 4 4\nend\n", "design"), None, Plan())
+                certified(support.read_document("circuit\ninput a\noutput a\nend\nlayout 8 8 0\nin a 4 4\nout a 4 "
+                                                "4\nend\n", "design"), None, CertificatePlan())
 
     def test_own_boxes_avoid_cells_without_a_wire(self) -> None:
         """Without a grid the lab finds boxes by itself, though a grid of 10 by 10 cells has no certificate."""
         for name, _ in GRIDS:
             for version in (1, 2):
-                text = certified(design(name), None, Plan(version))
+                text = certified(design(name), None, CertificatePlan(version))
                 with self.subTest(f"{name} {version}"):
                     self.assertIn("verdict yes", ask(support.program(), "check", text.encode()).output)
 
     def test_many_inputs(self) -> None:
-        """With 360 inputs no assignment can be tried by itself; the certificate gets a yes, and its stops and its boxes can be kept."""
+        """With 360 inputs no assignment can be tried by itself; the certificate gets a yes, and its stops and its boxes
+        can be kept."""
         text = (support.TOP / "conformance" / "data" / "trains_36_cut_v1.txt").read_text()
         with tempfile.TemporaryDirectory() as room:
             file, boxes = Path(room) / "trains.txt", Path(room) / "boxes.txt"
@@ -109,7 +117,7 @@ class Certificates(unittest.TestCase):
 
     def test_auto_uses_fewer_gates(self) -> None:
         """Cuts at wires that come in use fewer gates somewhere than safe cuts."""
-        safe, auto = (by_grid("gate_and_mirror", (8, 12), Plan(2, cuts)) for cuts in ("safe", "auto"))
+        safe, auto = (by_grid("gate_and_mirror", (8, 12), CertificatePlan(2, cuts)) for cuts in ("safe", "auto"))
         self.assertLess(auto.count("\nuse "), safe.count("\nuse "))
 
     def test_own_stops_are_kept(self) -> None:
@@ -120,7 +128,10 @@ class Certificates(unittest.TestCase):
         self.assertEqual(stops[0], stops[1])
 
     def test_status_without_a_verdict(self) -> None:
-        """Without a yes of the program the status is not 0, even if the program ends with status 0. The bundle is written all the same."""
+        """Without a yes of the program the status is not 0, even if the program ends with status 0.
+
+        The bundle is written all the same.
+        """
         for program, message in (("/no/such/program", "was not checked"), (shutil.which("true"), "gave no verdict")):
             if program is None:
                 self.skipTest("there is no command `true`")
@@ -132,7 +143,7 @@ class Certificates(unittest.TestCase):
                 self.assertIn("\ncertificate 2\n", ended.stdout)
 
 
-def by_grid(name: str, grid: tuple[int, int], plan: Plan) -> str:
+def by_grid(name: str, grid: tuple[int, int], plan: CertificatePlan) -> str:
     """Returns an example with a certificate whose boxes are those of a grid."""
     document = design(name)
     assert document.layout is not None
@@ -174,7 +185,8 @@ def roughened(text: str, chooser: random.Random) -> str:
         chooser.shuffle(run)
         lines += [*run, line]
         run = []
-    rough = [f"  {line.replace(' ', chooser.choice([' ', '  ', chr(9)]))} # note {index}" for index, line in enumerate(lines) if line]
+    rough = [f"  {line.replace(' ', chooser.choice([' ', '  ', chr(9)]))} # note {index}" for index,
+             line in enumerate(lines) if line]
     return "\xef\xbb\xbf# first\r\n\r\n" + "\r\n".join(rough) + "\r\n\r\n"
 
 
@@ -192,7 +204,8 @@ class Json(unittest.TestCase):
     def test_report_is_in_it(self) -> None:
         """The report is in the document with its verdict and its lines."""
         report = parse_report("bbmcheck 1\ncertificate " + "0" * 64 + "\nmodules 1\nverdict no\nlocal 0 end 3 2 2 2\n")
-        text = json_form.document_json(support.read_document((support.EXAMPLES / "wrong_border.txt").read_text()), report)
+        text = json_form.document_json(support.read_document((support.EXAMPLES / "wrong_border.txt").read_text()),
+                                       report)
         self.assertIn('"verdict": "no"', text)
         self.assertIn('"assignment": 2', text)
 
@@ -215,7 +228,8 @@ class Golly(unittest.TestCase):
         """Golly's run of a pattern file has our live cells at each of some times."""
         if shutil.which("bgolly") is None:
             self.skipTest("Golly is not installed (apt-get install golly)")
-        for name, on in (("head_on", ["p", "q"]), ("off_a_mirror", ["a"]), ("fredkin_gate", ["c", "x"]), ("full_adder", ["a", "b"])):
+        for name, on in (("head_on", ["p", "q"]), ("off_a_mirror", ["a"]), ("fredkin_gate", ["c", "x"]),
+                         ("full_adder", ["a", "b"])):
             document = support.read_document((support.EXAMPLES / f"{name}.txt").read_text())
             for time in range(0, document.layout.steps + 1, max(1, document.layout.steps // 5)):
                 run = run_layout(document.layout, on)
@@ -238,9 +252,11 @@ def golly_run(document: support.Document, on: list[str], time: int) -> set:
         if time == 0:
             after = before
         else:
-            subprocess.run(["bgolly", "-q", "-q", "-a", "RuleLoader", "-s", "/usr/share/golly/Rules/", "-m", str(time), "-o", str(after), str(before)], check=True, capture_output=True)
+            subprocess.run(["bgolly", "-q", "-q", "-a", "RuleLoader", "-s", "/usr/share/golly/Rules/", "-m", str(time),
+                            "-o", str(after), str(before)], check=True, capture_output=True)
         # bgolly does not write where the pattern lies; its dead margin stays as it was.
-        return golly.live_cells(golly.golly_states(f"#CXRLE Pos={-golly.MARGIN},{-golly.MARGIN}\n" + after.read_text())[0])
+        return golly.live_cells(golly.golly_states(f"#CXRLE Pos={-golly.MARGIN},{-golly.MARGIN}\n"
+                                                   + after.read_text())[0])
 
 
 def legend_of(picture: str) -> list[str]:
@@ -256,15 +272,20 @@ class Pictures(unittest.TestCase):
         ended = support.lab("draw", support.example("gate_and_mirror"), "--on", "p,q", "--time", "2")
         root = ET.fromstring(ended.stdout)
         classes = [part.get("class") for part in root.iter() if part.get("class")]
-        self.assertEqual((classes.count("mirror"), classes.count("in"), classes.count("out"), classes.count("ball")), (1, 2, 4, 2))
+        self.assertEqual((classes.count("mirror"), classes.count("in"), classes.count("out"), classes.count("ball")),
+                         (1, 2, 4, 2))
 
     def test_equal_wires_share_a_way(self) -> None:
-        """The legend names the wires that are always equal: in a switch the output d is c. A ball of two cells has its name once."""
+        """The legend names the wires that are always equal: in a switch the output d is c.
+
+        A ball of two cells has its name once.
+        """
         ended = support.lab("draw", "--ways", support.example("machine_switch"))
         self.assertEqual(legend_of(ended.stdout), ["c, d", "x", "y", "z", "no wire"])
         self.assertEqual([ended.stdout.count(f">{name}<") for name in ("→c", "→x", "d→", "y→", "z→")], [1] * 5)
         # The tail of c, and the head of d, which flies left and up.
-        names = {part.text: (float(part.get("x")), float(part.get("y"))) for part in ET.fromstring(ended.stdout).iter() if part.get("class") == "name"}
+        names = {part.text: (float(part.get("x")), float(part.get("y"))) for part in ET.fromstring(ended.stdout).iter()
+                 if part.get("class") == "name"}
         layout = support.read_document((support.EXAMPLES / "machine_switch.txt").read_text()).layout
         for mark, kind, best in (("→c", "in", min), ("d→", "out", min)):
             cells = [part.cell for part in layout.of_kind(kind) if part.name == mark.strip("→")]
@@ -272,7 +293,8 @@ class Pictures(unittest.TestCase):
 
     def test_large_layouts_have_large_letters(self) -> None:
         """Letters grow with the layout, and many modules have no numbers."""
-        small, large = (support.lab("draw", "--ways", support.example(name)).stdout for name in ("machine_fredkin", "machine_full_adder"))
+        small, large = (support.lab("draw", "--ways", support.example(name)).stdout
+                        for name in ("machine_fredkin", "machine_full_adder"))
         self.assertNotIn("g.plan text{font-size", small)
         size = float(re.search(r"g\.plan text\{font-size:([\d.]+)px", large)[1])
         self.assertAlmostEqual(size, 7 * 144 / 64, delta=0.1)
@@ -286,7 +308,8 @@ class Pictures(unittest.TestCase):
         section = b"certificate" + Path(file).read_bytes().split(b"\ncertificate", 1)[1]
         for digest, status, count in [(hashlib.sha256(section).hexdigest(), 0, 2), ("0" * 64, 4, 0)]:
             with self.subTest(digest), tempfile.NamedTemporaryFile("w", suffix=".report") as report:
-                report.write(f"bbmcheck 1\ncertificate {digest}\nmodules 4\nverdict no\nlocal 0 end 3 2 2 2\nborder 0 1 4 4\n")
+                report.write(f"bbmcheck 1\ncertificate {digest}\nmodules 4\nverdict no\nlocal 0 end 3 2 2 2\nborder 0 "
+                             "1 4 4\n")
                 report.flush()
                 ended = support.lab("draw", file, "--report", report.name)
                 self.assertEqual((ended.returncode, ended.stdout.count('class="fault"')), (status, count))

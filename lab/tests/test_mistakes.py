@@ -1,4 +1,6 @@
-"""Mistakes of a user, and files and programs that are not what they should be: each gets a sentence and a status, and nothing is lost."""
+"""Mistakes of a user, and files and programs that are not what they should be: each gets a sentence and a status, and
+nothing is lost.
+"""
 
 import json
 import os
@@ -8,23 +10,24 @@ from pathlib import Path
 from unittest.mock import patch
 
 import support
-from bbmlab_core.certificates import Module
-from bbmlab_core.checking import files_below
-from bbmlab_core.designs import require_report_of
-from bbmlab_core.edits import add, applied, delete, edits_between
-from bbmlab_core.explaining import as_gcc, explain_answer
-from bbmlab_core.golly import layout_from_golly
-from bbmlab_core.own_report import certificate_digest
-from bbmlab_core.receipts import ReceiptError, parse_receipt
-from bbmlab_core.reports import ReportError, parse_report
-from bbmlab_core.shape_hints import character_hints
-from bbmlab_core.terminal import LabError, replace_file
+from bbmlab_core.explain.edits import add, applied, delete, edits_between
+from bbmlab_core.explain.explaining import as_gcc, explain_answer
+from bbmlab_core.farm.checking import files_below
+from bbmlab_core.farm.receipts import ReceiptError, parse_receipt
+from bbmlab_core.host.terminal import LabError, replace_file
+from bbmlab_core.texts.skimming import certificate_digest
+from bbmlab_core.pictures.golly import layout_from_golly
+from bbmlab_core.texts.certificates import Module
+from bbmlab_core.texts.designs import require_report_of
+from bbmlab_core.texts.reports import ReportError, parse_report
+from bbmlab_core.texts.shape_hints import character_hints
 from test_commands import fake_program
 
 BLIF = ".model x\n.inputs a\n.outputs b\n.names a b\n1 1\n.end\n"
 VERILOG = "module x(input a, output b);\n  assign b = a;\nendmodule\n"
 # A circuit without inputs whose one wire no ball carries.
-SOURCE = "circuit\nsource 1 -> k\noutput k\nend\nlayout 4 4 2\nmirror 1 0 2 2\nout k 3 3\nend\ncertificate 2\nmodule 0 0 4 4\nuse 0\nend\n"
+SOURCE = ("circuit\nsource 1 -> k\noutput k\nend\nlayout 4 4 2\nmirror 1 0 2 2\nout k 3 3\nend\ncertificate 2\nmodule "
+          "0 0 4 4\nuse 0\nend\n")
 
 
 class InRoom(unittest.TestCase):
@@ -58,7 +61,8 @@ class Words(InRoom):
                                 ("without -o", ("fmt", "-i", file, "-o", str(self.room / "x.txt"))),
                                 ("--send-program is for --dask", ("check", "--send-program", file)),
                                 ("70000' is no port", ("studio", "--port", "70000", "--no-open")),
-                                ("at most 64 by 64 cells, and this one has 144", ("certify", support.example("machine_full_adder"), "--plain"))]:
+                                ("at most 64 by 64 cells, and this one has 144",
+                                 ("certify", support.example("machine_full_adder"), "--plain"))]:
             with self.subTest(words):
                 self.ends(2, sentence, *words)
         self.assertEqual(list(self.room.iterdir()), [])
@@ -72,7 +76,8 @@ class Words(InRoom):
         """An output that is the input, or the report, is refused, and the file stays."""
         text = Path(support.example("wrong_edge")).read_text()
         file, report = self.file("a.txt", text), self.file("report", "bbmcheck 1\n")
-        for words in (("draw", file), ("view", file), ("json", file), ("json", "--back", file), ("golly", file), ("from-golly", file), ("trace", file),
+        for words in (("draw", file), ("view", file), ("json", file), ("json", "--back", file), ("golly", file),
+                      ("from-golly", file), ("trace", file),
                       ("fmt", file), ("certify", file), ("route", file), ("explain", "--fix", file)):
             self.ends(2, "the output is the input", *words, "-o", file)
         self.ends(2, "the output is the input", "draw", file, "--report", report, "-o", report)
@@ -81,7 +86,8 @@ class Words(InRoom):
     def test_outputs_are_looked_at_first(self) -> None:
         """A file that cannot be made is told before a search."""
         with patch.dict(os.environ, {"BBMCHECK": "/no/such"}):
-            self.ends(4, "there is no folder", "route", support.example("half_adder"), "-o", str(self.room / "none" / "x.txt"))
+            self.ends(4, "there is no folder", "route", support.example("half_adder"), "-o",
+                      str(self.room / "none" / "x.txt"))
             self.ends(4, "this is a folder", "route", support.example("half_adder"), "-o", str(self.room))
 
     def test_folders(self) -> None:
@@ -111,7 +117,8 @@ class Texts(InRoom):
         self.ends(1, "this is a netlist: `bbmlab circuit` and `route` read", "explain", blif)
         self.ends(1, "this is JSON: .* `bbmlab json --back`", "explain", document)
         self.ends(1, "a.json: this is JSON, which --back reads", "json", document)
-        self.ends(1, "latch.blif: The netlist stores 1 bit: say for how many cycles it runs", "route", self.file("latch.blif", BLIF.replace(".names a b\n1 1", ".latch a b")))
+        self.ends(1, "latch.blif: The netlist stores 1 bit: say for how many cycles it runs", "route",
+                  self.file("latch.blif", BLIF.replace(".names a b\n1 1", ".latch a b")))
         ended = support.lab("route", "--circuit-only", self.file("bom.blif", "\xef\xbb\xbf" + BLIF))
         self.assertEqual((ended.returncode, ended.stdout.split("\n")[0]), (0, "circuit"))
 
@@ -124,21 +131,25 @@ class Texts(InRoom):
 
     def test_parameters_of_yosys(self) -> None:
         """A parameter that is neither a number nor bits is refused."""
-        cell = {"type": "$lut", "parameters": {"WIDTH": [1], "LUT": "01"}, "connections": {"A": [2], "Y": [3]}, "port_directions": {"A": "input", "Y": "output"}}
+        cell = {"type": "$lut", "parameters": {"WIDTH": [1], "LUT": "01"}, "connections": {"A": [2], "Y": [3]},
+                "port_directions": {"A": "input", "Y": "output"}}
         ports = {"a": {"direction": "input", "bits": [2]}, "b": {"direction": "output", "bits": [3]}}
         netlist = {"modules": {"x": {"attributes": {"top": "1"}, "ports": ports, "cells": {"c": cell}, "netnames": {}}}}
         self.ends(1, r"n\.json: ", "route", "--circuit-only", self.file("n.json", json.dumps(netlist)))
 
     def test_circuits_that_do_not_end(self) -> None:
         """A circuit without `end` is refused as the program refuses it."""
-        for text, sentence in [("circuit\ninput a\noutput a\n", "line 4 is refused with code 12"), ("circuit\ninput a\noutput a", "line 3 is refused with code 12"),
-                               ("", "line 1 is refused with code 12"), ("circuit\r\n", "line 1 is refused with code 1: The line ends with CR LF")]:
+        for text, sentence in [("circuit\ninput a\noutput a\n", "line 4 is refused with code 12"),
+                               ("circuit\ninput a\noutput a", "line 3 is refused with code 12"),
+                               ("", "line 1 is refused with code 12"),
+                               ("circuit\r\n", "line 1 is refused with code 1: The line ends with CR LF")]:
             with self.subTest(text):
                 self.ends(1, sentence, "route", self.file("c.txt", text))
 
     def test_wrong_layouts_are_named(self) -> None:
         """`certify` names a cell that is wrong with all cuts."""
-        self.ends(1, r"the cell \(\d+, \d+\) in the box 0 0 8 8 is wrong at time \d+", "certify", support.example("plain_no"))
+        self.ends(1, r"the cell \(\d+, \d+\) in the box 0 0 8 8 is wrong at time \d+", "certify",
+                  support.example("plain_no"))
 
     def test_boxes_of_another_layout(self) -> None:
         """A box that the layout does not have is refused before its cells are listed."""
@@ -159,7 +170,8 @@ class Texts(InRoom):
 
     def test_hints_are_true(self) -> None:
         """`fmt` takes out `#` comments alone, and the hint says so."""
-        self.assertEqual([("bbmlab fmt" in hint) for line in ("input a # x", "input a // x") for _, hint in character_hints(line)], [True, False])
+        self.assertEqual([("bbmlab fmt" in hint) for line in ("input a # x", "input a // x") for _,
+                          hint in character_hints(line)], [True, False])
 
 
 class Edits(unittest.TestCase):
@@ -186,8 +198,10 @@ class Reports(unittest.TestCase):
         document = support.read_document(SOURCE)
         self.assertIsNone(document.refusal)
         head = f"bbmcheck 1\ncertificate {certificate_digest(SOURCE)}\nmodules 1\nverdict "
-        for rest in ("no\ndelay 0 5 missing\n", "no\nborder 0 1 900 1\n", "no\nlocal 0 end 999999999 1 1 0\n", "no\nlocal 0 end 2 1 1 1\n",
-                     "no\nkeep 0 0 0\n", "no\nunkept 0\n", "no\nmeet 0 differ\n", "no\nlocal 7 end 2 1 1 0\n", "no\n", "yes\nlocal 0 end 2 1 1 0\n"):
+        for rest in ("no\ndelay 0 5 missing\n", "no\nborder 0 1 900 1\n", "no\nlocal 0 end 999999999 1 1 0\n",
+                     "no\nlocal 0 end 2 1 1 1\n",
+                     "no\nkeep 0 0 0\n", "no\nunkept 0\n", "no\nmeet 0 differ\n", "no\nlocal 7 end 2 1 1 0\n", "no\n",
+                     "yes\nlocal 0 end 2 1 1 0\n"):
             with self.subTest(rest), self.assertRaises(ReportError):
                 require_report_of(document, parse_report(head + rest))
         require_report_of(document, parse_report(head + "yes\n"))
@@ -211,7 +225,8 @@ class Reports(unittest.TestCase):
             support.lab("check", "--program", support.program(), "--receipts", f"{room}/r", str(file))
             receipt = json.loads(next((Path(room) / "r").iterdir()).read_text())
         parse_receipt(json.dumps(receipt).encode())
-        for changes in ({"verdict": "error", "report": "x\ncertificate 0\n"}, {"verdict": "error", "report": "x"}, {"processor_seconds": 10**400}):
+        for changes in ({"verdict": "error", "report": "x\ncertificate 0\n"}, {"verdict": "error", "report": "x"},
+                        {"processor_seconds": 10**400}):
             with self.subTest(list(changes)), self.assertRaises(ReceiptError):
                 parse_receipt(json.dumps({**receipt, **changes}).encode())
 
@@ -231,7 +246,8 @@ class Programs(InRoom):
     def test_a_run_that_is_refused(self) -> None:
         """A `run` without memory says nothing about the lab's run."""
         full = fake_program(str(self.room), "cat >/dev/null\necho 'bbmcheck: out of memory' >&2\nexit 5\n")
-        self.ends(0, "the last state was not compared: bbmcheck: out of memory", "trace", "--program", full, support.example("head_on"))
+        self.ends(0, "the last state was not compared: bbmcheck: out of memory", "trace", "--program", full,
+                  support.example("head_on"))
 
     def test_no_program(self) -> None:
         """Without the program nothing ends as a yes does."""

@@ -1,4 +1,7 @@
-"""Netlists: BLIF and yosys JSON, mapped to circuits. The expected values come from an evaluator of its own in this file."""
+"""Netlists: BLIF and yosys JSON, mapped to circuits.
+
+The expected values come from an evaluator of its own in this file.
+"""
 
 import itertools
 import json
@@ -12,12 +15,12 @@ from typing import Any, Callable
 from unittest import mock
 
 import support
-from bbmlab_core.circuits import Circuit, evaluate, values_under
-from bbmlab_core.netlists import NetlistError, NetlistFormat, circuit_from_netlist, map_netlist, netlist_format
-from bbmlab_core.cones import keeping_cone
+from bbmlab_core.circuits.cones import keeping_cone
+from bbmlab_core.circuits.netlists import NetlistError, NetlistFormat, circuit_from_netlist, map_netlist, netlist_format
+from bbmlab_core.texts.circuits import Circuit, evaluate, values_under
 
 # Fewer tries than users get, which save time: each try is one that a search can end with.
-FEW_TRIES = mock.patch("bbmlab_core.netlists.search.MAX_TRIES", 60)
+FEW_TRIES = mock.patch("bbmlab_core.circuits.netlists.search.MAX_TRIES", 60)
 ADDER = support.EXAMPLES / "two_bit_adder.v"
 YOSYS_STEPS = "read_verilog {file}; synth -flatten; abc -g AND,XOR,MUX; opt_clean; {write}"
 # The cells of yosys, after its cell library: the ports and the value of Y.
@@ -29,7 +32,8 @@ CELLS: dict[str, tuple[str, Callable[..., bool]]] = {
     "$_ANDNOT_": ("AB", lambda a, b: a and not b), "$_ORNOT_": ("AB", lambda a, b: a or not b),
     "$_MUX_": ("ABS", lambda a, b, s: b if s else a), "$_NMUX_": ("ABS", lambda a, b, s: not (b if s else a)),
     "$_AOI3_": ("ABC", lambda a, b, c: not (a and b or c)), "$_OAI3_": ("ABC", lambda a, b, c: not ((a or b) and c)),
-    "$_AOI4_": ("ABCD", lambda a, b, c, d: not (a and b or c and d)), "$_OAI4_": ("ABCD", lambda a, b, c, d: not ((a or b) and (c or d))),
+    "$_AOI4_": ("ABCD", lambda a, b, c, d: not (a and b or c and d)),
+    "$_OAI4_": ("ABCD", lambda a, b, c, d: not ((a or b) and (c or d))),
 }
 
 
@@ -76,14 +80,17 @@ def random_blif(chooser: random.Random) -> str:
         lines += random_table(chooser, f"n{index}", known)
         known.append(f"n{index}")
     outputs = chooser.sample(known[len(inputs):], chooser.randint(1, min(5, len(known) - len(inputs))))
-    return "\n".join([".model random", " ".join([".inputs", *inputs]), " ".join([".outputs", *outputs]), *lines, ".end", ""])
+    return "\n".join([".model random", " ".join([".inputs", *inputs]), " ".join([".outputs", *outputs]), *lines, ".end",
+                      ""])
 
 
 class Equivalence(unittest.TestCase):
     """The circuit computes what the netlist says."""
 
-    def compare(self, text: str, values_of: Callable[[dict[str, bool]], dict[str, bool]], inputs: list[str], outputs: list[str]) -> None:
-        """Compares a mapped netlist with its values at all inputs, and asks that each inverse gate has a row there and a cone."""
+    def compare(self, text: str, values_of: Callable[[dict[str, bool]], dict[str, bool]], inputs: list[str],
+                outputs: list[str]) -> None:
+        """Compares a mapped netlist with its values at all inputs, and asks that each inverse gate has a row there and
+        a cone."""
         circuit = circuit_of(text)
         tables = evaluate(circuit, circuit.inputs, list(range(len(circuit.gates))))
         self.assertEqual(len(circuit.inputs), len(inputs))
@@ -105,7 +112,8 @@ class Equivalence(unittest.TestCase):
         for number in range(60):
             text = random_blif(chooser)
             with self.subTest(f"seed {seed}, netlist {number}"):
-                self.compare(text, lambda on: blif_values(text, on), words_of(text, ".inputs"), words_of(text, ".outputs"))
+                self.compare(text, lambda on: blif_values(text, on), words_of(text, ".inputs"),
+                             words_of(text, ".outputs"))
 
     @FEW_TRIES
     def test_each_simple_cell(self) -> None:
@@ -113,9 +121,11 @@ class Equivalence(unittest.TestCase):
         for kind, (ports, rule) in CELLS.items():
             for is_one in (False, True):
                 names = "A" if is_one else ports
-                text = json.dumps(cell_document(kind, {port: names.index(port) if not is_one else 0 for port in ports}, names))
+                text = json.dumps(cell_document(kind, {port: names.index(port) if not is_one else 0 for port in ports},
+                                                names))
                 with self.subTest(kind, one_net=is_one):
-                    self.compare(text, lambda on: {"Y": rule(*(on["A" if is_one else port] for port in ports))}, list(names), ["Y"])
+                    self.compare(text, lambda on: {"Y": rule(*(on["A" if is_one else port] for port in ports))},
+                                 list(names), ["Y"])
 
     @FEW_TRIES
     def test_luts(self) -> None:
@@ -126,11 +136,14 @@ class Equivalence(unittest.TestCase):
             text = json.dumps(lut_document(width, table))
             inputs = [f"A[{index}]" for index in range(width)] if width > 1 else ["A"]
             with self.subTest(width=width, table=table):
-                self.compare(text, lambda on: {"Y": bool(table >> sum(on[name] << index for index, name in enumerate(inputs)) & 1)},
+                self.compare(text,
+                             lambda on: {"Y": bool(table >> sum(on[name] << index for index,
+                                                                name in enumerate(inputs)) & 1)},
                              inputs, ["Y"])
 
     def test_a_deep_netlist(self) -> None:
-        """A chain of 3000 XOR tables with one net, which a product with this net absorbs, is mapped without deep recursion."""
+        """A chain of 3000 XOR tables with one net, which a product with this net absorbs, is mapped without deep
+        recursion."""
         tables = "".join(f".names a n{number} n{number + 1}\n10 1\n01 1\n" for number in range(3000))
         text = f".model m\n.inputs a n0\n.outputs y\n{tables}.names a n3000 y\n11 1\n.end\n"
         circuit = circuit_of(text)
@@ -153,7 +166,8 @@ class Equivalence(unittest.TestCase):
         with tempfile.TemporaryDirectory() as room:
             for write in ("write_blif", "write_json"):
                 made = Path(room) / write
-                subprocess.run(["yosys", "-q", "-p", YOSYS_STEPS.format(file=ADDER, write=f"{write} {made}")], check=True, timeout=60)
+                subprocess.run(["yosys", "-q", "-p", YOSYS_STEPS.format(file=ADDER, write=f"{write} {made}")],
+                               check=True, timeout=60)
                 with self.subTest(write):
                     self.compare(made.read_text(), sum_values, inputs, outputs)
 
@@ -167,11 +181,13 @@ class Equivalence(unittest.TestCase):
                               "assign y = {a[0] & b[4], a[2] | b[6]};\nendmodule\n")
             for write in ("write_blif", "write_json"):
                 made = Path(room) / write
-                subprocess.run(["yosys", "-q", "-p", YOSYS_STEPS.format(file=source, write=f"{write} {made}")], check=True, timeout=60)
+                subprocess.run(["yosys", "-q", "-p", YOSYS_STEPS.format(file=source, write=f"{write} {made}")],
+                               check=True, timeout=60)
                 circuit = circuit_of(made.read_text())
                 with self.subTest(write):
                     self.assertEqual(set(circuit.inputs), {"a_0", "a_1", "a_2", "b_4", "b_5", "b_6"})
-                    for on, wanted in (({"a_0", "b_4"}, {"y_1"}), ({"a_2"}, {"y_0"}), ({"b_6"}, {"y_0"}), ({"a_0", "a_1", "b_5"}, set())):
+                    for on, wanted in (({"a_0", "b_4"}, {"y_1"}), ({"a_2"}, {"y_0"}), ({"b_6"}, {"y_0"}),
+                                       ({"a_0", "a_1", "b_5"}, set())):
                         values, _ = values_under(circuit, on)
                         self.assertEqual({wire for wire in circuit.outputs if values[wire]}, wanted, on)
 
@@ -181,9 +197,11 @@ class Equivalence(unittest.TestCase):
         seed = random.SystemRandom().randrange(1 << 32)
         chooser, width = random.Random(seed), 10
         circuit = circuit_of(ripple_adder_blif(width))
-        pairs = [(0, 0), (1023, 1), (1023, 1023), *((chooser.randrange(1024), chooser.randrange(1024)) for _ in range(100))]
+        pairs = [(0, 0), (1023, 1), (1023, 1023),
+                 *((chooser.randrange(1024), chooser.randrange(1024)) for _ in range(100))]
         for left, right in pairs:
-            on = {f"{name}{index}" for name, number in (("a", left), ("b", right)) for index in range(width) if number >> index & 1}
+            on = {f"{name}{index}" for name, number in (("a", left), ("b", right)) for index in range(width)
+                  if number >> index & 1}
             values, undefined = values_under(circuit, on)
             with self.subTest(seed=seed, left=left, right=right):
                 self.assertIsNone(undefined)
@@ -194,18 +212,20 @@ class Equivalence(unittest.TestCase):
         """If no inverse gate has a cone, the circuit has no inverse gate, and still computes the netlist."""
         chooser = random.Random(5)
         texts = [full_adder_blif(), *(random_blif(chooser) for _ in range(10))]
-        with mock.patch("bbmlab_core.netlists.search.keeping_cone", return_value=None):
+        with mock.patch("bbmlab_core.circuits.netlists.search.keeping_cone", return_value=None):
             for number, text in enumerate(texts):
                 with self.subTest(number):
                     self.assertFalse(any(gate.is_inverse for gate in circuit_of(text).gates))
-                    self.compare(text, lambda on: blif_values(text, on), words_of(text, ".inputs"), words_of(text, ".outputs"))
+                    self.compare(text, lambda on: blif_values(text, on), words_of(text, ".inputs"),
+                                 words_of(text, ".outputs"))
 
     def test_adder_is_small(self) -> None:
         """A full adder takes two XORs of three gates and one join, so seven gates, and two constants."""
         text = full_adder_blif()
         gates = [gate.word for gate in circuit_of(text).gates]
         self.assertLessEqual((len(gates) - gates.count("source"), gates.count("source")), (7, 2))
-        self.compare(text, lambda on: {"s": sum(on.values()) % 2 == 1, "t": sum(on.values()) > 1}, ["a", "b", "c"], ["s", "t"])
+        self.compare(text, lambda on: {"s": sum(on.values()) % 2 == 1, "t": sum(on.values()) > 1}, ["a", "b", "c"],
+                     ["s", "t"])
 
 
 def sum_values(on: dict[str, bool]) -> dict[str, bool]:
@@ -271,7 +291,8 @@ REFUSED = {
     "no JSON": ("{", "not JSON"),
     "deep JSON": ('{"modules":' + "[" * 100_000, "not JSON"),
     "no modules": ("{}", "no member `modules`"),
-    "a latch of yosys": (json.dumps(cell_document("$_DLATCH_P_", {"D": 0}, "D")), "stores a bit and is no simple flip-flop"),
+    "a latch of yosys": (json.dumps(cell_document("$_DLATCH_P_", {"D": 0}, "D")),
+                         "stores a bit and is no simple flip-flop"),
     "a reset without a clock": (json.dumps(cell_document("$_DFF_PP0_", {"D": 0}, "D")), "is set without its clock"),
     "a large flip-flop": (json.dumps(cell_document("$dff", {"D": 0}, "D")), "stores a bit and is no simple flip-flop"),
     "a flip-flop": (json.dumps(cell_document("$_DFF_P_", {"D": 0}, "D")), "no member `Q`"),
@@ -286,7 +307,8 @@ REFUSED = {
 def wide_xor(count: int) -> str:
     """Returns a chain of XOR tables over `count` inputs."""
     names = [f"i{index}" for index in range(count)]
-    lines = [f".names {'i0' if index == 1 else f'x{index - 1}'} i{index} {'y' if index == count - 1 else f'x{index}'}\n10 1\n01 1\n"
+    lines = [f".names {'i0' if index == 1 else f'x{index - 1}'} i{index} {'y' if index == count - 1 else f'x{index}'}\n"
+             "10 1\n01 1\n"
              for index in range(1, count)]
     return f".model m\n.inputs {' '.join(names)}\n.outputs y\n{''.join(lines)}.end\n"
 
@@ -295,7 +317,10 @@ class Command(unittest.TestCase):
     """`bbmlab route` with netlists."""
 
     def test_circuit_only(self) -> None:
-        """`--circuit-only` writes the circuit of a netlist, and says which names it changed. It writes a circuit section as it is."""
+        """`--circuit-only` writes the circuit of a netlist, and says which names it changed.
+
+        It writes a circuit section as it is.
+        """
         ended = support.lab("route", "--circuit-only", support.example("two_bit_adder").replace(".txt", ".blif"))
         self.assertEqual((ended.returncode, words_of(ended.stdout, "input")), (0, ["a_0", "a_1", "b_0", "b_1"]))
         self.assertIn("`a[0]` is `a_0`", ended.stderr)
@@ -316,7 +341,8 @@ class Command(unittest.TestCase):
             self.skipTest("yosys is not installed (apt-get install yosys)")
         with tempfile.TemporaryDirectory() as room:
             netlist = str(Path(room) / "adder.json")
-            subprocess.run(["yosys", "-q", "-p", YOSYS_STEPS.format(file=ADDER, write=f"write_json {netlist}")], check=True, timeout=60)
+            subprocess.run(["yosys", "-q", "-p", YOSYS_STEPS.format(file=ADDER, write=f"write_json {netlist}")],
+                           check=True, timeout=60)
             ended = support.lab("route", netlist, "--effort", "120", "--program", program)
         self.assertEqual(ended.returncode, 0, ended.stderr)
         self.assertIn("verdict yes", ended.stderr)
@@ -332,9 +358,13 @@ class Sentences(unittest.TestCase):
                 self.assertRaisesRegex(NetlistError, sentence, circuit_from_netlist, text)
 
     def test_a_circuit_too_large(self) -> None:
-        """A chain that needs more than 16,384 gates is refused with the limit, and so are 20,000 copies of one input. Smaller ones get the line."""
+        """A chain that needs more than 16,384 gates is refused with the limit, and so are 20,000 copies of one input.
+
+        Smaller ones get the line.
+        """
         copies = [f"y{index}" for index in range(20_000)]
-        fan_out = f".model m\n.inputs a\n.outputs {' '.join(copies)}\n" + "".join(f".names a {name}\n1 1\n" for name in copies)
+        fan_out = f".model m\n.inputs a\n.outputs {' '.join(copies)}\n" + "".join(f".names a {name}\n1 1\n"
+                                                                                  for name in copies)
         for text in (wide_xor(4200), wide_xor(40_000), fan_out):
             with self.subTest(len(text)):
                 self.assertRaisesRegex(NetlistError, "A circuit has at most 16384", circuit_from_netlist, text)
@@ -343,7 +373,8 @@ class Sentences(unittest.TestCase):
 
     def test_names(self) -> None:
         """Names become legal and stay different, and a note names each change."""
-        text = ".model m\n.inputs A[0] a_0 9 " + "x" * 40 + "\n.outputs Sum\n.names A[0] a_0 9 " + "x" * 40 + " Sum\n1111 1\n.end\n"
+        text = (".model m\n.inputs A[0] a_0 9 " + "x" * 40 + "\n.outputs Sum\n.names A[0] a_0 9 " + "x" * 40
+                + " Sum\n1111 1\n.end\n")
         mapped = map_netlist(text)
         names = words_of(mapped.text, "input") + words_of(mapped.text, "output")
         self.assertEqual(len(set(names)), 5)
@@ -354,7 +385,8 @@ class Sentences(unittest.TestCase):
 
     def test_formats_are_told_apart(self) -> None:
         """BLIF, JSON and a circuit section are told apart by their first words."""
-        for text, form in ((MODEL, NetlistFormat.BLIF), ("# by hand\n\n.inputs a\n", NetlistFormat.BLIF), (" {}", NetlistFormat.YOSYS_JSON),
+        for text, form in ((MODEL, NetlistFormat.BLIF), ("# by hand\n\n.inputs a\n", NetlistFormat.BLIF),
+                           (" {}", NetlistFormat.YOSYS_JSON),
                            ("circuit\n", None), ("", None)):
             with self.subTest(text):
                 self.assertIs(netlist_format(text), form)

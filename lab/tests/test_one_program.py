@@ -9,11 +9,12 @@ from pathlib import Path
 from unittest import mock
 
 import support
-from bbmlab_core import remote, sealed
-from bbmlab_core.checking import Checker
-from bbmlab_core.program import ask, opened
-from bbmlab_core.receipts import ReceiptFolder
-from bbmlab_core.releases import program_of
+from bbmlab_core.farm import remote
+from bbmlab_core.farm.checking import Checker
+from bbmlab_core.farm.receipts import ReceiptFolder
+from bbmlab_core.host import sealed
+from bbmlab_core.host.program import ask, opened
+from bbmlab_core.host.releases import program_of
 from bbmlab_core.studio.jobs import Jobs
 
 # It says yes to each text, with the digest of its certificate.
@@ -36,7 +37,8 @@ class Replaced(unittest.TestCase):
         self.program, liar = self.room / "program", self.room / "liar"
         liar.write_text(LIE)
         liar.chmod(0o755)
-        self.program.write_text(f"#!/bin/sh\n[ \"$1\" != check ] || mv -f '{liar}' '{self.program}' 2>/dev/null\nexec '{support.program()}' \"$@\"\n")
+        self.program.write_text(f"#!/bin/sh\n[ \"$1\" != check ] || mv -f '{liar}' '{self.program}' 2>/dev/null\nexec "
+                                f"'{support.program()}' \"$@\"\n")
         self.program.chmod(0o755)
         self.digest = digest(self.program)
         self.text = Path(support.example("wrong_edge")).read_bytes()
@@ -55,7 +57,8 @@ class Replaced(unittest.TestCase):
             with self.subTest(jobs):
                 self.setUp()
                 receipts = self.room / "receipts"
-                ended = support.lab("check", "--program", str(self.program), "--receipts", str(receipts), "--jobs", jobs, str(designs))
+                ended = support.lab("check", "--program", str(self.program), "--receipts", str(receipts), "--jobs",
+                                    jobs, str(designs))
                 self.assertTrue(self.was_replaced())
                 said = [json.loads(path.read_text()) for path in receipts.iterdir()]
                 self.assertEqual((len(said), {one["verdict"] for one in said}, ended.returncode), (9, {"no"}, 1))
@@ -83,7 +86,8 @@ class Replaced(unittest.TestCase):
         self.assertEqual({result.result for result in found}, {"no"})
 
     def test_studio(self) -> None:
-        """The studio's verdicts are those of the program that it named at its start, also in a process that starts later."""
+        """The studio's verdicts are those of the program that it named at its start, also in a process that starts
+        later."""
         jobs = Jobs(str(self.program), 20.0, 4096)
         self.addCleanup(jobs.close)
         job = {"kind": "verdict", "text": self.text.decode(), "stage": "first", "earlier": ""}
@@ -120,7 +124,7 @@ class Copies(unittest.TestCase):
         self.addCleanup(os.close, copy)
         with self.assertRaises(OSError), open(sealed.path_of(copy), "r+b", buffering=0) as file:
             file.write(b"x")
-        with mock.patch("bbmlab_core.sealed.memory_file", side_effect=OSError):
+        with mock.patch("bbmlab_core.host.sealed.memory_file", side_effect=OSError):
             program = opened(support.program())
         self.assertEqual(ask(program, "check", Path(support.example("wrong_edge")).read_bytes()).status, 1)
 

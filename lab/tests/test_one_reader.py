@@ -1,19 +1,23 @@
-"""The page reads words and lines as the server does, for each byte in each place, so that a yes is about the picture."""
+"""The page reads words and lines as the server does, for each byte in each place, so that a yes is about the picture.
+"""
 
 import unittest
 from pathlib import Path
 
 import support
-from bbmlab_core.documents import read_document
-from bbmlab_core.fixing import head_of
-from bbmlab_core.spelling import free_words, mark_length, spelled
+from bbmlab_core.texts.skimming import head_of
 from bbmlab_core.studio.folder import bytes_of, text_of
+from bbmlab_core.texts.documents import read_document
+from bbmlab_core.texts.spelling import free_words, mark_length, spelled
 from test_studio_model import node
 
 # Bytes, and characters that JavaScript or Python take for spaces, ends of lines or digits.
-PIECES = [*(bytes([byte]) for byte in range(256)), *(char.encode() for char in "\x85\xa0\u2028\u2029\u3000\ufeff\u0661\u00b2"), b"\r\r", b"\t \t", b"\r#", b"#\r", b"\r ", b"\r\t#"]
+PIECES = [*(bytes([byte]) for byte in range(256)),
+          *(char.encode() for char in "\x85\xa0\u2028\u2029\u3000\ufeff\u0661\u00b2"), b"\r\r", b"\t \t", b"\r#",
+          b"#\r", b"\r ", b"\r\t#"]
 # The places of a piece in a text.
-PLACES = [b"%b", b"a%bb", b"a %bb", b"a%b b", b"%ba", b"a%b", b"a%b\nb", b"a\n%bb", b"# a%bb\nc", b"0%b01", b"layout%b8 8 3", b"->%b->", b"a%b->b"]
+PLACES = [b"%b", b"a%bb", b"a %bb", b"a%b b", b"%ba", b"a%b", b"a%b\nb", b"a\n%bb", b"# a%bb\nc", b"0%b01",
+          b"layout%b8 8 3", b"->%b->", b"a%b->b"]
 
 
 def python_words(data: bytes) -> list[list[str]]:
@@ -37,10 +41,13 @@ class OneReader(unittest.TestCase):
             self.assertEqual(spelled(once).text, once, text)
 
     def test_pictures(self) -> None:
-        """What is drawn is the circuit and the layout that the program reads, whatever byte is where: as a space, in a word, or between parts."""
+        """What is drawn is the circuit and the layout that the program reads, whatever byte is where: as a space, in a
+        word, or between parts."""
         good = Path(support.example("gate_and_mirror")).read_bytes()
-        changes = [(b"\nmirror ", b"%bmirror "), (b"\nmirror ", b"\n%bmirror "), (b"\nin p ", b"\nin%bp "), (b"\noutput ", b"%boutput "), (b"\nlayout ", b"\n%blayout "),
-                   (b"\nlayout ", b"\nlayout%b"), (b"circuit\n", b"%bcircuit\n"), (b"\nend\n", b"\nend%b\n"), (b" -> ", b"%b->%b")]
+        changes = [(b"\nmirror ", b"%bmirror "), (b"\nmirror ", b"\n%bmirror "), (b"\nin p ", b"\nin%bp "),
+                   (b"\noutput ", b"%boutput "), (b"\nlayout ", b"\n%blayout "),
+                   (b"\nlayout ", b"\nlayout%b"), (b"circuit\n", b"%bcircuit\n"), (b"\nend\n", b"\nend%b\n"),
+                   (b" -> ", b"%b->%b")]
         texts = [good.replace(old, new.replace(b"%b", piece)) for old, new in changes for piece in PIECES]
         found, = node(["drawn", [text_of(text) for text in texts]])
         yes = 0
@@ -54,7 +61,8 @@ class OneReader(unittest.TestCase):
     def test_parts_joined_by_carriage_returns(self) -> None:
         """A text of one line, with carriage returns in the place of line feeds, is refused and drawn as nothing."""
         good = Path(support.example("gate_and_mirror")).read_text()
-        for text in (good.replace("\n", "\r"), good.replace("\nin ", "\rin "), good.replace("\nmirror ", "\x1emirror ").replace(" ", "\x1f")):
+        for text in (good.replace("\n", "\r"), good.replace("\nin ", "\rin "),
+                     good.replace("\nmirror ", "\x1emirror ").replace(" ", "\x1f")):
             self.assertNotEqual(text, good)
             self.assertIsNotNone(read_document(spelled(text).text, "check").refusal)
 

@@ -1,13 +1,15 @@
-"""The ways on the viewer's page: at each time of a piece its wire's ball is there, in the lab's run; and what a page cannot show is left out."""
+"""The ways on the viewer's page: at each time of a piece its wire's ball is there, in the lab's run; and what a page
+cannot show is left out.
+"""
 
 import random
 import unittest
 
 import support
-from bbmlab_core import page_ways, viewing
-from bbmlab_core.documents import Document, read_document
-from bbmlab_core.drawing import wire_tables
-from bbmlab_core.simulation import WholeRun, key_of
+from bbmlab_core.physics.simulation import WholeRun, key_of
+from bbmlab_core.pictures.drawing import wire_tables
+from bbmlab_core.texts.documents import Document, read_document
+from bbmlab_core.view import page_ways, viewing
 from test_ways import random_layout, steps_of
 
 
@@ -15,7 +17,10 @@ class Ways(unittest.TestCase):
     """The pieces with their times."""
 
     def assert_there(self, document: Document) -> int:
-        """Asserts that the balls of each piece are there at its times, and that all steps are those of `draw`. Returns how many cells were looked at."""
+        """Asserts that the balls of each piece are there at its times, and that all steps are those of `draw`.
+
+        Returns how many cells were looked at.
+        """
         layout, found = document.layout, page_ways.page_ways(document)
         assert layout and found
         tables, full, _ = wire_tables(document, [])
@@ -39,7 +44,8 @@ class Ways(unittest.TestCase):
         """The ways of examples and standard cells."""
         files = [*sorted(support.EXAMPLES.glob("*.txt")), *sorted((support.LAB / "cells").glob("*.txt"))]
         documents = [read_document(path.read_text(encoding="latin-1")) for path in files]
-        self.assertGreater(sum(self.assert_there(own) for own in documents if own.layout and own.layout.width and not own.refusal), 10_000)
+        self.assertGreater(sum(self.assert_there(own) for own in documents if own.layout and own.layout.width
+                               and not own.refusal), 10_000)
 
     def test_random_layouts(self) -> None:
         """The ways of layouts in which balls collide, mirrors fall apart and balls fly for many steps at once."""
@@ -53,21 +59,24 @@ class Ways(unittest.TestCase):
     def test_all_steps_are_there(self) -> None:
         """The page has the same steps as `draw --ways`."""
         document = read_document((support.EXAMPLES / "full_adder.txt").read_text())
-        from bbmlab_core.drawing import ball_ways
+        from bbmlab_core.pictures.drawing import ball_ways
         assert document.layout
         found = page_ways.page_ways(document)
         assert found
-        ways = {wire["name"]: [tuple(sorted(((x, y), (u, v)))) for x, y, u, v, _ in zip(*(wire["pieces"][place::5] for place in range(5)))]
+        ways = {wire["name"]: [tuple(sorted(((x, y), (u, v)))) for x, y, u, v,
+                               _ in zip(*(wire["pieces"][place::5] for place in range(5)))]
                 for wire in found["wires"]}
         wanted, _ = ball_ways(document, None, document.layout.steps)
-        self.assertEqual({name: steps_of(pieces) for name, pieces in ways.items()}, {name: steps_of(pieces) for name, pieces in wanted.items()})
+        self.assertEqual({name: steps_of(pieces) for name, pieces in ways.items()},
+                         {name: steps_of(pieces) for name, pieces in wanted.items()})
 
     def test_too_many_moves(self) -> None:
         """A run with more moves than a page can show has no ways, and the page says so by leaving them out."""
         lines = ["layout 512 512 65536"]
         for place in range(0, 512, 16):
             lines += [f"mirror {place + 2} 1 2 2", f"mirror {place + 12} 9 2 2", f"ball {place + 4} 2"]
-        balls = read_document("\n".join([*lines[:1], *sorted(lines[1:], key=lambda line: line.startswith("ball")), "end"]) + "\n")
+        balls = read_document("\n".join([*lines[:1], *sorted(lines[1:], key=lambda line: line.startswith("ball")),
+                                         "end"]) + "\n")
         self.assertIsNone(balls.refusal)
         few, page_ways.MAX_MOVES = page_ways.MAX_MOVES, 50_000
         try:
@@ -78,10 +87,12 @@ class Ways(unittest.TestCase):
 
     def test_levels(self) -> None:
         """The level of a wire counts the gates before it, but for sources and delays."""
-        circuit = read_document("circuit\ninput p\nsource 1 -> k\nswitch p k -> a b c\ndelay 3 a -> d\nswitch d b -> e f g\noutput e\nspill f\nspill g\n"
+        circuit = read_document("circuit\ninput p\nsource 1 -> k\nswitch p k -> a b c\ndelay 3 a -> d\nswitch d b -> e "
+                                "f g\noutput e\nspill f\nspill g\n"
                                 "spill c\nend\n", "circuit").circuit
         assert circuit
-        self.assertEqual(page_ways.levels_of(circuit), {"p": 0, "k": 0, "a": 1, "b": 1, "c": 1, "d": 1, "e": 2, "f": 2, "g": 2})
+        self.assertEqual(page_ways.levels_of(circuit),
+                         {"p": 0, "k": 0, "a": 1, "b": 1, "c": 1, "d": 1, "e": 2, "f": 2, "g": 2})
 
 
 if __name__ == "__main__":

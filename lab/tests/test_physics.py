@@ -1,13 +1,13 @@
-"""The tables of docs/PHYSICS.md, and the one of mirrors in docs/FORMATS.md: each row is run in the lab's simulation, which shares no code with
-the algebra of balls."""
+"""The tables of docs/PHYSICS.md, and the one of mirrors in docs/FORMATS.md: each row is run in the lab's simulation,
+which shares no code with the algebra of balls."""
 
 import re
 import unittest
 from typing import Iterable
 
 import support
-from bbmlab_core.layouts import Cell, Layout, Part
-from bbmlab_core.simulation import WholeRun
+from bbmlab_core.physics.simulation import WholeRun
+from bbmlab_core.texts.layouts import Cell, Layout, Part
 
 PAGE = (support.TOP / "docs" / "PHYSICS.md").read_text(encoding="utf-8")
 FORMATS = (support.TOP / "docs" / "FORMATS.md").read_text(encoding="utf-8")
@@ -44,7 +44,10 @@ def ball(lead: Cell, way: tuple[int, int]) -> list[Cell]:
 
 
 def run(balls: Iterable[Cell], mirrors: Iterable[Mirror], steps: int) -> set[Cell]:
-    """Returns the live cells that are no mirror's after some steps from time 0. Raises AssertionError if a mirror changes."""
+    """Returns the live cells that are no mirror's after some steps from time 0.
+
+    Raises AssertionError if a mirror changes.
+    """
     solid = {(u, v) for x, y, width, height in mirrors for u in range(x, x + width) for v in range(y, y + height)}
     cells = [("mirror", cell) for cell in solid] + [("ball", cell) for cell in balls]
     layout = Layout(2 * SIDE, 2 * SIDE, steps, [Part(kind, None, *cell, 1, 1, 0) for kind, cell in cells])
@@ -66,11 +69,13 @@ def start_of(way: tuple[int, int], x: int = ORIGIN, y: int = ORIGIN) -> Cell:
 
 
 def is_broken(cells: set[Cell], steps: int) -> bool:
-    """Whether the four cells of two balls, or the two of one, are no longer balls: some cell has no partner two apart in its direction."""
+    """Whether the four cells of two balls, or the two of one, are no longer balls: some cell has no partner two apart
+    in its direction."""
     def partners(cell: Cell) -> list[Cell]:
         """Returns the cells two apart in the direction of a cell, if they are live."""
         (x, y), way = cell, [1 if (value + steps) % 2 == 0 else -1 for value in cell]
-        return [other for other in ((x + 2 * way[0], y + 2 * way[1]), (x - 2 * way[0], y - 2 * way[1])) if other in cells]
+        return [other for other in ((x + 2 * way[0], y + 2 * way[1]), (x - 2 * way[0], y - 2 * way[1]))
+                if other in cells]
     return any(not partners(cell) for cell in cells)
 
 
@@ -91,12 +96,15 @@ class OneBall(unittest.TestCase):
                     self.assertEqual(run(before, [], late + 9), moved(cells, way, 9))
 
     def test_mirrors_turn(self) -> None:
-        """A mirror at the place of the table turns the ball, which then flies as if from the place that the page says."""
+        """A mirror at the place of the table turns the ball, which then flies as if from the place that the page says.
+        """
         rows = table("direction")
         self.assertEqual(len(rows), 4)
         page = " ".join(PAGE.split())
-        self.assertIn("flat mirror dy has the other sign. The ball is where it would be if it had started from (x - 2 dx, y + dy) at time t", page)
-        self.assertIn("upright mirror dx has the other sign. The ball is where it would be if it had started from (x + dx, y - 2 dy) at time t", page)
+        self.assertIn("flat mirror dy has the other sign. The ball is where it would be if it had started from (x - 2 "
+                      "dx, y + dy) at time t", page)
+        self.assertIn("upright mirror dx has the other sign. The ball is where it would be if it had started from (x + "
+                      "dx, y - 2 dy) at time t", page)
         for direction, flat, upright in rows:
             dx, dy = way = DIRECTIONS[direction]
             for steps in (20, 21):
@@ -157,7 +165,8 @@ class OneBall(unittest.TestCase):
                 # The ball flies right and up now, and turns again here.
                 second = (x - 2, y - 2, 4, 2) if is_flat else (x + 1, y - 1, 2, 4)
                 place, way = ((x - 2, y - 1), (1, 1)) if is_flat else ((x + 1, y + 2), (-1, -1))
-                cells = run(ball((ORIGIN, ORIGIN), (1, 1)), [(ORIGIN + first - 2, ORIGIN + first + 1, 4, 2), second], last)
+                cells = run(ball((ORIGIN, ORIGIN), (1, 1)), [(ORIGIN + first - 2, ORIGIN + first + 1, 4, 2), second],
+                            last)
                 turned = moved(ball(place, way), way, last - first - more)
                 with self.subTest(steps=steps, is_flat=is_flat):
                     self.check(result, cells, turned, set(), last)
@@ -166,7 +175,8 @@ class OneBall(unittest.TestCase):
         """A flat and an upright mirror two steps apart lead the ball back on its own track."""
         first = 20
         x, y = ORIGIN + first, ORIGIN + first - 1
-        cells = run(ball((ORIGIN, ORIGIN), (1, 1)), [(ORIGIN + first - 2, ORIGIN + first + 1, 4, 2), (x + 1, y - 1, 2, 4)], 60)
+        cells = run(ball((ORIGIN, ORIGIN), (1, 1)),
+                    [(ORIGIN + first - 2, ORIGIN + first + 1, 4, 2), (x + 1, y - 1, 2, 4)], 60)
         self.assertEqual(len(cells), 2)
         self.assertEqual({u - v for u, v in cells}, {0})
 
@@ -194,7 +204,8 @@ class TwoBalls(unittest.TestCase):
             lead = [x - 20 * way[0], y - 20 * way[1]]
             lead[axis] -= back * way[axis]
             balls.append(ball((lead[0], lead[1]), way))
-        cells, free = run(balls[0] + balls[1], [], steps), [moved(cells, way, steps) for cells, way in zip(balls, (first, second))]
+        cells, free = run(balls[0] + balls[1], [], steps), [moved(cells, way, steps) for cells,
+                                                            way in zip(balls, (first, second))]
         late = {(x - 2 * first[0], y) if axis == 0 else (x, y - 2 * first[1]) for x, y in free[0] | free[1]}
         if result == "separate":
             self.assertTrue(is_broken(cells, steps))
@@ -233,7 +244,8 @@ class OneCell(unittest.TestCase):
     def test_mirrors(self) -> None:
         """A ball of one cell comes back on its own track from either mirror."""
         rows = dict(table("it meets"))
-        mirrors = {"a flat mirror": (ORIGIN + 18, ORIGIN + 21, 6, 2), "an upright mirror": (ORIGIN + 21, ORIGIN + 18, 2, 6)}
+        mirrors = {"a flat mirror": (ORIGIN + 18, ORIGIN + 21, 6, 2),
+                   "an upright mirror": (ORIGIN + 21, ORIGIN + 18, 2, 6)}
         for what, mirror in mirrors.items():
             cells = run([(ORIGIN, ORIGIN)], [mirror], 60)
             with self.subTest(what):
@@ -242,7 +254,8 @@ class OneCell(unittest.TestCase):
                 self.assertTrue(all(x == y and x < ORIGIN for x, y in cells), cells)
 
     def test_formats(self) -> None:
-        """A ball flies in the direction of the row of FORMATS.md, and each of its mirrors sends it back after a step of rest."""
+        """A ball flies in the direction of the row of FORMATS.md, and each of its mirrors sends it back after a step of
+        rest."""
         rows = table("x + t", FORMATS)
         self.assertEqual(len(rows), 4)
         self.assertIn("The ball waits one step, and then flies back on its track.", " ".join(FORMATS.split()))

@@ -1,4 +1,5 @@
-"""Properties that hold for all texts, tried on those that hypothesis chooses: round trips, and no traceback whatever is read.
+"""Properties that hold for all texts, tried on those that hypothesis chooses: round trips, and no traceback whatever is
+read.
 
 PROPERTY_TIMES=10 in the environment tries ten times as many texts.
 It is skipped where hypothesis is missing (Debian: python3-hypothesis, for /usr/bin/python3).
@@ -19,17 +20,18 @@ except ImportError as missing:
     raise unittest.SkipTest("hypothesis is not installed (Debian: python3-hypothesis)") from missing
 
 import properties as pr  # noqa: E402
-from bbmlab_core.certify import certificate_text  # noqa: E402
+from bbmlab_core.certify.certifier import certificate_text  # noqa: E402
 from bbmlab_core.cli import Commands  # noqa: E402
-from bbmlab_core.documents import read_document  # noqa: E402
-from bbmlab_core.golly import golly_states, golly_text, layout_from_golly, live_cells  # noqa: E402
-from bbmlab_core.json_form import document_json, text_from_json  # noqa: E402
-from bbmlab_core.spelling import spelled  # noqa: E402
+from bbmlab_core.pictures.golly import golly_states, golly_text, layout_from_golly, live_cells  # noqa: E402
+from bbmlab_core.texts.documents import read_document  # noqa: E402
+from bbmlab_core.texts.json_form import document_json, text_from_json  # noqa: E402
+from bbmlab_core.texts.spelling import spelled  # noqa: E402
 
 bbmlab = pr.bbmlab
 # How many times as many texts are tried: a long run sets it to 10.
 TIMES = int(os.environ.get("PROPERTY_TIMES", "1"))
-TRIED = settings(max_examples=40 * TIMES, deadline=None, database=None, print_blob=True, suppress_health_check=list(HealthCheck))
+TRIED = settings(max_examples=40 * TIMES, deadline=None, database=None, print_blob=True,
+                 suppress_health_check=list(HealthCheck))
 
 # For each command the words with which it is run: FILE is the text, OUT another file. A search has little time.
 FILE, OUT = "FILE", "OUT"
@@ -38,14 +40,20 @@ COMMANDS: dict[str, list[list[str]]] = {
     "verify": [["verify", OUT, FILE], ["verify", FILE, OUT, "--release", FILE]],
     "summary": [["summary", FILE]],
     "explain": [["explain", "--effort", "0.05", FILE], ["explain", "--json", "--effort", "0.05", FILE],
-                ["explain", "--fix", "--effort", "0.2", FILE, "-o", OUT], ["explain", "--gcc", "--effort", "0.05", "--report", OUT, FILE]],
-    "trace": [["trace", FILE, "--to", "6"], ["trace", "--json", "--module", "0", FILE], ["trace", "--pictures", "--on", "p", FILE]],
+                ["explain", "--fix", "--effort", "0.2", FILE, "-o", OUT],
+                ["explain", "--gcc", "--effort", "0.05", "--report", OUT, FILE]],
+    "trace": [["trace", FILE, "--to", "6"], ["trace", "--json", "--module", "0", FILE],
+              ["trace", "--pictures", "--on", "p", FILE]],
     "draw": [["draw", FILE], ["draw", "--ways", FILE], ["draw", "--report", OUT, FILE]],
     "view": [["view", FILE, "-o", OUT]],
-    "certify": [["certify", FILE], ["certify", "--grid", "8,8", "--version", "1", FILE], ["certify", "--boxes", OUT, FILE]],
-    "route": [["route", "--effort", "0.2", FILE], ["route", "--circuit-only", FILE], ["route", "--keep-partial", "--effort", "0.2", FILE]],
-    "circuit": [["circuit", FILE], ["circuit", "--from", "qasm", FILE], ["circuit", "--to", "verilog", FILE], ["circuit", "--inverse", FILE],
-                ["circuit", "--clean", "--to", "qasm", FILE], ["circuit", "--simplify", "--to", "aiger", FILE], ["circuit", "--from", "gates", FILE],
+    "certify": [["certify", FILE], ["certify", "--grid", "8,8", "--version", "1", FILE],
+                ["certify", "--boxes", OUT, FILE]],
+    "route": [["route", "--effort", "0.2", FILE], ["route", "--circuit-only", FILE],
+              ["route", "--keep-partial", "--effort", "0.2", FILE]],
+    "circuit": [["circuit", FILE], ["circuit", "--from", "qasm", FILE], ["circuit", "--to", "verilog", FILE],
+                ["circuit", "--inverse", FILE],
+                ["circuit", "--clean", "--to", "qasm", FILE], ["circuit", "--simplify", "--to", "aiger", FILE],
+                ["circuit", "--from", "gates", FILE],
                 ["circuit", "--cycles", "2", "--state", "initial", "--to", "real", FILE]],
     "table": [["table", FILE], ["table", "--csv", "--on", "p", FILE]],
     "stats": [["stats", FILE], ["stats", "--from", "real", FILE]],
@@ -66,11 +74,13 @@ class RoundTrips(unittest.TestCase):
     @TRIED
     @given(pr.bundles())
     def test_bundles(self, bundle: "bbmlab.Bundle") -> None:
-        """A bundle is written, read as the same value, and written again as the same text; so is each section that can be alone."""
+        """A bundle is written, read as the same value, and written again as the same text; so is each section that can
+        be alone."""
         text = str(bundle)
         self.assertEqual(bbmlab.read(text), bundle)
         self.assertEqual(str(bbmlab.read(text)), text)
-        for part in (bbmlab.Bundle(bundle.circuit), bbmlab.Bundle(None, bundle.layout), bbmlab.Bundle(bundle.circuit, bundle.layout)):
+        for part in (bbmlab.Bundle(bundle.circuit), bbmlab.Bundle(None, bundle.layout),
+                     bbmlab.Bundle(bundle.circuit, bundle.layout)):
             self.assertEqual(bbmlab.read(str(part)), part)
 
     @TRIED
@@ -95,7 +105,8 @@ class RoundTrips(unittest.TestCase):
     @TRIED
     @given(pr.bundles())
     def test_golly(self, bundle: "bbmlab.Bundle") -> None:
-        """Golly's form keeps the layout in its comments, and its cells are the start; without comments the start comes back, moved by even steps."""
+        """Golly's form keeps the layout in its comments, and its cells are the start; without comments the start comes
+        back, moved by even steps."""
         assert bundle.layout
         text, on = str(bundle.layout), {port.name for port in bundle.layout.ins[::2]}
         start = next(iter(bbmlab.simulate(bundle.layout, on))).cells
@@ -109,17 +120,20 @@ class RoundTrips(unittest.TestCase):
         assert again
         if start:
             moves = {(x - u, y - v) for (x, y), (u, v) in zip(sorted(again.balls), sorted(start))}
-            self.assertEqual((len(moves), len(again.balls), {number % 2 for move in moves for number in move}), (1, len(start), {0}))
+            self.assertEqual((len(moves), len(again.balls), {number % 2 for move in moves for number in move}),
+                             (1, len(start), {0}))
 
     @TRIED
     @given(pr.bundles(), st.data())
     def test_spelling(self, bundle: "bbmlab.Bundle", data: st.DataObject) -> None:
-        """`fmt` leaves a right text as it is, and gives it back from one with spaces, comments, empty lines and other line ends."""
+        """`fmt` leaves a right text as it is, and gives it back from one with spaces, comments, empty lines and other
+        line ends."""
         text = str(bundle)
         self.assertEqual(spelled(text).text, text)
         noise = st.sampled_from(["", " ", "\t", "  # a comment", "\n", "\n# x\n\n"])
         end = data.draw(st.sampled_from(["\n", "\r\n"]))
-        free = "".join(line.replace(" ", data.draw(st.sampled_from([" ", "  ", "\t"]))) + data.draw(noise) + end for line in text.splitlines())
+        free = "".join(line.replace(" ", data.draw(st.sampled_from([" ", "  ", "\t"]))) + data.draw(noise) + end
+                       for line in text.splitlines())
         self.assertEqual(spelled(free).text, text)
 
     @TRIED
@@ -172,7 +186,8 @@ class NeverATraceback(unittest.TestCase):
 
             with self.subTest(name):
                 # A failure is shown as it was found: to make it smaller takes longer than the gate has.
-                settings(TRIED, max_examples=count, phases=[Phase.generate])(given(data=texts, other=texts, name=st.just(name))(try_one))()
+                settings(TRIED, max_examples=count,
+                         phases=[Phase.generate])(given(data=texts, other=texts, name=st.just(name))(try_one))()
 
     def test_random_bytes(self) -> None:
         """Each command takes any bytes."""

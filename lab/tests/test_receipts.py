@@ -18,7 +18,8 @@ import support
 def counting_program(room: Path, more: str = "") -> str:
     """Writes a program that notes each check in the file `calls`, and lets the proved program answer."""
     path = room / "counting"
-    path.write_text(f"#!/bin/sh\n[ \"$1\" != check ] || echo check >>'{room}/calls'\n{more}\nexec '{support.program()}' \"$@\"\n")
+    path.write_text(f"#!/bin/sh\n[ \"$1\" != check ] || echo check >>'{room}/calls'\n{more}\nexec "
+                    f"'{support.program()}' \"$@\"\n")
     path.chmod(0o755)
     return str(path)
 
@@ -51,7 +52,8 @@ class InRoom(unittest.TestCase):
 
     def check(self, *words: str, program: str | None = None) -> "subprocess.CompletedProcess[str]":
         """Checks the designs with receipts."""
-        return support.lab("check", "--program", program or self.program, "--receipts", str(self.receipts), *words, str(self.designs))
+        return support.lab("check", "--program", program or self.program, "--receipts", str(self.receipts), *words,
+                           str(self.designs))
 
     def receipt(self, name: str) -> Path:
         """Returns the file of a design's receipt."""
@@ -61,7 +63,8 @@ class InRoom(unittest.TestCase):
 
     def stable(self) -> dict[str, list[str]]:
         """Returns the lines of all receipts, without those of the date and the time."""
-        return {path.name: [line for line in path.read_text().splitlines() if '"date"' not in line and '"processor_seconds"' not in line]
+        return {path.name: [line for line in path.read_text().splitlines() if '"date"' not in line
+                            and '"processor_seconds"' not in line]
                 for path in self.receipts.iterdir()}
 
 
@@ -69,20 +72,25 @@ class Documents(InRoom):
     """What is in a receipt."""
 
     def test_digests_are_of_the_bytes(self) -> None:
-        """Text, sections, program and report have the digests of their bytes; the sections are cut here at each `end`."""
+        """Text, sections, program and report have the digests of their bytes; the sections are cut here at each `end`.
+        """
         self.check()
-        for name, verdict, status in (("gate_and_mirror", "yes", 0), ("wrong_edge", "no", 1), ("not_known", "refused", 3)):
+        for name, verdict, status in (("gate_and_mirror", "yes", 0), ("wrong_edge", "no", 1),
+                                      ("not_known", "refused", 3)):
             text = (self.designs / f"{name}.txt").read_bytes()
             document = json.loads(self.receipt(name).read_text())
             said = subprocess.run([support.program(), "check"], input=text, capture_output=True, check=False)
-            self.assertEqual((document["verdict"], document["status"], document["report"]), (verdict, status, said.stdout.decode()))
-            self.assertEqual(document["text"], {"name": str(self.designs / f"{name}.txt"), "bytes": len(text), "sha256": digest(text)})
+            self.assertEqual((document["verdict"], document["status"], document["report"]),
+                             (verdict, status, said.stdout.decode()))
+            self.assertEqual(document["text"],
+                             {"name": str(self.designs / f"{name}.txt"), "bytes": len(text), "sha256": digest(text)})
             parts = [part + b"\nend\n" for part in text.split(b"\nend\n")[:3]]
             self.assertEqual(list(document["sections"].values()), [digest(part) for part in parts])
             self.assertEqual(document["program"]["sha256"], digest(Path(self.program).read_bytes()))
             self.assertEqual(document["report_sha256"], digest(said.stdout))
             page = (support.TOP / "docs" / "JSON.md").read_text().split("## `bbmlab receipt 1`\n")[1].split("\n##")[0]
-            listed = {word for line in page.splitlines() if line.startswith("- ") for word in re.findall(r"`(\w+)`", line.split(":")[0])}
+            listed = {word for line in page.splitlines() if line.startswith("- ")
+                      for word in re.findall(r"`(\w+)`", line.split(":")[0])}
             self.assertEqual(set(document) - {"format"}, listed)
 
     def test_a_receipt_is_the_same_at_each_run(self) -> None:
@@ -95,7 +103,8 @@ class Documents(InRoom):
 
     def test_a_released_program_is_named(self) -> None:
         """The receipt of a released program has its version, its kit and the digest of its sources."""
-        manifest = dict(line.split(" ", 1) for line in (support.TOP / "release/x86_64-linux-gnu/MANIFEST").read_text().splitlines())
+        manifest = dict(line.split(" ", 1)
+                        for line in (support.TOP / "release/x86_64-linux-gnu/MANIFEST").read_text().splitlines())
         program = str(support.TOP / "release/x86_64-linux-gnu/bbmcheck")
         if digest(Path(program).read_bytes()) != manifest["program_sha256"]:
             self.skipTest("the released program is not that of its MANIFEST")
@@ -108,7 +117,8 @@ class Documents(InRoom):
     def test_odd_names(self) -> None:
         """Each file has a receipt of its own: equal names in two folders, long names, and names that are no text."""
         text = (self.designs / "full_adder.txt").read_bytes()
-        names = [b"deep/full_adder.txt", b"a\nb.txt", b"\xff.txt", b"%2F.txt", b"l" * 200 + b".txt", b"l" * 201 + b".txt", b" .txt"]
+        names = [b"deep/full_adder.txt", b"a\nb.txt", b"\xff.txt", b"%2F.txt", b"l" * 200 + b".txt",
+                 b"l" * 201 + b".txt", b" .txt"]
         for name in names:
             path = os.path.join(os.fsencode(self.designs), name)
             os.makedirs(os.path.dirname(path), exist_ok=True)
@@ -124,7 +134,8 @@ class Holding(InRoom):
     """What is skipped, and what is checked again."""
 
     def test_only_what_changed(self) -> None:
-        """A second run checks nothing; a changed byte, another program, a broken receipt and a lost one are checked again."""
+        """A second run checks nothing; a changed byte, another program, a broken receipt and a lost one are checked
+        again."""
         first = self.check()
         self.assertEqual((first.returncode, calls(self.room)), (1, 4))
         second = self.check()
@@ -146,7 +157,8 @@ class Holding(InRoom):
         """A receipt whose verdict was changed to a yes holds nothing."""
         self.check()
         receipt = self.receipt("wrong_edge")
-        receipt.write_text(receipt.read_text().replace('"verdict": "no"', '"verdict": "yes"').replace('"status": 1', '"status": 0'))
+        receipt.write_text(receipt.read_text().replace('"verdict": "no"',
+                                                       '"verdict": "yes"').replace('"status": 1', '"status": 0'))
         ended = self.check()
         self.assertEqual((ended.returncode, calls(self.room)), (1, 5))
 
@@ -156,8 +168,10 @@ class Holding(InRoom):
         names = sorted(self.designs.iterdir())
         support.lab("check", "--program", self.program, "--receipts", str(self.receipts), str(names[0]))
         (self.room / "slow").write_text("")
-        running = subprocess.Popen([sys.executable, str(support.LAB / "bbmlab"), "check", "--jobs", "2", "--program", self.program,
-                                    "--receipts", str(self.receipts), str(self.designs)], stdout=subprocess.PIPE, stderr=subprocess.PIPE)
+        running = subprocess.Popen([sys.executable, str(support.LAB / "bbmlab"), "check", "--jobs", "2", "--program",
+                                    self.program,
+                                    "--receipts", str(self.receipts), str(self.designs)], stdout=subprocess.PIPE,
+                                   stderr=subprocess.PIPE)
         until = time.monotonic() + 20
         while calls(self.room) < 3 and time.monotonic() < until:
             time.sleep(0.02)
@@ -200,7 +214,8 @@ class Verify(InRoom):
         """Verifies the receipt of a design. The counting program is no release, so a MANIFEST names it."""
         manifest = self.room / "MANIFEST"
         manifest.write_text(f"version 1\nprogram_sha256 {digest(Path(self.program).read_bytes())}\n")
-        return support.lab("verify", str(self.receipt(name)), text or str(self.designs / f"{name}.txt"), "--program", self.program,
+        return support.lab("verify", str(self.receipt(name)), text or str(self.designs / f"{name}.txt"), "--program",
+                           self.program,
                            "--release", str(manifest), *words)
 
     def test_right_receipts(self) -> None:
@@ -229,11 +244,14 @@ class Verify(InRoom):
         self.assertIn("what stands behind the sections differs", self.verify("full_adder", str(other)).stdout)
 
     def test_changed_receipts(self) -> None:
-        """A changed report, verdict, status or digest, a truncated receipt and another document are refused in words."""
+        """A changed report, verdict, status or digest, a truncated receipt and another document are refused in words.
+        """
         self.check()
         whole = self.receipt("wrong_edge").read_text()
-        for old, new, reason in ((" 1 0", " 1 1", "its report was changed"), ('"verdict": "no"', '"verdict": "yes"', "its verdict was changed"),
-                                 ('"status": 1', '"status": 0', "the status is 0"), ('"format"', '"form"', "no member `format`"),
+        for old, new, reason in ((" 1 0", " 1 1", "its report was changed"),
+                                 ('"verdict": "no"', '"verdict": "yes"', "its verdict was changed"),
+                                 ('"status": 1', '"status": 0', "the status is 0"),
+                                 ('"format"', '"form"', "no member `format`"),
                                  ('"workers": 1', '"workers": "1"', "`workers` is of another kind")):
             if old == " 1 0":
                 old = json.loads(whole)["report"].split("\n")[4]
@@ -279,7 +297,8 @@ class Verify(InRoom):
         ended = self.verify("wrong_edge", None, "--again")
         self.assertEqual(ended.returncode, 1)
         self.assertIn("says something else", ended.stdout)
-        other = support.lab("verify", "--again", str(path), str(self.designs / "wrong_edge.txt"), "--program", support.program(),
+        other = support.lab("verify", "--again", str(path), str(self.designs / "wrong_edge.txt"), "--program",
+                            support.program(),
                             "--release", str(self.room / "MANIFEST"))
         self.assertEqual(other.returncode, 4)
         self.assertIn("is not the program of the receipt", other.stderr)

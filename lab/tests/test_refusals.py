@@ -4,16 +4,21 @@ import re
 import unittest
 
 import support
-from bbmlab_core.refusals import RULES, TELLERS, explain_refusal
+from bbmlab_core.texts.refusals import RULES, TELLERS, explain_refusal
 
 # What the explanation of a code is about; each is a word of docs/FORMATS.md, and not of the lab's output.
 ABOUT = {
-    2: r"(even|odd|most|outside|limit|1 to|no certificate version|already|more than)", 3: r"(not defined|no wire|no gate|no input|no output|no inverse|can't be turned on)",
-    4: r"(already)", 5: r"consumed already", 6: r"(after|before|header|rise|same|lower|smaller|first)", 7: r"(outside the rectangle|taken)",
-    8: r"(odd|overlaps|not inside)", 9: r"(not local|does not use)", 10: r"(even|odd|not below|ring|rim|halo|outside|already|after the last|not in the box)",
-    11: r"(not consumed|no `in` cell|no `out` cell|does not know|no module|gap)", 12: r"(ends before|line feed|goes on)",
+    2: r"(even|odd|most|outside|limit|1 to|no certificate version|already|more than)",
+    3: r"(not defined|no wire|no gate|no input|no output|no inverse|can't be turned on)",
+    4: r"(already)", 5: r"consumed already", 6: r"(after|before|header|rise|same|lower|smaller|first)",
+    7: r"(outside the rectangle|taken)",
+    8: r"(odd|overlaps|not inside)", 9: r"(not local|does not use)",
+    10: r"(even|odd|not below|ring|rim|halo|outside|already|after the last|not in the box)",
+    11: r"(not consumed|no `in` cell|no `out` cell|does not know|no module|gap)",
+    12: r"(ends before|line feed|goes on)",
 }
-KEYWORDS = set("circuit input source fredkin cswap interact switch delay unswitch uninteract output spill layout mirror ball in out waste "
+KEYWORDS = set("circuit input source fredkin cswap interact switch delay unswitch uninteract output spill layout "
+               "mirror ball in out waste "
                "assign on certificate module cut use keep edge halo stop".split())
 
 
@@ -63,7 +68,8 @@ class Refusals(unittest.TestCase):
         self.assertGreater(count, 50)
 
     def test_names_are_those_of_the_line(self) -> None:
-        """The names that codes 3, 4, 5 and 9 are about stand in the refused line, or are wires of its gate, and in the words."""
+        """The names that codes 3, 4, 5 and 9 are about stand in the refused line, or are wires of its gate, and in the
+        words."""
         count = 0
         for case, document, refusal, told in self.told:
             if refusal.code in (3, 4, 5, 9):
@@ -123,11 +129,16 @@ class Refusals(unittest.TestCase):
     def test_bytes_of_code_1(self) -> None:
         """What is wrong with the bytes of a line is said."""
         base = "circuit\ninput p\noutput p\nend\n"
-        for text, words in [("\xef\xbb\xbf" + base, "byte order mark"), (base.replace("\n", "\r\n"), "CR LF"), (base.replace("t p", "t\tp", 1), "tab"),
-                            (base.replace("t p", "t p # x", 1), "comment"), (base.replace("t p", "t  p", 1), "Two spaces"), ("\n" + base, "empty"),
-                            (base.replace("input p", "input P", 1), "capital"), (base.replace("input p", "inptu p", 1), "`input` is near"),
-                            ("layout 2 2 0\n" + base, "another section"), (base.replace("input p", "delay 01 a -> b", 1), "leading zero"),
-                            (base.replace("input p", "fredkin a b c = d e f", 1), "arrow"), (base.replace("input p", "ball 1 2", 1), "layout section")]:
+        for text, words in [("\xef\xbb\xbf" + base, "byte order mark"), (base.replace("\n", "\r\n"), "CR LF"),
+                            (base.replace("t p", "t\tp", 1), "tab"),
+                            (base.replace("t p", "t p # x", 1), "comment"),
+                            (base.replace("t p", "t  p", 1), "Two spaces"), ("\n" + base, "empty"),
+                            (base.replace("input p", "input P", 1), "capital"),
+                            (base.replace("input p", "inptu p", 1), "`input` is near"),
+                            ("layout 2 2 0\n" + base, "another section"),
+                            (base.replace("input p", "delay 01 a -> b", 1), "leading zero"),
+                            (base.replace("input p", "fredkin a b c = d e f", 1), "arrow"),
+                            (base.replace("input p", "ball 1 2", 1), "layout section")]:
             document = support.read_document(text, "check")
             with self.subTest(words):
                 self.assertEqual(document.refusal.code, 1)

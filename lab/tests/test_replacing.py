@@ -1,4 +1,6 @@
-"""Files that are written again: what another program wrote meanwhile stays, and so do owner, mode, protection and links."""
+"""Files that are written again: what another program wrote meanwhile stays, and so do owner, mode, protection and
+links.
+"""
 
 import os
 import stat
@@ -8,13 +10,13 @@ from pathlib import Path
 from unittest import mock
 
 import support
-from bbmlab_core.answering import Result
 from bbmlab_core.commands import fmt
-from bbmlab_core.receipts import ReceiptFolder
-from bbmlab_core.releases import Program
-from bbmlab_core.spelling import spelled
+from bbmlab_core.farm.answering import Result
+from bbmlab_core.farm.receipts import ReceiptFolder
+from bbmlab_core.host.releases import Program
+from bbmlab_core.host.terminal import LabError, write_bytes
 from bbmlab_core.studio.folder import ChangedError, Folder, digest_of
-from bbmlab_core.terminal import LabError, write_bytes
+from bbmlab_core.texts.spelling import spelled
 
 OTHER = b"# of another editor\n"
 
@@ -36,18 +38,23 @@ class Meanwhile(Room):
     """A file that another editor saves between the reading and the writing."""
 
     def test_explain_in_place(self) -> None:
-        """`explain --fix -i` leaves the other editor's bytes and puts the fix beside them. A second result replaces no first one."""
+        """`explain --fix -i` leaves the other editor's bytes and puts the fix beside them.
+
+        A second result replaces no first one.
+        """
         file, program = self.room / "design.txt", self.room / "program"
         program.write_text(f"#!/bin/sh\ncp '{self.room}/other' '{file}'\nexec '{support.program()}' \"$@\"\n")
         program.chmod(0o755)
-        wrong = Path(support.example("not_gate")).read_bytes().replace(b"out b 4 4\nwaste 7 4\n", b"out b 7 4\nwaste 4 4\n")
+        wrong = Path(support.example("not_gate")).read_bytes().replace(b"out b 4 4\nwaste 7 4\n",
+                                                                       b"out b 7 4\nwaste 4 4\n")
         (self.room / "other").write_bytes(wrong + OTHER)
         for kept in ("design.txt.new", "design.txt.new2"):
             file.write_bytes(wrong)
             ended = support.lab("explain", "--fix", "-i", "--program", str(program), str(file))
             self.assertEqual(file.read_bytes(), wrong + OTHER)
             self.assertEqual(ended.returncode, 4, ended.stderr)
-            self.assertIn(f"another program changed it meanwhile, so it stays as it is; the result is in {self.room}/{kept}", ended.stderr)
+            self.assertIn("another program changed it meanwhile, so it stays as it is; the result is in "
+                          f"{self.room}/{kept}", ended.stderr)
             self.assertEqual(support.lab("check", str(self.room / kept), BBMCHECK=support.program()).returncode, 0)
         self.assertEqual(self.names(), ["design.txt", "design.txt.new", "design.txt.new2", "other", "program"])
 
@@ -59,7 +66,8 @@ class Meanwhile(Room):
         spelling = spelled(before.decode())
         with self.assertRaisesRegex(LabError, "another program changed it meanwhile"):
             fmt.write_in_place(str(file), spelling, before, spelling.text.encode(), False)
-        self.assertEqual((file.read_bytes(), (self.room / "free.txt.new").read_bytes()), (before + OTHER, b"circuit\nend\n"))
+        self.assertEqual((file.read_bytes(), (self.room / "free.txt.new").read_bytes()),
+                         (before + OTHER, b"circuit\nend\n"))
         file.write_bytes(before)
         fmt.write_in_place(str(file), spelling, before, spelling.text.encode(), False)
         self.assertEqual((file.read_bytes(), self.names()), (b"circuit\nend\n", ["free.txt", "free.txt.new"]))
@@ -105,7 +113,8 @@ class Kept(Room):
         file.chmod(0o640)
         self.assertEqual(support.lab("fmt", "-i", str(file)).returncode, 0)
         found = file.stat()
-        self.assertEqual((file.read_bytes(), found.st_uid, found.st_gid, stat.S_IMODE(found.st_mode)), (b"circuit\nend\n", 12345, 12346, 0o640))
+        self.assertEqual((file.read_bytes(), found.st_uid, found.st_gid, stat.S_IMODE(found.st_mode)),
+                         (b"circuit\nend\n", 12345, 12346, 0o640))
 
     def test_an_owner_that_cannot_be_given(self) -> None:
         """A user who may write a file of another one, and cannot give it away, writes into it."""
@@ -142,7 +151,8 @@ class Kept(Room):
         self.assertEqual(set(seen), {0})
 
     def test_a_link_in_a_race(self) -> None:
-        """The studio does not follow a link that is put in the place of its file after it looked: the file behind the link stays."""
+        """The studio does not follow a link that is put in the place of its file after it looked: the file behind the
+        link stays."""
         file, outside = self.room / "design.txt", self.room / "outside"
         outside.write_bytes(b"old\n")
         file.write_bytes(b"old\n")
@@ -174,7 +184,10 @@ class Kept(Room):
                 mock.patch("os.replace", lambda *names: (done.append("rename"), replace(*names))):
             write_bytes(str(self.room / "receipt.json"), b"{}")
             self.assertEqual(done, ["fsync", "rename"])
-            ReceiptFolder(str(self.room / "receipts"), Program("0" * 64, None)).keep(b"x\n", Result("x.txt", "refused", "line 1, code 1", 0.0, output="refused 1 1\n"), 0.0)
+            ReceiptFolder(str(self.room / "receipts"),
+                          Program("0" * 64, None)).keep(b"x\n",
+                                                        Result("x.txt", "refused", "line 1, code 1", 0.0,
+                                                               output="refused 1 1\n"), 0.0)
         self.assertEqual(done, ["fsync", "rename"] * 2)
         self.assertEqual([path.name for path in (self.room / "receipts").iterdir()][0][-10:], "x.txt.json")
 

@@ -1,4 +1,7 @@
-"""RevLib's .real, OpenQASM, PLA and AIGER, mapped to circuits. The expected values come from simulators of their own in this file."""
+"""RevLib's .real, OpenQASM, PLA and AIGER, mapped to circuits.
+
+The expected values come from simulators of their own in this file.
+"""
 
 import itertools
 import random
@@ -6,11 +9,11 @@ import unittest
 from unittest import mock
 
 import support
-from bbmlab_core.circuits import values_under
-from bbmlab_core.netlists import NetlistError, NetlistFormat, map_netlist, netlist_format, read_netlist
+from bbmlab_core.circuits.netlists import NetlistError, NetlistFormat, map_netlist, netlist_format, read_netlist
+from bbmlab_core.texts.circuits import values_under
 
 # Fewer tries than users get, which save time: each try is one that a search can end with.
-FEW_TRIES = mock.patch("bbmlab_core.netlists.search.MAX_TRIES", 8)
+FEW_TRIES = mock.patch("bbmlab_core.circuits.netlists.search.MAX_TRIES", 8)
 # A gate of the simulators: controls with their values, and one target, or two that change places.
 Gate = tuple[list[tuple[int, bool]], list[int]]
 
@@ -52,7 +55,8 @@ def real_text(chance: random.Random, lines: int, gates: list[Gate]) -> tuple[str
     if "-" not in garbage:
         garbage[-1] = "-"
     names = [f"x{line}" for line in range(lines)]
-    head = ["# a comment", ".version 2.0", f".numvars {lines}", f".variables {' '.join(names)}", f".constants {''.join(constants)}",
+    head = ["# a comment", ".version 2.0", f".numvars {lines}", f".variables {' '.join(names)}",
+            f".constants {''.join(constants)}",
             f".garbage {''.join(garbage)}", ".begin"]
     rows = []
     for controls, targets in gates:
@@ -63,7 +67,8 @@ def real_text(chance: random.Random, lines: int, gates: list[Gate]) -> tuple[str
 
 def qasm_text(chance: random.Random, lines: int, gates: list[Gate], version: int) -> str:
     """Returns an OpenQASM text of gates."""
-    rows = ["OPENQASM 2.0;", 'include "qelib1.inc";', f"qreg q[{lines}];"] if version == 2 else ["OPENQASM 3;", f"qubit[{lines}] q; // lines"]
+    rows = ["OPENQASM 2.0;", 'include "qelib1.inc";',
+            f"qreg q[{lines}];"] if version == 2 else ["OPENQASM 3;", f"qubit[{lines}] q; // lines"]
     rows.append("gate pair a, b { cx a, b; barrier a; cx a, b; }")
     for controls, targets in gates:
         names = [f"q[{line}]" for line, _ in controls] + [f"q[{line}]" for line in targets]
@@ -99,7 +104,8 @@ class Mapped(unittest.TestCase):
             begun = list(starts)
             for line, bit in zip(inputs, bits):
                 begun[line] = bit
-            values, undefined = values_under(document.circuit, {name for name, bit in zip(document.circuit.inputs, bits) if bit})
+            values, undefined = values_under(document.circuit,
+                                             {name for name, bit in zip(document.circuit.inputs, bits) if bit})
             self.assertIsNone(undefined)
             ended = run_gates(gates, begun)
             self.assertEqual([values[name] for name in document.circuit.outputs], [ended[line] for line in kept], text)
@@ -156,7 +162,8 @@ class Mapped(unittest.TestCase):
             cx a,b;
             maj a[0],b[0],z[0];
             measure b -> c;"""
-        gates: list[Gate] = [([(0, True)], [2]), ([(1, True)], [3]), ([(4, True)], [2]), ([(4, True)], [0]), ([(0, True), (2, True)], [4])]
+        gates: list[Gate] = [([(0, True)], [2]), ([(1, True)], [3]), ([(4, True)], [2]), ([(4, True)], [0]),
+                             ([(0, True), (2, True)], [4])]
         self.compare(text, [0, 1, 2, 3], [2, 3], gates, [False] * 5)
 
 
@@ -178,7 +185,8 @@ class Tables(unittest.TestCase):
         """Two-level logic: the sum and the carry of three bits."""
         rows = [f"{a}{b}{c} {(a + b + c) % 2}{int(a + b + c > 1)}" for a, b, c in itertools.product((0, 1), repeat=3)]
         text = "\n".join([".i 3", ".o 2", ".ilb a b c", ".ob s co", ".p 8", *rows, ".e", ""])
-        self.assertEqual(self.values(text), [((a + b + c) % 2, int(a + b + c > 1)) for a, b, c in itertools.product((0, 1), repeat=3)])
+        self.assertEqual(self.values(text),
+                         [((a + b + c) % 2, int(a + b + c > 1)) for a, b, c in itertools.product((0, 1), repeat=3)])
         self.assertEqual(self.values(".i 2\n.o 1\n1- 1\n-1 1\n00 -\n"), [(0,), (1,), (1,), (1,)])
 
     def test_aiger(self) -> None:
@@ -199,17 +207,26 @@ class Refused(unittest.TestCase):
         real = ".numvars 2\n.variables a b\n.begin\n{}\n.end\n"
         qasm = "OPENQASM 2.0;\nqreg q[3];\n{}\n"
         for text, said in (
-            (real.format("v a b"), "Line 4: `v` is a square root of NOT, a quantum gate"), (real.format("t3 a b"), "Line 4: `t3` takes 3"),
-            (real.format("t2 a c"), "Line 4: `c` is no variable"), (real.format("t2 a a"), "Line 4: the gate names `a` twice"),
+            (real.format("v a b"), "Line 4: `v` is a square root of NOT, a quantum gate"),
+            (real.format("t3 a b"), "Line 4: `t3` takes 3"),
+            (real.format("t2 a c"), "Line 4: `c` is no variable"),
+            (real.format("t2 a a"), "Line 4: the gate names `a` twice"),
             (real.format("t2 a -b"), "Line 4: a target has no `-`"), (real.format("g a b"), "Line 4: `g` is no gate"),
-            (".numvars 3\n.variables a b\n.begin\n.end\n", "Line 3: `.numvars` says 3"), (".numvars 1\n.variables a\n.begin\n", "without"),
+            (".numvars 3\n.variables a b\n.begin\n.end\n", "Line 3: `.numvars` says 3"),
+            (".numvars 1\n.variables a\n.begin\n", "without"),
             (".numvars 1\n.variables a\n.constants 2\n.begin\n.end\n", "Line 4: `.constants`"),
-            (qasm.format("h q[0];"), "Line 3: `h` is no gate that bits can follow"), (qasm.format("cx q[0],q[3];"), "Line 3: `q[3]` is beyond"),
-            (qasm.format("rx(0.5) q[0];"), "Line 3: `rx` is no gate"), (qasm.format("if (c==1) x q[0];"), "Line 3"), (qasm.format("x q[0]"), "has no `;`"),
-            (qasm.format("creg c[1]; measure q[0] -> c[0]; x q[0];"), "after it was measured"), (qasm.format("x q[0]; reset q[0];"), "loses its bit"),
-            (qasm.format("gate f a { f a; } f q[0];"), "call too many others"), (qasm.format("cx q[0],q[0];"), "names `q[0]` twice"),
+            (qasm.format("h q[0];"), "Line 3: `h` is no gate that bits can follow"),
+            (qasm.format("cx q[0],q[3];"), "Line 3: `q[3]` is beyond"),
+            (qasm.format("rx(0.5) q[0];"), "Line 3: `rx` is no gate"), (qasm.format("if (c==1) x q[0];"), "Line 3"),
+            (qasm.format("x q[0]"), "has no `;`"),
+            (qasm.format("creg c[1]; measure q[0] -> c[0]; x q[0];"), "after it was measured"),
+            (qasm.format("x q[0]; reset q[0];"), "loses its bit"),
+            (qasm.format("gate f a { f a; } f q[0];"), "call too many others"),
+            (qasm.format("cx q[0],q[0];"), "names `q[0]` twice"),
             (".i 2\n.o 1\n111 1\n", "Line 3: a row has 2"), (".i x\n.o 1\n", "Line 1: `.i` takes a number"),
-            ("aag 1 0 1 0 0\n2 3\n", "stores 1 bit: say for how many cycles"), ("aag 1 0 1 0 0\n2 3 5\n", "Line 2: the first value of a latch"), ("aag 1 1 0 1 0\n2\n9\n", "above those of the header"), ("aig 3 1 0 1 2\n2\n\x02", "ends early"),
+            ("aag 1 0 1 0 0\n2 3\n", "stores 1 bit: say for how many cycles"),
+            ("aag 1 0 1 0 0\n2 3 5\n", "Line 2: the first value of a latch"),
+            ("aag 1 1 0 1 0\n2\n9\n", "above those of the header"), ("aig 3 1 0 1 2\n2\n\x02", "ends early"),
         ):
             with self.assertRaises(NetlistError, msg=text) as found:
                 map_netlist(text)
@@ -217,8 +234,10 @@ class Refused(unittest.TestCase):
 
     def test_formats_are_told_by_content(self) -> None:
         """The first words and the lines tell the format."""
-        for text, form in ((".numvars 1\n.variables a\n.begin\n.end\n", NetlistFormat.REAL), ("// x\n/* y\n*/ OPENQASM 3;\n", NetlistFormat.QASM),
-                           ("qreg q[1];", NetlistFormat.QASM), (".i 1\n.o 1\n1 1\n.e\n", NetlistFormat.PLA), ("aag 0 0 0 0 0\n", NetlistFormat.AIGER),
+        for text, form in ((".numvars 1\n.variables a\n.begin\n.end\n", NetlistFormat.REAL),
+                           ("// x\n/* y\n*/ OPENQASM 3;\n", NetlistFormat.QASM),
+                           ("qreg q[1];", NetlistFormat.QASM), (".i 1\n.o 1\n1 1\n.e\n", NetlistFormat.PLA),
+                           ("aag 0 0 0 0 0\n", NetlistFormat.AIGER),
                            (".model m\n.inputs a\n", NetlistFormat.BLIF), ("circuit\ninput a\n", None)):
             self.assertEqual(netlist_format(text), form, text)
 
@@ -234,7 +253,8 @@ class Refused(unittest.TestCase):
         # Counting the lines before each statement anew took minutes for such a text.
         with self.assertRaisesRegex(NetlistError, "Line 200003"):
             read_netlist("OPENQASM 3;\nqubit q;\n" + "x q;\n" * 400_000)
-        for text in ("OPENQASM 2.0;\nqreg q[999999999];\n", ".i 999999999\n.o 1\n", "aag 999999999 999999999 0 0 0\n", ".numvars 1\n.variables a\n.begin\n" + "t1 a\n" * 70_000 + ".end\n"):
+        for text in ("OPENQASM 2.0;\nqreg q[999999999];\n", ".i 999999999\n.o 1\n", "aag 999999999 999999999 0 0 0\n",
+                     ".numvars 1\n.variables a\n.begin\n" + "t1 a\n" * 70_000 + ".end\n"):
             with self.assertRaises(NetlistError):
                 read_netlist(text)
 

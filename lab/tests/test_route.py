@@ -17,15 +17,15 @@ from pathlib import Path
 from unittest import mock
 
 import support
-from bbmlab_core.circuits import evaluate
 from bbmlab_core.cli import main
-from bbmlab_core.documents import Document, read_document
+from bbmlab_core.host.signals import Stopped
+from bbmlab_core.physics.simulation import WholeRun, key_of
 from bbmlab_core.route import certificate, search, world
 from bbmlab_core.route.netlist import Netlist
 from bbmlab_core.route.settings import Settings
 from bbmlab_core.route.world import Item
-from bbmlab_core.signals import Stopped
-from bbmlab_core.simulation import WholeRun, key_of
+from bbmlab_core.texts.circuits import evaluate
+from bbmlab_core.texts.documents import Document, read_document
 
 sys.path.insert(0, str(support.TOP / "bench"))
 from random_circuits import KINDS, made_circuit  # noqa: E402
@@ -33,7 +33,8 @@ from random_circuits import KINDS, made_circuit  # noqa: E402
 LINES = {
     "source": "source 1 -> x\nsource 0 -> y", "fredkin": "fredkin a b c -> x y z", "cswap": "cswap a b c -> x y z",
     "interact": "interact a b -> w x y z", "switch": "switch a b -> x y z", "delay": "delay 37 a -> x",
-    "unswitch": "switch a b -> p q r\nunswitch p q r -> x y", "uninteract": "interact a b -> p q r s\nuninteract p q r s -> x y",
+    "unswitch": "switch a b -> p q r\nunswitch p q r -> x y",
+    "uninteract": "interact a b -> p q r s\nuninteract p q r s -> x y",
 }
 # The seconds in which an interrupted search has to end, on a busy machine too. Without an interrupt it takes longer.
 INTERRUPT_SECONDS = 25.0
@@ -50,7 +51,8 @@ def gate_circuit(word: str) -> str:
     lines = LINES[word]
     made = [name for line in lines.splitlines() for name in line.split("-> ")[1].split()]
     used = [name for line in lines.splitlines() for name in line.split(" ->")[0].split()[1:] if name.isalpha()]
-    return circuit_text("".join(name for name in "abc" if name in used), lines, "".join(name for name in made if name not in used))
+    return circuit_text("".join(name for name in "abc" if name in used), lines,
+                        "".join(name for name in made if name not in used))
 
 
 class Routing(unittest.TestCase):
@@ -80,7 +82,8 @@ class Routing(unittest.TestCase):
         return ended.stdout.decode()
 
     def assert_yes(self, text: str, *words: str) -> Document:
-        """Asserts that a circuit is routed with a yes, keeps its text, and that the lab's simulation gives its values."""
+        """Asserts that a circuit is routed with a yes, keeps its text, and that the lab's simulation gives its values.
+        """
         status, bundle, said = self.route(text, *words)
         self.assertEqual(status, 0, said)
         self.assertIn("verdict yes", said)
@@ -163,10 +166,12 @@ class Yes(Routing):
         circuit = read_document(gate_circuit("switch"), "circuit").circuit
         assert circuit
         count = len(search.COMPACT_PARTS)
-        plans = list(itertools.islice(search.plans_of([Netlist(circuit)], search.Options(is_compact=True), Settings()), count + 2))
+        plans = list(itertools.islice(search.plans_of([Netlist(circuit)], search.Options(is_compact=True), Settings()),
+                                      count + 2))
         self.assertEqual([plan.side == plan.most_side for plan in plans], [False, *[True] * (count - 1), False, False])
         self.assertEqual(len({plan.seed for plan in plans}), count + 2)
-        asked = search.Search(circuit, gate_circuit("switch"), search.Options(is_compact=True, jobs=2), Settings(), lambda *_: None)
+        asked = search.Search(circuit, gate_circuit("switch"), search.Options(is_compact=True, jobs=2), Settings(),
+                              lambda *_: None)
         pool = search.Pool(asked)
         routed = asked.run().routed
         assert routed
@@ -248,7 +253,8 @@ class Hostile(Routing):
         """No gates at all, an input that goes straight to an output, constants alone, and spilled outputs get a yes."""
         texts = [circuit_text("a", "", "a"), circuit_text("", "source 1 -> a\nsource 0 -> b", "ab"),
                  circuit_text("", "source 0 -> a", "", "a"),
-                 circuit_text("ab", "switch a b -> x y z", "", "xyz"), circuit_text("ab", "", "", "ab"), "circuit\nend\n",
+                 circuit_text("ab", "switch a b -> x y z", "", "xyz"), circuit_text("ab", "", "", "ab"),
+                 "circuit\nend\n",
                  circuit_text("a", "source 0 -> b\nsource 1 -> c\nfredkin a b c -> x y z", "xyz"),
                  circuit_text("a", "source 0 -> b\ndelay 9 b -> c\nswitch a c -> x y z", "xyz"),
                  circuit_text("", "source 0 -> a\ndelay 500 a -> b", "b"),
@@ -264,8 +270,10 @@ class Hostile(Routing):
         self.assert_yes("\n".join(["circuit", *lines, *(f"output {name}" for name in names[2:]), "end"]) + "\n")
 
     def test_delays(self) -> None:
-        """Delays in a row, on two inputs of one gate, and one of 1,000 steps get a yes; one of 4096 steps ends in time."""
-        self.assert_yes(circuit_text("ab", "delay 9 a -> c\ndelay 30 c -> d\ndelay 5 b -> e\nswitch d e -> x y z", "xyz"))
+        """Delays in a row, on two inputs of one gate, and one of 1,000 steps get a yes; one of 4096 steps ends in time.
+        """
+        self.assert_yes(circuit_text("ab", "delay 9 a -> c\ndelay 30 c -> d\ndelay 5 b -> e\nswitch d e -> x y z",
+                                     "xyz"))
         self.assert_yes(circuit_text("ab", "delay 1000 a -> c\nswitch c b -> x y z", "xyz"))
         self.assert_ends(circuit_text("a", "delay 4096 a -> b", "b"))
 
@@ -276,7 +284,8 @@ class Hostile(Routing):
         self.assert_ends("\n".join(["circuit", *lines, "end"]) + "\n")
 
     def test_too_many_gates(self) -> None:
-        """What does not fit gets a sentence that names a gate, and with `--keep-partial` a bundle of a part with a yes."""
+        """What does not fit gets a sentence that names a gate, and with `--keep-partial` a bundle of a part with a yes.
+        """
         status, bundle, said = self.route(made_circuit("forward", 200, 12, 3), "--effort", "8", "--keep-partial")
         self.assertEqual(status, 1)
         self.assertIn("no route", said)
@@ -284,12 +293,16 @@ class Hostile(Routing):
         self.assertIn("verdict yes", self.verdict(bundle))
 
     def test_interrupt(self) -> None:
-        """An interrupt ends the search in time, with one process and with two. It keeps a part with a yes, or says that it keeps none."""
+        """An interrupt ends the search in time, with one process and with two.
+
+        It keeps a part with a yes, or says that it keeps none.
+        """
         path, bundle = self.room / "large.txt", self.room / "part.txt"
         path.write_text(made_circuit("forward", 200, 12, 3))
         for words in ((), ("--jobs", "2"), ("--keep-partial",), ("--keep-partial", "--jobs", "2")):
             bundle.unlink(missing_ok=True)
-            command = [sys.executable, str(support.LAB / "bbmlab"), "route", str(path), "-o", str(bundle), "--program", self.program, *words]
+            command = [sys.executable, str(support.LAB / "bbmlab"), "route", str(path), "-o", str(bundle), "--program",
+                       self.program, *words]
             # A shell starts jobs in the background with SIGINT ignored, and children inherit that.
             process = subprocess.Popen(command, stderr=subprocess.PIPE, start_new_session=True,
                                        preexec_fn=lambda: signal.signal(signal.SIGINT, signal.SIG_DFL))
@@ -307,7 +320,8 @@ class Hostile(Routing):
                 self.assertEqual(bundle.exists(), "kept a bundle" in said, said)
 
     def test_interrupted_processes_keep_what_they_found(self) -> None:
-        """An interrupt of several processes keeps the routes that were found, as that of one process does, and has its signal's status."""
+        """An interrupt of several processes keeps the routes that were found, as that of one process does, and has its
+        signal's status."""
         text = gate_circuit("switch")
         circuit = read_document(text, "circuit").circuit
         assert circuit
@@ -320,7 +334,8 @@ class Hostile(Routing):
             raise Stopped(signal.SIGTERM)
 
         with mock.patch.object(search.Pool, "start", stopped):
-            outcome = search.Search(circuit, text, search.Options(jobs=2, is_compact=True), Settings(), lambda *_: None).run()
+            outcome = search.Search(circuit, text, search.Options(jobs=2, is_compact=True), Settings(),
+                                    lambda *_: None).run()
         self.assertTrue(outcome.is_interrupted)
         self.assertEqual((outcome.routed, outcome.interrupt_status), (found, 143))
 
@@ -329,7 +344,8 @@ class Delays(Routing):
     """Delays that one ball passes in turn."""
 
     def test_short_delays_in_turn(self) -> None:
-        """A box that knows the first and the last wire of a ball uses the delays between, so that it does not run them as independent."""
+        """A box that knows the first and the last wire of a ball uses the delays between, so that it does not run them
+        as independent."""
         text = "circuit\ninput a\ndelay 1 a -> b\ndelay 1 b -> c\ndelay 1 c -> d\ndelay 1 d -> e\noutput e\nend\n"
         for seed in range(1, 41):
             status, _, said = self.route(text, "--size", "96", "--seed", str(seed))
@@ -337,7 +353,8 @@ class Delays(Routing):
 
     def test_delay_behind_constants(self) -> None:
         """A box with a gate of constants and a delay of its output uses the delay."""
-        text = "circuit\nsource 1 -> a\nsource 1 -> b\nswitch b a -> c d e\ndelay 3 d -> f\noutput f\nspill e\nspill c\nend\n"
+        text = ("circuit\nsource 1 -> a\nsource 1 -> b\nswitch b a -> c d e\ndelay 3 d -> f\noutput f\nspill e\nspill "
+                "c\nend\n")
         self.assertEqual(self.route(text)[0], 0)
 
     def test_more_steps_than_a_layout_has(self) -> None:

@@ -7,8 +7,6 @@ import unittest
 from unittest import mock
 
 import support
-from bbmlab_core.circuits import Circuit
-from bbmlab_core.documents import read_document
 from bbmlab_core.route.attempt import Attempt
 from bbmlab_core.route.balls import BOUNCE_STEPS, Ball, Leg, Turn, follow, path_run, reversed_legs
 from bbmlab_core.route.board import Board, NoRouteError
@@ -19,6 +17,8 @@ from bbmlab_core.route.ripup import WayMaker
 from bbmlab_core.route.search import routed_bundle
 from bbmlab_core.route.settings import Settings
 from bbmlab_core.route.world import World, path_item
+from bbmlab_core.texts.circuits import Circuit
+from bbmlab_core.texts.documents import read_document
 from test_route import LINES, circuit_text, gate_circuit
 
 sys.path.insert(0, str(support.TOP / "bench"))
@@ -26,7 +26,8 @@ from random_circuits import made_circuit  # noqa: E402
 
 DELAYS = [
     circuit_text("ab", "delay 9 a -> c\ndelay 30 c -> d\ndelay 5 b -> e\nswitch d e -> x y z", "xyz"),
-    circuit_text("abc", "delay 90 a -> d\ndelay 40 b -> e\ndelay 7 c -> f\nfredkin d e f -> x y z\ndelay 60 x -> w", "wyz"),
+    circuit_text("abc", "delay 90 a -> d\ndelay 40 b -> e\ndelay 7 c -> f\nfredkin d e f -> x y z\ndelay 60 x -> w",
+                 "wyz"),
     circuit_text("a", "source 0 -> b\ndelay 200 b -> c\ndelay 5 a -> d\nswitch d c -> x y z", "xyz"),
     circuit_text("", "source 0 -> a\ndelay 500 a -> b\nsource 1 -> c\ndelay 30 c -> d", "bd"),
 ]
@@ -42,7 +43,8 @@ def read_circuit(text: str) -> Circuit:
 def random_legs(chance: random.Random) -> list[Leg]:
     """Returns legs of a path with up to five bounces."""
     turns = [chance.choice(list(Turn)) for _ in range(chance.randint(0, 5))]
-    return [*(Leg(chance.randint(BOUNCE_STEPS, 40), turn) for turn in turns), Leg(chance.randint(BOUNCE_STEPS, 40), None)]
+    return [*(Leg(chance.randint(BOUNCE_STEPS, 40), turn) for turn in turns),
+            Leg(chance.randint(BOUNCE_STEPS, 40), None)]
 
 
 class Backward(unittest.TestCase):
@@ -86,14 +88,16 @@ class Backward(unittest.TestCase):
             item, last = path_item(start, legs), 2 * chance.randint(200, 300) + 1
             if item is None:
                 continue
-            path = turned_path(Path("a", start, end, tuple(legs), item), Netlist(read_circuit(circuit_text("a", "", "a"))), last)
+            path = turned_path(Path("a", start, end, tuple(legs), item),
+                               Netlist(read_circuit(circuit_text("a", "", "a"))), last)
             run = path_run(path.start, path.legs)
             self.assertEqual(set(run.states[-1]), set(start.cells()))
             self.assertEqual(set(path.start.cells()), set(end.cells()))
             self.assertEqual(follow(path.start, reversed_legs(legs))[1], mirrors[::-1])
             forward = path_item(path.start, path.legs)
             assert forward
-            self.assertEqual((forward.mirrors, forward.touched, forward.claims), (path.item.mirrors, path.item.touched, path.item.claims))
+            self.assertEqual((forward.mirrors, forward.touched, forward.claims),
+                             (path.item.mirrors, path.item.touched, path.item.claims))
             done += 1
 
 
@@ -103,12 +107,14 @@ class RipUp(unittest.TestCase):
     def assert_books(self, board: Board) -> None:
         """Asserts that the world has exactly the items of the board."""
         world = World(board.size)
-        items = [item for step in board.steps for item in [step.gate.item, *(path.item for path in [*step.paths, *step.parked])]]
+        items = [item for step in board.steps for item in [step.gate.item,
+                                                           *(path.item for path in [*step.paths, *step.parked])]]
         items += [path.item for path in board.ends]
         for item in [*items, *(own.item for own in board.waiting.values() if own.item)]:
             self.assertTrue(world.fits(item))
             world.add(item)
-        self.assertEqual((world.claims, world.mirrors, world.counts), (board.world.claims, board.world.mirrors, board.world.counts))
+        self.assertEqual((world.claims, world.mirrors, world.counts),
+                         (board.world.claims, board.world.mirrors, board.world.counts))
 
     def test_books(self) -> None:
         """After each way that was made, and after each that was not, no two items meet and the books agree."""
@@ -131,7 +137,8 @@ class RipUp(unittest.TestCase):
         self.assertEqual(set(results), {True, False})
 
     def test_books_of_ends(self) -> None:
-        """If no ball finds its way to the last time at once, paths to gates make way for some, and the books agree in the end."""
+        """If no ball finds its way to the last time at once, paths to gates make way for some, and the books agree in
+        the end."""
         right, lead, made, asked = Attempt.path_through, Attempt.last_path, [], set()
 
         def unwilling(self: Attempt, root: str, ball: Ball | None, end: int) -> Path | None:

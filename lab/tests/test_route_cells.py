@@ -4,12 +4,13 @@ import random
 import unittest
 
 import support  # noqa: F401
-from bbmlab_core.circuits import Gate
-from bbmlab_core.gates import gate_row, input_tables
-from bbmlab_core.route.balls import (BOUNCE_STEPS, Ball, Leg, Turn, bounce, bounce_before, cells_at, follow, moving_cells, path_run,
+from bbmlab_core.route.balls import (BOUNCE_STEPS, Ball, Leg, Turn, bounce, bounce_before, cells_at, follow,
+                                     moving_cells, path_run,
                                      run_exactly, start_state)
-from bbmlab_core.route.world import path_item
 from bbmlab_core.route.cells import PORTS, GateCell, base_cells, library
+from bbmlab_core.route.world import path_item
+from bbmlab_core.texts.circuits import Gate
+from bbmlab_core.texts.gates import gate_row, input_tables
 
 EACH_DIRECTION = [Ball(40 + (dx < 0), 40 + (dy < 0), dx, dy, 0) for dx in (1, -1) for dy in (1, -1)]
 
@@ -18,7 +19,8 @@ class Balls(unittest.TestCase):
     """A ball by algebra is where the rule of blocks leads it."""
 
     def test_bounce(self) -> None:
-        """A bounce ends on the track that the algebra says, in all directions, and not a step sooner than `BOUNCE_STEPS`."""
+        """A bounce ends on the track that the algebra says, in all directions, and not a step sooner than
+        `BOUNCE_STEPS`."""
         for ball in EACH_DIRECTION:
             for turn in Turn:
                 legs = [Leg(6, turn), Leg(BOUNCE_STEPS, None)]
@@ -36,12 +38,14 @@ class Balls(unittest.TestCase):
                 self.assertEqual(bounce_before(after, turn), (ball, mirror))
 
     def test_cells_of_paths(self) -> None:
-        """The moving cells of random paths by arithmetic are those of exact runs, at each time, in all directions and with any first time."""
+        """The moving cells of random paths by arithmetic are those of exact runs, at each time, in all directions and
+        with any first time."""
         seed = random.randrange(10**6)
         chance, count = random.Random(seed), 0
         for _ in range(300):
             start = chance.choice(EACH_DIRECTION).moved(200, 200, 0).flown(chance.randint(0, 3))
-            legs = [Leg(chance.randint(0 if index == 0 else BOUNCE_STEPS, 20), chance.choice(list(Turn))) for index in range(chance.randint(0, 5))]
+            legs = [Leg(chance.randint(0 if index == 0 else BOUNCE_STEPS, 20), chance.choice(list(Turn)))
+                    for index in range(chance.randint(0, 5))]
             legs.append(Leg(chance.randint(BOUNCE_STEPS, 20), None))
             if path_item(start, legs) is None:
                 continue
@@ -75,7 +79,8 @@ class Cells(unittest.TestCase):
         first = min(ports[port].time for port in inputs)
         last = max(ports[port].time for port in outputs)
         mirrors = {(x + shift[0], y + shift[1]) for x, y in cell.mirrors}
-        run = run_exactly(mirrors, start_state([(ports[port].at(first), table[port] & rows) for port in inputs]), first, last)
+        run = run_exactly(mirrors, start_state([(ports[port].at(first), table[port] & rows) for port in inputs]), first,
+                          last)
         self.assertTrue(run.is_stable)
         return run.states[-1], start_state([(ports[port].at(last), table[port] & rows) for port in outputs])
 
@@ -95,7 +100,8 @@ class Cells(unittest.TestCase):
         """The ports of each cell are legal balls, and their names are those of the gate's line."""
         for word, cells in library().items():
             for cell in cells:
-                self.assertEqual((tuple(sorted(cell.ins)), tuple(sorted(cell.outs))), tuple(tuple(sorted(names)) for names in PORTS[word]))
+                self.assertEqual((tuple(sorted(cell.ins)), tuple(sorted(cell.outs))),
+                                 tuple(tuple(sorted(names)) for names in PORTS[word]))
                 self.assertTrue(all(ball.is_legal for ball in (cell.ins | cell.outs).values()))
 
     def test_claims_are_whole(self) -> None:
@@ -104,7 +110,8 @@ class Cells(unittest.TestCase):
             cell = library()[word][3]
             inputs = PORTS[word][0]
             tables = dict(zip(inputs, input_tables(len(inputs))))
-            run = run_exactly(set(cell.mirrors), start_state([(cell.ins[port].at(0), tables[port]) for port in inputs]), 0, cell.length)
+            run = run_exactly(set(cell.mirrors), start_state([(cell.ins[port].at(0), tables[port]) for port in inputs]),
+                              0, cell.length)
             for time, state in enumerate(run.states[:-1]):
                 flying = {own for ball in cell.ins.values() if time < ball.time for own in ball.at(time).cells()}
                 flying |= {own for ball in cell.outs.values() if time >= ball.time for own in ball.at(time).cells()}

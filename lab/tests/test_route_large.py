@@ -1,4 +1,6 @@
-"""What the router does for large circuits: rows of bits, planes that grow, lanes, cropping, and what it says before and after a search."""
+"""What the router does for large circuits: rows of bits, planes that grow, lanes, cropping, and what it says before and
+after a search.
+"""
 
 import pickle
 import random
@@ -8,9 +10,7 @@ from unittest import mock
 from test_route import Routing, circuit_text, gate_circuit
 
 import support
-from bbmlab_core.circuits import Circuit
-from bbmlab_core.documents import read_document
-from bbmlab_core.keeps import kept_cone
+from bbmlab_core.circuits.keeps import kept_cone
 from bbmlab_core.route import bit_rows, search
 from bbmlab_core.route.attempt import Attempt
 from bbmlab_core.route.balls import BOUNCE_STEPS, Ball, Leg, Turn, bounce, follow
@@ -22,6 +22,8 @@ from bbmlab_core.route.netlist import Netlist
 from bbmlab_core.route.placement import Inlet
 from bbmlab_core.route.settings import Settings
 from bbmlab_core.route.world import MARGIN, World, path_item
+from bbmlab_core.texts.circuits import Circuit
+from bbmlab_core.texts.documents import read_document
 from random_circuits import made_circuit
 
 SIDE = 400
@@ -53,7 +55,8 @@ def random_pair(chance: random.Random) -> tuple[Ball, Ball]:
     balls = []
     for time in (0, 2 * chance.randint(120, 260)):
         dx, dy = chance.choice((1, -1)), chance.choice((1, -1))
-        balls.append(Ball(2 * chance.randrange(40, 160) + (dx < 0), 2 * chance.randrange(40, 160) + (dy < 0), dx, dy, time))
+        balls.append(Ball(2 * chance.randrange(40, 160) + (dx < 0), 2 * chance.randrange(40, 160) + (dy < 0), dx, dy,
+                          time))
     return balls[0], balls[1]
 
 
@@ -61,7 +64,8 @@ class BitRows(unittest.TestCase):
     """Paths by rows of bits."""
 
     def test_joins_come_to_the_goal(self) -> None:
-        """Each join ends at its goal, and its mirrors have room and its legs a free way; most pairs of balls on a free plane are joined."""
+        """Each join ends at its goal, and its mirrors have room and its legs a free way; most pairs of balls on a free
+        plane are joined."""
         seed = random.randrange(10**6)
         chance, joined, pairs = random.Random(seed), 0, 0
         for _ in range(60):
@@ -81,7 +85,8 @@ class BitRows(unittest.TestCase):
         self.assertGreater(joined, pairs // 3, f"seed {seed}")
 
     def test_bends_have_room(self) -> None:
-        """The first and the last bounces are just those for which a mirror has room on the way of the ball, one by one."""
+        """The first and the last bounces are just those for which a mirror has room on the way of the ball, one by one.
+        """
         seed = random.randrange(10**6)
         chance = random.Random(seed)
         for _ in range(40):
@@ -89,7 +94,8 @@ class BitRows(unittest.TestCase):
             ball, goal = random_pair(chance)
             joiner = BitJoiner(world, chance, Settings())
             found = {(bend.steps, bend.turn) for bend in joiner.first_bends(ball, 0)}
-            wanted = {(steps, turn) for steps in range(joiner.room(ball) + 1) for turn in Turn if world.can_hold(bounce(ball.flown(steps), turn)[1])}
+            wanted = {(steps, turn) for steps in range(joiner.room(ball) + 1) for turn in Turn
+                      if world.can_hold(bounce(ball.flown(steps), turn)[1])}
             self.assertEqual(found, wanted, f"seed {seed}")
             for bend in joiner.last_bends(goal):
                 self.assertEqual(bounce(bend.ball, bend.turn)[0].flown(bend.steps), goal, f"seed {seed}")
@@ -106,14 +112,17 @@ class Growth(unittest.TestCase):
     """Planes that grow."""
 
     def test_what_is_there_stays(self) -> None:
-        """A plane that grew has the same rows and diagonals, and takes items beyond its old border, which were refused before."""
+        """A plane that grew has the same rows and diagonals, and takes items beyond its old border, which were refused
+        before."""
         chance = random.Random(3)
         world = crowded_world(chance, 10)
-        before = [world.claims.copy(), world.mirrors.copy(), world.blocked.copy(), world.mirror_falling.copy(), world.blocked_rising.copy()]
+        before = [world.claims.copy(), world.mirrors.copy(), world.blocked.copy(), world.mirror_falling.copy(),
+                  world.blocked_rising.copy()]
         mirror = bounce(Ball(SIDE + 20, SIDE + 20, 1, 1, 0), Turn.FLAT)[1]
         self.assertFalse(world.can_hold(mirror))
         world.grow(64)
-        self.assertEqual(before, [world.claims, world.mirrors, world.blocked, world.mirror_falling, world.blocked_rising])
+        self.assertEqual(before,
+                         [world.claims, world.mirrors, world.blocked, world.mirror_falling, world.blocked_rising])
         self.assertTrue(world.can_hold(mirror))
         item = path_item(Ball(SIDE - 20, SIDE - 20, 1, 1, 0), [Leg(40, Turn.FLAT), Leg(10, None)])
         assert item
@@ -141,9 +150,11 @@ class Growth(unittest.TestCase):
 
 
     def test_ends_get_room(self) -> None:
-        """Before balls are led to the last time the plane grows until their ways have room by estimate: here 30 balls for some 300 steps."""
+        """Before balls are led to the last time the plane grows until their ways have room by estimate: here 30 balls
+        for some 300 steps."""
         names = [f"w{number}" for number in range(30)]
-        text = "\n".join(["circuit", *(f"input {name}" for name in names), *(f"delay 300 {name} -> {name}_late" for name in names),
+        text = "\n".join(["circuit", *(f"input {name}" for name in names),
+                          *(f"delay 300 {name} -> {name}_late" for name in names),
                           *(f"output {name}_late" for name in names), "end"]) + "\n"
         for most, is_grown in ((4096, True), (160, False)):
             attempt = Attempt(Netlist(read_circuit(text)), 160, 1, Settings(), most_size=most)
@@ -158,7 +169,8 @@ class Lanes(unittest.TestCase):
     """The way ahead of waiting balls."""
 
     def test_gates_keep_off(self) -> None:
-        """No gate is put on the way ahead of a ball that waits, but for the gate that consumes it, or behind the ball."""
+        """No gate is put on the way ahead of a ball that waits, but for the gate that consumes it, or behind the ball.
+        """
         attempt = Attempt(Netlist(read_circuit(gate_circuit("switch"))), 400, 1, Settings())
         placer, board = attempt.placer, attempt.board
         gate = attempt.netlist.gates[0]
@@ -175,7 +187,8 @@ class Cropping(Routing):
     """Layouts as small as what they contain."""
 
     def test_crop_keeps_the_design(self) -> None:
-        """The cropped layout gets a yes like the whole one, is no larger, and has a margin of at most a tile and four cells on each side."""
+        """The cropped layout gets a yes like the whole one, is no larger, and has a margin of at most a tile and four
+        cells on each side."""
         text = made_circuit("any", 8, 5, 2)
         design = next(found for found in (self.design(text, seed) for seed in range(20)) if found)
         small, whole = search.bundle_of(text, cropped(design)), search.bundle_of(text, design)
@@ -201,7 +214,8 @@ class Sides(Routing):
     """Planes of sides below and above the first limit, up to the largest."""
 
     def test_sides(self) -> None:
-        """On planes of given sides a circuit gets a yes, and the lab's run its values; the line of limits is there only if it is needed."""
+        """On planes of given sides a circuit gets a yes, and the lab's run its values; the line of limits is there only
+        if it is needed."""
         for side, words in ((512, ()), (528, ("--seed", "2")), (2048, ()), (4096, ())):
             with self.subTest(side=side):
                 document = self.assert_yes(gate_circuit("fredkin"), "--size", str(side), *words)
@@ -229,7 +243,8 @@ class Words(Routing):
     def test_no_keep_is_said_before_the_search(self) -> None:
         """A circuit with an inverse gate that nothing can keep is refused at once, with the gate and its line."""
         text = next(text for text in (made_circuit("any", 100, 8, seed) for seed in range(1, 200))
-                    if any(gate.is_inverse and kept_cone(read_circuit(text), gate.number) is None for gate in read_circuit(text).gates))
+                    if any(gate.is_inverse and kept_cone(read_circuit(text), gate.number) is None
+                           for gate in read_circuit(text).gates))
         with mock.patch.object(search.Search, "run", side_effect=AssertionError("the search began")):
             status, _, said = self.route(text)
         self.assertEqual(status, 1)
@@ -244,8 +259,10 @@ class Words(Routing):
         old, made = self.room / "old", self.room / "made.txt"
         old.write_text("#!/bin/sh\ncat > /dev/null\necho 'refused 1 1'\nexit 3\n")
         old.chmod(0o755)
-        for side, words in (("528", "does not read texts that begin with `limits 2`"), ("512", "this is an error of the router")):
-            ended = support.lab("route", support.example("half_adder"), "--size", side, "-o", str(made), "--program", str(old))
+        for side, words in (("528", "does not read texts that begin with `limits 2`"),
+                            ("512", "this is an error of the router")):
+            ended = support.lab("route", support.example("half_adder"), "--size", side, "-o", str(made), "--program",
+                                str(old))
             self.assertEqual(ended.returncode, 1)
             self.assertIn(words, ended.stderr)
 

@@ -8,12 +8,12 @@ import xml.etree.ElementTree as tree
 from pathlib import Path
 
 import support
-from bbmlab_core.documents import read_document
 from bbmlab_core.route.board import Board
 from bbmlab_core.route.crowding import COLOURS, class_of, crowding_of, runs, tile_counts
 from bbmlab_core.route.netlist import Netlist
 from bbmlab_core.route.settings import Settings
 from bbmlab_core.route.world import ROW, TILE, Item, World
+from bbmlab_core.texts.documents import read_document
 
 sys.path.insert(0, str(support.TOP / "bench"))
 from random_circuits import made_circuit  # noqa: E402
@@ -45,7 +45,8 @@ class Counts(unittest.TestCase):
 
     def test_full_tile(self) -> None:
         """A full tile is in the last class, an empty one in the first, and half a full one in the middle."""
-        cells = [(x, y) for x in range(TILE) for y in range(TILE)] + [(x, y) for x in range(TILE, 2 * TILE) for y in range(TILE // 2)]
+        cells = [(x, y) for x in range(TILE) for y in range(TILE)] + [(x, y) for x in range(TILE, 2 * TILE)
+                                                                      for y in range(TILE // 2)]
         row = next(tile_counts(world_with(48, cells)))
         self.assertEqual([class_of(half) for half in row], [len(COLOURS) - 1, 4, 0])
 
@@ -73,7 +74,8 @@ class Map(unittest.TestCase):
         with tempfile.TemporaryDirectory() as room:
             circuit, picture = Path(room) / "circuit.txt", Path(room) / "map.svg"
             circuit.write_text(str(made_circuit("forward", 10, 5, 3)))
-            ended = support.lab("route", str(circuit), "-o", str(Path(room) / "bundle.txt"), "--map", str(picture), *words)
+            ended = support.lab("route", str(circuit), "-o", str(Path(room) / "bundle.txt"), "--map", str(picture),
+                                *words)
             return ended.returncode, ended.stderr, tree.parse(picture).getroot() if picture.exists() else None
 
     def test_routed(self) -> None:

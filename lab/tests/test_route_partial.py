@@ -14,22 +14,23 @@ from typing import Any, Callable
 from unittest import mock
 
 import support
-from bbmlab_core.circuits import Circuit
-from bbmlab_core.documents import read_document
-from bbmlab_core.gates import GATE_SIZES
-from bbmlab_core.program import find_program
+from bbmlab_core.host.program import find_program
 from bbmlab_core.route import partial
 from bbmlab_core.route.attempt import Attempt, OutOfTimeError
 from bbmlab_core.route.balls import Ball, Leg
 from bbmlab_core.route.board import NoRouteError, Step, Waiting
-from bbmlab_core.route.netlist import Netlist
-from bbmlab_core.route.partial import Part, affordable_count, partial_circuit, partial_design, partial_text, steps_without
 from bbmlab_core.route.command import report_failure
 from bbmlab_core.route.design import Design
+from bbmlab_core.route.netlist import Netlist
+from bbmlab_core.route.partial import (Part, affordable_count, partial_circuit, partial_design, partial_text,
+                                       steps_without)
 from bbmlab_core.route.paths import Path as BallPath
 from bbmlab_core.route.search import Options, Outcome, Search, routed_bundle
 from bbmlab_core.route.settings import Settings
 from bbmlab_core.route.world import path_item
+from bbmlab_core.texts.circuits import Circuit
+from bbmlab_core.texts.documents import read_document
+from bbmlab_core.texts.gates import GATE_SIZES
 from test_route import circuit_text
 from test_route_backward import read_circuit
 
@@ -73,7 +74,8 @@ class Parts(unittest.TestCase):
         self.assertIn("\nverdict yes\n", ended.stdout.decode())
 
     def test_all_gates_are_kept(self) -> None:
-        """On small planes too all placed gates are kept: where a ball has no way to the end, paths to gates make way for it."""
+        """On small planes too all placed gates are kept: where a ball has no way to the end, paths to gates make way
+        for it."""
         for kind, inputs, seed in (("inverse", 10, 1), ("forward", 8, 2), ("any", 6, 2)):
             part = placed_part(made_circuit(kind, 40, inputs, seed), 256, 1)
             with self.subTest(kind=kind):
@@ -144,10 +146,12 @@ class Counting(unittest.TestCase):
     """What the summary counts."""
 
     def test_what_is_counted_is_kept(self) -> None:
-        """The summary counts the gates of the bundle, and one more sentence those whose balls could not be led to the end."""
+        """The summary counts the gates of the bundle, and one more sentence those whose balls could not be led to the
+        end."""
         part = placed_part(made_circuit("forward", 12, 8, 1), 512, 1)
         with tempfile.TemporaryDirectory() as room:
-            options = argparse.Namespace(keep_partial=True, map=None, output=f"{room}/part.txt", seed=1, size=512, effort=1.0, jobs=1, compact=False, timeout=60)
+            options = argparse.Namespace(keep_partial=True, map=None, output=f"{room}/part.txt", seed=1, size=512,
+                                         effort=1.0, jobs=1, compact=False, timeout=60)
             for is_interrupted in (False, True):
                 outcome = Outcome(None, "", Counter(), 1, 12, 12, part.steps, 512, is_interrupted)
                 said = io.StringIO()
@@ -156,7 +160,8 @@ class Counting(unittest.TestCase):
                     report_failure(part.circuit, outcome, options, find_program(support.program()))
                 kept = sum(line.split(" ")[0] in GATE_SIZES for line in Path(options.output).read_text().split("\n"))
                 with self.subTest(is_interrupted=is_interrupted):
-                    self.assertEqual(re.findall(r"[0-9]+ of [0-9]+ gates", said.getvalue()), [f"{kept} of 12 gates"], said.getvalue())
+                    self.assertEqual(re.findall(r"[0-9]+ of [0-9]+ gates", said.getvalue()), [f"{kept} of 12 gates"],
+                                     said.getvalue())
                     self.assertIn(f"bbmlab: {12 - kept} more had a place", said.getvalue())
                     self.assertIn("verdict yes", said.getvalue())
 
@@ -173,10 +178,12 @@ class Counting(unittest.TestCase):
 
     def test_what_no_gate_needs_is_left_out(self) -> None:
         """A part has the inputs, sources and delays that its gates need, and no others."""
-        text = "circuit\ninput a\ninput b\ninput c\nsource 1 -> d\nsource 0 -> e\ndelay 5 a -> f\ndelay 7 b -> g\n" \
-               "switch f d -> h i j\nswitch g e -> k l m\noutput c\n" + "".join(f"output {name}\n" for name in "hijklm") + "end\n"
+        text = ("circuit\ninput a\ninput b\ninput c\nsource 1 -> d\nsource 0 -> e\ndelay 5 a -> f\ndelay 7 b -> g\n"
+                "switch f d -> h i j\nswitch g e -> k l m\noutput c\n"
+                + "".join(f"output {name}\n" for name in "hijklm") + "end\n")
         part: Circuit = partial_circuit(read_circuit(text), {4})
-        self.assertEqual((part.inputs, [gate.word for gate in part.gates], part.outputs), (["a"], ["source", "delay", "switch"], ["h", "i", "j"]))
+        self.assertEqual((part.inputs, [gate.word for gate in part.gates], part.outputs),
+                         (["a"], ["source", "delay", "switch"], ["h", "i", "j"]))
 
 
 if __name__ == "__main__":

@@ -4,17 +4,19 @@ import random
 import unittest
 
 import support  # noqa: F401
-from bbmlab_core.layouts import Cell
-from bbmlab_core.route.balls import BOUNCE_STEPS, Ball, Leg, Run, Turn, follow, mirror_cells, path_run, run_exactly, start_state
+from bbmlab_core.route.balls import (BOUNCE_STEPS, Ball, Leg, Run, Turn, follow, mirror_cells, path_run, run_exactly,
+                                     start_state)
 from bbmlab_core.route.cells import library
 from bbmlab_core.route.world import STEP, Item, World, cell_item, cell_number, path_item
+from bbmlab_core.texts.layouts import Cell
 
 # The steps of the runs that are compared.
 LAST = 48
 
 
 class Piece:
-    """A path or a gate with straight ways in and out, from time 0 to `LAST`: its item, its mirrors, and its balls at time 0."""
+    """A path or a gate with straight ways in and out, from time 0 to `LAST`: its item, its mirrors, and its balls at
+    time 0."""
 
     def __init__(self, item: Item, mirrors: set[Cell], balls: list[Ball]) -> None:
         self.item, self.mirrors, self.balls = item, mirrors, balls
@@ -58,12 +60,14 @@ def random_gate(chance: random.Random) -> Piece | None:
         if not plane.fits(part):
             return None
         plane.add(part)
-    item = Item(parts[0].mirrors, tuple(own for part in parts for own in part.touched_parts), tuple(own for part in parts for own in part.claim_parts))
+    item = Item(parts[0].mirrors, tuple(own for part in parts for own in part.touched_parts),
+                tuple(own for part in parts for own in part.claim_parts))
     return Piece(item, {(u + x, v + y) for u, v in cell.mirrors}, [ball.at(0) for ball in ins])
 
 
 class Composition(unittest.TestCase):
-    """Items that claim no block in common, and whose mirrors are in no touched cell of another, run as they run alone."""
+    """Items that claim no block in common, and whose mirrors are in no touched cell of another, run as they run alone.
+    """
 
     def differs(self, pieces: list[Piece]) -> bool:
         """Whether the run of all pieces together differs from the union of their runs alone."""
@@ -72,10 +76,12 @@ class Composition(unittest.TestCase):
         together, alone = run_exactly(mirrors, start, 0, LAST), [piece.run() for piece in pieces]
         if not together.is_stable:
             return True
-        return any(set(state) != set().union(*(run.states[time] for run in alone)) for time, state in enumerate(together.states))
+        return any(set(state) != set().union(*(run.states[time] for run in alone)) for time,
+                   state in enumerate(together.states))
 
     def test_pieces_that_fit_run_as_alone(self) -> None:
-        """Random pieces that fit run as they run alone. Some that do not fit run otherwise, so the comparison can fail."""
+        """Random pieces that fit run as they run alone. Some that do not fit run otherwise, so the comparison can fail.
+        """
         seed = random.randrange(10**6)
         chance, counts, spoilt = random.Random(seed), [], 0
         for _ in range(25):
@@ -104,7 +110,8 @@ class Claims(unittest.TestCase):
         chance, count = random.Random(seed), 0
         for _ in range(500):
             ball = random_ball(chance)
-            legs = [Leg(chance.randint(BOUNCE_STEPS, 14), chance.choice(list(Turn))) for _ in range(chance.randrange(7))]
+            legs = [Leg(chance.randint(BOUNCE_STEPS, 14), chance.choice(list(Turn)))
+                    for _ in range(chance.randrange(7))]
             legs.append(Leg(chance.randint(BOUNCE_STEPS, 14), None))
             item = path_item(ball, legs)
             if item:
@@ -112,7 +119,8 @@ class Claims(unittest.TestCase):
                 run = path_run(ball, legs)
                 self.assertTrue(run.is_stable, f"seed {seed}")
                 self.assertEqual(set(run.states[-1]), set(follow(ball, legs)[0].cells()), f"seed {seed}")
-                claims = {time * STEP + cell_number(corner) for time, corners in enumerate(run.blocks) for corner in corners}
+                claims = {time * STEP + cell_number(corner) for time,
+                          corners in enumerate(run.blocks) for corner in corners}
                 self.assertEqual(item.claims, claims, f"seed {seed}")
         self.assertGreater(count, 300)
 
@@ -130,7 +138,8 @@ class Claims(unittest.TestCase):
         chance.shuffle(items)
         for item in items:
             plane.remove(item)
-        self.assertFalse(plane.claims or plane.mirrors or any(plane.counts) or any(plane.blocked) or any(plane.mirror_falling)
+        self.assertFalse(plane.claims or plane.mirrors or any(plane.counts) or any(plane.blocked)
+                         or any(plane.mirror_falling)
                          or any(plane.mirror_rising) or any(plane.blocked_falling) or any(plane.blocked_rising))
         self.assertGreater(plane.free_flight(ball, 400), 60)
 

@@ -1,4 +1,6 @@
-"""The sentences of `explain` about a few faulty texts are true by the simulation of tools/oracle, and its comparison notices false ones."""
+"""The sentences of `explain` about a few faulty texts are true by the simulation of tools/oracle, and its comparison
+notices false ones.
+"""
 
 import re
 import unittest
@@ -23,7 +25,8 @@ class Compared(unittest.TestCase):
     def test_examples(self) -> None:
         """No sentence about wrong examples is false, and many are compared."""
         compared = 0
-        for name in ("wrong_edge", "wrong_border", "plain_no", "plain_rim", "wrong_times", "not_kept", "head_on_bundle"):
+        for name in ("wrong_edge", "wrong_border", "plain_no", "plain_rim", "wrong_times", "not_kept",
+                     "head_on_bundle"):
             text = (support.EXAMPLES / f"{name}.txt").read_text()
             with self.subTest(name):
                 told = self.told(text, explained(text))
@@ -35,9 +38,11 @@ class Compared(unittest.TestCase):
         """A sentence with another wire, cell, time, count or edit is noticed."""
         text = wrong_edge()
         explanation = explained(text)
-        changes = [(r"if and only if `c`", "if and only if `a`"), (r"1 of 4 choices", "2 of 4 choices"), (r"all 4 choices", "all 8 choices"),
+        changes = [(r"if and only if `c`", "if and only if `a`"), (r"1 of 4 choices", "2 of 4 choices"),
+                   (r"all 4 choices", "all 8 choices"),
                    (r"is live in the whole run", "is dead in the whole run"), (r"inputs p=1 q=0", "inputs p=0 q=0"),
-                   (r"Add `edge 5 8 8 c`", "Add `edge 5 8 8 a`"), (r"At time 5 the cell \(8, 8\) of", "At time 5 the cell (9, 9) of")]
+                   (r"Add `edge 5 8 8 c`", "Add `edge 5 8 8 a`"),
+                   (r"At time 5 the cell \(8, 8\) of", "At time 5 the cell (9, 9) of")]
         for old, new in changes:
             with self.subTest(new):
                 other = changed(explanation, old, new)
@@ -46,7 +51,9 @@ class Compared(unittest.TestCase):
 
     def test_edits(self) -> None:
         """The edits of a fix count lines as they were before all of them."""
-        self.assertEqual(with_edits("a\nb\nc\n", ["Delete line 1 (`a`).", "Add `x` after line 2 (`b`).", "Replace line 3 (`c`) by `d`."]), "b\nx\nd\n")
+        self.assertEqual(with_edits("a\nb\nc\n",
+                                    ["Delete line 1 (`a`).", "Add `x` after line 2 (`b`).",
+                                     "Replace line 3 (`c`) by `d`."]), "b\nx\nd\n")
         self.assertIsNone(with_edits("a\n", ["Then make the certificate again: `bbmlab certify` does."]))
 
 

@@ -5,8 +5,8 @@ import subprocess
 import unittest
 
 import support
-from bbmlab_core.simulation import ModuleRun, run_layout
-from bbmlab_core.tracing import layout_lines, run_text
+from bbmlab_core.physics.simulation import ModuleRun, run_layout
+from bbmlab_core.physics.tracing import layout_lines, run_text
 
 # The runs of this bundle take some seconds each; it is one of many.
 SLOW = {"bundle_bouncers_64_v1"}
@@ -59,7 +59,8 @@ class Simulation(unittest.TestCase):
                 document.layout.steps = chooser.randrange(document.layout.steps + 1)
                 lines = layout_lines(document)
                 lines[0] = f"layout {document.layout.width} {document.layout.height} {document.layout.steps}"
-                ended = subprocess.run([program, "run"], input=run_text(lines, document.on), capture_output=True, check=False)
+                ended = subprocess.run([program, "run"], input=run_text(lines, document.on), capture_output=True,
+                                       check=False)
                 if ended.returncode != 3:
                     with self.subTest(f"{path.name} with {document.on} up to {document.layout.steps}"):
                         self.assertEqual(run_answer(document), ended.stdout.decode())

@@ -18,15 +18,18 @@ class Start(unittest.TestCase):
 
     def test_late_imports(self) -> None:
         """`--help` imports none of the modules that make a start slow, beyond those that Python itself imports."""
-        code = ("import sys; before = set(sys.modules); sys.path.insert(0, sys.argv[1]); from bbmlab_core.cli import commands_for; "
+        code = ("import sys; before = set(sys.modules); sys.path.insert(0, sys.argv[1]); from bbmlab_core.cli import "
+                "commands_for; "
                 "commands_for(['--help']).parser.format_help(); print(*sorted(set(sys.modules) - before))")
-        ended = subprocess.run([sys.executable, "-S", "-c", code, str(support.LAB)], capture_output=True, text=True, check=True)
+        ended = subprocess.run([sys.executable, "-S", "-c", code, str(support.LAB)], capture_output=True, text=True,
+                               check=True)
         self.assertEqual(HEAVY & set(ended.stdout.split()), set())
 
     def test_list_has_all_commands(self) -> None:
         """`--help` lists each command, and each of them has a help of its own that names its arguments."""
         listed = support.lab("--help").stdout
-        for name in ("check", "explain", "trace", "draw", "view", "certify", "route", "cells", "fmt", "json", "golly", "from-golly"):
+        for name in ("check", "explain", "trace", "draw", "view", "certify", "route", "cells", "fmt", "json", "golly",
+                     "from-golly"):
             with self.subTest(name=name):
                 self.assertRegex(listed, rf"(?m)^    {name}\s+\w")
                 own = support.lab(name, "--help")
@@ -34,7 +37,10 @@ class Start(unittest.TestCase):
                 self.assertIn("Example: bbmlab", own.stdout)
 
     def test_compiled_modules(self) -> None:
-        """Compiled modules are kept in the user's cache, and nothing of them next to the sources. Another user's cache is not used."""
+        """Compiled modules are kept in the user's cache, and nothing of them next to the sources.
+
+        Another user's cache is not used.
+        """
         with tempfile.TemporaryDirectory() as room:
             for is_own in (True, False):
                 cache = Path(room) / str(is_own)

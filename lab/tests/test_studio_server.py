@@ -1,4 +1,5 @@
-"""The studio's server: who is answered, which files are read and written, what is too large, and what ends a program."""
+"""The studio's server: who is answered, which files are read and written, what is too large, and what ends a program.
+"""
 
 import http.client
 import json
@@ -16,14 +17,14 @@ from pathlib import Path
 from typing import Any
 
 import support
+from bbmlab_core.studio import routes
 from bbmlab_core.studio.answers import EMPTY, Answers
 from bbmlab_core.studio.folder import Folder
 from bbmlab_core.studio.guard import MAX_REQUEST_BYTES
-from bbmlab_core.studio import routes
-from bbmlab_core.studio.jobs import Jobs, Worker
-from bbmlab_core.studio.server import POLICY, Studio, studio
-from bbmlab_core.spelling import source_line
-from bbmlab_core.studio.verdicts import cuts_of
+from bbmlab_core.studio.jobs import Jobs, JobWorker
+from bbmlab_core.studio.server import POLICY, Studio, studio_server
+from bbmlab_core.texts.skimming import cuts_of
+from bbmlab_core.texts.spelling import source_line
 
 MEMORY = 4096
 # A program that does not end, with a name that no other test has.
@@ -43,7 +44,7 @@ class Served(unittest.TestCase):
         self.room = self.outside / "designs"
         self.room.mkdir()
         (self.room / "gate.txt").write_bytes(Path(support.example("not_gate")).read_bytes())
-        self.server: Studio = studio(0, Answers(Folder(str(self.room / "gate.txt")), self.jobs))
+        self.server: Studio = studio_server(0, Answers(Folder(str(self.room / "gate.txt")), self.jobs))
         thread = threading.Thread(target=self.server.serve_forever, kwargs={"poll_interval": 0.05})
         thread.start()
         self.addCleanup(thread.join)
@@ -53,7 +54,8 @@ class Served(unittest.TestCase):
     def send(self, method: str, path: str, body: bytes = b"", **headers: str) -> tuple[int, dict[str, str], bytes]:
         """Returns the status, the headers and the body of an answer. Headers that are empty are left out."""
         guard = self.server.guard
-        lines = {"Host": guard.host, "Origin": f"http://{guard.host}", "Content-Type": "application/json", "Content-Length": str(len(body)),
+        lines = {"Host": guard.host, "Origin": f"http://{guard.host}", "Content-Type": "application/json",
+                 "Content-Length": str(len(body)),
                  "X-Bbmlab-Key": guard.key, **{name.replace("_", "-"): value for name, value in headers.items()}}
         link = http.client.HTTPConnection("127.0.0.1", self.server.server_address[1], timeout=60)
         try:
@@ -86,7 +88,8 @@ class Security(Served):
         self.assertGreaterEqual(min(len(self.server.guard.key), len(self.server.guard.token)), 32)
 
     def test_each_request_carries_the_key(self) -> None:
-        """Without the key, or with another one, a request is refused, also one with the token or with the key in its path or in a cookie."""
+        """Without the key, or with another one, a request is refused, also one with the token or with the key in its
+        path or in a cookie."""
         guard = self.server.guard
         for key in ("", "x", guard.key[:-1], guard.key + "x", guard.token, "\xff"):
             for request in ("start", "open", "save", "files", "verdict", "quit"):
@@ -103,8 +106,10 @@ class Security(Served):
         self.assertEqual(self.server.address, f"http://{guard.host}/#{token}")
         for wrong in ("", "x", token[:-1], guard.key, "\ud800"):
             self.assertEqual(self.enter(wrong)[0], 403, wrong)
-        self.assertEqual(self.send("POST", "api/enter", json.dumps({"token": token}).encode(), X_Bbmlab_Key="", Origin="null")[0], 403)
-        self.assertEqual(self.send("POST", "api/enter", json.dumps({"token": "x" * 2000}).encode(), X_Bbmlab_Key="")[0], 413)
+        self.assertEqual(self.send("POST", "api/enter", json.dumps({"token": token}).encode(), X_Bbmlab_Key="",
+                                   Origin="null")[0], 403)
+        self.assertEqual(self.send("POST", "api/enter", json.dumps({"token": "x" * 2000}).encode(), X_Bbmlab_Key="")[0],
+                         413)
         self.assertEqual(entries, [])
         status, data = self.enter(token)
         self.assertEqual((status, json.loads(data)), (200, {"key": guard.key}))
@@ -129,15 +134,20 @@ class Security(Served):
     def test_other_hosts_and_pages(self) -> None:
         """A request for another host, as after DNS rebinding, and one from another page get 403."""
         port = self.server.server_address[1]
-        for host in ("evil.example", f"evil.example:{port}", f"localhost:{port}", "127.0.0.1", f"127.0.0.1:{port + 1}", f"127.0.0.1:{port}.evil.example", ""):
+        for host in ("evil.example", f"evil.example:{port}", f"localhost:{port}", "127.0.0.1", f"127.0.0.1:{port + 1}",
+                     f"127.0.0.1:{port}.evil.example", ""):
             self.assertEqual(self.send("GET", "", Host=host)[0], 403, host)
             self.assertEqual(self.send("POST", "api/start", b"{}", Host=host)[0], 403, host)
-        for origin in ("https://evil.example", "null", f"https://127.0.0.1:{port}", f"http://127.0.0.1:{port + 1}", f"http://localhost:{port}", ""):
+        for origin in ("https://evil.example", "null", f"https://127.0.0.1:{port}", f"http://127.0.0.1:{port + 1}",
+                       f"http://localhost:{port}", ""):
             self.assertEqual(self.send("POST", "api/start", b"{}", Origin=origin)[0], 403, origin)
         self.assertEqual(self.send("GET", "", Origin="https://evil.example")[0], 403)
-        for path, mode, kind in (("studio/model.js", "", ""), ("studio/model.js", "navigate", "document"), ("", "navigate", "iframe"), ("", "cors", "empty")):
-            self.assertEqual(self.send("GET", path, Sec_Fetch_Site="cross-site", Sec_Fetch_Mode=mode, Sec_Fetch_Dest=kind)[0], 403, (path, kind))
-        self.assertEqual(self.send("GET", "", Sec_Fetch_Site="cross-site", Sec_Fetch_Mode="navigate", Sec_Fetch_Dest="document", Origin="")[0], 200)
+        for path, mode, kind in (("studio/model.js", "", ""), ("studio/model.js", "navigate", "document"),
+                                 ("", "navigate", "iframe"), ("", "cors", "empty")):
+            self.assertEqual(self.send("GET", path, Sec_Fetch_Site="cross-site", Sec_Fetch_Mode=mode,
+                                       Sec_Fetch_Dest=kind)[0], 403, (path, kind))
+        self.assertEqual(self.send("GET", "", Sec_Fetch_Site="cross-site", Sec_Fetch_Mode="navigate",
+                                   Sec_Fetch_Dest="document", Origin="")[0], 200)
         self.assertEqual(self.send("GET", "", Origin="")[0], 200)
 
     def test_requests_are_json(self) -> None:
@@ -153,7 +163,8 @@ class Security(Served):
         self.assertEqual(self.send("POST", "api/quit", b"{}")[0], 404)
 
     def test_large_requests(self) -> None:
-        """A request over the most of all, and one that does not say how long it is, are refused before their bodies are read."""
+        """A request over the most of all, and one that does not say how long it is, are refused before their bodies are
+        read."""
         self.assertEqual(self.send("POST", "api/start", b"", Content_Length=str(MAX_REQUEST_BYTES + 1))[0], 413)
         for length in ("", "-1", "x", "1e3", "9" * 40):
             self.assertEqual(self.send("POST", "api/start", b"", Content_Length=length)[0], 411, length)
@@ -162,7 +173,8 @@ class Security(Served):
     def test_short_requests(self) -> None:
         """A request that ends before its length does nothing, also if what came is a whole JSON object."""
         body = json.dumps({"name": "short.txt", "text": "layout 2 2 0\nend\n", "digest": None}).encode()
-        lines = [f"Host: {self.server.guard.host}", f"Origin: http://{self.server.guard.host}", "Content-Type: application/json",
+        lines = [f"Host: {self.server.guard.host}", f"Origin: http://{self.server.guard.host}",
+                 "Content-Type: application/json",
                  f"X-Bbmlab-Key: {self.server.guard.key}", f"Content-Length: {len(body) + 1}", "Connection: close"]
         with socket.create_connection(self.server.server_address[:2], timeout=60) as link:
             link.sendall("\r\n".join(["POST /api/save HTTP/1.1", *lines, "", ""]).encode() + body)
@@ -173,17 +185,20 @@ class Security(Served):
 
     def test_headers(self) -> None:
         """Each answer forbids scripts of others, frames and guesses of types."""
-        for method, path, key in (("GET", "", ""), ("GET", "studio/model.js", ""), ("POST", "api/files", self.server.guard.key), ("POST", "api/files", "wrong")):
+        for method, path, key in (("GET", "", ""), ("GET", "studio/model.js", ""),
+                                  ("POST", "api/files", self.server.guard.key), ("POST", "api/files", "wrong")):
             _, headers, _ = self.send(method, path, b"{}", X_Bbmlab_Key=key)
             self.assertEqual(headers["Content-Security-Policy"], POLICY)
-            self.assertEqual((headers["X-Content-Type-Options"], headers["Referrer-Policy"]), ("nosniff", "no-referrer"))
+            self.assertEqual((headers["X-Content-Type-Options"], headers["Referrer-Policy"]),
+                             ("nosniff", "no-referrer"))
             self.assertNotIn("Access-Control-Allow-Origin", headers)
         self.assertNotIn("unsafe", POLICY)
         self.assertIn("default-src 'none'; script-src 'self';", POLICY)
 
     def test_no_file_of_the_page_is_elsewhere(self) -> None:
         """Paths that lead out of the page's files are not found."""
-        for path in ("studio/../../../../etc/passwd", "../etc/passwd", "studio/server.py", "studio/%2e%2e/cli.py", "/etc/passwd", "studio/studio.html", "view"):
+        for path in ("studio/../../../../etc/passwd", "../etc/passwd", "studio/server.py", "studio/%2e%2e/cli.py",
+                     "/etc/passwd", "studio/studio.html", "view"):
             self.assertEqual(self.send("GET", path)[0], 404, path)
 
 
@@ -198,7 +213,8 @@ class Files(Served):
         (self.room / "link.txt").symlink_to(self.outside / "secret.txt")
         (self.room / "down.txt").mkdir()
         os.mkfifo(self.room / "pipe.txt")
-        names = ["../secret.txt", str(self.outside / "secret.txt"), "notes.md", ".hidden.txt", "link.txt", "down.txt", "pipe.txt", "", ".", "..", "a/../gate.txt",
+        names = ["../secret.txt", str(self.outside / "secret.txt"), "notes.md", ".hidden.txt", "link.txt", "down.txt",
+                 "pipe.txt", "", ".", "..", "a/../gate.txt",
                  "gate.txt/", "x\0.txt", "..\\secret.txt", "a" * 300 + ".txt", "gate.txt\n"]
         for name in names:
             self.assertIn("error", self.ask("open", name=name), name)
@@ -212,7 +228,8 @@ class Files(Served):
         self.assertIn("File name too long", self.ask("save", name="ü" * 150 + ".txt", text="x", digest=None)["error"])
 
     def test_other_texts_of_the_folder(self) -> None:
-        """A `.txt` file of the folder can be opened, also one whose bytes are no UTF-8, and is written back as it is."""
+        """A `.txt` file of the folder can be opened, also one whose bytes are no UTF-8, and is written back as it is.
+        """
         data = b"circuit # caf\xe9 \xc3\xa9\r\nend\n"
         (self.room / "other.txt").write_bytes(data)
         opened = self.ask("open", name="other.txt")
@@ -256,7 +273,8 @@ class Files(Served):
         """A text with comments has a one spelling without them; a text of one spelling is its own."""
         good = Path(support.example("not_gate")).read_text()
         self.assertEqual(self.ask("spelling", text=good), {"text": good, "comments": 0})
-        self.assertEqual(self.ask("spelling", text="# a\n" + good.replace("end\n", "end # b\r\n", 1)), {"text": good, "comments": 2})
+        self.assertEqual(self.ask("spelling", text="# a\n" + good.replace("end\n", "end # b\r\n", 1)),
+                         {"text": good, "comments": 2})
 
     def test_templates(self) -> None:
         """New texts are an empty layout, standard cells and examples; other names are none."""
@@ -287,7 +305,8 @@ class Verdicts(Served):
 
     def test_verdicts(self) -> None:
         """Texts with and without certificates get the program's verdict, and a refusal names the line."""
-        for name, verdict, by in (("machine_fredkin", "yes", "own"), ("not_gate", "yes", "plain"), ("plain_no", "no", "plain"), ("delay_line", "yes", "own"),
+        for name, verdict, by in (("machine_fredkin", "yes", "own"), ("not_gate", "yes", "plain"),
+                                  ("plain_no", "no", "plain"), ("delay_line", "yes", "own"),
                                   ("wrong_edge", "yes", "plain"), ("wrong_delay", "no", "own")):
             told = self.ask("verdict", text=Path(support.example(name)).read_text(), tab="a")
             self.assertEqual((told["verdict"], told["by"]), (verdict, by), name)
@@ -297,7 +316,10 @@ class Verdicts(Served):
         self.assertEqual((told["verdict"], told["line"], told["code"]), ("refused", 6, 3))
 
     def test_stages(self) -> None:
-        """A text whose certificate no longer fits gets its no first. The earlier certificate is tried before the lab makes one."""
+        """A text whose certificate no longer fits gets its no first.
+
+        The earlier certificate is tried before the lab makes one.
+        """
         text = Path(support.example("delay_line")).read_text()
         head, certificate = text.split("certificate ")
         told = self.ask("verdict", text=head, tab="a", stage="first", earlier=f"certificate {certificate}")
@@ -306,13 +328,18 @@ class Verdicts(Served):
         self.assertEqual((told["verdict"], told["report"], told["is_last"]), ("none", "", False))
         told = self.ask("verdict", text=head, tab="a", stage="made", earlier="")
         self.assertEqual((told["verdict"], told["by"], told["is_last"]), ("yes", "certify", True))
-        told = self.ask("verdict", text=Path(support.example("wrong_delay")).read_text(), tab="a", stage="first", earlier="")
+        told = self.ask("verdict", text=Path(support.example("wrong_delay")).read_text(), tab="a", stage="first",
+                        earlier="")
         self.assertEqual((told["verdict"], told["by"], told["is_last"]), ("no", "own", False))
-        told = self.ask("verdict", text=Path(support.example("wrong_delay")).read_text(), tab="a", stage="other", earlier="")
+        told = self.ask("verdict", text=Path(support.example("wrong_delay")).read_text(), tab="a", stage="other",
+                        earlier="")
         self.assertNotIn("With all inputs on", told["words"][0])
         told = self.ask("verdict", text=text.replace("out b 26 28", "out b 26 27"), tab="a", stage="other", earlier="")
-        self.assertEqual((told["verdict"], told["words"][0][:83]), ("none", "With all inputs on the cell (26, 27) is dead at the end and should be live. So no ce"[:83]))
-        told = self.ask("verdict", text="circuit\ninput p\noutput p\nend\nlayout 66 66 80\nin p 2 2\nout p 6 6\nend\n", tab="a")
+        self.assertEqual((told["verdict"], told["words"][0][:83]),
+                         ("none",
+                          "With all inputs on the cell (26, 27) is dead at the end and should be live. So no ce"[:83]))
+        told = self.ask("verdict", text="circuit\ninput p\noutput p\nend\nlayout 66 66 80\nin p 2 2\nout p 6 6\nend\n",
+                        tab="a")
         self.assertEqual((told["verdict"], told["report"]), ("none", ""))
         self.assertTrue(told["words"])
 
@@ -340,23 +367,33 @@ class Verdicts(Served):
     def test_exports(self) -> None:
         """A text can be had as SVG, for Golly and as one page."""
         text = Path(support.example("not_gate")).read_text()
-        for form, word in (("svg", "<svg "), ("golly", "rule = BBM-Margolus-emulated"), ("page", "Content-Security-Policy")):
-            self.assertIn(word, self.ask("export", text=text, tab="a", bundle="", form=form, name="a<b>", on=["p"])["text"], form)
+        for form, word in (("svg", "<svg "), ("golly", "rule = BBM-Margolus-emulated"),
+                           ("page", "Content-Security-Policy")):
+            self.assertIn(word,
+                          self.ask("export", text=text, tab="a", bundle="", form=form, name="a<b>", on=["p"])["text"],
+                          form)
         self.assertIn("error", self.ask("export", text="circuit\n", tab="a", bundle="", form="svg", name="a", on=[]))
-        self.assertEqual(self.send("POST", "api/export", json.dumps({"text": "", "tab": "", "bundle": "", "form": "svg", "name": ""}).encode())[0], 400)
+        self.assertEqual(self.send("POST", "api/export",
+                                   json.dumps({"text": "", "tab": "", "bundle": "", "form": "svg",
+                                               "name": ""}).encode())[0], 400)
         for form in ("", "SVG", "../page"):
-            self.assertIn("svg, golly or page", self.ask("export", text=text, tab="a", bundle="", form=form, name="a", on=[])["error"])
+            self.assertIn("svg, golly or page",
+                          self.ask("export", text=text, tab="a", bundle="", form=form, name="a", on=[])["error"])
 
     def test_what_is_no_text(self) -> None:
         """Half a character, and a report that is none, are told as what they are."""
         for request, more, sentence in (("verdict", {"text": "# \ud800"}, "half a character"),
-                                        ("explain", {"text": Path(support.example("not_gate")).read_text(), "bundle": "", "report": "junk"}, "report")):
+                                        ("explain",
+                                         {"text": Path(support.example("not_gate")).read_text(), "bundle": "",
+                                          "report": "junk"}, "report")):
             self.assertIn(sentence, self.ask(request, tab="a", **more)["error"])
 
     def test_an_export_is_not_ended(self) -> None:
         """A verdict of the same tab waits for an export, and the export for a verdict."""
         text, answers = Path(support.example("machine_full_adder")).read_text(), {}
-        asks = [threading.Thread(target=lambda name=name, more=more: answers.update({name: self.ask(name, text=text, tab="a", **more)}))  # type: ignore[misc]
+        asks = [threading.Thread(target=lambda name=name,
+                                 more=more: answers.update({name: self.ask(name, text=text, tab="a",
+                                                                           **more)}))  # type: ignore[misc]
                 for name, more in (("export", {"bundle": "", "form": "svg", "name": "a", "on": []}), ("verdict", {}))]
         for thread in asks:
             thread.start()
@@ -381,7 +418,8 @@ class Searches(Served):
         """Returns a circuit whose search takes minutes: so many gates, each with inputs of its own."""
         count = 600
         names = [f"p{number}" for number in range(count)]
-        lines = [f"fredkin p{number} p{number + 1} p{number + 2} -> a{number} b{number} c{number}" for number in range(0, count, 3)]
+        lines = [f"fredkin p{number} p{number + 1} p{number + 2} -> a{number} b{number} c{number}"
+                 for number in range(0, count, 3)]
         outs = [f"output {letter}{number}" for number in range(0, count, 3) for letter in "abc"]
         return "\n".join(["circuit", *(f"input {name}" for name in names), *lines, *outs, "end"]) + "\n"
 
@@ -399,13 +437,16 @@ class Searches(Served):
         self.assertEqual(told["state"], "found", told)
         self.assertIn("switch p q -> a b c", told["text"])
         self.assertIn("verdict yes", told["said"])
-        self.assertEqual(subprocess.run([support.program(), "check"], input=told["text"].encode(), stdout=subprocess.DEVNULL, check=False).returncode, 0)
+        self.assertEqual(subprocess.run([support.program(), "check"], input=told["text"].encode(),
+                                        stdout=subprocess.DEVNULL, check=False).returncode, 0)
         self.assertEqual(self.ask("routed", tab="a")["state"], "none")
 
     def test_a_search_is_cancelled(self) -> None:
-        """A cancelled search ends with its processes, and another one can begin then; while it runs, no other one can."""
+        """A cancelled search ends with its processes, and another one can begin then; while it runs, no other one can.
+        """
         self.ask("route", tab="a", text=self.long_circuit(), seconds=600, seed=1)
-        self.assertIn("Another search is running", self.ask("route", tab="b", text=self.CIRCUIT, seconds=60, seed=1)["error"])
+        self.assertIn("Another search is running",
+                      self.ask("route", tab="b", text=self.CIRCUIT, seconds=60, seed=1)["error"])
         self.assertEqual(self.ask("routed", tab="b")["state"], "none")
         process, room = self.routes.found["a"].process, Path(self.routes.found["a"].room.name)
         self.assertEqual(self.ask("unroute", tab="a")["state"], "cancelled")
@@ -433,8 +474,10 @@ class Searches(Served):
         """Numbers that are none, or out of their range, begin no search."""
         for seconds, seed in ((0, 1), (3601, 1), (60, -1), (60, 2**31)):
             self.assertIn("error", self.ask("route", tab="a", text=self.CIRCUIT, seconds=seconds, seed=seed))
-        for words in ({"seconds": "60", "seed": 1}, {"seconds": 60, "seed": 1.5}, {"seconds": True, "seed": 1}, {"seconds": 60}):
-            self.assertEqual(self.send("POST", "api/route", json.dumps({"tab": "a", "text": self.CIRCUIT, **words}).encode())[0], 400)
+        for words in ({"seconds": "60", "seed": 1}, {"seconds": 60, "seed": 1.5}, {"seconds": True, "seed": 1},
+                      {"seconds": 60}):
+            self.assertEqual(self.send("POST", "api/route",
+                                       json.dumps({"tab": "a", "text": self.CIRCUIT, **words}).encode())[0], 400)
         self.assertEqual(self.routes.found, {})
 
 
@@ -455,11 +498,13 @@ class Limits(unittest.TestCase):
         jobs = Jobs(self.fake(f"exec sleep 987654.{os.getpid()}"), 0.5, MEMORY)
         told = jobs.run("a", {"kind": "verdict", "text": EMPTY})
         jobs.close()
-        self.assertEqual((told["verdict"], told["words"]), ("unknown", ["The program gave no answer within 0.5 seconds."]))
+        self.assertEqual((told["verdict"], told["words"]),
+                         ("unknown", ["The program gave no answer within 0.5 seconds."]))
         self.assertNotIn(f"sleep 987654.{os.getpid()}", running())
 
     def test_newer_jobs_end_older_ones(self) -> None:
-        """A newer job of a tab ends its older one with its program; a job of another tab waits, so at most one program runs."""
+        """A newer job of a tab ends its older one with its program; a job of another tab waits, so at most one program
+        runs."""
         mark = self.fake(f"exec {SLEEP}")
         jobs, answers = Jobs(mark, 600, MEMORY), []
         first = threading.Thread(target=lambda: answers.append(jobs.run("a", {"kind": "verdict", "text": EMPTY})))
@@ -469,7 +514,10 @@ class Limits(unittest.TestCase):
         other.start()
         time.sleep(0.3)
         self.assertEqual(running().count(SLEEP), 1)
-        closer = threading.Thread(target=lambda: answers.append(jobs.run("a", {"kind": "export", "text": "circuit\n", "bundle": "", "form": "svg", "name": "", "on": []})))
+        closer = threading.Thread(target=lambda: answers.append(jobs.run("a",
+                                                                         {"kind": "export", "text": "circuit\n",
+                                                                          "bundle": "", "form": "svg", "name": "",
+                                                                          "on": []})))
         closer.start()
         self.wait(lambda: {"replaced": True} in answers)
         self.wait(lambda: running().count(SLEEP) == 1 or len(answers) > 1)
@@ -488,7 +536,7 @@ class Limits(unittest.TestCase):
 
     def test_memory_limit(self) -> None:
         """The process of the jobs and the program run under a memory limit, and one that needs more gets no verdict."""
-        worker = Worker(self.fake("exit 0"), 5, 1024)
+        worker = JobWorker(self.fake("exit 0"), 5, 1024)
         self.addCleanup(worker.release)
         self.addCleanup(worker.end)
         worker.answer({"kind": "verdict", "text": EMPTY}, 60)
@@ -509,7 +557,8 @@ class Command(unittest.TestCase):
     """The command."""
 
     def test_open(self) -> None:
-        """Without `--no-open` the browser gets a page that only this user can read, and that leads to the address that is printed.
+        """Without `--no-open` the browser gets a page that only this user can read, and that leads to the address that
+        is printed.
 
         All users can list the arguments of a process, so they contain nothing of the address but the page's path.
         """
@@ -517,8 +566,10 @@ class Command(unittest.TestCase):
             browser, seen = Path(room) / "browser", Path(room) / "seen"
             browser.write_text(f'#!/bin/sh\nprintf %s "$1" >"{seen}.new" && mv "{seen}.new" "{seen}"\n')
             browser.chmod(0o755)
-            process = subprocess.Popen([sys.executable, str(support.LAB / "bbmlab"), "studio", f"{room}/a.txt"], stdout=subprocess.PIPE,
-                                       stderr=subprocess.DEVNULL, text=True, env={**os.environ, "BROWSER": str(browser)})
+            process = subprocess.Popen([sys.executable, str(support.LAB / "bbmlab"), "studio", f"{room}/a.txt"],
+                                       stdout=subprocess.PIPE,
+                                       stderr=subprocess.DEVNULL, text=True,
+                                       env={**os.environ, "BROWSER": str(browser)})
             self.addCleanup(process.wait)
             self.addCleanup(process.terminate)
             address = process.stdout.readline().strip()
@@ -538,7 +589,8 @@ class Command(unittest.TestCase):
     def test_no_open(self) -> None:
         """`--no-open` prints the address alone, and SIGTERM ends the server with its processes."""
         with tempfile.TemporaryDirectory() as room:
-            process = subprocess.Popen([sys.executable, str(support.LAB / "bbmlab"), "studio", f"{room}/a.txt", "--no-open"], stdout=subprocess.PIPE,
+            process = subprocess.Popen([sys.executable, str(support.LAB / "bbmlab"), "studio", f"{room}/a.txt",
+                                        "--no-open"], stdout=subprocess.PIPE,
                                        stderr=subprocess.DEVNULL, text=True)
             address = process.stdout.readline().strip()
             self.assertRegex(address, r"^http://127\.0\.0\.1:\d+/#[\w-]{32}$")

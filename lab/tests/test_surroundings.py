@@ -1,4 +1,6 @@
-"""Surroundings that are not as a command wishes: closed and full outputs, pipes, signals, odd names, and programs that answer something else."""
+"""Surroundings that are not as a command wishes: closed and full outputs, pipes, signals, odd names, and programs that
+answer something else.
+"""
 
 import json
 import os
@@ -13,7 +15,7 @@ from pathlib import Path
 from typing import Callable
 
 import support
-from bbmlab_core.diagnosis import Diagnosis, Truth
+from bbmlab_core.explain.diagnosis import Diagnosis, Truth
 from bbmlab_core.studio.jobs import Jobs
 
 LAB = str(support.LAB / "bbmlab")
@@ -36,7 +38,8 @@ class Room(unittest.TestCase):
 
     def shell(self, line: str, *words: str, **environment: str) -> "subprocess.CompletedProcess[bytes]":
         """Runs a line of a shell, in which `lab` is the lab and $1 the first of the words."""
-        return subprocess.run(["sh", "-c", f"lab() {{ '{sys.executable}' '{LAB}' \"$@\"; }}\n{line}", "sh", *words], capture_output=True, check=False, timeout=120,
+        return subprocess.run(["sh", "-c", f"lab() {{ '{sys.executable}' '{LAB}' \"$@\"; }}\n{line}", "sh", *words],
+                              capture_output=True, check=False, timeout=120,
                               env={**os.environ, **environment}, cwd=self.room)
 
 
@@ -61,12 +64,14 @@ class Outputs(Room):
         """Help that could not be written is status 4, with a sentence."""
         for words in ("--help", "check --help", "--version"):
             ended = self.shell(f"lab {words} >/dev/full")
-            self.assertEqual((ended.returncode, ended.stderr), (4, b"bbmlab: standard output: No space left on device\n"), words)
+            self.assertEqual((ended.returncode, ended.stderr),
+                             (4, b"bbmlab: standard output: No space left on device\n"), words)
             self.assertEqual(self.shell(f"lab {words} >&-").returncode, 4, words)
         self.assertEqual(self.shell("lab --help >out; lab --help | grep -c check").returncode, 0)
 
     def test_names_forge_no_lines(self) -> None:
-        """Control characters of names and of a program's messages reach no terminal, and make no line of a diagnosis."""
+        """Control characters of names and of a program's messages reach no terminal, and make no line of a diagnosis.
+        """
         name = self.room / "a\nforged.txt:1: error: \x1b[31mb.txt"
         for text in ("circuit\nsource 2 -> a\nend\n", Path(support.example("wrong_edge")).read_text()):
             name.write_text(text)
@@ -91,15 +96,18 @@ class Inputs(Room):
         os.mkfifo(folder / "x.txt")
         (folder / "y.txt").write_bytes(Path(support.example("gate_and_mirror")).read_bytes())
         started = time.monotonic()
-        ended = subprocess.run([sys.executable, LAB, "check", "--timeout", "1", "--program", support.program(), str(folder / "x.txt")], capture_output=True,
+        ended = subprocess.run([sys.executable, LAB, "check", "--timeout", "1", "--program", support.program(),
+                                str(folder / "x.txt")], capture_output=True,
                                text=True, check=False, timeout=30)
         self.assertEqual((ended.returncode, time.monotonic() - started < 20), (4, True))
         self.assertIn("the file did not end within 1 seconds", ended.stdout)
-        ended = subprocess.run([sys.executable, LAB, "check", "--timeout", "1", "--receipts", str(self.room / "r"), "--program", support.program(), str(folder)],
+        ended = subprocess.run([sys.executable, LAB, "check", "--timeout", "1", "--receipts", str(self.room / "r"),
+                                "--program", support.program(), str(folder)],
                                capture_output=True, text=True, check=False, timeout=30)
         self.assertEqual(ended.returncode, 0, ended.stdout)
         self.assertIn(f"bbmlab: {folder}/x.txt: this is no plain file, and is left out", ended.stderr)
-        ended = self.shell('cat "$1" | lab check --timeout 20 --program "$2" /dev/fd/0', support.example("gate_and_mirror"), support.program())
+        ended = self.shell('cat "$1" | lab check --timeout 20 --program "$2" /dev/fd/0',
+                           support.example("gate_and_mirror"), support.program())
         self.assertEqual(ended.returncode, 0, ended.stdout)
 
     def test_folders(self) -> None:
@@ -110,11 +118,13 @@ class Inputs(Room):
         (self.room / "designs" / "link").symlink_to(self.room / "designs" / "deep")
         ended = support.lab("check", "--program", support.program(), str(self.room / "designs"))
         self.assertEqual((ended.returncode, ended.stdout.splitlines()[-1]), (0, "3 files: 3 yes"))
-        self.assertEqual(ended.stderr, f"bbmlab: {self.room}/designs/link: this link to a folder is left out; name it to check its files\n")
+        self.assertEqual(ended.stderr, f"bbmlab: {self.room}/designs/link: this link to a folder is left out; name it "
+                         "to check its files\n")
 
     def test_an_empty_shard(self) -> None:
         """A part without files says yes to nothing."""
-        parts = [json.loads(support.lab("check", "--format", "json", "--shard", f"{number}/9", "--program", support.program(), support.example("not_known")).stdout)
+        parts = [json.loads(support.lab("check", "--format", "json", "--shard", f"{number}/9", "--program",
+                                        support.program(), support.example("not_known")).stdout)
                  for number in range(1, 10)]
         self.assertEqual(sorted(len(part["results"]) for part in parts), [0] * 8 + [1])
         self.assertEqual([part["all_yes"] for part in parts], [False] * 9)
@@ -124,14 +134,16 @@ class Receipts(Room):
     """Receipts of equal names."""
 
     def test_two_folders(self) -> None:
-        """Files of one relative name in two folders have two receipts in one folder, and a file has one from wherever it is checked."""
+        """Files of one relative name in two folders have two receipts in one folder, and a file has one from wherever
+        it is checked."""
         for place, name in (("a", "gate_and_mirror"), ("b", "wrong_edge")):
             (self.room / place).mkdir()
             (self.room / place / "x.txt").write_bytes(Path(support.example(name)).read_bytes())
         words = f"--program '{support.program()}' --receipts"
         self.assertEqual(self.shell(f"cd b; lab check {words} ../receipts x.txt").returncode, 1)
         self.assertEqual(self.shell(f"cd a; lab check {words} ../receipts x.txt").returncode, 0)
-        self.assertEqual(sorted(path.name for path in (self.room / "receipts").iterdir()), ["a%2Fx.txt.json", "b%2Fx.txt.json"])
+        self.assertEqual(sorted(path.name for path in (self.room / "receipts").iterdir()),
+                         ["a%2Fx.txt.json", "b%2Fx.txt.json"])
         self.assertEqual(self.shell("lab summary receipts").returncode, 1)
         self.assertIn(b"held 2, checked 0", self.shell(f"lab check {words} receipts a b").stdout)
 
@@ -142,25 +154,30 @@ class Programs(Room):
     def test_report_of_another_text(self) -> None:
         """The report of another text is no answer: no command takes its yes, and there is no receipt of it."""
         good, wrong = support.example("gate_and_mirror"), support.example("wrong_edge")
-        program = self.program(f"[ \"$1\" = check ] || exec \"$real\" \"$@\"\ncat >/dev/null; exec \"$real\" check <'{good}'")
+        program = self.program("[ \"$1\" = check ] || exec \"$real\" \"$@\"\ncat >/dev/null; exec \"$real\" check "
+                               f"<'{good}'")
         receipts = self.room / "receipts"
         ended = support.lab("check", "--program", program, "--receipts", str(receipts), wrong, good)
         self.assertEqual(ended.returncode, 4)
         self.assertIn("gave the report of another text", ended.stdout)
         self.assertEqual([path.name.endswith("gate_and_mirror.txt.json") for path in receipts.iterdir()], [True])
-        for words in (["certify", support.example("not_gate")], ["route", support.example("half_adder")], ["explain", wrong], ["explain", "--fix", wrong]):
+        for words in (["certify", support.example("not_gate")], ["route", support.example("half_adder")],
+                      ["explain", wrong], ["explain", "--fix", wrong]):
             ended = support.lab(*words, "--program", program)
             self.assertEqual(ended.returncode, 4, (words, ended.stdout, ended.stderr))
             self.assertNotIn("says yes", ended.stderr)
         jobs = Jobs(program, 20.0, 4096)
         self.addCleanup(jobs.close)
-        told = jobs.run("a", {"kind": "verdict", "text": Path(support.example("not_gate")).read_text(), "stage": "first", "earlier": ""})
+        told = jobs.run("a",
+                        {"kind": "verdict", "text": Path(support.example("not_gate")).read_text(), "stage": "first",
+                         "earlier": ""})
         self.assertEqual(told["verdict"], "unknown", told)
         self.assertIn("another text", told["words"][0])
 
     def test_trace_with_other_programs(self) -> None:
         """What is no answer of `run` is told in a line, with status 4."""
-        for output in ("cells x\\nfoo\\n", "cells 1\\nfoo\\n", "cells 2\\n1 2\\n", "", "cells 1\\n1 2", "cells 99999999999999999999\\n"):
+        for output in ("cells x\\nfoo\\n", "cells 1\\nfoo\\n", "cells 2\\n1 2\\n", "", "cells 1\\n1 2",
+                       "cells 99999999999999999999\\n"):
             program = self.program(f"cat >/dev/null; printf '{output}'")
             ended = support.lab("trace", "--program", program, support.example("gate_and_mirror"))
             self.assertEqual(ended.returncode, 4, (output, ended.stderr))
@@ -169,18 +186,23 @@ class Programs(Room):
 
     def test_crashed_worker(self) -> None:
         """A process of the studio that a signal ended is told as such, and as no limit. The next one answers."""
-        jobs = Jobs(self.program(f"[ -e '{self.room}/once' ] || {{ touch '{self.room}/once'; kill -9 $PPID; }}\nexec \"$real\" \"$@\""), 20.0, 4096)
+        jobs = Jobs(self.program(f"[ -e '{self.room}/once' ] || {{ touch '{self.room}/once'; kill -9 $PPID; }}\nexec "
+                                 "\"$real\" \"$@\""), 20.0, 4096)
         self.addCleanup(jobs.close)
-        job = {"kind": "verdict", "text": Path(support.example("not_gate")).read_text(), "stage": "first", "earlier": ""}
+        job = {"kind": "verdict", "text": Path(support.example("not_gate")).read_text(), "stage": "first",
+               "earlier": ""}
         self.assertEqual(jobs.run("a", job), {"error": "There is no answer: the lab's process was ended by SIGKILL."})
         self.assertEqual(jobs.run("a", job)["verdict"], "yes")
 
     def test_hard_memory_limit(self) -> None:
         """Under a hard limit of the address space, below what the studio takes by itself, there are verdicts."""
-        script = ("import sys; sys.path.insert(0, sys.argv[1]); from bbmlab_core.studio.jobs import Jobs; jobs = Jobs(sys.argv[2], 20.0, 4096);"
-                  "print(jobs.run('a', {'kind': 'verdict', 'text': open(sys.argv[3]).read(), 'stage': 'first', 'earlier': ''}).get('verdict')); jobs.close()")
+        script = ("import sys; sys.path.insert(0, sys.argv[1]); from bbmlab_core.studio.jobs import Jobs; jobs = "
+                  "Jobs(sys.argv[2], 20.0, 4096);"
+                  "print(jobs.run('a', {'kind': 'verdict', 'text': open(sys.argv[3]).read(), 'stage': 'first', "
+                  "'earlier': ''}).get('verdict')); jobs.close()")
         limit = 2 << 30
-        ended = subprocess.run([sys.executable, "-c", script, str(support.LAB), support.program(), support.example("not_gate")], capture_output=True, text=True, check=False,
+        ended = subprocess.run([sys.executable, "-c", script, str(support.LAB), support.program(),
+                                support.example("not_gate")], capture_output=True, text=True, check=False,
                                preexec_fn=lambda: resource.setrlimit(resource.RLIMIT_AS, (limit, limit)))
         self.assertEqual(ended.stdout, "yes\n", ended.stderr)
 
@@ -192,7 +214,8 @@ class Signals(Room):
         """Makes a program that says that it was started, and does not answer."""
         super().setUp()
         self.mark = f"sleep 987652.{os.getpid()}"
-        self.sleeper = self.program(f"[ \"$1\" = check ] || exec \"$real\" \"$@\"\n: >'{self.room}/started'\nexec {self.mark}")
+        self.sleeper = self.program(f"[ \"$1\" = check ] || exec \"$real\" \"$@\"\n: >'{self.room}/started'\nexec "
+                                    f"{self.mark}")
 
     def wait(self, test: Callable[[], bool]) -> None:
         """Waits until something holds."""
@@ -202,19 +225,22 @@ class Signals(Room):
             time.sleep(0.05)
 
     def run_with(self, patch: str, *words: str) -> int:
-        """Returns the status of the lab after a patch. In it, `hang_up` sends a signal to the thread that calls it when the program runs.
+        """Returns the status of the lab after a patch. In it, `hang_up` sends a signal to the thread that calls it when
+        the program runs.
 
         The program must be gone then.
         """
         script = ("import os, signal, subprocess, sys, threading, time; sys.path.insert(0, sys.argv[1])\n"
-                  "from bbmlab_core import checking, cli, program\n"
+                  "from bbmlab_core import cli\nfrom bbmlab_core.farm import checking\nfrom bbmlab_core.host import "
+                  "program\n"
                   "def hang_up(number=signal.SIGHUP):\n"
                   f"    while not os.path.exists('{self.room}/started'): time.sleep(0.01)\n"
                   "    time.sleep(0.5)\n"
                   "    signal.pthread_kill(threading.get_ident(), number)\n"
                   f"{patch}\n"
                   "sys.exit(cli.main(sys.argv[2:]))\n")
-        running = subprocess.Popen([sys.executable, "-c", script, str(support.LAB), *words, "--program", self.sleeper], stdout=subprocess.DEVNULL, stderr=subprocess.DEVNULL)
+        running = subprocess.Popen([sys.executable, "-c", script, str(support.LAB), *words, "--program", self.sleeper],
+                                   stdout=subprocess.DEVNULL, stderr=subprocess.DEVNULL)
         try:
             status = running.wait(60)
             self.wait(lambda: self.mark not in processes())
@@ -228,15 +254,18 @@ class Signals(Room):
 
     def test_hang_up(self) -> None:
         """After SIGHUP the program is gone too, for one text and for many."""
-        for words in (["explain", support.example("wrong_edge")], ["check", "--jobs", "2", support.example("wrong_edge"), support.example("full_adder")]):
-            running = subprocess.Popen([sys.executable, LAB, *words, "--program", self.sleeper], stdout=subprocess.DEVNULL, stderr=subprocess.DEVNULL, start_new_session=True)
+        for words in (["explain", support.example("wrong_edge")],
+                      ["check", "--jobs", "2", support.example("wrong_edge"), support.example("full_adder")]):
+            running = subprocess.Popen([sys.executable, LAB, *words, "--program", self.sleeper],
+                                       stdout=subprocess.DEVNULL, stderr=subprocess.DEVNULL, start_new_session=True)
             self.wait(lambda: self.mark in processes())
             os.killpg(running.pid, signal.SIGHUP)
             self.assertEqual(running.wait(60), 129, words)
             self.wait(lambda: self.mark not in processes())
 
     def test_signal_just_before_a_call(self) -> None:
-        """A signal that does not interrupt the system call in which the main thread waits is obeyed, as if it had come just before the call."""
+        """A signal that does not interrupt the system call in which the main thread waits is obeyed, as if it had come
+        just before the call."""
         thread = "threading.Thread(target=hang_up, daemon=True).start()"
         self.assertEqual(self.run_with(thread, "explain", support.example("wrong_edge")), 129)
         worker = ("serve = checking.serve\n"
@@ -257,13 +286,15 @@ class Signals(Room):
         self.assertEqual(self.run_with(start, "explain", support.example("wrong_edge")), 129)
 
     def test_two_signals(self) -> None:
-        """A second SIGHUP, as the shell sends it behind the kernel's, comes before the program is ended, and does not prevent that."""
+        """A second SIGHUP, as the shell sends it behind the kernel's, comes before the program is ended, and does not
+        prevent that."""
         again = ("end = program.kill_session\n"
                  "def patched(process):\n"
                  "    hang_up()\n"
                  "    end(process)\n"
                  "program.kill_session = patched\n"
-                 "threading.Thread(target=lambda: (hang_up(), os.kill(os.getpid(), signal.SIGHUP)), daemon=True).start()")
+                 "threading.Thread(target=lambda: (hang_up(), os.kill(os.getpid(), signal.SIGHUP)), "
+                 "daemon=True).start()")
         self.assertEqual(self.run_with(again, "explain", support.example("wrong_edge")), 129)
 
 
@@ -282,7 +313,8 @@ class Words(Room):
         path.write_text(text)
         ended = support.lab("explain", "--program", support.program(), str(path))
         self.assertNotIn("fault is in the certificate", ended.stdout)
-        self.assertRegex(" ".join(ended.stdout.split()), r"the cell \(\d+, 0\) of the rim is live at time 1\. .* no certificate gets a yes before the layout is changed")
+        self.assertRegex(" ".join(ended.stdout.split()), r"the cell \(\d+, 0\) of the rim is live at time 1\. .* no "
+                         r"certificate gets a yes before the layout is changed")
         outcome = Diagnosis(support.read_document(text, "check")).outcome
         self.assertEqual((outcome.is_right, outcome.is_rim), (Truth.NO, True))
         for name, wanted in (("gate_and_mirror", Truth.YES), ("not_gate", None)):
@@ -292,10 +324,13 @@ class Words(Room):
 
     def test_table_of_a_netlist(self) -> None:
         """A `$lut` whose table has another number of bits than its inputs make is refused by its name."""
-        for width, table, is_good in ((2, "0110", True), (2, "011", False), (2, "01100", False), (2, 6, True), (2, 16, False), (2, -1, False), (0, "1", True), (1, "0110", False)):
+        for width, table, is_good in ((2, "0110", True), (2, "011", False), (2, "01100", False), (2, 6, True),
+                                      (2, 16, False), (2, -1, False), (0, "1", True), (1, "0110", False)):
             netlist = {"modules": {"top": {"attributes": {"top": "1"}, "ports": {
-                **{f"a{place}": {"direction": "input", "bits": [place + 2]} for place in range(width)}, "y": {"direction": "output", "bits": [9]}},
-                "cells": {"cell_7": {"type": "$lut", "parameters": {"WIDTH": width, "LUT": table}, "port_directions": {"A": "input", "Y": "output"},
+                **{f"a{place}": {"direction": "input", "bits": [place + 2]} for place in range(width)},
+                "y": {"direction": "output", "bits": [9]}},
+                "cells": {"cell_7": {"type": "$lut", "parameters": {"WIDTH": width, "LUT": table},
+                                     "port_directions": {"A": "input", "Y": "output"},
                                      "connections": {"A": [place + 2 for place in range(width)], "Y": [9]}}}}}}
             path = self.room / "netlist.json"
             path.write_text(json.dumps(netlist))

@@ -1,4 +1,6 @@
-"""The page: its runs under node against worked cases and the lab's runs, and the page itself in a browser where there is one."""
+"""The page: its runs under node against worked cases and the lab's runs, and the page itself in a browser where there
+is one.
+"""
 
 import base64
 import hashlib
@@ -13,18 +15,18 @@ import unittest
 from pathlib import Path
 
 import support
-from bbmlab_core import json_form
-from bbmlab_core.circuits import values_under
-from bbmlab_core.simulation import ModuleRun, run_layout
+from bbmlab_core.physics.simulation import ModuleRun, run_layout
+from bbmlab_core.texts import json_form
+from bbmlab_core.texts.circuits import values_under
 
-AUTOMATON = support.LAB / "bbmlab_core" / "view" / "automaton.js"
 
 
 def page_runs(jobs: list[dict]) -> list[dict]:
     """Returns what the page's script makes of some jobs, by node."""
     if shutil.which("node") is None:
         raise unittest.SkipTest("node is not installed")
-    ended = subprocess.run(["node", str(support.LAB / "tests" / "run_states.js"), str(AUTOMATON)], input=json.dumps(jobs), text=True,
+    ended = subprocess.run(["node", str(support.LAB / "tests" / "run_states.js")],
+                           input=json.dumps(jobs), text=True,
                            capture_output=True, check=True)
     return json.loads(ended.stdout)
 
@@ -39,12 +41,15 @@ class Script(unittest.TestCase):
 
     def test_last_states_of_the_cases(self) -> None:
         """The page ends each worked run as the case says."""
-        cases = [case for case in support.worked_cases() if case.words[0] == "run" and case.status != 3 and case.output is not None]
+        cases = [case for case in support.worked_cases() if case.words[0] == "run" and case.status != 3
+                 and case.output is not None]
         documents = [support.document_of(case) for case in cases]
-        jobs = [{"data": data_of(document), "on": document.on, "times": [document.layout.steps]} for document in documents]
+        jobs = [{"data": data_of(document), "on": document.on, "times": [document.layout.steps]}
+                for document in documents]
         for case, document, told in zip(cases, documents, page_runs(jobs)):
             cells = told["states"][0][1]
-            text = f"cells {len(cells)}\n" + "".join(f"{x} {y}\n" for x, y in cells) if told["left"] is None else f"left {told['left']}\n"
+            text = f"cells {len(cells)}\n" + "".join(f"{x} {y}\n" for x,
+                                                     y in cells) if told["left"] is None else f"left {told['left']}\n"
             with self.subTest(case.name):
                 self.assertEqual(text, case.output.decode())
 
@@ -70,7 +75,8 @@ class Script(unittest.TestCase):
             for module in document.certificate.modules:
                 for assignment in range(1 << len(module.cuts)):
                     times = list(range(document.layout.steps + 1))
-                    jobs.append({"data": data_of(document), "on": [], "times": times, "module": module.number, "assignment": assignment})
+                    jobs.append({"data": data_of(document), "on": [], "times": times, "module": module.number,
+                                 "assignment": assignment})
                     run = ModuleRun(document.circuit, document.layout, document.certificate, module)
                     states = []
                     for time in times:
@@ -100,31 +106,37 @@ class Page(unittest.TestCase):
         ended = support.lab("view", support.example("wrong_edge"), "--program", support.program())
         for word in ("http://", "https://", "src=", "@import", "<link"):
             self.assertNotIn(word, ended.stdout.replace("http://www.w3.org/2000/svg", ""))
-        self.assertEqual(ended.stdout.count("</script>"), 3)
+        self.assertEqual(ended.stdout.count("</script>"), 2)
 
     def test_runs_its_own_scripts_only(self) -> None:
-        """The Content-Security-Policy allows the page's own style and scripts by their digests, and nothing else from anywhere."""
+        """The Content-Security-Policy allows the page's own style and scripts by their digests, and nothing else from
+        anywhere."""
         text = support.lab("view", support.example("one_wire"), "--program", support.program()).stdout
         said = re.search(r'<meta http-equiv="Content-Security-Policy" content="([^"]*)">', text)[1]
         rules = {words[0]: words[1:] for words in map(str.split, said.split(";"))}
         self.assertEqual((rules.pop("default-src"), rules.pop("base-uri"), rules.pop("form-action")), (["'none'"],) * 3)
-        found = {"style-src": re.findall(r"<style>(.*?)</style>", text, re.DOTALL), "script-src": re.findall(r"<script>(.*?)</script>", text, re.DOTALL)}
-        self.assertEqual(rules, {rule: [f"'sha256-{base64.b64encode(hashlib.sha256(part.encode()).digest()).decode()}'" for part in parts]
-                                 for rule, parts in found.items()})
-        self.assertEqual((len(rules["style-src"]), len(rules["script-src"])), (1, 2))
+        found = {"style-src": re.findall(r"<style>(.*?)</style>", text, re.DOTALL),
+                 "script-src": re.findall(r"<script>(.*?)</script>", text, re.DOTALL)}
+        self.assertEqual(rules,
+                         {rule: [f"'sha256-{base64.b64encode(hashlib.sha256(part.encode()).digest()).decode()}'"
+                                 for part in parts]
+                          for rule, parts in found.items()})
+        self.assertEqual((len(rules["style-src"]), len(rules["script-src"])), (1, 1))
         self.assertIsNone(re.search(r"<[^>]* (?:style|on\w+)=", text.split("<script")[0]))
 
     def test_in_a_browser(self) -> None:
         """Load, step, toggle an input, click a fault: no console error, and the page shows what it should."""
         script = support.LAB / "tests" / "browse_page.py"
         if shutil.which("chromium") is None or not os.path.exists("/usr/bin/chromedriver"):
-            self.skipTest("Chromium and its driver are not installed (apt-get install chromium chromium-driver python3-selenium)")
+            self.skipTest("Chromium and its driver are not installed (apt-get install chromium chromium-driver "
+                          "python3-selenium)")
         if subprocess.run(["/usr/bin/python3", "-c", "import selenium"], capture_output=True, check=False).returncode:
             self.skipTest("/usr/bin/python3 has no selenium (apt-get install python3-selenium)")
         with tempfile.TemporaryDirectory() as room:
             page = Path(room) / "page.html"
             support.lab("view", support.example("wrong_edge"), "-o", str(page), "--program", support.program())
-            ended = subprocess.run(["/usr/bin/python3", str(script), str(page), room], capture_output=True, text=True, check=False, timeout=300)
+            ended = subprocess.run(["/usr/bin/python3", str(script), str(page), room], capture_output=True, text=True,
+                                   check=False, timeout=300)
         self.assertEqual(ended.returncode, 0, ended.stderr)
 
 

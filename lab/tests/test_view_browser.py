@@ -1,4 +1,5 @@
-"""The page in headless Chromium: controls, the report, wrong outputs, a routed machine, and a layout of 512 by 512 cells and 65,536 steps.
+"""The page in headless Chromium: controls, the report, wrong outputs, a routed machine, and a layout of 512 by 512
+cells and 65,536 steps.
 
 BBMLAB_SHOTS names a folder that keeps the screenshots.
 """
@@ -47,7 +48,8 @@ class Browser(unittest.TestCase):
 
     def setUp(self) -> None:
         if shutil.which("chromium") is None or not os.path.exists("/usr/bin/chromedriver"):
-            self.skipTest("Chromium and its driver are not installed (apt-get install chromium chromium-driver python3-selenium)")
+            self.skipTest("Chromium and its driver are not installed (apt-get install chromium chromium-driver "
+                          "python3-selenium)")
         if subprocess.run(["/usr/bin/python3", "-c", "import selenium"], capture_output=True, check=False).returncode:
             self.skipTest("/usr/bin/python3 has no selenium (apt-get install python3-selenium)")
 
@@ -59,11 +61,13 @@ class Browser(unittest.TestCase):
             machine = lzma.decompress((support.EXAMPLES / "machines" / "adder_4.txt.xz").read_bytes()).decode("ascii")
             for name, text in (("wrong", WRONG), ("large", large_layout().text), ("machine", machine)):
                 Path(room, f"{name}.txt").write_text(text)
-            for name, file in (("fault", support.example("wrong_border")), ("wrong", f"{room}/wrong.txt"), ("large", f"{room}/large.txt"),
+            for name, file in (("fault", support.example("wrong_border")), ("wrong", f"{room}/wrong.txt"),
+                               ("large", f"{room}/large.txt"),
                                ("machine", f"{room}/machine.txt")):
                 made = support.lab("view", file, "-o", f"{folder}/{name}.html", "--program", program)
                 self.assertEqual((made.returncode, made.stderr), (0, ""))
-            ended = subprocess.run(["/usr/bin/python3", str(SCRIPT), folder], capture_output=True, text=True, check=False, timeout=540)
+            ended = subprocess.run(["/usr/bin/python3", str(SCRIPT), folder], capture_output=True, text=True,
+                                   check=False, timeout=540)
         self.assertEqual(ended.returncode, 0, ended.stderr)
 
 

@@ -1,4 +1,6 @@
-"""The page's runs under node: last states against the program's `run`, the states between against the lab, and the time they take."""
+"""The page's runs under node: last states against the program's `run`, the states between against the lab, and the time
+they take.
+"""
 
 import json
 import random
@@ -8,12 +10,12 @@ import time
 import unittest
 
 import support
-from bbmlab_core import json_form, tracing
-from bbmlab_core.documents import Document
-from bbmlab_core.program import ask
+from bbmlab_core.host.program import ask
+from bbmlab_core.physics import tracing
+from bbmlab_core.texts import json_form
+from bbmlab_core.texts.documents import Document
 
 STATES = support.LAB / "tests" / "run_states.js"
-AUTOMATON = support.LAB / "bbmlab_core" / "view" / "automaton.js"
 # With room for a busy machine. A step that looks at each cell takes longer.
 MAX_SECONDS = 200
 
@@ -22,7 +24,8 @@ def node(jobs: list[dict]) -> list[dict]:
     """Returns what the page's automaton makes of some jobs."""
     if shutil.which("node") is None:
         raise unittest.SkipTest("node is not installed (apt-get install nodejs)")
-    ended = subprocess.run(["node", str(STATES), str(AUTOMATON)], input=json.dumps(jobs), text=True, capture_output=True, check=True)
+    ended = subprocess.run(["node", str(STATES)], input=json.dumps(jobs), text=True,
+                           capture_output=True, check=True)
     return json.loads(ended.stdout)
 
 
@@ -69,8 +72,10 @@ class Engine(unittest.TestCase):
             names, steps = tracing.port_names(document.layout), document.layout.steps
             for share in (0.0, 0.5, 1.0):
                 on = [wire for wire in names if chooser.random() < share]
-                asked.append((name, on, ask(program, "run", tracing.run_text(tracing.layout_lines(document), on)).output))
-                jobs.append(job(document, on, [chooser.randrange(steps + 1), steps, chooser.randrange(steps + 1), 0, steps]))
+                asked.append((name, on,
+                              ask(program, "run", tracing.run_text(tracing.layout_lines(document), on)).output))
+                jobs.append(job(document, on,
+                                [chooser.randrange(steps + 1), steps, chooser.randrange(steps + 1), 0, steps]))
         self.assertGreater(len(jobs), 30)
         for (name, on, output), told in zip(asked, node(jobs)):
             with self.subTest(name, on=on):
@@ -91,7 +96,8 @@ class Engine(unittest.TestCase):
                 self.assertEqual(told["states"], states)
 
     def test_large(self) -> None:
-        """512 by 512 cells and 65,536 steps with 1,024 balls: all steps and far jumps end in time, and are the program's."""
+        """512 by 512 cells and 65,536 steps with 1,024 balls: all steps and far jumps end in time, and are the
+        program's."""
         document, program = large_layout(), support.program()
         output = ask(program, "run", tracing.run_text(tracing.layout_lines(document), [])).output
         last = 65536

@@ -10,14 +10,15 @@ import xml.etree.ElementTree as ET
 from typing import Any
 
 import support
-from bbmlab_core import json_form, tracing, viewing
-from bbmlab_core.documents import Document
-from bbmlab_core.ways import block_moves
-from bbmlab_core.label_places import Name, Rect, place_names
-from bbmlab_core.simulation import block_of, cell_of, key_of
+from bbmlab_core.physics import tracing
+from bbmlab_core.physics.simulation import block_of, cell_of, key_of
+from bbmlab_core.pictures.label_places import Name, Rect, place_names
+from bbmlab_core.pictures.ways import block_moves
+from bbmlab_core.texts import json_form
+from bbmlab_core.texts.documents import Document
+from bbmlab_core.view import viewing
 
 SCRIPT = support.LAB / "tests" / "run_modules.js"
-FILES = [*viewing.ENGINE, "svg_pen.js", "labels.js", "address.js", "tiles.js", "wires.js", "painting.js", "waveform.js", "player.js"]
 SVG = "{http://www.w3.org/2000/svg}"
 LIMITS = {"steps": 30, "names": ["p", "q", "constructor"], "faults": 2}
 MAX_FUNCTION_LINES = 40
@@ -27,7 +28,8 @@ def node(jobs: list[list[Any]]) -> list[Any]:
     """Returns what the page's modules make of some jobs."""
     if shutil.which("node") is None:
         raise unittest.SkipTest("node is not installed (apt-get install nodejs)")
-    ended = subprocess.run(["node", str(SCRIPT), str(viewing.TEMPLATE), *FILES], input=json.dumps(jobs), text=True, capture_output=True, check=False)
+    ended = subprocess.run(["node", str(SCRIPT)], input=json.dumps(jobs), text=True,
+                           capture_output=True, check=False)
     if ended.returncode:
         raise AssertionError(ended.stderr)
     return json.loads(ended.stdout)
@@ -44,8 +46,10 @@ def data_of(document: Document) -> dict[str, Any]:
 
 
 def many_outputs(count: int, wrong: list[int]) -> Document:
-    """Returns a circuit and a layout of one step with wires that go from inputs to outputs, of which some have their output beside the ball."""
-    lines = ["circuit", *(f"input w{index}" for index in range(count)), *(f"output w{index}" for index in range(count)), "end",
+    """Returns a circuit and a layout of one step with wires that go from inputs to outputs, of which some have their
+    output beside the ball."""
+    lines = ["circuit", *(f"input w{index}" for index in range(count)), *(f"output w{index}" for index in range(count)),
+             "end",
              f"layout {4 * count + 4} 8 1"]
     lines += [f"in w{index} {4 * index + 2} 2" for index in range(count)]
     lines += [f"out w{index} {4 * index + 3} {4 if index in wrong else 3}" for index in range(count)]
@@ -57,19 +61,25 @@ class Address(unittest.TestCase):
 
     def test_what_is_written_is_read(self) -> None:
         """Each part comes back, and all of them together."""
-        states = [{}, {"time": 7}, {"on": []}, {"on": ["p"]}, {"zoom": [2.5, 10, -3.25]}, {"fault": 2}, {"trails": False},
+        states = [{}, {"time": 7}, {"on": []}, {"on": ["p"]}, {"zoom": [2.5, 10, -3.25]}, {"fault": 2},
+                  {"trails": False},
                   {"time": 30, "on": ["p", "q"], "zoom": [80, 0, 512], "fault": 1, "trails": False}]
         written = node([["write", state] for state in states])
         self.assertEqual(node([["read", f"#{text}", LIMITS] for text in written]), states)
 
     def test_a_hostile_address(self) -> None:
         """What is no time, input, zoom or line of the report is left out."""
-        nothing = ["", "#", "#t=31", "#t=-1", "#t=1e1", "#t=NaN", "#t=0x1", "#t=1.5", "#t=Infinity", "#t= 1", "#t=%31", "#t", "#=", "#t=1=2", "#T=1",
-                   "#z=1,2", "#z=0,0,0", "#z=-1,0,0", "#z=81,0,0", "#z=1,NaN,0", "#z=1,1e300,0", "#z=,,", "#z=1,2,3,4", "#z=1,99999,0",
-                   "#fault=0", "#fault=3", "#fault=-1", "#fault=__proto__", "#trails=2", "#trails=true", "#__proto__=1", "#constructor=1",
-                   "#toString=1", "#<img src=x onerror=alert(1)>", "#%E0%A4%A", "#&&&===&&&", "#t=" + "9" * 60000, "#t=1&" + "x" * 70000]
+        nothing = ["", "#", "#t=31", "#t=-1", "#t=1e1", "#t=NaN", "#t=0x1", "#t=1.5", "#t=Infinity", "#t= 1", "#t=%31",
+                   "#t", "#=", "#t=1=2", "#T=1",
+                   "#z=1,2", "#z=0,0,0", "#z=-1,0,0", "#z=81,0,0", "#z=1,NaN,0", "#z=1,1e300,0", "#z=,,", "#z=1,2,3,4",
+                   "#z=1,99999,0",
+                   "#fault=0", "#fault=3", "#fault=-1", "#fault=__proto__", "#trails=2", "#trails=true", "#__proto__=1",
+                   "#constructor=1",
+                   "#toString=1", "#<img src=x onerror=alert(1)>", "#%E0%A4%A", "#&&&===&&&", "#t=" + "9" * 60000,
+                   "#t=1&" + "x" * 70000]
         self.assertEqual(node([["read", text, LIMITS] for text in nothing]), [{}] * len(nothing))
-        some = {"#t=3&t=99": {}, "#on=r,<b>,__proto__,toString": {"on": []}, "#on=constructor,p,p%00": {"on": ["constructor", "p"]},
+        some = {"#t=3&t=99": {}, "#on=r,<b>,__proto__,toString": {"on": []},
+                "#on=constructor,p,p%00": {"on": ["constructor", "p"]},
                 "#t=30&z=1,2&fault=2&javascript:alert(1)": {"time": 30, "fault": 2}}
         self.assertEqual(node([["read", text, LIMITS] for text in some]), list(some.values()))
 
@@ -85,7 +95,9 @@ class Names(unittest.TestCase):
             names = [Name(cell, chooser.randrange(10, 70), 8, chooser.random() < 0.5) for cell in cells[:20]]
             found = place_names(names, cells[20:30], cells[30:])
             wanted.append([[place.box.x, place.box.y, place.away] for place in found])
-            jobs.append(["places", [{"cell": vars(name.cell), "width": name.width, "height": name.height, "isAbove": name.is_above} for name in names],
+            jobs.append(["places",
+                         [{"cell": vars(name.cell), "width": name.width, "height": name.height,
+                           "isAbove": name.is_above} for name in names],
                          [vars(cell) for cell in cells[20:30]], [vars(cell) for cell in cells[30:]]])
         for found, places in zip(node(jobs), wanted):
             for one, other in zip(found, places):
@@ -95,13 +107,17 @@ class Names(unittest.TestCase):
         """At the end of `full_adder`, at three scales, each name of the page is off each port and each other name."""
         document = example("full_adder")
         for scale in (8, 14, 24):
-            picture = node([["scene", data_of(document), ["a"], 8, {"scale": scale, "left": 2, "top": 2, "pointed": None}]])[0]
-            names = [(part.text, part_box(part)) for part in ET.fromstring(picture).iter(f"{SVG}text") if "→" in (part.text or "")]
-            self.assertEqual(sorted(text for text, _ in names), ["→a", "→b", "→carry", "✓ carry_out→", "✓ carry_out→", "✓ sum→"])
+            picture = node([["scene", data_of(document), ["a"], 8,
+                             {"scale": scale, "left": 2, "top": 2, "pointed": None}]])[0]
+            names = [(part.text, part_box(part)) for part in ET.fromstring(picture).iter(f"{SVG}text")
+                     if "→" in (part.text or "")]
+            self.assertEqual(sorted(text for text, _ in names),
+                             ["→a", "→b", "→carry", "✓ carry_out→", "✓ carry_out→", "✓ sum→"])
             cells = [part.cell for part in document.layout.parts if part.kind in ("in", "out")]
             ports = [Rect((x - 2) * scale, (y - 2) * scale, scale, scale) for x, y in cells]
             self.assertEqual([text for text, box in names for port in ports if box.shared(port) > 1], [], scale)
-            self.assertEqual([text for index, (text, box) in enumerate(names) for _, other in names[:index] if box.shared(other) > 1], [], scale)
+            self.assertEqual([text for index, (text, box) in enumerate(names) for _,
+                              other in names[:index] if box.shared(other) > 1], [], scale)
 
 
 def part_box(part: ET.Element) -> Rect:
@@ -116,11 +132,14 @@ class Pictures(unittest.TestCase):
     """What is seen as SVG."""
 
     def test_rulers(self) -> None:
-        """Numbers of columns and rows are at the middle of their cells, and the cell under the pointer has its numbers on plates."""
+        """Numbers of columns and rows are at the middle of their cells, and the cell under the pointer has its numbers
+        on plates."""
         place = {"scale": 20, "left": 5, "top": 3, "pointed": [11, 8]}
         root = ET.fromstring(node([["scene", data_of(example("full_adder")), [], 0, place]])[0])
-        columns = {part.text: float(part.get("x")) for part in root.iter(f"{SVG}text") if (part.text or "").isdigit() and float(part.get("y")) < 18}
-        rows = {part.text: float(part.get("y")) for part in root.iter(f"{SVG}text") if (part.text or "").isdigit() and float(part.get("x")) < 32}
+        columns = {part.text: float(part.get("x")) for part in root.iter(f"{SVG}text") if (part.text or "").isdigit()
+                   and float(part.get("y")) < 18}
+        rows = {part.text: float(part.get("y")) for part in root.iter(f"{SVG}text") if (part.text or "").isdigit()
+                and float(part.get("x")) < 32}
         self.assertGreaterEqual(len(columns), 10)
         self.assertGreaterEqual(len(rows), 10)
         for text, x in columns.items():
@@ -133,7 +152,8 @@ class Pictures(unittest.TestCase):
 
     def test_is_svg(self) -> None:
         """The picture is XML with the balls and mirrors of the layout, and signs of XML in texts are texts."""
-        picture = node([["scene", data_of(example("full_adder")), ["a", "b"], 3, {"scale": 12, "left": 0, "top": 0, "pointed": None}]])[0]
+        picture = node([["scene", data_of(example("full_adder")), ["a", "b"], 3,
+                         {"scale": 12, "left": 0, "top": 0, "pointed": None}]])[0]
         root = ET.fromstring(picture)
         self.assertEqual(root.find(f"{SVG}title").text, 'a <title> & "more"')
         balls = [part for part in root.iter(f"{SVG}path") if part.get("fill") == "var(--ball)"]
@@ -143,7 +163,8 @@ class Pictures(unittest.TestCase):
         self.assertEqual(balls[0].get("d").count("a"), 2 * len(state - mirrors))
         found = [part for part in root.iter(f"{SVG}path") if part.get("fill") == "var(--mirror)"]
         rects = re.findall(r"M([\d.]+) ([\d.]+)h([\d.]+)v([\d.]+)h-", found[0].get("d"))
-        wanted = [[12 * part.x, 12 * part.y, 12 * part.width + 0.5, 12 * part.height + 0.5] for part in example("full_adder").layout.of_kind("mirror")]
+        wanted = [[12 * part.x, 12 * part.y, 12 * part.width + 0.5, 12 * part.height + 0.5]
+                  for part in example("full_adder").layout.of_kind("mirror")]
         self.assertEqual((len(found), sorted([float(part) for part in rect] for rect in rects)), (1, sorted(wanted)))
 
 
@@ -151,7 +172,8 @@ class Runs(unittest.TestCase):
     """Trails, the waveform and the outputs."""
 
     def test_trails(self) -> None:
-        """Trails are the moves of the last steps, as the lab's pictures have them, also through collisions and off mirrors."""
+        """Trails are the moves of the last steps, as the lab's pictures have them, also through collisions and off
+        mirrors."""
         jobs, wanted = [], []
         for name in ("full_adder", "head_on", "gate_and_mirror", "off_a_mirror", "machine_fredkin"):
             document = example(name)
@@ -162,10 +184,13 @@ class Runs(unittest.TestCase):
             for at in range(time - 1, max(-1, time - 13), -1):
                 before = {key_of(cell): 1 for cell in states[at]}
                 corners = {block_of(key, at % 2) for key in before}
-                found = [(cell_of(start), cell_of(end)) for corner in corners for start, end, _ in block_moves(before, corner)]
-                # What stays is no move: `block_moves` is asked of changed blocks only, and so names moves of mirrors too.
+                found = [(cell_of(start), cell_of(end)) for corner in corners for start, end,
+                         _ in block_moves(before, corner)]
+                # What stays is no move: `block_moves` is asked of changed blocks only, and so names moves of mirrors
+                # too.
                 changed = states[at] ^ states[at + 1]
-                moves.append(sorted([list(start), list(end)] for start, end in found if start in changed and end in changed))
+                moves.append(sorted([list(start), list(end)] for start,
+                                    end in found if start in changed and end in changed))
             wanted.append(moves)
             jobs.append(["trail", data_of(document), on, time, 12])
         for job, found, moves in zip(jobs, node(jobs), wanted):
@@ -178,11 +203,13 @@ class Runs(unittest.TestCase):
         for name in ("full_adder", "timed_modules", "machine_switch", "wrong_stop"):
             document = example(name)
             on = document.circuit.inputs[:1]
-            found, states = node([["waves", data_of(document), on]])[0], tracing.trace_layout(document.layout, on, 0, 10 ** 6).states
+            found, states = node([["waves", data_of(document), on]])[0], tracing.trace_layout(document.layout, on, 0,
+                                                                                              10 ** 6).states
             marks = [(wave["wire"], tuple(wave["cell"]), *mark) for wave in found for mark in wave["marks"]]
             ports = [(part.name, part.cell, 0 if part.kind == "in" else document.layout.steps, part.kind)
                      for part in document.layout.parts if part.kind in ("in", "out")]
-            stops = [(stop.name, (stop.x, stop.y), stop.time, "stop") for module in document.certificate.modules for stop in module.stops]
+            stops = [(stop.name, (stop.x, stop.y), stop.time, "stop") for module in document.certificate.modules
+                     for stop in module.stops]
             self.assertEqual(sorted(marks), sorted({*ports, *stops}), name)
             for wave in found:
                 self.assertEqual(wave["live"], [tuple(wave["cell"]) in state for state in states], (name, wave["wire"]))
@@ -203,7 +230,8 @@ class Large(unittest.TestCase):
     def test_what_differs_from_the_mirrors(self) -> None:
         """A run knows it after steps, jumps and steps back, in layouts whose mirrors fall apart too."""
         layouts = [(example(name), []) for name in ("fredkin_gate", "head_on")] + [
-            (support.read_document("layout 20 20 200\nmirror 6 6 1 1\nmirror 10 4 3 2\nball 4 2\nball 12 12\nend\n"), []),
+            (support.read_document("layout 20 20 200\nmirror 6 6 1 1\nmirror 10 4 3 2\nball 4 2\nball 12 12\nend\n"),
+             []),
             (support.read_document("layout 24 24 300\nmirror 2 1 2 2\nmirror 12 9 2 2\nball 4 2\nend\n"), [])]
         for document, on in layouts:
             times = [3, 4, 2, document.layout.steps, 1, document.layout.steps // 2, 0, 130, 64, 65]
@@ -214,13 +242,17 @@ class Large(unittest.TestCase):
     def test_filed_by_squares(self) -> None:
         """Each rectangle and each piece is found in each range that has one of its cells."""
         chance = random.Random(random.randrange(10**6))
-        boxes = [[chance.randrange(1000), chance.randrange(1000), chance.randrange(1, 300), chance.randrange(1, 300)] for _ in range(12)]
+        boxes = [[chance.randrange(1000), chance.randrange(1000), chance.randrange(1, 300), chance.randrange(1, 300)]
+                 for _ in range(12)]
         pieces = []
         for _ in range(12):
-            x, y, far, dx, dy = chance.randrange(400, 600), chance.randrange(400, 600), chance.randrange(400), chance.choice((-1, 1)), chance.choice((-1, 1))
+            x, y, far, dx, dy = chance.randrange(400, 600), chance.randrange(400,
+                                                                             600), chance.randrange(400), chance.choice(
+                                                                                 (-1, 1)), chance.choice((-1, 1))
             pieces.append([x, y, x + dx * far, y + dy * far])
         cells = [[(x, y), (x + w - 1, y + h - 1)] for x, y, w, h in boxes]
-        cells += [[(x + (u > x) * k - (u < x) * k, y + (v > y) * k - (v < y) * k) for k in range(0, abs(u - x) + 1, 37)] + [(u, v)] for x, y, u, v in pieces]
+        cells += [[(x + (u > x) * k - (u < x) * k, y + (v > y) * k - (v < y) * k) for k in range(0, abs(u - x) + 1, 37)]
+                  + [(u, v)] for x, y, u, v in pieces]
         jobs = [(number, cell) for number, found in enumerate(cells) for cell in found]
         for (number, cell), found in zip(jobs, node([["filed", boxes, pieces, [*cell, *cell]] for _, cell in jobs])):
             self.assertIn(number, found, (cell, boxes, pieces))
@@ -228,16 +260,23 @@ class Large(unittest.TestCase):
 
     def test_wire_at_a_place(self) -> None:
         """The nearest way is found with its wire, its gates and the time; far from all ways there is none."""
-        circuit = {"inputs": ["p", "q"], "outputs": ["c"], "gates": [{"gate": "switch", "parameter": None, "ins": ["p", "q"], "outs": ["c", "y", "z"]}]}
-        ways = {"sampled": "", "wires": [{"name": "p", "equal": ["c"], "level": 0, "pieces": [10, 10, 200, 200, 5, 200, 200, 190, 210, 195]},
-                                         {"name": "y", "equal": [], "level": 1, "pieces": [10, 200, 200, 10, 0]}]}
-        near, crossing, far = node([["wireAt", ways, circuit, [50.4, 49.8], 2], ["wireAt", ways, circuit, [12, 198], 2], ["wireAt", ways, circuit, [60, 30], 2]])
-        self.assertEqual(near, ["p, c: an input, made by switch 0, goes to switch 0, an output, level 0; flies from time 5 to 205", [45], [10, 10, 191, 201], 0])
-        self.assertEqual(crossing, ["y: made by switch 0, level 1; flies from time 0 to 190", [2], [10, 10, 191, 191], 1])
+        circuit = {"inputs": ["p", "q"], "outputs": ["c"],
+                   "gates": [{"gate": "switch", "parameter": None, "ins": ["p", "q"], "outs": ["c", "y", "z"]}]}
+        ways = {"sampled": "",
+                "wires": [{"name": "p", "equal": ["c"], "level": 0,
+                           "pieces": [10, 10, 200, 200, 5, 200, 200, 190, 210, 195]},
+                          {"name": "y", "equal": [], "level": 1, "pieces": [10, 200, 200, 10, 0]}]}
+        near, crossing, far = node([["wireAt", ways, circuit, [50.4, 49.8], 2], ["wireAt", ways, circuit, [12, 198], 2],
+                                    ["wireAt", ways, circuit, [60, 30], 2]])
+        self.assertEqual(near, ["p, c: an input, made by switch 0, goes to switch 0, an output, level 0; flies from "
+                                "time 5 to 205", [45], [10, 10, 191, 201], 0])
+        self.assertEqual(crossing,
+                         ["y: made by switch 0, level 1; flies from time 0 to 190", [2], [10, 10, 191, 191], 1])
         self.assertIsNone(far)
 
     def test_tiles_take_their_time(self) -> None:
-        """A first frame makes what there is time for, and shows the coarsest tile where the others are missing; later frames make each once."""
+        """A first frame makes what there is time for, and shows the coarsest tile where the others are missing; later
+        frames make each once."""
         place = {"scale": 1.0, "left": 0, "top": 0, "wide": 1200, "high": 900}
         found = node([["tiles", {"width": 4096, "height": 4096}, place, 5]])[0]
         self.assertEqual((found["level"], found["wanted"]), (0, 6))
@@ -253,8 +292,12 @@ class Sources(unittest.TestCase):
     """The sources of the page."""
 
     def test_functions_are_short(self) -> None:
-        """No function has 40 lines. One begins at a line that ends with a brace, and ends at the first one that is not indented more."""
-        begins, count = re.compile(r"^( *)(?! )(?:/\*\*.*\*/ )?(?!(?:if|for|while|switch|class|else|try|\} else)\b).*(?:\)|=>|constructor.*) \{$"), 0
+        """No function has 40 lines.
+
+        One begins at a line that ends with a brace, and ends at the first one that is not indented more.
+        """
+        begins, count = re.compile(r"^( *)(?! )(?:/\*\*.*\*/ )?(?!(?:if|for|while|switch|class|else|try|\} "
+                                   r"else)\b).*(?:\)|=>|constructor.*) \{$"), 0
         for path in sorted(viewing.TEMPLATE.glob("*.js")):
             lines = path.read_text().splitlines()
             for number, line in enumerate(lines):
@@ -268,7 +311,8 @@ class Sources(unittest.TestCase):
     def test_no_html_from_texts(self) -> None:
         """No script makes HTML or code from a text."""
         for path in viewing.TEMPLATE.glob("*.js"):
-            self.assertIsNone(re.search(r"innerHTML|outerHTML|insertAdjacentHTML|document\.write|\beval\(|new Function|DOMParser|srcdoc", path.read_text()))
+            self.assertIsNone(re.search(r"innerHTML|outerHTML|insertAdjacentHTML|document\.write|\beval\(|new "
+                                        r"Function|DOMParser|srcdoc", path.read_text()))
 
 
 if __name__ == "__main__":

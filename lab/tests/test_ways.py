@@ -1,4 +1,6 @@
-"""The ways of the balls in pictures: those of the block rule, step by step, and how many wires of a large layout are shown."""
+"""The ways of the balls in pictures: those of the block rule, step by step, and how many wires of a large layout are
+shown.
+"""
 
 import random
 import re
@@ -7,15 +9,15 @@ import unittest
 from pathlib import Path
 
 import support
-from bbmlab_core import drawing
-from bbmlab_core.boxes import Box
 from bbmlab_core.commands.draw import gate_boxes, picture_of
-from bbmlab_core.designs import read_design
-from bbmlab_core.documents import Document, read_document
-from bbmlab_core.layouts import Cell
-from bbmlab_core.picture_parts import OTHERS, Look, bring_out, chevrons, cone_of, piece_within
-from bbmlab_core.simulation import DIAGONAL, ROW, Table, WholeRun, block_of, cell_of
-from bbmlab_core.ways import Piece, WayRun, block_moves, directed_ways, joined_pieces, ways_of
+from bbmlab_core.physics.simulation import DIAGONAL, ROW, Table, WholeRun, block_of, cell_of
+from bbmlab_core.pictures import drawing
+from bbmlab_core.pictures.picture_parts import OTHERS, Look, bring_out, chevrons, cone_of, piece_within
+from bbmlab_core.pictures.ways import Piece, WayRun, block_moves, directed_ways, joined_pieces, ways_of
+from bbmlab_core.texts.boxes import Box
+from bbmlab_core.texts.designs import read_design
+from bbmlab_core.texts.documents import Document, read_document
+from bbmlab_core.texts.layouts import Cell
 
 Step = tuple[Cell, Cell]
 
@@ -30,14 +32,16 @@ def steps_of(pieces: list[Piece]) -> set[Step]:
 
 
 def moves_by_rule(document: Document, tables: dict[str, Table], full: Table) -> dict[Table, set[Step]]:
-    """Returns the steps of the balls from the lab's run, one block after another, by the assignments under which they are made."""
+    """Returns the steps of the balls from the lab's run, one block after another, by the assignments under which they
+    are made."""
     layout = document.layout
     assert layout
     run, found = WholeRun(layout, tables, full), dict[Table, set[Step]]()
     for _ in range(layout.steps):
         live, is_odd = run.field.live, run.time % 2
         looked = {block_of(key, is_odd) for key in run.field.changed | run.field.changed_before}
-        before = {key: live[key] for corner in looked for key in (corner, corner + 1, corner + ROW, corner + DIAGONAL) if key in live}
+        before = {key: live[key] for corner in looked for key in (corner, corner + 1, corner + ROW, corner + DIAGONAL)
+                  if key in live}
         if not run.step():
             break
         for corner in {block_of(key, is_odd) for key in run.field.changed}:
@@ -66,7 +70,10 @@ class Ways(unittest.TestCase):
     """The pieces of ways."""
 
     def assert_same(self, document: Document) -> int:
-        """Asserts that the ways of a layout are those of the rule. A run that leaves the rectangle may be a step longer there."""
+        """Asserts that the ways of a layout are those of the rule.
+
+        A run that leaves the rectangle may be a step longer there.
+        """
         layout = document.layout
         assert layout
         tables, full, _ = drawing.wire_tables(document, [])
@@ -81,7 +88,8 @@ class Ways(unittest.TestCase):
         """The ways of each example and standard cell."""
         files = [*sorted(support.EXAMPLES.glob("*.txt")), *sorted((support.LAB / "cells").glob("*.txt"))]
         documents = [read_document(path.read_text(encoding="latin-1")) for path in files]
-        self.assertGreater(sum(self.assert_same(own) for own in documents if own.layout and own.layout.width and not own.refusal), 10_000)
+        self.assertGreater(sum(self.assert_same(own) for own in documents if own.layout and own.layout.width
+                               and not own.refusal), 10_000)
 
     def test_random_layouts(self) -> None:
         """The ways of layouts in which balls collide, and mirrors fall apart."""
@@ -123,20 +131,25 @@ class Ways(unittest.TestCase):
         return sum(counts)
 
     def test_directed_ways(self) -> None:
-        """Directed ways are the same steps, and each piece goes as a ball flies: one goes to and fro between two mirrors."""
+        """Directed ways are the same steps, and each piece goes as a ball flies: one goes to and fro between two
+        mirrors."""
         document = read_document("layout 24 24 30\nmirror 2 1 2 2\nmirror 12 9 2 2\nball 4 2\nend\n")
         assert document.layout
         tables, full, _ = drawing.wire_tables(document, [])
         plain, directed = (of(document.layout, tables, full, 30) for of in (ways_of, directed_ways))
-        self.assertEqual({table: steps_of([(min(piece), max(piece)) for piece in pieces]) for table, pieces in directed.items()},
+        self.assertEqual({table: steps_of([(min(piece), max(piece)) for piece in pieces]) for table,
+                          pieces in directed.items()},
                          {table: steps_of(pieces) for table, pieces in plain.items()})
         pieces = [piece for found in directed.values() for piece in found]
         self.assertIn(((4, 2), (11, 9)), pieces)
-        self.assertIn((11, 9), [first for first, last in pieces if last < first] + [last for first, last in pieces if last < first])
+        self.assertIn((11, 9),
+                      [first for first, last in pieces if last < first] + [last for first,
+                                                                           last in pieces if last < first])
 
     def test_joined_pieces(self) -> None:
         """Pieces of a line that meet are one, and others stay."""
-        self.assertEqual(joined_pieces([((0, 0), (3, 3)), ((5, 5), (3, 3)), ((7, 7), (8, 8)), ((0, 3), (3, 0)), ((4, 2), (5, 2))]),
+        self.assertEqual(joined_pieces([((0, 0), (3, 3)), ((5, 5), (3, 3)), ((7, 7), (8, 8)), ((0, 3), (3, 0)),
+                                        ((4, 2), (5, 2))]),
                          [((0, 0), (5, 5)), ((0, 3), (3, 0)), ((4, 2), (5, 2)), ((7, 7), (8, 8))])
 
 
@@ -147,12 +160,15 @@ class Large(unittest.TestCase):
         """Returns a bundle of wires that each fly straight, through delays, in a layout of 1024 by 1024."""
         names = [f"w{number}" for number in range(wires)]
         lines = ["limits 2", "circuit", *(f"input {name}" for name in names), "source 0 -> o",
-                 *(f"switch {name} {'o' if number == 0 else f'z{number - 1}'} -> c{number} y{number} z{number}" for number, name in enumerate(names)),
-                 *(f"output c{number}" for number in range(wires)), *(f"spill y{number}" for number in range(wires)), f"spill z{wires - 1}", "end",
+                 *(f"switch {name} {'o' if number == 0 else f'z{number - 1}'} -> c{number} y{number} z{number}"
+                   for number, name in enumerate(names)),
+                 *(f"output c{number}" for number in range(wires)), *(f"spill y{number}" for number in range(wires)),
+                 f"spill z{wires - 1}", "end",
                  "layout 1024 1024 40"]
         lines += [f"in {name} 100 {100 + 8 * number}" for number, name in enumerate(names)]
         lines += [f"out c{number} 140 {140 + 8 * number}" for number in range(wires)]
-        return "\n".join([*lines, "end", "certificate 2", "module 0 0 16 16", "use 0", "module 16 0 32 32", "cut w0", "use 0", "use 1", "end"]) + "\n"
+        return "\n".join([*lines, "end", "certificate 2", "module 0 0 16 16", "use 0", "module 16 0 32 32", "cut w0",
+                          "use 0", "use 1", "end"]) + "\n"
 
     def test_many_wires_by_levels(self) -> None:
         """More wires than the legend lists are shown by their levels, at most eight groups; fewer keep their names."""
@@ -170,7 +186,8 @@ class Large(unittest.TestCase):
             self.assertEqual(set(shown.ways) - set(names) - {"1", ""}, set())
 
     def test_large_pictures_have_no_dashes(self) -> None:
-        """In a large layout nine wires are grouped by levels, since dashes could not be told apart there; what is no wire's is dotted."""
+        """In a large layout nine wires are grouped by levels, since dashes could not be told apart there; what is no
+        wire's is dotted."""
         text = self.text(9).split("certificate")[0]
         with tempfile.TemporaryDirectory() as room:
             path = Path(room, "nine.txt")
@@ -182,7 +199,8 @@ class Large(unittest.TestCase):
         self.assertEqual(re.findall(r'class="way w[0-7]"[^>]*stroke-dasharray', large), [])
 
     def test_gates_are_outlined(self) -> None:
-        """In a large layout the modules that use gates are outlined, but for the smallest ones, and borders of modules are left out."""
+        """In a large layout the modules that use gates are outlined, but for the smallest ones, and borders of modules
+        are left out."""
         text = self.text(2)
         circuit = read_document(text.split("certificate")[0], "design").circuit
         assert circuit
@@ -191,7 +209,8 @@ class Large(unittest.TestCase):
 
     def test_gates_are_named(self) -> None:
         """A box with room for it shows its gate, and how many others its module uses; a small one does not."""
-        shown = drawing.gate_names([(Box(0, 0, 64, 64), ["switch 1", "interact 2"]), (Box(64, 0, 4, 4), ["switch 3"])], 16)
+        shown = drawing.gate_names([(Box(0, 0, 64, 64), ["switch 1", "interact 2"]), (Box(64, 0, 4, 4), ["switch 3"])],
+                                   16)
         self.assertEqual(len(shown), 1)
         self.assertIn(">switch 1 +1<", shown[0])
 
@@ -210,7 +229,8 @@ class Large(unittest.TestCase):
         layout = read_document("limits 2\nlayout 1200 1200 0\nball 600 600\nend\n", "layout").layout
         assert layout
         for size, radius in ((0.0, "24.0"), (10.0, "60.0")):
-            self.assertIn(f'class="ball" cx="7236" cy="7236" r="{radius}"', drawing.svg(layout, drawing.Drawing(live={(600, 600)}, ball=size), []))
+            self.assertIn(f'class="ball" cx="7236" cy="7236" r="{radius}"',
+                          drawing.svg(layout, drawing.Drawing(live={(600, 600)}, ball=size), []))
 
     def test_small_pictures_show_modules(self) -> None:
         """A small layout has the borders of its modules, and no outlined gates."""
@@ -257,7 +277,8 @@ class Chosen(unittest.TestCase):
 
     def test_cone(self) -> None:
         """A cone is a wire with all on which it depends."""
-        circuit = read_document("circuit\ninput p\ninput q\ninput r\nswitch p q -> a b c\nswitch a r -> d e f\noutput d\nspill b\nspill c\nspill e\nspill f\nend\n",
+        circuit = read_document("circuit\ninput p\ninput q\ninput r\nswitch p q -> a b c\nswitch a r -> d e f\noutput "
+                                "d\nspill b\nspill c\nspill e\nspill f\nend\n",
                                 "circuit").circuit
         assert circuit
         self.assertEqual(set(cone_of(circuit, "e")), {"e", "a", "r", "p", "q"})
@@ -265,7 +286,8 @@ class Chosen(unittest.TestCase):
 
     def test_unknown_wire(self) -> None:
         """A name that is no wire's is said, and so are options that need --ways."""
-        for words, told in ((["--ways", "--wires", "nobody"], "there is no wire `nobody`"), (["--ways", "--cone", "none"], "there is no wire `none`"),
+        for words, told in ((["--ways", "--wires", "nobody"], "there is no wire `nobody`"),
+                            (["--ways", "--cone", "none"], "there is no wire `none`"),
                             (["--arrows"], "need --ways")):
             ended = support.lab("draw", support.example("full_adder"), *words)
             self.assertEqual(ended.returncode, 4)
@@ -278,7 +300,8 @@ class Chosen(unittest.TestCase):
         self.assertEqual((one, other), ((10.5, 12.5), (12.5, 10.5)))
         (one, tip, other), = chevrons([((20, 0), (0, 20))], 2)
         self.assertTrue(one[0] > tip[0] and other[1] < tip[1])
-        with_arrows, without = (picture_of(read_design(support.example("fredkin_gate")), None, None, None, Look(has_arrows=has)) for has in (True, False))
+        with_arrows, without = (picture_of(read_design(support.example("fredkin_gate")), None, None, None,
+                                           Look(has_arrows=has)) for has in (True, False))
         self.assertGreater(with_arrows.count('class="way'), without.count('class="way'))
 
 

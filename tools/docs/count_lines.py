@@ -1,5 +1,6 @@
 #!/usr/bin/env python3
-"""tools/docs/count_lines.py [COMMIT]: the lines of each crate, .rt and .antt without blank lines and without wrong bodies.
+"""tools/docs/count_lines.py [COMMIT]: the lines of each crate, .rt and .antt without blank lines and without wrong
+bodies.
 
 With COMMIT it counts that commit too, first, and prints both and the difference.
 """

@@ -1,8 +1,10 @@
 #!/usr/bin/env python3
-"""tools/docs/crate_picture.py [--check PAGE]: the picture of the crates in docs/ARCHITECTURE.md, as a Mermaid block, from crates.txt.
+"""tools/docs/crate_picture.py [--check PAGE]: the pictures of the crates and of the lab's packages in
+docs/ARCHITECTURE.md, as Mermaid blocks, from crates.txt and lab/packages.txt.
 
-An arrow goes from a crate to one that it uses, without those that follow from others. Arrows of crates that the program does not
-use, those of tests, are dotted. Crates of the kit are left out. With --check the status is 1 if the page has another block.
+An arrow goes from a crate to one that it uses, without those that follow from others. Arrows of crates that the program
+does not use, those of tests, are dotted. Crates of the kit are left out. With --check the status is 1 if the page has
+other blocks.
 """
 import argparse
 import sys
@@ -11,10 +13,10 @@ from pathlib import Path
 TOP = Path(__file__).resolve().parent.parent.parent
 
 
-def crates():
-    """For each crate of the repository, in the order of crates.txt, those that it stands on."""
+def layers(path):
+    """For each crate or package of a list, in its order, those that it stands on."""
     below = {}
-    for line in (TOP / "crates.txt").read_text().splitlines():
+    for line in path.read_text().splitlines():
         names, found, others = line.partition(":")
         if found and not line.startswith("#"):
             below[names.split(" ")[0]] = others.split()
@@ -26,9 +28,9 @@ def reached(below, name):
     return set(below[name]).union(*(reached(below, other) for other in below[name]))
 
 
-def picture():
-    below = crates()
-    needed = {"bbmcheck"} | reached(below, "bbmcheck")
+def picture(below, top):
+    """The lines of the picture. `top` is what stands on all that is needed."""
+    needed = {top} | reached(below, top)
     yield "```mermaid"
     yield "flowchart TD"
     for name, others in reversed(below.items()):
@@ -43,11 +45,13 @@ def main():
     parser = argparse.ArgumentParser(usage=__doc__)
     parser.add_argument("--check", type=Path, metavar="PAGE")
     page = parser.parse_args().check
-    block = "\n".join(picture()) + "\n"
-    if page is None:
-        print(block, end="")
-    elif block not in page.read_text():
-        sys.exit(f"{page}: the picture of the crates is not that of tools/docs/crate_picture.py")
+    for place, top in ((TOP / "crates.txt", "bbmcheck"), (TOP / "lab" / "packages.txt", "cli")):
+        block = "\n".join(picture(layers(place), top)) + "\n"
+        if page is None:
+            print(block, end="")
+        elif block not in page.read_text():
+            sys.exit(f"{page}: the picture of {place.name} is not that of tools/docs/crate_picture.py")
 
 
-main()
+if __name__ == "__main__":
+    main()

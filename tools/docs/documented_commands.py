@@ -1,23 +1,24 @@
 #!/usr/bin/env python3
 """tools/docs/documented_commands.py [PROGRAM] [--list]
 
-Runs the commands that README.md and the pages of docs/, examples/ and conformance/ show, in a folder of its own where ./bbmcheck is PROGRAM
-(left out: the proved program), and compares what they write with what the page shows. Prints each that differs, and last how many there
-were.
+Runs the commands that README.md and the pages of docs/, examples/ and conformance/ show, in a folder of its own where
+./bbmcheck is PROGRAM (left out: the proved program), and compares what they write with what the page shows. Prints each
+that differs, and last how many there were.
 
-A command is a line of a fenced block, or a piece of code in a sentence, that begins with ./bbmcheck or with a script of examples/,
-conformance/, lab/ or a folder of tools/ and has words behind it. What a page shows of its output is
+A command is a line of a fenced block, or a piece of code in a sentence, that begins with ./bbmcheck or with a script of
+examples/, conformance/, lab/ or a folder of tools/ and has words behind it. What a page shows of its output is
 
 - in a block, the lines below a line that begins with `$ `;
 - for a paragraph with a command that ends in a colon, the block below it;
 - for a paragraph with one command, pieces of code right behind the word "prints": they are lines of the output;
-- for a row of a table whose first piece of code is a text, the pieces of code in its last column: they are lines of what the command
-  that the page named last writes of that text. Of `check` they are all lines after the third.
+- for a row of a table whose first piece of code is a text, the pieces of code in its last column: they are lines of
+  what the command that the page named last writes of that text. Of `check` they are all lines after the third.
 
-The output and the exit status of ./bbmcheck on a text are compared with the plain programs of tools/oracle too, whatever the page shows.
-Other commands must end with status 0, unless the page gives another one beside them. A block that begins with a section's header must be in
-a text of examples/. A command with a word in capitals is a form, and is not run. Another part of the gate runs the commands of ELSEWHERE,
-those of the kit (`rt`) and .ci/run, which calls this tool. --list prints the commands and runs none.
+The output and the exit status of ./bbmcheck on a text are compared with the plain programs of tools/oracle too,
+whatever the page shows. Other commands must end with status 0, unless the page gives another one beside them. A block
+that begins with a section's header must be in a text of examples/. A command with a word in capitals is a form, and is
+not run. Another part of the gate runs the commands of ELSEWHERE, those of the kit (`rt`) and .ci/run, which calls this
+tool. --list prints the commands and runs none.
 """
 import argparse
 import os
@@ -49,7 +50,8 @@ ELSEWHERE = re.compile(r"conformance/run\.py \./(?:bbmcheck|plain_check)|\./bbmc
                        r"tools/(?:gate/fail_allocations_in_tests|gate/try_operations|package/release) .*")
 SECONDS = 120
 
-# where it stands; what is run; the output that is shown, a text, or a list of its lines, or None; and the status that is told, or None
+# where it stands; what is run; the output that is shown, a text, or a list of its lines, or None; and the status that
+# is told, or None
 Shown = namedtuple("Shown", "place command output status")
 
 
@@ -78,7 +80,8 @@ def parts_of(page):
             else:
                 part[2].append(line)
             continue
-        kind = "block" if line.startswith("```") else "row" if line.startswith("|") else "text" if line.strip() else None
+        kind = "block" if line.startswith("```") else "row" if line.startswith(
+            "|") else "text" if line.strip() else None
         if part and (kind != "text" or line.startswith(("- ", "#"))):
             yield part
             part = None
@@ -118,13 +121,15 @@ def of_page(name, page):
                 shown[-1] = shown[-1]._replace(output="".join(line + "\n" for line in lines))
             elif lines and SECTION.fullmatch(lines[0]) and not CAPITALS.search("\n".join(lines)):
                 sections.append((place, "".join(line + "\n" for line in lines)))
-            shown += [command._replace(status=told_status(before)) if command.output else command for command in commands]
+            shown += [command._replace(status=told_status(before)) if command.output else command
+                      for command in commands]
             waiting = False
         elif kind == "row":
             cells = [cell.strip() for cell in text.strip("|").split(" | ")]
             named = pieces(cells[0])
             if word and len(named) == 1 and named[0].endswith(".txt") and cells[0] == f"`{named[0]}`":
-                shown.append(Shown(place, f"./bbmcheck {word} < examples/{named[0]}", pieces(cells[-1]), told_status(cells[-1])))
+                shown.append(Shown(place, f"./bbmcheck {word} < examples/{named[0]}", pieces(cells[-1]),
+                                   told_status(cells[-1])))
         else:
             commands = [piece for piece in pieces(text) if COMMAND.fullmatch(piece)]
             listed = LISTED.search(text) if len(commands) == 1 else None
@@ -205,7 +210,8 @@ def main():
             all_found += found
     shown = [one for one in shown if not is_form(one.command) and not ELSEWHERE.fullmatch(one.command)]
     if options.list:
-        print("".join(f"{one.place}: {one.command}{'' if one.output is None else '    # with its output'}\n" for one in shown), end="")
+        print("".join(f"{one.place}: {one.command}{'' if one.output is None else '    # with its output'}\n"
+                      for one in shown), end="")
         return 0
     texts = [path.read_text() for path in (TOP / "examples").glob("*.txt")]
     for place, section in sections:

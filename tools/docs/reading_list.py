@@ -1,17 +1,20 @@
 #!/usr/bin/env python3
-"""Prints what a reader must read to believe a statement: the files of specs/ that a file brings in, directly or by others, with their lines,
-and how many of these are definitions that the statement reaches. A file comes after those that it brings in.
+"""Prints what a reader must read to believe a statement: the files of specs/ that a file brings in, directly or by
+others, with their lines, and how many of these are definitions that the statement reaches. A file comes after those
+that it brings in.
 
 usage: tools/docs/reading_list.py [--definitions] [--check PAGE] [FILE]
 
-FILE is meaning/specs/Headline.antt if it is left out. --definitions names the definitions that are reached, and the definitions of the kit's
-library that these name. --check compares a page. It must contain the table of meaning/specs/Headline.antt, line for line, and each word of
-the kit's library that these definitions name. Behind each name of this command with a FILE it must give the numbers of the table as
-"N files and M lines". --check also compares the two numbers of lines in README.md.
+FILE is meaning/specs/Headline.antt if it is left out. --definitions names the definitions that are reached, and the
+definitions of the kit's library that these name. --check compares a page. It must contain the table of
+meaning/specs/Headline.antt, line for line, and each word of the kit's library that these definitions name. Behind each
+name of this command with a FILE it must give the numbers of the table as "N files and M lines". --check also compares
+the two numbers of lines in README.md.
 
-A name is followed to its definition: by the `use` lines of its file and their `as`, by `pub use` lines of other files, behind the name of a
-module (`Gates.row`), and by its whole path. Whatever of this the script does not understand or find is printed, and the status is 1:
-a `use` line, a name that such a line or path names, and lines of specs/ that belong to no definition.
+A name is followed to its definition: by the `use` lines of its file and their `as`, by `pub use` lines of other files,
+behind the name of a module (`Gates.row`), and by its whole path. Whatever of this the script does not understand or
+find is printed, and the status is 1: a `use` line, a name that such a line or path names, and lines of specs/ that
+belong to no definition.
 """
 import re
 import sys
@@ -43,7 +46,8 @@ REST = r"((?:\.[^\s(){}\[\],;.]+)+)"
 
 @dataclass
 class Target:
-    """What a name here means: a name of a file, or with `None` a module, by its crate, its folder and the parts of its path."""
+    """What a name here means: a name of a file, or with `None` a module, by its crate, its folder and the parts of its
+    path."""
 
     path: str
     name: str | None = None
@@ -180,7 +184,8 @@ def target_of(whole: list[str]) -> Target | None:
 
 
 def declared_target(crate: str, parts: list[str]) -> Target | None:
-    """What a path below `declared` means: a type of the code, also if it ends with one of its variants, or with its inside."""
+    """What a path below `declared` means: a type of the code, also if it ends with one of its variants, or with its
+    inside."""
     at = next((n for n, part in enumerate(parts) if part in ("TheVariants", "TheInside", "Ghosts")), len(parts))
     kept = parts[:at]
     # `declared.block.Box2.{Box2}` names the type twice.
@@ -310,7 +315,9 @@ class Closure:
             elif here in file.uses or here in file.modules_of_kit or here in file.children:
                 module = file.uses[here].module if here in file.uses else (*whole_path(file.path), here)
                 for rest in re.findall(rf"(?<![\w.']){re.escape(here)}{REST}", code):
-                    self.reach_path(file, [*(module if here not in file.modules_of_kit else ["Rattle"]), *rest[1:].split(".")])
+                    self.reach_path(file,
+                                    [*(module if here not in file.modules_of_kit else ["Rattle"]),
+                                     *rest[1:].split(".")])
 
     def reach_path(self, file: File, whole: list[str]) -> None:
         """Reaches what a path names: the longest path of a module, and a name of it. Projections may follow."""
@@ -337,7 +344,8 @@ def is_passed_on(path: str, name: str) -> bool:
 
 
 def lost_definitions() -> Iterator[str]:
-    """Yields what this script does not find in the files of specs/: a line, a declaration that begins no definition, a name that is brought in."""
+    """Yields what this script does not find in the files of specs/: a line, a declaration that begins no definition, a
+    name that is brought in."""
     for found in sorted(CRATES.glob("*/specs/**/*.antt")):
         path = str(found.relative_to(CRATES))
         file = file_of(path)
@@ -347,7 +355,8 @@ def lost_definitions() -> Iterator[str]:
         for target in file.uses.values():
             if target.name and target.path.endswith(".antt"):
                 other = file_of(target.path)
-                if target.name not in other.owner and target.name not in other.passed_on and target.name not in other.library:
+                if (target.name not in other.owner and target.name not in other.passed_on
+                    and target.name not in other.library):
                     yield f"{path}: {target.name} of {target.path}"
 
 
@@ -402,7 +411,8 @@ def table_lines(needed: list[Row], names: bool) -> list[str]:
 
 
 def rows_of(closure: Closure) -> list[Row]:
-    """Returns for each file that is brought in: its path, its lines, how many of them are reached, and the definitions that are."""
+    """Returns for each file that is brought in: its path, its lines, how many of them are reached, and the definitions
+    that are."""
     rows = []
     for path in closure.imported:
         total = len((CRATES / path).read_text().splitlines())
@@ -416,8 +426,10 @@ def main(words: list[str]) -> int:
     table = "".join(words[words.index("--check") + 1:][:1]) if "--check" in words else None
     files = [w for w in words if not w.startswith("--") and w != table]
     wrong = [w for w in words if w.startswith("--") and w not in ("--definitions", "--check")]
-    if wrong or files[1:] or table is not None and not Path(table).is_file() or files and not (CRATES / files[0]).is_file():
-        print("usage: tools/docs/reading_list.py [--definitions] [--check PAGE] [FILE], with FILE as in crates/", file=sys.stderr)
+    if wrong or files[1:] or table is not None and not Path(table).is_file() or files and not (
+        CRATES / files[0]).is_file():
+        print("usage: tools/docs/reading_list.py [--definitions] [--check PAGE] [FILE], with FILE as in crates/",
+              file=sys.stderr)
         return 2
     closure = closure_of(files[0] if files else STATEMENT)
     rows = rows_of(closure)

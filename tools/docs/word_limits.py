@@ -32,8 +32,8 @@ LIMITS = {
     "lab/README.md": 440,
 }
 
-# What all pages together may take. Outside the sum are pages to look things up in, which nobody reads from end to end: the catalogue of
-# cells, the tables of balls and mirrors, and the licences of others.
+# What all pages together may take. Outside the sum are pages to look things up in, which nobody reads from end to end:
+# the catalogue of cells, the tables of balls and mirrors, and the licences of others.
 MAX_SUM = 32_000
 OUTSIDE_SUM = {"docs/CELLS.md", "docs/PHYSICS.md", "THIRD-PARTY.md"}
 

@@ -20,7 +20,8 @@ class AllocationFailer:
         subprocess.run(["cc", "-O1", "-Wall", "-shared", "-fPIC", "-o", self.library, source, "-ldl"], check=True)
 
     def run(self, command, number, text=b""):
-        """Returns how many growths the command asked for, and how it ended, if growth `number` is refused, counted from 1."""
+        """Returns how many growths the command asked for, and how it ended, if growth `number` is refused, counted from
+        1."""
         self.counter.unlink(missing_ok=True)
         variables = {**os.environ, "LD_PRELOAD": str(self.library), "REFUSE": str(number), "COUNT": str(self.counter)}
         ended = subprocess.run(command, input=text, capture_output=True, env=variables, timeout=120)

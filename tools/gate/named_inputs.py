@@ -1,14 +1,15 @@
-"""The input that an edit of must-fail or must-fail-more names, and the two outputs: lines `input:`, `gives:` and `turned:`.
+"""The input that an edit of must-fail or must-fail-more names, and the two outputs: lines `input:`, `gives:` and
+`turned:`.
 
-An input is `case NAME`, a worked case (conformance/cases.py), or `case NAME --workers N`; `text COMMAND LINE | LINE ..`, a command and the
-lines of a text; `folder COMMAND`, whose standard input is a folder, which cannot be read; `test CRATE NAME`, a test of that crate; or `call
-CRATE: BODY`, a block of Rattle over the names of a crate, whose value is printed. With ` refusing N` at the end of a case or a test, growth
-N of memory is refused (fail_allocations.c).
-`gives:` says what the program gives with the body as it is, and `turned:` what it gives with the wrong one: the first line in which they
-differ, or the status. An edit that names no input says why in a line `no input:`.
+An input is `case NAME`, a worked case (conformance/cases.py), or `case NAME --workers N`; `text COMMAND LINE | LINE
+..`, a command and the lines of a text; `folder COMMAND`, whose standard input is a folder, which cannot be read; `test
+CRATE NAME`, a test of that crate; or `call CRATE: BODY`, a block of Rattle over the names of a crate, whose value is
+printed. With ` refusing N` at the end of a case or a test, growth N of memory is refused (fail_allocations.c). `gives:`
+says what the program gives with the body as it is, and `turned:` what it gives with the wrong one: the first line in
+which they differ, or the status. An edit that names no input says why in a line `no input:`.
 
-`turn_wrong_bodies` runs the inputs. `faults` here, which the gate calls, builds nothing: it compares `gives:` with what the worked case
-expects, or with the answer of the plain program of tools/oracle, and looks for the tests.
+`turn_wrong_bodies` runs the inputs. `faults` here, which the gate calls, builds nothing: it compares `gives:` with what
+the worked case expects, or with the answer of the plain program of tools/oracle, and looks for the tests.
 """
 from __future__ import annotations
 
@@ -125,7 +126,8 @@ def fault_of(text: str, cases: dict[str, Case], tests: set[str]) -> str | None:
         return "its two outputs are the same"
     if named.source.startswith("test "):
         is_there = REFUSING.sub("", named.source) in tests
-        return None if is_there and named.gives == "passes" else f"there is no such test, or it must pass: {named.source}"
+        return (None if is_there and named.gives == "passes"
+                else f"there is no such test, or it must pass: {named.source}")
     if CALL.fullmatch(named.source):
         return None
     case = case_of(named.source, cases)
@@ -143,5 +145,6 @@ def faults(top: Path = TOP) -> list[str]:
     none = sum(bool(NO_INPUT.search(text)) for text in texts.values())
     number = COUNT.search((top / "docs" / "TESTING.md").read_text(encoding="utf-8"))
     if not number or int(number[1]) != none:
-        found.append(f"docs/TESTING.md says that {number[1] if number else 'no number'} say why they name no input, and these are {none}")
+        found.append(f"docs/TESTING.md says that {number[1] if number else 'no number'} say why they name no input, "
+                     f"and these are {none}")
     return found

@@ -1,4 +1,6 @@
-"""The program of the calls that edits name as inputs: its `main` makes the calls whose numbers it is given, and prints their values."""
+"""The program of the calls that edits name as inputs: its `main` makes the calls whose numbers it is given, and prints
+their values.
+"""
 from __future__ import annotations
 
 import re
@@ -60,11 +62,13 @@ def write_calls(top: Path, calls: list[str]) -> None:
     """Adds the program of these calls to a copy of the sources."""
     parts = [found.groups() for it in calls if (found := CALL.fullmatch(it))]
     arms = "".join(ARM.format(number=number) for number in range(len(parts)))
-    functions = "".join(FUNCTION.format(number=number, crate=crate, body=body) for number, (crate, body) in enumerate(parts))
+    functions = "".join(FUNCTION.format(number=number, crate=crate, body=body) for number,
+                        (crate, body) in enumerate(parts))
     folder = top / "crates" / NAME / "src"
     folder.mkdir(parents=True)
     (folder / "main.rt").write_text(MAIN.format(arms=arms, functions=functions))
     known = {it.parent.parent.name for it in top.glob("crates/*/src/lib.rt")}
-    used = known & {"section_text", *(crate for crate, _ in parts), *(name for _, body in parts for name in re.findall(r"(\w+)::", body))}
+    used = known & {"section_text", *(crate for crate, _ in parts),
+                    *(name for _, body in parts for name in re.findall(r"(\w+)::", body))}
     with open(top / "crates.txt", "a") as file:
         file.write(f"{NAME}: {' '.join(sorted(used))} anyhow\n")

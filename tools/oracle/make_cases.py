@@ -10,16 +10,16 @@ output), status (left out: 0) and stderr (left out: any). A folder with a file u
 less of the formats, and is left out. A case is taken if the first of its words is one of the commands or
 it is about words alone: status 2, or help. --also takes a case of that name in any case.
 --largest leaves out cases whose stdin has more bytes; a stdin_repeat is short whatever its text has.
---bundles adds a case of `check` for each NAME_v1.txt and NAME_v2.txt of a folder, whose report is NAME_v1.report or NAME_v2.report, but for the
-bundles that have a line which begins with one of the words of --without. If there are both, of at most --largest bytes, it adds a case
-of `migrate` from the first to the second.
---runs adds for each NAME_v1.txt that has at most BYTES bytes, at most four inputs and no waste cell, a case of `run` for each
-assignment of its inputs; the expected list is made from the circuit alone (tools/oracle/meaning.py).
---large copies each bundle of more than 2000 lines, with its report, to that folder, and makes no case of it.
+--bundles adds a case of `check` for each NAME_v1.txt and NAME_v2.txt of a folder, whose report is NAME_v1.report or
+NAME_v2.report, but for the bundles that have a line which begins with one of the words of --without. If there are both,
+of at most --largest bytes, it adds a case of `migrate` from the first to the second. --runs adds for each NAME_v1.txt
+that has at most BYTES bytes, at most four inputs and no waste cell, a case of `run` for each assignment of its inputs;
+the expected list is made from the circuit alone (tools/oracle/meaning.py). --large copies each bundle of more than 2000
+lines, with its report, to that folder, and makes no case of it.
 
 The repository's file is made with `--commands run,value,modules,check,migrate --largest 200000`, and with all bundles,
-`--runs 3000` and `--large conformance/data`. That leaves out the cases with as many edge and halo lines as a module may have, or one
-more: each is over a megabyte. tools/oracle/fuzz_texts makes such bundles itself.
+`--runs 3000` and `--large conformance/data`. That leaves out the cases with as many edge and halo lines as a module may
+have, or one more: each is over a megabyte. tools/oracle/fuzz_texts makes such bundles itself.
 """
 import argparse
 import shutil

@@ -1,10 +1,11 @@
 #!/usr/bin/env python3
 """make_limit_answers.py [LIMIT..] [--without-huge] > conformance/data/limits.json
 
-Writes what each command must answer to the texts of conformance/limit_texts.py, by the plain Python programs: the exit status, and the
-output, or its SHA-256 if it is long. First it compares each answer with the table of limits: a text is refused with code 2, or for a
-text that is too long ends with status 4, if and only if its value is over the limit. With names of limits, it writes those alone.
-The huge texts take some minutes and 6 GB. --without-huge takes their answers from the file that is there.
+Writes what each command must answer to the texts of conformance/limit_texts.py, by the plain Python programs: the exit
+status, and the output, or its SHA-256 if it is long. First it compares each answer with the table of limits: a text is
+refused with code 2, or for a text that is too long ends with status 4, if and only if its value is over the limit. With
+names of limits, it writes those alone. The huge texts take some minutes and 6 GB. --without-huge takes their answers
+from the file that is there.
 """
 import argparse
 import hashlib
@@ -35,8 +36,10 @@ def answer(command: str, text: bytes) -> Answer:
 
 
 # The code with which a text is refused whose value is within the limit, or None, and that of a text over it.
-CODES = {"mirror_beyond": (7, 2), "stop_time": (None, 10), "edge_time": (None, 10), "gate_beyond": (3, 2), "name_length": (None, 1),
-         "digits": (7, 1), "one_line": (1, None), "nearly_front": (1, None), "text_bytes": (None, None), "wire_twice": (4, 2), "gate_of_unknown": (3, 2),
+CODES = {"mirror_beyond": (7, 2), "stop_time": (None, 10), "edge_time": (None, 10), "gate_beyond": (3, 2),
+         "name_length": (None, 1),
+         "digits": (7, 1), "one_line": (1, None), "nearly_front": (1, None), "text_bytes": (None, None),
+         "wire_twice": (4, 2), "gate_of_unknown": (3, 2),
          "module_over_another": (8, 2), "module_without_a_wire": (11, 2)}
 
 

@@ -1,8 +1,9 @@
 #!/usr/bin/env python3
 """make_reports.py COUNT DENSE SECOND SEED > crates/run_cases/data/reports.txt
 
-Writes cases of `check`, in the form that crates/case_text/src/lib.rt describes: COUNT bundles of mostly_right_bundle.py, then DENSE ones with many
-balls and SECOND ones in version 2, each with the report of reference_reports.py. The repository's file is made with `100 25 25 1`.
+Writes cases of `check`, in the form that crates/case_text/src/lib.rt describes: COUNT bundles of
+mostly_right_bundle.py, then DENSE ones with many balls and SECOND ones in version 2, each with the report of
+reference_reports.py. The repository's file is made with `100 25 25 1`.
 """
 import argparse
 import random
@@ -15,9 +16,8 @@ from mostly_right_bundle import mostly_right_bundle  # noqa: E402
 from random_bundle import second_version  # noqa: E402
 from reference_reports import answer  # noqa: E402
 
-HEAD = """\
-# Random bundles, in the form of cases.txt, and their reports by a slow program. tools/oracle/make_reports.py writes this file.
-"""
+HEAD = ("# Random bundles, in the form of cases.txt, and their reports by a slow program. "
+        "tools/oracle/make_reports.py writes this file.\n")
 SORTS = ["verdict yes", " edge ", " end ", "border ", "\nkeep ", "\nunkept "]
 
 
@@ -39,7 +39,8 @@ def main():
             text = second_version(text)
         status, report = answer(text)
         reports.append(report.decode())
-        case = [f"case random_{number}", "words check", *lines_of("input", text), *lines_of("output", report), f"status {status}"]
+        case = [f"case random_{number}", "words check", *lines_of("input", text), *lines_of("output", report),
+                f"status {status}"]
         print("\n" + "\n".join(case))
     missing = [sort for sort in SORTS if not any(sort in report for report in reports)]
     if missing:

@@ -1,7 +1,7 @@
 """What the whole run of an accepted bundle is to end with, from its circuit alone: no step is made here.
 
-ends(text) gives, for each assignment of the circuit's inputs, the text for `run`, the cells that are to be live at the end, and the
-waste cells, of which nothing is said.
+ends(text) gives, for each assignment of the circuit's inputs, the text for `run`, the cells that are to be live at the
+end, and the waste cells, of which nothing is said.
 """
 from itertools import product
 

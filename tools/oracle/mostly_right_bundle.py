@@ -1,12 +1,13 @@
-"""Random small bundles whose border lines and ports are mostly right: the whole pattern is run first, under each assignment of the
-inputs, and what a cell then carries is looked for among the wires of its module. Some lines are made wrong afterwards."""
+"""Random small bundles whose border lines and ports are mostly right: the whole pattern is run first, under each
+assignment of the inputs, and what a cell then carries is looked for among the wires of its module. Some lines are made
+wrong afterwards."""
 import collections
 
 from random_bundle import INVERSE, gates_of, kept_of, ring, tiles
 from reference import ROWS, stepped
 
-# The most inputs; how often a module's lines of a kind are made wrong; how often a cell that is live at the end is left out; and
-# whether neighbours name a wire alike where several have one value.
+# The most inputs; how often a module's lines of a kind are made wrong; how often a cell that is live at the end is left
+# out; and whether neighbours name a wire alike where several have one value.
 Mood = collections.namedtuple("Mood", "inputs wrong forgotten steady")
 WILD, CALM, RENAMED = Mood(10, 0.3, 0.15, False), Mood(1, 0, 0, True), Mood(1, 0, 0, False)
 
@@ -16,8 +17,8 @@ def cells_of(x, y, w, h):
 
 
 class Tables:
-    """For each wire its table: bit a is its value under assignment a of the inputs. Where a gate has no row its wires are false, and
-    some gate is undefined."""
+    """For each wire its table: bit a is its value under assignment a of the inputs. Where a gate has no row its wires
+    are false, and some gate is undefined."""
 
     def __init__(self, inputs, gates):
         self.full, self.is_defined = (1 << (1 << len(inputs))) - 1, True
@@ -27,7 +28,8 @@ class Tables:
             if kind == "source":
                 self.of[outs[0]] = self.full * int(number)
                 continue
-            rows = [ROWS[kind.encode()](*(self.of[wire] >> a & 1 == 1 for wire in ins)) for a in range(self.full.bit_length())]
+            rows = [ROWS[kind.encode()](*(self.of[wire] >> a & 1 == 1 for wire in ins))
+                    for a in range(self.full.bit_length())]
             self.is_defined = self.is_defined and None not in rows
             self.of.update((wire, sum(row[k] << a for a, row in enumerate(rows) if row)) for k, wire in enumerate(outs))
 
@@ -45,13 +47,17 @@ def mirrors_of(rng, width, height):
 
 
 def still_mirrors(rng, width, height):
-    """Some boxes of two by two that stay as they are, and lie in two modules where the rows between them part modules."""
+    """Some boxes of two by two that stay as they are, and lie in two modules where the rows between them part modules.
+    """
     places = [(x, y, 2, 2) for y in range(1, height - 2, 2) for x in range(0, width, 2)]
     return rng.sample(places, min(len(places), rng.randint(1, 3)))
 
 
 def start_cells(rng, free, names, is_dense):
-    """Cells of balls, and one or two of each input, all apart. Where it is dense, a third to a sixth of the cells are balls."""
+    """Cells of balls, and one or two of each input, all apart.
+
+    Where it is dense, a third to a sixth of the cells are balls.
+    """
     free = rng.sample(sorted(free), len(free))
     ins = [(name, free.pop()) for name in names]
     count = len(free) // rng.choice([3, 4, 6]) if is_dense else rng.choice([0, 0, 1, 2])
@@ -73,8 +79,8 @@ def history_of(tables, fixed, ins, steps):
 
 
 def locals_of(rng, names, gates, kept):
-    """All inputs are cut, or the outputs of some gates in place of them and of what made them. So many of the inverse gates that are
-    used are kept."""
+    """All inputs are cut, or the outputs of some gates in place of them and of what made them. So many of the inverse
+    gates that are used are kept."""
     cuts, used, local = list(names), [], set(names)
     rng.shuffle(cuts)
     for number, (_, ins, outs) in enumerate(gates):
@@ -110,7 +116,8 @@ def right_lines(rng, tables, local, cells, history, steady):
         if carried and carried[0] and len(set(carried)) == 1 and rng.random() < 0.7:
             lines[-1, y, x] = signal_for(rng, tables, local, carried[0], steady)
             continue
-        lines |= {(time, y, x): signal_for(rng, tables, local, table, steady) for time, table in zip(odd, carried) if table}
+        lines |= {(time, y, x): signal_for(rng, tables, local, table, steady) for time,
+                  table in zip(odd, carried) if table}
     return lines
 
 
@@ -135,7 +142,10 @@ def border_texts(kind, lines):
 
 
 def right_stops(rng, tables, local, box, history, steady):
-    """By place the wires that some cells of the box carry at some times. Where it is steady, wires of one value follow each other in time."""
+    """By place the wires that some cells of the box carry at some times.
+
+    Where it is steady, wires of one value follow each other in time.
+    """
     stops, steps, inside = {}, len(history) - 1, cells_of(*box)
     seen = [(time, y, x) for time in range(steps + 1) for x, y in sorted(inside & set(history[time]))]
     for time, y, x in sorted(rng.sample(seen, min(len(seen), rng.choice([0, 1, 2, 4])))):
@@ -157,7 +167,8 @@ def stop_texts(stops):
 
 
 def timed(rng, gates, stops, mood):
-    """The lines of the gates, with numbers that the stops show to be right for most delays, and whether they do for all."""
+    """The lines of the gates, with numbers that the stops show to be right for most delays, and whether they do for
+    all."""
     times, lines, all_right = {}, [], True
     for (time, _, _), wire in stops:
         times.setdefault(wire, []).append(time)
@@ -193,7 +204,8 @@ def module_lines(rng, tables, box, places, known, history, mood):
 
 
 def end_cells(rng, tables, owners, solid, free, last, mood):
-    """Waste cells, and wires at cells where they are carried at the last time; now and then at a cell where they are not."""
+    """Waste cells, and wires at cells where they are carried at the last time; now and then at a cell where they are
+    not."""
     wastes, outs = [], []
     for cell, table in sorted(last.items()):
         if cell in owners and cell not in solid:
@@ -219,8 +231,8 @@ def reaches(history, rim):
 
 
 def mostly_right_bundle(rng, is_dense=False, mood=WILD):
-    """The bundle's text: sides of modules of 2 to 8, and at most three cuts a module, now and then up to ten. Calm bundles mostly get a
-    yes, and of renamed ones many a no by a border alone."""
+    """The bundle's text: sides of modules of 2 to 8, and at most three cuts a module, now and then up to ten. Calm
+    bundles mostly get a yes, and of renamed ones many a no by a border alone."""
     width, height, steps = 2 * rng.randint(2, 6), 2 * rng.randint(2, 6), rng.choice([0, 1, 2, 3, 4, 5, 8, 12])
     steps = max(steps, 3) if mood is RENAMED else steps
     many = rng.randint(4, 10) if rng.random() < 0.03 else 0
@@ -242,15 +254,18 @@ def mostly_right_bundle(rng, is_dense=False, mood=WILD):
         return mostly_right_bundle(rng, is_dense, mood)
     owners = {cell: local for box, (_, _, local, _) in zip(boxes, known) for cell in cells_of(*box)}
     wastes, outs = end_cells(rng, tables, owners, solid, free, history[-1], mood)
-    modules = [module_lines(rng, tables, box, (ring(0, 0, width, height), inside), what, history, mood) for box, what in zip(boxes, known)]
+    modules = [module_lines(rng, tables, box, (ring(0, 0, width, height), inside), what, history, mood) for box,
+               what in zip(boxes, known)]
     gate_lines, are_right = timed(rng, gates, [stop for _, stops in modules for stop in stops], mood)
     if mood is not WILD and not are_right:
         return mostly_right_bundle(rng, is_dense, mood)
     outputs = sorted({wire for wire, _ in outs})
     texts = ["circuit", *(f"input {name}" for name in names), *gate_lines]
-    texts += [f"output {wire}" for wire in outputs] + [f"spill {wire}" for wire in free if wire not in outputs] + ["end"]
+    texts += [f"output {wire}" for wire in outputs] + [f"spill {wire}" for wire in free
+                                                       if wire not in outputs] + ["end"]
     texts += [f"layout {width} {height} {steps}", *("mirror %d %d %d %d" % box for box in mirrors)]
     texts += ["ball %d %d" % cell for cell in balls] + ["in %s %d %d" % (name, *cell) for name, cell in ins]
-    texts += ["out %s %d %d" % (wire, *cell) for wire, cell in outs] + ["waste %d %d" % cell for cell in wastes] + ["end"]
+    texts += ["out %s %d %d" % (wire, *cell) for wire, cell in outs] + ["waste %d %d" % cell
+                                                                        for cell in wastes] + ["end"]
     texts += ["certificate 1", *(line for lines, _ in modules for line in lines)]
     return "".join(text + "\n" for text in texts + ["end"]).encode()

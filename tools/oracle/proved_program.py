@@ -6,5 +6,6 @@ TOP = Path(__file__).resolve().parent.parent.parent
 
 
 def program():
-    told = subprocess.run([TOP / "bbmcheck", "--wrapper-program"], stdin=subprocess.DEVNULL, stdout=subprocess.PIPE, check=True)
+    told = subprocess.run([TOP / "bbmcheck", "--wrapper-program"], stdin=subprocess.DEVNULL, stdout=subprocess.PIPE,
+                          check=True)
     return told.stdout.decode()[:-1]

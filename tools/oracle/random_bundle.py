@@ -22,8 +22,8 @@ def tiles(rng, x, y, w, h, most):
 
 
 def gates_of(rng, inputs, count):
-    """The wires, those that no gate uses, and the gates: their lines, the wires that they use and those that they make. Now and then a
-    gate is turned back by the next one."""
+    """The wires, those that no gate uses, and the gates: their lines, the wires that they use and those that they make.
+    Now and then a gate is turned back by the next one."""
     kinds = GATES | INVERSE
     wires, free, gates, kind = list(inputs), list(inputs), [], None
     while len(gates) < count:
@@ -33,7 +33,8 @@ def gates_of(rng, inputs, count):
         if len(wires) + makes > 4096:
             break
         # wires made lately, so that gates hang together
-        ins = [free.pop(k - uses if is_turned else rng.randrange(max(0, len(free) - 8), len(free))) for k in range(uses)]
+        ins = [free.pop(k - uses if is_turned else rng.randrange(max(0, len(free) - 8), len(free)))
+               for k in range(uses)]
         outs = [f"w{len(wires) + k}" for k in range(makes)]
         wires += outs
         free += outs
@@ -84,7 +85,8 @@ def border_lines(rng, kind, cells, local, steps, count):
 def stop_lines(rng, box, local, steps, count):
     """At most count stops of local wires, at any times and cells of the box."""
     x, y, w, h = box
-    places = {(rng.randrange(steps + 1), y + rng.randrange(h), x + rng.randrange(w)) for _ in range(count)} if local else set()
+    places = {(rng.randrange(steps + 1), y + rng.randrange(h), x + rng.randrange(w))
+              for _ in range(count)} if local else set()
     for time, v, u in sorted(places):
         yield f"stop {time} {rng.choice(local)} {u} {v}"
 
@@ -148,8 +150,8 @@ def moved(text, by):
 
 
 def bundle(rng, width, height, boxes, steps, inputs, gates, mirrors, cuts, lines):
-    """The bundle's text, or None where a port found no cell. cuts is the least that a module has; gates, mirrors and lines are
-    the most that there are, lines of the edge lines of a module and of its halo lines."""
+    """The bundle's text, or None where a port found no cell. cuts is the least that a module has; gates, mirrors and
+    lines are the most that there are, lines of the edge lines of a module and of its halo lines."""
     names = [f"i{k}" for k in range(inputs)]
     wires, free, gates = gates_of(rng, names, gates)
     asked = [[] for _ in boxes]
@@ -164,7 +166,8 @@ def bundle(rng, width, height, boxes, steps, inputs, gates, mirrors, cuts, lines
         local = cut + [wire for number in used for wire in gates[number][2]]
         for wire in local:
             places.setdefault(wire, []).append(box)
-        certificate += [f"module {x} {y} {w} {h}", *(f"cut {wire}" for wire in cut), *(f"use {number}" for number in used)]
+        certificate += [f"module {x} {y} {w} {h}", *(f"cut {wire}" for wire in cut),
+                        *(f"use {number}" for number in used)]
         certificate += [f"keep {number}" for number in kept_of(rng, gates, used, 0.5)]
         edge = ring(*box) - rim
         halo = {(u, v) for u, v in ring(x - 1, y - 1, w + 2, h + 2) if 0 <= u < width and 0 <= v < height}

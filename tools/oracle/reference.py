@@ -1,8 +1,8 @@
-"""`run`, `value`, `modules` and `migrate` once more, in plain Python and straight from docs/FORMATS.md: no code is shared with the
-program.
+"""`run`, `value`, `modules` and `migrate` once more, in plain Python and straight from docs/FORMATS.md: no code is
+shared with the program.
 
-answer(command, text) gives the exit status and what is written for a text of bytes. Reading takes time in proportion to the text and to
-the area of its layout.
+answer(command, text) gives the exit status and what is written for a text of bytes. Reading takes time in proportion to
+the text and to the area of its layout.
 """
 import collections
 import re
@@ -31,7 +31,8 @@ FRONT_LINE = b"limits 2\n"
 
 
 def limits_of(text: bytes) -> Limits:
-    """Returns the limits that hold for a text, or for each text that begins with these bytes, if there are nine of them."""
+    """Returns the limits that hold for a text, or for each text that begins with these bytes, if there are nine of
+    them."""
     return SECOND_LIMITS if text.startswith(FRONT_LINE) else FIRST_LIMITS
 
 
@@ -191,7 +192,8 @@ def run(text):
 # ---- circuits
 
 LONE = {b"input": 0, b"output": 2, b"spill": 3}
-GATES = {b"source": (0, 1), b"fredkin": (3, 3), b"cswap": (3, 3), b"interact": (2, 4), b"switch": (2, 3), b"delay": (1, 1),
+GATES = {b"source": (0, 1), b"fredkin": (3, 3), b"cswap": (3, 3), b"interact": (2, 4), b"switch": (2, 3),
+         b"delay": (1, 1),
          b"unswitch": (3, 2), b"uninteract": (4, 2)}
 INVERSE = (b"unswitch", b"uninteract")
 # the outputs of a gate at its inputs; an inverse gate has the rows of the other one, read backwards, and else None
@@ -320,7 +322,8 @@ def cells_of(x, y, w, h):
 
 
 def ring_of(x, y, w, h):
-    return {(u, v) for u in range(x, x + w) for v in (y, y + h - 1)} | {(u, v) for u in (x, x + w - 1) for v in range(y, y + h)}
+    return {(u, v) for u in range(x, x + w) for v in (y, y + h - 1)} | {(u, v) for u in (x, x + w - 1)
+                                                                        for v in range(y, y + h)}
 
 
 def grown(box, by):
@@ -515,10 +518,12 @@ class Certificate:
     def lacks_a_port(self):
         """Whether the last module doesn't know the wire of a port in its box."""
         ports = self.layout.ports.values()
-        return any(cell in kind and kind[cell] not in module.local for module in self.modules[-1:] for cell in module.cells for kind in ports)
+        return any(cell in kind and kind[cell] not in module.local for module in self.modules[-1:]
+                   for cell in module.cells for kind in ports)
 
     def beside(self, module):
-        """The edge lines of all modules for the cells of this one's halo, in order. Without an odd time there are none."""
+        """The edge lines of all modules for the cells of this one's halo, in order. Without an odd time there are none.
+        """
         if self.layout.steps < 2:
             return []
         return sorted(line for cell in module.halo for line in self.edges_at.get(cell, ()))
@@ -526,7 +531,8 @@ class Certificate:
     def lacks_a_wire(self):
         """Whether in version 2 a module doesn't know the wire of an edge line beside it."""
         return self.version == 2 and any(
-            signal != b"1" and signal not in module.local for module in self.modules for _, signal in self.beside(module))
+            signal != b"1" and signal not in module.local for module in self.modules for _,
+            signal in self.beside(module))
 
     def end(self):
         return 11 if self.lacks_a_port() or not self.covered.is_full() or self.lacks_a_wire() else None

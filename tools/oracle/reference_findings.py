@@ -1,8 +1,8 @@
-"""The least faults of a bundle's modules, in plain Python and straight from the definitions: a module is run by itself under one
-assignment after another, its live cells are a set, and all of its faults are made before the least is taken.
+"""The least faults of a bundle's modules, in plain Python and straight from the definitions: a module is run by itself
+under one assignment after another, its live cells are a set, and all of its faults are made before the least is taken.
 
-least_fault(circuit, layout, module) gives the time, the kind's number, y, x and the assignment, or None; least_keep(circuit, module)
-the number of a gate and the assignment, or None.
+least_fault(circuit, layout, module) gives the time, the kind's number, y, x and the assignment, or None;
+least_keep(circuit, module) the number of a gate and the assignment, or None.
 """
 import collections
 
@@ -26,8 +26,8 @@ class Pattern(Layout):
 
 
 def local_values(circuit, module, assignment):
-    """Cut i has the value of bit i; the outputs of the used gates follow by their rows. The signal `1` is always true. Beside the values
-    stands the first gate that has no row, behind which there are none, or None."""
+    """Cut i has the value of bit i; the outputs of the used gates follow by their rows. The signal `1` is always true.
+    Beside the values stands the first gate that has no row, behind which there are none, or None."""
     values = {name: bool(assignment >> i & 1) for i, name in enumerate(module.lines[b"cut"])}
     for number in module.lines[b"use"]:
         word, bit, ins, outs = circuit.gates[number]
@@ -99,5 +99,6 @@ def least_fault(circuit, layout, module):
 
 def least_keep(circuit, module):
     """Of the gates that the module keeps, each that is the first without a row under some assignment."""
-    firsts = ((local_values(circuit, module, assignment)[1], assignment) for assignment in range(1 << len(module.lines[b"cut"])))
+    firsts = ((local_values(circuit, module, assignment)[1], assignment)
+              for assignment in range(1 << len(module.lines[b"cut"])))
     return min(((gate, assignment) for gate, assignment in firsts if gate in module.lines[b"keep"]), default=None)

@@ -1,5 +1,5 @@
-"""`check` in plain Python, straight from docs/FORMATS.md: the findings are those of reference_findings.py, and borders are
-compared cell by cell.
+"""`check` in plain Python, straight from docs/FORMATS.md: the findings are those of reference_findings.py, and borders
+are compared cell by cell.
 
 answer(text) gives the exit status and what is written for a text of bytes.
 """
@@ -17,15 +17,20 @@ def add_halos(certificate):
 
 
 def border_fault(certificate, module):
-    """The time, y and x of the least one, or None. A difference begins at time 1, at the time of a line, or right after it."""
+    """The time, y and x of the least one, or None.
+
+    A difference begins at time 1, at the time of a line, or right after it.
+    """
     halos, edges = dict(module.lines[b"halo"]), dict(certificate.beside(module))
 
     def signal(lines, time, y, x):
         return lines.get((time, y, x), lines.get((-1, y, x)))
 
     named = halos.keys() | edges.keys()
-    places = {(1, y, x) for _, y, x in named} | {(time + 2 * late, y, x) for time, y, x in named if time > 0 for late in (0, 1)}
-    differ = (place for place in places if place[0] < certificate.layout.steps and signal(halos, *place) != signal(edges, *place))
+    places = {(1, y, x) for _, y, x in named} | {(time + 2 * late, y, x) for time, y,
+                                                 x in named if time > 0 for late in (0, 1)}
+    differ = (place for place in places if place[0] < certificate.layout.steps
+              and signal(halos, *place) != signal(edges, *place))
     return min(differ, default=None)
 
 
@@ -64,7 +69,9 @@ def time_lines(circuit, modules):
     for number, (word, wanted, ins, outs) in enumerate(circuit.gates):
         if word == b"delay":
             used, made = times.get(ins[0]), times.get(outs[0])
-            gap = b"missing" if not (used and made) else b"before" if min(made) < max(used) else b"%d" % (min(made) - max(used))
+            gap = b"missing" if not (used
+                                     and made) else b"before" if min(made) < max(used) else b"%d" % (
+                                         min(made) - max(used))
             yield b"delay %d %d %s\n" % (number, wanted, gap), gap == b"%d" % wanted
     for number, (_, _, ins, _) in enumerate(circuit.gates):
         lasts = [max(times[name]) for name in ins if name in times]

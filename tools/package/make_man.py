@@ -1,8 +1,9 @@
 #!/usr/bin/env python3
-"""make_man.py PROGRAM [--check]: writes the man page and the completions for bash, zsh and fish, from PROGRAM's --help and --version.
+"""make_man.py PROGRAM [--check]: writes the man page and the completions for bash, zsh and fish, from PROGRAM's --help
+and --version.
 
-It writes the four files of share/. With --check it writes nothing, and the status is 1 if one of them differs from what it
-would write. The date of the man page is that of release/x86_64-linux-gnu/MANIFEST.
+It writes the four files of share/. With --check it writes nothing, and the status is 1 if one of them differs from what
+it would write. The date of the man page is that of release/x86_64-linux-gnu/MANIFEST.
 """
 import argparse
 import re
@@ -18,11 +19,13 @@ BASH = TOP / "share" / "bash-completion" / "completions" / "bbmcheck"
 ZSH = TOP / "share" / "zsh" / "site-functions" / "_bbmcheck"
 FISH = TOP / "share" / "fish" / "vendor_completions.d" / "bbmcheck.fish"
 MANIFEST = TOP / "release" / "x86_64-linux-gnu" / "MANIFEST"
-NOTE = "tools/package/make_man.py writes this file from what the program prints with --help and --version, and from docs/FORMATS.md."
+NOTE = ("tools/package/make_man.py writes this file from what the program prints with --help and --version, and from "
+        "docs/FORMATS.md.")
 # What `apropos` finds. The first line of --help names neither circuits nor layouts.
 PURPOSE = "checks that a layout of the billiard ball automaton computes a circuit"
 # What an installed program has beside it.
-PAGES = [("FORMATS.md", "the texts, the refusals and the statuses"), ("GUIDE.md", "layouts and certificates, step by step, and how to read a no"),
+PAGES = [("FORMATS.md", "the texts, the refusals and the statuses"),
+         ("GUIDE.md", "layouts and certificates, step by step, and how to read a no"),
          ("OPERATING.md", "how to run it as a service: limits, statuses, a sandbox"), ("examples/", "texts to try")]
 
 
@@ -39,19 +42,22 @@ class Help(NamedTuple):
 
 # The lines of a report, and what each says.
 REPORT_LINES = [
-    ("local M edge T X Y A", "in the module's own run this cell of its ring differs from its edge line, or is live and has none"),
+    ("local M edge T X Y A", "in the module's own run this cell of its ring differs from its edge line, or is live and "
+     "has none"),
     ("local M stop T X Y A", "the cell of a stop line is not as its wire at this time"),
     ("local M end T X Y A", "at the last time the cell is not what the layout asks of it"),
     ("keep M G A", "an inverse gate that the module keeps has no row under this assignment"),
     ("border M T X Y", "the module and its neighbour say different things of this cell"),
     ("unkept G", "no module keeps this inverse gate"),
-    ("delay G N D", "the stops of the delay of N steps are D steps apart; D may be `missing` or `before`; a no unless D is N; also after a yes"),
+    ("delay G N D", "the stops of the delay of N steps are D steps apart; D may be `missing` or `before`; a no unless "
+     "D is N; also after a yes"),
     ("meet G T", "the inputs of the gate have their last stops at the time T; a no if T is `differ`; also after a yes"),
 ]
 
 
 def said(program, *words):
-    return subprocess.run([program, *words], stdin=subprocess.DEVNULL, capture_output=True, text=True, check=True).stdout
+    return subprocess.run([program, *words], stdin=subprocess.DEVNULL, capture_output=True, text=True,
+                          check=True).stdout
 
 
 def after(text, label):
@@ -63,12 +69,14 @@ def after(text, label):
 def rows(text, heading):
     """The rows below a heading: two parts, with two spaces or more between them."""
     found = re.search(rf"^{heading}:\n((?:  .*\n)*)", text, re.MULTILINE)
-    return [tuple(re.split(r" {2,}", line.strip(), maxsplit=1)) for line in found.group(1).splitlines()] if found else []
+    return [tuple(re.split(r" {2,}", line.strip(), maxsplit=1))
+            for line in found.group(1).splitlines()] if found else []
 
 
 def help_in(text):
     (example,), = rows(text, "Example")
-    return Help(text.splitlines()[0], after(text, "Usage"), rows(text, "Commands"), rows(text, "Options"), after(text, "Reads"),
+    return Help(text.splitlines()[0], after(text, "Usage"), rows(text, "Commands"), rows(text, "Options"),
+                after(text, "Reads"),
                 after(text, "Writes"), rows(text, "Exit statuses"), example)
 
 
@@ -116,7 +124,8 @@ def man_page(version, top, pages):
     yield from (".SH NAME", f"bbmcheck \\- {roff(PURPOSE)}")
     yield from (".SH SYNOPSIS", f".B {roff(top.usage)}", ".SH DESCRIPTION")
     yield from reads_and_writes(top)
-    yield from (".PP", "If standard input is a terminal, the program says on standard error that it awaits the text there.")
+    yield from (".PP", "If standard input is a terminal, the program says on standard error that it awaits the text "
+                "there.")
     yield ".SH OPTIONS"
     yield from tagged(top.options)
     yield ".SH COMMANDS"
@@ -124,9 +133,11 @@ def man_page(version, top, pages):
         yield from command_part(name, pages[name], top) if name in pages else (f".SS {name}", f"{roff(about)}.")
     yield ".SH EXIT STATUS"
     yield from tagged(top.statuses)
-    yield from (".SH REFUSALS", roff("`refused LINE CODE` names the first line with a failing test, counted from 1, and its first failing test:"))
+    yield from (".SH REFUSALS", roff("`refused LINE CODE` names the first line with a failing test, counted from 1, "
+                                     "and its first failing test:"))
     yield from tagged(refusal_codes())
-    yield from (".SH REPORTS", roff("The report of `check` has lines for the reasons of a no, and lines about stops. M is a module, T a time, X Y a cell,"),
+    yield from (".SH REPORTS", roff("The report of `check` has lines for the reasons of a no, and lines about stops. M "
+                                    "is a module, T a time, X Y a cell,"),
                 roff("G a gate, and A an assignment: bit i of A is the value of the module's cut i."))
     yield from tagged(REPORT_LINES)
     yield from (".SH EXAMPLE", f".B {roff(top.example)}", ".SH VERSION", roff(first))
@@ -136,7 +147,8 @@ def man_page(version, top, pages):
                 "In /usr/share/doc/bbmcheck, or share/doc/bbmcheck below the prefix of the installation:")
     yield from tagged((f"{name}", f"{about}") for name, about in PAGES)
     yield from (".SH LICENSE", "MIT: the file LICENSE there, or copyright in a package for Debian.",
-                "THIRD\\-PARTY.md has the licences of the ported crates in the program, and names parts whose licence is not known.")
+                "THIRD\\-PARTY.md has the licences of the ported crates in the program, and names parts whose licence "
+                "is not known.")
 
 
 def flags(page):
@@ -144,7 +156,8 @@ def flags(page):
 
 
 def flags_with_values(pages):
-    found = {flag for page in pages.values() for head, _ in page.options if "<" in head for flag in re.findall(r"--?[\w-]+", head)}
+    found = {flag for page in pages.values() for head, _ in page.options if "<" in head
+             for flag in re.findall(r"--?[\w-]+", head)}
     return sorted(found)
 
 
@@ -156,9 +169,12 @@ def bash_completions(top, pages):
     for name in names:
         yield f'            {name}) words="{" ".join(flags(pages[name]) if name in pages else pages)}" ;;'
     yield from ("        esac", "    fi", '    case ${COMP_WORDS[COMP_CWORD - 1]} in')
-    yield from ("        # A number follows, and no file.", f'        {" | ".join(flags_with_values(pages))}) words=; compopt +o default 2>/dev/null ;;')
-    yield from ("        # A file follows: bash completes it if nothing is offered.", "        *'<' | *'>') words= ;;", "    esac")
-    yield from ('    mapfile -t COMPREPLY < <(compgen -W "$words" -- "${COMP_WORDS[COMP_CWORD]}")', "}", "complete -o default -F _bbmcheck bbmcheck")
+    yield from ("        # A number follows, and no file.", f'        {" | ".join(flags_with_values(pages))}) words=; '
+                'compopt +o default 2>/dev/null ;;')
+    yield from ("        # A file follows: bash completes it if nothing is offered.", "        *'<' | *'>') words= ;;",
+                "    esac")
+    yield from ('    mapfile -t COMPREPLY < <(compgen -W "$words" -- "${COMP_WORDS[COMP_CWORD]}")', "}",
+                "complete -o default -F _bbmcheck bbmcheck")
 
 
 def quoted(text):
@@ -180,10 +196,13 @@ def zsh_completions(top, pages):
     yield from ("#compdef bbmcheck", f"# {NOTE}", "_bbmcheck() {", "    local -a commands", "    commands=(")
     for name, about in top.commands:
         yield f"        {quoted(name + ':' + about.replace(':', chr(92) + ':'))}"
-    yield from ("    )", "    local curcontext=$curcontext state line", f"    _arguments -C {' '.join(zsh_options(top))} '1: :->command' '*:: :->rest'")
-    yield from ("    case $state in", "        command) _describe command commands ;;", "        rest)", "            case $words[1] in")
+    yield from ("    )", "    local curcontext=$curcontext state line",
+                f"    _arguments -C {' '.join(zsh_options(top))} '1: :->command' '*:: :->rest'")
+    yield from ("    case $state in", "        command) _describe command commands ;;", "        rest)",
+                "            case $words[1] in")
     for name, _ in top.commands:
-        yield f"                {name}) " + (f"_arguments {' '.join(zsh_options(pages[name]))} ;;" if name in pages else "_describe command commands ;;")
+        yield f"                {name}) " + (f"_arguments {' '.join(zsh_options(pages[name]))} ;;" if name in pages
+                                             else "_describe command commands ;;")
     yield from ("            esac ;;", "    esac", "}", '_bbmcheck "$@"')
 
 
@@ -191,11 +210,13 @@ def fish_options(page, condition):
     for head, about in page.options:
         names = re.findall(r"--?[\w-]+", head)
         words = [f"-l {name[2:]}" if name.startswith("--") else f"-s {name[1:]}" for name in names]
-        yield f"complete -c bbmcheck -n {quoted(condition)} {' '.join(words)}{' -x' if '<' in head else ''} -d {quoted(about)}"
+        yield (f"complete -c bbmcheck -n {quoted(condition)} {' '.join(words)}{' -x' if '<' in head else ''} -d "
+               f"{quoted(about)}")
 
 
 def fish_completions(top, pages):
-    yield from (f"# {NOTE}", "# A word is never a file; after `<` fish completes files by itself.", "complete -c bbmcheck -f")
+    yield from (f"# {NOTE}", "# A word is never a file; after `<` fish completes files by itself.",
+                "complete -c bbmcheck -f")
     for name, about in top.commands:
         yield f"complete -c bbmcheck -n __fish_use_subcommand -a {name} -d {quoted(about)}"
     yield from fish_options(top, "__fish_use_subcommand")
@@ -215,7 +236,8 @@ def main():
         sys.exit(f"make_man.py: {given.program} gives no help: {error}")
     # `help` is the library's own command, and has no page.
     pages = {name: help_in(said(given.program, name, "--help")) for name, _ in top.commands if name != "help"}
-    made = {MAN: man_page(said(given.program, "--version"), top, pages), BASH: bash_completions(top, pages), ZSH: zsh_completions(top, pages),
+    made = {MAN: man_page(said(given.program, "--version"), top, pages), BASH: bash_completions(top, pages),
+            ZSH: zsh_completions(top, pages),
             FISH: fish_completions(top, pages)}
     differ = 0
     for path, lines in made.items():
@@ -224,7 +246,8 @@ def main():
             path.parent.mkdir(parents=True, exist_ok=True)
             path.write_text(text)
         elif not path.exists() or path.read_text() != text:
-            print(f"make_man.py: {path.relative_to(TOP)} is not what the program says: tools/package/make_man.py {given.program} writes it")
+            print(f"make_man.py: {path.relative_to(TOP)} is not what the program says: tools/package/make_man.py "
+                  f"{given.program} writes it")
             differ = 1
     sys.exit(differ)
 

@@ -17,7 +17,8 @@ class Planted(unittest.TestCase):
         self.addCleanup(room.cleanup)
         self.top = Path(room.name)
         for folder in ("crates", "tools", "docs", "release"):
-            shutil.copytree(TOP / folder, self.top / folder, ignore=shutil.ignore_patterns("out", "data", "proofs", "must-*", "__pycache__"))
+            shutil.copytree(TOP / folder, self.top / folder,
+                            ignore=shutil.ignore_patterns("out", "data", "proofs", "must-*", "__pycache__"))
         for name in ("README.md", "crates.txt"):
             shutil.copy(TOP / name, self.top)
 
@@ -30,4 +31,5 @@ class Planted(unittest.TestCase):
 
     def run_tool(self, *words: str) -> subprocess.CompletedProcess[str]:
         """Runs a tool of the copy."""
-        return subprocess.run([sys.executable, *words], cwd=self.top, stdin=subprocess.DEVNULL, capture_output=True, text=True, check=False)
+        return subprocess.run([sys.executable, *words], cwd=self.top, stdin=subprocess.DEVNULL, capture_output=True,
+                              text=True, check=False)

@@ -1,4 +1,6 @@
-"""Tests of tools/gate/check_prover_lines: a fault stays until a run proves the crate again, and the C functions are compared by name."""
+"""Tests of tools/gate/check_prover_lines: a fault stays until a run proves the crate again, and the C functions are
+compared by name.
+"""
 import os
 import subprocess
 import sys
@@ -26,7 +28,8 @@ class CheckProverLines(planted.Planted):
     def check(self, log: str, *words: str) -> tuple[int, str]:
         """Returns the status and the output of the tool for a log."""
         (self.top / "log").write_text(log)
-        ended = subprocess.run([sys.executable, "tools/gate/check_prover_lines", *words, "log"], cwd=self.top, env={**os.environ, "PATH": self.path},
+        ended = subprocess.run([sys.executable, "tools/gate/check_prover_lines", *words, "log"], cwd=self.top,
+                               env={**os.environ, "PATH": self.path},
                                stdin=subprocess.DEVNULL, capture_output=True, text=True, check=False)
         self.assertEqual(ended.stderr, "")
         return ended.returncode, ended.stdout
@@ -52,7 +55,8 @@ class CheckProverLines(planted.Planted):
             self.assertEqual(self.check(KEPT)[0], 0)
 
     def test_kept_after_a_wrong_body_that_was_not_tried(self) -> None:
-        self.assertEqual(self.check(PROVED + "rt: crates/lemmas/must-fail/a.edit: BAD EDIT: it does not apply\n== lemmas\n"
+        self.assertEqual(self.check(PROVED + "rt: crates/lemmas/must-fail/a.edit: BAD EDIT: it does not apply\n== "
+                                    "lemmas\n"
                                     "logic=proved sum=dac8208d650f15bf\nrt: lemmas proved\n")[0], 1)
         self.assertEqual(self.check(KEPT + KEPT.replace("bbmcheck", "lemmas"))[0], 1)
 
@@ -66,7 +70,8 @@ class CheckProverLines(planted.Planted):
         self.assertEqual(self.check(KEPT)[0], 1)
 
     def test_names_of_c_functions(self) -> None:
-        names = [line for line in (self.top / "tools/gate/assumed_functions.txt").read_text().splitlines() if not line.startswith("#")]
+        names = [line for line in (self.top / "tools/gate/assumed_functions.txt").read_text().splitlines()
+                 if not line.startswith("#")]
         said = "".join(f"  {name}   reached\n" for name in names) + "  libc::chmod\n" + f"logic=proved {WORDS}\n"
         self.assertEqual(self.check(said, "--axioms")[0], 0)
         # As many as before, and another one.

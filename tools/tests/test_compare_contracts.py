@@ -1,4 +1,6 @@
-"""Tests of tools/gate/compare_contracts: each planted change makes a statement say less, and the words of its clauses stay as they were."""
+"""Tests of tools/gate/compare_contracts: each planted change makes a statement say less, and the words of its clauses
+stay as they were.
+"""
 import subprocess
 import unittest
 
@@ -33,7 +35,8 @@ class CompareContracts(planted.Planted):
         self.assertEqual(self.compare()[0], 0)
 
     def test_names_bound_to_other_files(self) -> None:
-        self.change("crates/circuit/specs/Meaning.antt", "use Rattle.circuit.specs.Gates.{row, uses, defines, is_inverse}",
+        self.change("crates/circuit/specs/Meaning.antt",
+                    "use Rattle.circuit.specs.Gates.{row, uses, defines, is_inverse}",
                     "use Rattle.circuit.specs.Gates.{uses, defines, is_inverse}\nuse Rattle.circuit.specs.Rows.{row}")
         self.change("crates/check_main/src/bundle.rt", "ghost use Rattle.headline.specs.RightInFull.{IsRightInFull};",
                     "ghost use Rattle.headline.specs.Weaker.{IsRightInFull};")
@@ -48,11 +51,13 @@ class CompareContracts(planted.Planted):
     def test_ghost_item_that_is_always_false(self) -> None:
         path = "crates/streams/src/over.rt"
         text = (self.top / path).read_text()
-        (self.top / path).write_text(text.replace("ghost has_failed = { λ s. failed_of s };", "ghost has_failed = { λ s. false };"))
+        (self.top / path).write_text(text.replace("ghost has_failed = { λ s. failed_of s };",
+                                                  "ghost has_failed = { λ s. false };"))
         self.assert_listed("the ghost item has_failed of", "now: ghost has_failed = { λ s. false }")
 
     def test_kind_of_gate_that_is_new(self) -> None:
-        self.change("crates/circuit/src/circuit_line.rt", "    Unswitch,\n    Uninteract,\n}", "    Unswitch,\n    Uninteract,\n    Anything,\n}")
+        self.change("crates/circuit/src/circuit_line.rt", "    Unswitch,\n    Uninteract,\n}",
+                    "    Unswitch,\n    Uninteract,\n    Anything,\n}")
         self.assert_listed("the type or constant GateKind", "Anything")
 
     def test_text_in_a_clause(self) -> None:
@@ -67,12 +72,14 @@ class CompareContracts(planted.Planted):
             if path.suffix in (".rt", ".antt") and "IsLeastKeepFault" in path.read_text():
                 path.write_text(path.read_text().replace("IsLeastKeepFault", "IsLeastKeep"))
         self.assert_listed("IsLeastKeep")
-        (self.top / "list").write_text("# old new\nIsLeastKeepFault IsLeastKeep\nIsLeastKeepFault-prop IsLeastKeep-prop\n")
+        (self.top / "list").write_text("# old new\nIsLeastKeepFault IsLeastKeep\nIsLeastKeepFault-prop "
+                                       "IsLeastKeep-prop\n")
         status, said = self.compare("--renames", "list")
         self.assertEqual(status, 0, said)
         self.assertIn("renamed IsLeastKeepFault to IsLeastKeep in ", said)
         # What is no rename is still listed.
-        self.change("crates/circuit/src/circuit_line.rt", "    Unswitch,\n    Uninteract,\n}", "    Unswitch,\n    Uninteract,\n    Anything,\n}")
+        self.change("crates/circuit/src/circuit_line.rt", "    Unswitch,\n    Uninteract,\n}",
+                    "    Unswitch,\n    Uninteract,\n    Anything,\n}")
         status, said = self.compare("--renames", "list")
         self.assertEqual(status, 1)
         self.assertEqual(len(said.splitlines()), 6, said)

@@ -1,4 +1,6 @@
-"""Tests of tools/docs/reading_list.py: the prover accepts each of the planted changes, so the list must follow them or say that it can't."""
+"""Tests of tools/docs/reading_list.py: the prover accepts each of the planted changes, so the list must follow them or
+say that it can't.
+"""
 import unittest
 
 import planted
@@ -24,7 +26,8 @@ class ReadingList(planted.Planted):
         text = (self.top / GATES).read_text()
         start, end = text.index("-- the outputs of a gate"), text.index("-- how many wires a gate uses")
         first = text.index("-- the outputs of a gate")
-        (self.top / GATES.replace("Gates", "Rows")).write_text(text[:first] + text[start:end].replace("(c && x)", "(c || x)"))
+        (self.top / GATES.replace("Gates", "Rows")).write_text(text[:first]
+                                                               + text[start:end].replace("(c && x)", "(c || x)"))
         (self.top / GATES).write_text(text[:first] + text[end:])
         self.change(GATES, "use Rattle.circuit.specs.declared.circuit_line.GateKind.{GateKind}\n",
                     f"use Rattle.circuit.specs.declared.circuit_line.GateKind.{{GateKind}}\n{use}\n")
@@ -47,7 +50,8 @@ class ReadingList(planted.Planted):
 
     def test_name_behind_its_module(self) -> None:
         before = self.listed()
-        self.change(MEANING, USE, "use Rattle.circuit.specs.Gates\nuse Rattle.circuit.specs.Gates.{uses, defines, is_inverse}")
+        self.change(MEANING, USE, "use Rattle.circuit.specs.Gates\nuse Rattle.circuit.specs.Gates.{uses, defines, "
+                    "is_inverse}")
         self.rename_row("Gates.row")
         self.assertEqual([line for line in before[1].splitlines() if "Gates.antt" in line],
                          [line for line in self.listed()[1].splitlines() if "Gates.antt" in line])
@@ -64,7 +68,8 @@ class ReadingList(planted.Planted):
         for path in (self.top / "crates/circuit/specs").glob("*.antt"):
             if path.name == "Meaning.antt":
                 lines = path.read_text().splitlines(keepends=True)
-                changed = [line if line.startswith(("use ", "--")) else line.replace(" row ", f" {new} ").replace("(row ", f"({new} ") for line in lines]
+                changed = [line if line.startswith(("use ", "--"))
+                           else line.replace(" row ", f" {new} ").replace("(row ", f"({new} ") for line in lines]
                 self.assertNotEqual(lines, changed)
                 path.write_text("".join(changed))
 

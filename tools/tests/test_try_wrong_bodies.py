@@ -36,15 +36,18 @@ class Refusals(unittest.TestCase):
 
     def test_clauses_refuse(self) -> None:
         """A clause of the function, of a callee, of a type, or what a loop keeps."""
-        for goal in ("returns", "returns-in-Ok-clause-text", "push-requires-clause-room", "invariant_of-self", "loop-k-preserved"):
-            self.assertEqual(self.outcome(f"no proof: expected answers in ./proofs/m/f/Answers.antt; `search` did not prove `{goal}`"),
+        for goal in ("returns", "returns-in-Ok-clause-text", "push-requires-clause-room", "invariant_of-self",
+                     "loop-k-preserved"):
+            self.assertEqual(self.outcome("no proof: expected answers in ./proofs/m/f/Answers.antt; `search` did not "
+                                          f"prove `{goal}`"),
                              TRIED.Outcome.REFUSED, goal)
 
     def test_safety_alone_is_a_fault(self) -> None:
         """An overflow or an index tells nothing of the clauses, unless a clause fails too."""
         for goal in ("overflow_add-number", "index-requires"):
             self.assertEqual(self.outcome(f"not proved: `search` did not prove `{goal}`"), TRIED.Outcome.SAFETY, goal)
-        self.assertEqual(self.outcome("not proved: `search` did not prove `overflow_add-number`, `returns`"), TRIED.Outcome.REFUSED)
+        self.assertEqual(self.outcome("not proved: `search` did not prove `overflow_add-number`, `returns`"),
+                         TRIED.Outcome.REFUSED)
 
     def test_others(self) -> None:
         """What is proved, what waits, and what the prover could not tell."""

@@ -2,9 +2,9 @@
 
 import argparse
 
-from .. import standard_cells
-from ..designs import read_design
-from ..terminal import LabError, read_text, write_text
+from ..host.terminal import LabError, read_text, write_text
+from ..physics import standard_cells
+from ..texts.designs import read_design
 from .draw import picture_of
 
 

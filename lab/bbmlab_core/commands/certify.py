@@ -3,31 +3,37 @@
 import argparse
 import sys
 
-from ..boxes import Box
-from ..certificates import MAX_BOX_SIDE
-from ..certify import Plan, certified, checked_boxes
-from ..documents import Document, read_document
-from ..layouts import Layout
-from ..program import ProgramError, ProgramTimeout, ask, find_program
-from ..refusals import refusal_words
-from ..terminal import LabError, plain, read_text, write_text
+from ..certify.certifier import CertificatePlan, certified, checked_boxes
+from ..host.program import ProgramError, ProgramTimeout, ask, find_program
+from ..host.terminal import LabError, escape_controls, read_text, write_text
+from ..texts.boxes import Box
+from ..texts.certificates import MAX_BOX_SIDE
+from ..texts.documents import Document, read_document
+from ..texts.layouts import Layout
+from ..texts.refusals import refusal_words
 
 
 def run(options: argparse.Namespace) -> int:
-    """Makes a certificate, and has the program check it if there is one. An old certificate is left out, apart from stops that hold."""
+    """Makes a certificate, and has the program check it if there is one.
+
+    An old certificate is left out, apart from stops that hold.
+    """
     text = read_text(options.file)
     document = design_of(text, options.file)
-    # A plain certificate has no cuts to choose: the program's no to it is about the layout, and shows where it is wrong.
-    plan = Plan(options.version_of_text, "safe" if options.plain else options.cuts, is_tried=not options.plain)
+    # A plain certificate has no cuts to choose: the program's no to it is about the layout, and shows where it is
+    # wrong.
+    plan = CertificatePlan(options.version_of_text, "safe" if options.plain else options.cuts,
+                           is_tried=not options.plain)
     # Only the stops of an old certificate are kept.
     old = read_document(text, "check") if "\nstop " in text else document
     if old.certificate and not old.refusal:
-        plan.stops = sorted((stop for module in old.certificate.modules for stop in module.stops), key=lambda stop: stop.place)
+        plan.stops = sorted((stop for module in old.certificate.modules for stop in module.stops),
+                            key=lambda stop: stop.place)
     assert document.layout is not None
     notes: list[str] = []
     bundle = certified(document, chosen_boxes(options, document.layout), plan, notes)
     for note in notes:
-        print(f"bbmlab: {plain(note)}", file=sys.stderr)
+        print(f"bbmlab: {escape_controls(note)}", file=sys.stderr)
     status = verdict_status(bundle, options)
     write_text(options.output, bundle, [options.file])
     return status
@@ -47,7 +53,8 @@ def chosen_boxes(options: argparse.Namespace, layout: Layout) -> list[Box] | Non
     """Returns the boxes that the options name, or None if the lab is to choose them."""
     if options.plain:
         if max(layout.width, layout.height) > MAX_BOX_SIDE:
-            raise LabError(f"--plain takes a layout of at most {MAX_BOX_SIDE} by {MAX_BOX_SIDE} cells, and this one has "
+            raise LabError(
+                f"--plain takes a layout of at most {MAX_BOX_SIDE} by {MAX_BOX_SIDE} cells, and this one has "
                            f"{layout.width} by {layout.height}", 2)
         return checked_boxes(layout, layout.width, layout.height)
     if options.grid:
@@ -65,7 +72,8 @@ def boxes_of(file: str, layout: Layout) -> list[Box]:
                 raise LabError(f"{file}: {line!r} is no line `module X Y W H`", 1)
             box = Box(*map(int, words[1:]))
             if box.x + box.width > layout.width or box.y + box.height > layout.height:
-                raise LabError(f"{file}: the box of {line!r} is not inside the layout of {layout.width} by {layout.height} cells", 1)
+                raise LabError(f"{file}: the box of {line!r} is not inside the layout of {layout.width} by "
+                               f"{layout.height} cells", 1)
             found.append(box)
     if not found:
         raise LabError(f"{file}: there is no line `module X Y W H`", 1)
@@ -75,12 +83,13 @@ def boxes_of(file: str, layout: Layout) -> list[Box]:
 def verdict_status(bundle: str, options: argparse.Namespace) -> int:
     """Prints on standard error what the program says of the bundle.
 
-    Returns 0 after a yes, 1 after a no or a refusal, and 4 without an answer. A yes is status 0 and the line `verdict yes` together.
+    Returns 0 after a yes, 1 after a no or a refusal, and 4 without an answer. A yes is status 0 and the line `verdict
+    yes` together.
     """
     try:
         answer = ask(find_program(options.program), "check", bundle.encode("latin-1"), options.timeout)
     except (ProgramError, ProgramTimeout) as error:
-        print(f"bbmlab: the certificate was not checked: {plain(str(error))}", file=sys.stderr)
+        print(f"bbmlab: the certificate was not checked: {escape_controls(str(error))}", file=sys.stderr)
         return 4
     lines = answer.output.split("\n")
     verdict = lines[3] if len(lines) > 3 else ""
@@ -89,7 +98,8 @@ def verdict_status(bundle: str, options: argparse.Namespace) -> int:
         return 0
     if answer.status == 3 or (answer.status, verdict) == (1, "verdict no"):
         what = lines[0] if answer.status == 3 else f"no: {lines[4]}"
-        print(f"bbmlab: the program does not say yes: {plain(what)}", file=sys.stderr)
+        print(f"bbmlab: the program does not say yes: {escape_controls(what)}", file=sys.stderr)
         return 1
-    print(f"bbmlab: the program gave no verdict: status {answer.status} {plain(answer.errors)}".rstrip(), file=sys.stderr)
+    print(f"bbmlab: the program gave no verdict: status {answer.status} {escape_controls(answer.errors)}".rstrip(),
+          file=sys.stderr)
     return 4

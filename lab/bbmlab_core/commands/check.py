@@ -3,15 +3,15 @@
 import argparse
 import sys
 
-from ..checking import Checker, exit_status, text_files
-from ..program import find_program
-from ..progress import Progress
-from ..receipts import ReceiptFolder
-from ..releases import program_of
-from ..results import WRITERS, OnlyWriter, ResultWriter
-from ..sharding import in_shard
-from ..signals import Stopped
-from ..terminal import LabError, plain
+from ..farm.checking import Checker, exit_status, text_files
+from ..farm.progress import Progress
+from ..farm.receipts import ReceiptFolder
+from ..farm.results import WRITERS, OnlyWriter, ResultWriter
+from ..farm.sharding import in_shard
+from ..host.program import find_program
+from ..host.releases import program_of
+from ..host.signals import Stopped
+from ..host.terminal import LabError, escape_controls
 
 
 def source(options: argparse.Namespace) -> Checker:
@@ -24,7 +24,7 @@ def source(options: argparse.Namespace) -> Checker:
     folder = ReceiptFolder(options.receipts, program_of(program), options.again) if options.receipts else None
     if options.dask is None:
         return Checker(program, options.jobs, options.timeout, folder)
-    from ..cluster import ClusterChecker
+    from ..farm.cluster import ClusterChecker
     return ClusterChecker(program, options.dask, options.jobs, options.timeout, folder, options.send_program)
 
 
@@ -50,11 +50,14 @@ def run(options: argparse.Namespace) -> int:
 
 def tell_of_left(words: str) -> None:
     """Says on standard error what is left out of a folder."""
-    print(f"bbmlab: {plain(words)}", file=sys.stderr)
+    print(f"bbmlab: {escape_controls(words)}", file=sys.stderr)
 
 
 def write_results(checker: Checker, files: list[str], writer: ResultWriter, counts: dict[str, int]) -> bool:
-    """Writes each result as it comes, and counts it. Returns whether the program contradicts itself, which ends the run."""
+    """Writes each result as it comes, and counts it.
+
+    Returns whether the program contradicts itself, which ends the run.
+    """
     progress = Progress(len(files))
     try:
         for result in checker.results(files):

@@ -6,22 +6,24 @@ import io
 import sys
 from typing import Callable, Iterable
 
-from .. import truth
-from ..aiger_form import aiger_text
-from ..circuit_forms import blif_text, dot_text, verilog_text
-from ..circuits import Circuit, evaluate_under
-from ..cleaning import clean
-from ..documents import read_document
-from ..gate_lines import CircuitLines
-from ..inverting import inverse, values_of
-from ..line_forms import qasm_text, real_text
-from ..limits import limits_for, with_line
-from ..netlists import Reading
+from ..circuits import truth
+from ..circuits.aiger_form import aiger_text
+from ..circuits.circuit_forms import blif_text, dot_text, verilog_text
+from ..circuits.cleaning import clean
+from ..circuits.gate_lines import read_circuit
+from ..circuits.inverting import inverse, values_of
+from ..circuits.line_forms import qasm_text, real_text
+from ..circuits.netlists import Reading
+from ..circuits.simplifying import simplify
+from ..host.terminal import LabError, read_text, write_bytes, write_text
 from ..route.command import circuit_of
-from ..simplifying import simplify
-from ..terminal import LabError, read_text, write_bytes, write_text
+from ..texts import sections
+from ..texts.circuits import Circuit, evaluate_under
+from ..texts.documents import read_document
+from ..texts.limits import limits_for, with_line
 
-WRITERS = {"aiger": aiger_text, "blif": blif_text, "dot": dot_text, "qasm": qasm_text, "real": real_text, "verilog": verilog_text}
+WRITERS = {"aiger": aiger_text, "blif": blif_text, "dot": dot_text, "qasm": qasm_text, "real": real_text,
+           "verilog": verilog_text}
 
 
 def run_circuit(options: argparse.Namespace) -> int:
@@ -31,19 +33,24 @@ def run_circuit(options: argparse.Namespace) -> int:
     try:
         for change in changes(options):
             lines, before = change(circuit), circuit
-            text, circuit = lines.text(), lines.circuit()
+            text, circuit = sections.text_of(lines), read_circuit(lines)
             if before.outputs:
-                print(f"bbmlab: the new circuit was compared with the one before {compared(change, before, circuit)}", file=sys.stderr)
+                print(f"bbmlab: the new circuit was compared with the one before {compared(change, before, circuit)}",
+                      file=sys.stderr)
     except LabError as error:
         raise LabError(f"{options.file}: {error}", error.status) from error
     if options.clean and any(name.endswith("_not") for name in circuit.outputs):
-        print("bbmlab: each output that a gate makes also leaves as its complement, with `_not` at its end: no gate makes balls", file=sys.stderr)
+        print("bbmlab: each output that a gate makes also leaves as its complement, with `_not` at its end: no gate "
+              "makes balls", file=sys.stderr)
     write_bytes(options.output, (text if options.to is None else WRITERS[options.to](circuit)).encode("latin-1"))
     return 0
 
 
-def compared(change: Callable[[Circuit], CircuitLines], before: Circuit, after: Circuit) -> str:
-    """Returns in which inputs a changed circuit has the values that it should have, in words. Raises LabError where it has others."""
+def compared(change: Callable[[Circuit], sections.Circuit], before: Circuit, after: Circuit) -> str:
+    """Returns in which inputs a changed circuit has the values that it should have, in words.
+
+    Raises LabError where it has others.
+    """
     differs, scope = returns_inputs(before, after) if change is inverse else truth.difference(before, after, True)
     if differs:
         raise LabError(f"the new circuit is wrong: {differs}. This is a fault of the lab", 1)
@@ -51,16 +58,22 @@ def compared(change: Callable[[Circuit], CircuitLines], before: Circuit, after: 
 
 
 def returns_inputs(before: Circuit, after: Circuit) -> tuple[str, str]:
-    """Returns how the inverse of a circuit fails to give its inputs back, or nothing, and in which inputs they were compared."""
+    """Returns how the inverse of a circuit fails to give its inputs back, or nothing, and in which inputs they were
+    compared."""
     values = values_of(before)
-    back = evaluate_under(after, {name: values.tables[name] for name in after.inputs}, values.full, [gate.number for gate in after.gates])
+    back = evaluate_under(after, {name: values.tables[name] for name in after.inputs}, values.full,
+                          [gate.number for gate in after.gates])
     wrong = next((name for name in before.inputs if back.tables[name] != values.tables[name]), None)
     return ("" if wrong is None else f"it does not give `{wrong}` back"), values.scope
 
 
-def changes(options: argparse.Namespace) -> list[Callable[[Circuit], CircuitLines]]:
-    """Returns what a circuit is put through, in order. To `simplify` the second half of a clean circuit is dead, so it comes before."""
-    return [change for is_asked, change in ((options.inverse, inverse), (options.simplify, simplify), (options.clean, clean)) if is_asked]
+def changes(options: argparse.Namespace) -> list[Callable[[Circuit], sections.Circuit]]:
+    """Returns what a circuit is put through, in order.
+
+    To `simplify` the second half of a clean circuit is dead, so it comes before.
+    """
+    return [change for is_asked,
+            change in ((options.inverse, inverse), (options.simplify, simplify), (options.clean, clean)) if is_asked]
 
 
 def run_table(options: argparse.Namespace) -> int:

@@ -1,35 +1,35 @@
 """Runs `bbmlab draw`."""
 
 import argparse
-import re
 
-from .. import drawing, tracing
-from ..boxes import Box
-from ..circuits import Circuit
-from ..designs import read_design, report_for
-from ..documents import Document
-from ..layouts import Layout
-from ..picture_parts import Look, bring_out, wanted_wires
-from ..reports import Report
-from ..terminal import LabError, write_text
-
-
-# The numbers of a line `use` or `module`.
-MODULE_OR_USE = re.compile(r"\n(?:use (\d{1,9})|module ((?:\d{1,9} ){3}\d{1,9}))(?=\n)")
+from ..host.terminal import LabError, write_text
+from ..physics import tracing
+from ..pictures import drawing
+from ..pictures.picture_parts import Look, bring_out, wanted_wires
+from ..texts.boxes import Box
+from ..texts.circuits import Circuit
+from ..texts.designs import read_design, report_for
+from ..texts.documents import Document
+from ..texts.layouts import Layout
+from ..texts.reports import Report
+from ..texts.skimming import boxes_and_uses
 
 
-def picture_of(design: tuple[Document, Layout], names: str | None, time: int | None, report: Report | None = None, look: Look = Look()) -> str:
+def picture_of(design: tuple[Document, Layout], names: str | None, time: int | None, report: Report | None = None,
+               look: Look = Look()) -> str:
     """Returns the picture of a design at a time, or without a time the ways of its balls."""
     document, layout = design
     is_large = max(layout.width, layout.height) > drawing.LARGE_SIDE
     on = tracing.chosen_inputs(document, names)
     under = f" with {' '.join(on) or 'no input'} on"
-    picture = drawing.Drawing(modules=list(document.certificate.modules) if document.certificate and not is_large else [], view=view_of(look, layout),
+    picture = drawing.Drawing(modules=list(document.certificate.modules) if document.certificate and not is_large
+                              else [], view=view_of(look, layout),
                               ball=look.ball, has_arrows=look.has_arrows)
     if is_large and document.circuit:
         picture.gates = gate_boxes(document.text, document.circuit)
     if time is None:
-        picture.ways, picture.labels = drawing.ball_ways(document, on if names is not None else None, layout.steps, look.has_arrows)
+        picture.ways, picture.labels = drawing.ball_ways(document, on if names is not None else None, layout.steps,
+                                                         look.has_arrows)
         picture.title = "ways of the balls" + (under if names is not None else drawing.sampled_words(document))
     else:
         picture.live, picture.title = tracing.state_at(layout, on, time), f"time {time}{under}"
@@ -52,27 +52,26 @@ def view_of(look: Look, layout: Layout) -> Box | None:
     box = look.crop
     right, bottom = min(box.x + box.width, layout.width), min(box.y + box.height, layout.height)
     if right <= box.x or bottom <= box.y:
-        raise LabError(f"the part {box} lies outside the layout of {layout.width} by {layout.height} cells")
+        raise LabError(f"the part {box.words} lies outside the layout of {layout.width} by {layout.height} cells")
     return Box(box.x, box.y, right - box.x, bottom - box.y)
 
 
 def gate_boxes(text: str, circuit: Circuit) -> list[tuple[Box, list[str]]]:
-    """Returns the boxes of the modules of a certificate that use gates and are larger than the smallest module, with the gates."""
-    found: list[tuple[Box, list[str]]] = []
-    for line in MODULE_OR_USE.finditer(text, text.find("\ncertificate ") % (len(text) + 1)):
-        if line[2]:
-            found.append((Box(*map(int, line[2].split(" "))), []))
-        elif found and int(line[1]) < len(circuit.gates):
-            gate = circuit.gates[int(line[1])]
-            if gate.word not in ("source", "delay"):
-                found[-1][1].append(f"{gate.word} {gate.number}")
+    """Returns the boxes of the modules of a certificate that use gates and are larger than the smallest module, with
+    the gates."""
+    found = []
+    for box, uses in boxes_and_uses(text):
+        gates = [circuit.gates[number] for number in uses if number < len(circuit.gates)]
+        found.append((box, [f"{gate.word} {gate.number}" for gate in gates if gate.word not in ("source", "delay")]))
     least = min((box.width * box.height for box, _ in found), default=0)
     return [(box, gates) for box, gates in found if gates and box.width * box.height > least]
 
 
 def run(options: argparse.Namespace) -> int:
-    """Draws a layout. The certificate of a large one is read only for a report, since that takes longer than to draw."""
-    look = Look(Box(*options.crop) if options.crop else None, tuple(options.wires.split(",")) if options.wires else (), options.cone, options.arrows,
+    """Draws a layout. The certificate of a large one is read only for a report, since that takes longer than to draw.
+    """
+    look = Look(Box(*options.crop) if options.crop else None, tuple(options.wires.split(",")) if options.wires else (),
+                options.cone, options.arrows,
                 options.ball)
     if (look.wires or look.cone or look.has_arrows) and not options.ways:
         raise LabError("--wires, --cone and --arrows need --ways")

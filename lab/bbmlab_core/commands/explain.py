@@ -3,16 +3,16 @@
 import argparse
 import sys
 
-from .. import explaining
-from ..answering import why_no_verdict
-from ..documents import command_for
-from ..explaining import Explanation
-from ..fixing import Fixer, outcome_words
-from ..netlists import NetlistFormat, netlist_format
-from ..pictures import LEGEND
-from ..program import Executable, ProgramError, ask, find_program
-from ..terminal import LabError, painted, plain, read_text, wrapped, write_bytes
-from ..trials import Budget, Trial
+from ..circuits.netlists import NetlistFormat, netlist_format
+from ..explain import explaining
+from ..explain.explaining import Explanation
+from ..explain.fixing import Fixer, outcome_words
+from ..explain.trials import Budget, Trial
+from ..farm.answering import why_no_verdict
+from ..host.program import Executable, ProgramError, ask, find_program
+from ..host.terminal import LabError, painted, escape_controls, read_text, wrapped, write_bytes
+from ..texts.cell_pictures import LEGEND
+from ..texts.documents import command_for
 
 
 def run(options: argparse.Namespace) -> int:
@@ -26,7 +26,8 @@ def run(options: argparse.Namespace) -> int:
         what = {NetlistFormat.YOSYS_JSON: "JSON", NetlistFormat.GATES: "a text of plain gates"}.get(form, "a netlist")
         more = ", and `bbmlab json --back` its own documents" if form is NetlistFormat.YOSYS_JSON else ""
         raise LabError(f"{options.file}: this is {what}: `bbmlab circuit` and `route` read it{more}", 1)
-    command = options.command_of_program or {"design": "check", "layout": "run", "circuit": "value"}.get(command_for(text), command_for(text))
+    command = options.command_of_program or {"design": "check", "layout": "run",
+                                             "circuit": "value"}.get(command_for(text), command_for(text))
     program = program_of(options)
     if options.fix:
         return write_fix(text, command, program, options)
@@ -41,7 +42,8 @@ def run(options: argparse.Namespace) -> int:
             find_program(options.program)
             raise LabError("The lab's reader takes the text, but only the program gives a verdict.")
         output, by_lab = own, True
-    explanation = explaining.explain_answer(text, command, output, options.file, Trial(program, Budget(seconds=options.effort, is_of_search=True)))
+    explanation = explaining.explain_answer(text, command, output, options.file,
+                                            Trial(program, Budget(seconds=options.effort, is_of_search=True)))
     if by_lab:
         explanation.headline.append("The program was not found: this is the lab's reading, and no verdict.")
     return show_explanation(explanation, options)
@@ -67,7 +69,8 @@ def asked(program: Executable, command: str, text: str, options: argparse.Namesp
 
 
 def write_fix(text: str, command: str, program: Executable | None, options: argparse.Namespace) -> int:
-    """Writes the text with a fix; what it changes goes to standard error. Returns 0 only if the program says yes to it."""
+    """Writes the text with a fix; what it changes goes to standard error. Returns 0 only if the program says yes to it.
+    """
     if command != "check":
         raise LabError("--fix takes a text with a circuit and a layout", 2)
     if options.in_place and (options.output or options.file == "-"):
@@ -78,10 +81,12 @@ def write_fix(text: str, command: str, program: Executable | None, options: argp
     fixer = Fixer(text, report, trial)
     fix = None if report.verdict == "yes" else fixer.find()
     if fix is None and report.verdict != "yes":
-        print("\n".join(f"bbmlab: {plain(line)}" for line in explaining.tried_words(fixer, trial)), file=sys.stderr)
+        print("\n".join(f"bbmlab: {escape_controls(line)}" for line in explaining.tried_words(fixer, trial)),
+              file=sys.stderr)
         return 1
-    words = [*fix.words, outcome_words(report, fix)] if fix else [f"{trial.judge} says yes already: there is nothing to fix."]
-    print("\n".join(f"bbmlab: {plain(line)}" for line in words), file=sys.stderr)
+    words = [*fix.words,
+             outcome_words(report, fix)] if fix else [f"{trial.judge} says yes already: there is nothing to fix."]
+    print("\n".join(f"bbmlab: {escape_controls(line)}" for line in words), file=sys.stderr)
     data = (fix.text if fix else text).encode("latin-1")
     if options.in_place:
         if fix:
@@ -106,10 +111,12 @@ def show_explanation(explanation: Explanation, options: argparse.Namespace) -> i
 def text_of(explanation: Explanation) -> str:
     """Writes an explanation for people."""
     good = explanation.verdict not in ("no", "refused", "left", "undefined")
-    blocks = ["\n".join([painted(explanation.headline[0], "green" if good else "red"), *(wrapped(line) for line in explanation.headline[1:])])]
+    blocks = ["\n".join([painted(explanation.headline[0], "green" if good else "red"),
+                         *(wrapped(line) for line in explanation.headline[1:])])]
     told = explanation.refused
     if told:
-        blocks.append(f"  line {explanation.line}: {explanation.line_text!r}"[:160] if explanation.line_text else f"  line {explanation.line}")
+        blocks.append(f"  line {explanation.line}: {explanation.line_text!r}"[:160] if explanation.line_text
+                      else f"  line {explanation.line}")
         blocks.append("\n".join(wrapped(what, "  ") for what in told.what))
         blocks.append(wrapped(f"Rule: {told.rule}", "  "))
         if explanation.fix is None:
@@ -139,4 +146,5 @@ def fix_blocks(explanation: Explanation) -> list[str]:
 def labelled(label: str, sentences: list[str]) -> list[str]:
     """Returns sentences, one a line, with a label before the first."""
     margin = " " * (len(label) + 3)
-    return [wrapped(sentence, margin if index else f"  {painted(label, 'bold')} ", margin) for index, sentence in enumerate(sentences)]
+    return [wrapped(sentence, margin if index else f"  {painted(label, 'bold')} ", margin) for index,
+            sentence in enumerate(sentences)]

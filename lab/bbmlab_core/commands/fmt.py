@@ -3,9 +3,9 @@
 import argparse
 import sys
 
-from ..documents import read_document
-from ..spelling import Spelling, spelled
-from ..terminal import LabError, plain, read_bytes, write_bytes
+from ..host.terminal import LabError, escape_controls, read_bytes, write_bytes
+from ..texts.documents import read_document
+from ..texts.spelling import Spelling, spelled
 
 MAX_SHOWN_NOTES = 20
 
@@ -24,7 +24,7 @@ def run(options: argparse.Namespace) -> int:
         if options.check:
             changed += after != data
             if after != data:
-                print(f"{plain(file)}: not in the one spelling")
+                print(f"{escape_controls(file)}: not in the one spelling")
             continue
         if options.in_place and file != "-":
             write_in_place(file, spelling, data, after, options.strip_comments)
@@ -38,20 +38,24 @@ def write_in_place(file: str, spelling: Spelling, before: bytes, after: bytes, s
     """Writes a file again if it changes. Comments are left out only if that is asked for."""
     if spelling.comments and not strips:
         count = f"{spelling.comments} comment{'s' if spelling.comments != 1 else ''}"
-        raise LabError(f"{file}: its {count} would be lost, since the program takes no comments: use --strip-comments, or -o FILE", 1)
+        raise LabError(f"{file}: its {count} would be lost, since the program takes no comments: use --strip-comments, "
+                       "or -o FILE", 1)
     if after != before:
         write_bytes(file, after, before=before)
-        print(f"{plain(file)}: written again", file=sys.stderr)
+        print(f"{escape_controls(file)}: written again", file=sys.stderr)
 
 
 def tell(file: str, spelling: Spelling) -> None:
     """Says on standard error what was changed, and whether the text is still refused."""
     for note in spelling.notes[:MAX_SHOWN_NOTES]:
-        print(f"bbmlab: {plain(file)}: {plain(note)}", file=sys.stderr)
+        print(f"bbmlab: {escape_controls(file)}: {escape_controls(note)}", file=sys.stderr)
     if len(spelling.notes) > MAX_SHOWN_NOTES:
-        print(f"bbmlab: {plain(file)}: and {len(spelling.notes) - MAX_SHOWN_NOTES} more changes", file=sys.stderr)
+        print(f"bbmlab: {escape_controls(file)}: and {len(spelling.notes) - MAX_SHOWN_NOTES} more changes",
+              file=sys.stderr)
     if len(spelling.text) > 2_000_000:
         return
     refusal = read_document(spelling.text).refusal
     if refusal:
-        print(f"bbmlab: {plain(file)}: line {refusal.line} is still refused, with code {refusal.code}: bbmlab explain says why", file=sys.stderr)
+        print(f"bbmlab: {escape_controls(file)}: line {refusal.line} is still refused, with code {refusal.code}: "
+              "bbmlab explain "
+              "says why", file=sys.stderr)

@@ -2,9 +2,10 @@
 
 import argparse
 
-from .. import golly, tracing
-from ..designs import read_design
-from ..terminal import read_text, write_text
+from ..host.terminal import read_text, write_text
+from ..physics import tracing
+from ..pictures import golly
+from ..texts.designs import read_design
 
 
 def run(options: argparse.Namespace) -> int:

@@ -2,9 +2,9 @@
 
 import argparse
 
-from .. import json_form
-from ..designs import read_free, report_for
-from ..terminal import LabError, read_text, write_text
+from ..host.terminal import LabError, read_text, write_text
+from ..texts import json_form
+from ..texts.designs import read_free, report_for
 
 
 def run(options: argparse.Namespace) -> int:

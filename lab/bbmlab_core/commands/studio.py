@@ -10,13 +10,13 @@ from contextlib import ExitStack
 from html import escape
 from pathlib import Path
 
-from ..program import ProgramError, find_program
+from ..host.program import ProgramError, find_program
+from ..host.terminal import LabError, escape_controls
 from ..studio.answers import Answers
 from ..studio.folder import Folder
 from ..studio.jobs import Jobs
 from ..studio.routes import Routes
-from ..studio.server import Studio, studio
-from ..terminal import LabError, plain
+from ..studio.server import Studio, studio_server
 
 
 def run(options: argparse.Namespace) -> int:
@@ -31,13 +31,14 @@ def run(options: argparse.Namespace) -> int:
         program = find_program(options.program)
         jobs, routes = Jobs(program, options.timeout or 20.0, options.memory), Routes(str(program), options.memory)
     except ProgramError as error:
-        print(f"bbmlab: the studio gives no verdicts: {plain(str(error))}", file=sys.stderr)
+        print(f"bbmlab: the studio gives no verdicts: {escape_controls(str(error))}", file=sys.stderr)
     try:
-        server = studio(options.port, Answers(folder, jobs, routes))
+        server = studio_server(options.port, Answers(folder, jobs, routes))
     except OSError as error:
         raise LabError(f"port {options.port}: {error.strerror or error}") from error
     print(server.address, flush=True)
-    print("bbmlab: the studio runs until you press Ctrl-C. The address lets one browser in, which can change the files of this folder.", file=sys.stderr)
+    print("bbmlab: the studio runs until you press Ctrl-C. The address lets one browser in, which can change the files "
+          "of this folder.", file=sys.stderr)
     server.on_entry = lambda: tell_of_entry(server)
     if jobs:
         threading.Thread(target=jobs.warm, daemon=True).start()
@@ -61,7 +62,8 @@ def open_browser(address: str, ending: ExitStack) -> None:
     try:
         page = private_page(Path(ending.enter_context(tempfile.TemporaryDirectory(prefix="bbmlab-"))), address)
     except OSError as error:
-        print(f"bbmlab: no browser is opened, since no page can be written for it: {error.strerror or error}", file=sys.stderr)
+        print(f"bbmlab: no browser is opened, since no page can be written for it: {error.strerror or error}",
+              file=sys.stderr)
         return
     threading.Thread(target=webbrowser.open, args=(page.as_uri(),), daemon=True).start()
 
@@ -70,10 +72,12 @@ def private_page(folder: Path, address: str) -> Path:
     """Writes a page that leads to an address, and returns its path. Its folder and the page are this user's alone."""
     path = folder / "studio.html"
     with open(os.open(path, os.O_WRONLY | os.O_CREAT | os.O_EXCL, 0o600), "w", encoding="utf-8") as file:
-        file.write(f'<!DOCTYPE html>\n<meta charset="utf-8"><title>bbmlab studio</title>\n<meta http-equiv="refresh" content="0; url={escape(address)}">\n')
+        file.write('<!DOCTYPE html>\n<meta charset="utf-8"><title>bbmlab studio</title>\n<meta http-equiv="refresh" '
+                   f'content="0; url={escape(address)}">\n')
     return path
 
 
 def tell_of_entry(server: Studio) -> None:
     """Says on standard error that a browser was let in, and which address lets the next one in."""
-    print(f"bbmlab: a browser has opened the studio. Another one gets in by {server.address}", file=sys.stderr, flush=True)
+    print(f"bbmlab: a browser has opened the studio. Another one gets in by {server.address}", file=sys.stderr,
+          flush=True)

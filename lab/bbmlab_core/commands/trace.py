@@ -3,10 +3,10 @@
 import argparse
 import sys
 
-from .. import tracing
-from ..designs import read_design
-from ..program import ProgramError, ProgramTimeout, ask, find_program
-from ..terminal import LabError, plain, write_text
+from ..host.program import ProgramError, ProgramTimeout, ask, find_program
+from ..host.terminal import LabError, escape_controls, write_text
+from ..physics import tracing
+from ..texts.designs import read_design
 
 
 def run(options: argparse.Namespace) -> int:
@@ -24,19 +24,22 @@ def run(options: argparse.Namespace) -> int:
         trace = tracing.trace_layout(layout, on, options.start, last)
         warn_of_difference(options, trace, tracing.run_text(tracing.layout_lines(document), on))
     mirrors = layout.mirror_cells()
-    write_text(options.output, tracing.as_json(trace, mirrors) if options.json else tracing.as_text(trace, mirrors, options.pictures))
+    write_text(options.output, tracing.as_json(trace, mirrors) if options.json
+               else tracing.as_text(trace, mirrors, options.pictures))
     return 1 if trace.left is not None else 0
 
 
 def warn_of_difference(options: argparse.Namespace, trace: tracing.Trace, text: bytes) -> None:
-    """Compares the last state with the program's `run`, where there is a program, and says what came of it on standard error."""
+    """Compares the last state with the program's `run`, where there is a program, and says what came of it on standard
+    error."""
     try:
         answer = ask(find_program(options.program), "run", text, options.timeout)
     except (ProgramError, ProgramTimeout) as error:
-        print(f"bbmlab: the last state was not compared: {plain(str(error))}", file=sys.stderr)
+        print(f"bbmlab: the last state was not compared: {escape_controls(str(error))}", file=sys.stderr)
         return
     if answer.status >= 3:
-        print(f"bbmlab: the last state was not compared: {plain(answer.errors or answer.output.strip())}", file=sys.stderr)
+        print(f"bbmlab: the last state was not compared: {escape_controls(answer.errors or answer.output.strip())}",
+              file=sys.stderr)
         return
     differs = tracing.compare_with_run(trace, answer.output)
     if differs:

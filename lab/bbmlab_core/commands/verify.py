@@ -4,12 +4,12 @@ import argparse
 import os
 from pathlib import Path
 
-from ..answering import WORDS
-from ..checking import exit_status
-from ..program import Answer, ask, find_program
-from ..receipts import SECTIONS, Receipt, ReceiptError, parse_receipt, section_digests, sha256
-from ..releases import known_releases
-from ..terminal import LabError, plain, read_bytes
+from ..farm.answering import WORDS
+from ..farm.checking import exit_status
+from ..farm.receipts import SECTIONS, Receipt, ReceiptError, parse_receipt, section_digests, sha256
+from ..host.program import Answer, ask, find_program
+from ..host.releases import known_releases
+from ..host.terminal import LabError, escape_controls, read_bytes
 
 
 def read_receipt(name: str) -> Receipt:
@@ -25,7 +25,8 @@ def differences(receipt: Receipt, text: bytes) -> list[str]:
     other = [name for name in SECTIONS if digests[name] != receipt.sections[name]]
     if not other:
         return ["the receipt is of another text: what stands behind the sections differs"]
-    return [f"the receipt is of another text: the {' and the '.join(other)} section differ{'' if len(other) > 1 else 's'}"]
+    return [f"the receipt is of another text: the {' and the '.join(other)} section "
+            f"differ{'' if len(other) > 1 else 's'}"]
 
 
 def run(options: argparse.Namespace) -> int:
@@ -33,7 +34,7 @@ def run(options: argparse.Namespace) -> int:
     try:
         receipt = read_receipt(options.receipt)
     except ReceiptError as error:
-        print(f"{plain(options.receipt)}: this receipt does not count: {error}")
+        print(f"{escape_controls(options.receipt)}: this receipt does not count: {error}")
         return 1
     text = read_bytes(options.file)
     against = differences(receipt, text)
@@ -42,11 +43,13 @@ def run(options: argparse.Namespace) -> int:
     if options.again and not against:
         against += checked_again(receipt, text, options)
     for reason in against:
-        print(f"{plain(options.file)}: {plain(reason)}")
+        print(f"{escape_controls(options.file)}: {escape_controls(reason)}")
     if against:
         return 1
     again = ", and the program said the same again" if options.again else ""
-    print(f"{plain(options.file)}: {WORDS[receipt.verdict]}, by {plain(receipt.program.version or 'a release')} on {plain(receipt.date)}{again}")
+    print(f"{escape_controls(options.file)}: {WORDS[receipt.verdict]}, by "
+          f"{escape_controls(receipt.program.version or 'a release')} on "
+          f"{escape_controls(receipt.date)}{again}")
     return 0
 
 
@@ -54,7 +57,8 @@ def checked_again(receipt: Receipt, text: bytes, options: argparse.Namespace) ->
     """Runs the program again, and returns what differs from the receipt."""
     program = find_program(options.program)
     if program.sha256 != receipt.program.sha256:
-        raise LabError(f"{program} is not the program of the receipt, so its answer would show nothing; name that program with --program")
+        raise LabError(f"{program} is not the program of the receipt, so its answer would show nothing; name that "
+                       "program with --program")
     said: Answer = ask(program, "check", text, options.timeout)
     if (said.status, said.output) == (receipt.status, receipt.report):
         return []
@@ -62,7 +66,8 @@ def checked_again(receipt: Receipt, text: bytes, options: argparse.Namespace) ->
 
 
 def run_summary(options: argparse.Namespace) -> int:
-    """Counts the receipts of a folder. The status is that of a run that gave these results, or 4 if one does not count."""
+    """Counts the receipts of a folder. The status is that of a run that gave these results, or 4 if one does not count.
+    """
     try:
         files = sorted(Path(options.folder) / name for name in os.listdir(options.folder) if name.endswith(".json"))
     except OSError as error:
@@ -75,15 +80,16 @@ def run_summary(options: argparse.Namespace) -> int:
         try:
             receipt = read_receipt(str(file))
         except ReceiptError as error:
-            print(f"{plain(str(file))}: this receipt does not count: {error}")
+            print(f"{escape_controls(str(file))}: this receipt does not count: {error}")
             counts["error"] = counts.get("error", 0) + 1
             continue
         counts[receipt.verdict] = counts.get(receipt.verdict, 0) + 1
         programs[receipt.program.sha256] = programs.get(receipt.program.sha256, 0) + 1
         if receipt.verdict != "yes":
-            print(f"{plain(receipt.name)}: {WORDS[receipt.verdict]}")
+            print(f"{escape_controls(receipt.name)}: {WORDS[receipt.verdict]}")
     print(f"{len(files)} receipts: " + ", ".join(f"{counts[word]} {WORDS[word]}" for word in WORDS if counts.get(word)))
     if len(programs) > 1:
-        print(f"they are of {len(programs)} programs: " + ", ".join(f"{digest[:16]}.. {count}" for digest, count in sorted(programs.items())))
+        print(f"they are of {len(programs)} programs: " + ", ".join(f"{digest[:16]}.. {count}" for digest,
+                                                                    count in sorted(programs.items())))
         return 4
     return exit_status(counts)

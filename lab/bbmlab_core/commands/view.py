@@ -4,12 +4,13 @@ import argparse
 import os
 import sys
 
-from .. import explaining, viewing
-from ..answering import why_no_verdict
-from ..designs import read_design
-from ..program import ProgramError, ProgramTimeout, ask, find_program
-from ..terminal import plain, read_text, write_text
-from ..trials import Budget, Trial
+from ..explain import explaining
+from ..explain.trials import Budget, Trial
+from ..farm.answering import why_no_verdict
+from ..host.program import ProgramError, ProgramTimeout, ask, find_program
+from ..host.terminal import escape_controls, read_text, write_text
+from ..texts.designs import read_design
+from ..view import viewing
 
 
 def run(options: argparse.Namespace) -> int:
@@ -18,9 +19,10 @@ def run(options: argparse.Namespace) -> int:
     if document.certificate:
         try:
             output = read_text(options.report) if options.report else report_of(document.text, options)
-            explanation = explaining.explain_answer(document.text, "check", output, options.file, trial_of(options), document)
+            explanation = explaining.explain_answer(document.text, "check", output, options.file, trial_of(options),
+                                                    document)
         except (ProgramError, ProgramTimeout) as error:
-            print(f"bbmlab: the page has no report: {plain(str(error))}", file=sys.stderr)
+            print(f"bbmlab: the page has no report: {escape_controls(str(error))}", file=sys.stderr)
     write_text(options.output, viewing.page(document, explanation, os.path.basename(options.file)))
     return 0
 

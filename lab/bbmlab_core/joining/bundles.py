@@ -2,15 +2,15 @@
 
 from typing import Iterator
 
-from ..certify import certificate_text
-from ..layouts import Cell, row_order
-from ..limits import limits_for, with_line
+from ..certify.certifier import certificate_text
 from ..route.certificate import rectangles
 from ..route.design import corner_numbers
 from ..route.netlist import Netlist
 from ..route.paths import Path
 from ..route.search import Routed
 from ..route.world import RIM, ROW, TILE, number_cell
+from ..texts.layouts import Cell, row_order
+from ..texts.limits import limits_for, with_line
 from .composing import Composed
 from .modules import JoinedModules
 from .parts import ALWAYS

@@ -7,16 +7,16 @@ import sys
 import time
 from dataclasses import dataclass
 
-from ..documents import without_collector
-from ..limits import SECOND
-from ..program import Executable, ask, find_program
+from ..host.program import Executable, ask, find_program
+from ..host.terminal import LabError, painted, escape_controls, read_bytes, require_output, write_text
 from ..route.board import NoRouteError
 from ..route.command import ProgressLine, check_side, verdict_of
 from ..route.estimate import counted
 from ..route.search import Routed
 from ..route.settings import Settings
 from ..route.world import TILE
-from ..terminal import LabError, painted, plain, read_bytes, require_output, write_text
+from ..texts.documents import without_collector
+from ..texts.limits import SECOND
 from .bundles import joined_bundle
 from .composing import Composed, Connection, composed
 from .modules import JoinedModules
@@ -168,7 +168,7 @@ def join_command(options: argparse.Namespace) -> int:
     line.clear()
     if routed is None:
         tried = f"{counted(attempts, 'attempt')} and {options.effort:g} seconds"
-        print(f"bbmlab: no join in {tried}: {plain(why)}", file=sys.stderr)
+        print(f"bbmlab: no join in {tried}: {escape_controls(why)}", file=sys.stderr)
         return 1
     answer = ask(program, "check", routed.text.encode("latin-1"), options.timeout)
     write_text(options.output, routed.text)

@@ -2,12 +2,13 @@
 
 from dataclasses import dataclass, field
 
-from ..circuits import Circuit
-from ..gate_lines import CircuitLines, GateLine
-from ..limits import sections_after_line
-from ..netlists.naming import MAX_NAME
+from ..circuits.gate_lines import read_circuit
+from ..circuits.netlists.naming import MAX_NAME
+from ..host.terminal import LabError
 from ..route.netlist import Netlist
-from ..terminal import LabError
+from ..texts import sections
+from ..texts.circuits import Circuit
+from ..texts.limits import sections_after_line
 from .parts import ALWAYS, PartText
 
 
@@ -63,7 +64,7 @@ def composed(parts: dict[str, PartText], connections: list[Connection]) -> Compo
             own = fed.get((part.name, wire))
             part.wires[wire] = by_name[own.source].wires[own.output] if own else joined_name(part.name, wire)
     lines = circuit_lines(named, connections)
-    return Composed(named, connections, sections_after_line(lines.text()), lines.circuit())
+    return Composed(named, connections, sections_after_line(sections.text_of(lines)), read_circuit(lines))
 
 
 def joined_name(part: str, wire: str) -> str:
@@ -108,16 +109,16 @@ def ordered(names: list[str], connections: list[Connection]) -> list[str]:
     return order
 
 
-def circuit_lines(parts: list[Named], connections: list[Connection]) -> CircuitLines:
+def circuit_lines(parts: list[Named], connections: list[Connection]) -> sections.Circuit:
     """Returns the lines of the circuit of the join. Connected ports are neither inputs nor outputs."""
     given = {(own.source, own.output) for own in connections}
     taken = {(own.target, own.input) for own in connections}
-    lines = CircuitLines()
+    inputs, gates, outputs, spills = list[str](), list[sections.Gate](), list[str](), list[str]()
     for part in parts:
         circuit, wire = part.text.circuit, part.wire
-        lines.inputs += [wire(own) for own in circuit.inputs if (part.name, own) not in taken]
-        lines.gates += [GateLine(gate.word, gate.parameter, tuple(map(wire, gate.ins)), tuple(map(wire, gate.outs)))
-                        for gate in circuit.gates]
-        lines.outputs += [wire(own) for own in circuit.outputs if (part.name, own) not in given]
-        lines.spills += [wire(own) for own in circuit.spills]
-    return lines
+        inputs += [wire(own) for own in circuit.inputs if (part.name, own) not in taken]
+        gates += [sections.Gate(gate.word, tuple(map(wire, gate.ins)), tuple(map(wire, gate.outs)), gate.parameter)
+                  for gate in circuit.gates]
+        outputs += [wire(own) for own in circuit.outputs if (part.name, own) not in given]
+        spills += [wire(own) for own in circuit.spills]
+    return sections.Circuit(tuple(inputs), tuple(gates), tuple(outputs), tuple(spills))

@@ -4,19 +4,19 @@ from collections import Counter, defaultdict
 from dataclasses import replace
 from typing import Iterable, Iterator
 
-from ..boxes import Box
-from ..certificates import MAX_CUTS, MAX_USES, BorderLine, Certificate, Module
-from ..circuits import Circuit
-from ..cones import fewest_cuts
-from ..layouts import Cell, row_order
-from ..limits import SECOND
-from ..owners import NOBODY, Owners
+from ..circuits.cones import fewest_cuts
+from ..host.terminal import LabError
 from ..route.balls import moving_cells
 from ..route.board import Bound, NoRouteError
 from ..route.netlist import Netlist
 from ..route.paths import Path
 from ..route.world import TILE, number_cell
-from ..terminal import LabError
+from ..texts.boxes import Box
+from ..texts.certificates import MAX_CUTS, MAX_USES, BorderLine, Certificate, Module
+from ..texts.circuits import Circuit
+from ..texts.layouts import Cell, row_order
+from ..texts.limits import SECOND
+from ..texts.owners import NOBODY, Owners
 from .composing import Composed
 from .parts import ALWAYS
 from .planning import Placed, Plan

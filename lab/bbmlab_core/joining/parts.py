@@ -5,18 +5,18 @@ from collections import defaultdict
 from dataclasses import dataclass
 from typing import Iterable
 
-from ..certificates import Certificate, Module
-from ..circuits import Circuit
-from ..documents import read_document
-from ..gates import Table
-from ..layouts import Cell, Layout
-from ..owners import Owners
-from ..refusals import refusal_words
+from ..host.terminal import LabError
+from ..physics.simulation import local_values
 from ..route.balls import Ball, block_corner, stepped
 from ..route.netlist import Netlist
 from ..route.world import ROW, STEP, Item, cell_number
-from ..simulation import local_values
-from ..terminal import LabError
+from ..texts.certificates import Certificate, Module
+from ..texts.circuits import Circuit
+from ..texts.documents import read_document
+from ..texts.gates import Table
+from ..texts.layouts import Cell, Layout
+from ..texts.owners import Owners
+from ..texts.refusals import refusal_words
 
 # The wire of a ball that is always there.
 ALWAYS = "1"

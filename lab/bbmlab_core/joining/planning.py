@@ -6,10 +6,10 @@ Shifts are even and places are whole tiles, so blocks stay blocks and the boxes 
 import math
 from dataclasses import dataclass
 
-from ..layouts import Cell
-from ..limits import SECOND
 from ..route.balls import Ball
 from ..route.world import TILE
+from ..texts.layouts import Cell
+from ..texts.limits import SECOND
 from .composing import Composed, Named
 from .parts import Port
 

@@ -6,7 +6,7 @@ from collections import Counter
 from itertools import chain
 from typing import Callable
 
-from ..circuits import Gate
+from ..texts.circuits import Gate
 from .balls import Ball, Leg
 from .board import Board, Bound, NoRouteError, Step, Waiting
 from .design import Design, forward_design
@@ -33,7 +33,8 @@ def no_progress(placed: int, total: int) -> None:
 class Attempt:
     """An attempt. It depends on circuit, size, seed and settings alone, unless the time is over."""
 
-    def __init__(self, netlist: Netlist, size: int, seed: int, settings: Settings, deadline: float = float("inf"), most_size: int = 0) -> None:
+    def __init__(self, netlist: Netlist, size: int, seed: int, settings: Settings, deadline: float = float("inf"),
+                 most_size: int = 0) -> None:
         self.netlist = netlist
         # The side up to which the plane may grow.
         self.most_size = max(size, min(most_size, int(settings.most_growth * size)))
@@ -80,14 +81,16 @@ class Attempt:
             self.placer.park_outputs(step)
             del self.todo[gate.number]
             if total - len(self.todo) > self.most_placed:
-                self.most_placed, self.best_steps = total - len(self.todo), [] if self.netlist.is_backward else list(self.board.steps)
+                self.most_placed, self.best_steps = total - len(self.todo), [] if self.netlist.is_backward else list(
+                    self.board.steps)
             progress(total - len(self.todo), total)
 
     def placed(self, gate: Gate) -> Step | None:
         """Returns a way to place a gate, or None. If it found no room, the plane grows and it is tried again."""
         step = self.placer.place_gate(gate)
         for _ in range(self.settings.growths):
-            if step is not None or not self.is_crowded() or not self.board.grow(self.settings.growth_part, self.most_size):
+            if step is not None or not self.is_crowded() or not self.board.grow(self.settings.growth_part,
+                                                                                self.most_size):
                 break
             step = self.placer.place_gate(gate)
         return step
@@ -98,7 +101,8 @@ class Attempt:
         return 2 * reasons["no path"] <= reasons["tries"] or 2 * reasons["no room"] > reasons.total()
 
     def adopt(self, steps: list[Step]) -> str:
-        """Adds gates that another attempt placed, maybe with others; returns the wire of a ball that has no room to wait, or no name."""
+        """Adds gates that another attempt placed, maybe with others; returns the wire of a ball that has no room to
+        wait, or no name."""
         for step in steps:
             del self.todo[step.gate.number]
         return self.board.adopt(steps)
@@ -134,7 +138,8 @@ class Attempt:
         return Bound.PATH if 2 * reasons["no path"] > reasons["tries"] > 0 else Bound.ROOM
 
     def take_back(self, number: int, why: str) -> None:
-        """Takes some of the last gates back, and moves the failed gate's makers; raises NoRouteError after too many failures."""
+        """Takes some of the last gates back, and moves the failed gate's makers; raises NoRouteError after too many
+        failures."""
         self.failures[number] += 1
         if sum(self.failures.values()) > self.settings.failures or not self.board.steps:
             raise NoRouteError(why, self.bound(number))
@@ -160,7 +165,8 @@ class Attempt:
         maker = next((step for step in self.board.steps if wire in step.outs), None)
         steps = [maker] if maker else []
         for step in steps:
-            steps += [other for other in self.board.steps if other not in steps and any(path.wire in step.outs for path in other.paths)]
+            steps += [other for other in self.board.steps if other not in steps
+                      and any(path.wire in step.outs for path in other.paths)]
             if len(steps) > self.settings.most_taken_out:
                 return False
         for step in reversed(steps):
@@ -170,7 +176,7 @@ class Attempt:
         self.placer.horizon = max((self.placer.done(step) for step in self.board.steps), default=0)
         return bool(steps)
 
-    # --- the end -------------------------------------------------------------------------------------------------------
+    # --- the end ------------------------------------------------------------------------------------------------------
 
     def end_time(self) -> int:
         """Returns the time at which all balls can have come to their last wires."""
@@ -199,15 +205,18 @@ class Attempt:
         return why
 
     def make_room_for_ends(self) -> None:
-        """Lets the plane grow until what is taken, and what the ways to the last time may take, is at most `end_fill` of it."""
+        """Lets the plane grow until what is taken, and what the ways to the last time may take, is at most `end_fill`
+        of it."""
         board, end = self.board, self.end_time()
         steps = sum(end - (waiting.ball.time if waiting.ball else 0) for waiting in board.waiting.values())
         taken = sum(row.bit_count() for row in board.world.blocked) + self.settings.step_cells * steps
-        while taken > self.settings.end_fill * board.size ** 2 and board.grow(self.settings.growth_part, self.most_size):
+        while taken > self.settings.end_fill * board.size ** 2 and board.grow(self.settings.growth_part,
+                                                                              self.most_size):
             pass
 
     def lead_to_the_end(self) -> str | None:
-        """Leads all waiting balls on to the last time; returns a sentence if that failed, and then takes the paths back.
+        """Leads all waiting balls on to the last time; returns a sentence if that failed, and then takes the paths
+        back.
 
         If a ball cannot be led, the paths that cross its way are taken back, and led after it.
         """
@@ -244,7 +253,8 @@ class Attempt:
         return None
 
     def put_enclosed_first(self, queue: list[str], root: str, first: set[str]) -> bool:
-        """Changes the order if each path of a ball would enclose another ball that still waits; returns whether this is so.
+        """Changes the order if each path of a ball would enclose another ball that still waits; returns whether this is
+        so.
 
         The other ball goes first. If that was tried already, it may be enclosed.
         """
@@ -287,14 +297,18 @@ class Attempt:
         room = self.board.world.free_flight(ball, 70) + 6
         way = path_item(ball, [Leg(room, None)])
         touched = way.touched if way else set()
-        return [path for path in self.board.ends if not touched.isdisjoint(chain(path.item.mirrors, *path.item.touched_parts))]
+        return [path for path in self.board.ends
+                if not touched.isdisjoint(chain(path.item.mirrors, *path.item.touched_parts))]
 
     def begin(self, waiting: Waiting) -> tuple[bool, int]:
         """Returns the key by which balls are led to the end: those that wait since long come first."""
         return waiting.ball is None, waiting.ball.time if waiting.ball else 0
 
     def last_path(self, root: str, ball: Ball | None, end: int) -> Path | None:
-        """Adds a path from a waiting ball, or from any place, to the last time, and returns it. It encloses no other ball."""
+        """Adds a path from a waiting ball, or from any place, to the last time, and returns it.
+
+        It encloses no other ball.
+        """
         finder, board = self.placer.finder, self.board
         self.placer.enclosed = ""
         for _ in range(self.settings.end_tries if ball else 5 * self.settings.end_tries):
@@ -327,4 +341,5 @@ class Attempt:
         board = self.board
         end = max([path.end.time for path in board.ends], default=self.end_time())
         paths = [path for step in board.steps for path in [*step.paths, *step.parked]] + board.ends
-        return forward_design(Design(self.netlist.circuit, self.netlist, board.size, board.size, end, [step.gate for step in board.steps], paths))
+        return forward_design(Design(self.netlist.circuit, self.netlist, board.size, board.size, end,
+                                     [step.gate for step in board.steps], paths))

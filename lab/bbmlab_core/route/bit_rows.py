@@ -1,9 +1,10 @@
 """Paths of four bounces by rows of bits: one AND looks at all places of the first two mirrors.
 
-On diagonals a path is a way of right angles. The legs of such a path are a, b, c, d, e: c flies in the direction of a, and d back along b.
-So b and d take up the time to spare. If the last bounce stays where it is and a becomes a step longer, then c becomes a step shorter, and
-all else stays: the first mirror moves along one diagonal, the second one along a parallel diagonal. The cells at which these two mirrors
-find no room are bits of two numbers, and a place for both is a bit that neither has.
+On diagonals a path is a way of right angles. The legs of such a path are a, b, c, d, e: c flies in the direction of a,
+and d back along b. So b and d take up the time to spare. If the last bounce stays where it is and a becomes a step
+longer, then c becomes a step shorter, and all else stays: the first mirror moves along one diagonal, the second one
+along a parallel diagonal. The cells at which these two mirrors find no room are bits of two numbers, and a place for
+both is a bit that neither has.
 """
 
 import random
@@ -15,13 +16,15 @@ from .settings import Settings
 from .world import MARGIN, ROW, World
 
 # The cells of a mirror as seen from the cell of the ball that it turns.
-OFFSETS = {(turn, dx, dy): bounce(Ball(0, 0, dx, dy, 0), turn)[1].cells() for turn in Turn for dx in (1, -1) for dy in (1, -1)}
+OFFSETS = {(turn, dx, dy): bounce(Ball(0, 0, dx, dy, 0), turn)[1].cells() for turn in Turn for dx in (1, -1)
+           for dy in (1, -1)}
 # The most paths that are yielded for one last bounce.
 MOST_FOUND = 3
 
 
 class Bend(NamedTuple):
-    """A bounce of a path: its steps from the start or to the goal, its turn, and the ball behind it or, of a last bounce, before it."""
+    """A bounce of a path: its steps from the start or to the goal, its turn, and the ball behind it or, of a last
+    bounce, before it."""
 
     steps: int
     turn: Turn
@@ -37,7 +40,8 @@ class Middle(NamedTuple):
 
 
 def middle_of(first: Bend, last: Bend, most: int) -> Middle | None:
-    """Returns the legs between two bounces if they fit place and time, and those that take up time have at most `most` steps."""
+    """Returns the legs between two bounces if they fit place and time, and those that take up time have at most `most`
+    steps."""
     ball, goal, is_flat = first.ball, last.ball, first.turn is Turn.FLAT
     u, v = (goal.x - ball.x) * ball.dx, (goal.y - ball.y) * ball.dy
     u, v = (u + 1, v - 3) if is_flat else (u - 3, v + 1)
@@ -51,7 +55,8 @@ def middle_of(first: Bend, last: Bend, most: int) -> Middle | None:
 
 
 def bits_from(bits: int, x: int, dx: int, low: int, high: int) -> Iterator[int]:
-    """Yields the steps from `low` to `high`, in order of x, after which a ball in column x is at a bit that is not set."""
+    """Yields the steps from `low` to `high`, in order of x, after which a ball in column x is at a bit that is not set.
+    """
     free = ~(bits >> (x + low if dx > 0 else x - high)) & (1 << high - low + 1) - 1
     while free:
         index = (free & -free).bit_length() - 1
@@ -67,7 +72,8 @@ class BitJoiner:
         self.known: dict[tuple[int, bool, Turn, int, int], int] = {}
 
     def taken(self, ball: Ball, turn: Turn, is_falling: bool) -> int:
-        """Returns in which columns a ball that comes in this direction to a cell of a diagonal finds no room for its mirror, as bits.
+        """Returns in which columns a ball that comes in this direction to a cell of a diagonal finds no room for its
+        mirror, as bits.
 
         The diagonal is that through the ball's cell, falling or rising; the ball need not fly along it.
         """
@@ -84,7 +90,8 @@ class BitJoiner:
     def room(self, ball: Ball) -> int:
         """Returns the steps after which a ball can bounce inside the plane, at most those of the longest leg."""
         far = self.world.size - MARGIN - 1
-        across, down = far - ball.x if ball.dx > 0 else ball.x - MARGIN, far - ball.y if ball.dy > 0 else ball.y - MARGIN
+        across, down = (far - ball.x if ball.dx > 0 else ball.x - MARGIN,
+                        far - ball.y if ball.dy > 0 else ball.y - MARGIN)
         return min(self.world.free_flight(ball, self.settings.longest_leg), across, down)
 
     def shuffled(self, found: list[tuple[int, Turn]]) -> Iterator[tuple[int, Turn]]:
@@ -104,14 +111,16 @@ class BitJoiner:
             yield Bend(steps, turn, bounce(ball.flown(steps), turn)[0])
 
     def last_bends(self, goal: Ball) -> Iterator[Bend]:
-        """Yields the bounces from which a ball flies straight to a goal and for which a mirror has room, in random order."""
+        """Yields the bounces from which a ball flies straight to a goal and for which a mirror has room, in random
+        order."""
         most, is_falling = self.room(goal.reversed()), goal.dx == goal.dy
         found: list[tuple[int, Turn]] = []
         for turn in Turn:
             if most < BOUNCE_STEPS:
                 break
             before = bounce_before(goal, turn)[0]
-            found += ((steps, turn) for steps in bits_from(self.taken(before, turn, is_falling), before.x, -goal.dx, BOUNCE_STEPS, most))
+            found += ((steps, turn) for steps in bits_from(self.taken(before, turn, is_falling), before.x, -goal.dx,
+                                                           BOUNCE_STEPS, most))
         for steps, turn in self.shuffled(found):
             yield Bend(steps, turn, bounce_before(goal.flown(-steps), turn)[0])
 
@@ -135,7 +144,8 @@ class BitJoiner:
         behind, mirror = bounce(third, first.turn.other)
         if not world.can_hold(mirror) or not self.is_open(behind, middle.back):
             return
-        # The third bounce stays where it is, so the second one is at most as far from it as a ball flies back from there.
+        # The third bounce stays where it is, so the second one is at most as far from it as a ball flies back from
+        # there.
         reach = world.free_flight(Ball(third.x, third.y, -third.dx, -third.dy, 0), middle.along)
         low = max(first.steps, first.steps + middle.along - reach - BOUNCE_STEPS)
         high = min(self.room(start), first.steps + middle.along - BOUNCE_STEPS)
@@ -147,7 +157,8 @@ class BitJoiner:
         taken = self.taken(start, first.turn, is_falling) | (others >> shift if shift >= 0 else others << -shift)
         for steps in bits_from(taken, start.x, start.dx, low, high):
             more = steps - first.steps
-            if self.is_open(beside(first.ball, start, more), middle.out) and self.is_inside(beside(second, start, more)):
+            if self.is_open(beside(first.ball, start, more),
+                            middle.out) and self.is_inside(beside(second, start, more)):
                 yield [Leg(steps, first.turn), Leg(middle.out, first.turn), Leg(middle.along - more, first.turn.other),
                        Leg(middle.back, last.turn), Leg(last.steps, None)]
 

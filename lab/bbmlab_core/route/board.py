@@ -1,11 +1,12 @@
-"""What an attempt has placed so far: gates, paths, waiting balls, and the wires that each box of the certificate needs."""
+"""What an attempt has placed so far: gates, paths, waiting balls, and the wires that each box of the certificate needs.
+"""
 
 from dataclasses import dataclass, field, replace
 from enum import Enum
 from typing import Iterable
 
-from ..certificates import MAX_CUTS
-from ..cones import fewest_cuts
+from ..circuits.cones import fewest_cuts
+from ..texts.certificates import MAX_CUTS
 from .balls import Ball, Leg
 from .cells import GateCell
 from .netlist import Netlist
@@ -43,7 +44,8 @@ TileBox = tuple[int, int, int, int]
 
 @dataclass(frozen=True)
 class PlacedGate:
-    """A gate's cell at a place and a time, and its box: first tile column and row, and the counts of columns and rows."""
+    """A gate's cell at a place and a time, and its box: first tile column and row, and the counts of columns and rows.
+    """
 
     number: int
     cell: GateCell
@@ -64,7 +66,10 @@ class PlacedGate:
 
 @dataclass(frozen=True)
 class Waiting:
-    """A ball that waits to be led on, and what is reserved for its next steps. Without a ball, it may begin anywhere at time 0."""
+    """A ball that waits to be led on, and what is reserved for its next steps.
+
+    Without a ball, it may begin anywhere at time 0.
+    """
 
     ball: Ball | None = None
     item: Item | None = None
@@ -111,7 +116,8 @@ class Board:
         self.waiting: dict[str, Waiting] = {root: Waiting() for root in netlist.free_roots()}
         self.steps: list[Step] = []
         self.ends: list[Path] = []
-        # For each tile the wires that its box needs, with the number of items for which it does; and the gate that owns it.
+        # For each tile the wires that its box needs, with the number of items for which it does; and the gate that owns
+        # it.
         self.names: dict[int, dict[str, int]] = {}
         self.owners: dict[int, PlacedGate] = {}
 
@@ -121,14 +127,15 @@ class Board:
         return self.world.size
 
     def grow(self, part: int, most: int) -> bool:
-        """Adds the given part of the side at the right and below, in whole pairs of tiles; returns whether that is at most `most` cells."""
+        """Adds the given part of the side at the right and below, in whole pairs of tiles; returns whether that is at
+        most `most` cells."""
         cells = max(2 * TILE, self.size // part // (2 * TILE) * 2 * TILE)
         if self.size + cells > most:
             return False
         self.world.grow(cells)
         return True
 
-    # --- wires of boxes ------------------------------------------------------------------------------------------------
+    # --- wires of boxes -----------------------------------------------------------------------------------------------
 
     def count_names(self, wires: Iterable[str], tiles: Iterable[int], change: int) -> None:
         """Notes that tiles need wires for one more item, or for one less."""
@@ -167,7 +174,7 @@ class Board:
         names = self.names_in(tiles_in(box)) | set(wires)
         return len(fewest_cuts(self.netlist.circuit, names, used)[0]) <= MAX_CUTS - spare
 
-    # --- waiting balls -------------------------------------------------------------------------------------------------
+    # --- waiting balls ------------------------------------------------------------------------------------------------
 
     def waiting_ball(self, ball: Ball) -> Waiting | None:
         """Returns a ball that waits, or None if its next steps leave the layout or meet something."""
@@ -187,7 +194,8 @@ class Board:
             self.count_names(self.wires_of(root), waiting.item.tiles, 1)
 
     def wait_again(self, root: str, before: Waiting) -> bool:
-        """Makes a root wait as before, or with a shorter reservation if something is in the way; returns whether that was possible."""
+        """Makes a root wait as before, or with a shorter reservation if something is in the way; returns whether that
+        was possible."""
         waiting: Waiting | None = before
         if before.ball is not None and (before.item is None or not self.world.fits(before.item)):
             waiting = self.waiting_ball(before.ball)
@@ -204,7 +212,7 @@ class Board:
             self.count_names(self.wires_of(root), waiting.item.tiles, -1)
         return waiting
 
-    # --- paths and gates -----------------------------------------------------------------------------------------------
+    # --- paths and gates ----------------------------------------------------------------------------------------------
 
     def add_path(self, path: Path, is_there: bool = False) -> None:
         """Adds a path, which may be in the world already."""
@@ -257,7 +265,8 @@ class Board:
         self.steps.append(step)
 
     def adopt(self, steps: list[Step]) -> str:
-        """Adds gates and paths, and lets the balls that are left wait; returns the root of a ball that has no room to wait, or no name.
+        """Adds gates and paths, and lets the balls that are left wait; returns the root of a ball that has no room to
+        wait, or no name.
 
         What another board reserved for a ball that waited there may be taken by a path that was led later.
         """
@@ -294,7 +303,8 @@ class Board:
         return step
 
     def take_out(self, step: Step) -> bool:
-        """Takes any gate back whose outputs all wait, so that it can be placed elsewhere; returns whether its inputs have room to wait."""
+        """Takes any gate back whose outputs all wait, so that it can be placed elsewhere; returns whether its inputs
+        have room to wait."""
         if any(wire not in self.waiting for wire in step.outs):
             return False
         for wire in step.outs:

@@ -7,7 +7,7 @@ from dataclasses import dataclass
 from html import escape
 from typing import Iterator
 
-from ..circuits import Circuit
+from ..texts.circuits import Circuit
 from .board import Board, TileBox
 from .world import TILE, World
 
@@ -32,7 +32,8 @@ class PlacedBox:
 
 @dataclass(frozen=True)
 class Crowding:
-    """The plane of an attempt when it ended: its side, how many cells of each tile are taken, row by row, and the gates on it."""
+    """The plane of an attempt when it ended: its side, how many cells of each tile are taken, row by row, and the gates
+    on it."""
 
     side: int
     taken: tuple[bytes, ...]
@@ -45,7 +46,8 @@ class Crowding:
 
 
 def tile_counts(world: World) -> Iterator[bytes]:
-    """Yields, for each row of tiles, half of how many cells of each tile are taken: a tile has up to 256, and a byte holds 128."""
+    """Yields, for each row of tiles, half of how many cells of each tile are taken: a tile has up to 256, and a byte
+    holds 128."""
     tiles = world.size // TILE
     for first in range(0, tiles * TILE, TILE):
         counts = [0] * tiles
@@ -100,7 +102,8 @@ def legend(top: int) -> Iterator[str]:
     """Yields the colours with what they mean."""
     for kind, colour in enumerate(COLOURS):
         yield f'<rect x="{MARGIN + 24 * kind}" y="{top}" width="24" height="12" fill="{colour}" stroke="#888"/>'
-    yield f'<text x="{MARGIN + 24 * len(COLOURS) + 8}" y="{top + 11}">cells taken of each {TILE} by {TILE}: none to all; frames are gates</text>'
+    yield (f'<text x="{MARGIN + 24 * len(COLOURS) + 8}" y="{top + 11}">cells taken of each {TILE} by {TILE}: none to '
+           'all; frames are gates</text>')
 
 
 def crowding_picture(crowding: Crowding, circuit: Circuit, title: str) -> str:
@@ -110,10 +113,13 @@ def crowding_picture(crowding: Crowding, circuit: Circuit, title: str) -> str:
     size, lines = scale * tiles, title.split("\n")
     top = 2 * MARGIN + LINE * len(lines)
     width, height = max(size, 560) + 2 * MARGIN, top + size + 3 * MARGIN
-    drawn = [f'<svg xmlns="http://www.w3.org/2000/svg" width="{width}" height="{height}" viewBox="0 0 {width} {height}" '
+    drawn = [f'<svg xmlns="http://www.w3.org/2000/svg" width="{width}" height="{height}" viewBox="0 0 {width} '
+             f'{height}" '
                'font-family="sans-serif" font-size="13">', f'<rect width="{width}" height="{height}" fill="#fff"/>']
-    drawn += [f'<text x="{MARGIN}" y="{MARGIN + LINE * (at + 1) - 6}">{escape(line)}</text>' for at, line in enumerate(lines)]
+    drawn += [f'<text x="{MARGIN}" y="{MARGIN + LINE * (at + 1) - 6}">{escape(line)}</text>' for at,
+              line in enumerate(lines)]
     drawn += [f'<g transform="translate({MARGIN} {top}) scale({scale})">', *tile_paths(crowding),
                 '<g fill="transparent" stroke="#d1495b" stroke-width="2">', *gate_frames(crowding, circuit), "</g>",
-                f'<rect width="{tiles}" height="{tiles}" fill="none" stroke="#444" stroke-width="2" {STEADY}/>', "</g>", *legend(top + size + MARGIN), "</svg>"]
+                f'<rect width="{tiles}" height="{tiles}" fill="none" stroke="#444" stroke-width="2" {STEADY}/>', "</g>",
+              *legend(top + size + MARGIN), "</svg>"]
     return "\n".join(drawn) + "\n"

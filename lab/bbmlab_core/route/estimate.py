@@ -1,4 +1,6 @@
-"""What is known of a search before it begins: the circuit's size, the side that is tried first, and how such circuits fared when measured."""
+"""What is known of a search before it begins: the circuit's size, the side that is tried first, and how such circuits
+fared when measured.
+"""
 
 from dataclasses import dataclass
 
@@ -7,7 +9,8 @@ from .netlist import Netlist
 
 @dataclass(frozen=True)
 class Measured:
-    """Circuits that `bench/route` routed on 2026-11-30 (bench/README.md): how many got a yes, and the median of their processor seconds.
+    """Circuits that `bench/route` routed on 2026-11-30 (bench/README.md): how many got a yes, and the median of their
+    processor seconds.
 
     `gates` is the most gates that one of them has.
     """
@@ -32,11 +35,13 @@ class Estimate:
 
     def words(self) -> str:
         """Returns the estimate as sentences."""
-        size = f"{counted(self.gates, 'gate')} in {counted(self.levels, 'level')}, {counted(self.ends, 'ball')} at the end: first side {self.side}."
+        size = (f"{counted(self.gates, 'gate')} in {counted(self.levels, 'level')}, {counted(self.ends, 'ball')} at "
+                f"the end: first side {self.side}.")
         like = next((row for row in MEASURED if self.gates <= row.gates), None)
         if like is None:
             return f"{size} No circuit of more than {MEASURED[-1].gates} gates was measured."
-        return (f"{size} When measured, {like.found} of {counted(like.tried, 'circuit')} of up to {like.gates} gates got a route. The median took "
+        return (f"{size} When measured, {like.found} of {counted(like.tried, 'circuit')} of up to {like.gates} gates "
+                "got a route. The median took "
                 f"{counted(like.seconds, 'processor second')}.")
 
 

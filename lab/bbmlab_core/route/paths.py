@@ -18,8 +18,8 @@ from .world import MARGIN, Item, World, path_item
 LEAST_LEG = 12
 # A wander ends with this many steps more than the way to its goal needs at least.
 SPARE_STEPS = 30
-# A way behind an open end goes on for the first number of steps after its bounce, and the second number of steps is free
-# when it is found. The straight way is kept free for the third number of steps behind the bounce.
+# A way behind an open end goes on for the first number of steps after its bounce, and the second number of steps is
+# free when it is found. The straight way is kept free for the third number of steps behind the bounce.
 OPEN_LEG = 24
 OPEN_ROOM = 40
 OPEN_PAST = 4
@@ -81,7 +81,8 @@ Direction = tuple[int, int]
 class Trail:
     """A path that is being made, forward from its first ball or backward from its last one.
 
-    Its parts are in the world, so that the parts to come keep off them. A trail that goes backward moves the reversed ball.
+    Its parts are in the world, so that the parts to come keep off them. A trail that goes backward moves the reversed
+    ball.
     """
 
     def __init__(self, world: World, ball: Ball, is_backward: bool = False) -> None:
@@ -151,10 +152,13 @@ class PathFinder:
         # What may raise an exception when the time is over.
         self.check_time: Callable[[], None] = lambda: None
 
-    # --- free ends -----------------------------------------------------------------------------------------------------
+    # --- free ends ----------------------------------------------------------------------------------------------------
 
     def lead_on(self, wire: str, ball: Ball, end: int, stays: bool = False) -> Path | None:
-        """Returns a path from a ball to any place at the time `end`. If it stays, it is in the world: what its legs took there is its item."""
+        """Returns a path from a ball to any place at the time `end`.
+
+        If it stays, it is in the world: what its legs took there is its item.
+        """
         trail = Trail(self.world, ball)
         found = self.wander(trail, end)
         legs, last = trail.legs(), trail.ball
@@ -185,8 +189,8 @@ class PathFinder:
     def open_way(self, ball: Ball, sign: int, most: int, own: Item | None = None) -> Item | None:
         """Returns what a way on with one bounce takes behind the end of a path, or before its start if `sign` is -1.
 
-        The bounce comes within `most` steps. Its mirror is not put there: it is room for a join. Returns None if something
-        is in the way, `own` included.
+        The bounce comes within `most` steps. Its mirror is not put there: it is room for a join. Returns None if
+        something is in the way, `own` included.
         """
         if not most:
             return NO_ITEM
@@ -203,7 +207,8 @@ class PathFinder:
         return None
 
     def open_legs(self, ball: Ball, sign: int, most: int) -> Iterator[list[Leg]]:
-        """Yields legs with one bounce that has room, soon behind a ball or before it, with a free way beyond the bounce.
+        """Yields legs with one bounce that has room, soon behind a ball or before it, with a free way beyond the
+        bounce.
 
         If a ball soon leaves at the left or at the top, where the plane does not grow, its straight way is first.
         """
@@ -236,7 +241,8 @@ class PathFinder:
         return Path(wire, start, end, tuple(legs), item)
 
     def wander(self, trail: Trail, end: int, goal: Ball | None = None) -> bool:
-        """Leads a trail on up to a time, so that it takes few new cells; with a goal, it can still come to this ball."""
+        """Leads a trail on up to a time, so that it takes few new cells; with a goal, it can still come to this ball.
+        """
         ways: list[Iterator[Option]] = []
         self.check_time()
         for _ in range(self.settings.wander_tries + (end - trail.ball.time) // self.settings.wander_steps):
@@ -292,7 +298,7 @@ class PathFinder:
         found.sort(key=lambda option: option.cost)
         return found[:4]
 
-    # --- from a ball to a ball -----------------------------------------------------------------------------------------
+    # --- from a ball to a ball ----------------------------------------------------------------------------------------
 
     def connect(self, wire: str, start: Ball, goal: Ball, tries: int) -> Path | None:
         """Returns a path from a ball to a ball: the cheapest of some that were found."""
@@ -341,7 +347,8 @@ class PathFinder:
         return self.complete(wire, start, goal, legs) if legs else None
 
     def connect_short(self, start: Ball, goal: Ball, tries: int) -> list[Leg] | None:
-        """Returns legs from a ball to a ball: straight, by rows of bits if there is much time to spare, else by random bounces."""
+        """Returns legs from a ball to a ball: straight, by rows of bits if there is much time to spare, else by random
+        bounces."""
         total = goal.time - start.time
         if total < 0 or not is_in_reach(start, goal):
             return None
@@ -354,7 +361,8 @@ class PathFinder:
         return self.random_join(start, goal, tries)
 
     def bit_joins(self, start: Ball, goal: Ball) -> Iterator[list[Leg]]:
-        """Yields legs from a ball to a ball by rows of bits: with four bounces, and with one or two more before or behind these."""
+        """Yields legs from a ball to a ball by rows of bits: with four bounces, and with one or two more before or
+        behind these."""
         joiner, settings = BitJoiner(self.world, self.chance, self.settings), self.settings
         is_parallel = start.dx * start.dy == goal.dx * goal.dy
         yield from joiner.joins(start, goal, 0, 3 * settings.bit_ends)
@@ -371,7 +379,8 @@ class PathFinder:
     def random_join(self, start: Ball, goal: Ball, tries: int) -> list[Leg] | None:
         """Returns legs from a ball to a ball.
 
-        The first and the last bounce are chosen where mirrors have room. The two bounces between follow from place and time.
+        The first and the last bounce are chosen where mirrors have room. The two bounces between follow from place and
+        time.
         """
         total = goal.time - start.time
         key = start, total // 32
@@ -383,7 +392,8 @@ class PathFinder:
                  for after in [last.get((-way[0], -way[1]) if is_return else way)] if after]
         for _ in range(tries if joins else 0):
             firsts, lasts, is_return = joins[int(self.chance.random() * len(joins))]
-            before, after = firsts[int(self.chance.random() * len(firsts))], lasts[int(self.chance.random() * len(lasts))]
+            before, after = firsts[int(self.chance.random() * len(firsts))], lasts[
+                int(self.chance.random() * len(lasts))]
             legs = self.joined(before, after, is_return)
             if legs and self.is_path(start, legs):
                 return legs
@@ -416,7 +426,8 @@ class PathFinder:
     def some_steps(self, least: int, most: int) -> Sequence[int]:
         """Returns numbers of steps from `least` to `most`: all, or some at random if they are many."""
         count = self.settings.bounce_places
-        return range(least, most + 1) if most - least < count else sorted(self.chance.sample(range(least, most + 1), count))
+        return range(least,
+                     most + 1) if most - least < count else sorted(self.chance.sample(range(least, most + 1), count))
 
     def joined(self, before: Turned, after: Turned, is_return: bool) -> list[Leg] | None:
         """Returns legs that begin and end with given bounces, if two bounces between them can join them."""
@@ -455,8 +466,9 @@ def bent(legs: list[Leg], last: Bend) -> list[Leg]:
 def middle_legs(ball: Ball, goal: Ball, begun: int, is_return: bool, share: float) -> list[Leg] | None:
     """Returns three legs from a ball to a ball, with two bounces, or None.
 
-    If `is_return`, the ball comes back at the second bounce: two different bounces reverse it, and the time follows from the
-    legs. Else two equal bounces shift it, and the time must fit; `share`, from 0 to 1, divides the way between the two legs.
+    If `is_return`, the ball comes back at the second bounce: two different bounces reverse it, and the time follows
+    from the legs. Else two equal bounces shift it, and the time must fit; `share`, from 0 to 1, divides the way between
+    the two legs.
     """
     x, y, dx, dy, time = ball
     total = goal.time - time
@@ -483,5 +495,6 @@ def middle_legs(ball: Ball, goal: Ball, begun: int, is_return: bool, share: floa
 
 
 def is_in_reach(ball: Ball, goal: Ball, spare: int = -2 * BOUNCE_STEPS) -> bool:
-    """Whether a ball can come to the place of another in time and with steps to spare, apart from what is in the way."""
+    """Whether a ball can come to the place of another in time and with steps to spare, apart from what is in the way.
+    """
     return max(abs(ball.x - goal.x), abs(ball.y - goal.y)) + spare <= goal.time - ball.time

@@ -1,7 +1,7 @@
 """Placing gates: a place, an orientation and a time for a gate's cell, with paths from the balls that wait for it.
 
-Gates are placed one after another, about in the order of time. Each gets the first of the good places to which all its inputs can be led,
-and none is put on the way ahead of a ball that waits for another gate.
+Gates are placed one after another, about in the order of time. Each gets the first of the good places to which all its
+inputs can be led, and none is put on the way ahead of a ball that waits for another gate.
 """
 
 import random
@@ -9,8 +9,8 @@ from collections import Counter
 from dataclasses import dataclass
 from typing import Iterable, Iterator
 
-from ..circuits import Gate
-from ..layouts import Cell
+from ..texts.circuits import Gate
+from ..texts.layouts import Cell
 from .balls import BOUNCE_STEPS, Ball, Leg, Turn, bounce
 from .board import Board, Step, Waiting, box_of, tiles_in
 from .cells import PORTS, GateCell
@@ -41,7 +41,8 @@ class Spot:
 
 @dataclass(frozen=True)
 class Inlet:
-    """An input of a gate that has a ball: its port, its root wire, the waiting ball if any, and the least steps of its way."""
+    """An input of a gate that has a ball: its port, its root wire, the waiting ball if any, and the least steps of its
+    way."""
 
     port: str
     root: str
@@ -95,7 +96,7 @@ class Placer:
                 break
         return None
 
-    # --- where and when ------------------------------------------------------------------------------------------------
+    # --- where and when -----------------------------------------------------------------------------------------------
 
     def spots(self, gate: Gate, inlets: list[Inlet]) -> Iterator[Spot]:
         """Yields the best of some random spots for a gate, and so on: early ones, with few taken cells around them."""
@@ -144,7 +145,8 @@ class Placer:
         return min(MOST_SPARE, self.chance.choice(self.settings.most_spare) + 3 * max(self.blame.values(), default=0))
 
     def partner(self, gate: Gate, inlets: list[Inlet]) -> Ball | None:
-        """Returns the ball that a gate's results wait for or meet later, if the gate's own inputs may all begin anywhere."""
+        """Returns the ball that a gate's results wait for or meet later, if the gate's own inputs may all begin
+        anywhere."""
         netlist, waiting = self.board.netlist, self.board.waiting
         if any(inlet.ball for inlet in inlets):
             return None
@@ -154,7 +156,8 @@ class Placer:
         return max(balls, key=lambda ball: ball.time) if balls else None
 
     def centre(self, inlets: list[Inlet], partner: Ball | None, growth: float, half: int) -> tuple[int, int, int]:
-        """Returns a place near the waiting balls for a cell of twice `half` cells, and how far around it the cell may be."""
+        """Returns a place near the waiting balls for a cell of twice `half` cells, and how far around it the cell may
+        be."""
         chance, size = self.chance, self.board.size
         balls = [inlet.ball for inlet in inlets if inlet.ball] or ([partner] if partner else [])
         if not balls:
@@ -171,7 +174,8 @@ class Placer:
         return min(max(x, half), size - half), min(max(y, half), size - half), radius
 
     def free_column(self, cell: GateCell, row: int, columns: tuple[int, int], is_crowded: bool) -> int | None:
-        """Returns a random column from the first to the last of two at which the cell's mirrors have room if it is at this row, or None.
+        """Returns a random column from the first to the last of two at which the cell's mirrors have room if it is at
+        this row, or None.
 
         If `is_crowded`, only the layout must have room.
         """
@@ -194,10 +198,12 @@ class Placer:
         return first + ((bits & -bits).bit_length() - 1 + skipped if bits else free.bit_length() - 1)
 
     def is_box_free(self, cell: GateCell, x: int, y: int, is_wide: bool) -> bool:
-        """Whether the box of a cell is small enough, inside the layout, and no other gate's; if `is_wide`, with a tile around it."""
+        """Whether the box of a cell is small enough, inside the layout, and no other gate's; if `is_wide`, with a tile
+        around it."""
         column, row, columns, rows = box_of(cell, x, y)
         most = self.board.size // TILE
-        if columns > MOST_TILES or rows > MOST_TILES or column < 0 or row < 0 or column + columns > most or row + rows > most:
+        if (columns > MOST_TILES or rows > MOST_TILES or column < 0 or row < 0 or column + columns > most
+            or row + rows > most):
             return False
         owners, margin = self.board.owners, 1 if is_wide else 0
         around = (column - margin, row - margin, columns + 2 * margin, rows + 2 * margin)
@@ -233,10 +239,11 @@ class Placer:
             time = max(time, inlet.ball.time + far + 4 - port.time, inlet.ball.time + inlet.least - meeting)
         return time
 
-    # --- trying a spot -------------------------------------------------------------------------------------------------
+    # --- trying a spot ------------------------------------------------------------------------------------------------
 
     def try_spot(self, gate: Gate, spot: Spot, inlets: list[Inlet]) -> Step | None:
-        """Returns the step that places a gate at a spot, or None if something is in the way. The board stays as it is."""
+        """Returns the step that places a gate at a spot, or None if something is in the way. The board stays as it is.
+        """
         board, world = self.board, self.board.world
         placed, self.enclosed = board.place(spot.x, spot.y, spot.time, spot.cell, gate.number), ""
         if not world.fits(placed.item):
@@ -322,7 +329,8 @@ class Placer:
 
     def leaves_escapes(self, step: Step) -> bool:
         """Whether each waiting ball can still turn."""
-        places = [(step.gate.x, step.gate.y), *((mirror.x, mirror.y) for path in step.paths for mirror in path.mirrors())]
+        places = [(step.gate.x, step.gate.y),
+                  *((mirror.x, mirror.y) for path in step.paths for mirror in path.mirrors())]
         if not self.leaves_others(places):
             self.reasons["encloses another"] += 1
             return False
@@ -354,7 +362,8 @@ class Placer:
             if wire in board.netlist.consumer or end - ball.time < self.settings.least_parking:
                 continue
             board.stop_waiting(wire)
-            found = [own for own in (self.parking(wire, ball, end) for _ in range(self.settings.parking_choices)) if own]
+            found = [own for own in (self.parking(wire, ball, end) for _ in range(self.settings.parking_choices))
+                     if own]
             if found:
                 _, path, parked = min(found, key=lambda own: own[0])
                 board.park(step, path, parked)
@@ -362,7 +371,8 @@ class Placer:
                 board.wait(wire, waiting)
 
     def parking(self, wire: str, ball: Ball, end: int) -> tuple[int, Path, Waiting] | None:
-        """Returns a path away from a gate and the ball that waits at its end, with the number of taken cells around this place."""
+        """Returns a path away from a gate and the ball that waits at its end, with the number of taken cells around
+        this place."""
         board = self.board
         path = self.finder.lead_on(wire, ball, end)
         if path is None or not board.has_room_for(wire, path.item.tiles):
@@ -395,12 +405,14 @@ class Placer:
         found = self.count_turns(ball, range(self.settings.reserved_steps[0] + 3, room + 1, 3), least)
         if found < least:
             world.remove(reserved)
-            found += self.count_turns(ball, range(0, min(room, self.settings.reserved_steps[0] + 2) + 1, 2), least - found)
+            found += self.count_turns(ball, range(0, min(room, self.settings.reserved_steps[0] + 2) + 1, 2),
+                                      least - found)
             world.add(reserved)
         return found >= least
 
     def count_turns(self, ball: Ball, places: range, most: int) -> int:
-        """Returns how many mirrors, at most about `most`, have room after some numbers of steps, with a free way behind them."""
+        """Returns how many mirrors, at most about `most`, have room after some numbers of steps, with a free way behind
+        them."""
         world, found = self.board.world, 0
         for steps in places:
             at = ball.flown(steps)

@@ -7,7 +7,7 @@ from dataclasses import replace
 from itertools import chain
 from typing import Callable, Iterable, Iterator
 
-from ..circuits import Gate
+from ..texts.circuits import Gate
 from .balls import Ball, Leg, Turn, bounce
 from .board import Board, Waiting
 from .paths import Path
@@ -30,7 +30,10 @@ class WayMaker:
         self.settings = board.settings
 
     def make_way(self, gate: Gate) -> bool:
-        """Places a gate that found no place, by taking paths out and leading them again. If that fails the board is as before."""
+        """Places a gate that found no place, by taking paths out and leading them again.
+
+        If that fails the board is as before.
+        """
         placer = self.placer
         reasons, blame = placer.reasons.copy(), placer.blame.copy()
         for paths, spots in self.ways(gate):
@@ -42,7 +45,8 @@ class WayMaker:
     def ways(self, gate: Gate) -> Iterator[tuple[list[Path], list[Spot] | None]]:
         """Yields paths to take out, and the spots that they leave or None if any spot may be tried."""
         placer, waiting = self.placer, self.board.waiting
-        blamed = [own.ball for root, _ in placer.blame.most_common(2) for own in [waiting.get(root)] if own and own.ball]
+        blamed = [own.ball for root, _ in placer.blame.most_common(2) for own in [waiting.get(root)] if own
+                  and own.ball]
         is_crowded = placer.reasons["no room"] > placer.reasons["tries"]
         for ball in blamed:
             found = self.paths_at(self.turning_places(ball))
@@ -60,7 +64,8 @@ class WayMaker:
         found, touched = [], place.touched
         for index, path in enumerate(self.all_paths()):
             item = path.item
-            meets = len(item.touched & place.mirrors) + 4 * len(touched & item.mirrors) + len(place.mirrors & item.mirrors)
+            meets = len(item.touched & place.mirrors) + 4 * len(touched
+                                                                & item.mirrors) + len(place.mirrors & item.mirrors)
             if meets:
                 found.append((-meets, index, path))
         return [path for _, _, path in sorted(found, key=lambda own: own[:2])]
@@ -68,7 +73,8 @@ class WayMaker:
     def turning_places(self, ball: Ball) -> Item:
         """Returns what a waiting ball's way ahead takes, with mirrors at many places of it."""
         far = self.board.size - 5
-        room = min(STEPS_AHEAD, far - ball.x if ball.dx > 0 else ball.x - 4, far - ball.y if ball.dy > 0 else ball.y - 4)
+        room = min(STEPS_AHEAD, far - ball.x if ball.dx > 0 else ball.x - 4,
+                   far - ball.y if ball.dy > 0 else ball.y - 4)
         mirrors = [bounce(ball.flown(steps), turn)[1] for steps in range(2, max(3, room), PLACE_STEPS) for turn in Turn]
         way = path_item(ball, [Leg(max(0, room), None)])
         cells = {cell_number(cell) for mirror in mirrors for cell in mirror.cells()}
@@ -83,7 +89,8 @@ class WayMaker:
         for index, (spot, item) in enumerate(zip(spots, items)):
             met = register.met_by(item)
             if met is not None and len(met) <= self.settings.rips[-1]:
-                found.append((len(met) + spot.time / self.settings.rip_steps, index, spot, [paths[number] for number in sorted(met)]))
+                found.append((len(met) + spot.time / self.settings.rip_steps, index, spot,
+                              [paths[number] for number in sorted(met)]))
         for _, _, spot, met_paths in sorted(found, key=lambda own: own[:2])[:self.settings.crowded_choices]:
             yield met_paths, [replace(spot, time=spot.time + 2 * more) for more in range(0, 24, 2)]
 
@@ -111,7 +118,8 @@ class WayMaker:
         return False
 
     def lead_through(self, ball: Ball, lead: Callable[[], Path | None]) -> Path | None:
-        """Returns a path that was led and added while paths to gates on the way of its ball were out, which are led again; or None.
+        """Returns a path that was led and added while paths to gates on the way of its ball were out, which are led
+        again; or None.
 
         `lead` leads and adds the path. If that or the leading again fails, the board is as before.
         """
@@ -132,7 +140,10 @@ class WayMaker:
         return None
 
     def lead_again(self, outs: list[Waiting], paths: Iterable[Path]) -> dict[Path, Path] | None:
-        """Adds paths from and to the same balls as some that were taken out, or None if this is not possible. `outs` can still turn then."""
+        """Adds paths from and to the same balls as some that were taken out, or None if this is not possible.
+
+        `outs` can still turn then.
+        """
         board, placer = self.board, self.placer
         placer.finder.known_departures.clear()
         again: dict[Path, Path] = {}
@@ -143,7 +154,8 @@ class WayMaker:
             board.add_path(new)
             again[path] = new
         places = [(mirror.x, mirror.y) for path, new in again.items() if new is not path for mirror in new.mirrors()]
-        if len(again) == len(list(paths)) and placer.leaves_others(places) and all(placer.can_turn(own) for own in outs):
+        if len(again) == len(list(paths)) and placer.leaves_others(places) and all(placer.can_turn(own)
+                                                                                   for own in outs):
             return again
         for new in again.values():
             board.remove_path(new)
@@ -181,10 +193,12 @@ class Register:
         cells = [number_cell(number) for item in items for number in (*item.mirrors, *chain(*item.touched_parts))]
         columns, rows = [x for x, _ in cells] or [0], [y for _, y in cells] or [0]
         self.left, self.right, self.top, self.bottom = min(columns), max(columns), min(rows), max(rows)
-        # For touched cells and for those of mirrors the numbers of the paths that have them; FIXED stands for all that is fixed.
+        # For touched cells and for those of mirrors the numbers of the paths that have them; FIXED stands for all that
+        # is fixed.
         self.touched: dict[int, set[int]] = {}
         self.mirrors: dict[int, set[int]] = {}
-        for number, item in [*((FIXED, item) for item in fixed), *((number, path.item) for number, path in enumerate(paths))]:
+        for number, item in [*((FIXED, item) for item in fixed),
+                             *((number, path.item) for number, path in enumerate(paths))]:
             self.note(self.touched, chain(*item.touched_parts), number)
             self.note(self.mirrors, item.mirrors, number)
 

@@ -13,9 +13,9 @@ from multiprocessing.connection import Connection, wait
 from multiprocessing.process import BaseProcess
 from typing import Callable, Iterator
 
-from ..circuits import Circuit
-from ..limits import SECOND, limits_for, with_line
-from ..signals import Stopped
+from ..host.signals import Stopped
+from ..texts.circuits import Circuit
+from ..texts.limits import SECOND, limits_for, with_line
 from .attempt import Attempt, OutOfTimeError
 from .board import Bound, NoRouteError, Step
 from .certificate import Certifier, bundle_text, circuit_section
@@ -30,18 +30,20 @@ from .world import TILE
 # The least side of a layout that is tried, and the attempts with a side before a larger one is tried.
 LEAST_SIDE = 96
 ATTEMPTS_PER_SIDE = 2
-# The part of the first plane's cells that paths and gates may touch by estimate, and the cells that a ball touches in a step. Planes grow, so a
-# small first one gives tight layouts: with 0.16 in place of 0.3 six circuits of 5 to 48 gates took 1.6 times the area, and 0.7 of the time.
+# The part of the first plane's cells that paths and gates may touch by estimate, and the cells that a ball touches in a
+# step. Planes grow, so a small first one gives tight layouts: with 0.16 in place of 0.3 six circuits of 5 to 48 gates
+# took 1.6 times the area, and 0.7 of the time.
 FILL = 0.3
 CELLS_PER_STEP = 2.6
-# If more balls than this end beyond those that begin, attempts also run backward in time, and first if the circuit takes few steps by estimate:
-# two levels of 48 gates got 640 cells a side and 257 steps backward, and 704 and 370 forward.
+# If more balls than this end beyond those that begin, attempts also run backward in time, and first if the circuit
+# takes few steps by estimate: two levels of 48 gates got 640 cells a side and 257 steps backward, and 704 and 370
+# forward.
 MOST_GROWTH = 20
 SHALLOW_STEPS = 200
 # The attempts of `--compact`: the parts of the first side that are tried. Only the first plane may grow.
 COMPACT_PARTS = (1.0, *(0.85, 0.75, 0.7, 0.65, 0.6, 0.55, 0.5) * 3, 0.65, 0.6)
-# How often paths to the last time make way for others in a part that is kept: fewer gates are tried sooner. With 30 in place of 150, 53 of 60
-# placed gates were kept in eight seconds, and not 46.
+# How often paths to the last time make way for others in a part that is kept: fewer gates are tried sooner. With 30 in
+# place of 150, 53 of 60 placed gates were kept in eight seconds, and not 46.
 PARTIAL_RIPS = 30
 # Such an attempt is given up after fewer failures, each after fewer places, and gates come nearer to waiting balls.
 COMPACT_FAILURES = 3
@@ -51,7 +53,8 @@ COMPACT_LANE = 10
 
 @dataclass(frozen=True)
 class Options:
-    """What a search is asked for: a seed, a side or None, seconds, processes, and whether small layouts, a part or a map are wanted."""
+    """What a search is asked for: a seed, a side or None, seconds, processes, and whether small layouts, a part or a
+    map are wanted."""
 
     seed: int = 1
     side: int | None = None
@@ -102,7 +105,8 @@ class Outcome:
     total: int = 0
     partial: list[Step] = field(default_factory=list)
     partial_size: int = 0
-    # The plane of the attempt that placed most gates, when it ended, if a map was asked for, and how many gates these were.
+    # The plane of the attempt that placed most gates, when it ended, if a map was asked for, and how many gates these
+    # were.
     crowding: Crowding | None = None
     crowding_placed: int = -1
     is_interrupted: bool = False
@@ -129,9 +133,11 @@ def estimated_side(netlist: Netlist) -> int:
 
 
 def netlists_of(circuit: Circuit, options: Options) -> list[Netlist]:
-    """Returns a circuit forward in time; and also backward if far more balls end than begin, which comes first if the circuit is shallow.
+    """Returns a circuit forward in time; and also backward if far more balls end than begin, which comes first if the
+    circuit is shallow.
 
-    Balls that begin at any place are led more easily than balls to one last time. Parts are kept of forward netlists alone.
+    Balls that begin at any place are led more easily than balls to one last time. Parts are kept of forward netlists
+    alone.
     """
     forward, backward = Netlist(circuit), Netlist(circuit, is_backward=True)
     if len(backward.free_roots()) - len(forward.free_roots()) <= MOST_GROWTH:
@@ -142,7 +148,8 @@ def netlists_of(circuit: Circuit, options: Options) -> list[Netlist]:
 
 @dataclass(frozen=True)
 class Plan:
-    """What an attempt is made with: the circuit, the first side and that up to which the plane may grow, the seed, and the costs."""
+    """What an attempt is made with: the circuit, the first side and that up to which the plane may grow, the seed, and
+    the costs."""
 
     netlist: Netlist
     side: int
@@ -157,20 +164,24 @@ def plans_of(netlists: list[Netlist], options: Options, settings: Settings) -> I
     tight = replace(settings, failures=COMPACT_FAILURES, place_tries=COMPACT_PLACES, lane_cells=COMPACT_LANE)
     for part in COMPACT_PARTS if options.is_compact and not options.side else ():
         side, seed = max(LEAST_SIDE // 2, int(part * first) // TILE * TILE), options.seed * 1_000_003 + index
-        yield Plan(netlists[0], side, options.most_side, seed, settings) if part == 1 else Plan(netlists[0], side, side, seed, tight)
+        yield Plan(netlists[0], side, options.most_side, seed,
+                   settings) if part == 1 else Plan(netlists[0], side, side, seed, tight)
         index += 1
     side = first
     while True:
         for _ in range(ATTEMPTS_PER_SIDE):
-            yield Plan(netlists[index % len(netlists)], side, options.most_side, options.seed * 1_000_003 + index, settings)
+            yield Plan(netlists[index % len(netlists)], side, options.most_side, options.seed * 1_000_003 + index,
+                       settings)
             index += 1
         side = side if options.side else min(SECOND.max_side, side + max(2 * TILE, side // 4 // TILE * TILE))
 
 
 def routed_bundle(circuit_text: str, design: Design, is_cropped: bool = True) -> Routed:
-    """Returns the bundle of a design, cropped if that is asked for; raises NoRouteError if its certificate needs too much.
+    """Returns the bundle of a design, cropped if that is asked for; raises NoRouteError if its certificate needs too
+    much.
 
-    Inverse gates are kept by modules without a gate. If cropping left too few of them, the design stays as large as it was.
+    Inverse gates are kept by modules without a gate. If cropping left too few of them, the design stays as large as it
+    was.
     """
     if is_cropped:
         try:
@@ -188,13 +199,15 @@ def bundle_of(circuit_text: str, design: Design) -> Routed:
     layout = circuit_section(circuit_text) + "\n".join(certifier.layout) + "\n"
     side = max(design.width, design.height)
     return Routed(with_line(text, limits_for(side, design.end, len(certifier.modules), gates, wires)),
-                  with_line(layout, limits_for(side, design.end, 0, gates, wires)), design.width, design.height, design.end, len(certifier.mirrors), len(certifier.modules), certifier.most_cuts, len(design.gates))
+                  with_line(layout, limits_for(side, design.end, 0, gates, wires)), design.width, design.height,
+                  design.end, len(certifier.mirrors), len(certifier.modules), certifier.most_cuts, len(design.gates))
 
 
 class Search:
     """A search for a route of one circuit."""
 
-    def __init__(self, circuit: Circuit, circuit_text: str, options: Options, settings: Settings, progress: Progress) -> None:
+    def __init__(self, circuit: Circuit, circuit_text: str, options: Options, settings: Settings,
+                 progress: Progress) -> None:
         self.circuit_text, self.options = circuit_text, options
         self.netlists = netlists_of(circuit, options)
         self.settings = settings
@@ -215,7 +228,8 @@ class Search:
                 self.run_here()
         except KeyboardInterrupt as interrupt:
             self.outcome.is_interrupted = True
-            self.outcome.interrupt_status = interrupt.status if isinstance(interrupt, Stopped) else self.outcome.interrupt_status
+            self.outcome.interrupt_status = interrupt.status if isinstance(interrupt,
+                                                                           Stopped) else self.outcome.interrupt_status
         return self.outcome
 
     def limit(self, is_found: bool) -> int:
@@ -269,7 +283,8 @@ class Search:
             self.outcome.placed, self.outcome.partial, self.outcome.partial_size = len(steps), steps, side
 
 
-# What a process sends: that it placed gates, the side, and their steps if they are kept; how crowded its plane is; its bundle; or why it failed.
+# What a process sends: that it placed gates, the side, and their steps if they are kept; how crowded its plane is; its
+# bundle; or why it failed.
 Message = tuple[str, int, int, object]
 
 
@@ -304,7 +319,8 @@ def work(connection: Connection, task: Task) -> None:
     try:
         design = attempt.run(tell)
         tell_crowding()
-        connection.send(("routed", attempt.most_placed, attempt.board.size, routed_bundle(task.circuit_text, design, task.is_cropped)))
+        connection.send(("routed", attempt.most_placed, attempt.board.size,
+                         routed_bundle(task.circuit_text, design, task.is_cropped)))
     except NoRouteError as error:
         tell_crowding()
         connection.send(("failed", attempt.most_placed, attempt.board.size, error))
@@ -354,7 +370,8 @@ class Pool:
     def counted(self) -> list[int]:
         """Returns the attempts that found a route and count: those that one process would have made, in order."""
         found = sorted(self.found)
-        return [index for index in found if index < len(COMPACT_PARTS)] or found[:1] if self.search.options.is_compact else found
+        return [index for index in found
+                if index < len(COMPACT_PARTS)] or found[:1] if self.search.options.is_compact else found
 
     def is_useful(self, index: int) -> bool:
         """Whether the attempt with an index can still count."""
@@ -368,7 +385,8 @@ class Pool:
         search, (index, plan) = self.search, next(self.plans)
         here, there = multiprocessing.Pipe(duplex=False)
         options = search.options
-        task = Task(plan, search.circuit_text, search.deadline, options.keeps_partial, not options.side, options.has_map)
+        task = Task(plan, search.circuit_text, search.deadline, options.keeps_partial, not options.side,
+                    options.has_map)
         process = multiprocessing.get_context("fork").Process(target=work, args=(there, task), daemon=True)
         process.start()
         there.close()

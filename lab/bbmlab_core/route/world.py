@@ -1,11 +1,12 @@
 """What is claimed on the plane: mirrors, cells that balls touch, and blocks at times.
 
-An item is a path of one ball, or a gate's cell. It claims a block at a time if it has a moving cell there in the step from
-this time. Items that claim no block in common, and whose mirrors are in no touched cell of another item, run as they run
-alone: in each block at most one of them moves, and mirrors alone stay (Margolus 1984: a block changes by itself).
+An item is a path of one ball, or a gate's cell. It claims a block at a time if it has a moving cell there in the step
+from this time. Items that claim no block in common, and whose mirrors are in no touched cell of another item, run as
+they run alone: in each block at most one of them moves, and mirrors alone stay (Margolus 1984: a block changes by
+itself).
 
-Cells and blocks are numbers here, so that sets of them are quick. A straight flight takes ranges of such numbers, and items keep the
-ranges: a ball that flies 1000 steps touches 3000 cells.
+Cells and blocks are numbers here, so that sets of them are quick. A straight flight takes ranges of such numbers, and
+items keep the ranges: a ball that flies 1000 steps touches 3000 cells.
 """
 
 from array import array
@@ -14,11 +15,12 @@ from functools import cache, cached_property
 from itertools import chain
 from typing import Iterable
 
-from ..layouts import Cell
+from ..texts.layouts import Cell
 from .balls import BOUNCE_STEPS, Ball, Leg, Mirror, Turn, block_cells, bounce, mirror_cells, path_run
 from .cells import GateCell
 
-# The number of a cell is its row times ROW plus its column, and that of a block at a time is STEP times the time plus its corner.
+# The number of a cell is its row times ROW plus its column, and that of a block at a time is STEP times the time plus
+# its corner.
 ROW_BITS = 12
 ROW = 1 << ROW_BITS
 STEP = ROW * ROW
@@ -54,7 +56,8 @@ Parts = tuple[Iterable[int], ...]
 
 @dataclass(frozen=True)
 class Item:
-    """What a path or a gate's cell takes: numbers of mirror cells, and in parts those of touched cells and of blocks at times."""
+    """What a path or a gate's cell takes: numbers of mirror cells, and in parts those of touched cells and of blocks at
+    times."""
 
     mirrors: frozenset[int]
     touched_parts: Parts = ()
@@ -124,7 +127,8 @@ def add_flight(ball: Ball, steps: int, claims: list[Iterable[int]], touched: lis
     claims.append(range(lead, lead + steps * step, step))
     tail = lead - 2 * along
     claims.append(range(tail, tail + steps * step, step))
-    # Two cells of a block are on the diagonal of the flight, where one block's first cell is the last one's second; two are beside it.
+    # Two cells of a block are on the diagonal of the flight, where one block's first cell is the last one's second; two
+    # are beside it.
     first, last = corner - 2 * along, corner + steps * along
     before, after = sorted((0, ROW + 1) if dx == dy else (1, ROW), reverse=along < 0)
     touched.append(range(first + before, last + after, along))
@@ -132,7 +136,8 @@ def add_flight(ball: Ball, steps: int, claims: list[Iterable[int]], touched: lis
 
 
 def path_item(ball: Ball, legs: Iterable[Leg], begun: int = 0) -> Item | None:
-    """Returns what a path takes, or None if the ball would come to one of its own mirrors at another time than it should.
+    """Returns what a path takes, or None if the ball would come to one of its own mirrors at another time than it
+    should.
 
     The first `begun` steps of the first leg are left out: they belong to the bounce before it.
     """
@@ -165,7 +170,8 @@ def cell_item(cell: GateCell, x: int, y: int, time: int) -> Item:
                 (array("q", [start + number for number in claims]),))
 
 
-# The numbers of mirrors, touched cells and blocks at times of each cell of the library, which lives as long as the process.
+# The numbers of mirrors, touched cells and blocks at times of each cell of the library, which lives as long as the
+# process.
 _shapes: dict[int, tuple[list[int], list[int], list[int]]] = {}
 
 
@@ -186,10 +192,12 @@ class World:
         self.size = size
         self.claims: set[int] = set()
         self.mirrors: set[int] = set()
-        # How many parts of items touch a cell or have a mirror there, and the same cells as bits of rows: no new mirror may be there.
+        # How many parts of items touch a cell or have a mirror there, and the same cells as bits of rows: no new mirror
+        # may be there.
         self.counts = array("H", bytes(2 * ROW * size))
         self.blocked = [0] * (ROW + 8)
-        # The mirrors by falling diagonals (y - x + ROW) and rising ones (y + x), as bits of x; and so the blocked cells.
+        # The mirrors by falling diagonals (y - x + ROW) and rising ones (y + x), as bits of x; and so the blocked
+        # cells.
         self.mirror_falling, self.mirror_rising = [0] * (2 * ROW + 8), [0] * (2 * ROW + 8)
         self.blocked_falling, self.blocked_rising = [0] * (2 * ROW + 8), [0] * (2 * ROW + 8)
 
@@ -239,7 +247,8 @@ class World:
     def fits(self, item: Item) -> bool:
         """Whether an item may be added: it meets nothing that is there, neither in space nor in time."""
         counts, mirrors, claims = self.counts, self.mirrors, self.claims
-        return (not any(counts[number] for number in item.mirrors) and all(mirrors.isdisjoint(part) for part in item.touched_parts)
+        return (not any(counts[number] for number in item.mirrors)
+                and all(mirrors.isdisjoint(part) for part in item.touched_parts)
                 and all(claims.isdisjoint(part) for part in item.claim_parts))
 
     def is_inside(self, x: int, y: int) -> bool:

@@ -5,13 +5,15 @@ from functools import lru_cache
 from pathlib import Path
 from typing import Any, Callable
 
-from .. import json_form, standard_cells
-from ..documents import read_document
-from ..program import HERE, ProgramError
-from ..refusals import explain_refusal
-from ..releases import program_of
-from ..spelling import source_line, spelled
-from ..terminal import LabError
+from ..host.program import HERE, ProgramError
+from ..host.releases import program_of
+from ..host.terminal import LabError
+from ..physics import standard_cells
+from ..texts import json_form
+from ..texts.documents import read_document
+from ..texts.refusals import explain_refusal
+from ..texts.skimming import head_of
+from ..texts.spelling import source_line, spelled
 from .folder import ChangedError, Folder, FolderError, bytes_of, digest_of, text_of
 from .guard import Denied
 from .jobs import Jobs
@@ -39,7 +41,8 @@ def cells() -> list[Answer]:
     for name in standard_cells.cell_names():
         cell = standard_cells.read_cell(name)
         layout, _ = standard_cells.parts_of(cell.document)
-        ports = [{"role": port.role, "name": port.name, "cell": list(port.lead), "direction": [port.dx, port.dy], "time": port.time} for port in cell.ports]
+        ports = [{"role": port.role, "name": port.name, "cell": list(port.lead), "direction": [port.dx, port.dy],
+                  "time": port.time} for port in cell.ports]
         found.append({"name": name, "about": standard_cells.ABOUT[name], "layout": json_form.layout_json(layout),
                       "circuit": cell.document.text.split("\nlayout ")[0].split("\n"), "ports": ports})
     return found
@@ -64,8 +67,10 @@ class Answers:
     def answer(self, name: str, body: Answer) -> Answer:
         """Returns the answer to a request."""
         known: dict[str, Callable[[Answer], Answer]] = {
-            "start": self.start, "open": self.open, "save": self.save, "files": self.files, "refusal": self.refusal, "spelling": self.spelling,
-            "cells": self.cells, "template": self.template, "verdict": self.job, "explain": self.job, "export": self.job, "route": self.route,
+            "start": self.start, "open": self.open, "save": self.save, "files": self.files, "refusal": self.refusal,
+            "spelling": self.spelling,
+            "cells": self.cells, "template": self.template, "verdict": self.job, "explain": self.job,
+            "export": self.job, "route": self.route,
             "routed": self.routed, "unroute": self.unroute}
         if name not in known:
             raise Denied(404, "there is no such request")
@@ -80,11 +85,13 @@ class Answers:
             if self.jobs is None:
                 raise ProgramError("it was not found")
             asked = program_of(self.jobs.program)
-            program = {"path": self.jobs.program.path, "version": asked.version, "sha256": asked.sha256, "is_release": asked.kit is not None}
+            program = {"path": self.jobs.program.path, "version": asked.version, "sha256": asked.sha256,
+                       "is_release": asked.kit is not None}
         except ProgramError as error:
             program = {"path": None, "why": str(error)}
         opened = self.open({"name": self.folder.name})
-        return {"program": program, "folder": str(self.folder.place), "templates": ["empty", *standard_cells.cell_names()], "examples": list(examples()),
+        return {"program": program, "folder": str(self.folder.place),
+                "templates": ["empty", *standard_cells.cell_names()], "examples": list(examples()),
                 **opened}
 
     def open(self, body: Answer) -> Answer:
@@ -99,7 +106,8 @@ class Answers:
         """Writes a file of the folder, unless it changed since the page read it."""
         data, known = bytes_of(word(body, "text")), body.get("digest")
         try:
-            digest = self.folder.write(word(body, "name"), data, known if isinstance(known, str) else None, body.get("force") is True)
+            digest = self.folder.write(word(body, "name"), data, known if isinstance(known, str) else None,
+                                       body.get("force") is True)
         except ChangedError as error:
             return {"changed": True, "digest": error.digest, "error": str(error)}
         return {"digest": digest}
@@ -112,11 +120,12 @@ class Answers:
         """Returns where the lab's reader refuses the circuit and the layout, or null."""
         source = bytes_of(word(body, "text")).decode("latin-1")
         text = spelled(source).text
-        document = read_document(text.split("\ncertificate ")[0] + ("\n" if "\ncertificate " in text else ""), "design")
+        document = read_document(head_of(text) or text, "design")
         if document.refusal is None:
             return {"refusal": None}
         told = explain_refusal(document, document.refusal)
-        return {"refusal": {"line": source_line(source, text, document.refusal.line), "code": document.refusal.code, "words": told.what, "rule": told.rule,
+        return {"refusal": {"line": source_line(source, text, document.refusal.line), "code": document.refusal.code,
+                            "words": told.what, "rule": told.rule,
                             "hints": told.hints}}
 
     def spelling(self, body: Answer) -> Answer:
@@ -143,7 +152,9 @@ class Answers:
     def route(self, body: Answer) -> Answer:
         """Begins a search for a layout of the circuit of a text."""
         seconds, seed = body.get("seconds"), body.get("seed")
-        if isinstance(seconds, bool) or not isinstance(seconds, (int, float)) or isinstance(seed, bool) or not isinstance(seed, int):
+        if isinstance(seconds, bool) or not isinstance(seconds,
+                                                       (int, float)) or isinstance(seed,
+                                                                                   bool) or not isinstance(seed, int):
             raise Denied(400, "the request has no numbers `seconds` and `seed`")
         text, tab = word(body, "text"), word(body, "tab")
         return self.routes.begin(tab, text, seconds, seed) if self.routes else NO_PROGRAM
@@ -161,9 +172,12 @@ class Answers:
         if self.jobs is None:
             return NO_PROGRAM
         body = {"stage": "", "earlier": "", **body}
-        for name in ("text", "tab", *{"verdict": ("stage", "earlier"), "explain": ("bundle", "report"), "export": ("bundle", "form", "name")}[body["kind"]]):
+        for name in ("text", "tab",
+                     *{"verdict": ("stage", "earlier"), "explain": ("bundle", "report"),
+                       "export": ("bundle", "form", "name")}[body["kind"]]):
             word(body, name)
-        if body["kind"] == "export" and not (isinstance(body.get("on"), list) and all(isinstance(name, str) for name in body["on"])):
+        if body["kind"] == "export" and not (isinstance(body.get("on"), list)
+                                             and all(isinstance(name, str) for name in body["on"])):
             raise Denied(400, "the request has no list `on`")
         # An export is no answer to the newest text: it waits for its turn, and no verdict of its tab ends it.
         return self.jobs.run(f"{body['tab']} export" if body["kind"] == "export" else body["tab"], body)

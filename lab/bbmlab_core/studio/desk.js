@@ -1,113 +1,153 @@
 /**
- * The layout on the desk: its model and its run, again at each change. A worker runs it for the ways of its balls and its truth table. Adds
- * `bbmlab.Desk`.
+ * The layout on the desk: its model and its run, again at each change. A worker runs it for the ways of its balls and
+ * its truth table.
  */
-"use strict";
+import { Player } from "../view/player.js";
+import * as geometry from "./geometry.js";
+import { Model } from "./model.js";
+import * as surveys from "./survey.js";
 
-{
-  const { Model, Player, surveys, geometry } = bbmlab;
-  const MAX_TABLE_INPUTS = 8, MAX_EXACT_INPUTS = 5;
-  // How long the run to the end may take of each turn, in milliseconds: a frame takes 16, and painting comes first.
-  const SLICE = 4;
-  const BLANK = { width: 48, height: 48, steps: 0, mirrors: [], balls: [], ins: [], outs: [], wastes: [] };
+const MAX_TABLE_INPUTS = 8, MAX_EXACT_INPUTS = 5;
+// How long the run to the end may take of each turn, in milliseconds: a frame takes 16, and painting comes first.
+const SLICE = 4;
+const BLANK = { width: 48, height: 48, steps: 0, mirrors: [], balls: [], ins: [], outs: [], wastes: [] };
 
-  class Desk {
-    /** @param {string} text @param {Worker} worker */
-    constructor(text, worker) {
-      Object.assign(this, { worker, off: new Set(), waysMode: "all", hasWave: false, listeners: { change: [], ways: [], table: [], time: [], end: [], play: [] } });
-      // The number of the last order to the worker, and what came of it; `askedAt` is when the order was given.
-      Object.assign(this, { order: 0, askedAt: 0, waysTime: 0, survey: null, surveyOrder: -1, rows: null });
-      this.layout = BLANK;
-      worker.addEventListener("message", ({ data }) => this.receive(data));
-      this.open(text);
+class Desk {
+  worker;
+  off = new Set();
+  waysMode = "all";
+  hasWave = false;
+  listeners = { change: [], ways: [], table: [], time: [], end: [], play: [] };
+  order = 0;
+  askedAt = 0;
+  waysTime = 0;
+  survey = null;
+  surveyOrder = -1;
+  rows = null;
+  layout;
+  model;
+  fallen;
+  player;
+  hasTable;
+  sentCircuit;
+
+  /** @param {string} text @param {Worker} worker */
+  constructor(text, worker) {
+    this.worker = worker;
+    // The number of the last order to the worker, and what came of it; `askedAt` is when the order was given.
+    this.layout = BLANK;
+    worker.addEventListener("message", ({ data }) => this.receive(data));
+    this.open(text);
+  }
+
+  /** Takes another text, without a history. */
+  open(text) {
+    this.model = new Model(text);
+    this.model.listen(() => this.refresh());
+    this.off.clear();
+    if (this.player) this.player.target = 0;
+    this.refresh();
+  }
+
+  listen(what, action) { this.listeners[what].push(action); }
+
+  notify(what) { for (const action of this.listeners[what]) action(); }
+
+  /** The circuit, if each of its lines can be read. */
+  get circuit() { return this.model.circuit.isWhole ? this.model.circuit : null; }
+
+  /** Makes the runs for the text as it is now. */
+  refresh() {
+    const old = this.player;
+    this.layout = this.model.layout || { ...this.layout };
+    this.fallen = geometry.fallingMirrors(this.layout.mirrors);
+    if (old) {
+      old.play(0);
+      clearTimeout(old.aheadTimer);
+      clearTimeout(old.seekTimer);
+      old.listeners = { time: [], progress: [], end: [], play: [], inputs: [] };
     }
+    const names = this.circuit ? this.circuit.inputs : [...new Set(this.layout.ins.map(({ name }) => name))];
+    const player = new Player({ layout: this.layout, circuit: this.circuit, certificate: null, isQuiet: !this.hasWave,
+      assign: { on: names.filter((name) => !this.off.has(name)) } });
+    this.player = player;
+    player.slice = SLICE;
+    this.askWorker();
+    player.restart(old ? Math.min(old.target, this.layout.steps) : 0);
+    for (const what of ["time", "end", "play"]) player.listen(what, () => this.notify(what));
+    this.notify("change");
+    if (player.isEnded) this.notify("end");
+  }
 
-    /** Takes another text, without a history. */
-    open(text) {
-      this.model = new Model(text);
-      this.model.listen(() => this.refresh());
-      this.off.clear();
-      if (this.player) this.player.target = 0;
-      this.refresh();
-    }
+  /** Turns inputs on or off. */
+  setInput(name, isOn) {
+    if (isOn) this.off.delete(name);
+    else this.off.add(name);
+    this.player.setInputs({ [name]: isOn });
+    if (this.waysMode === "on") this.askWorker();
+    this.player.restart();
+  }
 
-    listen(what, action) { this.listeners[what].push(action); }
+  /** Sets under which inputs the ways are shown: "all", "on" or "off". */
+  setWays(mode) {
+    this.waysMode = mode;
+    if (mode === "off") this.survey = null;
+    this.askWorker();
+    this.notify("ways");
+  }
 
-    tell(what) { for (const action of this.listeners[what]) action(); }
+  /** Sets whether the waveform is shown. Its signals are recorded only then. */
+  setWave(isShown) {
+    this.hasWave = isShown;
+    this.refresh();
+  }
 
-    /** The circuit, if each of its lines can be read. */
-    get circuit() { return this.model.circuit.isWhole ? this.model.circuit : null; }
+  // ---- ways and the truth table
 
-    /** Makes the runs for the text as it is now. */
-    refresh() {
-      const old = this.player;
-      this.layout = this.model.layout || { ...this.layout };
-      this.fallen = geometry.fallingMirrors(this.layout.mirrors);
-      if (old) { old.play(0); clearTimeout(old.aheadTimer); clearTimeout(old.seekTimer); old.listeners = { time: [], progress: [], end: [], play: [], inputs: [] }; }
-      const names = this.circuit ? this.circuit.inputs : [...new Set(this.layout.ins.map(({ name }) => name))];
-      const player = new Player({ layout: this.layout, circuit: this.circuit, certificate: null, isQuiet: !this.hasWave, assign: { on: names.filter((name) => !this.off.has(name)) } });
-      this.player = player;
-      player.slice = SLICE;
-      this.askWorker();
-      player.restart(old ? Math.min(old.target, this.layout.steps) : 0);
-      for (const what of ["time", "end", "play"]) player.listen(what, () => this.tell(what));
-      this.tell("change");
-      if (player.isEnded) this.tell("end");
-    }
-
-    /** Turns inputs on or off. */
-    setInput(name, isOn) {
-      if (isOn) this.off.delete(name); else this.off.add(name);
-      this.player.setInputs({ [name]: isOn });
-      if (this.waysMode === "on") this.askWorker();
-      this.player.restart();
-    }
-
-    /** Sets under which inputs the ways are shown: "all", "on" or "off". */
-    setWays(mode) {
-      this.waysMode = mode;
-      if (mode === "off") this.survey = null;
-      this.askWorker();
-      this.tell("ways");
-    }
-
-    /** Sets whether the waveform is shown. Its signals are recorded only then. */
-    setWave(isShown) {
-      this.hasWave = isShown;
-      this.refresh();
-    }
-
-    // ---- ways and the truth table
-
-    /** Sends the layout to the worker. What the page shows stays until its answer. */
-    askWorker() {
-      const { layout, circuit, waysMode, player: { names, on } } = this, isKnown = circuit === this.sentCircuit;
-      this.hasTable = circuit !== null && circuit.inputs.length <= MAX_TABLE_INPUTS && circuit.outputs.length > 0;
-      const ways = waysMode === "off" ? null : { on: waysMode === "on" ? [...on] : null, isExact: names.length <= MAX_EXACT_INPUTS };
-      Object.assign(this, { order: this.order + 1, askedAt: performance.now(), sentCircuit: circuit });
-      // Without the member `circuit` the worker takes the last one.
-      this.worker.postMessage({ number: this.order, layout, ways, hasTable: this.hasTable, ...(isKnown ? {} : { circuit }) });
-      if (!this.hasTable) { this.rows = null; this.tell("table"); }
-    }
-
-    /** Takes an answer of the worker, unless it is about an older layout. */
-    receive({ number, ways, rows }) {
-      if (number !== this.order) return;
-      if (rows) { this.rows = rows; this.tell("table"); return; }
-      Object.assign(this, { survey: ways, surveyOrder: number, waysTime: performance.now() - this.askedAt });
-      this.tell("ways");
-    }
-
-    /** Whether the ways are of all choices of the inputs. */
-    get isExact() { return this.waysMode === "all" && this.player.names.length <= MAX_EXACT_INPUTS; }
-
-    /** Returns the ends of the balls as parts, when the worker is done, or null if not all choices of the inputs were run. */
-    async endParts() {
-      if (!this.isExact || !this.circuit) return null;
-      while (this.isExact && this.surveyOrder !== this.order) await new Promise((resolve) => { setTimeout(resolve, 10); });
-      return this.circuit && this.isExact ? surveys.endParts(this.survey, this.circuit.outputs, this.layout) : null;
+  /** Sends the layout to the worker. What the page shows stays until its answer. */
+  askWorker() {
+    const { layout, circuit, waysMode, player: { names, on } } = this, isKnown = circuit === this.sentCircuit;
+    this.hasTable = circuit !== null && circuit.inputs.length <= MAX_TABLE_INPUTS && circuit.outputs.length > 0;
+    const ways = waysMode === "off" ? null : { on: waysMode === "on" ? [...on] : null,
+      isExact: names.length <= MAX_EXACT_INPUTS };
+    this.order = this.order + 1;
+    this.askedAt = performance.now();
+    this.sentCircuit = circuit;
+    // Without the member `circuit` the worker takes the last one.
+    this.worker.postMessage({ number: this.order, layout, ways, hasTable: this.hasTable,
+      ...(isKnown ? {} : { circuit }) });
+    if (!this.hasTable) {
+      this.rows = null;
+      this.notify("table");
     }
   }
 
-  bbmlab.Desk = Desk;
+  /** Takes an answer of the worker, unless it is about an older layout. */
+  receive({ number, ways, rows }) {
+    if (number !== this.order) return;
+    if (rows) {
+      this.rows = rows;
+      this.notify("table");
+      return;
+    }
+    this.survey = ways;
+    this.surveyOrder = number;
+    this.waysTime = performance.now() - this.askedAt;
+    this.notify("ways");
+  }
+
+  /** Whether the ways are of all choices of the inputs. */
+  get isExact() { return this.waysMode === "all" && this.player.names.length <= MAX_EXACT_INPUTS; }
+
+  /**
+   * Returns the ends of the balls as parts, when the worker is done, or null if not all choices of the inputs were run.
+   */
+  async endParts() {
+    if (!this.isExact || !this.circuit) return null;
+    while (this.isExact && this.surveyOrder !== this.order)
+        await new Promise((resolve) => { setTimeout(resolve, 10); });
+    return this.circuit && this.isExact ? surveys.endParts(this.survey, this.circuit.outputs, this.layout) : null;
+  }
 }
+
+export { Desk };

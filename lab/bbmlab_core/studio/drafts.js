@@ -1,56 +1,57 @@
 /**
- * Keeps drafts in the browser: a draft for each file and tab, with the digest of the file from which it began. A draft whose tab is still open
- * is not offered to other tabs: an open tab holds a lock with its number. Adds `bbmlab.drafts`.
+ * Keeps drafts in the browser: a draft for each file and tab, with the digest of the file from which it began. A draft
+ * whose tab is still open is not offered to other tabs: an open tab holds a lock with its number.
  */
-"use strict";
+import { server } from "./server_link.js";
 
-{
-  const { server } = bbmlab;
-  const PREFIX = "bbmlab draft ";
-  const keyOf = (folder, name, tab) => `${PREFIX}${JSON.stringify([folder, name, tab])}`;
+const PREFIX = "bbmlab draft ";
+const keyOf = (folder, name, tab) => `${PREFIX}${JSON.stringify([folder, name, tab])}`;
 
-  /** Keeps a draft. Returns false if the browser has no room. */
-  function keep(folder, name, text, digest) {
-    try {
-      localStorage.setItem(keyOf(folder, name, server.tab), JSON.stringify({ text, digest, at: Date.now() }));
-      return true;
-    } catch { return false; }
-  }
-
-  /** Forgets this tab's draft of a file. */
-  function forget(folder, name, tab = server.tab) { localStorage.removeItem(keyOf(folder, name, tab)); }
-
-  /**
-   * Puts this tab's draft of a file, from before the file was opened, under another name. It stays there until the user takes it or throws it
-   * away: the tab's next draft of the file does not replace it.
-   */
-  function setAside(folder, name, saved) {
-    const key = keyOf(folder, name, server.tab), draft = localStorage.getItem(key);
-    if (draft === null) return;
-    localStorage.removeItem(key);
-    if (JSON.parse(draft).text !== saved) localStorage.setItem(keyOf(folder, name, crypto.randomUUID()), draft);
-  }
-
-  /** Forgets the drafts that began from the file with a digest, which was written over. Those of other open tabs stay, for them to ask about. */
-  async function forgetReplaced(folder, name, digest) {
-    for (const draft of await found(folder, name)) if (draft.digest === digest) forget(folder, name, draft.tab);
-  }
-
-  /** Returns the drafts of a file that no other open tab is working on, the newest first. */
-  async function found(folder, name) {
-    const held = navigator.locks ? (await navigator.locks.query()).held.map((lock) => lock.name) : [];
-    const drafts = [];
-    for (let index = 0; index < localStorage.length; index += 1) {
-      const key = localStorage.key(index);
-      if (!key.startsWith(PREFIX)) continue;
-      try {
-        const [place, file, tab] = JSON.parse(key.slice(PREFIX.length)), draft = JSON.parse(localStorage.getItem(key));
-        const isOther = tab !== server.tab && held.includes(server.lockOf(tab));
-        if (place === folder && file === name && !isOther && typeof draft.text === "string") drafts.push({ ...draft, tab });
-      } catch { /* Somebody else's entry. */ }
-    }
-    return drafts.sort((one, other) => other.at - one.at);
-  }
-
-  bbmlab.drafts = { keep, forget, forgetReplaced, setAside, found };
+/** Keeps a draft. Returns false if the browser has no room. */
+function keep(folder, name, text, digest) {
+  try {
+    localStorage.setItem(keyOf(folder, name, server.tab), JSON.stringify({ text, digest, at: Date.now() }));
+    return true;
+  } catch { return false; }
 }
+
+/** Forgets this tab's draft of a file. */
+function forget(folder, name, tab = server.tab) { localStorage.removeItem(keyOf(folder, name, tab)); }
+
+/**
+ * Puts this tab's draft of a file, from before the file was opened, under another name. It stays there until the user
+ * takes it or throws it away: the tab's next draft of the file does not replace it.
+ */
+function setAside(folder, name, saved) {
+  const key = keyOf(folder, name, server.tab), draft = localStorage.getItem(key);
+  if (draft === null) return;
+  localStorage.removeItem(key);
+  if (JSON.parse(draft).text !== saved) localStorage.setItem(keyOf(folder, name, crypto.randomUUID()), draft);
+}
+
+/**
+ * Forgets the drafts that began from the file with a digest, which was written over. Those of other open tabs stay, for
+ * them to ask about.
+ */
+async function forgetReplaced(folder, name, digest) {
+  for (const draft of await found(folder, name)) if (draft.digest === digest) forget(folder, name, draft.tab);
+}
+
+/** Returns the drafts of a file that no other open tab is working on, the newest first. */
+async function found(folder, name) {
+  const held = navigator.locks ? (await navigator.locks.query()).held.map((lock) => lock.name) : [];
+  const drafts = [];
+  for (let index = 0; index < localStorage.length; index += 1) {
+    const key = localStorage.key(index);
+    if (!key.startsWith(PREFIX)) continue;
+    try {
+      const [place, file, tab] = JSON.parse(key.slice(PREFIX.length)), draft = JSON.parse(localStorage.getItem(key));
+      const isOther = tab !== server.tab && held.includes(server.lockOf(tab));
+      if (place === folder && file === name && !isOther
+          && typeof draft.text === "string") drafts.push({ ...draft, tab });
+    } catch { /* Somebody else's entry. */ }
+  }
+  return drafts.sort((one, other) => other.at - one.at);
+}
+
+export { keep, forget, forgetReplaced, setAside, found };

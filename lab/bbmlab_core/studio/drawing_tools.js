@@ -1,289 +1,354 @@
 /**
- * The tools: what pressing, dragging and letting go at cells does, by mouse, finger or keyboard. It knows the model, and of the page only the
- * sketch, to which it gives what a tool would do. Adds `bbmlab.Tools`.
+ * The tools: what pressing, dragging and letting go at cells does, by mouse, finger or keyboard. It knows the model,
+ * and of the page only the sketch, to which it gives what a tool would do.
  */
-"use strict";
+import { counted } from "../view/stage.js";
+import * as geometry from "./geometry.js";
+import { cellParts, ModelRefusal } from "./model.js";
 
-{
-  const { geometry, cellParts, ModelRefusal } = bbmlab;
-  const CELL_KINDS = ["ball", "in", "out", "waste"];
-  const CLICK_MIRROR = [4, 2];
+const CELL_KINDS = ["ball", "in", "out", "waste"];
+const CLICK_MIRROR = [4, 2];
 
-  /** Returns the box of cells between two cells. */
-  const between = ([x, y], [u, v]) => [Math.min(x, u), Math.min(y, v), Math.abs(x - u) + 1, Math.abs(y - v) + 1];
+/** Returns the box of cells between two cells. */
+const between = ([x, y], [u, v]) => [Math.min(x, u), Math.min(y, v), Math.abs(x - u) + 1, Math.abs(y - v) + 1];
 
-  class Tools {
-    /** @param {bbmlab.Desk} desk @param {bbmlab.Sketch} sketch @param {(text: string, isBad?: boolean) => void} say */
-    constructor(desk, sketch, say) {
-      Object.assign(this, { desk, sketch, say, name: "mirror", wire: "a", isPair: true, cell: null, hasWires: true, askLarger: async () => false });
-      Object.assign(this, { selection: new Set(), clipboard: [], pressed: null, at: null });
-    }
+class Tools {
+  desk;
+  sketch;
+  say;
+  name = "mirror";
+  wire = "a";
+  isPair = true;
+  cell = null;
+  hasWires = true;
+  askLarger;
+  selection = new Set();
+  clipboard = [];
+  pressed = null;
+  at = null;
+  followed;
 
-    get model() { return this.desk.model; }
+  /** @param {Desk} desk @param {Sketch} sketch @param {(text: string, isBad?: boolean) => void} say */
+  constructor(desk, sketch, say) {
+    this.desk = desk;
+    this.sketch = sketch;
+    this.say = say;
+    this.askLarger = async () => false;
+  }
 
-    get steps() { return this.desk.layout.steps; }
+  get model() { return this.desk.model; }
 
-    /** Takes another tool. */
-    choose(name) {
-      this.cancel();
-      this.name = name;
-      if (name !== "select") this.select([]);
-      this.hover(this.at);
-    }
+  get steps() { return this.desk.layout.steps; }
 
-    /** Selects the parts of some lines. */
-    select(lines) {
-      this.selection = new Set(lines);
-      this.sketch.selected = this.model.partsAt(this.selection);
-      this.sketch.paintOver();
-      if (this.onSelect) this.onSelect();
-    }
+  /** Takes another tool. */
+  choose(name) {
+    this.cancel();
+    this.name = name;
+    if (name !== "select") this.select([]);
+    this.hover(this.at);
+  }
 
-    /** Keeps the selection on its parts after a change, since their lines may have moved. Another file begins without one. */
-    follow() {
-      const { model } = this, lines = model.movedLines(model === this.followed ? this.selection : []);
-      this.followed = model;
-      this.select(model.partsAt(lines).map(({ line }) => line));
-    }
+  /** Selects the parts of some lines. */
+  select(lines) {
+    this.selection = new Set(lines);
+    this.sketch.selected = this.model.partsAt(this.selection);
+    this.sketch.requestOver();
+    if (this.onSelect) this.onSelect();
+  }
 
-    /** Ends what was begun, without a change. */
-    cancel() {
-      this.pressed = null;
-      Object.assign(this.sketch, { ghost: null, frame2: null });
-      this.sketch.paintOver();
-    }
+  /**
+   * Keeps the selection on its parts after a change, since their lines may have moved. Another file begins without one.
+   */
+  follow() {
+    const { model } = this, lines = model.movedLines(model === this.followed ? this.selection : []);
+    this.followed = model;
+    this.select(model.partsAt(lines).map(({ line }) => line));
+  }
 
-    /** Does a command, and says why if it cannot be done. Returns whether it was done. */
-    attempt(action) {
-      try { action(); return true; } catch (error) {
-        if (!(error instanceof ModelRefusal)) throw error;
-        this.say(error.message, true);
-        return false;
-      }
-    }
+  /** Ends what was begun, without a change. */
+  cancel() {
+    this.pressed = null;
+    this.sketch.ghost = null;
+    this.sketch.frame2 = null;
+    this.sketch.requestOver();
+  }
 
-    // ---- what a tool would do
-
-    /** Returns the parts that a tool would put at a cell, or null. */
-    partsFor(cell) {
-      if (!CELL_KINDS.includes(this.name)) return null;
-      const isLate = this.name === "out" || this.name === "waste", name = this.name === "in" || this.name === "out" ? this.wire : null;
-      const cells = this.isPair ? geometry.pairCells(cell, isLate ? this.steps : 0) : [cell];
-      return cells.map(([x, y]) => ({ kind: this.name, name, box: [x, y, 1, 1], line: -1 }));
-    }
-
-    /** Returns the mirror for a box that was dragged: the nearest one that stays. A click makes one of 4 by 2 cells. */
-    mirrorFor(start, end) {
-      const { width, height } = this.desk.layout, isClick = start[0] === end[0] && start[1] === end[1];
-      const wanted = isClick ? [...start, ...CLICK_MIRROR] : between(start, end), box = geometry.snapMirror(wanted, width, height);
-      return { wanted, parts: box ? [{ kind: "mirror", name: null, box, line: -1 }] : [] };
-    }
-
-    /** Shows what a tool would do, and says why if it cannot. */
-    show(ghost) {
-      this.sketch.ghost = ghost;
-      this.sketch.paintOver();
-      if (ghost && ghost.reason) this.say(ghost.reason, true); else if (ghost && ghost.words) this.say(ghost.words); else this.say("");
-    }
-
-    /** Shows what pressing at a cell would do. */
-    hover(cell) {
-      this.at = cell;
-      if (this.pressed) return;
-      if (cell === null || !this.model.header) { this.show(null); return; }
-      if (this.name === "mirror") this.showMirror(cell, cell);
-      else if (this.name === "cell" && this.cell) this.showCell(cell);
-      else if (this.name === "paste") this.show(this.pasteAt(cell));
-      else {
-        const parts = this.partsFor(cell);
-        this.show(parts && { parts, reason: this.model.whyNot(parts), time: this.steps, words: this.wordsFor(parts) });
-      }
-    }
-
-    /** Says where a ball would fly. */
-    wordsFor(parts) {
-      const { kind, box: [x, y] } = parts[0], isLate = kind === "out" || kind === "waste", [dx, dy] = geometry.direction(x, y, isLate ? this.steps : 0);
-      return `${isLate ? "At the last time a ball here flies" : "This ball flies"} ${dx > 0 ? "right" : "left"} and ${dy > 0 ? "down" : "up"}.`;
-    }
-
-    /** Shows the mirror between two cells. */
-    showMirror(start, end) {
-      const { wanted, parts } = this.mirrorFor(start, end), why = geometry.fallReason(wanted);
-      const isClick = start[0] === end[0] && start[1] === end[1], box = parts.length ? parts[0].box : null;
-      const reason = box ? this.model.whyNot(parts) : "No mirror of this size stays here.";
-      const words = why && !isClick ? `The dashed mirror would fall apart, since ${why}. The nearest one that stays: ${box ? box.join(" ") : "none"}.` : `Mirror ${box ? box.join(" ") : ""}`;
-      this.show({ parts, reason, wanted: why && !isClick ? wanted : null, words });
-    }
-
-    /** Returns the even corner at which a standard cell is put so that a cell is near its middle. */
-    cornerFor([x, y], { layout }) {
-      const even = (value, most) => Math.max(0, Math.min(most - most % 2, value - (value % 2 + 2) % 2));
-      const { width, height } = this.desk.layout;
-      return [even(x - (layout.width >> 1), width - layout.width), even(y - (layout.height >> 1), height - layout.height)];
-    }
-
-    /** Shows the standard cell at a place, with its ports and their times. */
-    showCell(cell) {
-      const { layout, ports, name } = this.cell, [x, y] = this.cornerFor(cell, this.cell), steps = Math.max(layout.steps, this.steps);
-      const parts = cellParts(layout, x, y, this.hasWires ? (wire) => wire : null, steps);
-      const isFit = layout.width <= this.desk.layout.width && layout.height <= this.desk.layout.height;
-      const reason = isFit ? this.model.whyNot(parts) : `The cell ${name} takes ${layout.width} by ${layout.height} cells. Press to make the layout larger.`;
-      const shown = ports.map((port) => ({ ...port, cell: [port.cell[0] + x, port.cell[1] + y] }));
-      this.show({ parts, reason, ports: shown, words: `${name} ${this.cell.about}; ${layout.steps} steps.` });
-    }
-
-    /** Returns the ghost of the copied parts with their frame near a cell. */
-    pasteAt([x, y]) {
-      if (this.clipboard.length === 0) return null;
-      const [left, top] = geometry.evenFrame(this.clipboard.map(({ box }) => box)), [dx, dy] = [x - x % 2 - left, y - y % 2 - top];
-      const parts = geometry.moved(this.clipboard, dx, dy);
-      return { parts, reason: this.model.whyNot(parts), words: "Press to paste here." };
-    }
-
-    // ---- pressing and dragging
-
-    /** Begins at a cell. */
-    down(cell, isMore = false) {
-      if (!this.model.header || cell === null) return;
-      this.at = cell;
-      const begin = { select: () => this.grab(cell, isMore), erase: () => this.erase(cell), mirror: () => this.showMirror(cell, cell) }[this.name];
-      this.pressed = { start: cell, isMore, mode: this.name };
-      if (begin) begin();
-    }
-
-    /** Goes on to a cell. */
-    drag(cell) {
-      if (!this.pressed || cell === null) return;
-      const { start, mode } = this.pressed;
-      this.at = cell;
-      if (mode === "mirror") this.showMirror(start, cell);
-      else if (mode === "erase") this.erase(cell);
-      else if (mode === "move") this.showMove(cell);
-      else if (mode === "frame") { this.sketch.frame2 = between(start, cell); this.sketch.paintOver(); }
-    }
-
-    /** Ends at a cell. */
-    up(cell) {
-      if (!this.pressed) return;
-      const { start, mode, isMore, move } = this.pressed, end = cell || this.at;
-      this.pressed = null;
-      if (mode === "mirror") this.attempt(() => this.model.add(this.mirrorFor(start, end).parts, "mirror"));
-      else if (mode === "move") this.endMove(move);
-      else if (mode === "frame") this.endFrame(between(start, end), isMore);
-      else if (mode === "cell") this.placeCell(end);
-      else if (mode === "paste") this.placeCopies(end);
-      else if (CELL_KINDS.includes(mode)) this.attempt(() => this.model.addCells(this.partsFor(end)));
-      Object.assign(this.sketch, { ghost: null, frame2: null });
-      this.sketch.paintOver();
-    }
-
-    /** Puts the standard cell at a place. If it is larger than the layout, asks first whether to make the layout larger. */
-    async placeCell(cell) {
-      if (!this.cell) return;
-      const { layout, circuit, name } = this.cell, { width, height, steps } = this.desk.layout;
-      const size = [Math.max(width, layout.width), Math.max(height, layout.height)];
-      if (size[0] > width || size[1] > height) {
-        const isLarger = await this.askLarger(`The cell ${name} takes ${layout.width} by ${layout.height} cells, and the layout has ${width} by ${height}.`, size);
-        if (!isLarger || !this.attempt(() => this.model.resize(...size, steps))) return;
-      }
-      this.attempt(() => this.model.insertCell({ layout, circuit }, ...this.cornerFor(cell, this.cell), this.hasWires));
-    }
-
-    /** Puts the copied parts at a place, and selects them. */
-    placeCopies(cell) {
-      const ghost = this.pasteAt(cell);
-      if (!ghost) return;
-      let lines = [];
-      if (!this.attempt(() => { lines = this.model.add(ghost.parts, "paste"); })) return;
-      this.choose("select");
-      this.select(lines);
-      if (this.onTool) this.onTool();
-    }
-
-    /** Removes what is at a cell. */
-    erase(cell) {
-      const found = this.model.partsOn(...cell);
-      if (found.length) this.model.remove([found[0].line]);
-    }
-
-    /** Selects what is at a cell and begins to move it, or begins a frame. */
-    grab(cell, isMore) {
-      const found = this.model.partsOn(...cell), chosen = found.find(({ line }) => this.selection.has(line)) || found[0];
-      if (!chosen) { this.pressed.mode = "frame"; if (!isMore) this.select([]); return; }
-      this.pressed.mode = "move";
-      if (isMore && this.selection.has(chosen.line)) this.select([...this.selection].filter((line) => line !== chosen.line));
-      else if (isMore) this.select([...this.selection, chosen.line]);
-      else if (!this.selection.has(chosen.line)) this.select([chosen.line]);
-    }
-
-    /** Shows the selection where it would be moved, and why it snapped to another place. */
-    showMove([x, y]) {
-      const { start: [u, v] } = this.pressed, parts = this.model.partsAt(this.selection), [dx, dy] = geometry.snapMove(parts, x - u, y - v);
-      const moved = geometry.moved(parts, dx, dy), isSnapped = dx !== x - u || dy !== y - v;
-      const [wanted] = geometry.moved(parts, x - u, y - v), why = isSnapped && parts.length === 1 ? geometry.fallReason(wanted.box) : null;
-      this.pressed.move = [dx, dy];
-      const words = why ? `Moved by (${x - u}, ${y - v}) the mirror would fall apart, since ${why}. It moves by (${dx}, ${dy}).`
-        : `Moved by (${dx}, ${dy}).${isSnapped ? " Several parts move by whole blocks." : ""}`;
-      this.show({ parts: moved, reason: this.model.whyNot(moved, this.selection), time: this.steps, words, wanted: why ? wanted.box : null });
-    }
-
-    /** Moves the selection as it was shown last. */
-    endMove(move) { if (move && (move[0] || move[1])) this.nudge(...move); }
-
-    /** Selects the parts that lie in a frame. */
-    endFrame([x, y, w, h], isMore) {
-      const inside = this.model.parts.filter(({ box: [u, v, wide, high] }) => u >= x && v >= y && u + wide <= x + w && v + high <= y + h);
-      this.select([...(isMore ? this.selection : []), ...inside.map(({ line }) => line)]);
-    }
-
-    // ---- the selection
-
-    /** Moves the selection by some cells. */
-    nudge(dx, dy) {
-      let lines = [...this.selection];
-      if (lines.length === 0) return;
-      if (this.attempt(() => { lines = this.model.move(lines, dx, dy); })) this.select(lines);
-    }
-
-    /** Moves the selection one place on in a direction: by the least move that keeps its behaviour. */
-    nudgeOne(dx, dy) {
-      const parts = this.model.partsAt(this.selection), far = parts.length === 1 && parts[0].kind !== "mirror" ? 1 : 2;
-      this.nudge(dx * far, dy * far);
-    }
-
-    /** Rotates or reflects the selection. */
-    turn(how) {
-      let lines = [...this.selection];
-      if (lines.length && this.attempt(() => { lines = this.model.turn(lines, how); })) this.select(lines);
-    }
-
-    copy() {
-      if (this.selection.size === 0) { this.say("Nothing is selected.", true); return; }
-      this.clipboard = this.model.partsAt(this.selection).map((part) => ({ ...part, line: -1 }));
-      this.say(`Copied ${bbmlab.counted(this.clipboard.length, "part", "parts")}.`);
-    }
-
-    /** Begins to paste. */
-    paste() {
-      if (this.clipboard.length === 0) { this.say("Nothing was copied.", true); return; }
-      this.choose("paste");
-      if (this.onTool) this.onTool();
-    }
-
-    /** Removes the selection. */
-    remove() {
-      if (this.selection.size === 0) return;
-      this.model.remove(this.selection);
-      this.select([]);
-    }
-
-    /** Puts outputs and waste where the balls end, in the place of those that are there. */
-    async placeEnds() {
-      const parts = await this.desk.endParts();
-      if (!parts) { this.say("This needs ways under all inputs, at most five inputs, and a circuit that can be read.", true); return; }
-      this.attempt(() => this.model.replaceEnds(parts));
+  /** Does a command, and says why if it cannot be done. Returns whether it was done. */
+  attempt(action) {
+    try {
+      action();
+      return true;
+    } catch (error) {
+      if (!(error instanceof ModelRefusal)) throw error;
+      this.say(error.message, true);
+      return false;
     }
   }
 
-  bbmlab.Tools = Tools;
+  // ---- what a tool would do
+
+  /** Returns the parts that a tool would put at a cell, or null. */
+  partsFor(cell) {
+    if (!CELL_KINDS.includes(this.name)) return null;
+    const isLate = this.name === "out" || this.name === "waste";
+    const name = this.name === "in" || this.name === "out" ? this.wire : null;
+    const cells = this.isPair ? geometry.pairCells(cell, isLate ? this.steps : 0) : [cell];
+    return cells.map(([x, y]) => ({ kind: this.name, name, box: [x, y, 1, 1], line: -1 }));
+  }
+
+  /** Returns the mirror for a box that was dragged: the nearest one that stays. A click makes one of 4 by 2 cells. */
+  mirrorFor(start, end) {
+    const { width, height } = this.desk.layout, isClick = start[0] === end[0] && start[1] === end[1];
+    const wanted = isClick ? [...start, ...CLICK_MIRROR] : between(start, end);
+    const box = geometry.snapMirror(wanted, width, height);
+    return { wanted, parts: box ? [{ kind: "mirror", name: null, box, line: -1 }] : [] };
+  }
+
+  /** Shows what a tool would do, and says why if it cannot. */
+  show(ghost) {
+    this.sketch.ghost = ghost;
+    this.sketch.requestOver();
+    if (ghost && ghost.reason) this.say(ghost.reason, true);
+    else if (ghost && ghost.words) this.say(ghost.words);
+    else this.say("");
+  }
+
+  /** Shows what pressing at a cell would do. */
+  hover(cell) {
+    this.at = cell;
+    if (this.pressed) return;
+    if (cell === null || !this.model.header) {
+      this.show(null);
+      return;
+    }
+    if (this.name === "mirror") this.showMirror(cell, cell);
+    else if (this.name === "cell" && this.cell) this.showCell(cell);
+    else if (this.name === "paste") this.show(this.pasteAt(cell));
+    else {
+      const parts = this.partsFor(cell);
+      this.show(parts && { parts, reason: this.model.whyNot(parts), time: this.steps, words: this.wordsFor(parts) });
+    }
+  }
+
+  /** Says where a ball would fly. */
+  wordsFor(parts) {
+    const { kind, box: [x, y] } = parts[0], isLate = kind === "out" || kind === "waste";
+    const [dx, dy] = geometry.direction(x, y, isLate ? this.steps : 0);
+    const ball = isLate ? "At the last time a ball here flies" : "This ball flies";
+    return `${ball} ${dx > 0 ? "right" : "left"} and ${dy > 0 ? "down" : "up"}.`;
+  }
+
+  /** Shows the mirror between two cells. */
+  showMirror(start, end) {
+    const { wanted, parts } = this.mirrorFor(start, end), why = geometry.fallReason(wanted);
+    const isClick = start[0] === end[0] && start[1] === end[1], box = parts.length ? parts[0].box : null;
+    const reason = box ? this.model.whyNot(parts) : "No mirror of this size stays here.";
+    const words = why && !isClick
+      ? `The dashed mirror would fall apart, since ${why}. The nearest one that stays: ${box ? box.join(" ") : "none"}.`
+      : `Mirror ${box ? box.join(" ") : ""}`;
+    this.show({ parts, reason, wanted: why && !isClick ? wanted : null, words });
+  }
+
+  /** Returns the even corner at which a standard cell is put so that a cell is near its middle. */
+  cornerFor([x, y], { layout }) {
+    const even = (value, most) => Math.max(0, Math.min(most - most % 2, value - (value % 2 + 2) % 2));
+    const { width, height } = this.desk.layout;
+    return [even(x - (layout.width >> 1), width - layout.width),
+      even(y - (layout.height >> 1), height - layout.height)];
+  }
+
+  /** Shows the standard cell at a place, with its ports and their times. */
+  showCell(cell) {
+    const { layout, ports, name } = this.cell, [x, y] = this.cornerFor(cell, this.cell);
+    const steps = Math.max(layout.steps, this.steps);
+    const parts = cellParts(layout, x, y, this.hasWires ? (wire) => wire : null, steps);
+    const isFit = layout.width <= this.desk.layout.width && layout.height <= this.desk.layout.height;
+    const reason = isFit ? this.model.whyNot(parts)
+      : `The cell ${name} takes ${layout.width} by ${layout.height} cells. Press to make the layout larger.`;
+    const shown = ports.map((port) => ({ ...port, cell: [port.cell[0] + x, port.cell[1] + y] }));
+    this.show({ parts, reason, ports: shown, words: `${name} ${this.cell.about}; ${layout.steps} steps.` });
+  }
+
+  /** Returns the ghost of the copied parts with their frame near a cell. */
+  pasteAt([x, y]) {
+    if (this.clipboard.length === 0) return null;
+    const [left, top] = geometry.evenFrame(this.clipboard.map(({ box }) => box));
+    const [dx, dy] = [x - x % 2 - left, y - y % 2 - top];
+    const parts = geometry.shifted(this.clipboard, dx, dy);
+    return { parts, reason: this.model.whyNot(parts), words: "Press to paste here." };
+  }
+
+  // ---- pressing and dragging
+
+  /** Begins at a cell. */
+  down(cell, isMore = false) {
+    if (!this.model.header || cell === null) return;
+    this.at = cell;
+    const begin = { select: () => this.grab(cell, isMore), erase: () => this.erase(cell),
+      mirror: () => this.showMirror(cell, cell) }[this.name];
+    this.pressed = { start: cell, isMore, mode: this.name };
+    if (begin) begin();
+  }
+
+  /** Goes on to a cell. */
+  drag(cell) {
+    if (!this.pressed || cell === null) return;
+    const { start, mode } = this.pressed;
+    this.at = cell;
+    if (mode === "mirror") this.showMirror(start, cell);
+    else if (mode === "erase") this.erase(cell);
+    else if (mode === "move") this.showMove(cell);
+    else if (mode === "frame") {
+      this.sketch.frame2 = between(start, cell);
+      this.sketch.requestOver();
+    }
+  }
+
+  /** Ends at a cell. */
+  up(cell) {
+    if (!this.pressed) return;
+    const { start, mode, isMore, move } = this.pressed, end = cell || this.at;
+    this.pressed = null;
+    if (mode === "mirror") this.attempt(() => this.model.add(this.mirrorFor(start, end).parts, "mirror"));
+    else if (mode === "move") this.endMove(move);
+    else if (mode === "frame") this.endFrame(between(start, end), isMore);
+    else if (mode === "cell") this.placeCell(end);
+    else if (mode === "paste") this.placeCopies(end);
+    else if (CELL_KINDS.includes(mode)) this.attempt(() => this.model.addCells(this.partsFor(end)));
+    this.sketch.ghost = null;
+    this.sketch.frame2 = null;
+    this.sketch.requestOver();
+  }
+
+  /**
+   * Puts the standard cell at a place. If it is larger than the layout, asks first whether to make the layout larger.
+   */
+  async placeCell(cell) {
+    if (!this.cell) return;
+    const { layout, circuit, name } = this.cell, { width, height, steps } = this.desk.layout;
+    const size = [Math.max(width, layout.width), Math.max(height, layout.height)];
+    if (size[0] > width || size[1] > height) {
+      const isLarger = await this.askLarger(
+        `The cell ${name} takes ${layout.width} by ${layout.height} cells, and the layout has ${width} by ${height}.`,
+        size);
+      if (!isLarger || !this.attempt(() => this.model.resize(...size, steps))) return;
+    }
+    this.attempt(() => this.model.insertCell({ layout, circuit }, ...this.cornerFor(cell, this.cell), this.hasWires));
+  }
+
+  /** Puts the copied parts at a place, and selects them. */
+  placeCopies(cell) {
+    const ghost = this.pasteAt(cell);
+    if (!ghost) return;
+    let lines = [];
+    if (!this.attempt(() => { lines = this.model.add(ghost.parts, "paste"); })) return;
+    this.choose("select");
+    this.select(lines);
+    if (this.onTool) this.onTool();
+  }
+
+  /** Removes what is at a cell. */
+  erase(cell) {
+    const found = this.model.partsOn(...cell);
+    if (found.length) this.model.remove([found[0].line]);
+  }
+
+  /** Selects what is at a cell and begins to move it, or begins a frame. */
+  grab(cell, isMore) {
+    const found = this.model.partsOn(...cell), chosen = found.find(({ line }) => this.selection.has(line)) || found[0];
+    if (!chosen) {
+      this.pressed.mode = "frame";
+      if (!isMore) this.select([]);
+      return;
+    }
+    this.pressed.mode = "move";
+    if (isMore && this.selection.has(chosen.line))
+        this.select([...this.selection].filter((line) => line !== chosen.line));
+    else if (isMore) this.select([...this.selection, chosen.line]);
+    else if (!this.selection.has(chosen.line)) this.select([chosen.line]);
+  }
+
+  /** Shows the selection where it would be moved, and why it snapped to another place. */
+  showMove([x, y]) {
+    const { start: [u, v] } = this.pressed, parts = this.model.partsAt(this.selection);
+    const [dx, dy] = geometry.snapMove(parts, x - u, y - v);
+    const moved = geometry.shifted(parts, dx, dy), isSnapped = dx !== x - u || dy !== y - v;
+    const [wanted] = geometry.shifted(parts, x - u, y - v);
+    const why = isSnapped && parts.length === 1 ? geometry.fallReason(wanted.box) : null;
+    this.pressed.move = [dx, dy];
+    const words = why
+      ? `Moved by (${x - u}, ${y - v}) the mirror would fall apart, since ${why}. It moves by (${dx}, ${dy}).`
+      : `Moved by (${dx}, ${dy}).${isSnapped ? " Several parts move by whole blocks." : ""}`;
+    this.show({ parts: moved, reason: this.model.whyNot(moved, this.selection), time: this.steps, words,
+      wanted: why ? wanted.box : null });
+  }
+
+  /** Moves the selection as it was shown last. */
+  endMove(move) { if (move && (move[0] || move[1])) this.nudge(...move); }
+
+  /** Selects the parts that lie in a frame. */
+  endFrame([x, y, w, h], isMore) {
+    const inside = this.model.parts.filter(({ box: [u, v, wide, high] }) =>
+      u >= x && v >= y && u + wide <= x + w && v + high <= y + h);
+    this.select([...(isMore ? this.selection : []), ...inside.map(({ line }) => line)]);
+  }
+
+  // ---- the selection
+
+  /** Moves the selection by some cells. */
+  nudge(dx, dy) {
+    let lines = [...this.selection];
+    if (lines.length === 0) return;
+    if (this.attempt(() => { lines = this.model.move(lines, dx, dy); })) this.select(lines);
+  }
+
+  /** Moves the selection one place on in a direction: by the least move that keeps its behaviour. */
+  nudgeOne(dx, dy) {
+    const parts = this.model.partsAt(this.selection), far = parts.length === 1 && parts[0].kind !== "mirror" ? 1 : 2;
+    this.nudge(dx * far, dy * far);
+  }
+
+  /** Rotates or reflects the selection. */
+  turn(how) {
+    let lines = [...this.selection];
+    if (lines.length && this.attempt(() => { lines = this.model.turn(lines, how); })) this.select(lines);
+  }
+
+  copy() {
+    if (this.selection.size === 0) {
+      this.say("Nothing is selected.", true);
+      return;
+    }
+    this.clipboard = this.model.partsAt(this.selection).map((part) => ({ ...part, line: -1 }));
+    this.say(`Copied ${counted(this.clipboard.length, "part", "parts")}.`);
+  }
+
+  /** Begins to paste. */
+  paste() {
+    if (this.clipboard.length === 0) {
+      this.say("Nothing was copied.", true);
+      return;
+    }
+    this.choose("paste");
+    if (this.onTool) this.onTool();
+  }
+
+  /** Removes the selection. */
+  remove() {
+    if (this.selection.size === 0) return;
+    this.model.remove(this.selection);
+    this.select([]);
+  }
+
+  /** Puts outputs and waste where the balls end, in the place of those that are there. */
+  async placeEnds() {
+    const parts = await this.desk.endParts();
+    if (!parts) {
+      this.say("This needs ways under all inputs, at most five inputs, and a circuit that can be read.", true);
+      return;
+    }
+    this.attempt(() => this.model.replaceEnds(parts));
+  }
 }
+
+export { Tools };

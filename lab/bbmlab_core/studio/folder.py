@@ -7,12 +7,12 @@ import stat
 import threading
 from pathlib import Path
 
-from ..replacing import ChangedFileError, replace_file
+from ..host.replacing import ChangedFileError, replace_file
 
 # A name of a file of the folder: no path, no hidden file, no control character.
 FILE_NAME = re.compile(r"[^./\\\x00-\x1f\x7f][^/\\\x00-\x1f\x7f]{0,200}\.txt\Z")
-# A page takes some 30 bytes of memory for each byte of a text, whose lines it keeps for undo, and sends the whole text after each edit. Texts may be
-# eight times as long by their limits (docs/FORMATS.md).
+# A page takes some 30 bytes of memory for each byte of a text, whose lines it keeps for undo, and sends the whole text
+# after each edit. Texts may be eight times as long by their limits (docs/FORMATS.md).
 MAX_FILE_BYTES = 32 << 20
 
 
@@ -57,7 +57,8 @@ class Folder:
     def names(self) -> list[str]:
         """Returns the `.txt` files of the folder that can be opened, and the opened file if it exists."""
         try:
-            found = {entry.name for entry in os.scandir(self.place) if FILE_NAME.match(entry.name) and entry.is_file(follow_symlinks=False)}
+            found = {entry.name for entry in os.scandir(self.place) if FILE_NAME.match(entry.name)
+                     and entry.is_file(follow_symlinks=False)}
         except OSError as error:
             raise FolderError(f"{self.place}: {error.strerror or error}") from error
         return sorted(found | ({self.name} if (self.place / self.name).is_file() else set()))
@@ -88,12 +89,14 @@ class Folder:
         except OSError as error:
             raise FolderError(f"{name}: {error.strerror or error}") from error
         if len(data) > MAX_FILE_BYTES:
-            raise FolderError(f"{name} is larger than {MAX_FILE_BYTES >> 20} MiB, which is the most that the studio takes: the page keeps all of a text, and sends it "
+            raise FolderError(f"{name} is larger than {MAX_FILE_BYTES >> 20} MiB, which is the most that the studio "
+                              "takes: the page keeps all of a text, and sends it "
                               "after each edit. `bbmlab view`, `draw` and `explain` take larger ones")
         return data
 
     def write(self, name: str, data: bytes, known: str | None, is_forced: bool) -> str:
-        """Writes a file through one beside it, and returns its digest. `known` is the digest of the file as the page has read it.
+        """Writes a file through one beside it, and returns its digest. `known` is the digest of the file as the page
+        has read it.
 
         Raises ChangedError if the file is another one now, unless the user has said that it may be replaced.
         """
@@ -102,7 +105,9 @@ class Folder:
             old = self.read(name)
             now = None if old is None else digest_of(old)
             if now != known and now != digest_of(data) and not is_forced:
-                raise ChangedError(f"{name} {'is missing now' if now is None else 'changed meanwhile' if known else 'exists already'}", now)
+                raise ChangedError(
+                    f"{name} {'is missing now' if now is None else 'changed meanwhile' if known else 'exists already'}",
+                    now)
             try:
                 replace_file(str(path), data, None if is_forced else old, follows=False)
             except ChangedFileError as error:

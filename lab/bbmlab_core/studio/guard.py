@@ -1,7 +1,7 @@
 """Which requests the studio answers: those of its own page, with the key, and not too long.
 
-The page gets the key for a token that counts once, and keeps it where only pages of this address find it. Neither stands in the arguments of a
-process, which all users of a machine can list, and no request's address contains it.
+The page gets the key for a token that counts once, and keeps it where only pages of this address find it. Neither
+stands in the arguments of a process, which all users of a machine can list, and no request's address contains it.
 """
 
 import hmac
@@ -42,10 +42,14 @@ class Guard:
         return f"http://{self.host}/#{self.token}"
 
     def key_for(self, token: str) -> str:
-        """Returns the key for the token, which then no longer counts: another one is next. Raises Denied for any other word."""
+        """Returns the key for the token, which then no longer counts: another one is next.
+
+        Raises Denied for any other word.
+        """
         with self.lock:
             if not is_same(token, self.token):
-                raise Denied(403, "this address was used already, or it is of another studio: `bbmlab studio` prints the next one")
+                raise Denied(403, "this address was used already, or it is of another studio: `bbmlab studio` prints "
+                             "the next one")
             self.token = secrets.token_urlsafe(24)
         return self.key
 
@@ -65,7 +69,8 @@ class Guard:
         origins: list[str] = headers.get_all("Origin", [])
         if origins != [f"http://{self.host}"] and (origins or is_post):
             raise Denied(403, "the request comes from another page")
-        is_shown = is_first and (headers.get("Sec-Fetch-Mode"), headers.get("Sec-Fetch-Dest")) == ("navigate", "document")
+        is_shown = is_first and (headers.get("Sec-Fetch-Mode"),
+                                 headers.get("Sec-Fetch-Dest")) == ("navigate", "document")
         if headers.get("Sec-Fetch-Site", "same-origin") not in ("same-origin", "none") and not is_shown:
             raise Denied(403, "the request comes from another page")
         if is_post and headers.get("Content-Type", "").split(";")[0].strip() != "application/json":
@@ -77,5 +82,6 @@ class Guard:
         if headers.get("Transfer-Encoding") or not (word.isascii() and word.isdecimal() and len(word) <= 18):
             raise Denied(411, "the request does not say how long it is")
         if int(word) > most:
-            raise Denied(413, f"the request is over {MAX_REQUEST_BYTES >> 20} MiB" if most == MAX_REQUEST_BYTES else "this is no token")
+            raise Denied(413, f"the request is over {MAX_REQUEST_BYTES >> 20} MiB" if most == MAX_REQUEST_BYTES
+                         else "this is no token")
         return int(word)

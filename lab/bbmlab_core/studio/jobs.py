@@ -1,4 +1,5 @@
-"""Runs jobs in a process of their own, one at a time, and ends those that take too long or that a newer job replaces."""
+"""Runs jobs in a process of their own, one at a time, and ends those that take too long or that a newer job replaces.
+"""
 
 import json
 import os
@@ -11,23 +12,27 @@ import time
 from pathlib import Path
 from typing import Any
 
-from ..program import Executable, opened
+from ..host.program import Executable, opened
 
 PACKAGE_PARENT = Path(__file__).resolve().parents[2]
 # How many seconds more than the program's limit a job may take, and how many a process may take to end.
 MORE_SECONDS, END_SECONDS = 10.0, 2.0
 
 
-class Worker:
+class JobWorker:
     """A process that answers jobs."""
 
     def __init__(self, program: Executable | str, seconds: float, memory: int) -> None:
         self.program = program = opened(program)
         # Compiled modules are kept where this process keeps its own.
-        compiled = ["-X", f"pycache_prefix={sys.pycache_prefix}"] if sys.pycache_prefix and not sys.dont_write_bytecode else ["-B"]
-        words = [sys.executable, *compiled, "-m", "bbmlab_core.studio.worker", program.path, str(program.descriptor), program.sha256, str(seconds), str(memory)]
+        compiled = ["-X",
+                    f"pycache_prefix={sys.pycache_prefix}"] if sys.pycache_prefix and not sys.dont_write_bytecode else [
+                        "-B"]
+        words = [sys.executable, *compiled, "-m", "bbmlab_core.studio.worker", program.path, str(program.descriptor),
+                 program.sha256, str(seconds), str(memory)]
         path = os.pathsep.join([str(PACKAGE_PARENT), *filter(None, [os.environ.get("PYTHONPATH")])])
-        self.process = subprocess.Popen(words, stdin=subprocess.PIPE, stdout=subprocess.PIPE, start_new_session=True, pass_fds=[program.descriptor],
+        self.process = subprocess.Popen(words, stdin=subprocess.PIPE, stdout=subprocess.PIPE, start_new_session=True,
+                                        pass_fds=[program.descriptor],
                                         env={**os.environ, "PYTHONPATH": path})
         self.is_ended = False
         # Whether the time for an answer was over.
@@ -69,11 +74,15 @@ class Worker:
         except subprocess.TimeoutExpired:
             return "the lab's process closed its output"
         if status < 0:
-            return f"the lab's process was ended by {signal.Signals(-status).name if -status in set(signal.Signals) else f'signal {-status}'}"
+            return ("the lab's process was ended by "
+                    f"{signal.Signals(-status).name if -status in set(signal.Signals) else f'signal {-status}'}")
         return f"the lab's process ended with status {status}, and standard error of `bbmlab studio` may say why"
 
     def release(self) -> None:
-        """Closes the pipes. Only the thread that waits for an answer may do so: another one could be given the number of a closed pipe."""
+        """Closes the pipes.
+
+        Only the thread that waits for an answer may do so: another one could be given the number of a closed pipe.
+        """
         for stream in (self.process.stdin, self.process.stdout):
             if stream:
                 try:
@@ -90,7 +99,7 @@ class Jobs:
         self.turn, self.lock = threading.Lock(), threading.Lock()
         self.newest: dict[str, int] = {}
         self.count = 0
-        self.worker: Worker | None = None
+        self.worker: JobWorker | None = None
         # The tab whose job runs now.
         self.running: str | None = None
         self.is_closed = False
@@ -123,11 +132,11 @@ class Jobs:
             if self.worker is None and not self.is_closed:
                 self.worker = self.started()
 
-    def started(self) -> Worker:
+    def started(self) -> JobWorker:
         """Returns a new process."""
-        return Worker(self.program, self.seconds, self.memory)
+        return JobWorker(self.program, self.seconds, self.memory)
 
-    def ended(self, worker: Worker, tab: str, ticket: int) -> dict[str, Any]:
+    def ended(self, worker: JobWorker, tab: str, ticket: int) -> dict[str, Any]:
         """Ends a process that gave no answer, and says why there is none."""
         was_replaced = worker.is_ended or self.newest[tab] != ticket
         ended = "" if was_replaced or worker.is_late else worker.how_ended()
@@ -135,7 +144,8 @@ class Jobs:
         worker.release()
         if was_replaced:
             return {"replaced": True}
-        return {"error": f"There is no answer: the time limit of {self.seconds:g} seconds was reached." if worker.is_late else f"There is no answer: {ended}."}
+        return {"error": f"There is no answer: the time limit of {self.seconds:g} seconds was reached."
+                if worker.is_late else f"There is no answer: {ended}."}
 
     def close(self) -> None:
         """Ends the process. No job runs later."""

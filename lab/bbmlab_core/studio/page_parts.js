@@ -1,62 +1,75 @@
-/** Small helpers for elements of the page and its dialog. Texts are set as text, never as HTML. Adds `bbmlab.parts`. */
-"use strict";
+/** Small helpers for elements of the page and its dialog. Texts are set as text, never as HTML. */
 
-{
-  const element = (id) => document.getElementById(id);
+const element = (id) => document.getElementById(id);
 
-  /** Returns a new element with a text. */
-  function made(tag, text = "", className = "") {
-    const found = document.createElement(tag);
-    found.textContent = text;
-    found.className = className;
-    return found;
-  }
-
-  /** Returns a new button. */
-  function button(text, action, className = "") {
-    const found = made("button", text, className);
-    found.type = "button";
-    found.addEventListener("click", action);
-    return found;
-  }
-
-  /** Appends a text in which words between backticks are code. */
-  function appendWords(parent, text) {
-    text.split("`").forEach((part, index) => parent.append(index % 2 ? made("code", part) : part));
-    return parent;
-  }
-
-  /** Calls an action when calls have stopped for some milliseconds. */
-  function delayed(milliseconds, action) {
-    let timer = 0;
-    return () => { clearTimeout(timer); timer = setTimeout(action, milliseconds); };
-  }
-
-  // Resolves the question in the dialog to null.
-  let cancelAsked = () => {};
-
-  /** Asks something in the dialog, and resolves to the value of the button that is pressed, or to null. @returns {Promise<any>} */
-  function ask(title, body, choices) {
-    const dialog = element("dialog");
-    if (dialog.open) { dialog.close(); cancelAsked(); }
-    element("dialog-title").textContent = title;
-    element("dialog-body").replaceChildren(...body);
-    return new Promise((resolve) => {
-      const end = (value) => { dialog.onclose = null; dialog.close(); resolve(value); };
-      cancelAsked = () => resolve(null);
-      // The event of a dialog that was open before comes late: this one is open then.
-      dialog.onclose = () => { if (!dialog.open) resolve(null); };
-      element("dialog-buttons").replaceChildren(...choices.map(([text, value]) => button(text, () => end(value()))));
-      dialog.showModal();
-    });
-  }
-
-  /** Shows a text above the page, with buttons, or nothing. */
-  function notice(text, choices = []) {
-    const box = element("notice");
-    box.hidden = text === "";
-    box.replaceChildren(text, ...choices.map(([words, action]) => button(words, () => { box.hidden = true; action(); })));
-  }
-
-  bbmlab.parts = { element, made, button, appendWords, delayed, ask, notice };
+/** Returns a new element with a text. */
+function made(tag, text = "", className = "") {
+  const found = document.createElement(tag);
+  found.textContent = text;
+  found.className = className;
+  return found;
 }
+
+/** Returns a new button. */
+function button(text, action, className = "") {
+  const found = made("button", text, className);
+  found.type = "button";
+  found.addEventListener("click", action);
+  return found;
+}
+
+/** Appends a text in which words between backticks are code. */
+function appendWords(parent, text) {
+  text.split("`").forEach((part, index) => parent.append(index % 2 ? made("code", part) : part));
+  return parent;
+}
+
+/** Calls an action when calls have stopped for some milliseconds. */
+function delayed(milliseconds, action) {
+  let timer = 0;
+  return () => {
+    clearTimeout(timer);
+    timer = setTimeout(action, milliseconds);
+  };
+}
+
+// Resolves the question in the dialog to null.
+let cancelAsked = () => {};
+
+/**
+ * Asks something in the dialog, and resolves to the value of the button that is pressed, or to null.
+ * @returns {Promise<any>}
+ */
+function ask(title, body, choices) {
+  const dialog = element("dialog");
+  if (dialog.open) {
+    dialog.close();
+    cancelAsked();
+  }
+  element("dialog-title").textContent = title;
+  element("dialog-body").replaceChildren(...body);
+  return new Promise((resolve) => {
+    const end = (value) => {
+      dialog.onclose = null;
+      dialog.close();
+      resolve(value);
+    };
+    cancelAsked = () => resolve(null);
+    // The event of a dialog that was open before comes late: this one is open then.
+    dialog.onclose = () => { if (!dialog.open) resolve(null); };
+    element("dialog-buttons").replaceChildren(...choices.map(([text, value]) => button(text, () => end(value()))));
+    dialog.showModal();
+  });
+}
+
+/** Shows a text above the page, with buttons, or nothing. */
+function notice(text, choices = []) {
+  const box = element("notice");
+  box.hidden = text === "";
+  box.replaceChildren(text, ...choices.map(([words, action]) => button(words, () => {
+    box.hidden = true;
+    action();
+  })));
+}
+
+export { element, made, button, appendWords, delayed, ask, notice };

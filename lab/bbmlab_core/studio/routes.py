@@ -1,4 +1,6 @@
-"""Routes for the studio: each is a `bbmlab route` of its own process, which goes on while the page is used, and can be ended at any time."""
+"""Routes for the studio: each is a `bbmlab route` of its own process, which goes on while the page is used, and can be
+ended at any time.
+"""
 
 import os
 import resource
@@ -12,14 +14,15 @@ from dataclasses import dataclass, field
 from pathlib import Path
 from typing import Any
 
-from ..terminal import LabError
+from ..host.terminal import LabError
 from .folder import bytes_of, text_of
 
 # The package, which the process imports.
 PACKAGE_PARENT = Path(__file__).resolve().parent.parent.parent
 RUN = "import sys; from bbmlab_core.cli import main; sys.exit(main())"
 MAX_SECONDS, MAX_SEED = 3600, 2 ** 31
-# A page that asks no longer is gone: its search is ended after so many seconds. An ended search gets a moment to stop the program that it runs.
+# A page that asks no longer is gone: its search is ended after so many seconds. An ended search gets a moment to stop
+# the program that it runs.
 SILENCE, END_SECONDS = 60.0, 5.0
 # How long an answer waits for the end of a search: the page asks again then.
 WAIT_SECONDS = 0.5
@@ -65,7 +68,8 @@ class Routes:
         self.is_closed = False
 
     def begin(self, tab: str, text: str, seconds: float, seed: int) -> dict[str, Any]:
-        """Begins a search for the circuit of a text. Raises LabError if another one runs, or a number is not allowed."""
+        """Begins a search for the circuit of a text. Raises LabError if another one runs, or a number is not allowed.
+        """
         if not 1 <= seconds <= MAX_SECONDS or not 0 <= seed < MAX_SEED:
             raise LabError(f"A search takes 1 to {MAX_SECONDS} seconds, and its seed is from 0 to {MAX_SEED - 1}.")
         with self.lock:
@@ -80,11 +84,13 @@ class Routes:
         """Returns a new search."""
         room = tempfile.TemporaryDirectory(prefix="bbmlab-route-")
         Path(room.name, "circuit.txt").write_bytes(text)
-        words = [sys.executable, "-B", "-c", RUN, "route", "circuit.txt", "-o", "bundle.txt", "--seed", str(seed), "--effort", f"{seconds:g}",
+        words = [sys.executable, "-B", "-c", RUN, "route", "circuit.txt", "-o", "bundle.txt", "--seed", str(seed),
+                 "--effort", f"{seconds:g}",
                  "--program", self.program]
         path = os.pathsep.join([str(PACKAGE_PARENT), *filter(None, [os.environ.get("PYTHONPATH")])])
         with open(Path(room.name, "said"), "wb") as said:
-            process = subprocess.Popen(words, cwd=room.name, stdin=subprocess.DEVNULL, stdout=said, stderr=said, start_new_session=True,
+            process = subprocess.Popen(words, cwd=room.name, stdin=subprocess.DEVNULL, stdout=said, stderr=said,
+                                       start_new_session=True,
                                        env={**os.environ, "PYTHONPATH": path, "NO_COLOR": "1"})
         limit = self.memory * 2 ** 20
         try:
@@ -95,7 +101,10 @@ class Routes:
         return Route(process, room, seconds)
 
     def state(self, tab: str) -> dict[str, Any]:
-        """Returns what became of a tab's search: `runs`, `found` with the bundle, `failed`, `cancelled` or `none`. It waits a moment for the end."""
+        """Returns what became of a tab's search:
+
+        `runs`, `found` with the bundle, `failed`, `cancelled` or `none`. It waits a moment for the end.
+        """
         with self.lock:
             route = self.found.get(tab)
         if route is None:

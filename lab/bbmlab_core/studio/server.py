@@ -11,16 +11,18 @@ from http.server import BaseHTTPRequestHandler, ThreadingHTTPServer
 from pathlib import Path
 from typing import Any, Callable
 
-from .. import viewing
+from ..view import viewing
 from .answers import Answers, word
 from .guard import MAX_REQUEST_BYTES, Denied, Guard
 
 ADDRESS = "127.0.0.1"
 HERE = Path(__file__).resolve().parent
 TYPES = {".js": "text/javascript", ".css": "text/css", ".html": "text/html"}
-POLICY = ("default-src 'none'; script-src 'self'; worker-src 'self'; style-src 'self'; connect-src 'self'; img-src data:; base-uri 'none'; "
+POLICY = ("default-src 'none'; script-src 'self'; worker-src 'self'; style-src 'self'; connect-src 'self'; img-src "
+          "data:; base-uri 'none'; "
           "form-action 'none'; frame-ancestors 'none'")
-HEADERS = {"Content-Security-Policy": POLICY, "X-Content-Type-Options": "nosniff", "Referrer-Policy": "no-referrer", "Cache-Control": "no-store",
+HEADERS = {"Content-Security-Policy": POLICY, "X-Content-Type-Options": "nosniff", "Referrer-Policy": "no-referrer",
+           "Cache-Control": "no-store",
            "Cross-Origin-Opener-Policy": "same-origin", "Cross-Origin-Resource-Policy": "same-origin"}
 # The first of the ports that no service has (RFC 6335), and how many of them are taken in turn.
 FIRST_PORT, PORTS = 49152, 16000
@@ -31,7 +33,8 @@ SILENCE = 60
 
 
 def page_files() -> dict[str, tuple[str, bytes]]:
-    """Returns the files of the page with their types, by their paths: the viewer's scripts and style, and the studio's own."""
+    """Returns the files of the page with their types, by their paths: the viewer's scripts and style, and the studio's
+    own."""
     found = {}
     for folder, place in (("view", viewing.TEMPLATE), ("studio", HERE)):
         for path in sorted(place.iterdir()):
@@ -92,7 +95,10 @@ class Handler(BaseHTTPRequestHandler):
             if name != ENTER:
                 guard.require_key(self.headers)
             body = self.read_body(MAX_TOKEN_BYTES if name == ENTER else MAX_REQUEST_BYTES)
-            answer = self.entered(word(body, "token")) if name == ENTER else self.server.answers.answer("" if name == self.path else name, body)
+            answer = self.entered(word(body,
+                                       "token")) if name == ENTER else self.server.answers.answer("" if name
+                                                                                                  == self.path
+                                                                                                  else name, body)
             self.send(200, "application/json", json.dumps(answer).encode())
         except (ValueError, RecursionError):
             self.deny(Denied(400, "the request is no JSON"))
@@ -137,8 +143,11 @@ class Handler(BaseHTTPRequestHandler):
         """Logs nothing."""
 
 
-def studio(port: int | None, answers: Answers) -> Studio:
-    """Returns a server at a port. Without one a file gets the same port each time if it is free, so that the browser finds its drafts again."""
+def studio_server(port: int | None, answers: Answers) -> Studio:
+    """Returns a server at a port.
+
+    Without one a file gets the same port each time if it is free, so that the browser finds its drafts again.
+    """
     if port is not None:
         return Studio(port, answers)
     path = os.fsencode(answers.folder.place / answers.folder.name)

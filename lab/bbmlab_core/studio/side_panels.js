@@ -1,202 +1,251 @@
-/** The panels beside the picture: size, inputs, the circuit with its refusal, and the truth table. Adds `bbmlab.SidePanels`. */
-"use strict";
+/** The panels beside the picture: size, inputs, the circuit with its refusal, and the truth table. */
+import { Model, ModelRefusal } from "./model.js";
+import { appendWords, ask, delayed, element, made } from "./page_parts.js";
+import { server } from "./server_link.js";
+import { wireInks } from "./sketch.js";
+import * as surveys from "./survey.js";
 
-{
-  const { parts: { element, made, ask, appendWords, delayed }, server, Model, ModelRefusal, wireInks, surveys } = bbmlab;
-  const REFUSAL_DELAY = 80, MAX_LEGEND = 10, NUMBERS = ["width", "height", "steps"];
-  // How long the page may stand still for a run that puts the outputs where the balls end.
-  const MAX_FOLLOW_MILLISECONDS = 1500;
+const REFUSAL_DELAY = 80, MAX_LEGEND = 10, NUMBERS = ["width", "height", "steps"];
+// How long the page may stand still for a run that puts the outputs where the balls end.
+const MAX_FOLLOW_MILLISECONDS = 1500;
 
-  /** Returns the kinds and cells of parts, in an order of their own. */
-  const placesOf = (parts) => parts.map(({ kind, box }) => `${kind} ${box[0]} ${box[1]}`).sort().join("\n");
+/** Returns the kinds and cells of parts, in an order of their own. */
+const placesOf = (parts) => parts.map(({ kind, box }) => `${kind} ${box[0]} ${box[1]}`).sort().join("\n");
 
-  /** Returns why the model does not do a command, or null if it was done. */
-  function refusalOf(command) {
-    try { command(); return null; } catch (error) {
-      if (!(error instanceof ModelRefusal)) throw error;
-      return error.message;
-    }
+/** Returns why the model does not do a command, or null if it was done. */
+function refusalOf(command) {
+  try {
+    command();
+    return null;
+  } catch (error) {
+    if (!(error instanceof ModelRefusal)) throw error;
+    return error.message;
   }
-
-  class SidePanels {
-    /** @param {bbmlab.Desk} desk @param {bbmlab.Sketch} sketch @param {(text: string, isBad?: boolean) => void} say */
-    constructor(desk, sketch, say) {
-      Object.assign(this, { desk, sketch, say, asked: 0, refusal: null, typed: null });
-      this.askSoon = delayed(REFUSAL_DELAY, () => this.askRefusal());
-      for (const id of NUMBERS) {
-        // The field in which a number is typed that is not taken yet.
-        element(id).addEventListener("input", () => { this.typed = id; });
-        element(id).addEventListener("change", () => this.resize());
-      }
-      element("enlarge").addEventListener("click", () => this.chooseRoom());
-      const pane = element("circuit");
-      pane.addEventListener("input", () => desk.model.setHead(pane.value === "" ? "" : pane.value.replace(/\n$/, ""), "typing"));
-      pane.addEventListener("blur", () => { desk.model.closeMerge(); this.showPane(true); });
-      pane.addEventListener("scroll", () => { element("gutter").scrollTop = pane.scrollTop; });
-      element("ways").addEventListener("change", (event) => desk.setWays(event.target.value));
-      desk.listen("change", () => this.show());
-      desk.listen("ways", () => this.showLegend());
-      desk.listen("table", () => this.showTable());
-    }
-
-    /** Shows what follows from the text. */
-    show() {
-      this.showNumbers();
-      this.showPane(false);
-      this.showInputs();
-      this.askSoon();
-    }
-
-    /** Shows the numbers of the layout, apart from one that is typed now. */
-    showNumbers() {
-      for (const id of NUMBERS) if (this.typed !== id) element(id).value = this.desk.layout[id];
-    }
-
-    /** Puts the layout's number into a field in which one was typed. Returns whether one was. */
-    cancelTyping(id) {
-      const wasTyped = this.typed === id;
-      if (wasTyped) this.typed = null;
-      this.showNumbers();
-      return wasTyped;
-    }
-
-    /** Asks how many columns and rows are added at each side, and adds them. */
-    async chooseRoom() {
-      const fields = ["left", "above", "right", "below"].map((side) => Object.assign(made("input"), { type: "number", min: 0, max: 4096, step: 2, value: 16, ariaLabel: side }));
-      const box = made("p");
-      fields.forEach((field) => { const label = made("label", `${field.ariaLabel} `); label.append(field); box.append(label, " "); });
-      const sides = await ask("Enlarge the layout", [made("p", "Columns and rows that are added at each side: even numbers. The parts keep their distances."), box],
-        [["enlarge", () => fields.map((field) => Number(field.value))], ["cancel", () => null]]);
-      if (!sides) return;
-      const reason = refusalOf(() => this.desk.model.enlarge(...sides));
-      this.say(reason || "Enlarged.", reason !== null);
-    }
-
-    /** Sets size and steps by the fields. */
-    resize() {
-      const [width, height, steps] = NUMBERS.map((id) => Number(element(id).value)), { layout, model } = this.desk, isFollowed = element("follow").checked;
-      this.typed = null;
-      if (isFollowed && steps !== layout.steps && this.followRun(width, height, steps)) { this.say(""); return; }
-      const reason = refusalOf(() => model.resize(width, height, steps, isFollowed));
-      this.say(reason || "", reason !== null);
-      this.showNumbers();
-    }
-
-    /**
-     * Sets size and steps, and puts the outputs and waste cells where the balls end then, as one command. Returns whether it was done: only if
-     * they are where the balls end now. Else they are not drawn yet, and fly straight on.
-     */
-    followRun(width, height, steps) {
-      const { desk: { model } } = this, isEnd = ({ kind }) => kind === "out" || kind === "waste", ends = model.parts.filter(isEnd);
-      const now = model.layout && ends.length ? surveys.endsOf(model.layout, model.circuit, MAX_FOLLOW_MILLISECONDS) : null;
-      if (now === null || placesOf(now) !== placesOf(ends)) return false;
-      const made = new Model(model.text);
-      if (refusalOf(() => { made.remove(ends.map(({ line }) => line)); made.resize(width, height, steps); }) !== null) return false;
-      const parts = surveys.endsOf(made.layout, made.circuit, MAX_FOLLOW_MILLISECONDS);
-      if (parts === null || refusalOf(() => made.add(parts)) !== null) return false;
-      model.setText(made.text, "size");
-      return true;
-    }
-
-    /** Shows the lines before the layout, unless one types in them. */
-    showPane(isForced) {
-      const pane = element("circuit"), text = this.desk.model.headText.replaceAll("\r", "");
-      if (pane.value !== text && (isForced || document.activeElement !== pane || pane.value.replace(/\n$/, "") !== text)) pane.value = text;
-      this.showGutter();
-    }
-
-    /** Shows the numbers of the lines, with a mark at the one that is refused. */
-    showGutter() {
-      const count = element("circuit").value.split("\n").length, bad = this.refusal ? this.refusal.line : null, key = `${count} ${bad}`;
-      if (this.gutterKey === key) return;
-      this.gutterKey = key;
-      const numbers = (from, to) => [...Array(Math.max(0, to - from)).keys()].map((index) => `${from + index}\n`).join("");
-      if (bad === null || bad > count) element("gutter").replaceChildren(numbers(1, count + 1));
-      else element("gutter").replaceChildren(numbers(1, bad), made("span", `✗ ${bad}`, "bad"), "\n", numbers(bad + 1, count + 1));
-      element("gutter").scrollTop = element("circuit").scrollTop;
-    }
-
-    /** Asks the lab's reader where it refuses the circuit or the layout. */
-    async askRefusal() {
-      const number = this.asked += 1;
-      const answer = await server.request("refusal", { text: this.desk.model.text });
-      if (number !== this.asked || answer.gone || answer.error) return;
-      this.refusal = answer.refusal;
-      this.showGutter();
-      const box = element("refusal"), { refusal } = this;
-      box.replaceChildren();
-      if (!refusal) return;
-      const line = refusal.line === null ? "" : `Line ${refusal.line}: `, text = refusal.line === null ? "" : this.desk.model.lines[refusal.line - 1];
-      if (text) box.append(made("p", `${line}${text}`, "code"));
-      for (const words of refusal.words) box.append(appendWords(made("p", "", "bad"), words));
-      for (const words of refusal.hints.slice(0, 2)) box.append(appendWords(made("p", "", "soft"), words));
-    }
-
-    /** Shows a switch for each input. */
-    showInputs() {
-      const { names, on } = this.desk.player, box = element("inputs"), key = `${names.join(" ")} but ${[...this.desk.off].join(" ")}`;
-      if (this.inputsKey === key) return;
-      this.inputsKey = key;
-      box.replaceChildren(...names.map((name) => this.inputSwitch(name)));
-      if (names.length === 0) box.textContent = "The circuit has no inputs yet.";
-      for (const one of box.querySelectorAll("input")) one.checked = on.has(one.value);
-    }
-
-    /** Returns the switch of an input. */
-    inputSwitch(name) {
-      const label = made("label"), box = made("input");
-      Object.assign(box, { type: "checkbox", value: name });
-      box.addEventListener("change", () => this.desk.setInput(name, box.checked));
-      label.append(box, name);
-      return label;
-    }
-
-    /** Shows which colours the wires' ways have. */
-    showLegend() {
-      const { survey, isExact } = this.desk, legend = element("legend"), inks = wireInks();
-      legend.replaceChildren();
-      if (!survey) return;
-      const seen = [...survey.wires.keys()].filter((colour) => colour < surveys.CONSTANT).sort((a, b) => a - b);
-      for (const colour of seen.slice(0, MAX_LEGEND)) {
-        const item = made("span", survey.wires.get(colour));
-        item.style.borderBottomColor = inks[(colour - 1) % inks.length];
-        legend.append(item);
-      }
-      if (seen.length > MAX_LEGEND) legend.append(`and ${seen.length - MAX_LEGEND} more`);
-      if (this.desk.waysMode === "all" && !isExact) legend.append(` under ${survey.choiceCount} of 2^${survey.inputCount} choices`);
-      if (survey.leftAt !== null) legend.append(made("span", `A ball leaves at step ${survey.leftAt}.`, "bad"));
-    }
-
-    /** Shows what the outputs should be and what they are. */
-    showTable() {
-      const { rows, hasTable, circuit } = this.desk, box = element("truth");
-      if (!hasTable) {
-        const count = circuit ? circuit.inputs.length : 0;
-        const why = !circuit ? "The circuit cannot be read yet." : circuit.outputs.length === 0 ? "The circuit has no outputs yet." : `The circuit has ${count} inputs: the table is for at most eight.`;
-        box.replaceChildren(made("p", why, "soft"));
-        return;
-      }
-      const wrong = rows.filter(({ outputs }) => outputs.some(({ wanted, found }) => wanted !== found)).length, { inputs, outputs } = circuit;
-      const head = made("tr"), grid = made("table");
-      head.append(...inputs.map((name) => made("th", name)), ...outputs.map((name) => made("th", name, "output")));
-      grid.append(head, ...rows.map((row) => this.tableRow(row)));
-      const words = wrong ? `${wrong} of ${rows.length} rows differ.` : rows.length === 1 ? "The row is as the circuit says." : `All ${rows.length} rows are as the circuit says.`;
-      const frame = made("div", "", "frame");
-      frame.tabIndex = 0;
-      frame.append(grid);
-      box.replaceChildren(made("p", words, wrong ? "bad" : "good"), frame);
-    }
-
-    /** Returns a row of the truth table: an output that differs shows what was found and what is wanted. */
-    tableRow({ inputs, outputs }) {
-      const bit = (value) => (value === null ? "?" : String(Number(value))), row = made("tr");
-      row.append(...inputs.map((value) => made("td", bit(value))));
-      for (const { wanted, found } of outputs) {
-        row.append(wanted === found ? made("td", bit(found), "output") : made("td", `${bit(found)}, wanted ${bit(wanted)}`, "output bad"));
-      }
-      return row;
-    }
-  }
-
-  bbmlab.SidePanels = SidePanels;
 }
+
+class SidePanels {
+  desk;
+  sketch;
+  say;
+  asked = 0;
+  refusal = null;
+  typed = null;
+  askSoon;
+  gutterKey;
+  inputsKey;
+
+  /** @param {Desk} desk @param {Sketch} sketch @param {(text: string, isBad?: boolean) => void} say */
+  constructor(desk, sketch, say) {
+    this.desk = desk;
+    this.sketch = sketch;
+    this.say = say;
+    this.askSoon = delayed(REFUSAL_DELAY, () => this.askRefusal());
+    for (const id of NUMBERS) {
+      // The field in which a number is typed that is not taken yet.
+      element(id).addEventListener("input", () => { this.typed = id; });
+      element(id).addEventListener("change", () => this.resize());
+    }
+    element("enlarge").addEventListener("click", () => this.chooseRoom());
+    const pane = element("circuit");
+    pane.addEventListener("input",
+      () => desk.model.setHead(pane.value === "" ? "" : pane.value.replace(/\n$/, ""), "typing"));
+    pane.addEventListener("blur", () => {
+      desk.model.closeMerge();
+      this.showPane(true);
+    });
+    pane.addEventListener("scroll", () => { element("gutter").scrollTop = pane.scrollTop; });
+    element("ways").addEventListener("change", (event) => desk.setWays(event.target.value));
+    desk.listen("change", () => this.show());
+    desk.listen("ways", () => this.showLegend());
+    desk.listen("table", () => this.showTable());
+  }
+
+  /** Shows what follows from the text. */
+  show() {
+    this.showNumbers();
+    this.showPane(false);
+    this.showInputs();
+    this.askSoon();
+  }
+
+  /** Shows the numbers of the layout, apart from one that is typed now. */
+  showNumbers() {
+    for (const id of NUMBERS) if (this.typed !== id) element(id).value = this.desk.layout[id];
+  }
+
+  /** Puts the layout's number into a field in which one was typed. Returns whether one was. */
+  cancelTyping(id) {
+    const wasTyped = this.typed === id;
+    if (wasTyped) this.typed = null;
+    this.showNumbers();
+    return wasTyped;
+  }
+
+  /** Asks how many columns and rows are added at each side, and adds them. */
+  async chooseRoom() {
+    const fields = ["left", "above", "right", "below"].map(
+      (side) =>
+      Object.assign(made("input"), { type: "number", min: 0, max: 4096, step: 2, value: 16, ariaLabel: side }));
+    const box = made("p");
+    fields.forEach((field) => {
+      const label = made("label", `${field.ariaLabel} `);
+      label.append(field);
+      box.append(label, " ");
+    });
+    const sides = await ask("Enlarge the layout",
+      [made("p", "Columns and rows that are added at each side: even numbers. The parts keep their distances."), box],
+      [["enlarge", () => fields.map((field) => Number(field.value))], ["cancel", () => null]]);
+    if (!sides) return;
+    const reason = refusalOf(() => this.desk.model.enlarge(...sides));
+    this.say(reason || "Enlarged.", reason !== null);
+  }
+
+  /** Sets size and steps by the fields. */
+  resize() {
+    const [width, height, steps] = NUMBERS.map((id) => Number(element(id).value)), { layout, model } = this.desk;
+    const isFollowed = element("follow").checked;
+    this.typed = null;
+    if (isFollowed && steps !== layout.steps && this.followRun(width, height, steps)) {
+      this.say("");
+      return;
+    }
+    const reason = refusalOf(() => model.resize(width, height, steps, isFollowed));
+    this.say(reason || "", reason !== null);
+    this.showNumbers();
+  }
+
+  /**
+   * Sets size and steps, and puts the outputs and waste cells where the balls end then, as one command. Returns whether
+   * it was done: only if they are where the balls end now. Else they are not drawn yet, and fly straight on.
+   */
+  followRun(width, height, steps) {
+    const { desk: { model } } = this, isEnd = ({ kind }) => kind === "out" || kind === "waste";
+    const ends = model.parts.filter(isEnd);
+    const now = model.layout && ends.length ? surveys.endsOf(model.layout, model.circuit, MAX_FOLLOW_MILLISECONDS)
+      : null;
+    if (now === null || placesOf(now) !== placesOf(ends)) return false;
+    const made = new Model(model.text);
+    if (refusalOf(() => {
+      made.remove(ends.map(({ line }) => line));
+      made.resize(width, height, steps);
+    }) !== null) return false;
+    const parts = surveys.endsOf(made.layout, made.circuit, MAX_FOLLOW_MILLISECONDS);
+    if (parts === null || refusalOf(() => made.add(parts)) !== null) return false;
+    model.setText(made.text, "size");
+    return true;
+  }
+
+  /** Shows the lines before the layout, unless one types in them. */
+  showPane(isForced) {
+    const pane = element("circuit"), text = this.desk.model.headText.replaceAll("\r", "");
+    if (pane.value !== text && (isForced || document.activeElement !== pane || pane.value.replace(/\n$/, "") !== text))
+        pane.value = text;
+    this.showGutter();
+  }
+
+  /** Shows the numbers of the lines, with a mark at the one that is refused. */
+  showGutter() {
+    const count = element("circuit").value.split("\n").length, bad = this.refusal ? this.refusal.line : null;
+    const key = `${count} ${bad}`;
+    if (this.gutterKey === key) return;
+    this.gutterKey = key;
+    const numbers = (from, to) =>
+      [...Array(Math.max(0, to - from)).keys()].map((index) => `${from + index}\n`).join("");
+    if (bad === null || bad > count) element("gutter").replaceChildren(numbers(1, count + 1));
+    else element("gutter").replaceChildren(numbers(1, bad), made("span", `✗ ${bad}`, "bad"), "\n",
+      numbers(bad + 1, count + 1));
+    element("gutter").scrollTop = element("circuit").scrollTop;
+  }
+
+  /** Asks the lab's reader where it refuses the circuit or the layout. */
+  async askRefusal() {
+    const number = this.asked += 1;
+    const answer = await server.request("refusal", { text: this.desk.model.text });
+    if (number !== this.asked || answer.gone || answer.error) return;
+    this.refusal = answer.refusal;
+    this.showGutter();
+    const box = element("refusal"), { refusal } = this;
+    box.replaceChildren();
+    if (!refusal) return;
+    const line = refusal.line === null ? "" : `Line ${refusal.line}: `;
+    const text = refusal.line === null ? "" : this.desk.model.lines[refusal.line - 1];
+    if (text) box.append(made("p", `${line}${text}`, "code"));
+    for (const words of refusal.words) box.append(appendWords(made("p", "", "bad"), words));
+    for (const words of refusal.hints.slice(0, 2)) box.append(appendWords(made("p", "", "soft"), words));
+  }
+
+  /** Shows a switch for each input. */
+  showInputs() {
+    const { names, on } = this.desk.player, box = element("inputs");
+    const key = `${names.join(" ")} but ${[...this.desk.off].join(" ")}`;
+    if (this.inputsKey === key) return;
+    this.inputsKey = key;
+    box.replaceChildren(...names.map((name) => this.inputSwitch(name)));
+    if (names.length === 0) box.textContent = "The circuit has no inputs yet.";
+    for (const one of box.querySelectorAll("input")) one.checked = on.has(one.value);
+  }
+
+  /** Returns the switch of an input. */
+  inputSwitch(name) {
+    const label = made("label"), box = made("input");
+    box.type = "checkbox";
+    box.value = name;
+    box.addEventListener("change", () => this.desk.setInput(name, box.checked));
+    label.append(box, name);
+    return label;
+  }
+
+  /** Shows which colours the wires' ways have. */
+  showLegend() {
+    const { survey, isExact } = this.desk, legend = element("legend"), inks = wireInks();
+    legend.replaceChildren();
+    if (!survey) return;
+    const seen = [...survey.wires.keys()].filter((colour) => colour < surveys.CONSTANT).sort((a, b) => a - b);
+    for (const colour of seen.slice(0, MAX_LEGEND)) {
+      const item = made("span", survey.wires.get(colour));
+      item.style.borderBottomColor = inks[(colour - 1) % inks.length];
+      legend.append(item);
+    }
+    if (seen.length > MAX_LEGEND) legend.append(`and ${seen.length - MAX_LEGEND} more`);
+    if (this.desk.waysMode === "all"
+        && !isExact) legend.append(` under ${survey.choiceCount} of 2^${survey.inputCount} choices`);
+    if (survey.leftAt !== null) legend.append(made("span", `A ball leaves at step ${survey.leftAt}.`, "bad"));
+  }
+
+  /** Shows what the outputs should be and what they are. */
+  showTable() {
+    const { rows, hasTable, circuit } = this.desk, box = element("truth");
+    if (!hasTable) {
+      const count = circuit ? circuit.inputs.length : 0;
+      const why = !circuit ? "The circuit cannot be read yet."
+        : circuit.outputs.length === 0 ? "The circuit has no outputs yet."
+        : `The circuit has ${count} inputs: the table is for at most eight.`;
+      box.replaceChildren(made("p", why, "soft"));
+      return;
+    }
+    const wrong = rows.filter(({ outputs }) => outputs.some(({ wanted, found }) => wanted !== found)).length;
+    const { inputs, outputs } = circuit;
+    const head = made("tr"), grid = made("table");
+    head.append(...inputs.map((name) => made("th", name)), ...outputs.map((name) => made("th", name, "output")));
+    grid.append(head, ...rows.map((row) => this.tableRow(row)));
+    const words = wrong ? `${wrong} of ${rows.length} rows differ.`
+      : rows.length === 1 ? "The row is as the circuit says." : `All ${rows.length} rows are as the circuit says.`;
+    const frame = made("div", "", "frame");
+    frame.tabIndex = 0;
+    frame.append(grid);
+    box.replaceChildren(made("p", words, wrong ? "bad" : "good"), frame);
+  }
+
+  /** Returns a row of the truth table: an output that differs shows what was found and what is wanted. */
+  tableRow({ inputs, outputs }) {
+    const bit = (value) => (value === null ? "?" : String(Number(value))), row = made("tr");
+    row.append(...inputs.map((value) => made("td", bit(value))));
+    for (const { wanted, found } of outputs) {
+      row.append(wanted === found ? made("td", bit(found), "output")
+        : made("td", `${bit(found)}, wanted ${bit(wanted)}`, "output bad"));
+    }
+    return row;
+  }
+}
+
+export { SidePanels };

@@ -1,272 +1,399 @@
 /** Connects the page of the studio: tools, keys, pointers and buttons. It comes last, and begins. */
-"use strict";
+import { Minimap } from "../view/minimap.js";
+import { Desk } from "./desk.js";
+import { Tools } from "./drawing_tools.js";
+import { Files } from "./files.js";
+import * as geometry from "./geometry.js";
+import * as parts from "./page_parts.js";
+import { ask, button, element, made, notice } from "./page_parts.js";
+import { RouterPanel } from "./router_panel.js";
+import { server } from "./server_link.js";
+import { SidePanels } from "./side_panels.js";
+import { Sketch } from "./sketch.js";
+import { VerdictPanel } from "./verdict_panel.js";
 
-{
-  const { Desk, Sketch, Minimap, Tools, SidePanels, VerdictPanel, Files, RouterPanel, server, parts: { element, made, button, notice, ask } } = bbmlab;
-  const TOOLS = { select: ["select", "v", "Press a part, or drag a frame. Drag the selection to move it."], mirror: ["mirror", "m", "Drag a mirror, or press for one of 4 by 2 cells."],
-    ball: ["ball", "b", "Press to put a constant ball."], in: ["in", "i", "Press to put the ball of an input."],
-    out: ["out", "o", "Press where the output's ball is at the last time."], waste: ["waste", "w", "Press where a left-over ball is at the last time."],
-    erase: ["erase", "e", "Press or drag over parts."], cell: ["cell", "c", "Press to put a standard cell."], hand: ["hand", "h", "Drag to move the picture."] };
-  const KEYS = "Letters choose tools. On the picture: arrows move the cursor, Enter uses the tool (twice for a mirror or a frame), Alt with arrows moves the "
-    + "selection, Delete removes it, r rotates it, x and y reflect it, Escape ends. Shift with arrows moves the picture, + − 0 zoom, space plays, "
-    + "comma and period step. Ctrl-Z and Ctrl-Y undo and redo, Ctrl-C, Ctrl-X and Ctrl-V copy, cut and paste, Ctrl-S saves.";
-  const PAN_STEP = 40;
-  const canvasParts = { whole: element("whole"), wave: element("wave"), waveBox: element("wave-box"), waveRest: element("wave-rest"), waveCursor: element("wave-cursor") };
-  const desk = new Desk("circuit\nend\nlayout 48 48 40\nend\n", new Worker("studio/survey_worker.js"));
-  const sketch = new Sketch(desk, canvasParts), minimap = new Minimap(sketch, element("map"));
-  const tools = new Tools(desk, sketch, say);
-  const panels = new SidePanels(desk, sketch, say);
-  const verdicts = new VerdictPanel(desk, sketch);
-  const files = new Files(desk, verdicts, say), router = new RouterPanel(desk, say);
-  const buttons = {};
+const TOOLS = { select: ["select", "v", "Press a part, or drag a frame. Drag the selection to move it."],
+  mirror: ["mirror", "m", "Drag a mirror, or press for one of 4 by 2 cells."],
+  ball: ["ball", "b", "Press to put a constant ball."], in: ["in", "i", "Press to put the ball of an input."],
+  out: ["out", "o", "Press where the output's ball is at the last time."], waste: ["waste", "w",
+    "Press where a left-over ball is at the last time."],
+  erase: ["erase", "e", "Press or drag over parts."], cell: ["cell", "c", "Press to put a standard cell."],
+    hand: ["hand", "h", "Drag to move the picture."] };
+const KEYS =
+  "Letters choose tools. On the picture: arrows move the cursor, Enter uses the tool (twice for a mirror or a frame), "
+  + "Alt with arrows moves the selection, Delete removes it, r rotates it, x and y reflect it, Escape ends. "
+  + "Shift with arrows moves the picture, + − 0 zoom, space plays, comma and period step. "
+  + "Ctrl-Z and Ctrl-Y undo and redo, Ctrl-C, Ctrl-X and Ctrl-V copy, cut and paste, Ctrl-S saves.";
+const PAN_STEP = 40;
+const canvasParts = { whole: element("whole"), wave: element("wave"), waveBox: element("wave-box"),
+  waveRest: element("wave-rest"), waveCursor: element("wave-cursor") };
+const desk = new Desk("circuit\nend\nlayout 48 48 40\nend\n",
+  new Worker("studio/survey_worker.js", { type: "module" }));
+const sketch = new Sketch(desk, canvasParts), minimap = new Minimap(sketch, element("map"));
+const tools = new Tools(desk, sketch, say);
+const panels = new SidePanels(desk, sketch, say);
+const verdicts = new VerdictPanel(desk, sketch);
+const files = new Files(desk, verdicts, say), router = new RouterPanel(desk, say);
+const buttons = {};
 
-  /** Says something below the picture. */
-  function say(text, isBad = false) {
-    element("status").textContent = text;
-    element("status").classList.toggle("bad", isBad);
+/** Says something below the picture. */
+function say(text, isBad = false) {
+  element("status").textContent = text;
+  element("status").classList.toggle("bad", isBad);
+}
+
+// ---- tools
+
+/** Shows which tool is taken, and its options. */
+function showTool() {
+  for (const [name, found] of Object.entries(buttons)) found.setAttribute("aria-pressed", String(name === tools.name));
+  const isPort = tools.name === "in" || tools.name === "out";
+  const isCells = ["ball", "in", "out", "waste"].includes(tools.name);
+  element("wire-part").hidden = !isPort;
+  element("pair-part").hidden = !isCells;
+  element("cell-part").hidden = element("wires-part").hidden = tools.name !== "cell";
+  element("selection-part").hidden = tools.name !== "select" && tools.name !== "paste";
+  ends.hidden = tools.name !== "out" && tools.name !== "waste";
+  element("tool-words").textContent = tools.name === "paste" ? "Press where the copy goes." : TOOLS[tools.name][2];
+  canvasParts.whole.dataset.tool = tools.name;
+  if (isPort) suggestWire();
+  if (tools.name === "out" || tools.name === "waste") {
+    desk.player.play(0);
+    desk.player.seek(desk.layout.steps);
   }
+  else if (["mirror", "ball", "in", "cell"].includes(tools.name) && desk.player.run.time !== 0) desk.player.seek(0);
+}
 
-  // ---- tools
+/** Puts a wire into the field that has no port yet. */
+function suggestWire() {
+  const { circuit, parts } = desk.model, isIn = tools.name === "in", names = isIn ? circuit.inputs : circuit.outputs;
+  element("wires").replaceChildren(...names.map((name) => Object.assign(made("option"), { value: name })));
+  const taken = new Set(parts.filter(({ kind }) => kind === tools.name).map(({ name }) => name));
+  const free = names.find((name) => !taken.has(name));
+  if (free && (taken.has(tools.wire) || !names.includes(tools.wire))) setWire(free);
+  else if (isIn && taken.has(tools.wire)) setWire(
+    [..."abcdefghijklmnopqrstuvwxyz"].find((name) => !taken.has(name) && !circuit.names.has(name)) || "a");
+  else element("wire").value = tools.wire;
+}
 
-  /** Shows which tool is taken, and its options. */
-  function showTool() {
-    for (const [name, found] of Object.entries(buttons)) found.setAttribute("aria-pressed", String(name === tools.name));
-    const isPort = tools.name === "in" || tools.name === "out", isCells = ["ball", "in", "out", "waste"].includes(tools.name);
-    element("wire-part").hidden = !isPort;
-    element("pair-part").hidden = !isCells;
-    element("cell-part").hidden = element("wires-part").hidden = tools.name !== "cell";
-    element("selection-part").hidden = tools.name !== "select" && tools.name !== "paste";
-    ends.hidden = tools.name !== "out" && tools.name !== "waste";
-    element("tool-words").textContent = tools.name === "paste" ? "Press where the copy goes." : TOOLS[tools.name][2];
-    canvasParts.whole.dataset.tool = tools.name;
-    if (isPort) suggestWire();
-    if (tools.name === "out" || tools.name === "waste") { desk.player.play(0); desk.player.seek(desk.layout.steps); }
-    else if (["mirror", "ball", "in", "cell"].includes(tools.name) && desk.player.run.time !== 0) desk.player.seek(0);
+/** Takes another wire for ports. */
+function setWire(name) {
+  tools.wire = name;
+  element("wire").value = name;
+}
+
+/** Takes a tool. */
+function choose(name) {
+  if (name === "hand" && buttons.hand.getAttribute("aria-pressed") === "true") name = "select";
+  tools.choose(name);
+  showTool();
+}
+
+// ---- time and picture
+
+function showTime() {
+  const { run, target } = desk.player, { steps } = desk.layout;
+  Object.assign(element("slider"), { max: steps, value: target });
+  element("slider").setAttribute("aria-valuetext", `time ${run.time} of ${steps}`);
+  element("time").textContent = `${run.time} of ${steps}`;
+  sketch.moveCursor();
+  sketch.requestPaint();
+}
+
+function showCell() {
+  const cell = sketch.cursor || sketch.pointed;
+  element("cell").textContent = cell ? sketch.wordsOf(cell) : "";
+}
+
+/** Shows what follows from the run's end. */
+function showEnd() {
+  const results = desk.player.results();
+  sketch.good = results
+    && new Map(results.flatMap(({ cells }) => cells.map(({ cell, isGood }) => [String(cell), isGood])));
+  sketch.requestPaint();
+  sketch.paintWave();
+}
+
+/** Shows the desk after a change. */
+function showChange() {
+  sketch.take();
+  tools.follow();
+  if (tools.name === "in" || tools.name === "out") suggestWire();
+  element("hint").hidden = desk.model.parts.length > 0 || !desk.model.header;
+  const why = desk.fallen.length ? geometry.fallReason(desk.fallen[0].box) : null;
+  if (why) say(`The mirror ${desk.fallen[0].box.join(" ")} falls apart: ${why}.`, true);
+  else if (!desk.model.header) {
+    const range = `W and H are even, 2 to ${desk.model.limits.maxSide}`;
+    say(`The line \`layout W H STEPS\` is missing or not allowed: ${range}.${desk.model.needsLine(true)}`, true);
   }
+  showTime();
+}
 
-  /** Puts a wire into the field that has no port yet. */
-  function suggestWire() {
-    const { circuit, parts } = desk.model, isIn = tools.name === "in", names = isIn ? circuit.inputs : circuit.outputs;
-    element("wires").replaceChildren(...names.map((name) => Object.assign(made("option"), { value: name })));
-    const taken = new Set(parts.filter(({ kind }) => kind === tools.name).map(({ name }) => name)), free = names.find((name) => !taken.has(name));
-    if (free && (taken.has(tools.wire) || !names.includes(tools.wire))) setWire(free);
-    else if (isIn && taken.has(tools.wire)) setWire([..."abcdefghijklmnopqrstuvwxyz"].find((name) => !taken.has(name) && !circuit.names.has(name)) || "a");
-    else element("wire").value = tools.wire;
+const actions = {
+  undo: () => {
+    const label = desk.model.undo();
+    if (label) say(`Undid: ${label}.`);
+    tools.select([]);
+  },
+  redo: () => {
+    const label = desk.model.redo();
+    if (label) say(`Did again: ${label}.`);
+    tools.select([]);
+  },
+  play: () => desk.player.play(desk.player.direction ? 0 : 1), step: (count) => {
+    desk.player.play(0);
+    desk.player.seek(desk.player.run.time + count);
+  },
+  first: () => {
+    desk.player.play(0);
+    desk.player.seek(0);
+  }, last: () => {
+    desk.player.play(0);
+    desk.player.seek(desk.layout.steps);
+  },
+  cut: () => {
+    tools.copy();
+    tools.remove();
+  }, paste: () => {
+    tools.paste();
+    showTool();
+  },
+};
+
+// ---- keys
+
+const CONTROL = { z: actions.undo, y: actions.redo, Z: actions.redo, c: () => tools.copy(), x: actions.cut,
+  v: actions.paste, s: () => files.save() };
+const ARROWS = { ArrowLeft: [-1, 0], ArrowRight: [1, 0], ArrowUp: [0, -1], ArrowDown: [0, 1] };
+const PLAIN = { Delete: () => tools.remove(), Backspace: () => tools.remove(), r: () => tools.turn("rotate"),
+  x: () => tools.turn("flip-x"), y: () => tools.turn("flip-y"),
+  Escape: () => {
+    tools.cancel();
+    tools.select([]);
+    sketch.cursor = null;
+    choose("select");
+  }, Enter: () => pressCursor(), " ": actions.play, ",": () => actions.step(-1),
+  ".": () => actions.step(1), Home: actions.first, End: actions.last, "+": () => sketch.zoom(1.25),
+    "=": () => sketch.zoom(1.25), "-": () => sketch.zoom(0.8), 0: () => sketch.fit() };
+for (const [name, [, key]] of Object.entries(TOOLS)) PLAIN[key] = () => choose(name);
+
+/** Moves the keyboard's cursor, the selection or the picture. */
+function onArrow(event, [dx, dy]) {
+  if (event.altKey) {
+    tools.nudgeOne(dx, dy);
+    return;
   }
-
-  /** Takes another wire for ports. */
-  function setWire(name) {
-    tools.wire = name;
-    element("wire").value = name;
+  if (event.shiftKey) {
+    sketch.pan(dx * PAN_STEP, dy * PAN_STEP);
+    return;
   }
+  const { width, height } = desk.layout, [x, y] = sketch.cursor || tools.at || [width >> 1, height >> 1];
+  sketch.cursor = [Math.max(0, Math.min(width - 1, x + dx)), Math.max(0, Math.min(height - 1, y + dy))];
+  if (tools.pressed) tools.drag(sketch.cursor);
+  else tools.hover(sketch.cursor);
+  showCell();
+}
 
-  /** Takes a tool. */
-  function choose(name) {
-    if (name === "hand" && buttons.hand.getAttribute("aria-pressed") === "true") name = "select";
-    tools.choose(name);
+/** Uses the tool at the keyboard's cursor. A mirror, a frame and a move end at the second time. */
+function pressCursor() {
+  if (!sketch.cursor) {
+    sketch.cursor = tools.at || [desk.layout.width >> 1, desk.layout.height >> 1];
+    sketch.requestPaint();
+    return;
+  }
+  if (tools.pressed) {
+    tools.up(sketch.cursor);
+    showTool();
+    return;
+  }
+  tools.down(sketch.cursor);
+  if (!["mirror", "select"].includes(tools.name)) {
+    tools.up(sketch.cursor);
     showTool();
   }
-
-  // ---- time and picture
-
-  function showTime() {
-    const { run, target } = desk.player, { steps } = desk.layout;
-    Object.assign(element("slider"), { max: steps, value: target });
-    element("slider").setAttribute("aria-valuetext", `time ${run.time} of ${steps}`);
-    element("time").textContent = `${run.time} of ${steps}`;
-    sketch.moveCursor();
-    sketch.paint();
-  }
-
-  function showCell() {
-    const cell = sketch.cursor || sketch.pointed;
-    element("cell").textContent = cell ? sketch.wordsOf(cell) : "";
-  }
-
-  /** Shows what follows from the run's end. */
-  function showEnd() {
-    const results = desk.player.results();
-    sketch.good = results && new Map(results.flatMap(({ cells }) => cells.map(({ cell, isGood }) => [String(cell), isGood])));
-    sketch.paint();
-    sketch.paintWave();
-  }
-
-  /** Shows the desk after a change. */
-  function showChange() {
-    sketch.take();
-    tools.follow();
-    if (tools.name === "in" || tools.name === "out") suggestWire();
-    element("hint").hidden = desk.model.parts.length > 0 || !desk.model.header;
-    const why = desk.fallen.length ? bbmlab.geometry.fallReason(desk.fallen[0].box) : null;
-    if (why) say(`The mirror ${desk.fallen[0].box.join(" ")} falls apart: ${why}.`, true);
-    else if (!desk.model.header) say(`The line \`layout W H STEPS\` is missing or not allowed: W and H are even, 2 to ${desk.model.limits.maxSide}.${desk.model.needsLine(true)}`, true);
-    showTime();
-  }
-
-  const actions = {
-    undo: () => { const label = desk.model.undo(); if (label) say(`Undid: ${label}.`); tools.select([]); },
-    redo: () => { const label = desk.model.redo(); if (label) say(`Did again: ${label}.`); tools.select([]); },
-    play: () => desk.player.play(desk.player.direction ? 0 : 1), step: (count) => { desk.player.play(0); desk.player.seek(desk.player.run.time + count); },
-    first: () => { desk.player.play(0); desk.player.seek(0); }, last: () => { desk.player.play(0); desk.player.seek(desk.layout.steps); },
-    cut: () => { tools.copy(); tools.remove(); }, paste: () => { tools.paste(); showTool(); },
-  };
-
-  // ---- keys
-
-  const CONTROL = { z: actions.undo, y: actions.redo, Z: actions.redo, c: () => tools.copy(), x: actions.cut, v: actions.paste, s: () => files.save() };
-  const ARROWS = { ArrowLeft: [-1, 0], ArrowRight: [1, 0], ArrowUp: [0, -1], ArrowDown: [0, 1] };
-  const PLAIN = { Delete: () => tools.remove(), Backspace: () => tools.remove(), r: () => tools.turn("rotate"), x: () => tools.turn("flip-x"), y: () => tools.turn("flip-y"),
-    Escape: () => { tools.cancel(); tools.select([]); sketch.cursor = null; choose("select"); }, Enter: () => pressCursor(), " ": actions.play, ",": () => actions.step(-1),
-    ".": () => actions.step(1), Home: actions.first, End: actions.last, "+": () => sketch.zoom(1.25), "=": () => sketch.zoom(1.25), "-": () => sketch.zoom(0.8), 0: () => sketch.fit() };
-  for (const [name, [, key]] of Object.entries(TOOLS)) PLAIN[key] = () => choose(name);
-
-  /** Moves the keyboard's cursor, the selection or the picture. */
-  function onArrow(event, [dx, dy]) {
-    if (event.altKey) { tools.nudgeOne(dx, dy); return; }
-    if (event.shiftKey) { sketch.pan(dx * PAN_STEP, dy * PAN_STEP); return; }
-    const { width, height } = desk.layout, [x, y] = sketch.cursor || tools.at || [width >> 1, height >> 1];
-    sketch.cursor = [Math.max(0, Math.min(width - 1, x + dx)), Math.max(0, Math.min(height - 1, y + dy))];
-    if (tools.pressed) tools.drag(sketch.cursor); else tools.hover(sketch.cursor);
-    showCell();
-  }
-
-  /** Uses the tool at the keyboard's cursor. A mirror, a frame and a move end at the second time. */
-  function pressCursor() {
-    if (!sketch.cursor) { sketch.cursor = tools.at || [desk.layout.width >> 1, desk.layout.height >> 1]; sketch.paint(); return; }
-    if (tools.pressed) { tools.up(sketch.cursor); showTool(); return; }
-    tools.down(sketch.cursor);
-    if (!["mirror", "select"].includes(tools.name)) { tools.up(sketch.cursor); showTool(); }
-  }
-
-  function onKey(event) {
-    const { target, key } = event, isField = ["INPUT", "TEXTAREA", "SELECT"].includes(target.tagName) && target.type !== "checkbox";
-    const isNumber = target.type === "number";
-    if (element("dialog").open) return;
-    if (event.ctrlKey || event.metaKey) {
-      if (!Object.hasOwn(CONTROL, key) || isField && !(target.id === "circuit" || isNumber ? "szyZ" : "s").includes(key)) return;
-      // Words that are marked, as in the report, are for the browser to copy.
-      if (key === "c" && target !== canvasParts.whole && !getSelection().isCollapsed) return;
-      // A number that is typed and not taken yet is the first thing to undo.
-      if (!(isNumber && "zyZ".includes(key) && panels.cancelTyping(target.id))) CONTROL[key]();
-    } else if (isField) return;
-    else if (ARROWS[key] && target === canvasParts.whole) onArrow(event, ARROWS[key]);
-    else if (Object.hasOwn(PLAIN, key) && !(target.tagName === "BUTTON" && " Enter".includes(key)) && !(key === "Enter" && target !== canvasParts.whole)) PLAIN[key]();
-    else return;
-    event.preventDefault();
-  }
-
-  // ---- pointers
-
-  /** Draws with one finger or the mouse, and moves and zooms the picture with two, with the hand, or with another button of the mouse. */
-  function listenToPointers(canvas) {
-    const fingers = new Map();
-    const spread = () => { const [[x, y], [u, v]] = fingers.values(); return { gap: Math.hypot(x - u, y - v), x: (x + u) / 2, y: (y + v) / 2 }; };
-    const isHand = (event) => tools.name === "hand" || event.buttons & 6;
-    canvas.addEventListener("pointerdown", (event) => {
-      fingers.set(event.pointerId, [event.offsetX, event.offsetY]);
-      canvas.setPointerCapture(event.pointerId);
-      sketch.cursor = null;
-      if (fingers.size > 1) tools.cancel(); else if (!isHand(event)) tools.down(sketch.cellAt(event.offsetX, event.offsetY), event.shiftKey);
-    });
-    canvas.addEventListener("pointermove", (event) => {
-      const from = fingers.get(event.pointerId), cell = sketch.cellAt(event.offsetX, event.offsetY);
-      sketch.pointed = cell;
-      if (!from) { tools.hover(cell); return; }
-      const before = fingers.size === 2 ? spread() : null;
-      fingers.set(event.pointerId, [event.offsetX, event.offsetY]);
-      if (before) {
-        const after = spread();
-        sketch.pan(before.x - after.x, before.y - after.y);
-        if (before.gap > 0) sketch.zoom(after.gap / before.gap, after.x, after.y);
-      } else if (isHand(event)) sketch.pan(from[0] - event.offsetX, from[1] - event.offsetY);
-      else tools.drag(cell);
-    });
-    canvas.addEventListener("pointerup", (event) => {
-      fingers.delete(event.pointerId);
-      tools.up(sketch.cellAt(event.offsetX, event.offsetY));
-      showTool();
-    });
-    canvas.addEventListener("pointercancel", (event) => { fingers.delete(event.pointerId); tools.cancel(); });
-    canvas.addEventListener("pointerleave", () => { sketch.pointed = null; tools.hover(null); });
-    canvas.addEventListener("contextmenu", (event) => event.preventDefault());
-    canvas.addEventListener("wheel", (event) => {
-      event.preventDefault();
-      sketch.zoom(Math.exp(-Math.max(-100, Math.min(100, event.deltaY)) / 500), event.offsetX, event.offsetY);
-    }, { passive: false });
-  }
-
-  /** Sets what the buttons and fields do. */
-  function listenToButtons() {
-    const clicks = { undo: actions.undo, redo: actions.redo, play: actions.play, back: () => actions.step(-1), next: () => actions.step(1), first: actions.first,
-      last: actions.last, fit: () => sketch.fit(), in: () => sketch.zoom(1.25), out: () => sketch.zoom(0.8), rotate: () => tools.turn("rotate"),
-      "flip-x": () => tools.turn("flip-x"), "flip-y": () => tools.turn("flip-y"), copy: () => tools.copy(), paste: actions.paste, delete: () => tools.remove() };
-    for (const [id, action] of Object.entries(clicks)) element(id).addEventListener("click", action);
-    for (const [name, [title, key]] of Object.entries(TOOLS)) {
-      buttons[name] = button(title, () => choose(name));
-      buttons[name].title = `${title} (${key})`;
-      buttons[name].id = `tool-${name}`;
-      element("palette").append(buttons[name]);
-    }
-    element("slider").addEventListener("input", (event) => { desk.player.play(0); desk.player.seek(Number(event.target.value)); });
-    element("wire").addEventListener("input", (event) => { tools.wire = event.target.value.trim(); });
-    element("pair").addEventListener("change", (event) => { tools.isPair = event.target.checked; });
-    element("with-wires").addEventListener("change", (event) => { tools.hasWires = event.target.checked; });
-    element("skip").addEventListener("click", (event) => { event.preventDefault(); element("badge").click(); });
-    element("hint-cell").addEventListener("click", () => { choose("cell"); element("cell-name").focus(); });
-    element("hint-circuit").addEventListener("click", () => { element("gates").open = true; element("circuit").focus(); });
-    element("keys").textContent = KEYS;
-  }
-
-  const ends = button("put outputs and waste where the balls end", () => tools.placeEnds());
-  ends.id = "ends";
-
-  /** Sets what follows from changes of the desk and the window. */
-  function listenToChanges() {
-    desk.listen("change", showChange);
-    desk.listen("time", showTime);
-    desk.listen("end", showEnd);
-    desk.listen("ways", () => sketch.takeWays());
-    desk.listen("play", () => { element("play").textContent = desk.player.direction ? "■ stop" : "play ▶"; });
-    Object.assign(sketch, { onPaint: showCell, onPainted: () => minimap.paint() });
-    tools.onTool = showTool;
-    tools.askLarger = (words, size) => ask("The cell is larger than the layout", [made("p", words)], [[`make the layout ${size.join(" by ")}`, () => true], ["cancel", () => null]]);
-    verdicts.onInputs = () => panels.showInputs();
-    new ResizeObserver(() => (sketch.isFit ? sketch.fit() : sketch.paint())).observe(canvasParts.whole);
-    new ResizeObserver(() => sketch.paintWave()).observe(canvasParts.waveBox);
-    element("wave-part").addEventListener("toggle", () => desk.setWave(element("wave-part").open));
-    const { wave } = canvasParts, seek = (event) => { if (event.buttons & 1) desk.player.seek(sketch.timeAt(event.offsetX)); };
-    for (const name of ["pointerdown", "pointermove"]) wave.addEventListener(name, seek);
-    matchMedia("(prefers-color-scheme: dark)").addEventListener("change", () => { sketch.redraw(); sketch.paintWave(); panels.showLegend(); });
-    document.addEventListener("keydown", onKey);
-  }
-
-  /** Asks the server for the file, the templates and the standard cells. */
-  async function begin() {
-    const start = await server.request("start");
-    if (start.error) { notice(start.error); return; }
-    verdicts.program = start.program;
-    Object.assign(files, { folder: start.folder, templates: start.templates, examples: start.examples });
-    if (!start.program.path) notice(`There are no verdicts: the program was not found (${start.program.why}).`);
-    files.take(start);
-    sketch.fit();
-    await takeCells();
-  }
-
-  /** Asks the server for the standard cells. */
-  async function takeCells() {
-    const { cells = [] } = await server.request("cells"), list = element("cell-name");
-    list.replaceChildren(...cells.map(({ name }) => Object.assign(made("option", name), { value: name })));
-    const take = () => { tools.cell = cells.find(({ name }) => name === list.value) || null; };
-    list.addEventListener("change", take);
-    take();
-  }
-
-  listenToButtons();
-  element("choices-of-tool").append(ends);
-  listenToPointers(canvasParts.whole);
-  listenToChanges();
-  choose("mirror");
-  begin();
-  // What the tests and the console may look at.
-  bbmlab.studio = { desk, sketch, tools, verdicts, files, router };
 }
+
+function onKey(event) {
+  const { target, key } = event;
+  const isField = ["INPUT", "TEXTAREA", "SELECT"].includes(target.tagName) && target.type !== "checkbox";
+  const isNumber = target.type === "number";
+  if (element("dialog").open) return;
+  if (event.ctrlKey || event.metaKey) {
+    if (!Object.hasOwn(CONTROL, key) || isField && !(target.id === "circuit" || isNumber ? "szyZ" : "s").includes(key))
+        return;
+    // Words that are marked, as in the report, are for the browser to copy.
+    if (key === "c" && target !== canvasParts.whole && !getSelection().isCollapsed) return;
+    // A number that is typed and not taken yet is the first thing to undo.
+    if (!(isNumber && "zyZ".includes(key) && panels.cancelTyping(target.id))) CONTROL[key]();
+  } else if (isField) return;
+  else if (ARROWS[key] && target === canvasParts.whole) onArrow(event, ARROWS[key]);
+  else if (Object.hasOwn(PLAIN, key) && !(target.tagName === "BUTTON" && " Enter".includes(key))
+    && !(key === "Enter" && target !== canvasParts.whole)) PLAIN[key]();
+  else return;
+  event.preventDefault();
+}
+
+// ---- pointers
+
+// Where each finger and the mouse were last, by the number of the pointer.
+const fingers = new Map();
+const isHand = (event) => tools.name === "hand" || event.buttons & 6;
+
+/** Returns how far two fingers are apart, and the place in the middle. */
+function spread() {
+  const [[x, y], [u, v]] = fingers.values();
+  return { gap: Math.hypot(x - u, y - v), x: (x + u) / 2, y: (y + v) / 2 };
+}
+
+/** Draws with one finger or the mouse; moves and zooms the picture with two or with the hand. */
+function movePointer(event) {
+  const from = fingers.get(event.pointerId), cell = sketch.cellAt(event.offsetX, event.offsetY);
+  sketch.pointed = cell;
+  if (!from) {
+    tools.hover(cell);
+    return;
+  }
+  const before = fingers.size === 2 ? spread() : null;
+  fingers.set(event.pointerId, [event.offsetX, event.offsetY]);
+  if (before) {
+    const after = spread();
+    sketch.pan(before.x - after.x, before.y - after.y);
+    if (before.gap > 0) sketch.zoom(after.gap / before.gap, after.x, after.y);
+  } else if (isHand(event)) sketch.pan(from[0] - event.offsetX, from[1] - event.offsetY);
+  else tools.drag(cell);
+}
+
+/**
+ * Draws with one finger or the mouse, and moves and zooms the picture with two, with the hand, or with another button
+ * of the mouse.
+ */
+function listenToPointers(canvas) {
+  canvas.addEventListener("pointerdown", (event) => {
+    fingers.set(event.pointerId, [event.offsetX, event.offsetY]);
+    canvas.setPointerCapture(event.pointerId);
+    sketch.cursor = null;
+    if (fingers.size > 1) tools.cancel();
+    else if (!isHand(event)) tools.down(sketch.cellAt(event.offsetX, event.offsetY), event.shiftKey);
+  });
+  canvas.addEventListener("pointermove", movePointer);
+  canvas.addEventListener("pointerup", (event) => {
+    fingers.delete(event.pointerId);
+    tools.up(sketch.cellAt(event.offsetX, event.offsetY));
+    showTool();
+  });
+  canvas.addEventListener("pointercancel", (event) => {
+    fingers.delete(event.pointerId);
+    tools.cancel();
+  });
+  canvas.addEventListener("pointerleave", () => {
+    sketch.pointed = null;
+    tools.hover(null);
+  });
+  canvas.addEventListener("contextmenu", (event) => event.preventDefault());
+  canvas.addEventListener("wheel", (event) => {
+    event.preventDefault();
+    sketch.zoom(Math.exp(-Math.max(-100, Math.min(100, event.deltaY)) / 500), event.offsetX, event.offsetY);
+  }, { passive: false });
+}
+
+/** Sets what the buttons and fields do. */
+function listenToButtons() {
+  const clicks = { undo: actions.undo, redo: actions.redo, play: actions.play, back: () => actions.step(-1),
+    next: () => actions.step(1), first: actions.first,
+    last: actions.last, fit: () => sketch.fit(), in: () => sketch.zoom(1.25), out: () => sketch.zoom(0.8),
+      rotate: () => tools.turn("rotate"),
+    "flip-x": () => tools.turn("flip-x"), "flip-y": () => tools.turn("flip-y"), copy: () => tools.copy(),
+      paste: actions.paste, delete: () => tools.remove() };
+  for (const [id, action] of Object.entries(clicks)) element(id).addEventListener("click", action);
+  for (const [name, [title, key]] of Object.entries(TOOLS)) {
+    buttons[name] = button(title, () => choose(name));
+    buttons[name].title = `${title} (${key})`;
+    buttons[name].id = `tool-${name}`;
+    element("palette").append(buttons[name]);
+  }
+  element("slider").addEventListener("input", (event) => {
+    desk.player.play(0);
+    desk.player.seek(Number(event.target.value));
+  });
+  element("wire").addEventListener("input", (event) => { tools.wire = event.target.value.trim(); });
+  element("pair").addEventListener("change", (event) => { tools.isPair = event.target.checked; });
+  element("with-wires").addEventListener("change", (event) => { tools.hasWires = event.target.checked; });
+  element("skip").addEventListener("click", (event) => {
+    event.preventDefault();
+    element("badge").click();
+  });
+  element("hint-cell").addEventListener("click", () => {
+    choose("cell");
+    element("cell-name").focus();
+  });
+  element("hint-circuit").addEventListener("click", () => {
+    element("gates").open = true;
+    element("circuit").focus();
+  });
+  element("keys").textContent = KEYS;
+}
+
+const ends = button("put outputs and waste where the balls end", () => tools.placeEnds());
+ends.id = "ends";
+
+/** Sets what follows from changes of the desk and the window. */
+function listenToChanges() {
+  desk.listen("change", showChange);
+  desk.listen("time", showTime);
+  desk.listen("end", showEnd);
+  desk.listen("ways", () => sketch.takeWays());
+  desk.listen("play", () => { element("play").textContent = desk.player.direction ? "■ stop" : "play ▶"; });
+  sketch.onPaint = showCell;
+  sketch.onPainted = () => minimap.paint();
+  tools.onTool = showTool;
+  tools.askLarger = (words, size) => ask("The cell is larger than the layout", [made("p", words)],
+    [[`make the layout ${size.join(" by ")}`, () => true], ["cancel", () => null]]);
+  verdicts.onInputs = () => panels.showInputs();
+  new ResizeObserver(() => (sketch.isFit ? sketch.fit() : sketch.requestPaint())).observe(canvasParts.whole);
+  new ResizeObserver(() => sketch.paintWave()).observe(canvasParts.waveBox);
+  element("wave-part").addEventListener("toggle", () => desk.setWave(element("wave-part").open));
+  const { wave } = canvasParts;
+  const seek = (event) => { if (event.buttons & 1) desk.player.seek(sketch.timeAt(event.offsetX)); };
+  for (const name of ["pointerdown", "pointermove"]) wave.addEventListener(name, seek);
+  matchMedia("(prefers-color-scheme: dark)").addEventListener("change", () => {
+    sketch.redraw();
+    sketch.paintWave();
+    panels.showLegend();
+  });
+  document.addEventListener("keydown", onKey);
+}
+
+/** Asks the server for the file, the templates and the standard cells. */
+async function begin() {
+  const start = await server.request("start");
+  if (start.error) {
+    notice(start.error);
+    return;
+  }
+  verdicts.program = start.program;
+  files.folder = start.folder;
+  files.templates = start.templates;
+  files.examples = start.examples;
+  if (!start.program.path) notice(`There are no verdicts: the program was not found (${start.program.why}).`);
+  files.take(start);
+  sketch.fit();
+  await takeCells();
+}
+
+/** Asks the server for the standard cells. */
+async function takeCells() {
+  const { cells = [] } = await server.request("cells"), list = element("cell-name");
+  list.replaceChildren(...cells.map(({ name }) => Object.assign(made("option", name), { value: name })));
+  const take = () => { tools.cell = cells.find(({ name }) => name === list.value) || null; };
+  list.addEventListener("change", take);
+  take();
+}
+
+listenToButtons();
+element("choices-of-tool").append(ends);
+listenToPointers(canvasParts.whole);
+listenToChanges();
+choose("mirror");
+begin();
+// What the tests and the console may look at.
+globalThis.bbmlab = { parts, server, studio: { desk, sketch, tools, verdicts, files, router } };

@@ -1,48 +1,51 @@
 /**
- * The worker of the page: runs the newest layout that it was sent, for its ways and its truth table, and sends what it finds. While it runs it
- * looks for newer ones.
+ * The worker of the page: runs the newest layout that it was sent, for its ways and its truth table, and sends what it
+ * finds. While it runs it looks for newer ones.
  */
-"use strict";
+import * as surveys from "./survey.js";
+import { Survey, TruthTable } from "./survey.js";
 
-importScripts("../view/automaton.js", "geometry.js", "survey.js");
+// How long a run may take before newer messages are looked at, in milliseconds.
+const SLICE = 12;
+const work = { number: 0, circuit: null }, turns = new MessageChannel();
 
-{
-  const { Survey, TruthTable, surveys } = bbmlab;
-  // How long a run may take before newer messages are looked at, in milliseconds.
-  const SLICE = 12;
-  const work = { number: 0, circuit: null }, turns = new MessageChannel();
-
-  /** Returns the choices of inputs whose ways are wanted: those that are on, or all of a few inputs, or some of many. */
-  function choicesOf({ on, isExact }, layout, circuit) {
-    if (on) return [new Set(on)];
-    const inputs = circuit ? circuit.inputs : [...new Set(layout.ins.map(({ name }) => name))];
-    return isExact ? surveys.allChoices(inputs) : surveys.sampledChoices(inputs);
-  }
-
-  /** Sends the ways. Its large arrays are handed over. */
-  function sendWays(number, survey) {
-    const ways = survey.shown();
-    postMessage({ number, ways }, [ways.ways.buffer, ways.live.buffer, ways.isMirror.buffer]);
-  }
-
-  /** Runs for a while, first for the ways and then for the table, and goes on later if there is more to do. */
-  function advance() {
-    const { number, survey, table } = work;
-    if (survey) {
-      if (survey.advance(SLICE)) { work.survey = null; sendWays(number, survey); }
-    } else if (table && table.advance(SLICE)) {
-      work.table = null;
-      postMessage({ number, rows: table.rows() });
-    }
-    if (work.survey || work.table) turns.port2.postMessage(null);
-  }
-
-  /** Begins with another layout. */
-  onmessage = ({ data: { number, layout, ways, hasTable, circuit = work.circuit } }) => {
-    const isIdle = !work.survey && !work.table, survey = ways && new Survey(layout, circuit, choicesOf(ways, layout, circuit));
-    Object.assign(work, { number, circuit, survey, table: hasTable ? new TruthTable(layout, circuit) : null });
-    if (isIdle && (work.survey || work.table)) turns.port2.postMessage(null);
-  };
-
-  turns.port1.onmessage = advance;
+/** Returns the choices of inputs whose ways are wanted: those that are on, or all of a few inputs, or some of many. */
+function choicesOf({ on, isExact }, layout, circuit) {
+  if (on) return [new Set(on)];
+  const inputs = circuit ? circuit.inputs : [...new Set(layout.ins.map(({ name }) => name))];
+  return isExact ? surveys.allChoices(inputs) : surveys.sampledChoices(inputs);
 }
+
+/** Sends the ways. Its large arrays are handed over. */
+function sendWays(number, survey) {
+  const ways = survey.shown();
+  postMessage({ number, ways }, [ways.ways.buffer, ways.live.buffer, ways.isMirror.buffer]);
+}
+
+/** Runs for a while, first for the ways and then for the table, and goes on later if there is more to do. */
+function advance() {
+  const { number, survey, table } = work;
+  if (survey) {
+    if (survey.advance(SLICE)) {
+      work.survey = null;
+      sendWays(number, survey);
+    }
+  } else if (table && table.advance(SLICE)) {
+    work.table = null;
+    postMessage({ number, rows: table.rows() });
+  }
+  if (work.survey || work.table) turns.port2.postMessage(null);
+}
+
+/** Begins with another layout. */
+onmessage = ({ data: { number, layout, ways, hasTable, circuit = work.circuit } }) => {
+  const isIdle = !work.survey && !work.table;
+  const survey = ways && new Survey(layout, circuit, choicesOf(ways, layout, circuit));
+  work.number = number;
+  work.circuit = circuit;
+  work.survey = survey;
+  work.table = hasTable ? new TruthTable(layout, circuit) : null;
+  if (isIdle && (work.survey || work.table)) turns.port2.postMessage(null);
+};
+
+turns.port1.onmessage = advance;

@@ -6,36 +6,41 @@ Only the program gives a verdict. The lab makes the certificates, the words and 
 from dataclasses import dataclass, field
 from typing import Any
 
-from ..boxes import Box
-from ..certificates import MAX_BOX_SIDE, MAX_CUTS, MAX_USES, Certificate, Module
-from ..certify import Plan, certificate_text, certified
-from ..circuits import Circuit, values_under
-from ..diagnosis import Diagnosis, Truth
-from ..documents import Document, read_document
-from ..explaining import explain_report, tried_words
-from ..fixing import Fix, Fixer, head_of, outcome_words
-from ..layouts import Cell, Layout
-from ..processor import processor_seconds
-from ..program import Answer, Executable, ProgramError, ProgramTimeout, ask
-from ..refusals import explain_code, explain_refusal
-from ..reports import Finding, Report, ReportError, parse_report
-from ..spelling import source_line, spelled
-from ..terminal import LabError
-from ..trials import Budget, Trial
+from ..certify.certifier import CertificatePlan, certificate_text, certified
+from ..explain.diagnosis import Diagnosis, Truth
+from ..explain.explaining import explain_report, tried_words
+from ..explain.fixing import Fix, Fixer, outcome_words
+from ..explain.trials import Budget, Trial
+from ..host.processor import processor_seconds
+from ..host.program import Answer, Executable, ProgramError, ProgramTimeout, ask
+from ..host.terminal import LabError
+from ..texts.boxes import Box
+from ..texts.certificates import MAX_BOX_SIDE, MAX_CUTS, MAX_USES, Certificate, Module
+from ..texts.circuits import Circuit, values_under
+from ..texts.documents import Document, read_document
+from ..texts.layouts import Cell, Layout
+from ..texts.refusals import explain_code, explain_refusal
+from ..texts.reports import Finding, Report, ReportError, parse_report
+from ..texts.skimming import cuts_of, head_of
+from ..texts.spelling import source_line, spelled
 
 # The most lines of a report for which fixes are looked for one by one, and the most lines that are sent to the page.
 MAX_FIXED, MAX_LINES = 6, 200
-SEARCHED = {"own": "The certificate of the text was checked. The lab found no other one:",
+NO_OTHER_FOUND = {"own": "The certificate of the text was checked. The lab found no other one:",
             "earlier": "The last certificate that got a yes was checked. The lab found no other one:"}
 
 
 @dataclass
 class Verdict:
-    """What the page shows of a text: `verdict` is yes, no, refused, none (no certificate was found) or unknown (no answer)."""
+    """What the page shows of a text:
+
+    `verdict` is yes, no, refused, none (no certificate was found) or unknown (no answer).
+    """
 
     verdict: str
     words: list[str]
-    # Whose certificate was checked: own (the text's), earlier (the last one that got a yes), plain (one module, all inputs) or certify.
+    # Whose certificate was checked: own (the text's), earlier (the last one that got a yes), plain (one module, all
+    # inputs) or certify.
     by: str = ""
     # The text that the program read, and what it wrote.
     bundle: str = ""
@@ -51,7 +56,10 @@ class Verdict:
 
 
 class Judge:
-    """Asks the program about one text, within a number of seconds. `earlier` is a certificate that got a yes before the last edits."""
+    """Asks the program about one text, within a number of seconds.
+
+    `earlier` is a certificate that got a yes before the last edits.
+    """
 
     def __init__(self, text: str, program: Executable, seconds: float, earlier: str = "") -> None:
         self.source, self.program, self.seconds, self.earlier = text, program, seconds, earlier
@@ -65,7 +73,8 @@ class Judge:
         return ask(self.program, "check", bundle.encode("latin-1"), self.seconds)
 
     def verdict(self, stage: str = "") -> Verdict:
-        """Returns the verdict: of the stage `first` that by the certificates which need no search, of `made` that by the lab's, or the last one.
+        """Returns the verdict: of the stage `first` that by the certificates which need no search, of `made` that by
+        the lab's, or the last one.
 
         `other` is `made` after a no: no certificate is made if the program's runs show that none gets a yes.
         """
@@ -83,7 +92,8 @@ class Judge:
             return Verdict("unknown", ["There is no verdict: the memory limit was reached."])
 
     def first(self) -> Verdict:
-        """Tries the text's own certificate, the earlier one, and for a small layout one of one module, up to a yes or a no that no certificate changes."""
+        """Tries the text's own certificate, the earlier one, and for a small layout one of one module, up to a yes or a
+        no that no certificate changes."""
         design = read_document(self.head, "design")
         if design.refusal or design.circuit is None or design.layout is None:
             bundle = self.text if self.head != self.text else self.head + "certificate 2\nend\n"
@@ -98,18 +108,21 @@ class Judge:
         earlier = self.judged(self.head + self.earlier, "earlier") if self.earlier else None
         if earlier and earlier.verdict == "yes":
             return earlier
-        found = own if own and own.verdict == "no" else earlier if earlier and earlier.verdict == "no" else Verdict("none", [])
+        found = own if own and own.verdict == "no" else earlier if earlier and earlier.verdict == "no" else Verdict(
+            "none", [])
         found.is_last = False
         return found
 
     def wrong_end(self, design: Document) -> str | None:
-        """Says why no certificate gets a yes, if the program's run with all inputs on, or with none, does not end as the circuit and the layout ask."""
+        """Says why no certificate gets a yes, if the program's run with all inputs on, or with none, does not end as
+        the circuit and the layout ask."""
         circuit, layout = design.circuit, design.layout
         if circuit is None or layout is None:
             return None
         choices: list[tuple[str, list[str]]] = [("all inputs", circuit.inputs), ("no input", [])]
         for words, on in choices:
-            lines = [self.head[self.head.find("\nlayout ") + 1:].rstrip("\n"), "assign", *(f"on {name}" for name in on), "end", ""]
+            lines = [self.head[self.head.find("\nlayout ") + 1:].rstrip("\n"), "assign", *(f"on {name}" for name in on),
+                     "end", ""]
             answer = ask(self.program, "run", "\n".join(lines).encode("latin-1"), self.seconds)
             if answer.status != 0 or not answer.output.startswith("cells "):
                 return None
@@ -117,7 +130,8 @@ class Judge:
             cell = wrong_cell(circuit, layout, set(on), live)
             if cell:
                 is_live, other = ("live", "dead") if cell in live else ("dead", "live")
-                return f"With {words} on the cell {cell} is {is_live} at the end and should be {other}. So no certificate gets a yes."
+                return (f"With {words} on the cell {cell} is {is_live} at the end and should be {other}. So no "
+                        "certificate gets a yes.")
         return None
 
     def made(self, first: Verdict) -> Verdict:
@@ -126,22 +140,23 @@ class Judge:
         self.inputs = design.circuit.inputs if design.circuit else []
         made = self.certified(design)
         if made.verdict == "none" and first.verdict == "no":
-            first.words += [SEARCHED[first.by], *made.words]
+            first.words += [NO_OTHER_FOUND[first.by], *made.words]
             first.is_last = True
             return first
         return made
 
     def certified(self, design: Document) -> Verdict:
-        """Returns the verdict with a certificate that `certify` makes: first without runs of its modules, which the program repeats."""
+        """Returns the verdict with a certificate that `certify` makes: first without runs of its modules, which the
+        program repeats."""
         try:
-            quick = self.judged(certified(design, None, Plan(until=self.until, is_tried=False)), "certify")
+            quick = self.judged(certified(design, None, CertificatePlan(until=self.until, is_tried=False)), "certify")
             if quick.verdict == "yes":
                 return quick
             outcome = Diagnosis(read_document(quick.bundle, "check")).outcome
             if outcome.is_right is Truth.NO:
                 quick.words.append(outcome.words)
                 return quick
-            return self.judged(certified(design, None, Plan(until=self.until)), "certify")
+            return self.judged(certified(design, None, CertificatePlan(until=self.until)), "certify")
         except LabError as error:
             reason = str(error)
             return Verdict("none", [f"{reason[:1].upper()}{reason[1:]}."], "certify")
@@ -159,7 +174,8 @@ class Judge:
         found, cuts = report.faults[:MAX_LINES], cuts_of(bundle) if report.faults else []
         faults = [fault_form(cuts, self.inputs, finding) for finding in found]
         count = len(report.faults)
-        words = [] if report.verdict == "yes" else [f"The report has {count} reason{'s' if count != 1 else ''} for the no."]
+        words = [] if report.verdict == "yes" else [
+            f"The report has {count} reason{'s' if count != 1 else ''} for the no."]
         return Verdict(report.verdict, words, by, bundle, answer.output, faults)
 
     def refused(self, bundle: str, refused: tuple[int, int], output: str) -> Verdict:
@@ -168,12 +184,16 @@ class Judge:
         document = read_document(bundle, "check")
         same = document.refusal is not None and (document.refusal.line, document.refusal.code) == refused
         told = explain_refusal(document, document.refusal) if same and document.refusal else explain_code(line, code)
-        return Verdict("refused", told.what, "own", bundle, output, line=source_line(self.source, self.text, line), code=code, rule=told.rule,
+        return Verdict("refused", told.what, "own", bundle, output, line=source_line(self.source, self.text, line),
+                       code=code, rule=told.rule,
                        hints=told.hints)
 
 
 def wrong_cell(circuit: Circuit, layout: Layout, on: set[str], live: set[Cell]) -> Cell | None:
-    """Returns a cell that is not as the circuit and the layout ask where just some cells are live at the end. None if a gate lacks its row."""
+    """Returns a cell that is not as the circuit and the layout ask where just some cells are live at the end.
+
+    None if a gate lacks its row.
+    """
     values, missing = values_under(circuit, on)
     if missing is not None:
         return None
@@ -188,11 +208,13 @@ def has_delay(circuit: Circuit) -> bool:
 
 
 def plain_certificate(circuit: Circuit, layout: Layout) -> str | None:
-    """Returns a certificate of one module for the whole layout that cuts all inputs and uses all gates, or None if it is too large.
+    """Returns a certificate of one module for the whole layout that cuts all inputs and uses all gates, or None if it
+    is too large.
 
     A no to it is about the circuit, the layout or a live rim, unless there are delays (docs/GUIDE.md).
     """
-    if max(layout.width, layout.height) > MAX_BOX_SIDE or len(circuit.inputs) > MAX_CUTS or len(circuit.gates) > MAX_USES:
+    if max(layout.width,
+           layout.height) > MAX_BOX_SIDE or len(circuit.inputs) > MAX_CUTS or len(circuit.gates) > MAX_USES:
         return None
     module = Module(0, Box(0, 0, layout.width, layout.height), 0)
     module.cuts, module.uses = list(circuit.inputs), {gate.number: 0 for gate in circuit.gates}
@@ -200,14 +222,9 @@ def plain_certificate(circuit: Circuit, layout: Layout) -> str | None:
     return certificate_text(Certificate(2, [module]))
 
 
-def cuts_of(bundle: str) -> list[list[str]]:
-    """Returns the wires that each module of a bundle that was read cuts. It reads no other line: most lines of a large one are at borders."""
-    modules = bundle[bundle.find("\ncertificate ") + 1:].split("\nmodule ")[1:]
-    return [[line.split(" ")[1] for line in module.split("\n", MAX_CUTS + 1)[1:] if line.startswith("cut ")] for module in modules]
-
-
 def fault_form(cuts: list[list[str]], inputs: list[str], finding: Finding) -> dict[str, Any]:
-    """Returns a line of a report for the page: its words, its cell and time, and the inputs that are on if the module cuts inputs alone."""
+    """Returns a line of a report for the page: its words, its cell and time, and the inputs that are on if the module
+    cuts inputs alone."""
     form: dict[str, Any] = {"text": finding.text}
     if "x" in finding.values:
         form |= {"cell": [finding.number("x"), finding.number("y")], "time": finding.number("time")}
@@ -222,13 +239,17 @@ def fault_form(cuts: list[list[str]], inputs: list[str], finding: Finding) -> di
 
 
 def explained(text: str, bundle: str, output: str, program: Executable, seconds: float) -> dict[str, Any]:
-    """Returns a no or a refusal in words, with fixes that were tried. `text` is the page's, `bundle` is what the program read."""
+    """Returns a no or a refusal in words, with fixes that were tried.
+
+    `text` is the page's, `bundle` is what the program read.
+    """
     trial, has_own = Trial(program, Budget(200, seconds)), head_of(spelled(text).text) != spelled(text).text
     report = parse_report(output)
     document = read_document(bundle, "check")
     made = explain_report(document, report, "", None)
     fixer = Fixer(bundle if has_own or not report.refused else head_of(bundle), report, trial)
-    entries: list[dict[str, Any]] = [{"line": entry.report_line, "what": entry.what, "fix": None} for entry in made.entries if entry.is_against][:MAX_LINES]
+    entries: list[dict[str, Any]] = [{"line": entry.report_line, "what": entry.what, "fix": None}
+                                     for entry in made.entries if entry.is_against][:MAX_LINES]
     whole = fixer.find()
     forms = {entry["line"]: entry for entry in entries}
     if not report.refused and document.certificate:
@@ -237,8 +258,12 @@ def explained(text: str, bundle: str, output: str, program: Executable, seconds:
             "tried": [] if whole else tried_words(fixer, trial)}
 
 
-def add_line_fixes(forms: dict[str, dict[str, Any]], fixer: Fixer, diagnosis: Diagnosis, report: Report, has_own: bool) -> None:
-    """Adds fixes of single lines of a report. Without a certificate of its own a text has no lines that these fixes could change."""
+def add_line_fixes(forms: dict[str, dict[str, Any]], fixer: Fixer, diagnosis: Diagnosis, report: Report,
+                   has_own: bool) -> None:
+    """Adds fixes of single lines of a report.
+
+    Without a certificate of its own a text has no lines that these fixes could change.
+    """
     if not has_own:
         return
     for finding in report.faults[:MAX_FIXED]:
@@ -248,7 +273,10 @@ def add_line_fixes(forms: dict[str, dict[str, Any]], fixer: Fixer, diagnosis: Di
 
 
 def fix_form(fix: Fix | None, report: Report, has_own: bool) -> dict[str, Any] | None:
-    """Returns a fix for the page: its sentences, the verdict, and the text after it. A text without a certificate stays without one."""
+    """Returns a fix for the page: its sentences, the verdict, and the text after it.
+
+    A text without a certificate stays without one.
+    """
     if fix is None:
         return None
     text = fix.text if has_own else head_of(fix.text)

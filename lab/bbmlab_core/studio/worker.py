@@ -1,7 +1,9 @@
-"""The process that makes verdicts, fixes and exports for the studio. It can be killed at any time, with the program that it runs.
+"""The process that makes verdicts, fixes and exports for the studio. It can be killed at any time, with the program
+that it runs.
 
-It reads a JSON document a line from standard input and writes one for each to standard output. Its arguments are the program's path, the
-descriptor and the digest of its copy, which it inherits, the seconds for one verdict and the memory in MiB.
+It reads a JSON document a line from standard input and writes one for each to standard output. Its arguments are the
+program's path, the descriptor and the digest of its copy, which it inherits, the seconds for one verdict and the memory
+in MiB.
 """
 
 import json
@@ -15,14 +17,18 @@ from dataclasses import asdict
 from types import FrameType
 from typing import Any
 
-from .. import drawing, explaining, golly, program, tracing, viewing
-from ..documents import Document, read_document
-from ..layouts import Layout
-from ..program import Executable
-from ..reports import ReportError
-from ..signals import beat
-from ..spelling import spelled
-from ..terminal import LabError
+from ..explain import explaining
+from ..host import program
+from ..host.program import Executable
+from ..host.signals import beat
+from ..host.terminal import LabError
+from ..physics import tracing
+from ..pictures import drawing, golly
+from ..texts.documents import Document, read_document
+from ..texts.layouts import Layout
+from ..texts.reports import ReportError
+from ..texts.spelling import spelled
+from ..view import viewing
 from .folder import FolderError, bytes_of
 from .verdicts import Judge, explained, fixes_of_design
 
@@ -44,7 +50,8 @@ def verdict(job: dict[str, Any], asked: Executable, seconds: float) -> dict[str,
 
 
 def explain(job: dict[str, Any], asked: Executable, seconds: float) -> dict[str, Any]:
-    """Returns a verdict in words, with fixes. Without a report it is one of a text for which no certificate was found."""
+    """Returns a verdict in words, with fixes. Without a report it is one of a text for which no certificate was found.
+    """
     limit = min(FIX_SECONDS, seconds)
     if not job["report"]:
         return fixes_of_design(lab_text(job["text"]), asked, limit)
@@ -109,7 +116,8 @@ def stop(_number: int, _frame: FrameType | None) -> None:
 
 
 def limit_memory(memory: int) -> None:
-    """Limits the memory of this process and of the program, to less than is asked for if this user may not have as much."""
+    """Limits the memory of this process and of the program, to less than is asked for if this user may not have as
+    much."""
     _, most = resource.getrlimit(resource.RLIMIT_AS)
     limit = memory if most == resource.RLIM_INFINITY else min(memory, most)
     resource.setrlimit(resource.RLIMIT_AS, (limit, limit))
@@ -117,7 +125,8 @@ def limit_memory(memory: int) -> None:
 
 def main() -> int:
     """Answers jobs until the input ends."""
-    asked, seconds, memory = Executable(sys.argv[1], int(sys.argv[2]), sys.argv[3]), float(sys.argv[4]), int(sys.argv[5]) * 2 ** 20
+    asked, seconds, memory = Executable(sys.argv[1], int(sys.argv[2]),
+                                        sys.argv[3]), float(sys.argv[4]), int(sys.argv[5]) * 2 ** 20
     limit_memory(memory)
     resource.setrlimit(resource.RLIMIT_CORE, (0, 0))
     program.SHARED = program.Running()

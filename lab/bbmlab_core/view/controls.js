@@ -1,374 +1,460 @@
 /** Connects the page: keys, pointers, buttons, the address and downloads. It comes last, and begins. */
-"use strict";
+import * as address from "./address.js";
+import { Minimap } from "./minimap.js";
+import * as panels from "./panels.js";
+import { Player } from "./player.js";
+import { counted, Stage } from "./stage.js";
 
-{
-  const { Player, Stage, Minimap, counted, panels, address } = bbmlab;
-  const { element } = panels;
-  const data = JSON.parse(element("data").textContent);
-  const player = new Player(data), { layout } = player;
-  const parts = Object.fromEntries(Object.entries({ whole: "whole", own: "own", note: "beside-note", wave: "wave", waveBox: "wave-box",
-    waveRest: "wave-rest", waveCursor: "wave-cursor" }).map(([name, id]) => [name, element(id)]));
-  const stage = new Stage(player, parts), minimap = new Minimap(stage, element("map"));
-  const entries = data.explanation ? data.explanation.entries : [];
-  const limits = { steps: layout.steps, names: player.names, faults: entries.length };
-  // The buttons of the report, which of them is shown, and timers.
-  const shown = { buttons: [], entry: null, addressTimer: 0, speechTimer: 0, place: null };
-  // How long the page waits after a change before it is spoken, and before it is written to the address, in milliseconds.
-  const SPEECH_DELAY = 600, ADDRESS_DELAY = 250, PAN_STEP = 40;
-  // Larger layouts show the ways at first: their cells are too small to be seen.
-  const LARGE_SIDE = 512, MAX_TIMES = 6;
+const { element } = panels;
+const data = JSON.parse(element("data").textContent);
+const player = new Player(data), { layout } = player;
+const parts = Object.fromEntries(
+  Object.entries({ whole: "whole", own: "own", note: "beside-note", wave: "wave", waveBox: "wave-box",
+  waveRest: "wave-rest", waveCursor: "wave-cursor" }).map(([name, id]) => [name, element(id)]));
+const stage = new Stage(player, parts), minimap = new Minimap(stage, element("map"));
+const entries = data.explanation ? data.explanation.entries : [];
+const limits = { steps: layout.steps, names: player.names, faults: entries.length };
+// The buttons of the report, which of them is shown, and timers.
+const pageState = { buttons: [], entry: null, addressTimer: 0, speechTimer: 0, place: null };
+// How long the page waits after a change before it is spoken, and before it is written to the address, in milliseconds.
+const SPEECH_DELAY = 600, ADDRESS_DELAY = 250, PAN_STEP = 40;
+// Larger layouts show the ways at first: their cells are too small to be seen.
+const LARGE_SIDE = 512, MAX_TIMES = 6;
 
-  /** Says the state to who can't see it: when it has been still for a while, and not while it plays. */
-  function speakSoon() {
-    clearTimeout(shown.speechTimer);
-    if (player.direction !== 0) return;
-    shown.speechTimer = setTimeout(() => {
-      const words = [`Time ${player.run.time} of ${layout.steps}.`, element("status").textContent, panels.resultWords(player)];
-      if (player.own) words.push(element("beside-title").textContent, stage.differenceWords());
-      element("spoken").textContent = words.join(" ");
-    }, SPEECH_DELAY);
-  }
-
-  /** Returns what differs from the page as it is opened. */
-  function stateNow() {
-    const on = player.names.filter((name) => player.on.has(name));
-    const isFirst = on.length === player.first.length && player.first.every((name) => player.on.has(name));
-    const { entry } = shown, { time } = player.run;
-    return { time: time > 0 || entry !== null ? time : undefined, on: isFirst && entry === null ? undefined : on,
-      zoom: stage.isFit ? undefined : stage.zoomNow(), fault: entry === null ? undefined : entry + 1, trails: stage.hasTrails ? undefined : false };
-  }
-
-  /** Writes the state to the address when it has been still for a while: browsers refuse to do it often. */
-  function writeAddressSoon() {
-    clearTimeout(shown.addressTimer);
-    if (player.direction !== 0) return;
-    shown.addressTimer = setTimeout(() => {
-      const text = address.write(stateNow()), [page] = location.href.split("#");
-      // A page that a frame shows may have no address of its own.
-      try { history.replaceState(null, "", text ? `${page}#${text}` : page); } catch { return; }
-    }, ADDRESS_DELAY);
-  }
-
-  /** Shows the state that the address says, and the first state for what it does not say. */
-  function readAddress() {
-    const { time, on, zoom, fault, trails = true } = address.read(location.hash, limits);
-    const names = new Set(on || player.first);
-    setTrails(trails);
-    // A line of the report brings inputs, a time and a place, which the address may then say otherwise.
-    if (fault === undefined) closeEntry(); else showEntry(fault - 1);
-    if (fault === undefined || on) player.setInputs(Object.fromEntries(player.names.map((name) => [name, names.has(name)])));
-    player.restart(time ?? (fault === undefined ? 0 : player.target));
-    if (zoom) { stage.centre(zoom[1], zoom[2], zoom[0]); stage.isFit = false; } else if (fault === undefined) stage.fit();
-  }
-
-  /** Shows the time, and whether a ball leaves. */
-  function showTime() {
-    const { time, leftAt } = player.run, slider = element("slider");
-    slider.value = player.target;
-    slider.setAttribute("aria-valuetext", `time ${player.target} of ${layout.steps}`);
-    element("time").textContent = `${time} of ${layout.steps}`;
-    const next = time === layout.steps ? "The last time." : `Next come the ${time % 2 ? "odd" : "even"} blocks.`;
-    element("status").textContent = leftAt === null ? next : `Step ${leftAt} makes a cell outside the rectangle live: the run ends before it.`;
-  }
-
-  /** Shows what the buttons to play do now. */
-  function showPlay() {
-    for (const [id, direction, text] of [["play", 1, "play ▶"], ["reverse", -1, "◀ reverse"]]) {
-      element(id).textContent = player.direction === direction ? "■ stop" : text;
-    }
-  }
-
-  /** Shows the outputs and what depends on the run's end. */
-  function showEnd() {
-    const results = player.results();
-    stage.good = results && new Map(results.flatMap(({ cells }) => cells.map(({ cell, isGood }) => [String(cell), isGood])));
-    panels.showResults(player, goToCell);
-    showTime();
-    stage.paint();
-    stage.paintWave();
-  }
-
-  /** Shows the cell under the pointer with what there is. */
-  function showCell() {
-    stage.pointed = shown.place ? stage.cellAt(...shown.place) : stage.mark;
-    element("cell").textContent = stage.pointed ? stage.wordsOf(stage.pointed) : "";
-  }
-
-  /** Lets the wire under the pointer stand out, or none while the picture moves. */
-  function pointAtWire(isMoving) {
-    const found = shown.place && !isMoving && stage.cellAt(...shown.place) ? stage.wireAt(...shown.place) : null;
-    stage.pointedWire = found && found.wire;
-    showWireWords(found);
-  }
-
-  /** Says what is known of the wire under the pointer, or else of the one that was looked for. */
-  function showWireWords(found) {
-    const wire = found ? found.wire : stage.wire, words = element("wire-words");
-    words.textContent = wire ? `${stage.wires.wordsOf(wire)}${found ? `; here at time ${found.times.slice(0, MAX_TIMES).join(", ")}` : ""}.` : "";
-  }
-
-  /** Shows all ways of the wire whose name was typed. */
-  function findWire() {
-    const name = element("find-wire-name").value.trim(), wire = stage.wires.byName.get(name);
-    shown.place = null;
-    pointAtWire(false);
-    if (name === "") { stage.showWire(null); showWireWords(null); return; }
-    if (!wire) { stage.showWire(null); element("wire-words").textContent = `No ball flies for a wire \u201c${name}\u201d.`; return; }
-    stage.showWire(wire);
-    showWireWords(null);
-    writeAddressSoon();
-  }
-
-  /** Goes to a cell, and marks it. */
-  function goToCell(x, y) {
-    if (x >= layout.width || y >= layout.height) return;
-    stage.mark = [x, y];
-    shown.place = null;
-    stage.lookAt([x + 0.5, y + 0.5], null);
-    showCell();
-    if (innerWidth <= 800) element("whole").scrollIntoView({ block: "nearest" });
-  }
-
-  /** Returns all stops of a wire in order of time. */
-  const stopsOf = (wire) => player.modules.flatMap((module, number) => module.stops.filter((stop) => stop[1] === wire)
-    .map(([time, , x, y]) => ({ time, cell: [x, y], module: number }))).sort((a, b) => a.time - b.time);
-
-  /** Returns the stop that a line `delay` or `meet` speaks of, if there is one. */
-  function stopOf(facts) {
-    if (facts.last_stops) {
-      const late = Object.entries(facts.last_stops).sort((a, b) => b[1] - a[1])[0];
-      return late && stopsOf(late[0]).at(-1);
-    }
-    const gate = data.circuit && facts.gate !== undefined && data.circuit.gates[facts.gate];
-    return gate ? stopsOf(gate.outs[0])[0] || (gate.ins[0] && stopsOf(gate.ins[0]).at(-1)) : undefined;
-  }
-
-  /** Opens the run of a module by itself. */
-  function openOwn(number, values) {
-    player.openOwn(number, values);
-    const words = Object.entries(values).map(([name, value]) => `${name}=${value}`).join(" ") || "no cuts";
-    element("beside-title").textContent = `Module ${number} by itself with ${words}.`;
-    element("beside").hidden = false;
-  }
-
-  /** Closes the run of a module by itself. */
-  function closeOwn() {
-    player.own = null;
-    element("beside").hidden = true;
-    if (stage.isFit) stage.fit(); else stage.paint();
-  }
-
-  /** Notes which line of the report is shown: its button is pressed. */
-  function press(number) {
-    shown.entry = number;
-    shown.buttons.forEach((button, index) => button.setAttribute("aria-pressed", String(index === number)));
-  }
-
-  /** Shows no line of the report. */
-  function closeEntry() {
-    press(null);
-    Object.assign(stage, { fault: null, module: null, mark: null });
-    closeOwn();
-  }
-
-  /** Goes to the module, time, assignment and cell of a line of the report. */
-  function showEntry(number) {
-    const { facts } = entries[number], stop = facts.cell || facts.assignment ? undefined : stopOf(facts);
-    press(number);
-    player.play(0);
-    stage.fault = facts.cell || (stop ? stop.cell : null);
-    stage.mark = null;
-    stage.module = facts.module !== undefined ? facts.module : stop ? stop.module : null;
-    if (facts.inputs) player.setInputs(facts.inputs);
-    if (facts.assignment && facts.module !== undefined) openOwn(facts.module, facts.assignment); else closeOwn();
-    player.restart(facts.time !== undefined ? facts.time : stop ? stop.time : player.target);
-    const box = stage.module === null ? null : player.modules[stage.module].box;
-    const centre = stage.fault ? stage.fault.map((part) => part + 0.5) : box ? [box[0] + box[2] / 2, box[1] + box[3] / 2] : null;
-    if (centre) stage.lookAt(centre, box);
-  }
-
-  /** Goes to a line of the report that somebody chose, and brings the picture into sight. */
-  function chooseEntry(number) {
-    showEntry(number);
-    if (innerWidth <= 800) element("whole").scrollIntoView({ block: "nearest" });
-  }
-
-  /** Goes to the next (1) or previous (-1) line of the report that is against the design. */
-  function nextFault(direction) {
-    const faults = entries.flatMap((entry, number) => (entry.is_against ? [number] : []));
-    if (faults.length === 0) return;
-    const at = faults.indexOf(shown.entry);
-    const number = faults[at < 0 ? (direction > 0 ? 0 : faults.length - 1) : (at + direction + faults.length) % faults.length];
-    showEntry(number);
-    shown.buttons[number].scrollIntoView({ block: "nearest" });
-    if (innerWidth <= 800) element("whole").scrollIntoView({ block: "nearest" });
-  }
-
-  /** Shows or hides the trails. */
-  function setTrails(isOn) {
-    stage.hasTrails = isOn;
-    element("trails").checked = isOn;
-    stage.paint();
-    writeAddressSoon();
-  }
-
-  /** Shows or hides the ways. */
-  function setWays(isOn) {
-    element("ways").checked = isOn;
-    stage.setWays(isOn);
-  }
-
-  /** Prepares what shows the ways, if the page has them. */
-  function beginWays() {
-    const { names, list } = stage.wires;
-    element("ways-part").hidden = element("find-wire").hidden = element("wire-words").hidden = list.length === 0;
-    element("wire-names").replaceChildren(...names.map((name) => Object.assign(document.createElement("option"), { value: name })));
-    if (list.length > 0) setWays(Math.max(layout.width, layout.height) > LARGE_SIDE);
-    element("ways").addEventListener("change", (event) => setWays(event.target.checked));
-    element("find-wire").addEventListener("submit", (event) => { event.preventDefault(); findWire(); });
-    if (stage.wires.sampled) element("ways-part").title += `, ${stage.wires.sampled}`;
-  }
-
-  /** Makes one step. */
-  const step = (direction) => { player.play(0); player.seek(player.target + direction); };
-
-  /** Plays in a direction, or stops if it plays so already. */
-  const toggle = (direction) => player.play(player.direction === direction ? 0 : direction);
-
-  /** Writes a file to the reader's disk. */
-  function save(file, kind) {
-    const found = document.createElement("a");
-    found.href = URL.createObjectURL(file);
-    found.download = `${document.title.replace(/\.[a-z]+$/, "").replace(/[^\w.-]+/g, "_") || "layout"}_${player.run.time}.${kind}`;
-    found.click();
-    setTimeout(() => URL.revokeObjectURL(found.href), 10000);
-  }
-
-  const MOVES = { ArrowLeft: [-PAN_STEP, 0], ArrowRight: [PAN_STEP, 0], ArrowUp: [0, -PAN_STEP], ArrowDown: [0, PAN_STEP] };
-  const ACTIONS = {
-    " ": () => player.play(player.direction ? 0 : 1), b: () => toggle(-1), ArrowRight: () => step(1), ArrowLeft: () => step(-1),
-    Home: () => player.seek(0), End: () => player.seek(layout.steps), 0: () => stage.fit(), "+": () => stage.zoom(1.25), "=": () => stage.zoom(1.25),
-    "-": () => stage.zoom(0.8), n: () => nextFault(1), p: () => nextFault(-1), t: () => setTrails(!stage.hasTrails),
-    w: () => { if (stage.wires.list.length) setWays(!stage.hasWays); },
-  };
-
-  /** Whether the element that has the focus uses a key itself. */
-  function isTaken(target, key) {
-    if (target.type === "text") return true;
-    if (target.type === "range") return !" bnptw".includes(key);
-    return ["INPUT", "BUTTON", "SUMMARY"].includes(target.tagName) && key === " ";
-  }
-
-  /** Does what a key asks. */
-  function onKey(event) {
-    if (event.ctrlKey || event.metaKey || event.altKey || isTaken(event.target, event.key)) return;
-    if (event.shiftKey && MOVES[event.key]) stage.pan(...MOVES[event.key]);
-    else if (Object.hasOwn(ACTIONS, event.key)) ACTIONS[event.key]();
-    else return;
-    event.preventDefault();
-  }
-
-  /** Moves and zooms by mouse, wheel and fingers. On a phone one finger scrolls the page up and down (touch-action); two move and zoom. */
-  function listenToFingers(canvas) {
-    const fingers = new Map();
-    const spread = () => { const [[x, y], [u, v]] = fingers.values(); return { gap: Math.hypot(x - u, y - v), x: (x + u) / 2, y: (y + v) / 2 }; };
-    canvas.addEventListener("pointerdown", (event) => {
-      fingers.set(event.pointerId, [event.offsetX, event.offsetY]);
-      canvas.setPointerCapture(event.pointerId);
-    });
-    for (const name of ["pointerup", "pointercancel"]) canvas.addEventListener(name, (event) => fingers.delete(event.pointerId));
-    canvas.addEventListener("pointermove", (event) => {
-      const from = fingers.get(event.pointerId);
-      if (!from) return;
-      const before = fingers.size === 2 ? spread() : null;
-      fingers.set(event.pointerId, [event.offsetX, event.offsetY]);
-      if (fingers.size === 1) stage.pan(from[0] - event.offsetX, from[1] - event.offsetY);
-      if (!before) return;
-      const after = spread();
-      stage.pan(before.x - after.x, before.y - after.y);
-      if (before.gap > 0) stage.zoom(after.gap / before.gap, after.x, after.y);
-    });
-    canvas.addEventListener("touchmove", (event) => { if (event.touches.length > 1) event.preventDefault(); }, { passive: false });
-    canvas.addEventListener("wheel", (event) => {
-      event.preventDefault();
-      stage.zoom(Math.exp(-Math.max(-100, Math.min(100, event.deltaY)) / 500), event.offsetX, event.offsetY);
-    }, { passive: false });
-  }
-
-  /** Shows the cell under the pointer, and goes to a time where the waveform is pressed. */
-  function listenToPointers() {
-    const { whole, wave } = parts;
-    const point = (event) => { shown.place = [event.offsetX, event.offsetY]; pointAtWire(event.buttons !== 0); showCell(); stage.paint(); };
-    whole.addEventListener("pointermove", point);
-    whole.addEventListener("pointerdown", point);
-    whole.addEventListener("pointerleave", (event) => {
-      if (event.pointerType !== "mouse") return;
-      shown.place = null;
-      pointAtWire(false);
-      stage.paint();
-    });
-    const seek = (event) => { if (event.buttons & 1) { player.play(0); player.seek(stage.timeAt(event.offsetX)); } };
-    wave.addEventListener("pointerdown", seek);
-    wave.addEventListener("pointermove", seek);
-    parts.waveBox.addEventListener("scroll", () => stage.paintWave());
-    listenToFingers(whole);
-  }
-
-  /** Sets what the buttons and fields do. */
-  function listenToButtons() {
-    const clicks = { play: () => toggle(1), reverse: () => toggle(-1), back: ACTIONS.ArrowLeft, next: ACTIONS.ArrowRight, first: ACTIONS.Home,
-      last: ACTIONS.End, fit: () => stage.fit(), in: () => stage.zoom(1.25), out: () => stage.zoom(0.8), "close-own": closeOwn,
-      "previous-fault": () => nextFault(-1), "next-fault": () => nextFault(1), png: () => stage.png((file) => save(file, "png")),
-      svg: () => save(new Blob([stage.svg(`${document.title}, time ${player.run.time}`)], { type: "image/svg+xml" }), "svg") };
-    for (const [id, action] of Object.entries(clicks)) element(id).addEventListener("click", () => { action(); writeAddressSoon(); });
-    element("slider").max = layout.steps;
-    element("slider").addEventListener("input", (event) => player.seek(Number(event.target.value)));
-    element("speed").addEventListener("input", showRate);
-    element("trails").addEventListener("change", (event) => setTrails(event.target.checked));
-    element("skip").addEventListener("click", (event) => { event.preventDefault(); element("report-box").focus(); element("report-box").scrollIntoView(); });
-    element("go-to").addEventListener("submit", (event) => {
-      event.preventDefault();
-      const [x, y] = (element("go-to-cell").value.match(/\d+/g) || []).map(Number);
-      if (y !== undefined) goToCell(x, y);
-    });
-  }
-
-  /** Sets how many steps a second are made. */
-  function showRate() {
-    player.rate = 2 ** Number(element("speed").value);
-    element("rate").textContent = `${counted(player.rate, "step", "steps")}/s`;
-  }
-
-  /** Sets what follows from changes of the player, the window and the address. */
-  function listenToChanges() {
-    player.listen("time", () => {
-      showTime();
-      panels.showLines(player, stage.module);
-      stage.moveCursor();
-      stage.paint();
-      speakSoon();
-      writeAddressSoon();
-    });
-    player.listen("progress", () => { panels.showResults(player, goToCell); stage.good = null; stage.paintWave(); });
-    player.listen("end", () => { showEnd(); speakSoon(); });
-    player.listen("play", () => { showPlay(); speakSoon(); writeAddressSoon(); });
-    Object.assign(stage, { onMove: () => { pointAtWire(true); writeAddressSoon(); }, onPaint: showCell, onPainted: () => minimap.paint() });
-    new ResizeObserver(() => (stage.isFit ? stage.fit() : stage.paint())).observe(parts.whole);
-    new ResizeObserver(() => stage.paintWave()).observe(parts.waveBox);
-    matchMedia("(prefers-color-scheme: dark)").addEventListener("change", () => { stage.redraw(); stage.paintWave(); });
-    addEventListener("hashchange", readAddress);
-    document.addEventListener("keydown", onKey);
-  }
-
-  panels.makeInputs(player);
-  panels.showSigns(player.modules.length > 0);
-  element("wave-part").hidden = player.probes.length === 0;
-  beginWays();
-  listenToPointers();
-  listenToButtons();
-  listenToChanges();
-  showRate();
-  showPlay();
-  if (panels.showVerdict(data.explanation, player.modules.length > 0)) shown.buttons = panels.showReport(data.explanation, chooseEntry, goToCell);
-  readAddress();
+/** Says the state to who can't see it: when it has been still for a while, and not while it plays. */
+function speakSoon() {
+  clearTimeout(pageState.speechTimer);
+  if (player.direction !== 0) return;
+  pageState.speechTimer = setTimeout(() => {
+    const words = [`Time ${player.run.time} of ${layout.steps}.`, element("status").textContent,
+      panels.resultWords(player)];
+    if (player.own) words.push(element("beside-title").textContent, stage.differenceWords());
+    element("spoken").textContent = words.join(" ");
+  }, SPEECH_DELAY);
 }
+
+/** Returns what differs from the page as it is opened. */
+function stateNow() {
+  const on = player.names.filter((name) => player.on.has(name));
+  const isFirst = on.length === player.first.length && player.first.every((name) => player.on.has(name));
+  const { entry } = pageState, { time } = player.run;
+  return { time: time > 0 || entry !== null ? time : undefined, on: isFirst && entry === null ? undefined : on,
+    zoom: stage.isFit ? undefined : stage.zoomNow(), fault: entry === null ? undefined
+      : entry + 1, trails: stage.hasTrails ? undefined : false };
+}
+
+/** Writes the state to the address when it has been still for a while: browsers refuse to do it often. */
+function writeAddressSoon() {
+  clearTimeout(pageState.addressTimer);
+  if (player.direction !== 0) return;
+  pageState.addressTimer = setTimeout(() => {
+    const text = address.write(stateNow()), [page] = location.href.split("#");
+    // A page that a frame shows may have no address of its own.
+    try { history.replaceState(null, "", text ? `${page}#${text}` : page); } catch { return; }
+  }, ADDRESS_DELAY);
+}
+
+/** Shows the state that the address says, and the first state for what it does not say. */
+function readAddress() {
+  const { time, on, zoom, fault, trails = true } = address.read(location.hash, limits);
+  const names = new Set(on || player.first);
+  setTrails(trails);
+  // A line of the report brings inputs, a time and a place, which the address may then say otherwise.
+  if (fault === undefined) closeEntry();
+  else showEntry(fault - 1);
+  if (fault === undefined
+      || on) player.setInputs(Object.fromEntries(player.names.map((name) => [name, names.has(name)])));
+  player.restart(time ?? (fault === undefined ? 0 : player.target));
+  if (zoom) {
+    stage.centre(zoom[1], zoom[2], zoom[0]);
+    stage.isFit = false;
+  } else if (fault === undefined) stage.fit();
+}
+
+/** Shows the time, and whether a ball leaves. */
+function showTime() {
+  const { time, leftAt } = player.run, slider = element("slider");
+  slider.value = player.target;
+  slider.setAttribute("aria-valuetext", `time ${player.target} of ${layout.steps}`);
+  element("time").textContent = `${time} of ${layout.steps}`;
+  const next = time === layout.steps ? "The last time." : `Next come the ${time % 2 ? "odd" : "even"} blocks.`;
+  element("status").textContent = leftAt === null ? next
+    : `Step ${leftAt} makes a cell outside the rectangle live: the run ends before it.`;
+}
+
+/** Shows what the buttons to play do now. */
+function showPlay() {
+  for (const [id, direction, text] of [["play", 1, "play ▶"], ["reverse", -1, "◀ reverse"]]) {
+    element(id).textContent = player.direction === direction ? "■ stop" : text;
+  }
+}
+
+/** Shows the outputs and what depends on the run's end. */
+function showEnd() {
+  const results = player.results();
+  stage.good = results
+    && new Map(results.flatMap(({ cells }) => cells.map(({ cell, isGood }) => [String(cell), isGood])));
+  panels.showResults(player, goToCell);
+  showTime();
+  stage.requestPaint();
+  stage.paintWave();
+}
+
+/** Shows the cell under the pointer with what there is. */
+function showCell() {
+  stage.pointed = pageState.place ? stage.cellAt(...pageState.place) : stage.mark;
+  element("cell").textContent = stage.pointed ? stage.wordsOf(stage.pointed) : "";
+}
+
+/** Lets the wire under the pointer stand out, or none while the picture moves. */
+function pointAtWire(isMoving) {
+  const found = pageState.place && !isMoving && stage.cellAt(...pageState.place) ? stage.wireAt(...pageState.place)
+    : null;
+  stage.pointedWire = found && found.wire;
+  showWireWords(found);
+}
+
+/** Says what is known of the wire under the pointer, or else of the one that was looked for. */
+function showWireWords(found) {
+  const wire = found ? found.wire : stage.wire, words = element("wire-words");
+  const when = found ? `; here at time ${found.times.slice(0, MAX_TIMES).join(", ")}` : "";
+  words.textContent = wire ? `${stage.wires.wordsOf(wire)}${when}.` : "";
+}
+
+/** Shows all ways of the wire whose name was typed. */
+function findWire() {
+  const name = element("find-wire-name").value.trim(), wire = stage.wires.byName.get(name);
+  pageState.place = null;
+  pointAtWire(false);
+  if (name === "") {
+    stage.showWire(null);
+    showWireWords(null);
+    return;
+  }
+  if (!wire) {
+    stage.showWire(null);
+    element("wire-words").textContent = `No ball flies for a wire \u201c${name}\u201d.`;
+    return;
+  }
+  stage.showWire(wire);
+  showWireWords(null);
+  writeAddressSoon();
+}
+
+/** Goes to a cell, and marks it. */
+function goToCell(x, y) {
+  if (x >= layout.width || y >= layout.height) return;
+  stage.mark = [x, y];
+  pageState.place = null;
+  stage.lookAt([x + 0.5, y + 0.5], null);
+  showCell();
+  if (innerWidth <= 800) element("whole").scrollIntoView({ block: "nearest" });
+}
+
+/** Returns all stops of a wire in order of time. */
+const stopsOf = (wire) => player.modules.flatMap((module, number) => module.stops.filter((stop) => stop[1] === wire)
+  .map(([time, , x, y]) => ({ time, cell: [x, y], module: number }))).sort((a, b) => a.time - b.time);
+
+/** Returns the stop that a line `delay` or `meet` speaks of, if there is one. */
+function stopOf(facts) {
+  if (facts.last_stops) {
+    const late = Object.entries(facts.last_stops).sort((a, b) => b[1] - a[1])[0];
+    return late && stopsOf(late[0]).at(-1);
+  }
+  const gate = data.circuit && facts.gate !== undefined && data.circuit.gates[facts.gate];
+  return gate ? stopsOf(gate.outs[0])[0] || (gate.ins[0] && stopsOf(gate.ins[0]).at(-1)) : undefined;
+}
+
+/** Opens the run of a module by itself. */
+function openOwn(number, values) {
+  player.openOwn(number, values);
+  const words = Object.entries(values).map(([name, value]) => `${name}=${value}`).join(" ") || "no cuts";
+  element("beside-title").textContent = `Module ${number} by itself with ${words}.`;
+  element("beside").hidden = false;
+}
+
+/** Closes the run of a module by itself. */
+function closeOwn() {
+  player.own = null;
+  element("beside").hidden = true;
+  if (stage.isFit) stage.fit();
+  else stage.requestPaint();
+}
+
+/** Notes which line of the report is shown: its button is pressed. */
+function press(number) {
+  pageState.entry = number;
+  pageState.buttons.forEach((button, index) => button.setAttribute("aria-pressed", String(index === number)));
+}
+
+/** Shows no line of the report. */
+function closeEntry() {
+  press(null);
+  stage.fault = null;
+  stage.module = null;
+  stage.mark = null;
+  closeOwn();
+}
+
+/** Goes to the module, time, assignment and cell of a line of the report. */
+function showEntry(number) {
+  const { facts } = entries[number], stop = facts.cell || facts.assignment ? undefined : stopOf(facts);
+  press(number);
+  player.play(0);
+  stage.fault = facts.cell || (stop ? stop.cell : null);
+  stage.mark = null;
+  stage.module = facts.module !== undefined ? facts.module : stop ? stop.module : null;
+  if (facts.inputs) player.setInputs(facts.inputs);
+  if (facts.assignment && facts.module !== undefined) openOwn(facts.module, facts.assignment);
+  else closeOwn();
+  player.restart(facts.time !== undefined ? facts.time : stop ? stop.time : player.target);
+  const box = stage.module === null ? null : player.modules[stage.module].box;
+  const centre = stage.fault ? stage.fault.map((part) => part + 0.5)
+    : box ? [box[0] + box[2] / 2, box[1] + box[3] / 2] : null;
+  if (centre) stage.lookAt(centre, box);
+}
+
+/** Goes to a line of the report that somebody chose, and brings the picture into sight. */
+function chooseEntry(number) {
+  showEntry(number);
+  if (innerWidth <= 800) element("whole").scrollIntoView({ block: "nearest" });
+}
+
+/** Goes to the next (1) or previous (-1) line of the report that is against the design. */
+function nextFault(direction) {
+  const faults = entries.flatMap((entry, number) => (entry.is_against ? [number] : []));
+  if (faults.length === 0) return;
+  const at = faults.indexOf(pageState.entry);
+  const number = faults[at < 0 ? (direction > 0 ? 0 : faults.length - 1)
+    : (at + direction + faults.length) % faults.length];
+  showEntry(number);
+  pageState.buttons[number].scrollIntoView({ block: "nearest" });
+  if (innerWidth <= 800) element("whole").scrollIntoView({ block: "nearest" });
+}
+
+/** Shows or hides the trails. */
+function setTrails(isOn) {
+  stage.hasTrails = isOn;
+  element("trails").checked = isOn;
+  stage.requestPaint();
+  writeAddressSoon();
+}
+
+/** Shows or hides the ways. */
+function setWays(isOn) {
+  element("ways").checked = isOn;
+  stage.setWays(isOn);
+}
+
+/** Prepares what shows the ways, if the page has them. */
+function beginWays() {
+  const { names, list } = stage.wires;
+  element("ways-part").hidden = element("find-wire").hidden = element("wire-words").hidden = list.length === 0;
+  element("wire-names").replaceChildren(...names.map(
+    (name) => Object.assign(document.createElement("option"), { value: name })));
+  if (list.length > 0) setWays(Math.max(layout.width, layout.height) > LARGE_SIDE);
+  element("ways").addEventListener("change", (event) => setWays(event.target.checked));
+  element("find-wire").addEventListener("submit", (event) => {
+    event.preventDefault();
+    findWire();
+  });
+  if (stage.wires.sampled) element("ways-part").title += `, ${stage.wires.sampled}`;
+}
+
+/** Makes one step. */
+const step = (direction) => {
+  player.play(0);
+  player.seek(player.target + direction);
+};
+
+/** Plays in a direction, or stops if it plays so already. */
+const toggle = (direction) => player.play(player.direction === direction ? 0 : direction);
+
+/** Writes a file to the reader's disk. */
+function save(file, kind) {
+  const found = document.createElement("a");
+  found.href = URL.createObjectURL(file);
+  found.download =
+    `${document.title.replace(/\.[a-z]+$/, "").replace(/[^\w.-]+/g, "_") || "layout"}_${player.run.time}.${kind}`;
+  found.click();
+  setTimeout(() => URL.revokeObjectURL(found.href), 10000);
+}
+
+const MOVES = { ArrowLeft: [-PAN_STEP, 0], ArrowRight: [PAN_STEP, 0], ArrowUp: [0, -PAN_STEP],
+  ArrowDown: [0, PAN_STEP] };
+const ACTIONS = {
+  " ": () => player.play(player.direction ? 0 : 1), b: () => toggle(-1), ArrowRight: () => step(1),
+    ArrowLeft: () => step(-1),
+  Home: () => player.seek(0), End: () => player.seek(layout.steps), 0: () => stage.fit(), "+": () => stage.zoom(1.25),
+    "=": () => stage.zoom(1.25),
+  "-": () => stage.zoom(0.8), n: () => nextFault(1), p: () => nextFault(-1), t: () => setTrails(!stage.hasTrails),
+  w: () => { if (stage.wires.list.length) setWays(!stage.hasWays); },
+};
+
+/** Whether the element that has the focus uses a key itself. */
+function isTaken(target, key) {
+  if (target.type === "text") return true;
+  if (target.type === "range") return !" bnptw".includes(key);
+  return ["INPUT", "BUTTON", "SUMMARY"].includes(target.tagName) && key === " ";
+}
+
+/** Does what a key asks. */
+function onKey(event) {
+  if (event.ctrlKey || event.metaKey || event.altKey || isTaken(event.target, event.key)) return;
+  if (event.shiftKey && MOVES[event.key]) stage.pan(...MOVES[event.key]);
+  else if (Object.hasOwn(ACTIONS, event.key)) ACTIONS[event.key]();
+  else return;
+  event.preventDefault();
+}
+
+/**
+ * Moves and zooms by mouse, wheel and fingers. On a phone one finger scrolls the page up and down (touch-action); two
+ * move and zoom.
+ */
+function listenToFingers(canvas) {
+  const fingers = new Map();
+  const spread = () => {
+    const [[x, y], [u, v]] = fingers.values();
+    return { gap: Math.hypot(x - u, y - v), x: (x + u) / 2, y: (y + v) / 2 };
+  };
+  canvas.addEventListener("pointerdown", (event) => {
+    fingers.set(event.pointerId, [event.offsetX, event.offsetY]);
+    canvas.setPointerCapture(event.pointerId);
+  });
+  for (const name of ["pointerup", "pointercancel"]) canvas.addEventListener(name,
+      (event) => fingers.delete(event.pointerId));
+  canvas.addEventListener("pointermove", (event) => {
+    const from = fingers.get(event.pointerId);
+    if (!from) return;
+    const before = fingers.size === 2 ? spread() : null;
+    fingers.set(event.pointerId, [event.offsetX, event.offsetY]);
+    if (fingers.size === 1) stage.pan(from[0] - event.offsetX, from[1] - event.offsetY);
+    if (!before) return;
+    const after = spread();
+    stage.pan(before.x - after.x, before.y - after.y);
+    if (before.gap > 0) stage.zoom(after.gap / before.gap, after.x, after.y);
+  });
+  canvas.addEventListener("touchmove", (event) => { if (event.touches.length > 1) event.preventDefault(); },
+    { passive: false });
+  canvas.addEventListener("wheel", (event) => {
+    event.preventDefault();
+    stage.zoom(Math.exp(-Math.max(-100, Math.min(100, event.deltaY)) / 500), event.offsetX, event.offsetY);
+  }, { passive: false });
+}
+
+/** Shows the cell under the pointer, and goes to a time where the waveform is pressed. */
+function listenToPointers() {
+  const { whole, wave } = parts;
+  const point = (event) => {
+    pageState.place = [event.offsetX, event.offsetY];
+    pointAtWire(event.buttons !== 0);
+    showCell();
+    stage.requestPaint();
+  };
+  whole.addEventListener("pointermove", point);
+  whole.addEventListener("pointerdown", point);
+  whole.addEventListener("pointerleave", (event) => {
+    if (event.pointerType !== "mouse") return;
+    pageState.place = null;
+    pointAtWire(false);
+    stage.requestPaint();
+  });
+  const seek = (event) => { if (event.buttons & 1) {
+    player.play(0);
+    player.seek(stage.timeAt(event.offsetX));
+  } };
+  wave.addEventListener("pointerdown", seek);
+  wave.addEventListener("pointermove", seek);
+  parts.waveBox.addEventListener("scroll", () => stage.paintWave());
+  listenToFingers(whole);
+}
+
+/** Sets what the buttons and fields do. */
+function listenToButtons() {
+  const clicks = { play: () => toggle(1), reverse: () => toggle(-1), back: ACTIONS.ArrowLeft, next: ACTIONS.ArrowRight,
+    first: ACTIONS.Home,
+    last: ACTIONS.End, fit: () => stage.fit(), in: () => stage.zoom(1.25), out: () => stage.zoom(0.8),
+      "close-own": closeOwn,
+    "previous-fault": () => nextFault(-1), "next-fault": () => nextFault(1),
+      png: () => stage.png((file) => save(file, "png")),
+    svg: () => save(new Blob([stage.svg(`${document.title}, time ${player.run.time}`)], { type: "image/svg+xml" }),
+      "svg") };
+  for (const [id, action] of Object.entries(clicks)) element(id).addEventListener("click", () => {
+    action();
+    writeAddressSoon();
+  });
+  element("slider").max = layout.steps;
+  element("slider").addEventListener("input", (event) => player.seek(Number(event.target.value)));
+  element("speed").addEventListener("input", showRate);
+  element("trails").addEventListener("change", (event) => setTrails(event.target.checked));
+  element("skip").addEventListener("click", (event) => {
+    event.preventDefault();
+    element("report-box").focus();
+    element("report-box").scrollIntoView();
+  });
+  element("go-to").addEventListener("submit", (event) => {
+    event.preventDefault();
+    const [x, y] = (element("go-to-cell").value.match(/\d+/g) || []).map(Number);
+    if (y !== undefined) goToCell(x, y);
+  });
+}
+
+/** Sets how many steps a second are made. */
+function showRate() {
+  player.rate = 2 ** Number(element("speed").value);
+  element("rate").textContent = `${counted(player.rate, "step", "steps")}/s`;
+}
+
+/** Sets what follows from changes of the player, the window and the address. */
+function listenToChanges() {
+  player.listen("time", () => {
+    showTime();
+    panels.showLines(player, stage.module);
+    stage.moveCursor();
+    stage.requestPaint();
+    speakSoon();
+    writeAddressSoon();
+  });
+  player.listen("progress", () => {
+    panels.showResults(player, goToCell);
+    stage.good = null;
+    stage.paintWave();
+  });
+  player.listen("end", () => {
+    showEnd();
+    speakSoon();
+  });
+  player.listen("play", () => {
+    showPlay();
+    speakSoon();
+    writeAddressSoon();
+  });
+  stage.onMove = () => {
+    pointAtWire(true);
+    writeAddressSoon();
+  };
+  stage.onPaint = showCell;
+  stage.onPainted = () => minimap.paint();
+  new ResizeObserver(() => (stage.isFit ? stage.fit() : stage.requestPaint())).observe(parts.whole);
+  new ResizeObserver(() => stage.paintWave()).observe(parts.waveBox);
+  matchMedia("(prefers-color-scheme: dark)").addEventListener("change", () => {
+    stage.redraw();
+    stage.paintWave();
+  });
+  addEventListener("hashchange", readAddress);
+  document.addEventListener("keydown", onKey);
+}
+
+panels.makeInputs(player);
+panels.showSigns(player.modules.length > 0);
+element("wave-part").hidden = player.probes.length === 0;
+beginWays();
+listenToPointers();
+listenToButtons();
+listenToChanges();
+showRate();
+showPlay();
+if (panels.showVerdict(data.explanation, player.modules.length > 0))
+    pageState.buttons = panels.showReport(data.explanation,
+    chooseEntry, goToCell);
+readAddress();

@@ -1,20 +1,17 @@
 /**
- * How large a text may be, as `limits.py` has it: the limits of texts that begin with their first section, and of those whose first line is
- * `limits 2`. Adds `bbmlab.limits`.
+ * How large a text may be, as `limits.py` has it: the limits of texts that begin with their first section, and of those
+ * whose first line is `limits 2`.
  *
  * @typedef {{line: string, maxSide: number, maxSteps: number}} Limits
  */
-"use strict";
 
-{
-  const FIRST = Object.freeze({ line: "", maxSide: 512, maxSteps: 65536 });
-  const SECOND = Object.freeze({ line: "limits 2", maxSide: 4096, maxSteps: 1048576 });
+const FIRST = Object.freeze({ line: "", maxSide: 512, maxSteps: 65536 });
+const SECOND = Object.freeze({ line: "limits 2", maxSide: 4096, maxSteps: 1048576 });
 
-  /** Returns the limits of a text whose first line consists of some words. @type {(words: string[]) => Limits} */
-  const limitsOf = (words) => (words.join(" ") === SECOND.line ? SECOND : FIRST);
+/** Returns the limits of a text whose first line consists of some words. @type {(words: string[]) => Limits} */
+const limitsOf = (words) => (words.join(" ") === SECOND.line ? SECOND : FIRST);
 
-  /** Returns a sentence on the line that raises a limit, after a space; nothing if the text begins with it. */
-  const needsLine = (what, limits) => (limits === SECOND ? "" : ` ${what} needs \`${SECOND.line}\` as first line.`);
+/** Returns a sentence on the line that raises a limit, after a space; nothing if the text begins with it. */
+const needsLine = (what, limits) => (limits === SECOND ? "" : ` ${what} needs \`${SECOND.line}\` as first line.`);
 
-  bbmlab.limits = { FIRST, SECOND, limitsOf, needsLine };
-}
+export { FIRST, SECOND, limitsOf, needsLine };

@@ -1,41 +1,46 @@
-/** A small picture of the whole layout with a frame about what the large one shows. A press goes there. Adds `bbmlab.Minimap`. */
-"use strict";
+/** A small picture of the whole layout with a frame about what the large one shows. A press goes there. */
+import * as painting from "./painting.js";
 
-{
-  const { painting } = bbmlab;
-  const SIDE = 150;
+const SIDE = 150;
 
-  class Minimap {
-    /** @param {bbmlab.Stage} stage @param {HTMLCanvasElement} canvas */
-    constructor(stage, canvas) {
-      Object.assign(this, { stage, canvas });
-      const go = (event) => { if (event.buttons & 1) this.go(event.offsetX, event.offsetY); };
-      canvas.addEventListener("pointerdown", (event) => { canvas.setPointerCapture(event.pointerId); go(event); });
-      canvas.addEventListener("pointermove", go);
-    }
+class Minimap {
+  stage;
+  canvas;
 
-    /** The pixels of a cell. */
-    get scale() { return SIDE / Math.max(this.stage.layout.width, this.stage.layout.height); }
-
-    /** Puts a place of the small picture into the middle of the large one. */
-    go(x, y) {
-      this.stage.centre(x / this.scale, y / this.scale, this.stage.scale);
-      this.stage.moved();
-    }
-
-    /** Draws it, if the large picture does not show everything. */
-    paint() {
-      const { stage, canvas, scale } = this, { layout } = stage, [x0, y0, x1, y1] = stage.seen();
-      canvas.hidden = x0 <= 0 && y0 <= 0 && x1 >= layout.width && y1 >= layout.height;
-      if (canvas.hidden) return;
-      Object.assign(canvas.style, { width: `${Math.ceil(layout.width * scale)}px`, height: `${Math.ceil(layout.height * scale)}px` });
-      const place = painting.placeOn(canvas, scale, 0, 0), { pen, inks } = place;
-      stage.tiles.paint(place);
-      pen.strokeStyle = inks.box;
-      pen.lineWidth = 2;
-      pen.strokeRect(x0 * scale, y0 * scale, Math.max(4, (x1 - x0) * scale), Math.max(4, (y1 - y0) * scale));
-    }
+  /** @param {Stage} stage @param {HTMLCanvasElement} canvas */
+  constructor(stage, canvas) {
+    this.stage = stage;
+    this.canvas = canvas;
+    const go = (event) => { if (event.buttons & 1) this.go(event.offsetX, event.offsetY); };
+    canvas.addEventListener("pointerdown", (event) => {
+      canvas.setPointerCapture(event.pointerId);
+      go(event);
+    });
+    canvas.addEventListener("pointermove", go);
   }
 
-  bbmlab.Minimap = Minimap;
+  /** The pixels of a cell. */
+  get scale() { return SIDE / Math.max(this.stage.layout.width, this.stage.layout.height); }
+
+  /** Puts a place of the small picture into the middle of the large one. */
+  go(x, y) {
+    this.stage.centre(x / this.scale, y / this.scale, this.stage.scale);
+    this.stage.afterMove();
+  }
+
+  /** Draws it, if the large picture does not show everything. */
+  paint() {
+    const { stage, canvas, scale } = this, { layout } = stage, [x0, y0, x1, y1] = stage.seen();
+    canvas.hidden = x0 <= 0 && y0 <= 0 && x1 >= layout.width && y1 >= layout.height;
+    if (canvas.hidden) return;
+    canvas.style.width = `${Math.ceil(layout.width * scale)}px`;
+    canvas.style.height = `${Math.ceil(layout.height * scale)}px`;
+    const place = painting.clearCanvas(canvas, scale, 0, 0), { pen, inks } = place;
+    stage.tiles.paint(place);
+    pen.strokeStyle = inks.box;
+    pen.lineWidth = 2;
+    pen.strokeRect(x0 * scale, y0 * scale, Math.max(4, (x1 - x0) * scale), Math.max(4, (y1 - y0) * scale));
+  }
 }
+
+export { Minimap };

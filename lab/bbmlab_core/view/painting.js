@@ -1,409 +1,488 @@
 /**
- * Draws a layout, its cells and its signs with a pen: a canvas's 2D context or an `SvgPen`. Adds `bbmlab.painting`.
+ * Draws a layout, its cells and its signs with a pen: a canvas's 2D context or an `SvgPen`.
  *
- * @typedef {{pen: Object, scale: number, left: number, top: number, wide: number, high: number, inks: Object<string, string>}} Place where
- *   cells lie on a picture: `left` and `top` are the cell at its upper left corner, `scale` the pixels for a cell
+ * @typedef {{pen: Object, scale: number, left: number, top: number, wide: number, high: number, inks: Object<string,
+ * string>}} Place where cells lie on a picture: `left` and `top` are the cell at its upper left corner, `scale` the
+ * pixels for a cell
  */
-"use strict";
+import { placeNames } from "./labels.js";
+import { Buckets } from "./tiles.js";
 
-{
-  const { placeNames, Buckets } = bbmlab;
-  const INKS = ["ink", "soft", "paper", "plane", "grid", "border", "mirror", "ball", "box", "good", "bad", "edge", "halo", "stop", "wave"];
-  const MARKS = { edge: "E", halo: "H", stop: "S" };
-  const RULER = { wide: 32, high: 18 }, WIRE_INKS = 8;
-  // Below this scale tiles show what is still. Where modules are more than a few, borders that are closer, or more, hide what is in them.
-  const TILE_SCALE = 4, CLOSE_BORDERS = 20, FEW_MODULES = 64, MANY_BORDERS = 3000, MAX_MODULE_SIDE = 64;
-  // A mirror so many cells from all ports does not matter for the places of their names.
-  const NEAR_PORT = 48;
-  // How many lines of text a name may be away from its cell, and the scales from which a few and many ports have names: 2,520 names take
-  // 200 ms to place at scale 6, and 15 ms at scale 10.
-  const MAX_AWAY = 2, NAMED_SCALE = 6, MANY_PORTS = 400, MANY_SCALE = 10;
+const INKS = ["ink", "soft", "paper", "plane", "grid", "border", "mirror", "ball", "box", "good", "bad", "edge", "halo",
+  "stop", "wave"];
+const MARKS = { edge: "E", halo: "H", stop: "S" };
+const RULER = { wide: 32, high: 18 }, WIRE_INKS = 8;
+// Below this scale tiles show what is still. Where modules are more than a few, borders that are closer, or more, hide
+// what is in them.
+const TILE_SCALE = 4, CLOSE_BORDERS = 20, FEW_MODULES = 64, MANY_BORDERS = 3000, MAX_MODULE_SIDE = 64;
+// A mirror so many cells from all ports does not matter for the places of their names.
+const NEAR_PORT = 48;
+// How many lines of text a name may be away from its cell, and the scales from which a few and many ports have names:
+// 2,520 names take 200 ms to place at scale 6, and 15 ms at scale 10.
+const MAX_AWAY = 2, NAMED_SCALE = 6, MANY_PORTS = 400, MANY_SCALE = 10;
 
-  /** Returns the colours of the page as it is shown now. */
-  function inksNow() {
-    const style = getComputedStyle(document.documentElement);
-    return Object.fromEntries(INKS.map((name) => [name, style.getPropertyValue(`--${name}`).trim()]));
-  }
-
-  /** Returns the colours of wires as the page is shown now, and that of what is no wire's. */
-  function wireInks() {
-    const style = getComputedStyle(document.documentElement);
-    return [...Array(WIRE_INKS).keys(), "none"].map((index) => style.getPropertyValue(`--wire-${index}`).trim());
-  }
-
-  /** Clears a canvas with its real number of pixels. @returns {Place} */
-  function placeOn(canvas, scale, left, top) {
-    const ratio = window.devicePixelRatio || 1, wide = canvas.clientWidth, high = canvas.clientHeight;
-    const size = { width: Math.max(1, Math.floor(wide * ratio)), height: Math.max(1, Math.floor(high * ratio)) }, pen = canvas.getContext("2d");
-    // A canvas that gets a size, even its own, takes new memory.
-    if (canvas.width !== size.width || canvas.height !== size.height) Object.assign(canvas, size);
-    pen.setTransform(ratio, 0, 0, ratio, 0, 0);
-    pen.clearRect(0, 0, wide, high);
-    return { pen, scale, left, top, wide, high, inks: inksNow() };
-  }
-
-  const px = (place, x) => (x - place.left) * place.scale;
-  const py = (place, y) => (y - place.top) * place.scale;
-
-  /** Whether a cell can be seen. */
-  const isSeen = (place, x, y) => px(place, x + 1) >= 0 && py(place, y + 1) >= 0 && px(place, x) <= place.wide && py(place, y) <= place.high;
-
-  /** Strokes the outline of a rectangle of cells, drawn inwards by some pixels. */
-  function outline(place, [x, y, w, h], ink, dash, inset, width) {
-    const { pen, scale } = place;
-    pen.strokeStyle = ink;
-    pen.lineWidth = width;
-    pen.setLineDash(dash);
-    pen.strokeRect(px(place, x) + inset, py(place, y) + inset, Math.max(1, w * scale - 2 * inset), Math.max(1, h * scale - 2 * inset));
-    pen.setLineDash([]);
-  }
-
-  /** Strokes the lines between the blocks of the next step. */
-  function grid(place, [x, y, w, h], odd) {
-    if (place.scale < 5) return;
-    const { pen } = place;
-    pen.strokeStyle = place.inks.grid;
-    pen.lineWidth = 1;
-    pen.beginPath();
-    for (let u = x + odd; u <= x + w; u += 2) { pen.moveTo(px(place, u), py(place, y)); pen.lineTo(px(place, u), py(place, y + h)); }
-    for (let v = y + odd; v <= y + h; v += 2) { pen.moveTo(px(place, x), py(place, v)); pen.lineTo(px(place, x + w), py(place, v)); }
-    pen.stroke();
-  }
-
-  /** Returns the cells of a layout and next to it that can be seen: x0, y0, x1, y1, the ends not included. */
-  function seenRange({ left, top, wide, high, scale }, { width, height }) {
-    return [Math.max(-2, Math.floor(left)), Math.max(-2, Math.floor(top)), Math.min(width + 2, Math.ceil(left + wide / scale)),
-      Math.min(height + 2, Math.ceil(top + high / scale))];
-  }
-
-  /** Returns the live cells that can be seen: mirrors as rectangles x, y, w, h, and balls as x, y, x, y… */
-  function seenCells(place, live, mirrors) {
-    const [x0, y0, x1, y1] = seenRange(place, live.grid), balls = [], bars = [], open = new Map(), { bytes, grid } = live;
-    for (let y = y0; y < y1; y += 1) {
-      for (let x = x0, key = grid.keyOf(x0, y); x < x1; x += 1, key += 1) {
-        if (bytes[key] === 0) continue;
-        if (!mirrors.has(key)) { balls.push(x, y); continue; }
-        const start = x;
-        while (x + 1 < x1 && bytes[key + 1] === 1 && mirrors.has(key + 1)) { x += 1; key += 1; }
-        // A row of mirror cells below an equal one makes that one higher: fewer rectangles take less time.
-        const size = start * grid.row + x + 1 - start, above = open.get(size);
-        if (above && above[1] + above[3] === y) above[3] += 1; else { open.set(size, [start, y, x + 1 - start, 1]); bars.push(open.get(size)); }
-      }
-    }
-    return { bars, balls };
-  }
-
-  /** Draws mirrors, given as rectangles. */
-  function bars(place, found, least) {
-    const { pen, scale } = place;
-    pen.fillStyle = place.inks.mirror;
-    pen.beginPath();
-    for (const [x, y, w, h] of found) pen.rect(px(place, x), py(place, y), Math.max(least, w * scale), Math.max(least, h * scale));
-    pen.fill();
-  }
-
-  /** Draws what differs from the mirrors, by the numbers of cells: a dot for each ball, and holes where cells of mirrors are dead. */
-  function changes(place, different, mirrors) {
-    const { pen, scale } = place, balls = [], { grid } = mirrors;
-    pen.fillStyle = place.inks.plane;
-    for (const key of different) {
-      const x = grid.xOf(key), y = grid.yOf(key);
-      if (!isSeen(place, x, y)) continue;
-      if (mirrors.has(key)) pen.fillRect(px(place, x), py(place, y), Math.max(1, scale), Math.max(1, scale)); else balls.push(x, y);
-    }
-    discs(place, balls);
-  }
-
-  /** Draws the live cells that can be seen: mirrors, and a disc or a dot for each ball. */
-  function cells(place, live, mirrors) {
-    const { pen, scale, inks } = place, { bars: found, balls } = seenCells(place, live, mirrors);
-    pen.fillStyle = inks.mirror;
-    pen.beginPath();
-    // Half a pixel more, so that no seam shows between the parts of one mirror.
-    for (const [x, y, w, h] of found) pen.rect(px(place, x), py(place, y), Math.max(1.5, w * scale + 0.5), Math.max(1.5, h * scale + 0.5));
-    pen.fill();
-    discs(place, balls);
-  }
-
-  /** Draws balls, given as x, y, x, y… */
-  function discs(place, balls) {
-    const { pen, scale } = place, radius = scale * 0.36;
-    pen.fillStyle = place.inks.ball;
-    pen.beginPath();
-    for (let index = 0; index < balls.length; index += 2) {
-      const x = px(place, balls[index]), y = py(place, balls[index + 1]);
-      if (scale < 3) { const side = Math.max(scale < 1 ? 2.5 : 1.5, scale); pen.rect(x, y, side, side); continue; }
-      pen.moveTo(x + scale / 2 + radius, y + scale / 2);
-      pen.arc(x + scale / 2, y + scale / 2, radius, 0, 2 * Math.PI);
-    }
-    pen.fill();
-  }
-
-  /** Draws the last moves of the balls, the latest step first. Older ones are fainter. */
-  function trails(place, steps, cellsOf) {
-    const { pen, scale, inks } = place;
-    pen.strokeStyle = inks.ball;
-    pen.lineWidth = Math.max(1, Math.min(4, scale * 0.16));
-    steps.forEach((moves, age) => {
-      pen.globalAlpha = 0.55 * (1 - age / steps.length);
-      pen.beginPath();
-      for (let index = 0; index < moves.length; index += 2) {
-        const x = cellsOf.xOf(moves[index]), y = cellsOf.yOf(moves[index]), u = cellsOf.xOf(moves[index + 1]), v = cellsOf.yOf(moves[index + 1]);
-        if (!isSeen(place, x, y) && !isSeen(place, u, v)) continue;
-        pen.moveTo(px(place, x + 0.5), py(place, y + 0.5));
-        pen.lineTo(px(place, u + 0.5), py(place, v + 0.5));
-      }
-      pen.stroke();
-    });
-    pen.globalAlpha = 1;
-  }
-
-  /** Writes a text on a small plate, so that it is readable on any cell. The plate has a top and a height. */
-  function label(place, text, x, y, ink, align, [top, high] = [y - 10, 13]) {
-    const { pen, inks } = place, width = pen.measureText(text).width;
-    pen.textAlign = align;
-    pen.globalAlpha = 0.85;
-    pen.fillStyle = inks.plane;
-    pen.fillRect(align === "center" ? x - width / 2 - 2 : x - 2, top, width + 4, high);
-    pen.globalAlpha = 1;
-    pen.fillStyle = ink;
-    pen.fillText(text, x, y);
-  }
-
-  /** Returns the names of a layout's ports with their cells. */
-  function portNames(layout) {
-    return [...layout.ins.map(({ name, cell }) => ({ name: `→${name}`, cell, isIn: true })),
-      ...layout.outs.map(({ name, cell }) => ({ name: `${name}→`, cell, isIn: false }))];
-  }
-
-  // The places of the names of a layout, as they were last asked for. They move with the picture, and change with the scale only. A layout
-  // that was changed has to be another object.
-  let placed = { layout: null, scale: 0, places: [] };
-
-  // The mirrors of layouts that matter for the names of ports, which are looked for once.
-  const nearMirrors = new WeakMap();
-
-  /** Returns the mirrors of a layout that are near a port. */
-  function mirrorsNearPorts(layout) {
-    if (layout.mirrors.length <= MANY_PORTS) return layout.mirrors;
-    if (!nearMirrors.has(layout)) {
-      const filed = new Buckets(), near = new Set();
-      for (const box of layout.mirrors) filed.addBox(...box);
-      for (const { cell: [x, y] } of [...layout.ins, ...layout.outs]) {
-        filed.visit([x - NEAR_PORT, y - NEAR_PORT, x + NEAR_PORT, y + NEAR_PORT], (number) => {
-          const [u, v, w, h] = layout.mirrors[number];
-          if (u <= x + NEAR_PORT && u + w >= x - NEAR_PORT && v <= y + NEAR_PORT && v + h >= y - NEAR_PORT) near.add(layout.mirrors[number]);
-        });
-      }
-      nearMirrors.set(layout, [...near]);
-    }
-    return nearMirrors.get(layout);
-  }
-
-  /** Returns the places of the names of ports in pixels from cell (0, 0). There is room for a sign before the name of an output. */
-  function namePlaces(place, layout, size) {
-    if (placed.layout === layout && placed.scale === place.scale) return placed.places;
-    const side = place.scale;
-    const rect = ([x, y], w = 1, h = 1) => ({ x: x * side, y: y * side, width: w * side, height: h * side });
-    // The outline of an output is up to three pixels outside its cell.
-    const port = (cell) => { const { x, y, width, height } = rect(cell); return { x: x - 2, y: y - 2, width: width + 4, height: height + 4 }; };
-    const names = portNames(layout).map(({ name, cell, isIn }) => ({ cell: port(cell), isAbove: isIn, height: size + 3,
-      width: place.pen.measureText(isIn ? name : `✓ ${name}`).width + 4 }));
-    const signs = [...layout.wastes, ...layout.balls].map((cell) => rect(cell)).concat(mirrorsNearPorts(layout).map(([x, y, w, h]) => rect([x, y], w, h)));
-    placed = { layout, scale: side, places: placeNames(names, signs, []) };
-    return placed.places;
-  }
-
-  /** Draws a line from the place of a name to its cell, if it is away from it. */
-  function leader(place, { box, away }, cell, ink) {
-    if (away === 0) return;
-    const { pen } = place, left = px(place, 0), top = py(place, 0), x = (cell[0] + 0.5) * place.scale, y = (cell[1] + 0.5) * place.scale;
-    pen.strokeStyle = ink;
-    pen.lineWidth = 1;
-    pen.beginPath();
-    pen.moveTo(left + Math.min(Math.max(x, box.x), box.x + box.width), top + Math.min(Math.max(y, box.y), box.y + box.height));
-    pen.lineTo(left + x, top + y);
-    pen.stroke();
-  }
-
-  /** Returns the colour and the sign of an output at the last time. */
-  const stateOf = (inks, good, cell) => {
-    const state = good ? good.get(String(cell)) : undefined;
-    return state === undefined ? { ink: inks.ink, sign: "", width: 1.5 } : { ink: state ? inks.good : inks.bad, sign: state ? "✓ " : "✗ ", width: 3 };
-  };
-
-  /** Draws ports with their names, and waste cells. `good` says of out cells whether they are as they should be, at the last time. */
-  function ports(place, layout, good) {
-    const { inks, scale } = place, isSmall = scale < 4;
-    const outs = layout.outs.filter(({ cell }) => isSeen(place, ...cell)).map(({ cell }) => ({ cell, ...stateOf(inks, good, cell) }));
-    const show = ({ cell, ink, width }) => outline(place, [...cell, 1, 1], ink, isSmall ? [] : [4, 3], isSmall ? 0 : -1, width);
-    for (const { cell } of layout.ins) if (isSeen(place, ...cell)) outline(place, [...cell, 1, 1], inks.ink, [], isSmall ? 0 : 1, isSmall ? scale / 3 : 1.5);
-    // Where cells are small, thick outlines would cover each other: only those that differ are thick, and come last.
-    for (const out of outs.filter(({ ink }) => ink !== inks.bad)) show(isSmall ? { ...out, width: scale / 3 } : out);
-    for (const out of outs.filter(({ ink }) => ink === inks.bad)) show(out);
-    wastes(place, layout.wastes);
-    const isMany = layout.ins.length + layout.outs.length > MANY_PORTS;
-    if (scale >= (isMany ? MANY_SCALE : NAMED_SCALE)) names(place, layout, good);
-  }
-
-  /** Writes the names of ports above the lines to their cells. Where ports are crowded, names show when the reader zooms in. */
-  function names(place, layout, good) {
-    const { pen, inks, scale } = place, size = Math.max(9, Math.min(14, scale * 0.8)), left = px(place, 0), top = py(place, 0);
-    pen.font = `600 ${size}px system-ui, sans-serif`;
-    const places = namePlaces(place, layout, size);
-    const shown = portNames(layout).map((port, index) => ({ ...port, at: places[index],
-      ...(port.isIn ? { ink: inks.ink, sign: "" } : stateOf(inks, good, port.cell)) }))
-      .filter(({ cell, at }) => isSeen(place, ...cell) && at.away <= MAX_AWAY);
-    for (const { at, cell, ink } of shown) leader(place, at, cell, ink);
-    for (const { at: { box }, sign, name, ink } of shown) {
-      const bottom = top + box.y + box.height;
-      label(place, sign + name, left + box.x + box.width / 2, bottom - 0.25 * size - 1, ink, "center", [bottom - box.height, box.height]);
-    }
-  }
-
-  /** Draws a cross in each cell. */
-  function wastes(place, found, ink = place.inks.soft) {
-    const { pen } = place;
-    pen.strokeStyle = ink;
-    pen.lineWidth = 1.5;
-    pen.beginPath();
-    for (const [x, y] of found.filter(([u, v]) => isSeen(place, u, v))) {
-      pen.moveTo(px(place, x + 0.2), py(place, y + 0.2)); pen.lineTo(px(place, x + 0.8), py(place, y + 0.8));
-      pen.moveTo(px(place, x + 0.8), py(place, y + 0.2)); pen.lineTo(px(place, x + 0.2), py(place, y + 0.8));
-    }
-    pen.stroke();
-  }
-
-  /** Returns the numbers of the modules whose borders can be seen. */
-  function seenModules(place, found) {
-    if (found.length > FEW_MODULES && MAX_MODULE_SIDE * place.scale < CLOSE_BORDERS) return [];
-    const [x0, y0, x1, y1] = [place.left, place.top, place.left + place.wide / place.scale, place.top + place.high / place.scale], numbers = [];
-    const least = found.length > FEW_MODULES ? CLOSE_BORDERS / place.scale : 0;
-    found.forEach(({ box: [x, y, w, h] }, number) => {
-      if (Math.min(w, h) >= least && x <= x1 && y <= y1 && x + w >= x0 && y + h >= y0) numbers.push(number);
-    });
-    return numbers.length > MANY_BORDERS ? [] : numbers;
-  }
-
-  /** Draws the borders of modules with their numbers; the chosen one is thick. Where they are very close they are left out. */
-  function modules(place, found, chosen) {
-    const { pen, inks, scale } = place, shown = seenModules(place, found);
-    pen.font = "600 11px system-ui, sans-serif";
-    pen.strokeStyle = inks.box;
-    pen.lineWidth = scale < 2 ? 0.5 : 1;
-    pen.setLineDash(scale < 4 ? [] : [6, 4]);
-    pen.beginPath();
-    for (const number of shown) { const [x, y, w, h] = found[number].box; pen.rect(px(place, x), py(place, y), w * scale, h * scale); }
-    pen.stroke();
-    pen.setLineDash([]);
-    if (chosen !== null && found[chosen]) outline(place, found[chosen].box, inks.box, scale < 4 ? [] : [6, 4], 0, 2.5);
-    for (const number of shown) {
-      const [x, y, w] = found[number].box;
-      if (w * scale > 26) label(place, String(number), px(place, x) + 5, py(place, y) + 14, inks.box, "left");
-    }
-  }
-
-  /** Draws the cells of lines of the certificate, with a letter for the kind and the wire where there is room. */
-  function lines(place, found) {
-    const { pen, inks, scale } = place, offsets = { edge: 2, halo: 4, stop: 6 };
-    if (scale < 4) return;
-    pen.font = "600 10px ui-monospace, monospace";
-    for (const { kind, x, y, signal } of found) {
-      if (!isSeen(place, x, y)) continue;
-      outline(place, [x, y, 1, 1], inks[kind], kind === "halo" ? [2, 2] : [], Math.min(offsets[kind], scale / 4), kind === "stop" ? 2.5 : 1.5);
-      const bottom = py(place, y) + (kind === "edge" ? 11 : scale - 4);
-      if (scale >= 22 && kind !== "halo") label(place, `${MARKS[kind]} ${signal}`, px(place, x) + 2, bottom, inks[kind], "left");
-    }
-  }
-
-  /** Draws a ring about a cell. */
-  function ring(place, [x, y], ink = place.inks.bad) {
-    const { pen } = place;
-    pen.strokeStyle = ink;
-    pen.lineWidth = 3;
-    pen.beginPath();
-    pen.arc(px(place, x + 0.5), py(place, y + 0.5), Math.max(9, place.scale * 0.85), 0, 2 * Math.PI);
-    pen.stroke();
-  }
-
-  /** Marks cells that differ: a cross where only this run has the cell live, an empty square where only the other has. */
-  function differences(place, more, less) {
-    for (const cell of less) outline(place, [...cell, 1, 1], place.inks.bad, [], 2, 2.5);
-    for (const cell of more) outline(place, [...cell, 1, 1], place.inks.bad, [], 0, 2.5);
-    wastes(place, more, place.inks.bad);
-  }
-
-  /** Writes a number of a ruler, on a plate if the pointer is there. */
-  function rulerNumber(place, number, x, y, isPointed) {
-    const { pen, inks } = place;
-    pen.textAlign = "center";
-    if (isPointed) {
-      pen.fillStyle = inks.box;
-      pen.fillRect(x - 14, y - 11, 28, 15);
-    }
-    pen.fillStyle = isPointed ? inks.paper : inks.soft;
-    pen.fillText(String(number), x, y);
-  }
-
-  /** Returns which columns or rows have numbers at a scale, a distance of some pixels apart. */
-  function rulerStep(scale, distance) {
-    let step = 1;
-    while (step * scale < distance) step *= 2;
-    return step;
-  }
-
-  /** Draws the numbers of the columns above the picture and of the rows at its left, with those of a cell on plates. */
-  function rulers(place, { width, height }, pointed) {
-    const { pen, inks, wide, high, scale } = place;
-    pen.fillStyle = inks.paper;
-    pen.fillRect(0, 0, wide, RULER.high);
-    pen.fillRect(0, 0, RULER.wide, high);
-    pen.strokeStyle = inks.border;
-    pen.lineWidth = 1;
-    pen.beginPath();
-    pen.moveTo(0, RULER.high + 0.5); pen.lineTo(wide, RULER.high + 0.5);
-    pen.moveTo(RULER.wide + 0.5, 0); pen.lineTo(RULER.wide + 0.5, high);
-    pen.stroke();
-    pen.font = "11px system-ui, sans-serif";
-    const [x0, y0, x1, y1] = seenRange(place, { width, height });
-    const numbers = (first, last, size, distance) => [...Array(Math.max(0, Math.min(last, size) - Math.max(0, first))).keys()]
-      .map((index) => index + Math.max(0, first)).filter((number) => number % rulerStep(scale, distance) === 0);
-    const columns = numbers(x0, x1, width, 30), rows = numbers(y0, y1, height, 18);
-    const column = (x, isPointed) => { if (px(place, x + 0.5) > RULER.wide + 8) rulerNumber(place, x, px(place, x + 0.5), RULER.high - 5, isPointed); };
-    const isWhole = (y) => py(place, y + 0.5) > RULER.high + 6 && py(place, y + 0.5) < high - 6;
-    const row = (y, isPointed) => { if (isWhole(y)) rulerNumber(place, y, RULER.wide / 2, py(place, y + 0.5) + 4, isPointed); };
-    // A number that the plate of the pointed cell would cover in part is left out.
-    const isFree = (number, at, distance) => at === undefined || Math.abs(number - at) * scale >= distance;
-    columns.filter((x) => isFree(x, pointed?.[0], 28)).forEach((x) => column(x, false));
-    rows.filter((y) => isFree(y, pointed?.[1], 15)).forEach((y) => row(y, false));
-    if (pointed) { column(pointed[0], true); row(pointed[1], true); }
-  }
-
-  /**
-   * Draws all that is seen of a layout.
-   * @param {Place} place
-   * @param {Object} scene layout, modules, live (cells), mirrors (cells), odd, trail (moves by steps), chosen (a module), lines, fault and
-   *   mark (cells or null), good (a map of out cells or null), pointed (a cell or null); where they are not too large, `ways` draws the ways of
-   *   the balls, and below that scale `still` draws these and the mirrors from tiles, with what differs from the mirrors over them; `over` draws
-   *   what stands out
-   */
-  function scene(place, shown) {
-    const { layout, modules: boxes, live, mirrors, odd, trail, chosen, lines: said, fault, mark, good, pointed } = shown;
-    const { ways = null, still = null, different = null, over = null } = shown;
-    const box = [0, 0, layout.width, layout.height], hasTiles = still !== null && place.scale < TILE_SCALE;
-    grid(place, box, odd);
-    outline(place, box, place.inks.soft, [], 0, 1.5);
-    if (hasTiles) still(place); else if (ways) ways(place, seenRange(place, layout));
-    trails(place, trail, live.grid);
-    if (hasTiles) changes(place, different(), mirrors); else cells(place, live, mirrors);
-    if (over) over(place);
-    modules(place, boxes, chosen);
-    lines(place, said);
-    if (fault) ring(place, fault);
-    if (mark) ring(place, mark, place.inks.box);
-    ports(place, layout, good);
-    rulers(place, layout, pointed);
-  }
-
-  bbmlab.painting = { placeOn, inksNow, scene, outline, grid, cells, ports, modules, lines, ring, differences, rulers, rulerStep, trails, bars, wireInks, seenRange, RULER };
+/** Returns the colours of the page as it is shown now. */
+function inksNow() {
+  const style = getComputedStyle(document.documentElement);
+  return Object.fromEntries(INKS.map((name) => [name, style.getPropertyValue(`--${name}`).trim()]));
 }
+
+/** Returns the colours of wires as the page is shown now, and that of what is no wire's. */
+function wireInks() {
+  const style = getComputedStyle(document.documentElement);
+  return [...Array(WIRE_INKS).keys(), "none"].map((index) => style.getPropertyValue(`--wire-${index}`).trim());
+}
+
+/** Clears a canvas with its real number of pixels. @returns {Place} */
+function clearCanvas(canvas, scale, left, top) {
+  const ratio = window.devicePixelRatio || 1, wide = canvas.clientWidth, high = canvas.clientHeight;
+  const size = { width: Math.max(1, Math.floor(wide * ratio)), height: Math.max(1, Math.floor(high * ratio)) };
+  const pen = canvas.getContext("2d");
+  // A canvas that gets a size, even its own, takes new memory.
+  if (canvas.width !== size.width || canvas.height !== size.height) Object.assign(canvas, size);
+  pen.setTransform(ratio, 0, 0, ratio, 0, 0);
+  pen.clearRect(0, 0, wide, high);
+  return { pen, scale, left, top, wide, high, inks: inksNow() };
+}
+
+const px = (place, x) => (x - place.left) * place.scale;
+const py = (place, y) => (y - place.top) * place.scale;
+
+/** Whether a cell can be seen. */
+const isSeen = (place, x, y) => px(place, x + 1) >= 0 && py(place, y + 1) >= 0 && px(place, x) <= place.wide
+  && py(place, y) <= place.high;
+
+/** Strokes the outline of a rectangle of cells, drawn inwards by some pixels. */
+function outline(place, [x, y, w, h], ink, dash, inset, width) {
+  const { pen, scale } = place;
+  pen.strokeStyle = ink;
+  pen.lineWidth = width;
+  pen.setLineDash(dash);
+  pen.strokeRect(px(place, x) + inset, py(place, y) + inset, Math.max(1, w * scale - 2 * inset),
+    Math.max(1, h * scale - 2 * inset));
+  pen.setLineDash([]);
+}
+
+/** Strokes the lines between the blocks of the next step. */
+function grid(place, [x, y, w, h], odd) {
+  if (place.scale < 5) return;
+  const { pen } = place;
+  pen.strokeStyle = place.inks.grid;
+  pen.lineWidth = 1;
+  pen.beginPath();
+  for (let u = x + odd; u <= x + w; u += 2) {
+    pen.moveTo(px(place, u), py(place, y));
+    pen.lineTo(px(place, u), py(place, y + h));
+  }
+  for (let v = y + odd; v <= y + h; v += 2) {
+    pen.moveTo(px(place, x), py(place, v));
+    pen.lineTo(px(place, x + w), py(place, v));
+  }
+  pen.stroke();
+}
+
+/** Returns the cells of a layout and next to it that can be seen: x0, y0, x1, y1, the ends not included. */
+function seenRange({ left, top, wide, high, scale }, { width, height }) {
+  return [Math.max(-2, Math.floor(left)), Math.max(-2, Math.floor(top)),
+    Math.min(width + 2, Math.ceil(left + wide / scale)),
+    Math.min(height + 2, Math.ceil(top + high / scale))];
+}
+
+/** Returns the live cells that can be seen: mirrors as rectangles x, y, w, h, and balls as x, y, x, y… */
+function seenCells(place, live, mirrors) {
+  const [x0, y0, x1, y1] = seenRange(place, live.grid), balls = [], bars = [], open = new Map(), { bytes, grid } = live;
+  for (let y = y0; y < y1; y += 1) {
+    for (let x = x0, key = grid.keyOf(x0, y); x < x1; x += 1, key += 1) {
+      if (bytes[key] === 0) continue;
+      if (!mirrors.has(key)) {
+        balls.push(x, y);
+        continue;
+      }
+      const start = x;
+      while (x + 1 < x1 && bytes[key + 1] === 1 && mirrors.has(key + 1)) {
+        x += 1;
+        key += 1;
+      }
+      // A row of mirror cells below an equal one makes that one higher: fewer rectangles take less time.
+      const size = start * grid.row + x + 1 - start, above = open.get(size);
+      if (above && above[1] + above[3] === y) above[3] += 1;
+      else {
+        open.set(size, [start, y, x + 1 - start, 1]);
+        bars.push(open.get(size));
+      }
+    }
+  }
+  return { bars, balls };
+}
+
+/** Draws mirrors, given as rectangles. */
+function bars(place, found, least) {
+  const { pen, scale } = place;
+  pen.fillStyle = place.inks.mirror;
+  pen.beginPath();
+  for (const [x, y, w, h] of found) pen.rect(px(place, x), py(place, y), Math.max(least, w * scale),
+      Math.max(least, h * scale));
+  pen.fill();
+}
+
+/**
+ * Draws what differs from the mirrors, by the numbers of cells: a dot for each ball, and holes where cells of mirrors
+ * are dead.
+ */
+function changes(place, different, mirrors) {
+  const { pen, scale } = place, balls = [], { grid } = mirrors;
+  pen.fillStyle = place.inks.plane;
+  for (const key of different) {
+    const x = grid.xOf(key), y = grid.yOf(key);
+    if (!isSeen(place, x, y)) continue;
+    if (mirrors.has(key)) pen.fillRect(px(place, x), py(place, y), Math.max(1, scale), Math.max(1, scale));
+    else balls.push(x, y);
+  }
+  discs(place, balls);
+}
+
+/** Draws the live cells that can be seen: mirrors, and a disc or a dot for each ball. */
+function cells(place, live, mirrors) {
+  const { pen, scale, inks } = place, { bars: found, balls } = seenCells(place, live, mirrors);
+  pen.fillStyle = inks.mirror;
+  pen.beginPath();
+  // Half a pixel more, so that no seam shows between the parts of one mirror.
+  for (const [x, y, w, h] of found) pen.rect(px(place, x), py(place, y), Math.max(1.5, w * scale + 0.5),
+      Math.max(1.5, h * scale + 0.5));
+  pen.fill();
+  discs(place, balls);
+}
+
+/** Draws balls, given as x, y, x, y… */
+function discs(place, balls) {
+  const { pen, scale } = place, radius = scale * 0.36;
+  pen.fillStyle = place.inks.ball;
+  pen.beginPath();
+  for (let index = 0; index < balls.length; index += 2) {
+    const x = px(place, balls[index]), y = py(place, balls[index + 1]);
+    if (scale < 3) {
+      const side = Math.max(scale < 1 ? 2.5 : 1.5, scale);
+      pen.rect(x, y, side, side);
+      continue;
+    }
+    pen.moveTo(x + scale / 2 + radius, y + scale / 2);
+    pen.arc(x + scale / 2, y + scale / 2, radius, 0, 2 * Math.PI);
+  }
+  pen.fill();
+}
+
+/** Draws the last moves of the balls, the latest step first. Older ones are fainter. */
+function trails(place, steps, cellsOf) {
+  const { pen, scale, inks } = place;
+  pen.strokeStyle = inks.ball;
+  pen.lineWidth = Math.max(1, Math.min(4, scale * 0.16));
+  steps.forEach((moves, age) => {
+    pen.globalAlpha = 0.55 * (1 - age / steps.length);
+    pen.beginPath();
+    for (let index = 0; index < moves.length; index += 2) {
+      const x = cellsOf.xOf(moves[index]), y = cellsOf.yOf(moves[index]), u = cellsOf.xOf(moves[index + 1]);
+      const v = cellsOf.yOf(moves[index + 1]);
+      if (!isSeen(place, x, y) && !isSeen(place, u, v)) continue;
+      pen.moveTo(px(place, x + 0.5), py(place, y + 0.5));
+      pen.lineTo(px(place, u + 0.5), py(place, v + 0.5));
+    }
+    pen.stroke();
+  });
+  pen.globalAlpha = 1;
+}
+
+/** Writes a text on a small plate, so that it is readable on any cell. The plate has a top and a height. */
+function label(place, text, x, y, ink, align, [top, high] = [y - 10, 13]) {
+  const { pen, inks } = place, width = pen.measureText(text).width;
+  pen.textAlign = align;
+  pen.globalAlpha = 0.85;
+  pen.fillStyle = inks.plane;
+  pen.fillRect(align === "center" ? x - width / 2 - 2 : x - 2, top, width + 4, high);
+  pen.globalAlpha = 1;
+  pen.fillStyle = ink;
+  pen.fillText(text, x, y);
+}
+
+/** Returns the names of a layout's ports with their cells. */
+function portNames(layout) {
+  return [...layout.ins.map(({ name, cell }) => ({ name: `→${name}`, cell, isIn: true })),
+    ...layout.outs.map(({ name, cell }) => ({ name: `${name}→`, cell, isIn: false }))];
+}
+
+// The places of the names of a layout, as they were last asked for. They move with the picture, and change with the
+// scale only. A layout that was changed has to be another object.
+let placed = { layout: null, scale: 0, places: [] };
+
+// The mirrors of layouts that matter for the names of ports, which are looked for once.
+const nearMirrors = new WeakMap();
+
+/** Returns the mirrors of a layout that are near a port. */
+function mirrorsNearPorts(layout) {
+  if (layout.mirrors.length <= MANY_PORTS) return layout.mirrors;
+  if (!nearMirrors.has(layout)) {
+    const filed = new Buckets(), near = new Set();
+    for (const box of layout.mirrors) filed.addBox(...box);
+    for (const { cell: [x, y] } of [...layout.ins, ...layout.outs]) {
+      filed.visit([x - NEAR_PORT, y - NEAR_PORT, x + NEAR_PORT, y + NEAR_PORT], (number) => {
+        const [u, v, w, h] = layout.mirrors[number];
+        if (u <= x + NEAR_PORT && u + w >= x - NEAR_PORT && v <= y + NEAR_PORT
+            && v + h >= y - NEAR_PORT) near.add(layout.mirrors[number]);
+      });
+    }
+    nearMirrors.set(layout, [...near]);
+  }
+  return nearMirrors.get(layout);
+}
+
+/**
+ * Returns the places of the names of ports in pixels from cell (0, 0). There is room for a sign before the name of an
+ * output.
+ */
+function namePlaces(place, layout, size) {
+  if (placed.layout === layout && placed.scale === place.scale) return placed.places;
+  const side = place.scale;
+  const rect = ([x, y], w = 1, h = 1) => ({ x: x * side, y: y * side, width: w * side, height: h * side });
+  // The outline of an output is up to three pixels outside its cell.
+  const port = (cell) => {
+    const { x, y, width, height } = rect(cell);
+    return { x: x - 2, y: y - 2, width: width + 4, height: height + 4 };
+  };
+  const names = portNames(layout).map(({ name, cell, isIn }) => ({ cell: port(cell), isAbove: isIn, height: size + 3,
+    width: place.pen.measureText(isIn ? name : `✓ ${name}`).width + 4 }));
+  const signs = [...layout.wastes, ...layout.balls].map((cell) => rect(cell)).concat(
+    mirrorsNearPorts(layout).map(([x, y, w, h]) => rect([x, y], w, h)));
+  placed = { layout, scale: side, places: placeNames(names, signs, []) };
+  return placed.places;
+}
+
+/** Draws a line from the place of a name to its cell, if it is away from it. */
+function leader(place, { box, away }, cell, ink) {
+  if (away === 0) return;
+  const { pen } = place, left = px(place, 0), top = py(place, 0), x = (cell[0] + 0.5) * place.scale;
+  const y = (cell[1] + 0.5) * place.scale;
+  pen.strokeStyle = ink;
+  pen.lineWidth = 1;
+  pen.beginPath();
+  pen.moveTo(left + Math.min(Math.max(x, box.x), box.x + box.width),
+    top + Math.min(Math.max(y, box.y), box.y + box.height));
+  pen.lineTo(left + x, top + y);
+  pen.stroke();
+}
+
+/** Returns the colour and the sign of an output at the last time. */
+const stateOf = (inks, good, cell) => {
+  const state = good ? good.get(String(cell)) : undefined;
+  return state === undefined ? { ink: inks.ink, sign: "", width: 1.5 }
+    : { ink: state ? inks.good : inks.bad, sign: state ? "✓ " : "✗ ", width: 3 };
+};
+
+/**
+ * Draws ports with their names, and waste cells. `good` says of out cells whether they are as they should be, at the
+ * last time.
+ */
+function ports(place, layout, good) {
+  const { inks, scale } = place, isSmall = scale < 4;
+  const outs = layout.outs.filter(({ cell }) => isSeen(place, ...cell)).map(
+    ({ cell }) => ({ cell, ...stateOf(inks, good, cell) }));
+  const show = ({ cell, ink, width }) => outline(place, [...cell, 1, 1], ink, isSmall ? [] : [4, 3], isSmall ? 0 : -1,
+    width);
+  for (const { cell } of layout.ins) if (isSeen(place, ...cell)) outline(place, [...cell, 1, 1], inks.ink, [],
+      isSmall ? 0 : 1, isSmall ? scale / 3 : 1.5);
+  // Where cells are small, thick outlines would cover each other: only those that differ are thick, and come last.
+  for (const out of outs.filter(({ ink }) => ink !== inks.bad)) show(isSmall ? { ...out, width: scale / 3 } : out);
+  for (const out of outs.filter(({ ink }) => ink === inks.bad)) show(out);
+  wastes(place, layout.wastes);
+  const isMany = layout.ins.length + layout.outs.length > MANY_PORTS;
+  if (scale >= (isMany ? MANY_SCALE : NAMED_SCALE)) names(place, layout, good);
+}
+
+/**
+ * Writes the names of ports above the lines to their cells. Where ports are crowded, names show when the reader zooms
+ * in.
+ */
+function names(place, layout, good) {
+  const { pen, inks, scale } = place, size = Math.max(9, Math.min(14, scale * 0.8)), left = px(place, 0);
+  const top = py(place, 0);
+  pen.font = `600 ${size}px system-ui, sans-serif`;
+  const places = namePlaces(place, layout, size);
+  const shown = portNames(layout).map((port, index) => ({ ...port, at: places[index],
+    ...(port.isIn ? { ink: inks.ink, sign: "" } : stateOf(inks, good, port.cell)) }))
+    .filter(({ cell, at }) => isSeen(place, ...cell) && at.away <= MAX_AWAY);
+  for (const { at, cell, ink } of shown) leader(place, at, cell, ink);
+  for (const { at: { box }, sign, name, ink } of shown) {
+    const bottom = top + box.y + box.height;
+    label(place, sign + name, left + box.x + box.width / 2, bottom - 0.25 * size - 1, ink, "center",
+      [bottom - box.height, box.height]);
+  }
+}
+
+/** Draws a cross in each cell. */
+function wastes(place, found, ink = place.inks.soft) {
+  const { pen } = place;
+  pen.strokeStyle = ink;
+  pen.lineWidth = 1.5;
+  pen.beginPath();
+  for (const [x, y] of found.filter(([u, v]) => isSeen(place, u, v))) {
+    pen.moveTo(px(place, x + 0.2), py(place, y + 0.2));
+    pen.lineTo(px(place, x + 0.8), py(place, y + 0.8));
+    pen.moveTo(px(place, x + 0.8), py(place, y + 0.2));
+    pen.lineTo(px(place, x + 0.2), py(place, y + 0.8));
+  }
+  pen.stroke();
+}
+
+/** Returns the numbers of the modules whose borders can be seen. */
+function seenModules(place, found) {
+  if (found.length > FEW_MODULES && MAX_MODULE_SIDE * place.scale < CLOSE_BORDERS) return [];
+  const [x0, y0, x1, y1] = [place.left, place.top, place.left + place.wide / place.scale,
+    place.top + place.high / place.scale], numbers = [];
+  const least = found.length > FEW_MODULES ? CLOSE_BORDERS / place.scale : 0;
+  found.forEach(({ box: [x, y, w, h] }, number) => {
+    if (Math.min(w, h) >= least && x <= x1 && y <= y1 && x + w >= x0 && y + h >= y0) numbers.push(number);
+  });
+  return numbers.length > MANY_BORDERS ? [] : numbers;
+}
+
+/**
+ * Draws the borders of modules with their numbers; the chosen one is thick. Where they are very close they are left
+ * out.
+ */
+function modules(place, found, chosen) {
+  const { pen, inks, scale } = place, shown = seenModules(place, found);
+  pen.font = "600 11px system-ui, sans-serif";
+  pen.strokeStyle = inks.box;
+  pen.lineWidth = scale < 2 ? 0.5 : 1;
+  pen.setLineDash(scale < 4 ? [] : [6, 4]);
+  pen.beginPath();
+  for (const number of shown) {
+    const [x, y, w, h] = found[number].box;
+    pen.rect(px(place, x), py(place, y), w * scale, h * scale);
+  }
+  pen.stroke();
+  pen.setLineDash([]);
+  if (chosen !== null && found[chosen]) outline(place, found[chosen].box, inks.box, scale < 4 ? [] : [6, 4], 0, 2.5);
+  for (const number of shown) {
+    const [x, y, w] = found[number].box;
+    if (w * scale > 26) label(place, String(number), px(place, x) + 5, py(place, y) + 14, inks.box, "left");
+  }
+}
+
+/** Draws the cells of lines of the certificate, with a letter for the kind and the wire where there is room. */
+function lines(place, found) {
+  const { pen, inks, scale } = place, offsets = { edge: 2, halo: 4, stop: 6 };
+  if (scale < 4) return;
+  pen.font = "600 10px ui-monospace, monospace";
+  for (const { kind, x, y, signal } of found) {
+    if (!isSeen(place, x, y)) continue;
+    outline(place, [x, y, 1, 1], inks[kind], kind === "halo" ? [2, 2] : [], Math.min(offsets[kind], scale / 4),
+      kind === "stop" ? 2.5 : 1.5);
+    const bottom = py(place, y) + (kind === "edge" ? 11 : scale - 4);
+    if (scale >= 22 && kind !== "halo") label(place, `${MARKS[kind]} ${signal}`, px(place, x) + 2, bottom, inks[kind],
+        "left");
+  }
+}
+
+/** Draws a ring about a cell. */
+function ring(place, [x, y], ink = place.inks.bad) {
+  const { pen } = place;
+  pen.strokeStyle = ink;
+  pen.lineWidth = 3;
+  pen.beginPath();
+  pen.arc(px(place, x + 0.5), py(place, y + 0.5), Math.max(9, place.scale * 0.85), 0, 2 * Math.PI);
+  pen.stroke();
+}
+
+/** Marks cells that differ: a cross where only this run has the cell live, an empty square where only the other has. */
+function differences(place, more, less) {
+  for (const cell of less) outline(place, [...cell, 1, 1], place.inks.bad, [], 2, 2.5);
+  for (const cell of more) outline(place, [...cell, 1, 1], place.inks.bad, [], 0, 2.5);
+  wastes(place, more, place.inks.bad);
+}
+
+/** Writes a number of a ruler, on a plate if the pointer is there. */
+function rulerNumber(place, number, x, y, isPointed) {
+  const { pen, inks } = place;
+  pen.textAlign = "center";
+  if (isPointed) {
+    pen.fillStyle = inks.box;
+    pen.fillRect(x - 14, y - 11, 28, 15);
+  }
+  pen.fillStyle = isPointed ? inks.paper : inks.soft;
+  pen.fillText(String(number), x, y);
+}
+
+/** Returns which columns or rows have numbers at a scale, a distance of some pixels apart. */
+function rulerStep(scale, distance) {
+  let step = 1;
+  while (step * scale < distance) step *= 2;
+  return step;
+}
+
+/** Draws the numbers of the columns above the picture and of the rows at its left, with those of a cell on plates. */
+function rulers(place, { width, height }, pointed) {
+  const { pen, inks, wide, high, scale } = place;
+  pen.fillStyle = inks.paper;
+  pen.fillRect(0, 0, wide, RULER.high);
+  pen.fillRect(0, 0, RULER.wide, high);
+  pen.strokeStyle = inks.border;
+  pen.lineWidth = 1;
+  pen.beginPath();
+  pen.moveTo(0, RULER.high + 0.5);
+  pen.lineTo(wide, RULER.high + 0.5);
+  pen.moveTo(RULER.wide + 0.5, 0);
+  pen.lineTo(RULER.wide + 0.5, high);
+  pen.stroke();
+  pen.font = "11px system-ui, sans-serif";
+  const [x0, y0, x1, y1] = seenRange(place, { width, height });
+  const numbers = (first, last, size, distance) =>
+    [...Array(Math.max(0, Math.min(last, size) - Math.max(0, first))).keys()]
+    .map((index) => index + Math.max(0, first)).filter((number) => number % rulerStep(scale, distance) === 0);
+  const columns = numbers(x0, x1, width, 30), rows = numbers(y0, y1, height, 18);
+  const column = (x, isPointed) => { if (px(place, x + 0.5) > RULER.wide + 8) rulerNumber(place, x, px(place, x + 0.5),
+    RULER.high - 5, isPointed); };
+  const isWhole = (y) => py(place, y + 0.5) > RULER.high + 6 && py(place, y + 0.5) < high - 6;
+  const row = (y, isPointed) => { if (isWhole(y)) rulerNumber(place, y, RULER.wide / 2, py(place, y + 0.5) + 4,
+    isPointed); };
+  // A number that the plate of the pointed cell would cover in part is left out.
+  const isFree = (number, at, distance) => at === undefined || Math.abs(number - at) * scale >= distance;
+  columns.filter((x) => isFree(x, pointed?.[0], 28)).forEach((x) => column(x, false));
+  rows.filter((y) => isFree(y, pointed?.[1], 15)).forEach((y) => row(y, false));
+  if (pointed) {
+    column(pointed[0], true);
+    row(pointed[1], true);
+  }
+}
+
+/**
+ * Draws all that is seen of a layout.
+ * @param {Place} place
+ * @param {Object} scene layout, modules, live (cells), mirrors (cells), odd, trail (moves by steps), chosen (a module),
+ * lines, fault and mark (cells or null), good (a map of out cells or null), pointed (a cell or null); where they are
+ * not too large, `ways` draws the ways of the balls, and below that scale `still` draws these and the mirrors from
+ * tiles, with what differs from the mirrors over them; `over` draws what stands out
+ */
+function scene(place, shown) {
+  const { layout, modules: boxes, live, mirrors, odd, trail, chosen, lines: said, fault, mark, good, pointed } = shown;
+  const { ways = null, still = null, different = null, over = null } = shown;
+  const box = [0, 0, layout.width, layout.height], hasTiles = still !== null && place.scale < TILE_SCALE;
+  grid(place, box, odd);
+  outline(place, box, place.inks.soft, [], 0, 1.5);
+  if (hasTiles) still(place);
+  else if (ways) ways(place, seenRange(place, layout));
+  trails(place, trail, live.grid);
+  if (hasTiles) changes(place, different(), mirrors);
+  else cells(place, live, mirrors);
+  if (over) over(place);
+  modules(place, boxes, chosen);
+  lines(place, said);
+  if (fault) ring(place, fault);
+  if (mark) ring(place, mark, place.inks.box);
+  ports(place, layout, good);
+  rulers(place, layout, pointed);
+}
+
+export {
+  clearCanvas, inksNow, scene, outline, grid, cells, ports, modules, lines, ring, differences, rulers, rulerStep,
+    trails,
+  bars, wireInks, seenRange, RULER,
+};

@@ -1,268 +1,338 @@
-/** Shows the runs of a player on canvases: the layout, a module by itself, and the waveform. Adds `bbmlab.Stage`. */
-"use strict";
+/** Shows the runs of a player on canvases: the layout, a module by itself, and the waveform. */
+import * as address from "./address.js";
+import { mirrorsOf, trail } from "./automaton.js";
+import * as painting from "./painting.js";
+import { SvgPen } from "./svg_pen.js";
+import { Buckets, changedPlaces, Tiles } from "./tiles.js";
+import * as waveform from "./waveform.js";
+import { Wires } from "./wires.js";
 
-{
-  const { mirrorsOf, Buckets, Tiles, changedPlaces, Wires, SvgPen, trail, painting, waveform, address } = bbmlab;
-  const { RULER } = painting;
-  // A trail has so many steps, and fewer if the balls are many: 24,000 moves take 15 ms of a frame to draw without a graphics processor.
-  const TRAIL_STEPS = 24, MAX_MOVES = 8000, FIT_SCALE = 60;
+const { RULER } = painting;
+// A trail has so many steps, and fewer if the balls are many: 24,000 moves take 15 ms of a frame to draw without a
+// graphics processor.
+const TRAIL_STEPS = 24, MAX_MOVES = 8000, FIT_SCALE = 60;
 
-  /** Writes a number with its noun. */
-  const counted = (count, one, several) => `${count} ${count === 1 ? one : several}`;
+/** Writes a number with its noun. */
+const counted = (count, one, several) => `${count} ${count === 1 ? one : several}`;
 
-  class Stage {
-    /** @param {bbmlab.Player} player @param {Object<string, HTMLElement>} parts the canvases whole, own and wave, and what goes with them */
-    constructor(player, parts) {
-      Object.assign(this, { player, parts, layout: player.layout, fault: null, mark: null, module: null, pointed: null });
-      Object.assign(this, { scale: 10, left: 0, top: 0, isFit: true, hasTrails: true, frame: null, good: null, axis: null });
-      // The ways of the balls, whether they are shown, and the wires that stand out: the one that was looked for, and the one under the pointer.
-      Object.assign(this, { wires: new Wires(player.data.ways, player.data.circuit), hasWays: false, wire: null, pointedWire: null });
-      this.takeMirrors();
-    }
+class Stage {
+  player;
+  parts;
+  layout;
+  fault = null;
+  mark = null;
+  module = null;
+  pointed = null;
+  scale = 10;
+  left = 0;
+  top = 0;
+  isFit = true;
+  hasTrails = true;
+  frame = null;
+  good = null;
+  axis = null;
+  wires;
+  hasWays = false;
+  wire = null;
+  pointedWire = null;
+  mirrors;
+  boxes;
+  filedBoxes;
+  tiles;
+  isWhole;
 
-    /** Notes the cells of the layout's mirrors. Tiles of a layout of the same size are kept where its mirrors are the same. */
-    takeMirrors() {
-      const { layout, tiles, boxes } = this;
-      this.mirrors = mirrorsOf(layout).cells;
-      this.boxes = layout.mirrors;
-      this.filedBoxes = new Buckets();
-      for (const box of layout.mirrors) this.filedBoxes.addBox(...box);
-      if (!tiles || tiles.width !== layout.width || tiles.height !== layout.height) { this.tiles = new Tiles(layout, (place, range) => this.drawTile(place, range)); return; }
-      const { gone, added } = changedPlaces(boxes.flat(), layout.mirrors.flat(), 4), fresh = added.map((at) => layout.mirrors[at / 4]);
-      const filedOf = (list) => { const filed = new Buckets(); for (const box of list) filed.addBox(...box); return filed; };
-      tiles.forget(filedOf(gone.map((at) => boxes[at / 4])));
-      // Mirrors lie over the ways, so new ones are drawn over what a tile shows.
-      if (fresh.length > 0) { const inks = painting.inksNow(); tiles.add(filedOf(fresh), (place) => painting.bars({ ...place, inks }, fresh, 1)); }
-    }
-
-    /** Draws what is still in a range of cells: the ways, if they are shown, and the mirrors over them. */
-    drawTile(place, range) {
-      const found = [], shown = { ...place, inks: painting.inksNow() };
-      this.filedBoxes.visit(range, (number) => found.push(this.boxes[number]));
-      this.drawWays(shown, range);
-      painting.bars(shown, found, 1);
-    }
-
-    /** Draws the ways of a range of cells, if they are shown. */
-    drawWays(place, range) { if (this.hasWays) this.wires.draw(place, range, painting.wireInks()); }
-
-    /** Shows or hides the ways. */
-    setWays(isOn) {
-      this.hasWays = isOn;
-      this.redraw();
-    }
-
-    /** Draws everything again at the next frame, since colours or ways have changed. */
-    redraw() {
-      this.tiles.clear();
-      this.paint();
-    }
-
-    /** Returns the range of places that is seen: x, y, x, y. */
-    seen() {
-      const { wide, high } = this.room(), x = this.left + RULER.wide / this.scale, y = this.top + RULER.high / this.scale;
-      return [x, y, x + wide / this.scale, y + high / this.scale];
-    }
-
-    /** Returns the wire whose ball flies at a place of the canvas, with the time there, or null. */
-    wireAt(x, y) { return this.wires.at(this.left + x / this.scale - 0.5, this.top + y / this.scale - 0.5, Math.max(1, 5 / this.scale)); }
-
-    /** Shows all ways of a wire, and lets them stand out; null lets none stand out. */
-    showWire(wire) {
-      this.wire = wire;
-      if (wire) {
-        const [x, y, w, h] = this.wires.boxOf(wire), { wide, high } = this.room();
-        this.centre(x + w / 2, y + h / 2, Math.min(28, wide / (w + 8), high / (h + 8)));
-        this.moved();
-      }
-      this.paint();
-    }
-
-    /** Returns the size of the whole picture, and of its part beside the rulers, in pixels. */
-    room() {
-      const { clientWidth, clientHeight } = this.parts.whole;
-      return { wide: Math.max(1, clientWidth - RULER.wide), high: Math.max(1, clientHeight - RULER.high) };
-    }
-
-    /** Puts a place of the layout in the middle, at a scale in pixels for a cell. */
-    centre(x, y, scale) {
-      const { wide, high } = this.room();
-      this.scale = Math.max(address.MIN_SCALE, Math.min(address.MAX_SCALE, scale));
-      this.left = x - (RULER.wide + wide / 2) / this.scale;
-      this.top = y - (RULER.high + high / 2) / this.scale;
-      this.paint();
-    }
-
-    /** Returns the scale and the place in the middle. */
-    zoomNow() {
-      const { wide, high } = this.room();
-      return [this.scale, this.left + (RULER.wide + wide / 2) / this.scale, this.top + (RULER.high + high / 2) / this.scale];
-    }
-
-    /** Shows the whole layout. */
-    fit() {
-      const { width, height } = this.layout, { wide, high } = this.room();
-      this.isFit = true;
-      this.centre(width / 2, height / 2, Math.min(FIT_SCALE, wide / (width + 1), high / (height + 1)));
-    }
-
-    /** Zooms about a place of the canvas, its middle if none is given. */
-    zoom(factor, x = this.parts.whole.clientWidth / 2, y = this.parts.whole.clientHeight / 2) {
-      const scale = Math.max(address.MIN_SCALE, Math.min(address.MAX_SCALE, this.scale * factor));
-      this.left += x / this.scale - x / scale;
-      this.top += y / this.scale - y / scale;
-      this.scale = scale;
-      this.moved();
-    }
-
-    /** Moves the picture by pixels. */
-    pan(x, y) {
-      this.left += x / this.scale;
-      this.top += y / this.scale;
-      this.moved();
-    }
-
-    /** Notes that the picture is no longer fitted. */
-    moved() {
-      this.isFit = false;
-      this.paint();
-      if (this.onMove) this.onMove();
-    }
-
-    /** Shows a place closely enough to see cells: all of the layout if that does, else the box if one is given. */
-    lookAt([x, y], box) {
-      this.fit();
-      if (this.scale >= 12) return;
-      const { wide, high } = this.room(), side = box ? Math.max(box[2], box[3]) + 8 : 24;
-      this.centre(x, y, Math.max(this.scale, Math.min(28, Math.max(8, Math.min(wide, high) / side))));
-      this.moved();
-    }
-
-    /** Returns the cell at a place of the canvas, or null beside the layout. @returns {?Cell} */
-    cellAt(x, y) {
-      const cell = [Math.floor(this.left + x / this.scale), Math.floor(this.top + y / this.scale)];
-      const isInside = cell[0] >= 0 && cell[1] >= 0 && cell[0] < this.layout.width && cell[1] < this.layout.height;
-      return isInside && x >= RULER.wide && y >= RULER.high ? cell : null;
-    }
-
-    /** Says what there is at a cell now: "(99, 82): ball, in p, module 3". */
-    wordsOf([x, y]) {
-      const { layout, mirrors, player } = this, key = mirrors.grid.keyOf(x, y), words = [], isLive = player.run.live.has(key);
-      if (mirrors.has(key)) words.push(isLive ? "mirror" : "dead mirror cell"); else if (isLive) words.push("ball");
-      const isHere = ({ cell }) => cell[0] === x && cell[1] === y;
-      for (const [kind, found] of [["in", layout.ins], ["out", layout.outs]]) words.push(...found.filter(isHere).map(({ name }) => `${kind} ${name}`));
-      if (layout.wastes.some(([u, v]) => u === x && v === y)) words.push("waste");
-      const module = player.modules.findIndex(({ box: [u, v, w, h] }) => x >= u && y >= v && x < u + w && y < v + h);
-      if (module >= 0 && player.modules.length > 1) words.push(`module ${module}`);
-      return `(${x}, ${y})${words.length ? `: ${words.join(", ")}` : ""}`;
-    }
-
-    /** Draws at the next frame, once however often it is called. */
-    paint() {
-      if (this.frame) return;
-      this.frame = requestAnimationFrame(() => {
-        this.frame = null;
-        if (this.onPaint) this.onPaint();
-        this.isWhole = true;
-        this.paintWhole(painting.placeOn(this.parts.whole, this.scale, this.left, this.top));
-        if (this.player.own) this.paintOwn();
-        if (this.onPainted) this.onPainted();
-        // Tiles for which there was no time come with the next frames.
-        if (!this.isWhole) this.paint();
-      });
-    }
-
-    /** Returns the moves to draw as trails, by steps. */
-    trails() {
-      if (!this.hasTrails) return [];
-      let room = MAX_MOVES;
-      return trail(this.player.run, TRAIL_STEPS).filter((moves) => { room -= moves.length / 2; return room >= 0; });
-    }
-
-    /** Draws the whole layout with a pen. */
-    paintWhole(place, pointed = this.pointed) {
-      const { run, modules, layout } = this.player, { mirrors, fault, mark, module } = this;
-      const wire = this.pointedWire || this.wire;
-      painting.scene(place, { layout, modules, live: run.live, mirrors, odd: run.time % 2, trail: this.trails(), chosen: module,
-        lines: this.player.linesNow(module), fault, mark, good: run.time === layout.steps ? this.good : null, pointed,
-        ways: (where, range) => this.drawWays(where, range), still: place.pen instanceof SvgPen ? null : (where) => this.drawStill(where),
-        different: () => run.different(), over: wire ? (where) => this.wires.bring(where, wire) : null });
-    }
-
-    /** Draws what is still from tiles. */
-    drawStill(place) { if (!this.tiles.paint(place, window.devicePixelRatio || 1)) this.isWhole = false; }
-
-    /** Returns what is seen as the text of an SVG file. */
-    svg(title) {
-      const { clientWidth, clientHeight } = this.parts.whole, meter = document.createElement("canvas").getContext("2d");
-      const measure = (text, font) => { meter.font = font; return meter.measureText(text).width; };
-      const pen = new SvgPen(clientWidth, clientHeight, measure), inks = painting.inksNow();
-      this.paintWhole({ pen, scale: this.scale, left: this.left, top: this.top, wide: clientWidth, high: clientHeight, inks }, null);
-      return pen.text(inks.plane, title);
-    }
-
-    /** Calls an action with what is seen as a PNG file. */
-    png(action) {
-      const { whole } = this.parts, canvas = document.createElement("canvas");
-      this.paintWhole(painting.placeOn(whole, this.scale, this.left, this.top), null);
-      Object.assign(canvas, { width: whole.width, height: whole.height });
-      const pen = canvas.getContext("2d");
-      pen.fillStyle = painting.inksNow().plane;
-      pen.fillRect(0, 0, canvas.width, canvas.height);
-      pen.drawImage(whole, 0, 0);
-      canvas.toBlob(action, "image/png");
-      this.paint();
-    }
-
-    /** Draws the module's own run, and marks the cells that differ from the whole run. */
-    paintOwn() {
-      const canvas = this.parts.own, { own, run } = this.player, [x, y, w, h] = own.module.box, { clientWidth, clientHeight } = canvas;
-      const scale = Math.min(48, clientWidth / (w + 4), clientHeight / (h + 4));
-      const place = painting.placeOn(canvas, scale, x + w / 2 - clientWidth / scale / 2, y + h / 2 - clientHeight / scale / 2);
-      const heard = own.heardNow().map((key) => own.grid.cellOf(key)), { more, less } = this.differences();
-      painting.grid(place, own.module.box, own.time % 2);
-      painting.outline(place, own.module.box, place.inks.box, [6, 4], 0, 1.5);
-      painting.cells(place, own.live, this.mirrors);
-      for (const cell of heard) painting.outline(place, [...cell, 1, 1], place.inks.halo, [2, 2], 3, 2.5);
-      painting.differences(place, more, less);
-      if (this.fault) painting.ring(place, this.fault);
-      const told = heard.length ? ` Dotted: ${heard.length} live around the box, as the module is told.` : "";
-      this.parts.note.textContent = own.time === run.time ? this.differenceWords() + told : "";
-    }
-
-    /** Returns the cells that are live only in the module's own run, and those that are live only in the whole run. @returns {{more: Cell[], less: Cell[]}} */
-    differences() {
-      const { own, run } = this.player;
-      if (!own || own.time !== run.time) return { more: [], less: [] };
-      const more = own.live.keys().filter((key) => !run.live.has(key)), less = run.live.keys().filter((key) => own.isInside(key) && !own.live.has(key));
-      return { more: more.map((key) => own.grid.cellOf(key)), less: less.map((key) => run.grid.cellOf(key)) };
-    }
-
-    /** Says how many cells differ. */
-    differenceWords() {
-      const { more, less } = this.differences(), count = more.length + less.length;
-      return count === 0 ? "No cell differs from the whole run now."
-        : `${counted(count, "cell differs", "cells differ")} from the whole run: ✗ is live only here, ☐ only there.`;
-    }
-
-    /** Draws the rows of the waveform that can be seen. */
-    paintWave() {
-      const { wave, waveBox, waveRest } = this.parts, { probes, recorder, layout, values } = this.player;
-      if (wave.clientHeight === 0) return;
-      waveRest.style.height = `${Math.max(0, waveform.heightOf(probes) - waveBox.clientHeight)}px`;
-      const place = painting.placeOn(wave, 1, 0, 0);
-      this.axis = waveform.paint(place, { probes, recorder, steps: layout.steps, values, scrolled: waveBox.scrollTop });
-      this.moveCursor();
-    }
-
-    /** Puts the line of the waveform at the present time. */
-    moveCursor() {
-      if (this.axis) this.parts.waveCursor.style.left = `${this.axis.left + (this.player.run.time + 0.5) * this.axis.unit}px`;
-    }
-
-    /** Returns the time at a place of the waveform. */
-    timeAt(x) { return this.axis ? Math.floor((x - this.axis.left) / this.axis.unit) : 0; }
+  /**
+   * @param {Player} player
+   * @param {Object<string, HTMLElement>} parts the canvases whole, own and wave, and what goes with them
+   */
+  constructor(player, parts) {
+    this.player = player;
+    this.parts = parts;
+    this.layout = player.layout;
+    // The ways of the balls, whether they are shown, and the wires that stand out: the one that was looked for, and the
+    // one under the pointer.
+    this.wires = new Wires(player.data.ways, player.data.circuit);
+    this.takeMirrors();
   }
 
-  Object.assign(bbmlab, { Stage, counted });
+  /**
+   * Notes the cells of the layout's mirrors. Tiles of a layout of the same size are kept where its mirrors are the
+   * same.
+   */
+  takeMirrors() {
+    const { layout, tiles, boxes } = this;
+    this.mirrors = mirrorsOf(layout).cells;
+    this.boxes = layout.mirrors;
+    this.filedBoxes = new Buckets();
+    for (const box of layout.mirrors) this.filedBoxes.addBox(...box);
+    if (!tiles || tiles.width !== layout.width || tiles.height !== layout.height) {
+      this.tiles = new Tiles(layout, (place, range) => this.drawTile(place, range));
+      return;
+    }
+    const { gone, added } = changedPlaces(boxes.flat(), layout.mirrors.flat(), 4);
+    const fresh = added.map((at) => layout.mirrors[at / 4]);
+    const filedOf = (list) => {
+      const filed = new Buckets();
+      for (const box of list) filed.addBox(...box);
+      return filed;
+    };
+    tiles.forget(filedOf(gone.map((at) => boxes[at / 4])));
+    // Mirrors lie over the ways, so new ones are drawn over what a tile shows.
+    if (fresh.length > 0) {
+      const inks = painting.inksNow();
+      tiles.add(filedOf(fresh), (place) => painting.bars({ ...place, inks }, fresh, 1));
+    }
+  }
+
+  /** Draws what is still in a range of cells: the ways, if they are shown, and the mirrors over them. */
+  drawTile(place, range) {
+    const found = [], shown = { ...place, inks: painting.inksNow() };
+    this.filedBoxes.visit(range, (number) => found.push(this.boxes[number]));
+    this.drawWays(shown, range);
+    painting.bars(shown, found, 1);
+  }
+
+  /** Draws the ways of a range of cells, if they are shown. */
+  drawWays(place, range) { if (this.hasWays) this.wires.draw(place, range, painting.wireInks()); }
+
+  /** Shows or hides the ways. */
+  setWays(isOn) {
+    this.hasWays = isOn;
+    this.redraw();
+  }
+
+  /** Draws everything again at the next frame, since colours or ways have changed. */
+  redraw() {
+    this.tiles.clear();
+    this.requestPaint();
+  }
+
+  /** Returns the range of places that is seen: x, y, x, y. */
+  seen() {
+    const { wide, high } = this.room(), x = this.left + RULER.wide / this.scale, y = this.top + RULER.high / this.scale;
+    return [x, y, x + wide / this.scale, y + high / this.scale];
+  }
+
+  /** Returns the wire whose ball flies at a place of the canvas, with the time there, or null. */
+  wireAt(x, y) { return this.wires.at(this.left + x / this.scale - 0.5, this.top + y / this.scale - 0.5,
+    Math.max(1, 5 / this.scale)); }
+
+  /** Shows all ways of a wire, and lets them stand out; null lets none stand out. */
+  showWire(wire) {
+    this.wire = wire;
+    if (wire) {
+      const [x, y, w, h] = this.wires.boxOf(wire), { wide, high } = this.room();
+      this.centre(x + w / 2, y + h / 2, Math.min(28, wide / (w + 8), high / (h + 8)));
+      this.afterMove();
+    }
+    this.requestPaint();
+  }
+
+  /** Returns the size of the whole picture, and of its part beside the rulers, in pixels. */
+  room() {
+    const { clientWidth, clientHeight } = this.parts.whole;
+    return { wide: Math.max(1, clientWidth - RULER.wide), high: Math.max(1, clientHeight - RULER.high) };
+  }
+
+  /** Puts a place of the layout in the middle, at a scale in pixels for a cell. */
+  centre(x, y, scale) {
+    const { wide, high } = this.room();
+    this.scale = Math.max(address.MIN_SCALE, Math.min(address.MAX_SCALE, scale));
+    this.left = x - (RULER.wide + wide / 2) / this.scale;
+    this.top = y - (RULER.high + high / 2) / this.scale;
+    this.requestPaint();
+  }
+
+  /** Returns the scale and the place in the middle. */
+  zoomNow() {
+    const { wide, high } = this.room();
+    return [this.scale, this.left + (RULER.wide + wide / 2) / this.scale,
+      this.top + (RULER.high + high / 2) / this.scale];
+  }
+
+  /** Shows the whole layout. */
+  fit() {
+    const { width, height } = this.layout, { wide, high } = this.room();
+    this.isFit = true;
+    this.centre(width / 2, height / 2, Math.min(FIT_SCALE, wide / (width + 1), high / (height + 1)));
+  }
+
+  /** Zooms about a place of the canvas, its middle if none is given. */
+  zoom(factor, x = this.parts.whole.clientWidth / 2, y = this.parts.whole.clientHeight / 2) {
+    const scale = Math.max(address.MIN_SCALE, Math.min(address.MAX_SCALE, this.scale * factor));
+    this.left += x / this.scale - x / scale;
+    this.top += y / this.scale - y / scale;
+    this.scale = scale;
+    this.afterMove();
+  }
+
+  /** Moves the picture by pixels. */
+  pan(x, y) {
+    this.left += x / this.scale;
+    this.top += y / this.scale;
+    this.afterMove();
+  }
+
+  /** Notes that the picture is no longer fitted. */
+  afterMove() {
+    this.isFit = false;
+    this.requestPaint();
+    if (this.onMove) this.onMove();
+  }
+
+  /** Shows a place closely enough to see cells: all of the layout if that does, else the box if one is given. */
+  lookAt([x, y], box) {
+    this.fit();
+    if (this.scale >= 12) return;
+    const { wide, high } = this.room(), side = box ? Math.max(box[2], box[3]) + 8 : 24;
+    this.centre(x, y, Math.max(this.scale, Math.min(28, Math.max(8, Math.min(wide, high) / side))));
+    this.afterMove();
+  }
+
+  /** Returns the cell at a place of the canvas, or null beside the layout. @returns {?Cell} */
+  cellAt(x, y) {
+    const cell = [Math.floor(this.left + x / this.scale), Math.floor(this.top + y / this.scale)];
+    const isInside = cell[0] >= 0 && cell[1] >= 0 && cell[0] < this.layout.width && cell[1] < this.layout.height;
+    return isInside && x >= RULER.wide && y >= RULER.high ? cell : null;
+  }
+
+  /** Says what there is at a cell now: "(99, 82): ball, in p, module 3". */
+  wordsOf([x, y]) {
+    const { layout, mirrors, player } = this, key = mirrors.grid.keyOf(x, y), words = [];
+    const isLive = player.run.live.has(key);
+    if (mirrors.has(key)) words.push(isLive ? "mirror" : "dead mirror cell");
+    else if (isLive) words.push("ball");
+    const isHere = ({ cell }) => cell[0] === x && cell[1] === y;
+    for (const [kind, found] of [["in", layout.ins], ["out", layout.outs]])
+        words.push(...found.filter(isHere).map(({ name }) => `${kind} ${name}`));
+    if (layout.wastes.some(([u, v]) => u === x && v === y)) words.push("waste");
+    const module = player.modules.findIndex(({ box: [u, v, w, h] }) => x >= u && y >= v && x < u + w && y < v + h);
+    if (module >= 0 && player.modules.length > 1) words.push(`module ${module}`);
+    return `(${x}, ${y})${words.length ? `: ${words.join(", ")}` : ""}`;
+  }
+
+  /** Draws at the next frame, once however often it is called. */
+  requestPaint() {
+    if (this.frame) return;
+    this.frame = requestAnimationFrame(() => {
+      this.frame = null;
+      if (this.onPaint) this.onPaint();
+      this.isWhole = true;
+      this.paintWhole(painting.clearCanvas(this.parts.whole, this.scale, this.left, this.top));
+      if (this.player.own) this.paintOwn();
+      if (this.onPainted) this.onPainted();
+      // Tiles for which there was no time come with the next frames.
+      if (!this.isWhole) this.requestPaint();
+    });
+  }
+
+  /** Returns the moves to draw as trails, by steps. */
+  trails() {
+    if (!this.hasTrails) return [];
+    let room = MAX_MOVES;
+    return trail(this.player.run, TRAIL_STEPS).filter((moves) => {
+      room -= moves.length / 2;
+      return room >= 0;
+    });
+  }
+
+  /** Draws the whole layout with a pen. */
+  paintWhole(place, pointed = this.pointed) {
+    const { run, modules, layout } = this.player, { mirrors, fault, mark, module } = this;
+    const wire = this.pointedWire || this.wire;
+    painting.scene(place, { layout, modules, live: run.live, mirrors, odd: run.time % 2, trail: this.trails(),
+      chosen: module,
+      lines: this.player.linesNow(module), fault, mark, good: run.time === layout.steps ? this.good : null, pointed,
+      ways: (where, range) => this.drawWays(where, range), still: place.pen instanceof SvgPen ? null
+        : (where) => this.drawStill(where),
+      different: () => run.different(), over: wire ? (where) => this.wires.bring(where, wire) : null });
+  }
+
+  /** Draws what is still from tiles. */
+  drawStill(place) { if (!this.tiles.paint(place, window.devicePixelRatio || 1)) this.isWhole = false; }
+
+  /** Returns what is seen as the text of an SVG file. */
+  svg(title) {
+    const { clientWidth, clientHeight } = this.parts.whole, meter = document.createElement("canvas").getContext("2d");
+    const measure = (text, font) => {
+      meter.font = font;
+      return meter.measureText(text).width;
+    };
+    const pen = new SvgPen(clientWidth, clientHeight, measure), inks = painting.inksNow();
+    this.paintWhole({ pen, scale: this.scale, left: this.left, top: this.top, wide: clientWidth, high: clientHeight,
+      inks }, null);
+    return pen.text(inks.plane, title);
+  }
+
+  /** Calls an action with what is seen as a PNG file. */
+  png(action) {
+    const { whole } = this.parts, canvas = document.createElement("canvas");
+    this.paintWhole(painting.clearCanvas(whole, this.scale, this.left, this.top), null);
+    canvas.width = whole.width;
+    canvas.height = whole.height;
+    const pen = canvas.getContext("2d");
+    pen.fillStyle = painting.inksNow().plane;
+    pen.fillRect(0, 0, canvas.width, canvas.height);
+    pen.drawImage(whole, 0, 0);
+    canvas.toBlob(action, "image/png");
+    this.requestPaint();
+  }
+
+  /** Draws the module's own run, and marks the cells that differ from the whole run. */
+  paintOwn() {
+    const canvas = this.parts.own, { own, run } = this.player, [x, y, w, h] = own.module.box;
+    const { clientWidth, clientHeight } = canvas;
+    const scale = Math.min(48, clientWidth / (w + 4), clientHeight / (h + 4));
+    const place = painting.clearCanvas(canvas, scale, x + w / 2 - clientWidth / scale / 2,
+      y + h / 2 - clientHeight / scale / 2);
+    const heard = own.heardNow().map((key) => own.grid.cellOf(key)), { more, less } = this.differences();
+    painting.grid(place, own.module.box, own.time % 2);
+    painting.outline(place, own.module.box, place.inks.box, [6, 4], 0, 1.5);
+    painting.cells(place, own.live, this.mirrors);
+    for (const cell of heard) painting.outline(place, [...cell, 1, 1], place.inks.halo, [2, 2], 3, 2.5);
+    painting.differences(place, more, less);
+    if (this.fault) painting.ring(place, this.fault);
+    const told = heard.length ? ` Dotted: ${heard.length} live around the box, as the module is told.` : "";
+    this.parts.note.textContent = own.time === run.time ? this.differenceWords() + told : "";
+  }
+
+  /**
+   * Returns the cells that are live only in the module's own run, and those that are live only in the whole run.
+   * @returns {{more: Cell[], less: Cell[]}}
+   */
+  differences() {
+    const { own, run } = this.player;
+    if (!own || own.time !== run.time) return { more: [], less: [] };
+    const more = own.live.keys().filter((key) => !run.live.has(key));
+    const less = run.live.keys().filter((key) => own.isInside(key) && !own.live.has(key));
+    return { more: more.map((key) => own.grid.cellOf(key)), less: less.map((key) => run.grid.cellOf(key)) };
+  }
+
+  /** Says how many cells differ. */
+  differenceWords() {
+    const { more, less } = this.differences(), count = more.length + less.length;
+    return count === 0 ? "No cell differs from the whole run now."
+      : `${counted(count, "cell differs", "cells differ")} from the whole run: ✗ is live only here, ☐ only there.`;
+  }
+
+  /** Draws the rows of the waveform that can be seen. */
+  paintWave() {
+    const { wave, waveBox, waveRest } = this.parts, { probes, recorder, layout, values } = this.player;
+    if (wave.clientHeight === 0) return;
+    waveRest.style.height = `${Math.max(0, waveform.heightOf(probes) - waveBox.clientHeight)}px`;
+    const place = painting.clearCanvas(wave, 1, 0, 0);
+    this.axis = waveform.paint(place, { probes, recorder, steps: layout.steps, values, scrolled: waveBox.scrollTop });
+    this.moveCursor();
+  }
+
+  /** Puts the line of the waveform at the present time. */
+  moveCursor() {
+    if (this.axis) this.parts.waveCursor.style.left =
+        `${this.axis.left + (this.player.run.time + 0.5) * this.axis.unit}px`;
+  }
+
+  /** Returns the time at a place of the waveform. */
+  timeAt(x) { return this.axis ? Math.floor((x - this.axis.left) / this.axis.unit) : 0; }
 }
+
+export { Stage, counted };

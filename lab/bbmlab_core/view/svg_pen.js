@@ -1,69 +1,95 @@
-/** A pen that writes SVG: as much of a canvas's 2D context as `painting` uses. Adds `bbmlab.SvgPen`. */
-"use strict";
+/** A pen that writes SVG: as much of a canvas's 2D context as `painting` uses. */
 
-{
-  /** Writes a number with at most two digits after the point. */
-  const short = (value) => String(Math.round(value * 100) / 100);
+/** Writes a number with at most two digits after the point. */
+const short = (value) => String(Math.round(value * 100) / 100);
 
-  /** Writes a text for XML, between tags and in attributes. */
-  const escaped = (text) => String(text).replace(/[&<>"']/g, (sign) => `&#${sign.charCodeAt(0)};`);
+/** Writes a text for XML, between tags and in attributes. */
+const escaped = (text) => String(text).replace(/[&<>"']/g, (sign) => `&#${sign.charCodeAt(0)};`);
 
-  const ANCHORS = { left: "start", start: "start", center: "middle", right: "end", end: "end" };
+const ANCHORS = { left: "start", start: "start", center: "middle", right: "end", end: "end" };
 
-  class SvgPen {
-    /** @param {number} wide @param {number} high @param {(text: string, font: string) => number} measure the width of a text */
-    constructor(wide, high, measure) {
-      Object.assign(this, { wide, high, measure, parts: [], path: [], dash: [] });
-      Object.assign(this, { fillStyle: "#000", strokeStyle: "#000", lineWidth: 1, globalAlpha: 1, font: "10px sans-serif", textAlign: "left" });
-    }
+class SvgPen {
+  wide;
+  high;
+  measure;
+  parts = [];
+  path = [];
+  dash = [];
+  fillStyle = "#000";
+  strokeStyle = "#000";
+  lineWidth = 1;
+  globalAlpha = 1;
+  font = "10px sans-serif";
+  textAlign = "left";
 
-    measureText(text) { return { width: this.measure(text, this.font) }; }
-
-    setLineDash(dash) { this.dash = dash; }
-
-    beginPath() { this.path = []; }
-
-    moveTo(x, y) { this.path.push(`M${short(x)} ${short(y)}`); }
-
-    lineTo(x, y) { this.path.push(`L${short(x)} ${short(y)}`); }
-
-    /** Adds a whole circle. Arcs of other angles are not needed. */
-    arc(x, y, radius) {
-      const r = short(radius), across = short(2 * radius);
-      this.path.push(`M${short(x - radius)} ${short(y)}a${r} ${r} 0 1 0 ${across} 0a${r} ${r} 0 1 0 -${across} 0`);
-    }
-
-    rect(x, y, wide, high) { this.path.push(`M${short(x)} ${short(y)}h${short(wide)}v${short(high)}h${short(-wide)}z`); }
-
-    /** Files an element, unless its path is empty. */
-    add(attributes) {
-      const opacity = this.globalAlpha === 1 ? "" : ` opacity="${short(this.globalAlpha)}"`;
-      if (this.path.length) this.parts.push(`<path d="${this.path.join("")}" ${attributes}${opacity}/>`);
-    }
-
-    fill() { this.add(`fill="${escaped(this.fillStyle)}"`); }
-
-    stroke() {
-      const dash = this.dash.length ? ` stroke-dasharray="${this.dash.map(short).join(" ")}"` : "";
-      this.add(`fill="none" stroke="${escaped(this.strokeStyle)}" stroke-width="${short(this.lineWidth)}"${dash}`);
-    }
-
-    fillRect(...box) { this.beginPath(); this.rect(...box); this.fill(); }
-
-    strokeRect(...box) { this.beginPath(); this.rect(...box); this.stroke(); }
-
-    fillText(text, x, y) {
-      const style = `text-anchor="${ANCHORS[this.textAlign]}" style="font:${escaped(this.font)}" fill="${escaped(this.fillStyle)}"`;
-      this.parts.push(`<text x="${short(x)}" y="${short(y)}" ${style}>${escaped(text)}</text>`);
-    }
-
-    /** Returns the picture on a ground. @type {(ground: string, title: string) => string} */
-    text(ground, title) {
-      const size = `${short(this.wide)} ${short(this.high)}`;
-      return `<svg xmlns="http://www.w3.org/2000/svg" viewBox="0 0 ${size}" width="${short(this.wide)}" height="${short(this.high)}" role="img">`
-        + `<title>${escaped(title)}</title>\n<rect width="100%" height="100%" fill="${escaped(ground)}"/>\n${this.parts.join("\n")}\n</svg>\n`;
-    }
+  /**
+   * @param {number} wide
+   * @param {number} high
+   * @param {(text: string, font: string) => number} measure the width of a text
+   */
+  constructor(wide, high, measure) {
+    this.wide = wide;
+    this.high = high;
+    this.measure = measure;
   }
 
-  bbmlab.SvgPen = SvgPen;
+  measureText(text) { return { width: this.measure(text, this.font) }; }
+
+  setLineDash(dash) { this.dash = dash; }
+
+  beginPath() { this.path = []; }
+
+  moveTo(x, y) { this.path.push(`M${short(x)} ${short(y)}`); }
+
+  lineTo(x, y) { this.path.push(`L${short(x)} ${short(y)}`); }
+
+  /** Adds a whole circle. Arcs of other angles are not needed. */
+  arc(x, y, radius) {
+    const r = short(radius), across = short(2 * radius);
+    this.path.push(`M${short(x - radius)} ${short(y)}a${r} ${r} 0 1 0 ${across} 0a${r} ${r} 0 1 0 -${across} 0`);
+  }
+
+  rect(x, y, wide, high) { this.path.push(`M${short(x)} ${short(y)}h${short(wide)}v${short(high)}h${short(-wide)}z`); }
+
+  /** Files an element, unless its path is empty. */
+  add(attributes) {
+    const opacity = this.globalAlpha === 1 ? "" : ` opacity="${short(this.globalAlpha)}"`;
+    if (this.path.length) this.parts.push(`<path d="${this.path.join("")}" ${attributes}${opacity}/>`);
+  }
+
+  fill() { this.add(`fill="${escaped(this.fillStyle)}"`); }
+
+  stroke() {
+    const dash = this.dash.length ? ` stroke-dasharray="${this.dash.map(short).join(" ")}"` : "";
+    this.add(`fill="none" stroke="${escaped(this.strokeStyle)}" stroke-width="${short(this.lineWidth)}"${dash}`);
+  }
+
+  fillRect(...box) {
+    this.beginPath();
+    this.rect(...box);
+    this.fill();
+  }
+
+  strokeRect(...box) {
+    this.beginPath();
+    this.rect(...box);
+    this.stroke();
+  }
+
+  fillText(text, x, y) {
+    const style =
+      `text-anchor="${ANCHORS[this.textAlign]}" style="font:${escaped(this.font)}" fill="${escaped(this.fillStyle)}"`;
+    this.parts.push(`<text x="${short(x)}" y="${short(y)}" ${style}>${escaped(text)}</text>`);
+  }
+
+  /** Returns the picture on a ground. @type {(ground: string, title: string) => string} */
+  text(ground, title) {
+    const size = `${short(this.wide)} ${short(this.high)}`;
+    const sides = `width="${short(this.wide)}" height="${short(this.high)}"`;
+    return `<svg xmlns="http://www.w3.org/2000/svg" viewBox="0 0 ${size}" ${sides} role="img">`
+      + `<title>${escaped(title)}</title>\n<rect width="100%" height="100%" fill="${escaped(ground)}"/>\n`
+      + `${this.parts.join("\n")}\n</svg>\n`;
+  }
 }
+
+export { SvgPen };

@@ -1,166 +1,200 @@
 /**
- * Pictures of a layout's still parts at several scales, in square tiles that are made when they are first seen. So a frame of a large layout only
- * copies a few tiles. Adds `bbmlab.Tiles` and `bbmlab.Buckets`.
+ * Pictures of a layout's still parts at several scales, in square tiles that are made when they are first seen. So a
+ * frame of a large layout only copies a few tiles.
  */
-"use strict";
 
-{
-  // The side of a tile in pixels, the finest scale, how many tiles are kept, and how long a frame may make tiles, in milliseconds.
-  const SIDE = 512, FINEST = 2, MAX_TILES = 96, BUDGET = 7;
-  const BUCKET_BITS = 7, COLUMNS = 64;
+// The side of a tile in pixels, the finest scale, how many tiles are kept, and how long a frame may make tiles, in
+// milliseconds.
+const SIDE = 512, FINEST = 2, MAX_TILES = 96, BUDGET = 7;
+const BUCKET_BITS = 7, COLUMNS = 64;
 
-  /** Rectangles and diagonals of a layout, filed by squares of 128 cells. */
-  class Buckets {
-    constructor() { Object.assign(this, { filed: new Map(), count: 0, seen: new Uint32Array(0), look: 0 }); }
+/** Rectangles and diagonals of a layout, filed by squares of 128 cells. */
+class Buckets {
+  filed = new Map();
+  count = 0;
+  seen = new Uint32Array(0);
+  look = 0;
 
-    /** Files a number under a square. */
-    put(column, row, number) {
-      const square = row * COLUMNS + column;
-      if (!this.filed.has(square)) this.filed.set(square, []);
-      const list = this.filed.get(square);
-      if (list.at(-1) !== number) list.push(number);
+  /** Files a number under a square. */
+  put(column, row, number) {
+    const square = row * COLUMNS + column;
+    if (!this.filed.has(square)) this.filed.set(square, []);
+    const list = this.filed.get(square);
+    if (list.at(-1) !== number) list.push(number);
+  }
+
+  /** Files a rectangle under the next number. */
+  addBox(x, y, w, h) {
+    for (let row = y >> BUCKET_BITS; row <= (y + h - 1) >> BUCKET_BITS; row += 1) {
+      for (let column = x >> BUCKET_BITS; column <= (x + w - 1) >> BUCKET_BITS; column += 1) this.put(column, row,
+          this.count);
     }
+    this.count += 1;
+  }
 
-    /** Files a rectangle under the next number. */
-    addBox(x, y, w, h) {
-      for (let row = y >> BUCKET_BITS; row <= (y + h - 1) >> BUCKET_BITS; row += 1) {
-        for (let column = x >> BUCKET_BITS; column <= (x + w - 1) >> BUCKET_BITS; column += 1) this.put(column, row, this.count);
-      }
-      this.count += 1;
+  /** Files a piece of a way, along a diagonal or of one step to the side, under the next number. */
+  addPiece(x, y, u, v) {
+    const far = Math.max(Math.abs(u - x), Math.abs(v - y)), dx = Math.sign(u - x), dy = Math.sign(v - y);
+    const edge = 1 << BUCKET_BITS;
+    for (let at = 0; ; ) {
+      const column = (x + dx * at) >> BUCKET_BITS, row = (y + dy * at) >> BUCKET_BITS;
+      this.put(column, row, this.count);
+      // The steps until the piece leaves this square.
+      const leave = (step, place, square) => (step > 0 ? ((square + 1) * edge) - place
+        : step < 0 ? place - square * edge + 1 : Infinity);
+      at += Math.min(leave(dx, x + dx * at, column), leave(dy, y + dy * at, row));
+      if (!(at <= far)) break;
     }
+    this.count += 1;
+  }
 
-    /** Files a piece of a way, along a diagonal or of one step to the side, under the next number. */
-    addPiece(x, y, u, v) {
-      const far = Math.max(Math.abs(u - x), Math.abs(v - y)), dx = Math.sign(u - x), dy = Math.sign(v - y), edge = 1 << BUCKET_BITS;
-      for (let at = 0; ; ) {
-        const column = (x + dx * at) >> BUCKET_BITS, row = (y + dy * at) >> BUCKET_BITS;
-        this.put(column, row, this.count);
-        // The steps until the piece leaves this square.
-        const leave = (step, place, square) => (step > 0 ? ((square + 1) * edge) - place : step < 0 ? place - square * edge + 1 : Infinity);
-        at += Math.min(leave(dx, x + dx * at, column), leave(dy, y + dy * at, row));
-        if (!(at <= far)) break;
-      }
-      this.count += 1;
-    }
-
-    /** Calls an action with each number that was filed under a square of a range of cells, once. */
-    visit([x0, y0, x1, y1], action) {
-      if (this.seen.length < this.count) this.seen = new Uint32Array(this.count);
-      this.look += 1;
-      for (let row = Math.max(0, y0) >> BUCKET_BITS; row <= y1 >> BUCKET_BITS; row += 1) {
-        for (let column = Math.max(0, x0) >> BUCKET_BITS; column <= x1 >> BUCKET_BITS && column < COLUMNS; column += 1) {
-          for (const number of this.filed.get(row * COLUMNS + column) || []) {
-            if (this.seen[number] === this.look) continue;
-            this.seen[number] = this.look;
-            action(number);
-          }
+  /** Calls an action with each number that was filed under a square of a range of cells, once. */
+  visit([x0, y0, x1, y1], action) {
+    if (this.seen.length < this.count) this.seen = new Uint32Array(this.count);
+    this.look += 1;
+    for (let row = Math.max(0, y0) >> BUCKET_BITS; row <= y1 >> BUCKET_BITS; row += 1) {
+      for (let column = Math.max(0, x0) >> BUCKET_BITS; column <= x1 >> BUCKET_BITS && column < COLUMNS; column += 1) {
+        for (const number of this.filed.get(row * COLUMNS + column) || []) {
+          if (this.seen[number] === this.look) continue;
+          this.seen[number] = this.look;
+          action(number);
         }
       }
     }
   }
-
-  /** Returns the places in two flat lists of the groups of numbers that are only in one of them. A group has at most five numbers below 8192. */
-  function changedPlaces(old, fresh, size) {
-    const keysOf = (list) => {
-      const keys = new Map();
-      for (let at = 0; at < list.length; at += size) {
-        let key = 0;
-        for (let index = 0; index < Math.min(4, size); index += 1) key = key * 8192 + list[at + index];
-        // Four numbers fill what a number can hold: the fifth one tells apart what is at one place.
-        keys.set(size > 4 ? `${key} ${list[at + 4]}` : key, at);
-      }
-      return keys;
-    };
-    const before = keysOf(old), after = keysOf(fresh);
-    return { gone: [...before].filter(([key]) => !after.has(key)).map(([, at]) => at), added: [...after].filter(([key]) => !before.has(key)).map(([, at]) => at) };
-  }
-
-  /** Writes the number of a tile. */
-  const nameOf = (level, column, row) => `${level} ${column} ${row}`;
-
-  class Tiles {
-    /**
-     * @param {{width: number, height: number}} size that of the layout
-     * @param {(place: Place, range: number[]) => void} draw draws a range of cells on a place
-     */
-    constructor({ width, height }, draw) {
-      Object.assign(this, { width, height, draw, made: new Map(), coarsest: Math.min(FINEST, Math.floor(Math.log2(SIDE / Math.max(width, height)))) });
-    }
-
-    /** Forgets all tiles: what they show has changed. */
-    clear() { this.made.clear(); }
-
-    /** Calls an action with the name, the canvas and the place of each tile that shows something of what is filed. */
-    touched(changed, action) {
-      for (const [name, canvas] of [...this.made]) {
-        const [level, column, row] = name.split(" ").map(Number), scale = 2 ** level, cells = SIDE / scale, x = column * cells, y = row * cells;
-        let isTouched = false;
-        changed.visit([x, y, x + cells - 1, y + cells - 1], () => { isTouched = true; });
-        if (isTouched) action(name, canvas, { scale, left: x, top: y, wide: SIDE, high: SIDE });
-      }
-    }
-
-    /** Forgets the tiles that show something of what is filed. @param {Buckets} changed */
-    forget(changed) { this.touched(changed, (name) => this.made.delete(name)); }
-
-    /** Draws what was added over the tiles that show something of it. @param {Buckets} added @param {(place: Place) => void} draw */
-    add(added, draw) { this.touched(added, (_, canvas, place) => draw({ ...place, pen: canvas.getContext("2d") })); }
-
-    /** Returns the level whose scale is the next at or above one. */
-    levelOf(scale) { return Math.max(this.coarsest, Math.min(FINEST, Math.ceil(Math.log2(scale)))); }
-
-    /** Makes a tile. */
-    make(level, column, row) {
-      const scale = 2 ** level, cells = SIDE / scale, x = column * cells, y = row * cells, canvas = document.createElement("canvas");
-      canvas.width = canvas.height = SIDE;
-      this.draw({ pen: canvas.getContext("2d"), scale, left: x, top: y, wide: SIDE, high: SIDE }, [x - 2, y - 2, x + cells + 2, y + cells + 2]);
-      this.made.set(nameOf(level, column, row), canvas);
-      // A map lists what was set first: the tile that was not used for the longest time.
-      if (this.made.size > MAX_TILES) this.made.delete(this.made.keys().next().value);
-      return canvas;
-    }
-
-    /** Returns a tile that is made, or undefined. It counts as used. */
-    used(level, column, row) {
-      const name = nameOf(level, column, row), found = this.made.get(name);
-      if (found) { this.made.delete(name); this.made.set(name, found); }
-      return found;
-    }
-
-    /** Returns the tiles of a level that a place shows, those in the middle first. */
-    shown({ left, top, wide, high, scale }, level) {
-      const cells = SIDE / 2 ** level, found = [], last = (size) => Math.ceil(size / cells) - 1;
-      const x0 = Math.max(0, Math.floor(left / cells)), x1 = Math.min(last(this.width), Math.floor((left + wide / scale) / cells));
-      const y0 = Math.max(0, Math.floor(top / cells)), y1 = Math.min(last(this.height), Math.floor((top + high / scale) / cells));
-      for (let row = y0; row <= y1; row += 1) for (let column = x0; column <= x1; column += 1) found.push([column, row]);
-      const far = ([column, row]) => Math.abs(column - (x0 + x1) / 2) + Math.abs(row - (y0 + y1) / 2);
-      return found.sort((one, other) => far(one) - far(other));
-    }
-
-    /** Copies a tile, or the part of a coarser one that is made, to its place. */
-    copy({ pen, left, top, scale }, level, column, row) {
-      const cells = SIDE / 2 ** level, x = (column * cells - left) * scale, y = (row * cells - top) * scale, side = cells * scale;
-      for (let up = 0; level - up >= this.coarsest; up += 1) {
-        const part = SIDE / 2 ** up, canvas = this.used(level - up, column >> up, row >> up);
-        if (!canvas) continue;
-        pen.drawImage(canvas, (column - (column >> up << up)) * part, (row - (row >> up << up)) * part, part, part, x, y, side, side);
-        return;
-      }
-    }
-
-    /** Draws what a place shows, with the tiles that there is time to make. Returns whether none is missing. */
-    paint(place, ratio = 1) {
-      const level = this.levelOf(place.scale * ratio), wanted = this.shown(place, level), until = performance.now() + BUDGET;
-      for (const [column, row] of this.shown(place, this.coarsest)) if (!this.used(this.coarsest, column, row)) this.make(this.coarsest, column, row);
-      let missing = 0;
-      for (const [column, row] of wanted) {
-        if (this.used(level, column, row)) continue;
-        if (performance.now() < until) this.make(level, column, row); else missing += 1;
-      }
-      for (const [column, row] of wanted) this.copy(place, level, column, row);
-      return missing === 0;
-    }
-  }
-
-  Object.assign(bbmlab, { Tiles, Buckets, changedPlaces });
 }
+
+/**
+ * Returns the places in two flat lists of the groups of numbers that are only in one of them. A group has at most five
+ * numbers below 8192.
+ */
+function changedPlaces(old, fresh, size) {
+  const keysOf = (list) => {
+    const keys = new Map();
+    for (let at = 0; at < list.length; at += size) {
+      let key = 0;
+      for (let index = 0; index < Math.min(4, size); index += 1) key = key * 8192 + list[at + index];
+      // Four numbers fill what a number can hold: the fifth one tells apart what is at one place.
+      keys.set(size > 4 ? `${key} ${list[at + 4]}` : key, at);
+    }
+    return keys;
+  };
+  const before = keysOf(old), after = keysOf(fresh);
+  return { gone: [...before].filter(([key]) => !after.has(key)).map(([, at]) => at),
+    added: [...after].filter(([key]) => !before.has(key)).map(([, at]) => at) };
+}
+
+/** Writes the number of a tile. */
+const nameOf = (level, column, row) => `${level} ${column} ${row}`;
+
+class Tiles {
+  width;
+  height;
+  draw;
+  made = new Map();
+  coarsest;
+
+  /**
+   * @param {{width: number, height: number}} size that of the layout
+   * @param {(place: Place, range: number[]) => void} draw draws a range of cells on a place
+   */
+  constructor({ width, height }, draw) {
+    this.width = width;
+    this.height = height;
+    this.draw = draw;
+    this.coarsest = Math.min(FINEST, Math.floor(Math.log2(SIDE / Math.max(width, height))));
+  }
+
+  /** Forgets all tiles: what they show has changed. */
+  clear() { this.made.clear(); }
+
+  /** Calls an action with the name, the canvas and the place of each tile that shows something of what is filed. */
+  touched(changed, action) {
+    for (const [name, canvas] of [...this.made]) {
+      const [level, column, row] = name.split(" ").map(Number), scale = 2 ** level, cells = SIDE / scale;
+      const x = column * cells, y = row * cells;
+      let isTouched = false;
+      changed.visit([x, y, x + cells - 1, y + cells - 1], () => { isTouched = true; });
+      if (isTouched) action(name, canvas, { scale, left: x, top: y, wide: SIDE, high: SIDE });
+    }
+  }
+
+  /** Forgets the tiles that show something of what is filed. @param {Buckets} changed */
+  forget(changed) { this.touched(changed, (name) => this.made.delete(name)); }
+
+  /**
+   * Draws what was added over the tiles that show something of it.
+   * @param {Buckets} added
+   * @param {(place: Place) => void} draw
+   */
+  add(added, draw) { this.touched(added, (_, canvas, place) => draw({ ...place, pen: canvas.getContext("2d") })); }
+
+  /** Returns the level whose scale is the next at or above one. */
+  levelOf(scale) { return Math.max(this.coarsest, Math.min(FINEST, Math.ceil(Math.log2(scale)))); }
+
+  /** Makes a tile. */
+  make(level, column, row) {
+    const scale = 2 ** level, cells = SIDE / scale, x = column * cells, y = row * cells;
+    const canvas = document.createElement("canvas");
+    canvas.width = canvas.height = SIDE;
+    this.draw({ pen: canvas.getContext("2d"), scale, left: x, top: y, wide: SIDE, high: SIDE },
+      [x - 2, y - 2, x + cells + 2, y + cells + 2]);
+    this.made.set(nameOf(level, column, row), canvas);
+    // A map lists what was set first: the tile that was not used for the longest time.
+    if (this.made.size > MAX_TILES) this.made.delete(this.made.keys().next().value);
+    return canvas;
+  }
+
+  /** Returns a tile that is made, or undefined. It counts as used. */
+  used(level, column, row) {
+    const name = nameOf(level, column, row), found = this.made.get(name);
+    if (found) {
+      this.made.delete(name);
+      this.made.set(name, found);
+    }
+    return found;
+  }
+
+  /** Returns the tiles of a level that a place shows, those in the middle first. */
+  shown({ left, top, wide, high, scale }, level) {
+    const cells = SIDE / 2 ** level, found = [], last = (size) => Math.ceil(size / cells) - 1;
+    const x0 = Math.max(0, Math.floor(left / cells));
+    const x1 = Math.min(last(this.width), Math.floor((left + wide / scale) / cells));
+    const y0 = Math.max(0, Math.floor(top / cells));
+    const y1 = Math.min(last(this.height), Math.floor((top + high / scale) / cells));
+    for (let row = y0; row <= y1; row += 1) for (let column = x0; column <= x1; column += 1) found.push([column, row]);
+    const far = ([column, row]) => Math.abs(column - (x0 + x1) / 2) + Math.abs(row - (y0 + y1) / 2);
+    return found.sort((one, other) => far(one) - far(other));
+  }
+
+  /** Copies a tile, or the part of a coarser one that is made, to its place. */
+  copy({ pen, left, top, scale }, level, column, row) {
+    const cells = SIDE / 2 ** level, x = (column * cells - left) * scale, y = (row * cells - top) * scale;
+    const side = cells * scale;
+    for (let up = 0; level - up >= this.coarsest; up += 1) {
+      const part = SIDE / 2 ** up, canvas = this.used(level - up, column >> up, row >> up);
+      if (!canvas) continue;
+      pen.drawImage(canvas, (column - (column >> up << up)) * part, (row - (row >> up << up)) * part, part, part, x, y,
+        side, side);
+      return;
+    }
+  }
+
+  /** Draws what a place shows, with the tiles that there is time to make. Returns whether none is missing. */
+  paint(place, ratio = 1) {
+    const level = this.levelOf(place.scale * ratio), wanted = this.shown(place, level);
+    const until = performance.now() + BUDGET;
+    for (const [column, row] of this.shown(place, this.coarsest)) if (!this.used(this.coarsest, column,
+        row)) this.make(this.coarsest, column, row);
+    let missing = 0;
+    for (const [column, row] of wanted) {
+      if (this.used(level, column, row)) continue;
+      if (performance.now() < until) this.make(level, column, row);
+      else missing += 1;
+    }
+    for (const [column, row] of wanted) this.copy(place, level, column, row);
+    return missing === 0;
+  }
+}
+
+export { Tiles, Buckets, changedPlaces };

@@ -10,31 +10,36 @@ from bbmlab_core import VERSION as __version__
 # Only for the types: nothing of it is imported when the package is.
 TYPE_CHECKING = False
 if TYPE_CHECKING:
+    from bbmlab_core.texts.boxes import Box
+    from bbmlab_core.texts.sections import Border, Bundle, Certificate, Circuit, Gate, Layout, Module, Port, Stop
+
     from ._asking import Explanation, Finding, Report, check, explain
-    from ._circuits import Comparison, Netlist, Row, clean, equivalent, inverse, read_netlist, simplify, stats, table, to_conservative
+    from ._circuits import (Comparison, Netlist, Row, clean, equivalent, inverse, read_netlist, simplify, stats, table,
+                            to_conservative)
     from ._errors import NotFoundError, ProgramError, RefusedError
     from ._making import certify, route
     from ._reading import read
     from ._running import State, local_run, simulate
-    from ._sections import Border, Box, Bundle, Certificate, Circuit, Gate, Layout, Module, Port, Stop
 
 __all__ = [
-    "Border", "Box", "Bundle", "Certificate", "Circuit", "Comparison", "Explanation", "Finding", "Gate", "Layout", "Module", "Netlist",
-    "NotFoundError", "Port", "ProgramError", "RefusedError", "Report", "Row", "State", "Stop", "__version__", "certify", "check", "clean",
-    "equivalent", "explain", "inverse", "local_run", "read", "read_netlist", "route", "simplify", "simulate", "stats", "table",
-    "to_conservative",
+    "Border", "Box", "Bundle", "Certificate", "Circuit", "Comparison", "Explanation", "Finding", "Gate", "Layout",
+    "Module", "Netlist", "NotFoundError", "Port", "ProgramError", "RefusedError", "Report", "Row", "State", "Stop",
+    "__version__", "certify", "check", "clean", "equivalent", "explain", "inverse", "local_run", "read", "read_netlist",
+    "route", "simplify", "simulate", "stats", "table", "to_conservative",
 ]
 
-# The module of each name.
+# The module of each name, in this package or of the lab.
 _HOMES = {
     "_asking": ("Explanation", "Finding", "Report", "check", "explain"),
-    "_circuits": ("Comparison", "Netlist", "Row", "clean", "equivalent", "inverse", "read_netlist", "simplify", "stats", "table",
-                  "to_conservative"),
+    "_circuits": ("Comparison", "Netlist", "Row", "clean", "equivalent", "inverse", "read_netlist", "simplify", "stats",
+                  "table", "to_conservative"),
     "_errors": ("NotFoundError", "ProgramError", "RefusedError"),
     "_making": ("certify", "route"),
     "_reading": ("read",),
     "_running": ("State", "local_run", "simulate"),
-    "_sections": ("Border", "Box", "Bundle", "Certificate", "Circuit", "Gate", "Layout", "Module", "Port", "Stop"),
+    "bbmlab_core.texts.boxes": ("Box",),
+    "bbmlab_core.texts.sections": ("Border", "Bundle", "Certificate", "Circuit", "Gate", "Layout", "Module", "Port",
+                                   "Stop"),
 }
 
 # A type checker takes the imports above, so that it finds misspelt names.
@@ -45,7 +50,7 @@ if not TYPE_CHECKING:
         if home is None:
             raise AttributeError(f"module {__name__!r} has no attribute {name!r}")
         import importlib
-        value = getattr(importlib.import_module(f".{home}", __name__), name)
+        value = getattr(importlib.import_module(home if "." in home else f".{home}", __name__), name)
         globals()[name] = value
         return value
 

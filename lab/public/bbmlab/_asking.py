@@ -7,18 +7,18 @@ import re
 from dataclasses import dataclass
 from typing import Any
 
-from bbmlab_core import program as programs
-from bbmlab_core.answering import why_no_verdict
 from bbmlab_core.commands.explain import text_of
-from bbmlab_core.documents import command_for, read_document
-from bbmlab_core.explaining import as_json, explain_answer
-from bbmlab_core.refusals import explain_code, explain_refusal
-from bbmlab_core.reports import ReportError, parse_report
-from bbmlab_core.trials import Budget, Trial
+from bbmlab_core.explain.explaining import as_json, explain_answer
+from bbmlab_core.explain.trials import Budget, Trial
+from bbmlab_core.farm.answering import why_no_verdict
+from bbmlab_core.host import program as programs
+from bbmlab_core.texts.documents import command_for, read_document
+from bbmlab_core.texts.refusals import explain_code, explain_refusal
+from bbmlab_core.texts.reports import ReportError, parse_report
+from bbmlab_core.texts.sections import Bundle
 
 from ._errors import ProgramError, RefusedError
 from ._reading import characters
-from ._sections import Bundle
 
 STATUSES = {0: "yes", 1: "no"}
 COLOUR = re.compile(r"\033\[\d*m")
@@ -71,7 +71,8 @@ class Report:
 
 @dataclass(frozen=True)
 class Explanation:
-    """An answer of the program in words, as `bbmlab explain` prints it and as its JSON document, and the text with a fix if there is one."""
+    """An answer of the program in words, as `bbmlab explain` prints it and as its JSON document, and the text with a
+    fix if there is one."""
 
     verdict: str
     text: str
@@ -116,7 +117,8 @@ def refused_error(text: str, line: int, code: int) -> RefusedError:
 def check(text: str | Bundle, *, program: str | None = None, timeout: float | None = None) -> Report:
     """Returns the report of the proved program.
 
-    Raises RefusedError if the program refuses the text, TimeoutError after `timeout` seconds, and ProgramError if it gives no report.
+    Raises RefusedError if the program refuses the text, TimeoutError after `timeout` seconds, and ProgramError if it
+    gives no report.
     """
     data = characters(text)
     answer = answer_of(opened_program(program), "check", data, timeout)
@@ -128,12 +130,14 @@ def check(text: str | Bundle, *, program: str | None = None, timeout: float | No
         raise refused_error(data, *report.refused)
     if report.refused or STATUSES.get(answer.status) != report.verdict:
         raise ProgramError(f"the program ended with status {answer.status}, which its report does not fit")
-    findings = tuple(Finding(finding.word, finding.text, finding.is_against, **finding.values) for finding in report.findings)  # type: ignore[arg-type]
+    findings = tuple(Finding(finding.word, finding.text, finding.is_against, **finding.values)  # type: ignore[arg-type]
+                     for finding in report.findings)
     return Report(report.verdict, answer.status, report.digest, report.modules, findings, answer.output)
 
 
 def explain(text: str | Bundle, *, effort: float = 30.0, program: str | None = None) -> Explanation:
-    """Returns what the program answers to a text, in words, with a fix that was tried if one was found in `effort` seconds of the processor.
+    """Returns what the program answers to a text, in words, with a fix that was tried if one was found in `effort`
+    seconds of the processor.
 
     Raises ProgramError if the program gives no answer.
     """
@@ -149,4 +153,5 @@ def explain(text: str | Bundle, *, effort: float = 30.0, program: str | None = N
     except ReportError as error:
         raise ProgramError(str(error)) from error
     fixed = None if explanation.fixed is None else explanation.fixed.encode("latin-1").decode("utf-8", "replace")
-    return Explanation(explanation.verdict, COLOUR.sub("", text_of(explanation)), json.loads(as_json(explanation)), fixed)
+    return Explanation(explanation.verdict, COLOUR.sub("", text_of(explanation)), json.loads(as_json(explanation)),
+                       fixed)

@@ -5,18 +5,19 @@ from __future__ import annotations
 from dataclasses import dataclass, field
 from typing import Callable, NamedTuple
 
-from bbmlab_core import circuits, truth
-from bbmlab_core import netlists as core
-from bbmlab_core.cleaning import clean as clean_lines
-from bbmlab_core.gate_lines import CircuitLines
-from bbmlab_core.inverting import inverse as inverse_lines
-from bbmlab_core.netlists.model import Netlist as CoreNetlist
-from bbmlab_core.simplifying import simplify as simple_lines
-from bbmlab_core.terminal import LabError
+from bbmlab_core.circuits import netlists as core
+from bbmlab_core.circuits import truth
+from bbmlab_core.circuits.cleaning import clean as clean_lines
+from bbmlab_core.circuits.gate_lines import read_circuit
+from bbmlab_core.circuits.inverting import inverse as inverse_lines
+from bbmlab_core.circuits.netlists.model import LogicNetlist as CoreNetlist
+from bbmlab_core.circuits.simplifying import simplify as simple_lines
+from bbmlab_core.host.terminal import LabError
+from bbmlab_core.texts import circuits
+from bbmlab_core.texts.sections import Bundle, Circuit, circuit_of, text_of
 
 from ._errors import NotFoundError
-from ._reading import characters, circuit_of, document_of, text_of
-from ._sections import Bundle, Circuit
+from ._reading import characters, document_of
 
 
 @dataclass(frozen=True)
@@ -31,7 +32,10 @@ class Netlist:
 
 
 class Row(NamedTuple):
-    """A row of a circuit's table: the inputs that are on, and the outputs that are true. Without values: None, and the gate without a row."""
+    """A row of a circuit's table: the inputs that are on, and the outputs that are true. Without values:
+
+    None, and the gate without a row.
+    """
 
     inputs: frozenset[str]
     outputs: frozenset[str] | None
@@ -60,7 +64,8 @@ def read_netlist(text: str, *, form: str | None = None) -> Netlist:
 
 
 def to_conservative(netlist: Netlist | str, *, cycles: int | None = None, state: str = "ports") -> Circuit:
-    """Returns the circuit to which a netlist is mapped. A machine is unrolled for some cycles, and its state is `ports` or `initial`.
+    """Returns the circuit to which a netlist is mapped. A machine is unrolled for some cycles, and its state is `ports`
+    or `initial`.
 
     Raises ValueError if it cannot be mapped.
     """
@@ -81,23 +86,29 @@ def model_of(circuit: Circuit | str) -> circuits.Circuit:
     return found
 
 
-def changed(circuit: Circuit, change: Callable[[circuits.Circuit], CircuitLines]) -> Circuit:
+def changed(circuit: Circuit, change: Callable[[circuits.Circuit], Circuit]) -> Circuit:
     """Returns what a change makes of a circuit."""
     try:
-        return circuit_of(change(model_of(circuit)).circuit())
+        found = change(model_of(circuit))
+        read_circuit(found)
     except LabError as error:
         raise NotFoundError(str(error)) from error
+    return found
 
 
 def inverse(circuit: Circuit) -> Circuit:
-    """Returns the inverse of a circuit. Raises RefusedError if the circuit is refused, and NotFoundError with the reason if it has none."""
+    """Returns the inverse of a circuit.
+
+    Raises RefusedError if the circuit is refused, and NotFoundError with the reason if it has none.
+    """
     return changed(circuit, inverse_lines)
 
 
 def clean(circuit: Circuit) -> Circuit:
     """Returns a circuit whose garbage are its inputs and constants.
 
-    Raises RefusedError if the circuit is refused, and NotFoundError if it has no values at some inputs or becomes too large.
+    Raises RefusedError if the circuit is refused, and NotFoundError if it has no values at some inputs or becomes too
+    large.
     """
     return changed(circuit, clean_lines)
 
@@ -108,7 +119,10 @@ def simplify(circuit: Circuit) -> Circuit:
 
 
 def table(circuit: Circuit) -> tuple[Row, ...]:
-    """Returns the rows of a circuit of at most 12 inputs, of which the first changes last. Raises ValueError if it has more."""
+    """Returns the rows of a circuit of at most 12 inputs, of which the first changes last.
+
+    Raises ValueError if it has more.
+    """
     model = model_of(circuit)
     try:
         choices = truth.choices(model, None)
@@ -123,12 +137,17 @@ def table(circuit: Circuit) -> tuple[Row, ...]:
 
 
 def stats(text: Bundle | Circuit) -> dict[str, int]:
-    """Returns the figures of a circuit, and of a layout and a certificate if they are there. Raises RefusedError if the text is refused."""
-    document = document_of(text_of(text) if isinstance(text, Circuit) else str(text), "circuit" if isinstance(text, Circuit) else None)
+    """Returns the figures of a circuit, and of a layout and a certificate if they are there.
+
+    Raises RefusedError if the text is refused.
+    """
+    document = document_of(text_of(text) if isinstance(text, Circuit) else str(text),
+                           "circuit" if isinstance(text, Circuit) else None)
     return {name.strip(): int(value) for name, value in truth.figures(document) if value.isdecimal()}
 
 
 def equivalent(one: Circuit, other: Circuit, *, common: bool = False) -> Comparison:
-    """Compares the outputs of two circuits by their names, or only those that both have: in all choices of up to 16 inputs, or in samples."""
+    """Compares the outputs of two circuits by their names, or only those that both have: in all choices of up to 16
+    inputs, or in samples."""
     differs, scope = truth.difference(model_of(one), model_of(other), common)
     return Comparison(not differs, differs, scope)

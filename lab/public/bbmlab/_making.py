@@ -1,27 +1,30 @@
-"""Certificates and layouts that the lab makes, by `certify` and `route` of `bbmlab_core`. Only the program gives a verdict on them."""
+"""Certificates and layouts that the lab makes, by `certify` and `route` of `bbmlab_core`.
+
+Only the program gives a verdict on them.
+"""
 
 from __future__ import annotations
 
 from dataclasses import replace
 from typing import Callable, Iterable
 
-from bbmlab_core import boxes as core_boxes
-from bbmlab_core.certificates import StopLine
-from bbmlab_core.certify import Plan, certified, checked_boxes
-from bbmlab_core.documents import read_document
-from bbmlab_core.limits import sections_after_line
-from bbmlab_core.netlists import NetlistError, map_netlist, netlist_format
+from bbmlab_core.certify.certifier import CertificatePlan, certified, checked_boxes
+from bbmlab_core.circuits.netlists import NetlistError, map_netlist, netlist_format
+from bbmlab_core.circuits.row_check import missing_row
+from bbmlab_core.host.terminal import LabError
 from bbmlab_core.route.certificate import circuit_section
 from bbmlab_core.route.command import check_side, require_all_keeps
 from bbmlab_core.route.search import Options, Search
 from bbmlab_core.route.settings import Settings
-from bbmlab_core.row_check import missing_row
-from bbmlab_core.spelling import spelled
-from bbmlab_core.terminal import LabError
+from bbmlab_core.texts.boxes import Box
+from bbmlab_core.texts.certificates import StopLine
+from bbmlab_core.texts.documents import read_document
+from bbmlab_core.texts.limits import sections_after_line
+from bbmlab_core.texts.sections import Bundle, Circuit, text_of
+from bbmlab_core.texts.spelling import spelled
 
 from ._errors import NotFoundError, RefusedError
-from ._reading import document_of, read, text_of
-from ._sections import Bundle, Circuit
+from ._reading import document_of, read
 
 # The status of a LabError for wrong arguments.
 WRONG_ARGUMENTS = 2
@@ -36,15 +39,18 @@ def known_stops(bundle: Bundle) -> list[StopLine]:
     """Returns the stops of a bundle's certificate, if the bundle is not refused."""
     if bundle.certificate is None or read_document(str(bundle), "check").refusal:
         return []
-    stops = [StopLine(stop.time, stop.name, stop.x, stop.y, 0) for module in bundle.certificate.modules for stop in module.stops]
+    stops = [StopLine(stop.time, stop.name, stop.x, stop.y, 0) for module in bundle.certificate.modules
+             for stop in module.stops]
     return sorted(stops, key=lambda stop: stop.place)
 
 
-def certify(bundle: Bundle, *, grid: tuple[int, int] | None = None, boxes: Iterable[tuple[int, int, int, int]] | None = None,
+def certify(bundle: Bundle, *, grid: tuple[int, int] | None = None,
+            boxes: Iterable[tuple[int, int, int, int]] | None = None,
             cuts: str = "auto", version: int = 2) -> Bundle:
     """Returns a circuit and a layout with a certificate that the lab makes. The program has not checked it.
 
-    Raises RefusedError if circuit or layout are refused, ValueError for wrong arguments, and NotFoundError if no certificate is found.
+    Raises RefusedError if circuit or layout are refused, ValueError for wrong arguments, and NotFoundError if no
+    certificate is found.
     """
     if bundle.circuit is None or bundle.layout is None:
         raise ValueError("certify takes a circuit and a layout")
@@ -52,11 +58,11 @@ def certify(bundle: Bundle, *, grid: tuple[int, int] | None = None, boxes: Itera
         raise ValueError("cuts are auto or safe, and the version is 1 or 2")
     document = document_of(str(replace(bundle, certificate=None, on=None)), "design")
     assert document.layout is not None
-    chosen = [core_boxes.Box(*box) for box in boxes] if boxes is not None else None
+    chosen = [Box(*box) for box in boxes] if boxes is not None else None
     try:
         if grid is not None:
             chosen = checked_boxes(document.layout, *grid)
-        text = certified(document, chosen, Plan(version, cuts, known_stops(bundle)))
+        text = certified(document, chosen, CertificatePlan(version, cuts, known_stops(bundle)))
     except LabError as error:
         raise own_error(error) from error
     try:
@@ -82,15 +88,19 @@ def circuit_text(circuit: Circuit | str) -> str:
         raise ValueError(f"the netlist cannot be mapped: {error}") from error
 
 
-def route(circuit: Circuit | str, *, seed: int = 1, size: int | None = None, effort: float = 60.0, jobs: int = 1, compact: bool = False,
-          progress: Callable[[int, int, int, int], object] | None = None, cancel: Callable[[], bool] | None = None) -> Bundle:
+def route(circuit: Circuit | str, *, seed: int = 1, size: int | None = None, effort: float = 60.0, jobs: int = 1,
+          compact: bool = False,
+          progress: Callable[[int, int, int, int], object] | None = None,
+          cancel: Callable[[], bool] | None = None) -> Bundle:
     """Returns a circuit with a layout and a certificate, placed and routed by the lab. The program has not checked it.
 
-    A `str` is a netlist, in BLIF or the JSON of yosys, or a text that begins with a circuit. While gates are placed, `progress` is called with
-    the number of the attempt, its side, and how many gates of how many are placed, and a `cancel` that returns True ends the search.
+    A `str` is a netlist, in BLIF or the JSON of yosys, or a text that begins with a circuit. While gates are placed,
+    `progress` is called with the number of the attempt, its side, and how many gates of how many are placed, and a
+    `cancel` that returns True ends the search.
 
-    Raises RefusedError if the circuit is refused, ValueError for a wrong number or a netlist that cannot be mapped, and NotFoundError if the
-    circuit has no values under some inputs, if no route is found in `effort` seconds, or if the search was cancelled.
+    Raises RefusedError if the circuit is refused, ValueError for a wrong number or a netlist that cannot be mapped, and
+    NotFoundError if the circuit has no values under some inputs, if no route is found in `effort` seconds, or if the
+    search was cancelled.
     """
     if min(seed, jobs) < 1 or effort <= 0:
         raise ValueError("seed and jobs are from 1, and effort is more than 0 seconds")
@@ -105,7 +115,8 @@ def route(circuit: Circuit | str, *, seed: int = 1, size: int | None = None, eff
             raise NotFoundError(why)
         require_all_keeps("the circuit", model)
     except LabError as error:
-        raise ValueError(str(error).removeprefix("--")) if error.status == WRONG_ARGUMENTS else own_error(error) from error
+        raise ValueError(str(error).removeprefix("--")) if error.status == WRONG_ARGUMENTS else own_error(
+            error) from error
     is_cancelled = False
 
     def tell(attempt: int, side: int, placed: int, total: int) -> None:

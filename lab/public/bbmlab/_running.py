@@ -4,10 +4,11 @@ from __future__ import annotations
 
 from typing import Iterable, Iterator, NamedTuple
 
-from bbmlab_core.simulation import ModuleRun, WholeRun, run_layout
+from bbmlab_core.physics.simulation import ModuleRun, WholeRun, run_layout
+from bbmlab_core.texts.layouts import Cell
+from bbmlab_core.texts.sections import Bundle, Layout, text_of
 
-from ._reading import document_of, text_of
-from ._sections import Bundle, Cell, Layout
+from ._reading import document_of
 
 
 class State(NamedTuple):
@@ -21,7 +22,8 @@ class State(NamedTuple):
 def simulate(layout: Layout, inputs: Iterable[str] = (), steps: int | None = None) -> Iterator[State]:
     """Returns the states of the whole layout from time 0 on, with some inputs on.
 
-    Raises RefusedError for a layout that is refused, and ValueError for another name than that of an `in` cell or negative steps.
+    Raises RefusedError for a layout that is refused, and ValueError for another name than that of an `in` cell or
+    negative steps.
     """
     model = document_of(text_of(layout), "layout").layout
     assert model is not None
@@ -45,10 +47,11 @@ def whole_states(run: WholeRun, last: int) -> Iterator[State]:
 
 
 def local_run(bundle: Bundle, module: int, assignment: int = 0) -> Iterator[State]:
-    """Returns the states of a module by itself from time 0 to the last one, under an assignment: bit i of it is the value of cut i.
+    """Returns the states of a module by itself from time 0 to the last one, under an assignment: bit i of it is the
+    value of cut i.
 
-    Raises RefusedError for a bundle that is refused. Raises ValueError for a module that there is not, an assignment that has other cuts,
-    and one under which a used gate has no row.
+    Raises RefusedError for a bundle that is refused. Raises ValueError for a module that there is not, an assignment
+    that has other cuts, and one under which a used gate has no row.
     """
     document = document_of(str(bundle), "check")
     circuit, layout, certificate = document.circuit, document.layout, document.certificate

@@ -62,7 +62,8 @@ def in_namespace(command, environment, **more):
     start = ["unshare", "-m"] if os.geteuid() == 0 else ["unshare", "-r", "-m"]
     if subprocess.run([*start, "mount", "-t", "tmpfs", "none", "/mnt"], capture_output=True).returncode:
         raise Skipped("no mount namespace can be made here")
-    return subprocess.run([*start, *command], env=environment, stdin=subprocess.DEVNULL, capture_output=True, text=True, **more)
+    return subprocess.run([*start, *command], env=environment, stdin=subprocess.DEVNULL, capture_output=True, text=True,
+                          **more)
 
 
 def text_of(name):

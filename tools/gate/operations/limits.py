@@ -1,4 +1,6 @@
-"""Tests of limits: the stack, the size of a file, the memory, and a seccomp filter with the system calls of docs/OPERATING.md."""
+"""Tests of limits: the stack, the size of a file, the memory, and a seccomp filter with the system calls of
+docs/OPERATING.md.
+"""
 import re
 import resource
 import signal
@@ -28,9 +30,11 @@ def limits_statuses(_):
     same(ended(set_limit(resource.RLIMIT_STACK, 12 << 10), "check").returncode, -signal.SIGSEGV, "a stack of 12 KiB")
     with tempfile.TemporaryFile() as to:
         text.seek(0)
-        ran = subprocess.run([Given.program, "check"], stdin=text, stdout=to, stderr=subprocess.PIPE, preexec_fn=set_limit(resource.RLIMIT_FSIZE, 1))
+        ran = subprocess.run([Given.program, "check"], stdin=text, stdout=to, stderr=subprocess.PIPE,
+                             preexec_fn=set_limit(resource.RLIMIT_FSIZE, 1))
         same(ran.returncode, -signal.SIGXFSZ, "a file of 1 byte")
-    ran = subprocess.run([Given.program, "check"], input=b"x" * (12 << 20), capture_output=True, preexec_fn=set_limit(resource.RLIMIT_AS, 8 << 20))
+    ran = subprocess.run([Given.program, "check"], input=b"x" * (12 << 20), capture_output=True,
+                         preexec_fn=set_limit(resource.RLIMIT_AS, 8 << 20))
     same((ran.returncode, ran.stdout), (5, b""), "an address space of 8 MiB")
     for words in (["--help"], ["check", "--help"], ["help", "check"], ["--version"]):
         ran = ended(None, *words)
@@ -38,23 +42,27 @@ def limits_statuses(_):
     for words in (["check", "--workers", "0"], ["chek"], []):
         same(ended(None, *words).returncode, 2, f"{words}")
     with tempfile.TemporaryDirectory() as room:
-        # A program whose loader is missing is not found, and one that wants a later C library ends with 1: its answer decides, not its status.
+        # A program whose loader is missing is not found, and one that wants a later C library ends with 1: its answer
+        # decides, not its status.
         other = Path(room) / "other"
         bytes_of = Path(Given.program).read_bytes()
         other.write_bytes(bytes_of.replace(b"/lib64/ld-linux-x86-64.so.2", b"/lib64/ld-linux-x86-64.so.9"))
         other.chmod(0o755)
-        same(subprocess.run(["sh", "-c", '"$0" check', other], stdin=subprocess.DEVNULL, capture_output=True).returncode, 127, "no loader")
+        same(subprocess.run(["sh", "-c", '"$0" check', other], stdin=subprocess.DEVNULL,
+                            capture_output=True).returncode, 127, "no loader")
 
 
-# For each text of bench/make_hostile.py how many MiB `check` may take of it at most. bench/README.md lists what was measured. Each
-# text has 16 MiB, and takes more than this if it is held while the modules are run.
+# For each text of bench/make_hostile.py how many MiB `check` may take of it at most. bench/README.md lists what was
+# measured. Each text has 16 MiB, and takes more than this if it is held while the modules are run.
 MOST_MEMORY = {"most_edges": 78, "most_stops": 40}
 
 
-# Linux counts to the largest resident size of a process also that of its parent when it was started, so a small parent starts it.
+# Linux counts to the largest resident size of a process also that of its parent when it was started, so a small parent
+# starts it.
 SMALL_PARENT = """
 import os, sys
-number = os.posix_spawn(sys.argv[1], sys.argv[1:], os.environ, file_actions=[(os.POSIX_SPAWN_OPEN, 1, os.devnull, os.O_WRONLY, 0)])
+quiet = [(os.POSIX_SPAWN_OPEN, 1, os.devnull, os.O_WRONLY, 0)]
+number = os.posix_spawn(sys.argv[1], sys.argv[1:], os.environ, file_actions=quiet)
 _, status, used = os.wait4(number, 0)
 print(used.ru_maxrss, os.waitstatus_to_exitcode(status))
 """
@@ -62,7 +70,8 @@ print(used.ru_maxrss, os.waitstatus_to_exitcode(status))
 
 def memory_of(words, text):
     """The largest resident size in MiB, and the status."""
-    ran = subprocess.run([sys.executable, "-c", SMALL_PARENT, Given.program, *words], stdin=text, stdout=subprocess.PIPE, check=True)
+    ran = subprocess.run([sys.executable, "-c", SMALL_PARENT, Given.program, *words], stdin=text,
+                         stdout=subprocess.PIPE, check=True)
     taken, status = map(int, ran.stdout.split())
     return taken / 1024, status
 
@@ -125,7 +134,8 @@ int main(int count, char **words)
 
 
 def limits_sandbox(_):
-    """Under a seccomp filter with the calls of docs/OPERATING.md every command works; without one of them some do not."""
+    """Under a seccomp filter with the calls of docs/OPERATING.md every command works; without one of them some do not.
+    """
     need("cc")
     calls = calls_in_operating()
 
@@ -142,13 +152,18 @@ def limits_sandbox(_):
     def run_all(sandbox):
         """Each command, workers, help, refusals and faults: the statuses in the sandbox and out of it."""
         big = text_of("full_adder")
-        tries = [(["check"], text_of("fredkin_gate")), (["check", "--workers", "8"], big), (["check", "--workers", "64"], text_of("four_modules")),
-                 (["run"], text_of("head_on")), (["value"], text_of("collision_values")), (["modules"], big), (["migrate"], big),
-                 (["--help"], b""), (["--version"], b""), (["chek"], b""), (["check"], b"x" * (1 << 20)), (["check"], b"x" * ((16 << 20) + 2))]
+        tries = [(["check"], text_of("fredkin_gate")), (["check", "--workers", "8"], big),
+                 (["check", "--workers", "64"], text_of("four_modules")),
+                 (["run"], text_of("head_on")), (["value"], text_of("collision_values")), (["modules"], big),
+                 (["migrate"], big),
+                 (["--help"], b""), (["--version"], b""), (["chek"], b""), (["check"], b"x" * (1 << 20)),
+                 (["check"], b"x" * ((16 << 20) + 2))]
         found = []
         for words, text in tries:
-            ran = [subprocess.run([*start, Given.program, *words], input=text, capture_output=True) for start in ([sandbox], [])]
-            found.append(ran[0].returncode == ran[1].returncode and ran[0].stdout == ran[1].stdout and ran[0].stderr == ran[1].stderr)
+            ran = [subprocess.run([*start, Given.program, *words], input=text, capture_output=True)
+                   for start in ([sandbox], [])]
+            found.append(ran[0].returncode == ran[1].returncode and ran[0].stdout == ran[1].stdout
+                         and ran[0].stderr == ran[1].stderr)
         return all(found)
 
     with tempfile.TemporaryDirectory(prefix="operations-") as room:
@@ -160,4 +175,5 @@ def limits_sandbox(_):
         # The filter does its work: without a call that each run makes, it ends the program.
         for without in ("write", "clone3"):
             if without in calls:
-                holds(not run_all(make(room, [it for it in calls if it != without])), f"without {without} all is the same")
+                holds(not run_all(make(room, [it for it in calls if it != without])),
+                      f"without {without} all is the same")

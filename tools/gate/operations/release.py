@@ -1,4 +1,5 @@
-"""Tests of the release: the MANIFEST, the archives and packages, and this checkout in an environment without the kit."""
+"""Tests of the release: the MANIFEST, the archives and packages, and this checkout in an environment without the kit.
+"""
 import hashlib
 import os
 import re
@@ -9,21 +10,25 @@ import tempfile
 import time
 from pathlib import Path
 
-from operations.common import FAST, MANIFEST, RELEASED, TOP, Skipped, copy_of_checkout, holds, in_namespace, need, path_without, same
+from operations.common import (FAST, MANIFEST, RELEASED, TOP, Skipped, copy_of_checkout, holds, in_namespace, need,
+                               path_without, same)
 
 sys.path.insert(0, str(TOP / "tools" / "docs"))
 import links  # noqa: E402
 
 
 def release_manifest(_):
-    """The MANIFEST is of these sources; a changed byte of a source or of the program makes it stale; the digest is as documented."""
+    """The MANIFEST is of these sources; a changed byte of a source or of the program makes it stale; the digest is as
+    documented."""
     with tempfile.TemporaryDirectory(prefix="operations-") as room:
         top = copy_of_checkout(room)
-        check = lambda: subprocess.run([top / "tools" / "package" / "release", "--check-sources"], capture_output=True, text=True)
+        check = lambda: subprocess.run([top / "tools" / "package" / "release", "--check-sources"], capture_output=True,
+                                       text=True)
         ended = check()
         same(ended.returncode, 0, ended.stderr)
         # The digest, made another way.
-        names = subprocess.run([top / "tools" / "package" / "source_digest", "--crates"], stdout=subprocess.PIPE, text=True, check=True).stdout.split()
+        names = subprocess.run([top / "tools" / "package" / "source_digest", "--crates"], stdout=subprocess.PIPE,
+                               text=True, check=True).stdout.split()
         lines = []
         for line in (top / "crates.txt").read_text().splitlines():
             line = " ".join(line.partition("#")[0].split())
@@ -33,7 +38,8 @@ def release_manifest(_):
             for part in ("src", "specs", "proofs"):
                 for path in (top / "crates" / name / part).rglob("*"):
                     if path.is_file():
-                        lines.append(f"{hashlib.sha256(path.read_bytes()).hexdigest()}  {path.relative_to(top)}".encode())
+                        lines.append(
+                            f"{hashlib.sha256(path.read_bytes()).hexdigest()}  {path.relative_to(top)}".encode())
         digest = hashlib.sha256(b"".join(it + b"\n" for it in sorted(lines))).hexdigest()
         holds(f"sources_sha256 {digest}\n" in (top / MANIFEST).read_text(), "the digest is another one")
         source = top / "crates" / "bbm_rule" / "src" / "lib.rt"
@@ -53,7 +59,8 @@ def release_manifest(_):
         out.mkdir()
         shutil.copy(program, out / "bbmcheck")
         shutil.copy(top / FAST, out / "bbmcheck-v3")
-        same(subprocess.run([top / "tools" / "package" / "release", "--check"], capture_output=True).returncode, 0, "--check with the same program")
+        same(subprocess.run([top / "tools" / "package" / "release", "--check"], capture_output=True).returncode, 0,
+             "--check with the same program")
         shutil.copyfile(program, out / "bbmcheck")
         undated = lambda: re.sub("date .*", "", (top / MANIFEST).read_text())
         before = undated()
@@ -63,13 +70,16 @@ def release_manifest(_):
         source.write_bytes(was[:-1] + b" ")
         os.utime(source, (1e9, 1e9))
         ended = subprocess.run([top / "tools" / "package" / "release"], capture_output=True, text=True)
-        same((ended.returncode, undated()), (1, before), "a release of sources that changed after the build, with old times")
+        same((ended.returncode, undated()), (1, before),
+             "a release of sources that changed after the build, with old times")
         source.write_bytes(was)
         (out / "bbmcheck").write_bytes(bytes_of + b"\n")
-        same(subprocess.run([top / "tools" / "package" / "release", "--check"], capture_output=True).returncode, 1, "--check with another program")
+        same(subprocess.run([top / "tools" / "package" / "release", "--check"], capture_output=True).returncode, 1,
+             "--check with another program")
         (out / "bbmcheck").write_bytes(bytes_of)
         (out / "bbmcheck-v3").write_bytes(bytes_of)
-        same(subprocess.run([top / "tools" / "package" / "release", "--check"], capture_output=True).returncode, 1, "--check with another fast program")
+        same(subprocess.run([top / "tools" / "package" / "release", "--check"], capture_output=True).returncode, 1,
+             "--check with another fast program")
 
 
 def release_other_kit(_):
@@ -83,16 +93,19 @@ def release_other_kit(_):
             rt.write_text(f"#!/bin/sh\necho '{named}'\n")
             rt.chmod(0o755)
             environment = {**os.environ, "PATH": f"{rt.parent}:{os.environ['PATH']}"}
-            ended = subprocess.run([top / "tools" / "package" / "release", "--check-sources"], capture_output=True, text=True, env=environment)
+            ended = subprocess.run([top / "tools" / "package" / "release", "--check-sources"], capture_output=True,
+                                   text=True, env=environment)
             same(ended.returncode, status, f"{named}: {ended.stderr}")
 
 
 def release_older_sources(_):
-    """In this checkout: a changed byte of a source, or an older commit with older times, does not run the released program."""
+    """In this checkout: a changed byte of a source, or an older commit with older times, does not run the released
+    program."""
     with tempfile.TemporaryDirectory(prefix="operations-") as room:
         top = copy_of_checkout(room)
         environment = {**os.environ, "RATTLE_KIT": f"{room}/nothing", "PATH": path_without(room)}
-        run = lambda: subprocess.run([top / "bbmcheck", "--version"], env=environment, stdin=subprocess.DEVNULL, capture_output=True, text=True)
+        run = lambda: subprocess.run([top / "bbmcheck", "--version"], env=environment, stdin=subprocess.DEVNULL,
+                                     capture_output=True, text=True)
         same(run().returncode, 0, "the release")
         time.sleep(2.1)
         same(run().returncode, 0, "the release, with a stamp")
@@ -106,21 +119,26 @@ def release_older_sources(_):
             path.write_bytes(was)
             same(run().returncode, 0, f"{name} as it was")
         has_git = shutil.which("git") and (TOP / ".git").exists()
-        commit = subprocess.run(["git", "-C", TOP, "log", "-1", "--format=%H", "--skip=1", "--", "crates"], capture_output=True, text=True).stdout.strip() if has_git else ""
+        commit = subprocess.run(["git", "-C", TOP, "log", "-1", "--format=%H", "--skip=1", "--", "crates"],
+                                capture_output=True, text=True).stdout.strip() if has_git else ""
         if not commit:
             raise Skipped("there is no older commit to check out")
-        archive = subprocess.run(["git", "-C", TOP, "archive", commit, "crates", "crates.txt"], stdout=subprocess.PIPE, check=True).stdout
+        archive = subprocess.run(["git", "-C", TOP, "archive", commit, "crates", "crates.txt"], stdout=subprocess.PIPE,
+                                 check=True).stdout
         shutil.rmtree(top / "crates")
         subprocess.run(["tar", "-C", top, "-x"], input=archive, check=True)
-        subprocess.run(["find", top / "crates", top / "crates.txt", "-exec", "touch", "-d", "2001-01-01", "{}", "+"], check=True)
-        digest = subprocess.run([top / "tools" / "package" / "source_digest"], stdout=subprocess.PIPE, text=True, check=True).stdout.strip()
+        subprocess.run(["find", top / "crates", top / "crates.txt", "-exec", "touch", "-d", "2001-01-01", "{}", "+"],
+                       check=True)
+        digest = subprocess.run([top / "tools" / "package" / "source_digest"], stdout=subprocess.PIPE, text=True,
+                                check=True).stdout.strip()
         if digest in (top / MANIFEST).read_text():
             raise Skipped("the older commit has the same sources")
         same((run().returncode, run().stdout), (70, ""), "an older commit with older times")
 
 
 def release_archives(_):
-    """`make dist` gives the same bytes twice, in another folder and under another umask; what is in it runs and matches SHA256SUMS."""
+    """`make dist` gives the same bytes twice, in another folder and under another umask; what is in it runs and matches
+    SHA256SUMS."""
     need("make", "tar", "gzip")
     with tempfile.TemporaryDirectory(prefix="operations-") as room:
         sums = []
@@ -138,7 +156,8 @@ def release_archives(_):
         subprocess.run(["sha256sum", "--quiet", "-c", "SHA256SUMS"], cwd=inside, check=True)
         same((inside / "bin" / "bbmcheck").read_bytes(), (TOP / RELEASED).read_bytes(), "the program")
         listed = {line.split("  ", 1)[1] for line in (inside / "SHA256SUMS").read_text().splitlines()}
-        same(listed, {str(it.relative_to(inside)) for it in inside.rglob("*") if it.is_file()} - {"SHA256SUMS"}, "SHA256SUMS")
+        same(listed, {str(it.relative_to(inside)) for it in inside.rglob("*") if it.is_file()} - {"SHA256SUMS"},
+             "SHA256SUMS")
         for name in ("LICENSE", "THIRD-PARTY.md", "FORMATS.md", "examples/fredkin_gate.txt"):
             holds((inside / "share" / "doc" / "bbmcheck" / name).exists(), f"{name} is missing")
 
@@ -170,11 +189,13 @@ def empty_root(room):
 def installed_lab_works(root):
     """Runs the lab of a root in an environment that names no program, and imports its package."""
     environment = {"PATH": "/usr/bin:/bin", "LANG": "C.UTF-8"}
-    ran = subprocess.run([root / "usr/bin/bbmlab", "check", TOP / "examples" / "fredkin_gate.txt", TOP / "examples" / "wrong_edge.txt"],
+    ran = subprocess.run([root / "usr/bin/bbmlab", "check", TOP / "examples" / "fredkin_gate.txt",
+                          TOP / "examples" / "wrong_edge.txt"],
                          capture_output=True, text=True, env=environment)
     same((ran.returncode, "2 files: 1 yes, 1 no" in ran.stdout + ran.stderr), (1, True), ran.stdout + ran.stderr)
     code = "import bbmlab, sys; print(bbmlab.check(open(sys.argv[1]).read()).verdict)"
-    ran = subprocess.run(["/usr/bin/python3", "-B", "-c", code, TOP / "examples" / "fredkin_gate.txt"], capture_output=True, text=True,
+    ran = subprocess.run(["/usr/bin/python3", "-B", "-c", code, TOP / "examples" / "fredkin_gate.txt"],
+                         capture_output=True, text=True,
                          env={**environment, "PYTHONPATH": str(root / "usr/lib/python3/dist-packages")})
     same((ran.returncode, ran.stdout), (0, "yes\n"), ran.stderr)
     for name in ("man/man1/bbmlab.1.gz", "doc/bbmcheck/LAB.md", "doc/bbmcheck/API.md", "doc/bbmlab/copyright"):
@@ -182,7 +203,8 @@ def installed_lab_works(root):
 
 
 def release_debian_packages(_):
-    """The packages install, run and are removed, in a folder of its own; lintian finds no error; the same bytes twice."""
+    """The packages install, run and are removed, in a folder of its own; lintian finds no error; the same bytes twice.
+    """
     need("make", "dpkg-deb", "dpkg")
     with tempfile.TemporaryDirectory(prefix="operations-") as room:
         packages, (root, dpkg) = made_packages(room), empty_root(room)
@@ -208,7 +230,10 @@ def release_debian_packages(_):
 
 
 def release_without_kit(_):
-    """In a mount namespace without the kit: README's first command in less than a second, each command, `make install`, worked cases."""
+    """In a mount namespace without the kit:
+
+    README's first command in less than a second, each command, `make install`, worked cases.
+    """
     need("make")
     with tempfile.TemporaryDirectory(prefix="operations-") as room:
         top = copy_of_checkout(room)

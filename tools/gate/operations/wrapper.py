@@ -11,18 +11,23 @@ import tempfile
 import time
 from pathlib import Path
 
-from operations.common import FAST, FAST_MANIFEST, MANIFEST, RELEASED, TOP, Given, holds, in_namespace, need, path_without, same
+from operations.common import (FAST, FAST_MANIFEST, MANIFEST, RELEASED, TOP, Given, holds, in_namespace, need,
+                               path_without, same)
 
 ROOM = "crates/bbmcheck/out/wrapper"
 CRATES_TXT = "# Three crates and one of tests.\nlow: sha2\nmid: low\nbbmcheck may_wait=1: mid\ntests_only: low\n"
 KIT_LINE = "rattle-kit-fake logic 0123456789abcdef"
-# It reads the sources at its start, and builds a program that prints their digest. `pause`, `looks` and `fail` are files next to it. If
-# there is a file `looks`, to which the sleep below adds a byte after each look of the wrapper, a crate takes until its byte number `until`.
+# It reads the sources at its start, and builds a program that prints their digest. `pause`, `looks` and `fail` are
+# files next to it. If there is a file `looks`, to which the sleep below adds a byte after each look of the wrapper, a
+# crate takes until its byte number `until`.
 FAKE_RT = r"""#!/bin/sh
 kit=${0%/bin/rt}
 top=../..
 echo "$@" >>"$kit/calls"
-all_sources() { (cd "$top" && LC_ALL=C find -L crates.txt crates/low/* crates/mid/* crates/bbmcheck/* -name out -prune -o -type f -print | LC_ALL=C sort | xargs cat | sha256sum); }
+all_sources() {
+    (cd "$top" && LC_ALL=C find -L crates.txt crates/low/* crates/mid/* crates/bbmcheck/* \
+        -name out -prune -o -type f -print | LC_ALL=C sort | xargs cat | sha256sum)
+}
 case $1 in
     version) cat "$kit/KIT-ID" ;;
     all)
@@ -43,16 +48,20 @@ case $1 in
         mkdir -p out; rm -f out/bbmcheck.stamp
         printf '#!/bin/sh\n' >out/bbmcheck; chmod +x out/bbmcheck
         [ ! -e "$kit/half" ] || { echo $$ >"$kit/pid"; /bin/sleep 30; }
-        printf 'case $1 in --version) echo bbmcheck 1.0.0; exit ;; esac\necho built %s\necho "words $*"\nexit 3\n' "$sum" >>out/bbmcheck
+        printf 'case $1 in --version) echo bbmcheck 1.0.0; exit ;; esac\n' >>out/bbmcheck
+        printf 'echo built %s\necho "words $*"\nexit 3\n' "$sum" >>out/bbmcheck
         [ "$(all_sources)" = "$sum  -" ] || exit 0
         sum=$(sha256sum <out/bbmcheck); printf '%064d%s' 0 "${sum%% *}" >out/bbmcheck.stamp ;;
 esac
 """
-# The wrapper looks at rt each second: the tests do not wait so long. It does not look while rt goes from one crate to the next.
+# The wrapper looks at rt each second: the tests do not wait so long. It does not look while rt goes from one crate to
+# the next.
 FAKE_SLEEP = r"""#!/bin/sh
 kit=${0%/bin/sleep}
 [ ! -e "$kit/looks" ] || printf . >>"$kit/looks"
-while [ -e "$kit/until" ] && [ "$(wc -c <"$kit/looks")" -ge "$(cat "$kit/until" 2>/dev/null || echo 1000000)" ]; do /bin/sleep 0.02; done
+while [ -e "$kit/until" ] && [ "$(wc -c <"$kit/looks")" -ge "$(cat "$kit/until" 2>/dev/null || echo 1000000)" ]; do
+    /bin/sleep 0.02
+done
 exec /bin/sleep 0.05
 """
 
@@ -65,7 +74,8 @@ class Tree:
         self.kit = self.room / "kit"
         for path in ("tools/package", "release/x86_64-linux-gnu", "release/x86_64-v3-linux-gnu"):
             (self.top / path).mkdir(parents=True)
-        for path in ("bbmcheck", "tools/package/source_digest", "tools/package/find_kit", "tools/package/prove", "tools/package/release"):
+        for path in ("bbmcheck", "tools/package/source_digest", "tools/package/find_kit", "tools/package/prove",
+                     "tools/package/release"):
             shutil.copy(TOP / path, self.top / path)
         (self.top / "crates.txt").write_text(CRATES_TXT)
         for crate in ("low", "mid", "bbmcheck", "tests_only"):
@@ -91,25 +101,31 @@ class Tree:
         files = [self.top / "crates.txt"]
         for crate in ("low", "mid", "bbmcheck"):
             for part in ("src", "specs", "proofs"):
-                files += [Path(at) / name for at, _, names in os.walk(self.top / "crates" / crate / part, followlinks=True) for name in names]
+                files += [Path(at) / name for at, _,
+                          names in os.walk(self.top / "crates" / crate / part, followlinks=True) for name in names]
         files.sort(key=lambda it: os.fsencode(it.relative_to(self.top)))
         return hashlib.sha256(b"".join(it.read_bytes() for it in files)).hexdigest()
 
     def digest(self):
-        return subprocess.run([self.top / "tools" / "package" / "source_digest"], stdout=subprocess.PIPE, text=True, check=True).stdout.strip()
+        return subprocess.run([self.top / "tools" / "package" / "source_digest"], stdout=subprocess.PIPE, text=True,
+                              check=True).stdout.strip()
 
     def make_release(self, released=RELEASED, manifest=MANIFEST, first=""):
-        """Writes a released program with its MANIFEST. Its name is told in its answer. `first` are its first commands."""
+        """Writes a released program with its MANIFEST. Its name is told in its answer. `first` are its first commands.
+        """
         name = "released" if released == RELEASED else "fast"
-        text = f"#!/bin/sh\n{first}case $1 in --version) echo bbmcheck 1.0.0; exit ;; esac\n" + f"echo {name} {self.sum()}\n" + 'echo "words $*"\nexit 3\n'
+        text = (f"#!/bin/sh\n{first}case $1 in --version) echo bbmcheck 1.0.0; exit ;; esac\n"
+                + f"echo {name} {self.sum()}\n" + 'echo "words $*"\nexit 3\n')
         self.file(released).write_text(text)
         self.file(released).chmod(0o755)
         program = hashlib.sha256(text.encode()).hexdigest()
-        self.file(manifest).write_text(f"version 1.0.0\ndate 2026-01-01\nprogram_sha256 {program}\nsources_sha256 {self.digest()}\nkit {KIT_LINE}\n")
+        self.file(manifest).write_text(f"version 1.0.0\ndate 2026-01-01\nprogram_sha256 {program}\nsources_sha256 "
+                                       f"{self.digest()}\nkit {KIT_LINE}\n")
 
     def run(self, *words, shell=None, path=None, cwd=None, **more):
         start = [*shell, str(self.file("bbmcheck"))] if shell else [path or str(self.file("bbmcheck"))]
-        more = {"env": self.environment, "stdin": subprocess.DEVNULL, "capture_output": True, "text": True, "errors": "replace", "timeout": 60, **more}
+        more = {"env": self.environment, "stdin": subprocess.DEVNULL, "capture_output": True, "text": True,
+                "errors": "replace", "timeout": 60, **more}
         return subprocess.run([*start, *words], cwd=cwd or self.room, **more)
 
     def program(self, **more):
@@ -146,7 +162,8 @@ def wrapper_edits(tree):
     """One byte, with the times as they were; a file more, a file less, another name; and back to the release."""
     same(tree.program(), "released")
     for change in range(3):
-        file = tree.file(["crates/low/src/File.low", "crates/mid/proofs/of_a_function/File.mid", "crates/bbmcheck/specs/File.bbmcheck"][change])
+        file = tree.file(["crates/low/src/File.low", "crates/mid/proofs/of_a_function/File.mid",
+                          "crates/bbmcheck/specs/File.bbmcheck"][change])
         was, times = file.read_bytes(), file.stat()
         file.write_bytes(was.replace(b"0", b"1"))
         os.utime(file, ns=(times.st_atime_ns, times.st_mtime_ns))
@@ -167,7 +184,8 @@ def wrapper_edits(tree):
 
 @in_tree
 def wrapper_older_checkout(tree):
-    """A checkout of another commit with older times: by tar, cp -a, cp -p, rsync -a, touch -d, and a folder that is moved here."""
+    """A checkout of another commit with older times: by tar, cp -a, cp -p, rsync -a, touch -d, and a folder that is
+    moved here."""
     other = Tree(tree.room, "other")
     other.file().write_text("low src 1\n")
     subprocess.run(["find", other.top, "-exec", "touch", "-h", "-d", "2020-01-01", "{}", "+"], check=True)
@@ -177,7 +195,8 @@ def wrapper_older_checkout(tree):
         "cp -a": f"rm -rf '{crate}' && cp -a '{other.top}/crates/low' '{crate}'",
         "cp -p": f"cp -p '{other.file()}' '{tree.file()}'",
         "rsync -a": f"rsync -a '{other.top}/crates/low/' '{crate}/'",
-        "mv": f"rm -rf '{crate}' && cp -a '{other.top}/crates/low' '{tree.room}/moved' && mv '{tree.room}/moved' '{crate}'",
+        "mv": f"rm -rf '{crate}' && cp -a '{other.top}/crates/low' '{tree.room}/moved' && mv '{tree.room}/moved' "
+        f"'{crate}'",
         "touch -r": f"cp '{other.file()}' '{tree.file()}' && touch -r '{other.file()}' '{tree.file()}'",
     }
     for name, way in ways.items():
@@ -229,7 +248,8 @@ def wrapper_fast_release(tree):
     tree.file(FAST).chmod(0o644)
     same(tree.program(), "released", "a fast program without permission")
     tree.make_release(FAST, FAST_MANIFEST)
-    tree.file(FAST_MANIFEST).write_text(tree.file(FAST_MANIFEST).read_text().replace("sources_sha256 ", "sources_sha256 0"))
+    tree.file(FAST_MANIFEST).write_text(tree.file(FAST_MANIFEST).read_text().replace("sources_sha256 ",
+                                                                                     "sources_sha256 0"))
     same(tree.program(), "released", "a fast program of other sources")
     tree.make_release(FAST, FAST_MANIFEST)
     tree.file(RELEASED).write_text("")
@@ -240,7 +260,8 @@ def wrapper_fast_release(tree):
 def wrapper_random_changes(tree):
     """Changes in any order, with old and new times, and calls between: each call runs what the sources then say."""
     draw = random.Random(Given.seed)
-    files = [tree.file(f"crates/{crate}/{part}/File.{crate}") for crate in ("low", "mid", "bbmcheck") for part in ("src", "specs", "proofs/of_a_function")]
+    files = [tree.file(f"crates/{crate}/{part}/File.{crate}") for crate in ("low", "mid", "bbmcheck")
+             for part in ("src", "specs", "proofs/of_a_function")]
     for step in range(60):
         for _ in range(draw.randrange(1, 3)):
             file, kind = draw.choice(files), draw.randrange(6)
@@ -347,7 +368,10 @@ def wrapper_what_counts(tree):
     """Test crates and comments of crates.txt do not count; a new dependency does."""
     calls = tree.calls("run")
     tree.file("crates/tests_only/src/File.tests_only").write_text("1\n")
-    tree.file("crates.txt").write_text("# another comment\n" + CRATES_TXT.replace(": mid", ":  mid # why").replace("tests_only: low", "tests_only: mid"))
+    tree.file("crates.txt").write_text("# another comment\n" + CRATES_TXT.replace(": mid",
+                                                                                  ":  mid # why").replace(
+                                                                                      "tests_only: low",
+                                                                                      "tests_only: mid"))
     ended = tree.run("check")
     same((ended.stdout[:9], tree.calls("run")), ("released ", calls), ended.stderr)
     tree.file("crates.txt").write_text(CRATES_TXT.replace("mid: low", "mid: low hex"))
@@ -414,8 +438,10 @@ def stopped_by(tree, number, shell=()):
     (tree.kit / "pause").write_text("30")
     # In a process group of its own, with no signal ignored, as a job in the background has SIGINT.
     heard = lambda: [signal.signal(it, signal.SIG_DFL) for it in (signal.SIGTERM, signal.SIGINT, signal.SIGHUP)]
-    running = subprocess.Popen([*shell, tree.file("bbmcheck"), "check"], env=tree.environment, stdin=subprocess.DEVNULL, stdout=subprocess.PIPE,
-                               stderr=subprocess.PIPE, cwd=tree.room, text=True, start_new_session=True, preexec_fn=heard)
+    running = subprocess.Popen([*shell, tree.file("bbmcheck"), "check"], env=tree.environment, stdin=subprocess.DEVNULL,
+                               stdout=subprocess.PIPE,
+                               stderr=subprocess.PIPE, cwd=tree.room, text=True, start_new_session=True,
+                               preexec_fn=heard)
     wait_for(lambda: (tree.kit / "pid").exists() and (tree.kit / "pid").read_text().strip(), "rt did not start")
     time.sleep(0.1)
     rt = int((tree.kit / "pid").read_text())
@@ -430,7 +456,8 @@ def stopped_by(tree, number, shell=()):
 
 @in_tree
 def wrapper_signals(tree):
-    """SIGTERM, SIGINT and SIGHUP reach rt; the wrapper ends by the same signal and leaves no temporary file; the next call builds."""
+    """SIGTERM, SIGINT and SIGHUP reach rt; the wrapper ends by the same signal and leaves no temporary file; the next
+    call builds."""
     shells = [[], ["bash", "--posix"]] + ([["busybox", "sh"]] if shutil.which("busybox") else [])
     for shell in shells:
         for number in (signal.SIGTERM, signal.SIGINT, signal.SIGHUP):
@@ -444,7 +471,8 @@ def wrapper_killed(tree):
     """After SIGKILL in the middle of a build, what is half built is not run, and the next call builds."""
     tree.file().write_text("low src 1\n")
     (tree.kit / "half").write_text("")
-    running = subprocess.Popen([tree.file("bbmcheck"), "check"], env=tree.environment, stdin=subprocess.DEVNULL, stdout=subprocess.PIPE,
+    running = subprocess.Popen([tree.file("bbmcheck"), "check"], env=tree.environment, stdin=subprocess.DEVNULL,
+                               stdout=subprocess.PIPE,
                                stderr=subprocess.DEVNULL, start_new_session=True)
     wait_for((tree.kit / "pid").exists, "rt did not start")
     os.killpg(running.pid, signal.SIGKILL)
@@ -464,7 +492,8 @@ def wrapper_two_calls(tree):
     need("flock")
     tree.file().write_text("low src 1\n")
     (tree.kit / "pause").write_text("0.3")
-    running = [subprocess.Popen([tree.file("bbmcheck"), "check"], env=tree.environment, stdin=subprocess.DEVNULL, stdout=subprocess.PIPE,
+    running = [subprocess.Popen([tree.file("bbmcheck"), "check"], env=tree.environment, stdin=subprocess.DEVNULL,
+                                stdout=subprocess.PIPE,
                                 stderr=subprocess.PIPE, text=True) for _ in range(4)]
     same({it.communicate()[0] for it in running}, {f"built {tree.sum()}\nwords check\n"}, "what they wrote")
     same(tree.calls("run"), 1, "builds")
@@ -472,7 +501,8 @@ def wrapper_two_calls(tree):
     rt = tree.kit / "bin" / "rt"
     rt.write_text(rt.read_text().replace('echo "words $*"', 'readlink /proc/self/fd/*'))
     tree.file().write_text("low src 2\n")
-    running = [subprocess.Popen([tree.file("bbmcheck"), "check"], env=tree.environment, stdin=subprocess.DEVNULL, stdout=subprocess.PIPE,
+    running = [subprocess.Popen([tree.file("bbmcheck"), "check"], env=tree.environment, stdin=subprocess.DEVNULL,
+                                stdout=subprocess.PIPE,
                                 stderr=subprocess.PIPE, text=True) for _ in range(2)]
     for it in running:
         output = it.communicate()[0]
@@ -485,12 +515,14 @@ def wrapper_progress(tree):
     tree.file().write_text("low src 1\n")
     (tree.kit / "looks").write_text("")
     told = tree.run("check").stderr.splitlines()
-    wanted = ["proving low (1 of 3), 0 min so far", "proving mid (2 of 3), 0 min so far", "proving bbmcheck (3 of 3), 0 min so far"]
+    wanted = ["proving low (1 of 3), 0 min so far", "proving mid (2 of 3), 0 min so far",
+              "proving bbmcheck (3 of 3), 0 min so far"]
     same([it for it in told if "proving " in it and " of 3)" in it], [f"bbmcheck: {it}" for it in wanted])
     holds(re.fullmatch(r"bbmcheck: proved and built in \d+ min \d+ s", told[-1]), told[-1])
     tree.file().write_text("low src 2\n")
     own, terminal = pty.openpty()
-    running = subprocess.Popen([tree.file("bbmcheck"), "check"], env=tree.environment, stdin=subprocess.DEVNULL, stdout=subprocess.DEVNULL, stderr=terminal)
+    running = subprocess.Popen([tree.file("bbmcheck"), "check"], env=tree.environment, stdin=subprocess.DEVNULL,
+                               stdout=subprocess.DEVNULL, stderr=terminal)
     os.close(terminal)
     seen = b""
     while True:
@@ -505,7 +537,9 @@ def wrapper_progress(tree):
     running.wait()
     for it in wanted:
         holds(f"\rbbmcheck: {it}\x1b[K".encode() in seen, f"the terminal shows no `{it}`: {seen!r}")
-    holds(seen.count(b"\n") == 2 and re.search(rb"\rbbmcheck: proved and built in \d+ min \d+ s\r\n$|\r\x1b\[Kbbmcheck: proved and built in \d+ min \d+ s\r\n$", seen),
+    holds(seen.count(b"\n") == 2 and re.search(rb"\rbbmcheck: proved and built in \d+ min \d+ "
+                                               rb"s\r\n$|\r\x1b\[Kbbmcheck: proved and built in \d+ min \d+ s\r\n$",
+                                               seen),
           f"lines on the terminal: {seen!r}")
 
 
@@ -541,10 +575,12 @@ def wrapper_without_kit(tree):
 def wrapper_paths(tree):
     """Folders with odd names, a relative PATH, links, other working folders, and `sh bbmcheck`."""
     plain = tree.top
-    for name in ("a b", "*", "?", "[x]", "a\\b", "a'b", 'a"b', "-n", "$HOME", "new\nline", "end\n", "%s", "ü", "a;b", "(", "!", "#"):
+    for name in ("a b", "*", "?", "[x]", "a\\b", "a'b", 'a"b', "-n", "$HOME", "new\nline", "end\n", "%s", "ü", "a;b",
+                 "(", "!", "#"):
         tree.top = tree.room / name
         plain.rename(tree.top)
-        for words in ({}, {"cwd": tree.top, "path": "./bbmcheck"}, {"cwd": tree.top, "shell": ["sh"]}, {"cwd": tree.top / "crates", "path": "../bbmcheck"}):
+        for words in ({}, {"cwd": tree.top, "path": "./bbmcheck"}, {"cwd": tree.top, "shell": ["sh"]},
+                      {"cwd": tree.top / "crates", "path": "../bbmcheck"}):
             same(tree.program(**words), "released", f"in {name!r}")
         tree.file().write_text("low src 1\n")
         same(tree.program(), "built", f"proved in {name!r}")
@@ -553,14 +589,16 @@ def wrapper_paths(tree):
         shutil.rmtree(tree.file(ROOM))
         tree.top.rename(plain)
     tree.top = plain
-    same(subprocess.run(["sh", "bbmcheck", "x"], cwd=tree.top, env=tree.environment, capture_output=True).returncode, 3, "sh bbmcheck")
+    same(subprocess.run(["sh", "bbmcheck", "x"], cwd=tree.top, env=tree.environment, capture_output=True).returncode, 3,
+         "sh bbmcheck")
     links = tree.room / "links"
     links.mkdir()
     (links / "bbmcheck").symlink_to(os.path.relpath(tree.file("bbmcheck"), links))
     (links / "again").symlink_to("bbmcheck")
     for name in ("bbmcheck", "again"):
         same(tree.program(path=str(links / name)), "released", "through a link")
-    ended = subprocess.run(["again", "x"], env={**tree.environment, "PATH": f"{links}:{os.environ['PATH']}"}, capture_output=True)
+    ended = subprocess.run(["again", "x"], env={**tree.environment, "PATH": f"{links}:{os.environ['PATH']}"},
+                           capture_output=True)
     same(ended.returncode, 3, "through a link on PATH")
     tree.file().write_text("low src 1\n")
     tree.environment["PATH"] = f"kit/bin:{os.environ['PATH']}"
@@ -600,13 +638,15 @@ def wrapper_links(tree):
 def wrapper_missing_tools(tree):
     """Without a tool the wrapper does without it, or says which it is and ends with 70."""
     paths = tree.environment["PATH"]
-    for tool in ("cmp", "flock", "nproc", "readlink", "cksum", "date", "mktemp", "tail", "find", "sha256sum", "awk", "sort"):
+    for tool in ("cmp", "flock", "nproc", "readlink", "cksum", "date", "mktemp", "tail", "find", "sha256sum", "awk",
+                 "sort"):
         names = {"awk": ["awk", "gawk", "mawk"]}.get(tool, [tool])
         tree.environment["PATH"] = path_without(tree.room, *names)
         ended = tree.run("check")
         is_right = ended.returncode == 3 and ended.stdout.startswith(f"released {tree.sum()}")
         is_told = (ended.returncode, ended.stdout) == (70, "") and f"there is no {tool}" in ended.stderr
-        holds(is_right or is_told and tool in ("find", "sha256sum", "awk", "sort"), f"without {tool}: {ended.returncode} {ended.stderr}")
+        holds(is_right or is_told and tool in ("find", "sha256sum", "awk", "sort"),
+              f"without {tool}: {ended.returncode} {ended.stderr}")
     tree.environment["PATH"] = paths
     same(tree.program(), "released")
 
@@ -646,7 +686,8 @@ def wrapper_shells(tree):
 @in_tree
 def wrapper_no_execution(tree):
     """On a file system without execution the status is 70."""
-    script = f"mount -t tmpfs -o noexec none '{tree.room}/mnt' && cp -a '{tree.top}/.' '{tree.room}/mnt' && sh '{tree.room}/mnt/bbmcheck' check"
+    script = (f"mount -t tmpfs -o noexec none '{tree.room}/mnt' && cp -a '{tree.top}/.' '{tree.room}/mnt' && sh "
+              f"'{tree.room}/mnt/bbmcheck' check")
     (tree.room / "mnt").mkdir()
     tree.environment["PATH"] = os.environ["PATH"]
     ended = in_namespace(["sh", "-c", script], tree.environment)

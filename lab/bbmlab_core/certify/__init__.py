@@ -1,0 +1,1 @@
+"""Making the certificate of a layout from its run."""

@@ -1,0 +1,379 @@
+"""`bbmlab certify`: makes a certificate for a circuit and a layout of any size, from one run of the layout.
+
+The rectangle is cut into boxes: in halves again and again, along lines at which each cell carries a wire, until a box
+has few enough wires and its own run has no fault. The wires of cells are found by their values in all choices of the
+inputs, or in samples of them if they are many. So the certificate may be wrong where wires differ in no sample; the
+program decides.
+"""
+
+from dataclasses import dataclass, field
+from typing import Iterable
+
+from ..circuits.cones import fewest_cuts, keeping_cone
+from ..host.processor import processor_seconds
+from ..host.terminal import LabError
+from ..physics.simulation import ModuleRun, Table, cell_of, key_of, keys_of
+from ..texts.boxes import Box
+from ..texts.certificates import (MAX_BOX_SIDE, MAX_BORDER_LINES, MAX_CUTS, MAX_USES, BorderLine, Certificate, Module,
+                                  StopLine)
+from ..texts.circuits import Circuit, Gate
+from ..texts.documents import Document, without_collector
+from ..texts.layouts import Cell, Layout, row_order
+from ..texts.limits import SECOND, limits_for, sections_after_line, with_line
+from .observing import Observer, perimeter
+
+# How many steps back from the wires of a box to the gates that make them are tried, before all gates back to the
+# inputs.
+MAX_DEPTH = 4
+
+
+class NoBoxError(Exception):
+    """A box can't be a module. The message says why."""
+
+
+@dataclass
+class CutsAndUses:
+    """The wires that a module cuts, and the gates that it uses."""
+
+    cuts: list[str]
+    uses: list[int]
+
+    def fits(self) -> bool:
+        """Whether it is within the limits of a module."""
+        return len(self.cuts) <= MAX_CUTS and len(self.uses) <= MAX_USES
+
+
+@dataclass
+class CertificatePlan:
+    """What the user asked for: the kind of cuts, stops that are kept, and the processor time at which the search ends.
+
+    Without `is_tried` the lab does not run the modules: the first cuts that fit are taken, and only the program finds a
+    fault.
+    """
+
+    version: int = 2
+    cuts: str = "auto"
+    stops: list[StopLine] = field(default_factory=list)
+    until: float | None = None
+    is_tried: bool = True
+
+
+class Maker:
+    """Makes certificates of one circuit and layout."""
+
+    def __init__(self, circuit: Circuit, layout: Layout, plan: CertificatePlan) -> None:
+        self.circuit, self.layout, self.plan = circuit, layout, plan
+        self.observer = Observer(circuit, layout, bool(plan.stops), plan.until)
+        self.observer.require_quiet_rim()
+        # What the user should know of the certificate.
+        self.notes: list[str] = []
+        self.stops = self.chosen_stops()
+        self.ports = {key_of(part.cell): part.name or "" for part in layout.of_kind("in") + layout.of_kind("out")}
+        # The modules of each rectangle that was tried, or why it has none.
+        self.known: dict[Box, list[Module] | str] = {}
+        self.starts = {key_of(part.cell): part.name or "" for part in layout.of_kind("in")}
+
+    # ---- boxes
+
+    def certificate(self, boxes: list[Box] | None) -> Certificate:
+        """Returns a certificate with given boxes, or with boxes of its own."""
+        modules = [self.module(box)
+                   for box in boxes] if boxes else self.divided(Box(0, 0, self.layout.width, self.layout.height))
+        if len(modules) > SECOND.max_modules:
+            raise LabError(f"the certificate takes {len(modules)} modules; {SECOND.max_modules} is the most", 1)
+        for number, module in enumerate(modules):
+            module.number = number
+        self.add_keeps(modules)
+        if self.plan.version == 2:
+            for module in modules:
+                module.halos = []
+        return Certificate(self.plan.version, modules)
+
+    def divided(self, box: Box) -> list[Module]:
+        """Returns the modules of a rectangle: itself, or those of its parts.
+
+        What came of a rectangle is kept, since both orders of cuts lead to it.
+        """
+        found = self.known.get(box)
+        if found is None:
+            try:
+                found = self.newly_divided(box)
+            except NoBoxError as error:
+                found = str(error)
+            self.known[box] = found
+        if isinstance(found, str):
+            raise NoBoxError(found)
+        return found
+
+    def newly_divided(self, box: Box) -> list[Module]:
+        """Returns the modules of a rectangle that was not tried before."""
+        if self.plan.until is not None and processor_seconds() > self.plan.until:
+            raise LabError("no certificate was found in the time that was given", 1)
+        why = ""
+        if max(box.width, box.height) <= MAX_BOX_SIDE:
+            try:
+                return [self.module(box)]
+            except NoBoxError as error:
+                why = str(error)
+        for parts in self.halves(box):
+            try:
+                return [module for part in parts for module in self.divided(part)]
+            except NoBoxError as error:
+                why = why or str(error)
+        raise NoBoxError(why or self.uncut_words(box))
+
+    def halves(self, box: Box) -> Iterable[tuple[Box, Box]]:
+        """Yields cuts of a rectangle into two, along lines at which all cells carry a wire: the best of each direction.
+        """
+        found = []
+        for is_upright in (True, False):
+            size = box.width if is_upright else box.height
+            places = range(2, size - 1, 2)
+            ranked = sorted(places, key=lambda place: (abs(2 * place - size), place))
+            # Boxes of full size first: then by nearness to the middle.
+            if size > MAX_BOX_SIDE:
+                ranked.sort(key=lambda place: place % MAX_BOX_SIDE != 0)
+            place = next((place for place in ranked if self.is_cut(box, place, is_upright)), None)
+            if place is not None:
+                found.append((size, is_upright, place))
+        for _, is_upright, place in sorted(found, reverse=True):
+            if is_upright:
+                yield Box(box.x, box.y, place, box.height), Box(box.x + place, box.y, box.width - place, box.height)
+            else:
+                yield Box(box.x, box.y, box.width, place), Box(box.x, box.y + place, box.width, box.height - place)
+
+    def is_cut(self, box: Box, place: int, is_upright: bool) -> bool:
+        """Whether each cell on both sides of a line through a rectangle carries a wire at each odd time."""
+        lines = Box(box.x + place - 1, box.y, 2, box.height) if is_upright else Box(box.x, box.y + place - 1, box.width,
+                                                                                    2)
+        return all(self.observer.names_at(key) is not None for key in self.observer.observed.seen.keys()
+                   & keys_of(lines))
+
+    def uncut_words(self, box: Box) -> str:
+        """Says why a rectangle can't be cut."""
+        for y in range(box.y, box.y + box.height):
+            for x in range(box.x, box.x + box.width):
+                if self.observer.names_at(key_of((x, y))) is None:
+                    return (f"each line through the rectangle {box.words} meets a cell without a wire: "
+                            f"{self.observer.unnamed_words(key_of((x, y)))}")
+        return f"the rectangle {box.words} can't be cut further"
+
+    # ---- one module
+
+    def module(self, box: Box) -> Module:
+        """Returns the module of a box, whose own run has no fault."""
+        ring, halo = perimeter(self.layout, box)
+        unnamed = [key for key in (*ring, *halo) if self.observer.names_at(key) is None]
+        if unnamed:
+            raise NoBoxError(self.observer.unnamed_words(min(unnamed, key=self.observer.unnamed_place)))
+        module = Module(0, box, 0)
+        module.edges, module.halos = self.border_lines("edge", ring), self.border_lines("halo", halo)
+        module.stops = [stop for stop in self.stops if box.has(stop.cell)]
+        if len(module.edges) + max(len(module.halos), len(module.stops)) > MAX_BORDER_LINES:
+            raise NoBoxError(f"the box {box.words} takes more than {MAX_BORDER_LINES} lines")
+        needed = {line.signal for line in (*module.edges, *module.halos)} - {"1"}
+        inside = keys_of(box)
+        needed |= {self.ports[key] for key in self.ports.keys() & inside} | {stop.name for stop in module.stops}
+        fault = None
+        for wiring in self.wirings(box, needed, inside, halo):
+            if wiring.fits():
+                module.cuts, module.uses = wiring.cuts, dict.fromkeys(wiring.uses, 0)
+                fault = ModuleRun(self.circuit, self.layout, Certificate(1, [module]),
+                                  module).least_fault() if self.plan.is_tried else None
+                if fault is None:
+                    return module
+        if fault is None:
+            raise NoBoxError(f"the box {box.words} needs {len(needed)} wires, and no cuts that were tried fit one "
+                             "module")
+        raise NoBoxError(
+            f"with the last cuts that were tried the cell ({fault.x}, {fault.y}) in the box {box.words} is "
+                         f"wrong at time {fault.time}")
+
+    def border_lines(self, kind: str, keys: list[int]) -> list[BorderLine]:
+        """Returns the lines for cells of a ring or a halo."""
+        lines = []
+        for key in keys:
+            x, y = cell_of(key)
+            if key in self.observer.observed.always and self.layout.steps > 1:
+                lines.append(BorderLine(kind, None, x, y, "1", 0))
+            lines += [BorderLine(kind, time, x, y, self.observer.signals[table], 0) for time,
+                      table in self.observer.observed.seen.get(key, ())]
+        return sorted(lines, key=lambda line: line.place)
+
+    def wirings(self, box: Box, needed: set[str], inside: list[int], halo: list[int]) -> Iterable[CutsAndUses]:
+        """Yields ways to know the wires of a box: with the wires cut that come in, then with gates before these, at
+        last from the inputs."""
+        if self.plan.cuts != "safe":
+            seen: set[tuple[str, ...]] = set()
+            incoming = self.incoming(box, needed, inside, halo)
+            for depth in range(MAX_DEPTH + 1):
+                for wiring in self.known_by(needed, incoming):
+                    if tuple(wiring.cuts) not in seen:
+                        seen.add(tuple(wiring.cuts))
+                        yield wiring
+                before = {wire for name in incoming for gate in [self.circuit.maker.get(name)]
+                          for wire in (gate.ins if gate else [name])}
+                if before == incoming:
+                    break
+                incoming = before
+        cuts, uses = self.circuit.cone(sorted(needed))
+        yield CutsAndUses(cuts, uses)
+
+    def incoming(self, box: Box, needed: set[str], inside: list[int], halo: list[int]) -> set[str]:
+        """Returns the wires that come into a box: those of its `in` cells, and those that are beside it before they are
+        in it."""
+        here, beside = self.observer.first_times(inside), self.observer.first_times(halo)
+        starts = {self.starts[key] for key in self.starts.keys() & inside}
+        return starts | {name for name in needed if name not in starts
+                         and beside.get(name, self.layout.steps) < here.get(name, self.layout.steps)}
+
+    def known_by(self, needed: set[str], incoming: set[str]) -> Iterable[CutsAndUses]:
+        """Yields the wiring that cuts the incoming wires, and one that uses the gates between them too."""
+        cuts, uses = self.circuit.cone(sorted(needed), frozenset(incoming))
+        made = {name for number in uses for name in self.circuit.gates[number].outs}
+        if not set(cuts) & made:
+            yield CutsAndUses(cuts, uses)
+        fewer, more = fewest_cuts(self.circuit, needed | set(cuts), uses)
+        yield CutsAndUses(sorted(fewer, key=self.circuit.rank), sorted(more))
+
+    # ---- inverse gates
+
+    def add_keeps(self, modules: list[Module]) -> None:
+        """Has each inverse gate kept by a module that can show that it always has a row."""
+        for gate in self.circuit.gates:
+            if gate.is_inverse:
+                self.add_keep(gate, modules)
+
+    def add_keep(self, gate: Gate, modules: list[Module]) -> None:
+        """Has a gate kept by the module that needs the fewest more wires for it."""
+        found = keeping_cone(self.circuit, gate.number)
+        if found is None:
+            raise LabError(f"gate {gate.number} (`{gate.word}`, line {gate.line}) always has a row only if more than "
+                           f"{MAX_CUTS} wires or "
+                           f"{MAX_USES} gates are looked at: no certificate keeps it", 1)
+        cone = CutsAndUses(*found)
+        for module in sorted(modules, key=lambda module: len(set(cone.cuts) - set(module.cuts)) + len(module.cuts)):
+            uses = sorted({*module.uses, *cone.uses})
+            made = {name for number in uses for name in self.circuit.gates[number].outs}
+            ins = {name for number in uses for name in self.circuit.gates[number].ins}
+            cuts = sorted(({*module.cuts, *cone.cuts} | ins) - made, key=self.circuit.rank)
+            if len(cuts) <= MAX_CUTS and len(uses) <= MAX_USES:
+                module.cuts, module.uses = cuts, dict.fromkeys(uses, 0)
+                module.keeps[gate.number] = 0
+                return
+        raise LabError(f"no module has room for the {len(cone.cuts)} wires that show that gate {gate.number} always "
+                       "has a row", 1)
+
+    # ---- stops
+
+    def chosen_stops(self) -> list[StopLine]:
+        """Returns the user's stops if all of them hold and show the delays, and else stops for the delays."""
+        if not self.plan.stops:
+            return self.delay_stops()
+        wrong = [stop for stop in self.plan.stops if not self.holds(stop)]
+        wrong += [stop for gate in self.circuit.gates if gate.word == "delay" for stop in self.delay_faults(gate)]
+        if not wrong:
+            return self.plan.stops
+        self.notes.append(f"the old stops are left out: `{wrong[0]}` does not hold in the layout")
+        return self.delay_stops()
+
+    def holds(self, stop: StopLine) -> bool:
+        """Whether the cell of a stop is live just in the cases in which its wire is true."""
+        key, values = key_of(stop.cell), self.observer.values
+        live = values.full if key in self.observer.observed.always else self.observer.observed.moments[stop.time].get(
+            key, 0)
+        return live == values.tables[stop.name]
+
+    def delay_faults(self, gate: Gate) -> list[StopLine]:
+        """Returns the stops of the user that show another delay than a gate's."""
+        before = [stop for stop in self.plan.stops if stop.name == gate.ins[0]]
+        after = [stop for stop in self.plan.stops if stop.name == gate.outs[0]]
+        if not before or not after:
+            return self.plan.stops[:1]
+        return [] if after[0].time - before[-1].time == gate.parameter else [after[0]]
+
+    def delay_stops(self) -> list[StopLine]:
+        """Returns stops for delays: a wire is seen once, at its `in` cell or at the first time at which a cell carries
+        it."""
+        moments = self.observer.observed.moments
+        seen: dict[str, tuple[int, Cell]] = {part.name or "": (0, part.cell)
+                                             for part in reversed(self.layout.of_kind("in"))}
+        stops: dict[str, StopLine] = {}
+        for gate in (gate for gate in self.circuit.gates if gate.word == "delay"):
+            used, made, steps = gate.ins[0], gate.outs[0], gate.parameter or 0
+            first = [seen[used]] if used in seen else [(time, cell) for time in range(len(moments))
+                                                       for cell in [self.place_of(used, moments[time])] if cell]
+            pairs = ((place, (place[0] + steps, end)) for place in first if place[0] + steps < len(moments)
+                     for end in [self.place_of(made, moments[place[0] + steps])] if end)
+            pair = next(pairs, None)
+            if pair is None:
+                raise LabError(f"no cell carries `{made}` {steps} steps after one carries `{used}`: the layout does "
+                               "not keep the delay of line "
+                               f"{gate.line}", 1)
+            seen[used], seen[made] = pair
+            for wire in (used, made):
+                time, (x, y) = seen[wire]
+                stops.setdefault(wire, StopLine(time, wire, x, y, 0))
+        return sorted(stops.values(), key=lambda stop: stop.place)
+
+    def place_of(self, wire: str, live: dict[int, Table]) -> Cell | None:
+        """Returns a cell that carries a wire, an `out` cell of it first."""
+        outs = {part.cell for part in self.layout.of_kind("out") if part.name == wire}
+        table = self.observer.values.tables[wire]
+        cells = [cell for cell in (cell_of(key) for key, other in live.items() if other == table)
+                 if self.layout.has(cell)]
+        return min(cells, key=lambda cell: (cell not in outs, row_order(cell))) if cells else None
+
+
+def grid_boxes(layout: Layout, width: int, height: int) -> list[Box]:
+    """Returns the boxes of a grid, row by row; the last ones are smaller if the rectangle ends."""
+    return [Box(x, y, min(width, layout.width - x), min(height, layout.height - y))
+            for y in range(0, layout.height, height) for x in range(0, layout.width, width)]
+
+
+def certificate_text(certificate: Certificate) -> str:
+    """Writes a certificate section."""
+    lines = [f"certificate {certificate.version}"]
+    for module in certificate.modules:
+        lines.append(f"module {module.box.words}")
+        lines += [f"cut {name}" for name in module.cuts]
+        lines += [f"use {number}" for number in sorted(module.uses)]
+        lines += [f"keep {number}" for number in sorted(module.keeps)]
+        lines += [str(line) for line in (*module.edges, *module.halos, *module.stops)]
+    return "\n".join([*lines, "end"]) + "\n"
+
+
+def certified(document: Document, boxes: list[Box] | None, plan: CertificatePlan,
+              notes: list[str] | None = None) -> str:
+    """Returns the text of a circuit and a layout with a certificate of its own, with given boxes or with boxes that it
+    chooses.
+
+    What the user should know of the certificate is added to `notes`.
+    """
+    with without_collector():
+        return newly_certified(document, boxes, plan, notes)
+
+
+def newly_certified(document: Document, boxes: list[Box] | None, plan: CertificatePlan, notes: list[str] | None) -> str:
+    """Returns the text of `certified`."""
+    circuit, layout = document.circuit, document.layout
+    if circuit is None or layout is None:
+        raise LabError("certify takes a circuit and a layout")
+    maker = Maker(circuit, layout, plan)
+    try:
+        certificate = maker.certificate(boxes)
+    except NoBoxError as error:
+        raise LabError(f"no certificate was found: {error}{maker.observer.equal_words()}", 1) from error
+    if notes is not None:
+        notes += maker.notes
+    head = sections_after_line(document.text).split("\nend\n", 2)
+    limits = limits_for(max(layout.width, layout.height), layout.steps, len(certificate.modules), len(circuit.gates),
+                        len(circuit.defined))
+    return with_line(f"{head[0]}\nend\n{head[1]}\nend\n{certificate_text(certificate)}", limits)
+
+
+def checked_boxes(layout: Layout, width: int, height: int) -> list[Box]:
+    """Returns the boxes of a grid whose sides are allowed."""
+    if any(side % 2 or not 2 <= side <= MAX_BOX_SIDE for side in (width, height)):
+        raise LabError(f"a box of {width} by {height} cells: its sides are even numbers from 2 to {MAX_BOX_SIDE}", 2)
+    return grid_boxes(layout, width, height)

@@ -1,0 +1,1 @@
+"""Circuits of conservative logic: their tables, their other forms, changes to them, and netlists."""

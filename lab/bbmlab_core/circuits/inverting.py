@@ -1,0 +1,84 @@
+"""The inverse of a circuit: its gates turned round, outputs as inputs, and constants and garbage exchanged (Fredkin and
+Toffoli 1982).
+"""
+
+from ..host.terminal import LabError
+from ..texts import sections
+from ..texts.circuits import Circuit, Valuation, evaluate, evaluate_samples
+from .gate_lines import read_circuit, source_line
+from .row_check import missing_row
+
+# Up to so many inputs all choices are tried, and above them so many samples.
+MAX_ALL = 16
+SAMPLES = 4096
+INVERSES = {"fredkin": "fredkin", "cswap": "cswap", "delay": "delay", "switch": "unswitch", "unswitch": "switch",
+            "interact": "uninteract",
+            "uninteract": "interact"}
+
+
+def values_of(circuit: Circuit) -> Valuation:
+    """Returns the values of a circuit's wires, in all choices of up to 16 inputs, or in samples."""
+    if len(circuit.inputs) <= MAX_ALL:
+        return evaluate(circuit, circuit.inputs, [gate.number for gate in circuit.gates])
+    return evaluate_samples(circuit, SAMPLES)
+
+
+def constant_bit(values: Valuation, name: str) -> int | None:
+    """Returns the bit that a wire always is, or None if it changes."""
+    return 1 if values.tables[name] == values.full else 0 if values.tables[name] == 0 else None
+
+
+def choice_words(values: Valuation, name: str, bit: int) -> str:
+    """Says with which inputs on a wire is a bit."""
+    table = values.tables[name] if bit else values.full ^ values.tables[name]
+    on = values.names_of((table & -table).bit_length() - 1)
+    return f"with {' '.join(on[:12])}{' and more' if len(on) > 12 else ''} on" if on else "with no input on"
+
+
+def inverse(circuit: Circuit) -> sections.Circuit:
+    """Returns the inverse of a circuit. Its inputs are the outputs, and its constants the garbage, which must not
+    change.
+
+    The constants come first, so that the inverse of the inverse is the circuit again, line by line, if its constants
+    come first.
+
+    Raises LabError with the reason if a row would lack: at some inputs the inverse would have no values, or a constant
+    would not come back.
+    """
+    require_rows(circuit, "the circuit")
+    values = values_of(circuit)
+    gates = []
+    for name in circuit.spills:
+        bit = constant_bit(values, name)
+        if bit is None:
+            raise LabError(f"there is no inverse: the garbage `{name}` is 1 {choice_words(values, name, 1)} and 0 "
+                           f"{choice_words(values, name, 0)}, so no "
+                           "constant can take its place. Make it an output", 1)
+        gates.append(source_line(bit, name))
+    gates += [sections.Gate(INVERSES[gate.word], tuple(gate.outs), tuple(gate.ins), gate.parameter)
+                    for gate in reversed(circuit.gates) if gate.word != "source"]
+    spills = tuple(gate.outs[0] for gate in circuit.gates if gate.word == "source")
+    back = sections.Circuit(tuple(circuit.outputs), tuple(gates), tuple(circuit.inputs), spills)
+    require_constants(circuit, read_circuit(back))
+    return back
+
+
+def require_rows(circuit: Circuit, what: str) -> None:
+    """Raises LabError if an inverse gate of a circuit has no row at some inputs."""
+    why = missing_row(circuit)
+    if why is not None:
+        raise LabError(f"{what} has no values at some inputs: {why.partition(': ')[0]}", 1)
+
+
+def require_constants(circuit: Circuit, back: Circuit) -> None:
+    """Raises LabError if the inverse has no values at some inputs, or does not give each constant back."""
+    require_rows(back, "the inverse")
+    values = values_of(back)
+    for gate in circuit.gates:
+        if gate.word != "source":
+            continue
+        name, bit = gate.outs[0], gate.parameter or 0
+        if constant_bit(values, name) != bit:
+            raise LabError(f"there is no inverse: {choice_words(values, name, 1 - bit)}, the constant `{name}` comes "
+                           f"back as {1 - bit} and not as "
+                           f"{bit}. The circuit never has these outputs. Make `{name}` an input", 1)

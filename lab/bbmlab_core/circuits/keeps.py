@@ -1,0 +1,182 @@
+"""Keeps of inverse gates: which wires a module cuts and which gates it uses so that its run shows the gate's row.
+
+More gates never show less. So a gate is necessary if all others before the inverse gate, without it, leave an
+assignment without a row. The search begins with the necessary gates. It takes the fewest wires that cut them off, adds
+gates, or leaves gates out of all of them.
+"""
+
+import random
+from typing import Iterable, Iterator
+
+from ..texts.certificates import MAX_CUTS, MAX_USES
+from ..texts.circuits import Circuit, evaluate, evaluate_under
+from .cones import fewest_cuts, keeping_cone
+
+# The assignments that are sampled, the sets of gates of one size that are looked at further, and the gates that are run
+# at most to add gates, and to leave gates out: less than a second each.
+SAMPLES = 1024
+WIDTH = 4
+MOST_RUNS = 60_000
+
+Gates = frozenset[int]
+Cone = tuple[list[str], list[int]]
+
+
+def kept_cone(circuit: Circuit, number: int) -> Cone | None:
+    """Returns wires to cut and gates to use under which an inverse gate has a row whenever the gates before it have
+    theirs, or None."""
+    return keeping_cone(circuit, number) or KeepSearch(circuit, number).found()
+
+
+def why_not_kept(circuit: Circuit, number: int) -> str:
+    """Returns a clause on why the lab finds no keep for an inverse gate."""
+    least = len(KeepSearch(circuit, number).necessary())
+    if least >= MAX_USES:
+        return (f"cannot be kept: its row follows only from at least {MAX_USES} gates before it, and a module uses at "
+                f"most {MAX_USES} with it")
+    return f"cannot be kept: the lab finds no {MAX_CUTS} wires and {MAX_USES} gates before it that show its row"
+
+
+class KeepSearch:
+    """A search for the wires and gates by which one inverse gate is kept. It depends on the circuit and the gate alone.
+    """
+
+    def __init__(self, circuit: Circuit, number: int) -> None:
+        self.circuit, self.number = circuit, number
+        self.before = circuit.cone(circuit.gates[number].ins)[1]
+        chance = random.Random(1)
+        # A sample of assignments for each wire, if it is cut.
+        self.samples = {wire: chance.getrandbits(SAMPLES) for wire in circuit.defined}
+        self.consumer = {wire: gate.number for gate in circuit.gates for wire in gate.ins}
+        self.runs = 0
+
+    def found(self) -> Cone | None:
+        """Returns wires to cut and gates to use, or None if none were found."""
+        necessary = self.necessary()
+        if len(necessary) >= MAX_USES:
+            return None
+        core = frozenset({*necessary, self.number})
+        return self.shown(self.cut_off(core)) or self.grown(core) or self.peeled(core)
+
+    def cuts(self, gates: Iterable[int]) -> set[str]:
+        """Returns the wires that come into some gates from elsewhere."""
+        own = [self.circuit.gates[number] for number in gates]
+        return {wire for gate in own for wire in gate.ins} - {wire for gate in own for wire in gate.outs}
+
+    def lacking(self, gates: Gates) -> int:
+        """Returns under how many of the sampled assignments the inverse gate, the last of some gates, has no row while
+        the others have theirs."""
+        self.runs += len(gates)
+        full, order = (1 << SAMPLES) - 1, sorted(gates)
+        rows = evaluate_under(self.circuit, {wire: self.samples[wire] for wire in self.cuts(gates)}, full, order).rows
+        return ((rows[order[-2]] if len(order) > 1 else full) & ~rows[self.number]).bit_count()
+
+    def shown(self, gates: Gates) -> Cone | None:
+        """Returns the wires that cut gates off, and the gates, if they are few enough and show the row under all
+        assignments."""
+        cuts, order = sorted(self.cuts(gates)), sorted(gates)
+        if len(cuts) > MAX_CUTS or len(order) > MAX_USES or self.lacking(gates):
+            return None
+        values = evaluate(self.circuit, cuts, order)
+        if values.rows[self.number] != (values.rows[order[-2]] if len(order) > 1 else values.full):
+            return None
+        least, uses = fewest_cuts(self.circuit, cuts, order)
+        return (cuts, order) if len(least) <= MAX_CUTS and len(uses) <= MAX_USES else None
+
+    def necessary(self) -> list[int]:
+        """Returns gates that each module needs that keeps the gate: those nearest to it first, and no more than a
+        module can use."""
+        every, found = frozenset({*self.before, self.number}), list[int]()
+        for number in reversed(self.before):
+            if self.lacking(every - {number}):
+                found.append(number)
+            if len(found) >= MAX_USES:
+                break
+        self.runs = 0
+        return found
+
+    def grown(self, core: Gates) -> Cone | None:
+        """Returns what is found by adding gates to a core, those first that leave the fewest assignments without a row.
+        """
+        level, seen = [core], {core}
+        while level and self.runs < MOST_RUNS:
+            ranked: list[tuple[int, int, int, Gates]] = []
+            for larger in self.larger(level):
+                if larger in seen or len(larger) > MAX_USES:
+                    continue
+                seen.add(larger)
+                lacking = self.lacking(larger)
+                found = self.shown(larger) or self.shown(self.cut_off(larger)) if lacking == 0 else None
+                if found:
+                    return found
+                ranked.append((lacking, len(self.cuts(larger)), len(ranked), larger))
+            level = [gates for _, _, _, gates in sorted(ranked, key=lambda own: own[:3])[:WIDTH]]
+        return None
+
+    def larger(self, level: list[Gates]) -> Iterator[Gates]:
+        """Yields sets of gates with one more gate that makes a wire of the cut."""
+        for gates in level:
+            for wire in sorted(self.cuts(gates)):
+                if wire in self.circuit.maker:
+                    yield self.with_sources(gates | {self.circuit.maker[wire].number})
+
+    def peeled(self, core: Gates) -> Cone | None:
+        """Returns what is found by leaving gates out of all before the inverse gate, those first that leave the fewest
+        wires to cut."""
+        self.runs = 0
+        level, seen = [frozenset({*self.before, self.number})], set[Gates]()
+        while level and self.runs < MOST_RUNS:
+            ranked: list[tuple[int, int, Gates]] = []
+            for smaller in (gates - {number} for gates in level for number in sorted(gates - core)):
+                if smaller in seen:
+                    continue
+                seen.add(smaller)
+                count = len(self.cuts(smaller))
+                # One wire too many may still be led back to one gate.
+                if count > MAX_CUTS + 1 or self.lacking(smaller):
+                    continue
+                found = self.shown(smaller)
+                if found:
+                    return found
+                ranked.append((count, len(ranked), smaller))
+            level = [gates for _, _, gates in sorted(ranked, key=lambda own: own[:2])[:WIDTH]]
+        return None
+
+    def with_sources(self, gates: Gates) -> Gates:
+        """Returns gates with the sources of their wires, which need no wire themselves."""
+        makers = [self.circuit.maker.get(wire) for wire in self.cuts(gates)]
+        return gates | {maker.number for maker in makers if maker and not maker.ins}
+
+    def cut_off(self, core: Gates) -> Gates:
+        """Returns the fewest gates with a core that the fewest wires cut off (Ford and Fulkerson 1956: a flow of one
+        unit for each wire)."""
+        flow: set[str] = set()
+        while True:
+            reached, wire = self.reached(core, flow)
+            if wire is None:
+                return self.with_sources(frozenset(reached))
+            number = self.consumer[wire]
+            flow ^= {wire}
+            while number not in core:
+                number, own = reached[number]
+                flow ^= {own}
+
+    def reached(self, core: Gates, flow: set[str]) -> tuple[dict[int, tuple[int, str]], str | None]:
+        """Returns the gates from which more can flow to a core, each with the next gate and the wire to it, and an
+        input from which it can."""
+        reached, todo = {number: (number, "") for number in core}, sorted(core)
+        while todo:
+            number = todo.pop()
+            gate = self.circuit.gates[number]
+            ways: list[tuple[int, str]] = []
+            for wire in gate.ins:
+                if wire not in flow and wire not in self.circuit.maker:
+                    return reached, wire
+                if wire not in flow:
+                    ways.append((self.circuit.maker[wire].number, wire))
+            ways += [(self.consumer[wire], wire) for wire in gate.outs if wire in flow]
+            for other, wire in ways:
+                if other not in reached:
+                    reached[other] = number, wire
+                    todo.append(other)
+        return reached, None

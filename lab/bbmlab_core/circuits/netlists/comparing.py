@@ -1,0 +1,68 @@
+"""Compares a netlist with the circuit to which it was mapped, by values of both under the same inputs."""
+
+from ...texts.circuits import Circuit, evaluate_under, sampled_tables
+from ...texts.gates import input_tables
+from .model import Cell, CellNode, LogicNetlist, NetlistError, TableNode
+
+# Up to so many inputs all choices are tried, and above them so many samples.
+MAX_ALL = 16
+SAMPLES = 4096
+
+Table = int
+
+
+def cell_table(cell: Cell, full: Table, ins: list[Table]) -> Table:
+    """Returns the table of a simple cell of yosys."""
+    a, b, c, d = (ins + [0, 0, 0])[:4]
+    values = {
+        Cell.BUF: a, Cell.NOT: ~a, Cell.AND: a & b, Cell.NAND: ~(a & b), Cell.OR: a | b, Cell.NOR: ~(a | b),
+        Cell.XOR: a ^ b, Cell.XNOR: ~(a ^ b),
+        Cell.ANDNOT: a & ~b, Cell.ORNOT: a | ~b, Cell.MUX: c & b | ~c & a, Cell.NMUX: ~(c & b | ~c & a),
+        Cell.AOI3: ~(a & b | c),
+        Cell.OAI3: ~((a | b) & c), Cell.AOI4: ~(a & b | c & d), Cell.OAI4: ~((a | b) & (c | d)),
+    }
+    return values[cell] & full
+
+
+def node_table(node: TableNode, full: Table, ins: list[Table]) -> Table:
+    """Returns the table of a node with rows."""
+    fits = 0
+    for row in node.rows:
+        own = full
+        for sign, table in zip(row, ins):
+            own &= full if sign == "-" else table if sign == "1" else full & ~table
+        fits |= own
+    return fits if node.value else full & ~fits
+
+
+def netlist_tables(netlist: LogicNetlist, tables: dict[str, Table], full: Table) -> dict[str, Table]:
+    """Returns the table of each net on which outputs depend, from those of the inputs."""
+    found = dict(tables)
+    for node in netlist.sorted_nodes():
+        ins = [found[net] for net in node.inputs]
+        found[node.output] = cell_table(node.cell, full, ins) if isinstance(node,
+                                                                            CellNode) else node_table(node, full, ins)
+    return found
+
+
+def compared(netlist: LogicNetlist, circuit: Circuit) -> str:
+    """Returns in which inputs the circuit has the outputs of the netlist, in words.
+
+    Raises NetlistError where it has others.
+    """
+    count = len(netlist.inputs)
+    if count <= MAX_ALL:
+        full, scope = ((1 << (1 << count)) - 1, f"all {1 << count} choices of the inputs" if count
+                       else "the one choice of the inputs")
+        columns = dict(zip(netlist.inputs, input_tables(count)))
+    else:
+        full, scope = (1 << SAMPLES) - 1, f"{SAMPLES} samples of the {count} inputs"
+        columns = sampled_tables(netlist.inputs, SAMPLES)
+    theirs = netlist_tables(netlist, columns, full)
+    mine = {name: columns[net] for name, net in zip(circuit.inputs, netlist.inputs)}
+    own = evaluate_under(circuit, mine, full, [gate.number for gate in circuit.gates])
+    for name, (port, net) in zip(circuit.outputs, netlist.outputs):
+        if own.defined != full or own.tables[name] != theirs[net]:
+            raise NetlistError(f"The mapped circuit is wrong: its output `{name}` is not always `{port}` of the "
+                               "netlist. This is a fault of the lab.")
+    return scope

@@ -1,0 +1,366 @@
+"""Maps a graph of logic to gates of conservative logic, with constants and garbage.
+
+A `switch` computes "c and x" and "x without c", and gives c back. With a constant 1 as x it copies c and makes "not c".
+An `interact` of p and q followed by an `unswitch` makes their XOR. An `unswitch` merges two wires that exclude each
+other. Fredkin and Toffoli 1982.
+
+A gate consumes its wires, so each value has a pool of wires. `search` tries many preferences on the order and the ways.
+"""
+
+import random
+from dataclasses import dataclass, field
+from typing import Callable
+
+from .graph import FALSE, TRUE, Graph, Kind, Literal
+
+# What a gate and a wire cost: a switch cell of 20 by 20 cells is 1.
+GATE_COSTS = {"switch": 1.0, "unswitch": 1.0, "interact": 0.8, "fredkin": 4.0, "source": 0.5, "delay": 0.2}
+GARBAGE_COST = 0.15
+COPY_COST = GATE_COSTS["switch"] + GATE_COSTS["source"]
+DEPTH_COST = 0.05
+
+# How much a preference can add to the cost of a way, and the most ways for a node.
+NOISE = 0.8
+MAX_WAYS = 10
+
+Wire = int
+# The cost of a way to map a node, its name in `WAYS`, and the literals in the order that it takes.
+Way = tuple[float, str, tuple[Literal, ...]]
+
+
+@dataclass
+class MappedGate:
+    """A gate with numbers of wires. `node` is the node that an inverse gate joins."""
+
+    word: str
+    parameter: int | None
+    ins: list[Wire]
+    outs: list[Wire]
+    node: int | None = None
+
+
+@dataclass
+class Wiring:
+    """Gates in order, the wires of the outputs, and the wires that nothing uses."""
+
+    gates: list[MappedGate] = field(default_factory=list)
+    outputs: list[Wire] = field(default_factory=list)
+    garbage: list[Wire] = field(default_factory=list)
+
+    def cost(self) -> float:
+        """Returns the cost of the gates, the garbage and the depth."""
+        depths: dict[Wire, int] = {}
+        for gate in self.gates:
+            depth = 1 + max((depths.get(wire, 0) for wire in gate.ins), default=-1)
+            depths.update((wire, depth) for wire in gate.outs)
+        gates = sum(GATE_COSTS[gate.word] for gate in self.gates)
+        return gates + GARBAGE_COST * len(self.garbage) + DEPTH_COST * max(depths.values(), default=0)
+
+
+@dataclass
+class Preferences:
+    """What decides the order of the nodes, and between ways of nearly equal cost: a rank and some noise for each node.
+    """
+
+    ranks: dict[int, float]
+    noise: dict[int, list[float]]
+
+    @classmethod
+    def at_random(cls, graph: Graph, chooser: random.Random) -> "Preferences":
+        """Returns random preferences. XOR nodes come rather early, since they make products too."""
+        needed = graph.needed()
+        ranks = {number: chooser.random() + (graph.nodes[number].kind is not Kind.XOR) * chooser.choice((0, 1))
+                 for number in needed}
+        return cls(ranks, {number: [chooser.random() for _ in range(MAX_WAYS)] for number in needed})
+
+    def changed(self, chooser: random.Random) -> "Preferences":
+        """Returns preferences that differ for one to three nodes."""
+        new = Preferences(dict(self.ranks), dict(self.noise))
+        for _ in range(chooser.choice((1, 1, 2, 3))):
+            number = chooser.choice(list(new.ranks))
+            if chooser.random() < 0.5:
+                new.ranks[number] = 2 * chooser.random()
+            else:
+                # Sometimes more, so that a dear way can be taken.
+                scale = chooser.choice((1, 1, 3))
+                new.noise[number] = [scale * chooser.random() for _ in range(MAX_WAYS)]
+        return new
+
+
+class Mapper:
+    """One try to map the nodes."""
+
+    def __init__(self, graph: Graph, separate: frozenset[int], preferences: Preferences) -> None:
+        self.graph, self.separate, self.preferences = graph, separate, preferences
+        self.wiring = Wiring()
+        self.wire_count = len(graph.input_names)
+        self.pool: dict[Literal, list[Wire]] = {}
+        self.needed = graph.needed()
+        self.mapped = {number for number in range(1, len(graph.input_names) + 1)}
+        self.uses: dict[int, int] = {}
+        self.true_uses: dict[int, int] = {}
+        for number in self.mapped:
+            self.pool[2 * number] = [number - 1]
+        for literal in [literal for number in self.needed
+                        for literal in graph.nodes[number].inputs] + [out for _, out in graph.outputs]:
+            self.uses[literal >> 1] = self.uses.get(literal >> 1, 0) + 1
+            self.true_uses[literal >> 1] = self.true_uses.get(literal >> 1, 0) + 1 - (literal & 1)
+
+    def run(self) -> Wiring:
+        """Maps all needed nodes and the outputs."""
+        for number in self.order():
+            if number not in self.mapped:
+                self.map_node(number)
+        for _, literal in self.graph.outputs:
+            self.uses[literal >> 1] -= 1
+            self.wiring.outputs.append(self.source(literal) if literal in (FALSE, TRUE) else self.take(literal))
+        self.wiring.garbage += [wire for wires in self.pool.values() for wire in wires]
+        return self.wiring
+
+    def order(self) -> list[int]:
+        """Returns the needed nodes, each after its inputs."""
+        nodes, rank = self.graph.nodes, dict(self.preferences.ranks)
+        # A node comes as late as the latest of its inputs, plus its own rank.
+        for number in self.needed:
+            rank[number] += max((rank.get(literal >> 1, 0) for literal in nodes[number].inputs), default=0)
+        return sorted((number for number in self.needed if number not in self.mapped and number),
+                      key=lambda number: (rank[number], number))
+
+    def map_node(self, number: int) -> None:
+        """Maps one node by the cheapest way, or one of nearly the same cost."""
+        node = self.graph.nodes[number]
+        for literal in node.inputs:
+            self.uses[literal >> 1] -= 1
+        self.mapped.add(number)
+        makers = {Kind.AND: self.and_ways, Kind.XOR: self.xor_ways, Kind.JOIN: self.join_ways}
+        ways = makers[node.kind](number, node.inputs)
+        noise = self.preferences.noise[number]
+        _, index = min((way[0] + NOISE * noise[index], index) for index, way in enumerate(ways))
+        WAYS[ways[index][1]](self, number, *ways[index][2])
+
+    # ---- pools of wires
+
+    def gate(self, word: str, parameter: int | None, ins: list[Wire], count: int,
+             node: int | None = None) -> list[Wire]:
+        """Adds a gate with `count` outputs, and returns these."""
+        outs = list(range(self.wire_count, self.wire_count + count))
+        self.wire_count += count
+        self.wiring.gates.append(MappedGate(word, parameter, ins, outs, node))
+        return outs
+
+    def source(self, literal: Literal) -> Wire:
+        """Adds a constant."""
+        return self.gate("source", int(literal == TRUE), [], 1)[0]
+
+    def wires(self, literal: Literal) -> list[Wire]:
+        """Returns the pool of a literal."""
+        return self.pool.setdefault(literal, [])
+
+    def total(self, literal: Literal) -> int:
+        """Returns how many wires carry a literal or its inverse."""
+        return len(self.wires(literal)) + len(self.wires(literal ^ 1))
+
+    def copy(self, literal: Literal) -> None:
+        """Turns a wire of a literal into two, and one of its inverse."""
+        first, second, inverse = self.gate("switch", None, [self.wires(literal).pop(), self.source(TRUE)], 3)
+        self.pool[literal] += [first, second]
+        self.wires(literal ^ 1).append(inverse)
+
+    def take(self, literal: Literal) -> Wire:
+        """Takes a wire of a literal out of its pool. One of it or of its inverse stays while there are uses."""
+        if not self.wires(literal):
+            self.copy(literal ^ 1)
+        elif self.total(literal) == 1 and self.uses[literal >> 1] > 0:
+            self.copy(literal)
+        return self.pool[literal].pop()
+
+    def take_cost(self, literal: Literal, made: int = 0) -> float:
+        """Returns what `take` costs if `made` uses of the literal go, since their products are made by the same gate.
+        """
+        is_free = self.wires(literal) and (self.total(literal) > 1 or self.uses[literal >> 1] <= made)
+        return 0 if is_free else COPY_COST
+
+    def read(self, literal: Literal) -> tuple[Literal, Wire]:
+        """Takes a wire of a literal or of its inverse, and says which. The caller gives it back."""
+        found = literal if self.wires(literal) else literal ^ 1
+        return found, self.pool[found].pop()
+
+    def give(self, literal: Literal | None, wire: Wire) -> None:
+        """Adds a wire to the pool of a literal, or to the garbage if no node has its value."""
+        if literal is None:
+            self.wiring.garbage.append(wire)
+        else:
+            self.wires(literal).append(wire)
+
+    def promise(self, left: Literal, right: Literal) -> Literal | None:
+        """Returns the literal of a product that the next gate makes.
+
+        A needed node is mapped by it, so it no longer uses its inputs.
+        """
+        literal = self.graph.known_and(left, right)
+        if literal is not None and self.is_wanted(literal):
+            self.mapped.add(literal >> 1)
+            for used in self.graph.nodes[literal >> 1].inputs:
+                self.uses[used >> 1] -= 1
+        return literal
+
+    def is_wanted(self, literal: Literal | None) -> bool:
+        """Whether a literal is that of a needed node that is not mapped yet."""
+        return literal is not None and literal >> 1 not in self.mapped and self.uses.get(literal >> 1, 0) > 0
+
+    def gain(self, left: Literal, right: Literal) -> int:
+        """Returns what a product that comes for nothing is worth: the cost of a `switch`, 1, if it is wanted, else 0.
+        """
+        return int(self.is_wanted(self.graph.known_and(left, right)))
+
+    # ---- AND
+
+    def and_ways(self, number: int, inputs: tuple[Literal, ...]) -> list[Way]:
+        """Returns the ways to map an AND node."""
+        ways: list[Way] = []
+        for control, other in (inputs, inputs[::-1]):
+            inversion = COPY_COST if not self.true_uses.get(number, 0) else 0.0
+            gain = self.gain(control ^ 1, other)
+            ways.append((1 + inversion + self.take_cost(other, gain) - gain, "product", (control, other)))
+            if inversion and number not in self.separate:
+                second = 0.0 if self.total(control) > 1 else COPY_COST
+                ways.append((2 + second + self.take_cost(other ^ 1), "sum", (control ^ 1, other ^ 1)))
+        left, right = inputs
+        gain = self.gain(left ^ 1, right) + self.gain(left, right ^ 1)
+        saved = gain + (COPY_COST if self.uses[number] > 1 else 0.0)
+        if saved:
+            takes = self.take_cost(left, gain) + self.take_cost(right, gain)
+            ways.append((GATE_COSTS["interact"] + takes - saved, "meeting", inputs))
+        return ways
+
+    def map_product(self, number: int, control: Literal, other: Literal) -> None:
+        """Maps "control and other" by a switch. The control may be inverted."""
+        second = self.promise(control ^ 1, other)
+        wire = self.take(other)
+        found, select = self.read(control)
+        again, high, low = self.gate("switch", None, [select, wire], 3)
+        product, rest = (high, low) if found == control else (low, high)
+        self.wires(found).append(again)
+        self.wires(2 * number).append(product)
+        self.give(second, rest)
+
+    def map_meeting(self, number: int, left: Literal, right: Literal) -> None:
+        """Maps "left and right" by an interaction, which makes it twice."""
+        second, third = self.promise(left ^ 1, right), self.promise(left, right ^ 1)
+        both, right_alone, left_alone, again = self.gate("interact", None, [self.take(left), self.take(right)], 4)
+        self.wires(2 * number).extend((both, again))
+        self.give(second, right_alone)
+        self.give(third, left_alone)
+
+    def map_sum(self, number: int, control: Literal, other: Literal) -> None:
+        """Maps the inverse of an AND node, "control or other", by a switch and a join."""
+        product = self.promise(control, other)
+        if self.total(control) < 2 or not self.wires(control):
+            self.copy(control if self.wires(control) else control ^ 1)
+        wire, first = self.take(other), self.pool[control].pop()
+        found, select = self.read(control)
+        again, high, low = self.gate("switch", None, [select, wire], 3)
+        rest, without = (high, low) if found == control else (low, high)
+        parts = [first, without] if found == control else [without, first]
+        again, result = self.gate("unswitch", None, [again, *parts], 2, number)
+        self.wires(found).append(again)
+        self.wires(2 * number + 1).append(result)
+        self.give(product, rest)
+
+    # ---- XOR
+
+    def xor_ways(self, number: int, inputs: tuple[Literal, ...]) -> list[Way]:
+        """Returns the ways to map a XOR node."""
+        if number in self.separate:
+            return [(0.0, "fredkin", inputs)]
+        ways: list[Way] = []
+        for first, second in (inputs, inputs[::-1]):
+            for one in (first, first ^ 1):
+                for two in (second, second ^ 1):
+                    if self.wires(one) and self.wires(two):
+                        gain = self.gain(one, two)
+                        copies = (self.total(first) < 2) + (self.total(second) < 2 and self.uses[second >> 1] > gain)
+                        ways.append((1.8 + COPY_COST * copies - gain, "meeting_join", (one, two)))
+            spare = self.wires(second) and self.wires(second ^ 1) and (self.total(second) > 2
+                                                                       or not self.uses[second >> 1])
+            if spare:
+                gains = sum(self.gain(one, two) for one in (first, first ^ 1) for two in (second, second ^ 1))
+                ways.append((3 - gains, "switch_join", (first, second)))
+        return ways
+
+    def map_meeting_join(self, number: int, left: Literal, right: Literal) -> None:
+        """Maps a XOR node by an interaction and a join. A wire of `left` is consumed, and another one is the control.
+        """
+        product = self.promise(left, right)
+        if self.total(left) < 2:
+            self.copy(left)
+        wire, other = self.pool[left].pop(), self.take(right)
+        both, right_alone, left_alone, again = self.gate("interact", None, [wire, other], 4)
+        self.give(product, both)
+        self.give(product, again)
+        found, select = self.read(left)
+        parts = [left_alone, right_alone] if found == left else [right_alone, left_alone]
+        select, result = self.gate("unswitch", None, [select, *parts], 2, number)
+        self.wires(found).append(select)
+        self.wires(2 * number ^ (left & 1) ^ (right & 1)).append(result)
+
+    def map_switch_join(self, number: int, left: Literal, right: Literal) -> None:
+        """Maps a XOR node by two switches, over a wire and its inverse, and a join."""
+        found, select = self.read(left)
+        product, second = self.promise(found, right), self.promise(found ^ 1, right ^ 1)
+        select, both, right_alone = self.gate("switch", None, [select, self.pool[right].pop()], 3)
+        select, left_alone, neither = self.gate("switch", None, [select, self.pool[right ^ 1].pop()], 3)
+        select, result = self.gate("unswitch", None, [select, left_alone, right_alone], 2, number)
+        self.wires(found).append(select)
+        self.wires(2 * number ^ (found & 1)).append(result)
+        self.give(product, both)
+        self.give(second, neither)
+
+    def map_fredkin(self, number: int, left: Literal, right: Literal) -> None:
+        """Maps a XOR node by a Fredkin gate over a wire and its inverse."""
+        while not (self.wires(right) and self.wires(right ^ 1)
+                   and (self.total(right) > 2 or not self.uses[right >> 1])):
+            self.copy(right if self.wires(right) else right ^ 1)
+        found, select = self.read(left)
+        ins = [select, self.pool[right ^ 1].pop(), self.pool[right].pop()]
+        select, result, inverse = self.gate("fredkin", None, ins, 3)
+        self.wires(found).append(select)
+        self.wires(2 * number ^ (found & 1)).append(result)
+        self.wires(2 * number + 1 ^ (found & 1)).append(inverse)
+
+    # ---- join
+
+    def join_ways(self, number: int, inputs: tuple[Literal, ...]) -> list[Way]:
+        """Returns the way to map a join."""
+        return [(0.0, "inverse_product" if number in self.separate else "join", inputs)]
+
+    def map_join(self, number: int, select: Literal, high: Literal, low: Literal) -> None:
+        """Maps a join by an `unswitch`. The control may be inverted."""
+        # The control can be one of the two parts, so a wire of it must stay.
+        self.uses[select >> 1] += 1
+        parts = [self.take(high), self.take(low)]
+        self.uses[select >> 1] -= 1
+        found, control = self.read(select)
+        control, result = self.gate("unswitch", None, [control, *(parts if found == select else parts[::-1])], 2,
+                                    number)
+        self.wires(found).append(control)
+        self.wires(2 * number).append(result)
+
+    def map_inverse_product(self, number: int, _select: Literal, high: Literal, low: Literal) -> None:
+        """Maps a join as "not (not high and not low)"."""
+        second = self.promise(high, low ^ 1)
+        wire = self.take(low ^ 1)
+        found, control = self.read(high)
+        control, one, two = self.gate("switch", None, [control, wire], 3)
+        product, rest = (two, one) if found == high else (one, two)
+        self.wires(found).append(control)
+        self.wires(2 * number + 1).append(product)
+        self.give(second, rest)
+
+
+WAYS: dict[str, Callable[..., None]] = {
+    "product": Mapper.map_product, "meeting": Mapper.map_meeting, "sum": Mapper.map_sum,
+    "meeting_join": Mapper.map_meeting_join,
+    "switch_join": Mapper.map_switch_join, "fredkin": Mapper.map_fredkin, "join": Mapper.map_join,
+    "inverse_product": Mapper.map_inverse_product,
+}

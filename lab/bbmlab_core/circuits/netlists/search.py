@@ -1,0 +1,78 @@
+"""Searches for a cheap circuit: maps a graph in many orders, and asks that each inverse gate can be kept by a module.
+"""
+
+import random
+
+from ...texts.circuits import Circuit
+from ...texts.documents import read_document
+from ...texts.limits import SECOND
+from ..cones import keeping_cone
+from .circuit_text import NamedCircuit, named
+from .graph import Graph
+from .mapping import Mapper, Preferences, Wiring
+from .model import NetlistError
+
+FIRST_TRIES = 20
+MAX_TRIES = 1000
+# Tries times nodes and outputs: some seconds.
+TRY_BUDGET = 40_000
+# One interaction gate makes three products, and no gate makes more.
+MAX_NEEDED_NODES = 3 * SECOND.max_gates
+
+
+def require_room(gate_count: int, wire_count: int) -> None:
+    """Raises NetlistError if a circuit section cannot have so many gates or wires."""
+    for count, most, what in ((gate_count, SECOND.max_gates, "gates"), (wire_count, SECOND.max_wires, "wires")):
+        if count > most:
+            raise NetlistError(f"The circuit would need {count} {what}. A circuit has at most {most}.")
+
+
+def cheapest(graph: Graph, separate: frozenset[int], size: int) -> Wiring:
+    """Returns the cheapest of some wirings: the best of some at random, improved by small changes of its preferences.
+
+    The same graph gets the same wiring each time.
+    """
+    chooser, tries = random.Random(1), max(2, min(MAX_TRIES, TRY_BUDGET // max(1, size)))
+
+    def tried(preferences: Preferences) -> tuple[float, Preferences, Wiring]:
+        """Returns the cost, the preferences and the wiring of a try."""
+        wiring = Mapper(graph, separate, preferences).run()
+        return wiring.cost(), preferences, wiring
+
+    first = min(tries, FIRST_TRIES)
+    cost, best, wiring = min((tried(Preferences.at_random(graph, chooser)) for _ in range(first)),
+                             key=lambda found: found[0])
+    if best.ranks:
+        for _ in range(tries - first):
+            found = tried(best.changed(chooser))
+            if found[0] <= cost:
+                cost, best, wiring = found
+    return wiring
+
+
+def nodes_not_kept(circuit: Circuit, wiring: Wiring) -> frozenset[int]:
+    """Returns the nodes whose inverse gate has no cone that shows that it always has a row."""
+    return frozenset(gate.node for number, gate in enumerate(wiring.gates)
+                     if gate.word == "unswitch" and gate.node is not None and keeping_cone(circuit, number) is None)
+
+
+def map_graph(graph: Graph) -> NamedCircuit:
+    """Maps a graph. Raises NetlistError if the circuit does not fit the limits of a circuit section."""
+    needed = graph.needed()
+    if len(needed) > MAX_NEEDED_NODES:
+        raise NetlistError(f"The netlist needs {len(needed)} nodes of logic, and so more than {SECOND.max_gates} "
+                           "gates. "
+                           f"A circuit has at most {SECOND.max_gates}.")
+    separate: frozenset[int] = frozenset()
+    while True:
+        wiring = cheapest(graph, separate, len(needed) + len(graph.outputs))
+        circuit = named(graph, wiring)
+        require_room(len(circuit.gates),
+                     len(circuit.inputs) + sum(len(line.split(" -> ")[1].split()) for line in circuit.gates))
+        document = read_document(circuit.text(), "circuit")
+        if document.refusal or document.circuit is None:
+            raise NetlistError(f"The mapped circuit is wrong: {document.refusal}.")
+        failed = nodes_not_kept(document.circuit, wiring)
+        if not failed:
+            return circuit
+        separate |= failed

@@ -1,0 +1,44 @@
+"""Whether a circuit has values under its inputs: an inverse gate has none for some values of its inputs, and then no
+layout gets a yes.
+
+A circuit of up to 12 inputs is evaluated under all of them, a larger one under samples: the search for a route would
+take minutes to fail.
+"""
+
+from ..physics.simulation import lowest_bit
+from ..texts.circuits import Circuit, Gate, Valuation, evaluate, evaluate_samples
+
+MAX_INPUTS = 12
+SAMPLES = 256
+# How many inputs that are on are named.
+MAX_NAMED = 12
+
+
+def missing_row(circuit: Circuit) -> str | None:
+    """Returns the first gate that has no row, with the values that it gets and inputs that give them.
+
+    None if none was found.
+    """
+    if not any(gate.is_inverse for gate in circuit.gates):
+        return None
+    is_all = len(circuit.inputs) <= MAX_INPUTS
+    values = evaluate(circuit, circuit.inputs,
+                      [gate.number for gate in circuit.gates]) if is_all else evaluate_samples(circuit, SAMPLES)
+    before = values.full
+    for gate in circuit.gates:
+        missing = before & ~values.rows[gate.number]
+        if missing:
+            return row_words(values, gate, lowest_bit(missing))
+        before = values.rows[gate.number]
+    return None
+
+
+def row_words(values: Valuation, gate: Gate, column: int) -> str:
+    """Says under which inputs a gate gets which values without a row."""
+    given = " ".join(f"{name}={values.tables[name] >> column & 1}" for name in gate.ins)
+    on = values.names_of(column)
+    more = f" and {len(on) - MAX_NAMED} more" if len(on) > MAX_NAMED else ""
+    inputs = f"with {' '.join(on[:MAX_NAMED])}{more} on" if on else "with no input on"
+    return (f"gate {gate.number} (`{gate.word}`, line {gate.line}) has no row for {given}, which it gets {inputs}: the "
+            "circuit has no values "
+            "there, so no layout computes it")

@@ -1,0 +1,230 @@
+"""Edits of a certificate that may remove a fault of a report. They are tried before one of them is printed."""
+
+from dataclasses import dataclass
+from typing import Iterator
+
+from ..physics.simulation import Table, key_of
+from ..texts.certificates import MAX_CUTS, MAX_USES, Module, StopLine
+from ..texts.layouts import Cell
+from ..texts.reports import Finding
+from .diagnosis import MAX_SECONDS, Diagnosis
+from .edits import Edit, add, delete, place_in_module, replace
+from .expected_lines import BorderCheck, CellEdits
+
+Edits = tuple[Edit, ...]
+# The most edits of all borders together.
+MAX_TOGETHER = 400
+# How many steps a stop is moved, and how many cells.
+STOP_TIMES = 4
+
+
+@dataclass(frozen=True)
+class Proposal:
+    """Edits that are tried together, with what kind of edits they are, in words."""
+
+    kind: str
+    edits: Edits
+
+
+class CertificateEditor:
+    """Proposes edits of the certificate of a document for the faults of its report."""
+
+    def __init__(self, diagnosis: Diagnosis, seconds: float = MAX_SECONDS) -> None:
+        self.diagnosis = diagnosis
+        self.circuit, self.certificate = diagnosis.circuit, diagnosis.certificate
+        self.lines = diagnosis.document.text.split("\n")
+        self.check = BorderCheck(diagnosis, seconds)
+        self.groups: list[CellEdits] = self.check.groups()
+
+    def for_all(self, findings: list[Finding]) -> Iterator[Proposal]:
+        """Yields edits for a whole report: all borders together, then each by itself, then those for each line of the
+        report."""
+        together = tuple(dict.fromkeys(edit for group in self.groups for edit in group.edits))
+        if together and len(together) <= MAX_TOGETHER:
+            yield Proposal("border lines as the whole run has them", together)
+        for finding in findings:
+            yield from self.for_finding(finding)
+
+    def for_finding(self, finding: Finding) -> Iterator[Proposal]:
+        """Yields edits for one line of a report."""
+        if finding.word == "local":
+            yield from self.for_local(finding)
+        elif finding.word == "keep":
+            yield from self.gates_for_cuts(self.certificate.modules[finding.number("module")])
+        elif finding.word == "border":
+            yield from self.for_border(finding)
+        elif finding.word == "unkept":
+            yield from self.for_unkept(finding.number("gate"))
+        elif finding.word == "delay":
+            yield from self.for_delay(finding)
+        elif finding.word == "meet":
+            yield from self.for_meet(finding)
+
+    def for_local(self, finding: Finding) -> Iterator[Proposal]:
+        """Yields edits for a `local` line: the borders of its module up to its time, its stop, and gates in place of
+        cuts."""
+        module, time = self.diagnosis.module_of(finding), finding.number("time")
+        cell = finding.number("x"), finding.number("y")
+        if finding.values["kind"] == "stop":
+            stop = next((stop for stop in module.stops if (stop.time, stop.cell) == (time, cell)), None)
+            if stop:
+                yield from self.for_stop(module, stop)
+        near = [group for group in self.groups if module.number in group.modules and group.time <= time]
+        near.sort(key=lambda group: (group.cell != cell, group.time))
+        for group in near[:6]:
+            for edits in (group.edits, *group.others):
+                yield Proposal("border lines as the whole run has them", tuple(edits))
+        if len(near) > 1:
+            yield Proposal("border lines as the whole run has them",
+                           tuple(dict.fromkeys(edit for group in near for edit in group.edits)))
+        if self.diagnosis.occurring(module) != (1 << (1 << len(module.cuts))) - 1:
+            yield from self.gates_for_cuts(module)
+
+    def gates_for_cuts(self, module: Module) -> Iterator[Proposal]:
+        """Yields `use` lines in place of `cut` lines: for one gate whose outputs are cut, then for all gates back to
+        the inputs."""
+        makers = {self.circuit.maker[name].number for name in module.cuts if name in self.circuit.maker}
+        for number in sorted(makers, reverse=True):
+            gate = self.circuit.gates[number]
+            cuts = [name for name in module.cuts if name not in gate.outs]
+            cuts += [name for name in gate.ins if name not in module.local]
+            yield from self.wiring(module, cuts, sorted({*module.uses, number}))
+        free, used = self.circuit.cone(module.cuts)
+        if makers:
+            yield from self.wiring(module, free, sorted({*used, *module.uses}))
+
+    def wiring(self, module: Module, cuts: list[str], uses: list[int]) -> Iterator[Proposal]:
+        """Yields the edits after which a module has these `cut` and `use` lines, if they are within its limits."""
+        if len(cuts) > MAX_CUTS or len(uses) > MAX_USES:
+            return
+        edits: list[Edit] = []
+        for number, line in enumerate(self.lines[module.line:], module.line + 1):
+            kind, _, name = line.partition(" ")
+            if kind not in ("cut", "use"):
+                break
+            if kind == "cut" and name not in cuts or kind == "use" and int(name) not in uses:
+                edits.append(delete(number))
+        new = [f"cut {name}" for name in cuts if name not in module.cuts] + [f"use {number}" for number in uses
+                                                                             if number not in module.uses]
+        edits += [add(place_in_module(self.lines, module.line, text), text) for text in new]
+        if edits:
+            yield Proposal("gates in place of cuts", tuple(edits))
+
+    def for_border(self, finding: Finding) -> Iterator[Proposal]:
+        """Yields edits of the `halo` line or the `edge` line of a border that do not agree."""
+        module, time = self.diagnosis.module_of(finding), finding.number("time")
+        cell = finding.number("x"), finding.number("y")
+        owner = self.certificate.owner(cell)
+        halo, edge = module.line_at("halo", time, cell), owner.line_at("edge", time, cell) if owner else None
+        for group in (group for group in self.groups if group.cell == cell):
+            for edits in (group.edits, *group.others):
+                yield Proposal("border lines as the whole run has them", tuple(edits))
+        for line, other, kind, place in ((edge, halo, "halo", module), (halo, edge, "edge", owner)):
+            if line and place:
+                text = f"{kind}{str(line)[4:]}"
+                yield Proposal("lines that agree",
+                               (replace(other.line, text) if other
+                                else add(place_in_module(self.lines, place.line, text), text),))
+            elif other:
+                yield Proposal("lines that agree", (delete(other.line),))
+
+    def for_unkept(self, number: int) -> Iterator[Proposal]:
+        """Yields a `keep` line in a module that uses the gate."""
+        for module in (module for module in self.certificate.modules if number in module.uses):
+            text = f"keep {number}"
+            yield Proposal("`keep` lines", (add(place_in_module(self.lines, module.line, text), text),))
+
+    def carried(self, name: str) -> Table | None:
+        """Returns the table of a wire over the tried inputs."""
+        return self.diagnosis.values.tables.get(name)
+
+    def for_stop(self, module: Module, stop: StopLine) -> Iterator[Proposal]:
+        """Yields other times and cells for a stop, at which the whole run has its wire, and other wires."""
+        spots = [(stop.time + dt, (stop.x + dx, stop.y + dy)) for dt in range(-STOP_TIMES, STOP_TIMES + 1)
+                 for dx in (-1, 0, 1) for dy in (-1, 0, 1)]
+        spots.sort(key=lambda spot: (spot[1] != stop.cell, abs(spot[0] - stop.time), spot))
+        for time, cell in spots:
+            if (0 <= time <= self.diagnosis.layout.steps and module.box.has(cell)
+                and self.table_at(time, cell) == self.carried(stop.name)):
+                yield Proposal("stops", self.moved_stop(module, stop, StopLine(time, stop.name, *cell, 0)))
+        for name in module.local:
+            if name != stop.name and self.table_at(stop.time, stop.cell) == self.carried(name):
+                yield Proposal("stops", (replace(stop.line, str(StopLine(stop.time, name, stop.x, stop.y, 0))),))
+
+    def table_at(self, time: int, cell: Cell) -> Table | None:
+        """Returns the table of a cell in the whole run at a time."""
+        field = self.diagnosis.whole_field(time)
+        return None if field is None else field.live.get(key_of(cell), 0)
+
+    def moved_stop(self, module: Module, old: StopLine, new: StopLine) -> Edits:
+        """Returns the edits that move a stop to its place in the list."""
+        rest = [stop for stop in module.stops if stop is not old]
+        before = [stop for stop in module.stops if stop.place < old.place]
+        if all((stop.place < new.place) == (stop in before) for stop in rest):
+            return (replace(old.line, str(new)),)
+        return delete(old.line), add(place_in_module(self.lines, module.line, str(new)), str(new))
+
+    def stops_of(self, name: str) -> list[tuple[Module, StopLine]]:
+        """Returns the stops of a wire with their modules, in order of time."""
+        found = [(module, stop) for module in self.certificate.modules for stop in module.stops if stop.name == name]
+        return sorted(found, key=lambda pair: pair[1].place)
+
+    def for_delay(self, finding: Finding) -> Iterator[Proposal]:
+        """Yields stops at other times for a delay, stops that are missing, and another number of steps in the circuit.
+        """
+        gate, wanted, found = self.circuit.gates[finding.number("gate")], finding.number(
+            "wanted"), finding.values["found"]
+        used, made = self.stops_of(gate.ins[0]), self.stops_of(gate.outs[0])
+        if used and made:
+            if found == "before":
+                (_, one), (_, two) = used[-1], made[0]
+                yield Proposal("stops", (replace(one.line, str(StopLine(one.time, two.name, one.x, one.y, 0))),
+                                         replace(two.line, str(StopLine(two.time, one.name, two.x, two.y, 0)))))
+            yield from self.retimed(used[-1], made[0][1].time - wanted)
+            yield from self.retimed(made[0], used[-1][1].time + wanted)
+        elif used or made:
+            time = used[-1][1].time + wanted if used else made[0][1].time - wanted
+            yield from self.new_stop(gate.outs[0] if used else gate.ins[0], time)
+        else:
+            for time in range(self.diagnosis.layout.steps - wanted + 1):
+                pairs = [(first, last) for first in self.new_stop(gate.ins[0], time)
+                         for last in self.new_stop(gate.outs[0], time + wanted)]
+                if pairs:
+                    yield Proposal("stops", pairs[0][0].edits + pairs[0][1].edits)
+                    break
+        if isinstance(found, int) and 1 <= found <= 4096:
+            yield Proposal("the steps of a delay",
+                           (replace(gate.line, f"delay {found} {gate.ins[0]} -> {gate.outs[0]}"),))
+
+    def retimed(self, seen: tuple[Module, StopLine], time: int) -> Iterator[Proposal]:
+        """Yields moves of a stop to a time, to the nearest cells of its module at which the whole run has its wire."""
+        module, stop = seen
+        for cell in self.cells_with(stop.name, time, module, stop.cell)[:2]:
+            yield Proposal("stops", self.moved_stop(module, stop, StopLine(time, stop.name, *cell, 0)))
+
+    def cells_with(self, name: str, time: int, module: Module, near: Cell) -> list[Cell]:
+        """Returns the cells of a module that carry a wire at a time, the nearest first."""
+        if not 0 <= time <= self.diagnosis.layout.steps:
+            return []
+        cells = [cell for cell in module.box.cells() if self.table_at(time, cell) == self.carried(name)]
+        return sorted(cells, key=lambda cell: (abs(cell[0] - near[0]) + abs(cell[1] - near[1]), cell))
+
+    def new_stop(self, name: str, time: int) -> Iterator[Proposal]:
+        """Yields a stop of a wire at a time, in a module that knows it."""
+        for module in (module for module in self.certificate.modules if name in module.local):
+            for cell in self.cells_with(name, time, module, (module.box.x, module.box.y))[:1]:
+                text = str(StopLine(time, name, *cell, 0))
+                yield Proposal("stops", (add(place_in_module(self.lines, module.line, text), text),))
+
+    def for_meet(self, finding: Finding) -> Iterator[Proposal]:
+        """Yields stops after which the inputs of a gate have their last stops at one time, or only one of them has
+        stops."""
+        gate = self.circuit.gates[finding.number("gate")]
+        last = {name: self.stops_of(name)[-1] for name in gate.ins if self.stops_of(name)}
+        for name, seen in last.items():
+            for time in dict.fromkeys(stop.time for _, stop in last.values()):
+                yield from self.new_stop(name, time) if time > seen[1].time else self.retimed(seen, time)
+        for name in last:
+            yield Proposal("stops",
+                           tuple(delete(stop.line) for other in last if other != name for _,
+                                 stop in self.stops_of(other)))

@@ -1,0 +1,316 @@
+"""What can be found out about a line of a report: the module's own run, the whole run, and which inputs give an
+assignment.
+
+What was not tried is `Truth.UNKNOWN`. Where the inputs are too many to try all choices, samples are tried: a fault in a
+sample is certain, and so is that a wire differs from a cell in a sample. That no sample has a fault is no proof.
+"""
+
+from dataclasses import dataclass, field
+from enum import Enum
+from functools import cached_property
+from typing import Callable
+
+from ..host.processor import processor_seconds
+from ..physics.simulation import Fault, Field, ModuleRun, Table, WholeRun, cell_of, end_tables, key_of, lowest_bit
+from ..texts.certificates import Module
+from ..texts.circuits import Circuit, Valuation, evaluate, evaluate_samples
+from ..texts.documents import Document
+from ..texts.layouts import Cell, Layout, row_order
+from ..texts.reports import Finding
+
+MAX_INPUTS = 12
+# How many choices of the inputs are tried where they are more than MAX_INPUTS.
+SAMPLES = 256
+# The most steps for which the whole run is made under all inputs or samples, and the most seconds that it takes.
+MAX_STEPS = 5000
+MAX_SECONDS = 20.0
+
+
+class Truth(Enum):
+    """Whether something holds: found out that it does, found out that it does not, or not found out."""
+
+    YES = "yes"
+    NO = "no"
+    UNKNOWN = "unknown"
+
+    @property
+    def json(self) -> bool | None:
+        """The value in a JSON document: `null` stands for unknown."""
+        return None if self is Truth.UNKNOWN else self is Truth.YES
+
+
+@dataclass
+class Occurrence:
+    """Whether an assignment of a module's cuts occurs in the circuit.
+
+    `inputs` is a choice of inputs that gives it, if one was found; `count` of `total` choices do, if all were tried,
+    else both are 0.
+    """
+
+    occurs: Truth
+    inputs: dict[str, int] = field(default_factory=dict)
+    count: int = 0
+    total: int = 0
+
+
+@dataclass
+class Difference:
+    """The first time at which a module's own run differs from the whole one, a cell of it, and the cells that were not
+    heard so."""
+
+    time: int
+    cell: Cell
+    heard_time: int
+    # Cells of the halo whose state differs from what the module hears: the cell, and whether the whole run has it live.
+    unheard: list[tuple[Cell, bool]]
+
+
+@dataclass(frozen=True)
+class Signal:
+    """The signal of a cell at a time: its name if `known` is YES; NO if no wire has the cell's values.
+
+    With samples a name is that of a wire which agrees in all samples.
+    """
+
+    known: Truth
+    name: str = ""
+
+
+@dataclass(frozen=True)
+class WholeOutcome:
+    """Whether some certificate may get a yes: the whole run ends as the layout asks, and its rim is dead at odd times
+    before.
+
+    `fault` says what is wrong, where `is_right` is NO; `is_rim` that it is a live cell of the rim, whatever the circuit
+    asks.
+    """
+
+    is_right: Truth
+    fault: str = ""
+    is_rim: bool = False
+
+    @property
+    def words(self) -> str:
+        """Why no certificate gets a yes, where `is_right` is NO."""
+        if self.is_rim:
+            return (f"In the whole run {self.fault}. At odd times before the end the outermost cells must be dead, so "
+                    "no certificate gets a yes "
+                    "before the layout is changed.")
+        return (f"The layout itself does not do what the circuit asks: {self.fault}. No certificate gets a yes before "
+                "the layout or the circuit "
+                "is changed.")
+
+
+class RimWatch:
+    """Looks at each step of a whole run whether a cell of the rim is live at an odd time before the end, under
+    assignments that count."""
+
+    def __init__(self, layout: Layout, defined: Table) -> None:
+        self.defined, self.steps = defined, layout.steps
+        self.keys = {key_of((x, y)) for x in range(layout.width) for y in (0, layout.height - 1)}
+        self.keys |= {key_of((x, y)) for y in range(layout.height) for x in (0, layout.width - 1)}
+        # The first time, the cell, and under which assignments.
+        self.found: tuple[int, Cell, Table] | None = None
+
+    def look(self, run: WholeRun) -> None:
+        """Looks at the present state. A cell that did not change in two steps was live at the odd time before."""
+        if self.found or run.time % 2 == 0 or run.time >= self.steps:
+            return
+        live = [key for keys in (run.field.changed, run.field.changed_before) for key in keys & self.keys
+                if run.field.live.get(key, 0) & self.defined]
+        if live:
+            self.found = run.time, cell_of(min(live)), run.field.live[min(live)] & self.defined
+
+
+class Diagnosis:
+    """Runs of one document that explain its report. Runs are kept, since several lines ask for the same ones."""
+
+    def __init__(self, document: Document) -> None:
+        assert document.circuit and document.layout and document.certificate
+        self.document = document
+        self.circuit: Circuit = document.circuit
+        self.layout = document.layout
+        self.certificate = document.certificate
+        self.mirrors = self.layout.mirror_cells()
+        # Whether a run of the whole layout took too long.
+        self.is_slow = False
+        self._fields: dict[int, Field | None] = {}
+        # The lines whose causes are looked for by runs; None stands for all.
+        self.detailed: set[str] | None = None
+
+    @cached_property
+    def values(self) -> Valuation:
+        """The tables of all wires over all choices of the inputs, or over samples of them."""
+        if len(self.circuit.inputs) <= MAX_INPUTS:
+            return evaluate(self.circuit, self.circuit.inputs, [gate.number for gate in self.circuit.gates])
+        return evaluate_samples(self.circuit, SAMPLES)
+
+    @property
+    def scope(self) -> str:
+        """In how many choices of the inputs the whole run was tried, in words."""
+        return self.values.scope
+
+    def occurrence(self, module: Module, assignment: int) -> Occurrence:
+        """Returns whether the circuit gives the module's cuts these values, and for which inputs."""
+        inputs, gates = self.circuit.cone(module.cuts)
+        is_all = len(inputs) <= MAX_INPUTS
+        values = evaluate(self.circuit, inputs, gates) if is_all else self.values
+        table = values.full
+        for name, value in module.assignment_names(assignment).items():
+            table &= values.tables[name] if value else values.full ^ values.tables[name]
+        for number in gates:
+            table &= values.rows[number]
+        total = 1 << len(inputs) if is_all else 0
+        if not table:
+            return Occurrence(Truth.NO if is_all else Truth.UNKNOWN, total=total)
+        chosen = lowest_bit(table)
+        given = {name: values.tables[name] >> chosen & 1 for name in inputs}
+        return Occurrence(Truth.YES, given, table.bit_count() if is_all else 0, total)
+
+    def occurring(self, module: Module) -> Table:
+        """Returns a table of assignments of the module's cuts that occur: all of them, or those that occur in the
+        samples."""
+        inputs, gates = self.circuit.cone(module.cuts)
+        values = evaluate(self.circuit, inputs, gates) if len(inputs) <= MAX_INPUTS else self.values
+        columns = values.full
+        for number in gates:
+            columns &= values.rows[number]
+        groups = [(columns, 0)]
+        for index, name in enumerate(module.cuts):
+            table = values.tables[name]
+            groups = [(part, assignment | bit << index) for group, assignment in groups
+                      for part, bit in ((group & table, 1), (group & ~table, 0)) if part]
+        found = 0
+        for _, assignment in groups:
+            found |= 1 << assignment
+        return found
+
+    def occurring_fault(self, module: Module) -> Fault | None:
+        """Returns the least fault of a module's own run under assignments that are known to occur, or None if there is
+        none."""
+        run = ModuleRun(self.circuit, self.layout, self.certificate, module)
+        run.restrict(self.occurring(module))
+        return run.least_fault() if run.full else None
+
+    def module_state(self, module: Module, assignment: int, time: int) -> tuple[set[Cell], set[Cell]]:
+        """Returns the live cells of a module's own run, and the cells of its halo that it hears to be live then."""
+        run = ModuleRun(self.circuit, self.layout, self.certificate, module)
+        run.run_to(time)
+        heard = run.halos.at(time) if time % 2 and time < self.layout.steps else {}
+        return run.field.state(assignment), {cell_of(key) for key, table in heard.items() if table >> assignment & 1}
+
+    def whole_run(self, inputs: dict[str, int]) -> WholeRun:
+        """Returns a new run of the whole layout under a choice of inputs; those not named are off."""
+        return WholeRun(self.layout, {name: value for name, value in inputs.items() if value}, 1)
+
+    def first_difference(self, module: Module, assignment: int, inputs: dict[str, int],
+                         until: int) -> Difference | None:
+        """Returns where a module's own run first differs from the whole one, up to a time."""
+        own, whole = ModuleRun(self.circuit, self.layout, self.certificate, module), self.whole_run(inputs)
+        keys = {key_of(cell) for cell in module.box.cells()}
+        halo = [cell for cell in sorted(module.box.halo(), key=row_order) if self.layout.has(cell)]
+        unheard: list[tuple[Cell, bool]] = []
+        for time in range(until + 1):
+            candidates = own.field.changed | (whole.field.changed & keys) if time else keys
+            differ = [cell_of(key) for key in candidates
+                      if (own.field.live.get(key, 0) >> assignment & 1) != whole.field.live.get(key, 0)]
+            if differ:
+                return Difference(time, min(differ, key=row_order), time - 1, unheard)
+            if time % 2 and time < self.layout.steps:
+                said = own.halos.at(time)
+                unheard = [(cell, bool(whole.field.live.get(key_of(cell)))) for cell in halo
+                           if bool(whole.field.live.get(key_of(cell)))
+                           != bool(said.get(key_of(cell), 0) >> assignment & 1)]
+            if time < until:
+                own.step()
+                whole.step()
+        return None
+
+    def whole_field(self, time: int) -> Field | None:
+        """Returns the whole run under the tried inputs at a time, or None where it is too long or leaves the rectangle
+        before."""
+        if time not in self._fields:
+            run = self.whole_run_to(time)
+            self._fields[time] = run.field if run and run.left is None else None
+        return self._fields[time]
+
+    def whole_run_to(self, time: int, look: Callable[[WholeRun], None] = lambda _: None) -> WholeRun | None:
+        """Returns the whole run under the tried inputs at a time, or at the step that leaves the rectangle; None where
+        it is too long.
+
+        `look` is called after each step.
+        """
+        if not self.can_run_whole():
+            return None
+        run, end = WholeRun(self.layout, self.values.tables, self.values.full), processor_seconds() + MAX_SECONDS
+        while run.time < time and run.step():
+            look(run)
+            if processor_seconds() > end:
+                self.is_slow = True
+                return None
+        return run
+
+    def signal_for(self, table: Table) -> Signal:
+        """Returns the signal that is true in just these choices of the inputs:
+
+        `1`, a wire, or `0` where it is never true.
+        """
+        if not table:
+            return Signal(Truth.YES, "0")
+        if table == self.values.full:
+            return Signal(Truth.YES, "1")
+        name = next((name for name, other in self.values.tables.items() if other == table), None)
+        return Signal(Truth.NO) if name is None else Signal(Truth.YES, name)
+
+    def signal_of(self, cell: Cell, time: int) -> Signal:
+        """Returns the signal of a cell in the whole run at a time."""
+        field_ = self.whole_field(time)
+        return Signal(Truth.UNKNOWN) if field_ is None else self.signal_for(field_.live.get(key_of(cell), 0))
+
+    def can_run_whole(self) -> bool:
+        """Whether a run of the whole layout under all inputs, or under samples, takes seconds at most."""
+        return self.layout.steps <= MAX_STEPS and not self.is_slow
+
+    @cached_property
+    def outcome(self) -> WholeOutcome:
+        """Whether the whole run ends as the layout asks with a dead rim, whatever the certificate says."""
+        values, rim = self.values, RimWatch(self.layout, self.values.defined)
+        run = self.whole_run_to(self.layout.steps, rim.look)
+        if run is None:
+            return WholeOutcome(Truth.UNKNOWN)
+        if run.left is not None:
+            inputs = self.inputs_of(lowest_bit(run.left[1]))
+            return WholeOutcome(Truth.NO,
+                                f"with {inputs} step {run.left[0]} makes the cell ({run.left[2][0]}, {run.left[2][1]}) "
+                                          "outside the rectangle live")
+        wanted = {key_of(cell): table for cell, table in end_tables(self.layout, values.tables, values.full).items()}
+        for key in sorted(wanted.keys() | run.field.live.keys()):
+            table = wanted.get(key, 0)
+            differs = 0 if table is None else (table ^ run.field.live.get(key, 0)) & values.defined
+            if differs:
+                inputs, (x, y) = self.inputs_of(lowest_bit(differs)), cell_of(key)
+                is_live = run.field.live.get(key, 0) >> lowest_bit(differs) & 1
+                found, asked = ("live", "dead") if is_live else ("dead", "live")
+                return WholeOutcome(Truth.NO,
+                                    f"with {inputs} the cell ({x}, {y}) is {found} at the end and should be {asked}")
+        if rim.found:
+            time, (x, y), table = rim.found
+            return WholeOutcome(Truth.NO, f"with {self.inputs_of(lowest_bit(table))} the cell ({x}, {y}) of the rim is "
+                                f"live at time {time}", True)
+        return WholeOutcome(Truth.YES if values.is_all else Truth.UNKNOWN)
+
+    def inputs_of(self, column: int) -> str:
+        """Returns a tried choice of inputs as `p=1 q=0`; of many inputs only those that are on."""
+        names = self.circuit.inputs
+        if not names:
+            return "no inputs"
+        if len(names) <= MAX_INPUTS:
+            return " ".join(f"{name}={self.values.tables[name] >> column & 1}" for name in names)
+        on = self.values.names_of(column)
+        shown = " ".join(f"{name}=1" for name in on[:MAX_INPUTS])
+        return f"{len(on)} of the {len(names)} inputs on" + (f" ({shown}{' ..' if len(on) > MAX_INPUTS else ''})" if on
+                                                             else "")
+
+    def module_of(self, finding: Finding) -> Module:
+        """Returns the module of a line of a report."""
+        return self.certificate.modules[finding.number("module")]

@@ -1,0 +1,393 @@
+"""Explains what the program answers to a text: a report line by line, or a refusal."""
+
+import json
+import re
+from dataclasses import asdict, dataclass, field, replace
+
+from ..host.terminal import escape_controls
+from ..physics.mirrors import falling_mirrors
+from ..texts.certificates import Certificate, StopLine
+from ..texts.circuits import Circuit
+from ..texts.code_names import CODE_NAMES
+from ..texts.designs import require_report_of
+from ..texts.documents import Document, read_document
+from ..texts.refusals import Explained, explain_code, explain_refusal, listed
+from ..texts.reports import RUN_ANSWER, Finding, Report, ReportError, parse_report
+from .diagnosis import MAX_STEPS, Diagnosis, Truth
+from .edits import Edit
+from .faults import Entry, assignment_words, explain_border, explain_keep, explain_local, shown
+from .fixing import Fix, Fixer, outcome_words
+from .trials import Trial
+
+# Of how many modules the faults are told in full, with runs and pictures, and for how many lines of a report a fix is
+# looked for.
+MAX_DETAILED = 12
+# How many mirrors that fall apart are named.
+MAX_MIRRORS = 3
+
+# What the other commands of the program write.
+ANSWERS = {"run": RUN_ANSWER, "value": re.compile(r"([a-z]\w* [01]\n)*(undefined \d+\n)?"),
+           "modules": re.compile(r"(module .*\n)+"), "migrate": re.compile(r"circuit\n.*end\n", re.DOTALL)}
+
+
+@dataclass
+class FixForm:
+    """A fix as a document has it: its edits, whether the certificate is made again after them, who was asked, the
+    verdict, and sentences."""
+
+    edits: list[Edit]
+    certificate_again: bool
+    judge: str
+    verdict: str
+    words: list[str]
+    # Other fixes of the same size with the same verdict, each in sentences.
+    others: list[list[str]] = field(default_factory=list)
+
+
+@dataclass
+class Explanation:
+    """An answer in words. A refusal has `refused` and no entries."""
+
+    file: str
+    command: str
+    headline: list[str]
+    verdict: str
+    entries: list[Entry] = field(default_factory=list)
+    refused: Explained | None = None
+    line: int = 0
+    code: int = 0
+    line_text: str = ""
+    # A fix of the whole text, and what was tried if there is none.
+    fix: FixForm | None = None
+    tried: list[str] = field(default_factory=list)
+    # The text with the fix. JSON documents leave it out.
+    fixed: str | None = None
+
+
+def stops_of(diagnosis: Diagnosis, wire: str) -> list[StopLine]:
+    """Returns the stops of a wire in all modules, in order of time."""
+    found = [stop for module in diagnosis.certificate.modules for stop in module.stops if stop.name == wire]
+    return sorted(found, key=lambda stop: stop.place)
+
+
+def stop_words(diagnosis: Diagnosis, wire: str, which: int) -> str:
+    """Returns the first (0) or last (-1) stop of a wire in words."""
+    stops = stops_of(diagnosis, wire)
+    if not stops:
+        return f"`{wire}` has no stop"
+    name = "first" if which == 0 else "last"
+    return f"the {name} stop of `{wire}` is line {stops[which].line} (`{stops[which]}`)"
+
+
+def explain_delay(diagnosis: Diagnosis, finding: Finding) -> Entry:
+    """Returns a `delay` line in words."""
+    gate, found, wanted = diagnosis.circuit.gates[finding.number("gate")], finding.values["found"], finding.values[
+        "wanted"]
+    used, made = gate.ins[0], gate.outs[0]
+    seen = f"{stop_words(diagnosis, used, -1)}, and {stop_words(diagnosis, made, 0)}"
+    entry = Entry(finding.text, finding.is_against,
+                  [f"Gate {gate.number} is `delay {wanted} {used} -> {made}` (line {gate.line}): {seen}."],
+                  line=gate.line, facts={"gate": gate.number, "wanted": wanted, "found": found})
+    if not finding.is_against:
+        entry.what.append(f"So the delay takes {found} steps, as it says.")
+    elif found == "missing":
+        missing = [wire for wire in (used, made) if not stops_of(diagnosis, wire)]
+        entry.what.append(f"So nothing shows how long the delay takes: there is no stop for {listed(missing)}.")
+    elif found == "before":
+        entry.what.append("So the output is seen before the input.")
+    else:
+        entry.what.append(f"So the delay takes {found} steps by its stops, and {wanted} by the circuit.")
+    return entry
+
+
+def explain_meet(diagnosis: Diagnosis, finding: Finding) -> Entry:
+    """Returns a `meet` line in words."""
+    gate = diagnosis.circuit.gates[finding.number("gate")]
+    seen = [(wire, stops_of(diagnosis, wire)[-1]) for wire in gate.ins if stops_of(diagnosis, wire)]
+    told = ", ".join(f"`{wire}` at time {stop.time} (line {stop.line})" for wire, stop in seen)
+    entry = Entry(finding.text, finding.is_against, [f"Inputs of gate {gate.number} (`{gate.word}`, line {gate.line}) "
+                                                     f"have their last stops: {told}."],
+                  line=seen[0][1].line if seen else None,
+                  facts={"gate": gate.number, "last_stops": {wire: stop.time for wire, stop in seen}})
+    if not finding.is_against:
+        entry.what.append(f"So they meet at time {finding.values['found']}.")
+        return entry
+    entry.what.append("So they do not meet at one time.")
+    return entry
+
+
+def explain_unkept(diagnosis: Diagnosis, finding: Finding) -> Entry:
+    """Returns an `unkept` line in words."""
+    gate = diagnosis.circuit.gates[finding.number("gate")]
+    users = [module.number for module in diagnosis.certificate.modules if gate.number in module.uses]
+    entry = Entry(finding.text, True, [f"No module has a line `keep {gate.number}` for the inverse gate {gate.number} "
+                                       f"(`{gate.word}`, line {gate.line})."],
+                  line=gate.line, cause="unkept", facts={"gate": gate.number, "modules_that_use_it": users})
+    used = f"Modules that use it: {', '.join(map(str, users))}." if users else "No module uses it."
+    entry.what.append(used)
+    return entry
+
+
+EXPLAINERS = {"local": explain_local, "keep": explain_keep, "border": explain_border, "unkept": explain_unkept,
+              "delay": explain_delay, "meet": explain_meet}
+
+
+def explain_report(document: Document, report: Report, file: str, trial: Trial | None = None) -> Explanation:
+    """Returns a report in words, with fixes if there is somebody who tries them."""
+    if report.refused:
+        return explain_refused(document, report, file, trial)
+    if document.certificate is None or document.refusal:
+        raise ReportError("the report is not of this text: the lab's reader refuses the text")
+    require_report_of(document, report)
+    diagnosis = Diagnosis(document)
+    faults = sorted((finding for finding in report.faults if finding.word == "local"),
+                    key=lambda finding: finding.number("time"))
+    diagnosis.detailed = {finding.text for finding in faults[:MAX_DETAILED]}
+    entries = [EXPLAINERS[finding.word](diagnosis, finding) for finding in report.findings]
+    count = len(report.faults)
+    if report.verdict == "yes":
+        headline = [yes_words(len(diagnosis.circuit.inputs))]
+    else:
+        headline = [f"The verdict is no, for {count} reason{'s' if count != 1 else ''}."]
+        if len(faults) > 1:
+            headline.append(f"Begin with `{faults[0].text}`, which has the least time: others may come of it.")
+        headline += mirror_words(diagnosis)
+        headline += whole_run_words(diagnosis, report.faults)
+    headline.append(f"The certificate has {report.modules} module{'s' if report.modules != 1 else ''}; its digest is "
+                    f"{report.digest[:16]}..")
+    explanation = Explanation(file, "check", headline, report.verdict, entries)
+    if trial and report.verdict == "no":
+        add_fixes(explanation, diagnosis, report, trial)
+    return explanation
+
+
+def yes_words(count: int) -> str:
+    """Returns what a yes means for a circuit with a number of inputs."""
+    if count == 0:
+        return "The verdict is yes: the layout computes the circuit, which has no inputs."
+    if count == 1:
+        return "The verdict is yes: for both values of its input the layout computes the circuit."
+    return f"The verdict is yes: for each choice of the {count} inputs the layout computes the circuit."
+
+
+def mirror_words(diagnosis: Diagnosis) -> list[str]:
+    """Returns which mirrors fall apart by themselves."""
+    fallen = falling_mirrors(diagnosis.layout)
+    words = [f"The mirror of line {mirror.part.line} (`{diagnosis.document.line(mirror.part.line)}`) falls apart by "
+             f"itself: step {mirror.step} "
+             f"moves its cell {shown(mirror.cell)}." for mirror in fallen[:MAX_MIRRORS]]
+    if len(fallen) > MAX_MIRRORS:
+        words.append(f"{len(fallen) - MAX_MIRRORS} more mirrors do.")
+    if fallen:
+        words.append("A mirror stays if its width and height are even and its upper left cell has exactly one odd "
+                     "coordinate.")
+    return words
+
+
+def add_fixes(explanation: Explanation, diagnosis: Diagnosis, report: Report, trial: Trial) -> None:
+    """Adds a fix of the whole text and fixes of lines of the report; each was tried."""
+    trial.begin_search()
+    fixer = Fixer(diagnosis.document.text, report, trial, diagnosis)
+    whole = fixer.find()
+    if whole:
+        explanation.fix, explanation.fixed = fix_form(report, whole), whole.text
+    else:
+        explanation.tried = tried_words(fixer, trial)
+    left = {finding.text for finding in whole.report.faults} if whole else set()
+    detailed = [finding for finding in report.faults if finding.word != "local"
+                or finding.text in (diagnosis.detailed or ())][:MAX_DETAILED]
+    entries = {entry.report_line: entry for entry in explanation.entries}
+    for finding in detailed:
+        fix = fixer.find_for(diagnosis, finding)
+        if fix and not (whole and whole.text == fix.text):
+            entries[finding.text].fixes = fix_form(report, fix).words
+        elif whole and finding.text not in left and explanation.fix:
+            entries[finding.text].fixes = explanation.fix.words
+
+
+def fix_form(before: Report, fix: Fix) -> FixForm:
+    """Returns a fix as a document has it."""
+    return FixForm(fix.edits, fix.remakes, fix.judge, fix.report.verdict, [*fix.words, outcome_words(before, fix)],
+                   fix.others)
+
+
+def tried_words(fixer: Fixer, trial: Trial) -> list[str]:
+    """Returns what was tried in vain."""
+    is_cut_short = fixer.is_cut_short or trial.is_over()
+    end = " The search was ended by a limit, so some edits were not tried." if is_cut_short else ""
+    kinds = [f"Kinds of edits that the search came to: {'; '.join(fixer.kinds)}."] if fixer.kinds else []
+    return [f"No fix was found. {trial.tries} text{'s were' if trial.tries != 1 else ' was'} checked by "
+            f"{trial.judge}.{end}", *kinds]
+
+
+def whole_run_words(diagnosis: Diagnosis, faults: list[Finding]) -> list[str]:
+    """Returns whether the whole run ends as the layout asks with a dead rim: a sentence for yes, no, and what was not
+    found out."""
+    outcome, values = diagnosis.outcome, diagnosis.values
+    if outcome.is_right is Truth.NO:
+        return [outcome.words]
+    if not diagnosis.can_run_whole():
+        why = "it takes too long" if diagnosis.is_slow else f"it is longer than {MAX_STEPS} steps"
+        return [f"The whole run was not tried to its end here: {why}."]
+    if values.defined != values.full:
+        return ["The circuit has no values under some choices of its inputs. Under the others that were tried "
+                f"({diagnosis.scope}) the whole run "
+                "ends as the layout asks."]
+    tried = f"The whole run was tried here {diagnosis.scope}: it ends as the layout asks"
+    if outcome.is_right is Truth.UNKNOWN:
+        return [f"{tried}. The other choices were not tried."]
+    is_certificate = any(finding.word in ("local", "border") for finding in faults)
+    return [f"{tried}, so the fault is in the certificate." if is_certificate else f"{tried}."]
+
+
+def missing_certificate_words(document: Document) -> list[str]:
+    """Returns whether a certificate would help a design that has none: the whole run shows it, whatever certificate
+    there is."""
+    design = replace(document, certificate=Certificate(2, []))
+    if design.circuit is None or design.layout is None or document.certificate and document.certificate.modules:
+        return []
+    outcome = Diagnosis(design).outcome
+    if outcome.is_right is Truth.NO:
+        return [outcome.words]
+    return ["The text has no certificate. In the choices of the inputs that were tried the whole run ends as the "
+            "layout asks."]
+
+
+def explain_refused(document: Document, report: Report, file: str, trial: Trial | None = None) -> Explanation:
+    """Returns a refusal in words. Where the lab's reader does not come to the same line and code, only these are told.
+    """
+    assert report.refused
+    (line, code), refusal = report.refused, document.refusal
+    same = refusal is not None and (refusal.line, refusal.code) == (line, code)
+    told = explain_refusal(document, refusal) if same and refusal else explain_code(line, code)
+    explanation = Explanation(file, document.command, [f"The text was refused: line {line}, code {code}."], "refused",
+                              refused=told, line=line,
+                              code=code, line_text=document.line(line))
+    if refusal and same and refusal.cause == "text_ended" and refusal.facts["section"] == "certificate":
+        explanation.headline += missing_certificate_words(document)
+    if trial and same and document.command == "check":
+        fixer = Fixer(document.text, report, trial)
+        fix = fixer.find()
+        if fix:
+            explanation.fix, explanation.fixed = fix_form(report, fix), fix.text
+        else:
+            explanation.tried = tried_words(fixer, trial)
+    return explanation
+
+
+def explain_run(document: Document, output: str, file: str) -> Explanation:
+    """Returns the answer of `run` in words."""
+    word, count = output.split("\n", 1)[0].split(" ")
+    on = listed(document.on or []) or "none of the inputs"
+    if word == "cells":
+        headline = [f"With {on} on, {count} cells are live after {document.layout.steps if document.layout else 0} "
+                    "steps, all in the rectangle."]
+    else:
+        headline = [f"With {on} on, step {count} makes a cell outside the rectangle live.",
+                    "A ball leaves: put a mirror on its way, make the layout larger, or take fewer steps."]
+    return Explanation(file, "run", headline, word)
+
+
+def undefined_gate(circuit: Circuit, output: str) -> int | None:
+    """Returns the gate without a row that an answer of `value` ends with, or None.
+
+    A wire can have the name `undefined` too.
+    """
+    lines = output.splitlines()
+    is_gate = bool(lines) and lines[-1].startswith("undefined ") and len(lines) < len(circuit.defined)
+    return int(lines[-1].split(" ")[1]) if is_gate else None
+
+
+def explain_value(document: Document, output: str, file: str) -> Explanation:
+    """Returns the answer of `value` in words."""
+    assert document.circuit
+    number = undefined_gate(document.circuit, output)
+    values = dict(line.split(" ") for line in output.splitlines()[:None if number is None else -1])
+    true = listed([name for name, value in values.items() if value == "1"], 40) or "none"
+    headline = [f"With {listed(document.on or []) or 'none of the inputs'} on, these wires are true: {true}."]
+    if number is not None:
+        gate = document.circuit.gates[number]
+        headline.append(f"Gate {gate.number} (`{gate.word}`, line {gate.line}) has no row for "
+                        f"{assignment_words({n: int(values[n]) for n in gate.ins})}: "
+                        "the gate that it turns back never gives these values.")
+    return Explanation(file, "value", headline, "values" if number is None else "undefined")
+
+
+def explain_listing(command: str, output: str, file: str) -> Explanation:
+    """Returns the answer of `modules` or `migrate`, which refused nothing, in words."""
+    if command == "modules":
+        count = len(output.splitlines())
+        modules = "one module" if count == 1 else f"{count} modules"
+        return Explanation(file, command, [f"The text is read, and its certificate has {modules}."], "read")
+    return Explanation(file, command, ["The text is read, and the program wrote it with a certificate of version 2."],
+                       "read")
+
+
+def require_answer(document: Document, output: str) -> None:
+    """Refuses what no command of the program writes, and an answer to another text: the answer can come from a file."""
+    if not ANSWERS[document.command].fullmatch(output):
+        raise ReportError(f"this is no answer of `bbmcheck {document.command}`")
+    if document.refusal:
+        raise ReportError("the answer is not of this text: the lab's reader refuses the text")
+    circuit = document.circuit
+    number = undefined_gate(circuit, output) if document.command == "value" and circuit else None
+    if circuit and number is not None:
+        names = {line.split(" ")[0] for line in output.splitlines()[:-1]}
+        if number >= len(circuit.gates) or not set(circuit.gates[number].ins) <= names:
+            raise ReportError("the answer is not of this text: it names a gate that the text does not have there")
+
+
+def explain_answer(text: str, command: str, output: str, file: str, trial: Trial | None = None,
+                   known: Document | None = None) -> Explanation:
+    """Returns what a command of the program wrote, in words. Fixes are looked for only if there is a trial.
+
+    `known` is the text as it was read already, if it was.
+    """
+    document = known if known and (known.text, known.command) == (text, command) else read_document(text, command)
+    if output.startswith("refused ") or command == "check":
+        return explain_report(document, parse_report(output), file, trial)
+    require_answer(document, output)
+    if command in ("modules", "migrate"):
+        return explain_listing(command, output, file)
+    return explain_run(document, output, file) if command == "run" else explain_value(document, output, file)
+
+
+def own_answer(text: str, command: str) -> str | None:
+    """Returns the refusal of the lab's own reader as the program writes it, or None where it takes the text."""
+    refusal = read_document(text, command).refusal
+    return f"refused {refusal.line} {refusal.code}\n" if refusal else None
+
+
+def as_json(explanation: Explanation) -> str:
+    """Writes an explanation as one JSON document."""
+    members = asdict(explanation)
+    del members["fixed"]
+    if explanation.refused:
+        members["code_name"] = CODE_NAMES.get(explanation.code, "")
+    return json.dumps({"format": "bbmlab explanation 2", **members}, indent=2, ensure_ascii=True)
+
+
+def as_gcc(explanation: Explanation) -> list[str]:
+    """Writes an explanation as `file:line: error: text` lines for editors.
+
+    A control character, also one of the file's name, is an escape.
+    """
+    if explanation.refused:
+        hints = [] if explanation.fix else [f"Hint: {hint}" for hint in explanation.refused.hints[:1]]
+        text = " ".join([*explanation.refused.what, *fix_words(explanation.fix.words if explanation.fix else []),
+                         *hints])
+        return [escape_controls(f"{explanation.file}:{explanation.line}: error: {text} [code {explanation.code}]")]
+    return [escape_controls(f"{explanation.file}:{line_of(entry)}: error: "
+                            f"{' '.join([*entry.what, *fix_words(entry.fixes)])} "
+                  f"[{entry.report_line}]")
+            for entry in explanation.entries if entry.is_against]
+
+
+def line_of(entry: Entry) -> int:
+    """Returns the line of the text that an editor shows for a line of the report: its own, else that of its module."""
+    return entry.line or int(entry.facts.get("module_line", 1))
+
+
+def fix_words(fixes: list[str]) -> list[str]:
+    """Returns the sentences of a fix with the word `Fix:` before the first."""
+    return [f"Fix: {fixes[0]}", *fixes[1:]] if fixes else []

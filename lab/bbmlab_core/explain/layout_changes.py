@@ -1,0 +1,434 @@
+"""Changes of a design that are tried where its whole run does not end as the layout asks: a few lines of the layout or
+of the circuit.
+
+Each kind of change is a generator. A change that passes `Bench.holds` ends as the layout asks, in the choices of the
+inputs that were tried; the program decides.
+"""
+
+from dataclasses import dataclass, replace as with_fields
+from functools import cached_property
+from typing import Iterable, Iterator
+
+from ..host.processor import processor_seconds
+from ..physics.simulation import Table, WholeRun, cell_of, end_tables, key_of
+from ..texts.circuits import Circuit, Gate, Valuation, evaluate, evaluate_under, sampled_tables
+from ..texts.layouts import Cell, Layout, Part, cells_of
+from ..texts.limits import limits_of
+from .diagnosis import MAX_INPUTS, MAX_STEPS
+from .edits import Edit, add, delete, place_in_section, replace
+from .meeting_places import meeting_places, start_before
+
+# How many choices of the inputs are tried first.
+SAMPLES = 20
+# The most lines of one change.
+MAX_LINES = 8
+# How far from a place that is likely wrong a mirror is added, in cells.
+NEAR = 2
+# The kinds of parts that take a cell at the start, and at the end.
+STARTS, ENDS = ("mirror", "ball", "in"), ("mirror", "out", "waste")
+
+
+@dataclass(frozen=True)
+class Change:
+    """A change of a design: the edits of its text, and the design after them."""
+
+    edits: tuple[Edit, ...]
+    circuit: Circuit
+    layout: Layout
+
+
+def part_text(part: Part) -> str:
+    """Writes the line of a part."""
+    sides = f" {part.width} {part.height}" if part.kind == "mirror" else ""
+    return f"{part.kind}{f' {part.name}' if part.name else ''} {part.x} {part.y}{sides}"
+
+
+def few_values(circuit: Circuit) -> Valuation:
+    """Returns the tables of all wires in at most 20 choices of the inputs, all of them if they are few."""
+    gates = [gate.number for gate in circuit.gates]
+    if 1 << len(circuit.inputs) <= SAMPLES:
+        return evaluate(circuit, circuit.inputs, gates)
+    values = evaluate_under(circuit, sampled_tables(circuit.inputs, SAMPLES), (1 << SAMPLES) - 1, gates)
+    values.is_all = False
+    return values
+
+
+def wrong_cells(circuit_values: Valuation, layout: Layout, live: dict[int, Table]) -> dict[int, Table]:
+    """Returns the cells that do not end as the layout asks, with the columns in which they do not."""
+    wanted = {key_of(cell): table for cell,
+              table in end_tables(layout, circuit_values.tables, circuit_values.full).items()}
+    wrong = {}
+    for key in wanted.keys() | live.keys():
+        table = wanted.get(key, 0)
+        differs = 0 if table is None else (table ^ live.get(key, 0)) & circuit_values.defined
+        if differs:
+            wrong[key] = differs
+    return wrong
+
+
+class Bench:
+    """A design, its run under few choices of the inputs, and the changes that are tried on it."""
+
+    def __init__(self, text: str, circuit: Circuit, layout: Layout, seconds: float = 20.0,
+                 near: Cell | None = None) -> None:
+        self.circuit, self.layout, self.lines, self.limits = circuit, layout, text.split("\n"), limits_of(text)
+        self.end = processor_seconds() + seconds
+        # The cell at which the first fault was found; what lies near it is tried first.
+        self.near = near
+        self.tried = 0
+        self.values = few_values(circuit)
+        self.all_values = self.values if self.values.is_all or len(circuit.inputs) > MAX_INPUTS else \
+            evaluate(circuit, circuit.inputs, [gate.number for gate in circuit.gates])
+        self.touched: dict[int, int] = {}
+        self.last = self.final(layout, self.values, notes=True)
+
+    def is_over(self) -> bool:
+        """Whether the seconds are used up, or a run would be too long."""
+        return processor_seconds() > self.end or self.layout.steps > MAX_STEPS
+
+    def final(self, layout: Layout, values: Valuation, notes: bool = False) -> dict[int, Table] | None:
+        """Returns the live cells after the last step, or None if a step leaves the rectangle or the seconds are used
+        up."""
+        run = WholeRun(layout, values.tables, values.full)
+        while run.time < layout.steps:
+            if not run.step() or self.is_over():
+                return None
+            if notes:
+                for key in run.field.changed:
+                    self.touched.setdefault(key, run.time)
+        return run.field.live
+
+    def holds(self, change: Change) -> bool:
+        """Whether the changed design ends as its layout asks, first in few choices of the inputs, then in all if they
+        are at most 4096."""
+        self.tried += 1
+        for all_of_them in (False, True):
+            if change.circuit is self.circuit:
+                values = self.all_values if all_of_them else self.values
+            else:
+                values = few_values(change.circuit) if not all_of_them or len(self.circuit.inputs) > MAX_INPUTS else \
+                    evaluate(change.circuit, change.circuit.inputs, [gate.number for gate in change.circuit.gates])
+            live = self.final(change.layout, values)
+            if live is None or wrong_cells(values, change.layout, live):
+                return False
+            if self.values.is_all:
+                return True
+        return True
+
+    @cached_property
+    def taken(self) -> tuple[dict[Cell, Part], dict[Cell, Part]]:
+        """The parts that take cells at the start, and those that take cells at the end."""
+        starts = {cell: part for part in self.layout.parts if part.kind in STARTS for cell in part.cells()}
+        ends = {cell: part for part in self.layout.parts if part.kind in ENDS for cell in part.cells()}
+        return starts, ends
+
+    def is_possible(self, new: list[Part], removed: set[Part]) -> bool:
+        """Whether new parts lie in the rectangle and share no cell that only one part may take."""
+        for kinds, taken in zip((STARTS, ENDS), self.taken):
+            cells = [cell for part in new if part.kind in kinds for cell in part.cells()]
+            if len(set(cells)) < len(cells) or any(cell in taken and taken[cell] not in removed for cell in cells):
+                return False
+        return all(min(part.x, part.y) >= 0 and part.x + part.width <= self.layout.width
+                   and part.y + part.height <= self.layout.height
+                   for part in new)
+
+    def changed(self, swaps: dict[Part, Part], more: Iterable[Part] = (), gone: Iterable[Part] = ()) -> Change | None:
+        """Returns the change that moves parts, adds some and drops some; None if cells would be taken twice or lie
+        outside."""
+        dropped, added = set(gone), list(more)
+        if not self.is_possible([*swaps.values(), *added], dropped | swaps.keys()):
+            return None
+        parts = [swaps.get(part, part) for part in self.layout.parts if part not in dropped] + added
+        edits = [replace(part.line, part_text(new)) for part, new in swaps.items()]
+        edits += [delete(part.line) for part in dropped]
+        edits += [add(place_in_section(self.lines, "layout", part_text(part)), part_text(part)) for part in added]
+        return Change(tuple(edits), self.circuit, with_fields(self.layout, parts=parts))
+
+    @cached_property
+    def places(self) -> list[Cell]:
+        """The cells at which something is likely wrong: where the run and the run backwards from the wanted end are
+        nearest to each other."""
+        return [] if self.is_over() else meeting_places(self.layout, self.values)
+
+    def distance(self, part: Part) -> int:
+        """Returns how far a part lies from the places at which something is likely wrong, or from the first fault."""
+        cells = self.places or ([self.near] if self.near else [])
+        return min((max(part.x - cell[0], cell[0] - part.x - part.width + 1, part.y - cell[1],
+                        cell[1] - part.y - part.height + 1)
+                    for cell in cells), default=0)
+
+
+def shifted(part: Part, dx: int, dy: int) -> Part:
+    """Returns a part at another place."""
+    return with_fields(part, x=part.x + dx, y=part.y + dy)
+
+
+# ---- the circuit and the ports, by the run that there is
+
+def circuit_changes(bench: Bench) -> Iterator[Change]:
+    """Yields changes of one gate line: two outputs or two inputs exchanged, the other bit of a source, `fredkin` for
+    `cswap`."""
+    for gate in bench.circuit.gates:
+        texts = [gate_text(gate, ins, outs, word, bit) for word, bit, ins, outs in gate_forms(gate)]
+        for text, (word, bit, ins, outs) in zip(texts, gate_forms(gate)):
+            changed = with_gate(bench.circuit, with_fields(gate, word=word, parameter=bit, ins=ins, outs=outs))
+            yield Change((replace(gate.line, text),), changed, bench.layout)
+
+
+def gate_forms(gate: Gate) -> Iterator[tuple[str, int | None, list[str], list[str]]]:
+    """Yields other forms of a gate: its word, its parameter, its inputs and its outputs."""
+    if gate.word == "source":
+        yield gate.word, 1 - (gate.parameter or 0), gate.ins, gate.outs
+    for one in range(len(gate.outs)):
+        for two in range(one + 1, len(gate.outs)):
+            yield gate.word, gate.parameter, gate.ins, exchanged(gate.outs, one, two)
+    for one in range(len(gate.ins)):
+        for two in range(one + 1, len(gate.ins)):
+            yield gate.word, gate.parameter, exchanged(gate.ins, one, two), gate.outs
+    if gate.word in ("fredkin", "cswap"):
+        yield "cswap" if gate.word == "fredkin" else "fredkin", None, gate.ins, gate.outs
+
+
+def exchanged(names: list[str], one: int, two: int) -> list[str]:
+    """Returns names with two of them exchanged."""
+    result = list(names)
+    result[one], result[two] = names[two], names[one]
+    return result
+
+
+def gate_text(gate: Gate, ins: list[str], outs: list[str], word: str, parameter: int | None) -> str:
+    """Writes a gate line."""
+    number = [] if parameter is None else [str(parameter)]
+    return " ".join([word, *number, *ins, "->", *outs])
+
+
+def with_gate(circuit: Circuit, gate: Gate) -> Circuit:
+    """Returns a circuit with another gate in the place of the one of that number."""
+    gates = [gate if other.number == gate.number else other for other in circuit.gates]
+    return with_fields(circuit, gates=gates, maker={name: other for other in gates for name in other.outs})
+
+
+def port_changes(bench: Bench, reach: int | None, is_exchange: bool = False) -> Iterator[Change]:
+    """Yields the change that puts each wrong `out` where its output is at the end, at most `reach` cells away, and
+    `waste` for what is left.
+
+    If `is_exchange`, the wrong `out` lines only take each other's cells.
+    """
+    if bench.last is None:
+        return
+    wrong = wrong_cells(bench.values, bench.layout, bench.last)
+    outs = [part for part in bench.layout.of_kind("out") if key_of(part.cell) in wrong]
+    taken = {part.cell for part in bench.layout.of_kind("out") if part not in outs} | bench.layout.mirror_cells()
+    places = [(cell_of(key), table) for key, table in sorted(bench.last.items()) if bench.layout.has(cell_of(key))]
+    own = {part.cell for part in outs}
+    swaps: dict[Part, Part] = {}
+    for part in outs:
+        table = bench.values.tables[part.name or ""]
+        cells = [cell for cell, other in places if other == table and cell not in taken
+                 and (not is_exchange or cell in own)
+                 and (reach is None or max(abs(cell[0] - part.x), abs(cell[1] - part.y)) <= reach)]
+        cell = min(cells, key=lambda place: (abs(place[0] - part.x) + abs(place[1] - part.y)), default=None)
+        if cell is None:
+            return
+        taken.add(cell)
+        swaps[part] = shifted(part, cell[0] - part.x, cell[1] - part.y)
+    covered = {part.cell for part in bench.layout.of_kind("waste")}
+    freed = [part for part in bench.layout.of_kind("waste") if part.cell in {new.cell for new in swaps.values()}]
+    wastes = [left_over(bench, cell, table) for cell, table in places if key_of(cell) in wrong
+              and cell not in taken | covered]
+    if len(swaps) + len(wastes) + len(freed) <= MAX_LINES and (swaps or wastes):
+        change = bench.changed(swaps, wastes, freed)
+        if change:
+            yield change
+
+
+def left_over(bench: Bench, cell: Cell, table: Table) -> Part:
+    """Returns the part for a ball that no line asks for: the second cell of an `out`, or else `waste`."""
+    name = next((part.name for part in bench.layout.of_kind("out")
+                 if abs(part.x - cell[0]) == abs(part.y - cell[1]) == 2
+                 and bench.values.tables[part.name or ""] == table), None)
+    return Part("waste" if name is None else "out", name, *cell, 1, 1, 0)
+
+
+def missing_port_changes(bench: Bench) -> Iterator[Change]:
+    """Yields the change that gives each output without a cell the live cells that have its value at the end and that no
+    line asks for."""
+    if bench.last is None:
+        return
+    wrong = wrong_cells(bench.values, bench.layout, bench.last)
+    named = {part.name for part in bench.layout.of_kind("out")}
+    new: list[Part] = []
+    for name in (name for name in bench.circuit.outputs if name not in named):
+        cells = [cell_of(key) for key in sorted(wrong) if bench.last.get(key) == bench.values.tables[name]
+                 and bench.layout.has(cell_of(key))]
+        new += [Part("out", name, *cell, 1, 1, 0) for cell in cells if cell not in {part.cell for part in new}]
+    if new and len(new) <= MAX_LINES:
+        change = bench.changed({}, new)
+        if change:
+            yield change
+
+
+def exchange_changes(bench: Bench) -> Iterator[Change]:
+    """Yields exchanges of the names of two wrong outputs, whatever the number of their cells."""
+    if bench.last is None:
+        return
+    wrong = wrong_cells(bench.values, bench.layout, bench.last)
+    outs = bench.layout.of_kind("out")
+    names = sorted({part.name or "" for part in outs if key_of(part.cell) in wrong})
+    for index, one in enumerate(names):
+        for two in names[index + 1:]:
+            swaps = {part: with_fields(part, name=two if part.name == one else one) for part in outs
+                     if part.name in (one, two)}
+            if len(swaps) <= MAX_LINES:
+                change = bench.changed(swaps)
+                if change:
+                    yield change
+    for one in names:
+        for two in bench.circuit.outputs:
+            for part in (part for part in outs if part.name == one and two != one):
+                change = bench.changed({part: with_fields(part, name=two)})
+                if change:
+                    yield change
+
+
+def step_changes(bench: Bench) -> Iterator[Change]:
+    """Yields other numbers of steps at which the run is as the layout asks, the nearest first."""
+    steps, good = bench.layout.steps, []
+    run = WholeRun(bench.layout, bench.values.tables, bench.values.full)
+    for _ in range(min(2 * steps + 16, MAX_STEPS)):
+        if not wrong_cells(bench.values, bench.layout, run.field.live):
+            good.append(run.time)
+        if not run.step() or bench.is_over():
+            break
+    header = next(number for number, line in enumerate(bench.lines, 1) if line.startswith("layout "))
+    for time in sorted(good, key=lambda time: abs(time - steps)):
+        if time != steps:
+            edit = replace(header, f"layout {bench.layout.width} {bench.layout.height} {time}")
+            yield Change((edit,), bench.circuit, with_fields(bench.layout, steps=time))
+
+
+def larger_changes(bench: Bench) -> Iterator[Change]:
+    """Yields the layout with two more cells on each side, if something is live on its rim at the start, at the end or
+    between."""
+    layout = bench.layout
+    if not any(layout.is_rim(cell_of(key)) for key in bench.touched) and not any(layout.is_rim(cell)
+                                                                                 for cell in bench.taken[0]):
+        return
+    if max(layout.width, layout.height) + 4 > bench.limits.max_side:
+        return
+    header = next(number for number, line in enumerate(bench.lines, 1) if line.startswith("layout "))
+    parts = [shifted(part, 2, 2) for part in layout.parts]
+    wide = with_fields(layout, width=layout.width + 4, height=layout.height + 4, parts=parts)
+    edits = [replace(header, f"layout {wide.width} {wide.height} {wide.steps}"),
+             *(replace(part.line, part_text(part)) for part in parts)]
+    yield Change(tuple(edits), bench.circuit, wide)
+
+
+# ---- the start, by the run backwards
+
+def start_changes(bench: Bench) -> Iterator[Change]:
+    """Yields the change of `in` and `ball` lines after which the start is that from which the wanted end comes."""
+    if bench.is_over():
+        return
+    last = bench.last if bench.last is not None else {}
+    start = start_before(bench.layout, bench.values, last)
+    parts = {key_of(part.cell): part for part in bench.layout.of_kind("in") + bench.layout.of_kind("ball")}
+    full, mirrors = bench.values.full, {key_of(cell) for cell in bench.layout.mirror_cells()}
+    own = {key: full if part.kind == "ball" else bench.values.tables[part.name or ""] for key, part in parts.items()}
+    differing = [key for key in start.keys() | own.keys() if key not in mirrors
+                 and start.get(key, 0) != own.get(key, 0)]
+    if len(differing) > MAX_LINES:
+        return
+    names = {bench.values.tables[name]: name for name in reversed(bench.circuit.inputs)}
+    new: list[Part] = []
+    for key in (key for key in differing if start.get(key)):
+        kind = "ball" if start[key] == full else "in"
+        if kind == "in" and start[key] not in names:
+            return
+        new.append(Part(kind, None if kind == "ball" else names[start[key]], *cell_of(key), 1, 1, 0))
+    yield from paired_changes(bench, [parts[key] for key in differing if key in parts], new)
+
+
+def paired_changes(bench: Bench, gone: list[Part], new: list[Part]) -> Iterator[Change]:
+    """Yields the change that drops parts and adds others; parts of one kind and name are moved."""
+    swaps: dict[Part, Part] = {}
+    for part in list(gone):
+        other = next((other for other in new if (other.kind, other.name) == (part.kind, part.name)), None)
+        if other:
+            swaps[part] = shifted(part, other.x - part.x, other.y - part.y)
+            gone.remove(part)
+            new.remove(other)
+    change = bench.changed(swaps, new, gone)
+    if change and change.edits:
+        yield change
+
+
+def move_changes(bench: Bench, kinds: tuple[str, ...], reach: int = 2) -> Iterator[Change]:
+    """Yields moves of one part by at most `reach` cells, and of both cells of a ball of two cells together, those near
+    the fault first."""
+    parts = sorted((part for part in bench.layout.parts if part.kind in kinds), key=bench.distance)
+    offsets = [(dx, dy) for dx in range(-reach, reach + 1) for dy in range(-reach, reach + 1) if dx or dy]
+    offsets.sort(key=lambda offset: abs(offset[0]) + abs(offset[1]))
+    for part in parts:
+        mates = [other for other in parts if other is not part and (other.kind, other.name) == (part.kind, part.name)
+                 and abs(other.x - part.x) == abs(other.y - part.y) == 2 and part.kind != "mirror"]
+        for group in ([part], *([part, mate] for mate in mates if part.line < mate.line)):
+            for dx, dy in offsets:
+                if part.kind == "mirror" and has_mirror_parity(part) and not has_mirror_parity(shifted(part, dx, dy)):
+                    continue
+                change = bench.changed({member: shifted(member, dx, dy) for member in group})
+                if change:
+                    yield change
+
+
+def has_mirror_parity(part: Part) -> bool:
+    """Whether a mirror has the form that is sure to stay: even sides, and exactly one odd coordinate."""
+    return part.width % 2 == 0 and part.height % 2 == 0 and part.x % 2 != part.y % 2
+
+
+def drop_changes(bench: Bench) -> Iterator[Change]:
+    """Yields the layout without one `ball`, one mirror or one of several cells of a port."""
+    ports = [part for part in bench.layout.parts if part.kind in ("in", "out")]
+    for part in sorted(bench.layout.parts, key=bench.distance):
+        is_port = part.kind in ("in", "out")
+        if part.kind in ("ball", "mirror") or is_port and sum((other.kind, other.name) == (part.kind, part.name)
+                                                              for other in ports) > 1:
+            change = bench.changed({}, (), [part])
+            if change:
+                yield change
+
+
+def ball_changes(bench: Bench) -> Iterator[Change]:
+    """Yields the layout with one more `ball`: first the second cell of a ball of two cells, then each cell if they are
+    few."""
+    parts = sorted(bench.layout.of_kind("ball") + bench.layout.of_kind("in"), key=bench.distance)
+    cells = [(part.x + dx, part.y + dy) for part in parts for dx in (-2, 2) for dy in (-2, 2)]
+    if bench.layout.width * bench.layout.height <= 1600:
+        cells += [(x, y) for y in range(bench.layout.height) for x in range(bench.layout.width)]
+    for cell in dict.fromkeys(cells):
+        change = bench.changed({}, [Part("ball", None, *cell, 1, 1, 0)])
+        if change:
+            yield change
+
+
+def mirror_changes(bench: Bench, is_near: bool) -> Iterator[Change]:
+    """Yields the layout with one more mirror of a size that it has, at a place that balls come to.
+
+    If `is_near`, only places near those at which something is likely wrong; else all, in the order in which balls come.
+    """
+    sizes = dict.fromkeys([(part.width, part.height) for part in bench.layout.of_kind("mirror")]
+                          + [(2, 2), (2, 4), (4, 2)])
+    keys = sorted(bench.touched, key=lambda key: bench.touched[key])
+    if is_near:
+        keys = [key_of((x + dx, y + dy)) for x, y in bench.places for dy in range(-NEAR, NEAR + 1)
+                for dx in range(-NEAR, NEAR + 1)]
+    seen = set()
+    for x, y in map(cell_of, keys):
+        for width, height in sizes:
+            for u, v in cells_of(x - width + 1, y - height + 1, width, height):
+                part = Part("mirror", None, u, v, width, height, 0)
+                if part not in seen and has_mirror_parity(part):
+                    seen.add(part)
+                    change = bench.changed({}, [part])
+                    if change:
+                        yield change

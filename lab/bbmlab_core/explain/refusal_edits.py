@@ -1,0 +1,252 @@
+"""Edits that may remove a refusal, by its cause. They are tried before one of them is printed."""
+
+import difflib
+from typing import Any, Callable, Iterable, Iterator
+
+from ..texts.circuits import Circuit
+from ..texts.documents import Document
+from ..texts.limits import FIRST, LINE
+from ..texts.lines import match_form
+from ..texts.spelling import spelled
+from .edits import Edit, add, delete, edits_between, place_in_module, replace
+
+Edits = tuple[Edit, ...]
+Finder = Callable[[Document, int, dict[str, Any]], Iterable[Edits]]
+# The arrows and signs that editors write for those of the formats, as their UTF-8 bytes read as Latin-1.
+SIGNS = {"\xe2\x86\x92": "->", "\xe2\x9f\xb6": "->", "\xe2\x87\x92": "->", "=>": "->", "\xe2\x80\x93>": "->",
+         "\xe2\x88\x92>": "->",
+         "\xe2\x80\x94>": "->", "\xc2\xa0": " ", "\xef\xbb\xbf": "", ",": " ", ";": " ", "\t": " ", "\r": ""}
+# The most names of near spelling, and the most lines that one fix changes in the same way.
+MAX_NEAR = 4
+
+
+def cleaned(line: str) -> str:
+    """Returns a line with the signs of the formats in place of those that editors write, and with single spaces."""
+    for sign, plain in SIGNS.items():
+        line = line.replace(sign, plain)
+    return spelled(line + "\n").text.rstrip("\n")
+
+
+def shape_edits(document: Document, number: int, facts: dict[str, Any]) -> Iterator[Edits]:
+    """Yields edits for a line of no form: all lines with such signs cleaned, this one alone, a near keyword, the line
+    left out."""
+    lines = document.text.split("\n")
+    forms, line = facts["forms"], cleaned(document.line(number))
+    every = [(at, old, cleaned(old)) for at, old in enumerate(lines[:-1], 1)]
+    edits = tuple(replace(at, new) if new else delete(at) for at, old, new in every if old != new)
+    if edits:
+        yield edits
+    if line and line != document.line(number):
+        yield (replace(number, line),)
+    for words in near_lines(line.split(" "), forms):
+        if match_form(words, forms):
+            yield (replace(number, " ".join(words)),)
+    yield (delete(number),)
+
+
+def near_lines(words: list[str], forms: dict[str, Any]) -> Iterator[list[str]]:
+    """Yields a line with another keyword, in small letters, without a last word, or with the arrow in its place."""
+    for word in difflib.get_close_matches(words[0].lower(), forms, MAX_NEAR, 0.5):
+        yield [word, *words[1:]]
+        yield [word, *(other.lower() for other in words[1:])]
+    if words[0] in forms and "->" in forms[words[0]] and "->" not in words:
+        place = forms[words[0]].index("->")
+        yield [*words[:place], "->", *words[place:]]
+    yield words[:-1] or words
+
+
+def header_edits(_document: Document, number: int, facts: dict[str, Any]) -> Iterator[Edits]:
+    """Yields a header that is missing."""
+    header = {"certificate": "certificate 2", "layout": ""}.get(facts["section"], facts["section"])
+    if header:
+        yield (add(number - 1, header),)
+    yield (delete(number),)
+
+
+def left_out(_document: Document, number: int, _facts: dict[str, Any]) -> Iterator[Edits]:
+    """Yields the text without the line."""
+    yield (delete(number),)
+
+
+def consumed_edits(_document: Document, number: int, facts: dict[str, Any]) -> Iterator[Edits]:
+    """Yields `spill` lines for wires that nothing consumes, or the only one as an `output`."""
+    yield tuple(add(number - 1, f"spill {name}") for name in facts["names"])
+
+
+def local_edits(lines: list[str], circuit: Circuit, first: int, local: Iterable[str], name: str) -> Iterator[Edit]:
+    """Yields lines by which a module comes to know a wire: the gate that makes it, if the module knows what it uses,
+    and a cut."""
+    gate = circuit.maker.get(name)
+    for text in ([f"use {gate.number}"] if gate and all(wire in set(local) for wire in gate.ins)
+                 else []) + [f"cut {name}"]:
+        yield add(place_in_module(lines, first, text), text)
+
+
+def module_line(document: Document, number: int) -> int:
+    """Returns the number of the `module` line to which a line belongs."""
+    lines = document.text.split("\n")
+    return next((at for at in range(min(number, len(lines)), 0, -1) if lines[at - 1].startswith("module ")), 0)
+
+
+def unknown_wire_edits(document: Document, number: int, facts: dict[str, Any]) -> Iterator[Edits]:
+    """Yields edits for a line whose wire the module does not know."""
+    assert document.circuit and document.certificate
+    lines, module = document.text.split("\n"), document.certificate.modules[facts["module"]]
+    for name in [facts["name"]] if "name" in facts else facts["names"]:
+        for edit in local_edits(lines, document.circuit, module.line, module.local, name):
+            yield (edit,)
+        gate = document.circuit.maker.get(name)
+        if gate:
+            missing = [wire for wire in gate.ins if wire not in module.local]
+            new = [f"cut {wire}" for wire in missing] + [f"use {gate.number}"]
+            yield tuple(add(place_in_module(lines, module.line, text), text) for text in new)
+    yield (delete(number),)
+
+
+def many_wires_edits(document: Document, number: int, facts: dict[str, Any]) -> Iterator[Edits]:
+    """Yields cuts of all inputs of a gate that a module does not know."""
+    assert document.certificate
+    lines, module = document.text.split("\n"), document.certificate.modules[facts["module"]]
+    cuts = [f"cut {name}" for name in facts["names"]]
+    yield tuple(add(place_in_module(lines, module.line, text), text) for text in cuts)
+    yield from unknown_wire_edits(document, number, facts)
+
+
+def port_edits(document: Document, _number: int, facts: dict[str, Any]) -> Iterator[Edits]:
+    """Yields lines by which a module comes to know the wires of its ports."""
+    assert document.certificate and document.circuit
+    lines, module = document.text.split("\n"), document.certificate.modules[facts["module"]]
+    names = list(dict.fromkeys(port.name for port in facts["ports"]))
+    choices = [list(local_edits(lines, document.circuit, module.line, module.local, name)) for name in names]
+    yield tuple(dict.fromkeys(choice[0] for choice in choices))
+    yield tuple(dict.fromkeys(choice[-1] for choice in choices))
+
+
+def heard_edits(document: Document, _number: int, facts: dict[str, Any]) -> Iterator[Edits]:
+    """Yields lines by which modules come to know the wires of the `edge` lines beside them, or the text without these
+    lines."""
+    assert document.certificate and document.circuit
+    lines = document.text.split("\n")
+    wanted = dict.fromkeys((number, line.signal) for number, line, _ in facts["missing"])
+    modules = document.certificate.modules
+    choices = [list(local_edits(lines, document.circuit, modules[number].line, modules[number].local, name)) for number,
+               name in wanted]
+    yield tuple(dict.fromkeys(choice[0] for choice in choices))
+    yield tuple(dict.fromkeys(choice[-1] for choice in choices))
+    yield tuple(dict.fromkeys(delete(line.line) for _, line, _ in facts["missing"]))
+
+
+def name_edits(document: Document, number: int, facts: dict[str, Any]) -> Iterator[Edits]:
+    """Yields the line with another name: one that is spelt alike, then the others; and the text without the line."""
+    known, line = facts["known"], document.line(number)
+    near = difflib.get_close_matches(facts["name"], known, MAX_NEAR, 0.3)
+    for name in dict.fromkeys([*near, *known[:40]]):
+        words = [name if word == facts["name"] else word for word in line.split(" ")]
+        yield (replace(number, " ".join(words)),)
+    yield (delete(number),)
+
+
+def number_edits(document: Document, number: int, facts: dict[str, Any]) -> Iterator[Edits]:
+    """Yields the line with a number one or two away."""
+    words = document.line(number).split(" ")
+    for place, word in enumerate(words):
+        for step in (1, -1, 2, -2):
+            if word.isdecimal() and int(word) + step >= 0:
+                yield (replace(number, " ".join([*words[:place], str(int(word) + step), *words[place + 1:]])),)
+    if "count" in facts and facts["count"]:
+        yield (replace(number, f"{words[0]} {facts['count'] - 1}"),)
+    yield (delete(number),)
+
+
+def place_edits(document: Document, number: int, facts: dict[str, Any]) -> Iterator[Edits]:
+    """Yields the line of a part at most 2 cells away, the nearest first, then with other numbers, then left out."""
+    words = document.line(number).split(" ")
+    at = 2 if words[0] in ("in", "out") else 1
+    steps = sorted(((dx, dy) for dx in range(-2, 3) for dy in range(-2, 3) if dx or dy),
+                   key=lambda step: abs(step[0]) + abs(step[1]))
+    for dx, dy in steps:
+        x, y = int(words[at]) + dx, int(words[at + 1]) + dy
+        if min(x, y) >= 0:
+            yield (replace(number, " ".join([*words[:at], str(x), str(y), *words[at + 2:]])),)
+    yield from number_edits(document, number, facts)
+
+
+def consumer_edits(document: Document, number: int, facts: dict[str, Any]) -> Iterator[Edits]:
+    """Yields the line with wires that nothing consumes in the place of one that is consumed already."""
+    assert document.circuit
+    free = [name for name in document.circuit.defined if name not in document.circuit.consumed]
+    yield from name_edits(document, number, {"name": facts["name"], "known": free})
+
+
+def ended_edits(document: Document, _number: int, _facts: dict[str, Any]) -> Iterator[Edits]:
+    """Yields the text with the `end` that is missing at its end."""
+    lines = document.text.split("\n")
+    if lines[-1] == "":
+        yield (add(len(lines) - 1, "end"),)
+    else:
+        yield (add(len(lines), ""),)
+        yield (add(len(lines), "end"), add(len(lines), ""))
+
+
+def rest_edits(document: Document, number: int, _facts: dict[str, Any]) -> Iterator[Edits]:
+    """Yields the text up to its last section."""
+    lines = document.text.split("\n")
+    count = len(lines) if lines[-1] else len(lines) - 1
+    yield tuple(delete(at) for at in range(number, count + 1))
+
+
+def gap_edits(document: Document, number: int, facts: dict[str, Any]) -> Iterator[Edits]:
+    """Yields a module for each part of a gap that is small enough."""
+    if all(max(gap.width, gap.height) <= 64 for gap in facts["gaps"]):
+        yield tuple(add(number - 1, f"module {gap}") for gap in facts["gaps"])
+
+
+def no_module_edits(document: Document, number: int, facts: dict[str, Any]) -> Iterator[Edits]:
+    """Yields one module for the whole rectangle."""
+    width, height = facts["size"]
+    if document.circuit and max(width, height) <= 64:
+        inputs = document.circuit.inputs
+        cuts = [add(number - 1, f"cut {name}") for name in inputs]
+        uses = [add(number - 1, f"use {gate.number}") for gate in document.circuit.gates]
+        yield (add(number - 1, f"module 0 0 {width} {height}"), *cuts, *uses)
+
+
+def limit_edits(document: Document, number: int, facts: dict[str, Any]) -> Iterator[Edits]:
+    """Yields the text with the line that raises its limits, and then the line with another number."""
+    if facts["limits"] is FIRST:
+        yield (add(0, LINE),)
+    if "number" in facts:
+        yield from number_edits(document, number, facts)
+
+
+FINDERS: dict[str, Finder] = {
+    "shape": shape_edits, "kind_after_later_kind": left_out, "gate_not_rising": left_out, "border_not_rising": left_out,
+    "before_first_module": left_out, "first_not_header": header_edits, "second_header": left_out,
+    "wire_not_consumed": consumed_edits, "port_not_local": port_edits, "heard_not_local": heard_edits, "gap": gap_edits,
+    "no_module": no_module_edits, "wire_not_local": unknown_wire_edits, "use_input_not_local": many_wires_edits,
+    "keep_not_used": left_out,
+    "wire_not_defined": name_edits, "wire_unknown": name_edits, "port_unknown": name_edits,
+    "gate_unknown": number_edits,
+    "keep_not_inverse": number_edits, "wire_defined": left_out, "wire_consumed": consumer_edits, "cut_twice": left_out,
+    "use_output_local": left_out, "border_place": number_edits, "box_odd": number_edits, "box_outside": number_edits,
+    "box_overlap": number_edits, "layout_side": limit_edits, "box_side": number_edits,
+    "certificate_version": number_edits,
+    "delay_limit": number_edits, "cell_outside": place_edits, "cell_taken": place_edits, "mirror_side": limit_edits,
+    "layout_steps": limit_edits, "wire_count": limit_edits, "gate_count": limit_edits, "module_count": limit_edits,
+    "cut_count": left_out, "text_ended": ended_edits, "line_not_ended": ended_edits, "text_goes_on": rest_edits,
+}
+
+
+def refusal_edits(document: Document) -> Iterator[Edits]:
+    """Yields edits that may remove the refusal of the lab's reader, the likeliest first."""
+    refusal = document.refusal
+    if refusal is None:
+        return
+    in_order = edits_between(document.text, spelled(document.text).text)
+    if in_order:
+        yield tuple(in_order)
+    if refusal.cause == "use_output_local":
+        yield from ((delete(at),) for at in dict.fromkeys(refusal.facts["at"]))
+    finder = FINDERS.get(refusal.cause)
+    if finder:
+        yield from finder(document, refusal.line, refusal.facts)

@@ -1,0 +1,218 @@
+"""Receipts: what a program said of one text, with the digests of both, as one JSON document.
+
+A receipt is no signature: whoever can write it can write another. It says which text and which program a stored report
+is of.
+"""
+
+import hashlib
+import json
+import os
+import re
+import time
+from dataclasses import dataclass
+from typing import Any
+from urllib.parse import quote
+
+from ..host.releases import Program
+from ..host.replacing import replace_file
+from ..host.terminal import LabError, read_bytes
+from ..texts.limits import SECOND
+from ..texts.reports import parse_report
+from .answering import STATUS_OF, Result, result_of_report
+from .checking import Contradiction
+
+FORMAT = "bbmlab receipt 1"
+SECTIONS = ("circuit", "layout", "certificate")
+HEADER = re.compile(rb"(circuit|layout|certificate)(?: |\n)")
+# The most characters of a name of a file that stand in the name of its receipt.
+MAX_NAME = 180
+DIGEST = re.compile(r"[0-9a-f]{64}\Z")
+
+
+class ReceiptError(Exception):
+    """A document that is no receipt. The message says why."""
+
+
+def sha256(data: bytes) -> str:
+    """Returns the SHA-256 of bytes, in hexadecimal digits."""
+    return hashlib.sha256(data).hexdigest()
+
+
+def section_digests(text: bytes) -> dict[str, str | None]:
+    """Returns the digest of each section of a text, from its header through the line feed of its `end`, or None for one
+    that is not there."""
+    digests: dict[str, str | None] = dict.fromkeys(SECTIONS)
+    front = SECOND.head.encode()
+    start = len(front) if text.startswith(front) else 0
+    for name in SECTIONS:
+        header = HEADER.match(text, start)
+        end = text.find(b"\nend\n", start)
+        if not header or header[1].decode() != name or end < 0:
+            break
+        digests[name] = sha256(text[start:end + 5])
+        start = end + 5
+    return digests
+
+
+@dataclass(frozen=True)
+class Receipt:
+    """What a program said of a text.
+
+    `name` is the name under which the text was checked, `size` its length in bytes. `status` is the program's.
+    `seconds` is the time of the processor, and `date` the end of the run in UTC; all other members are the same at each
+    run. `said` is the result that the report stands for.
+    """
+
+    name: str
+    size: int
+    text: str
+    sections: dict[str, str | None]
+    report: str
+    verdict: str
+    status: int
+    program: Program
+    workers: int
+    seconds: float
+    date: str
+    said: Result
+
+    def __str__(self) -> str:
+        """Returns the document. The date and the seconds have lines of their own, at the end."""
+        program = {"sha256": self.program.sha256, "version": self.program.version, "kit": self.program.kit,
+                   "sources_sha256": self.program.sources}
+        document = {"format": FORMAT, "text": {"name": self.name, "bytes": self.size, "sha256": self.text},
+                    "sections": self.sections,
+                    "program": program, "workers": self.workers, "verdict": self.verdict, "status": self.status,
+                    "report_sha256": sha256(self.report.encode("latin-1")), "report": self.report,
+                    "processor_seconds": round(self.seconds, 3), "date": self.date}
+        return json.dumps(document, indent=1) + "\n"
+
+
+
+def receipt_of(text: bytes, result: Result, program: Program, seconds: float) -> Receipt:
+    """Returns the receipt of a result that is a verdict or a refusal."""
+    date = time.strftime("%Y-%m-%dT%H:%M:%SZ", time.gmtime())
+    return Receipt(result.file, len(text), sha256(text), section_digests(text), result.output, result.result,
+                   STATUS_OF[result.result], program,
+                   1, seconds, date, result)
+
+
+def member(document: Any, name: str, kind: Any) -> Any:
+    """Returns a member of a JSON object, which must be of a type or of one of several."""
+    if not isinstance(document, dict) or name not in document:
+        raise ReceiptError(f"it has no member `{name}`")
+    value = document[name]
+    if not isinstance(value, kind) or isinstance(value, bool):
+        raise ReceiptError(f"its member `{name}` is of another kind")
+    return value
+
+
+def digest_of(document: Any, name: str) -> str:
+    """Returns a member that is a digest."""
+    value: str = member(document, name, str)
+    if not DIGEST.match(value):
+        raise ReceiptError(f"its member `{name}` is no digest of 64 hexadecimal digits")
+    return value
+
+
+def seconds_of(document: Any) -> float:
+    """Returns the member `processor_seconds`."""
+    try:
+        return float(member(document, "processor_seconds", (int, float)))
+    except OverflowError as error:
+        raise ReceiptError("its member `processor_seconds` is too large") from error
+
+
+def parse_receipt(data: bytes) -> Receipt:
+    """Reads a receipt; raises ReceiptError for what is none, and for one whose report or verdict was changed."""
+    try:
+        document = json.loads(data)
+    except (ValueError, RecursionError) as error:
+        raise ReceiptError("it is truncated, or no JSON document") from error
+    if not isinstance(document, dict) or document.get("format") != FORMAT:
+        raise ReceiptError(f"it has no member `format` that says `{FORMAT}`")
+    text, program = member(document, "text", dict), member(document, "program", dict)
+    sections = member(document, "sections", dict)
+    nothing = type(None)
+    name, report, status = member(text, "name", str), member(document, "report", str), member(document, "status", int)
+    receipt = Receipt(
+        name, member(text, "bytes", int), digest_of(text, "sha256"),
+        {name: member(sections, name, (str, nothing)) for name in SECTIONS}, report, member(document, "verdict", str),
+        status,
+        Program(digest_of(program, "sha256"), member(program, "version", (str, nothing)),
+                member(program, "kit", (str, nothing)),
+                member(program, "sources_sha256", (str, nothing))),
+        member(document, "workers", int), seconds_of(document), member(document, "date", str),
+        result_of_report(name, status, report))
+    require_same_report(receipt, digest_of(document, "report_sha256"))
+    return receipt
+
+
+def require_same_report(receipt: Receipt, digest: str) -> None:
+    """Raises ReceiptError unless report, digest, verdict and status of a receipt are of each other."""
+    if sha256(receipt.report.encode("latin-1", "replace")) != digest:
+        raise ReceiptError("its report was changed: the digest of the report is another one")
+    said = receipt.said
+    if said.result == "error" or said.result != receipt.verdict:
+        raise ReceiptError("its verdict was changed: the report says "
+                           f"{said.result if said.result != 'error' else said.detail}")
+    certificate = parse_report(receipt.report).digest
+    if certificate and certificate != receipt.sections["certificate"]:
+        raise ReceiptError("its report is of another certificate than its text")
+
+
+class ReceiptFolder:
+    """The receipts of texts in a folder, one a file. With `again`, none is used in place of a run."""
+
+    def __init__(self, folder: str, program: Program, again: bool = False) -> None:
+        self.folder, self.program, self.again = folder, program, again
+
+    def path(self, file: str) -> str:
+        """Returns the name of the receipt of a file: its own name, with `%2F` for `/`, or with a digest if it is long.
+
+        The name is that seen from where the folder of receipts is. So a file has one receipt, wherever the lab runs,
+        and two files have two.
+        """
+        seen = os.path.relpath(file, os.path.dirname(os.path.abspath(self.folder))) if file != "-" else "standard input"
+        name = quote(os.fsencode(seen), safe=" ")
+        if len(name) > MAX_NAME:
+            name = f"{name[-MAX_NAME:].lstrip('%')}-{sha256(os.fsencode(seen))[:16]}"
+        return os.path.join(self.folder, f"{name}.json")
+
+    def stored(self, file: str) -> Receipt | None:
+        """Returns the receipt of a file, or None if there is none that can be read."""
+        try:
+            return parse_receipt(read_bytes(self.path(file)))
+        except (LabError, ReceiptError):
+            return None
+
+    def held(self, file: str) -> Result | None:
+        """Returns the result of a file if its receipt is of the same bytes and the same program."""
+        if self.again or not os.path.isfile(file):
+            return None
+        receipt = self.stored(file)
+        if not receipt or receipt.program.sha256 != self.program.sha256:
+            return None
+        try:
+            text = read_bytes(file)
+        except LabError:
+            return None
+        if (len(text), sha256(text)) != (receipt.size, receipt.text):
+            return None
+        said = receipt.said
+        return Result(file, said.result, said.detail, 0, said.modules, said.output, held=True)
+
+    def keep(self, text: bytes, result: Result, seconds: float) -> None:
+        """Writes the receipt of a result. An earlier one of the same text and program must have the same report."""
+        receipt = receipt_of(text, result, self.program, seconds)
+        earlier = self.stored(result.file)
+        if (earlier and (earlier.text, earlier.program.sha256) == (receipt.text, receipt.program.sha256)
+            and earlier.report != receipt.report):
+            raise Contradiction(f"two answers to {result.file} by one program: {earlier.report!r} (in its receipt) and "
+                                f"{receipt.report!r}")
+        name = self.path(result.file)
+        try:
+            os.makedirs(self.folder, exist_ok=True)
+            replace_file(name, str(receipt).encode())
+        except OSError as error:
+            raise LabError(f"{name}: {error.strerror or error}") from error

@@ -1,0 +1,223 @@
+"""The forms in which `bbmlab check` writes its results."""
+
+import json
+import sys
+from typing import Any, Protocol
+
+from ..host.terminal import painted, escape_controls
+from ..texts.code_names import CODE_NAMES
+from .answering import WORDS, Result
+from .checking import counted, summary
+
+COLOURS = {"yes": "green", "no": "red", "refused": "red"}
+
+
+class ResultWriter(Protocol):
+    """Writes results:
+
+    `begin` before the first, `add` for each as it comes, and `end` with the signal that stopped the run, if one did.
+    """
+
+    def begin(self, files: list[str]) -> None:
+        """Begins with the names of all files."""
+
+    def add(self, result: Result) -> None:
+        """Takes one result."""
+
+    def leave(self, result: Result) -> None:
+        """Counts one result without listing it."""
+
+    def end(self, stopped: str | None) -> None:
+        """Ends the list."""
+
+
+class TextWriter:
+    """A line for each file as soon as its result is there, and a summary."""
+
+    def begin(self, files: list[str]) -> None:
+        """Takes the width of the first column from the longest name."""
+        self.results: dict[str, int] = {}
+        self.total, self.held = len(files), 0
+        self.width = min(max((len(escape_controls(file)) for file in files), default=0), 60)
+
+    def add(self, result: Result) -> None:
+        """Writes a line, unless the result is a yes that a receipt holds."""
+        self.results[result.result] = self.results.get(result.result, 0) + 1
+        self.held += result.held
+        if result.held and result.result == "yes":
+            return
+        word = painted(WORDS[result.result].ljust(8), COLOURS.get(result.result, "yellow"))
+        name, detail = escape_controls(result.file).ljust(self.width), escape_controls(result.detail)
+        print(f"{name}  {word}  {result.seconds:7.2f} s  {detail}".rstrip(), flush=True)
+
+    def leave(self, result: Result) -> None:
+        """Counts one result without listing it."""
+        self.results[result.result] = self.results.get(result.result, 0) + 1
+        self.held += result.held
+
+    def end(self, stopped: str | None) -> None:
+        """Writes the summary."""
+        done = sum(self.results.values())
+        held = f"; held {self.held:,}, checked {done - self.held:,}" if self.held else ""
+        left = f"; stopped by {stopped}, {self.total - done} not checked" if stopped else ""
+        print(summary(self.results) + held + left, flush=True)
+
+
+class TapWriter:
+    """The Test Anything Protocol: a line for each file as soon as its result is there."""
+
+    def begin(self, files: list[str]) -> None:
+        """Writes the plan."""
+        self.number = 0
+        print(f"TAP version 13\n1..{len(files)}", flush=True)
+
+    def add(self, result: Result) -> None:
+        """Writes a line."""
+        self.number += 1
+        file = escape_controls(result.file).replace("\\", "\\\\").replace("#", "\\#")
+        if result.result == "yes":
+            print(f"ok {self.number} - {file}", flush=True)
+        else:
+            print(f"not ok {self.number} - {file}: {WORDS[result.result]}, {escape_controls(result.detail)}",
+                  flush=True)
+
+    def leave(self, result: Result) -> None:
+        """Lists the result: a plan counts all of them."""
+        self.add(result)
+
+    def end(self, stopped: str | None) -> None:
+        """Says whether the run was stopped."""
+        if stopped:
+            print(f"Bail out! stopped by {stopped}", flush=True)
+
+
+def row(result: Result) -> dict[str, Any]:
+    """Returns a result as JSON values."""
+    return {"file": result.file, "result": result.result, "detail": result.detail, "seconds": result.seconds,
+            "modules": result.modules,
+            "output": result.output, **({"held": True} if result.held else {}), **refusal_row(result)}
+
+
+def refusal_row(result: Result) -> dict[str, Any]:
+    """Returns the line, the code and the code's name of a refusal, so that nobody need parse them."""
+    if result.result != "refused":
+        return {}
+    line, code = map(int, result.output.split()[1:3])
+    return {"refusal": {"line": line, "code": code, "name": CODE_NAMES.get(code, "")}}
+
+
+class LinesWriter:
+    """A JSON object for each file as soon as its result is there, each in a line of its own."""
+
+    def begin(self, files: list[str]) -> None:
+        """Writes nothing."""
+
+    def add(self, result: Result) -> None:
+        """Writes a line."""
+        print(json.dumps(row(result)), flush=True)
+
+    def leave(self, result: Result) -> None:
+        """Writes nothing."""
+
+    def end(self, stopped: str | None) -> None:
+        """Writes nothing: a run that was stopped has fewer lines."""
+
+
+class WholeWriter:
+    """Keeps all results and writes one document at the end, in the order of the files."""
+
+    def begin(self, files: list[str]) -> None:
+        """Keeps the order of the files."""
+        self.files = files
+        self.results: dict[str, Result] = {}
+        self.left: dict[str, int] = {}
+
+    def add(self, result: Result) -> None:
+        """Keeps a result."""
+        self.results[result.file] = result
+
+    def leave(self, result: Result) -> None:
+        """Counts one result without listing it."""
+        self.left[result.result] = self.left.get(result.result, 0) + 1
+
+    def end(self, stopped: str | None) -> None:
+        """Writes the document."""
+        sys.stdout.write(self.document([self.results[file] for file in self.files if file in self.results], stopped))
+        sys.stdout.flush()
+
+    def document(self, results: list[Result], stopped: str | None) -> str:
+        """Returns the document."""
+        raise NotImplementedError
+
+
+class JsonWriter(WholeWriter):
+    """One JSON document."""
+
+    def document(self, results: list[Result], stopped: str | None) -> str:
+        """Returns the document. `stopped` is there only if a signal ended the run."""
+        is_all_yes = not stopped and {*counted(results), *self.left} == {"yes"}
+        left = sum(self.left.values())
+        more: dict[str, Any] = {"stopped": stopped,
+                                "not_checked": len(self.files) - len(results) - left} if stopped else {}
+        more |= {"left_out": self.left} if left else {}
+        return json.dumps({"format": "bbmlab check 1", "all_yes": is_all_yes, **more,
+                           "results": [row(result) for result in results]}, indent=2) + "\n"
+
+
+class JunitWriter(WholeWriter):
+    """JUnit's XML. A no and a refusal are failures, all else but a yes is an error."""
+
+    def document(self, results: list[Result], stopped: str | None) -> str:
+        """Returns the document. Files that were not checked are errors."""
+        from xml.sax.saxutils import escape, quoteattr
+        missing = [] if not stopped else [Result(file, "error", f"not checked: stopped by {stopped}", 0)
+                                          for file in self.files if file not in self.results]
+        rows = [*results, *missing]
+        counts = counted(rows)
+        failures, errors = (sum(counts.get(word, 0) for word in words)
+                            for words in (("no", "refused"), ("timeout", "missing", "error")))
+        lines = ['<?xml version="1.0" encoding="UTF-8"?>',
+                 f'<testsuite name="bbmlab check" tests="{len(rows)}" failures="{failures}" errors="{errors}" '
+                 f'time="{sum(result.seconds for result in rows):.3f}">']
+        for result in rows:
+            head = (f'  <testcase classname="bbmcheck" name={quoteattr(escape_controls(result.file))} '
+                    f'time="{result.seconds:.3f}"')
+            if result.result == "yes":
+                lines.append(head + "/>")
+                continue
+            tag = "failure" if result.result in ("no", "refused") else "error"
+            output = "\n".join(escape_controls(line) for line in result.output.split("\n"))
+            lines.append(f"{head}><{tag} type={quoteattr(result.result)} "
+                         f"message={quoteattr(escape_controls(result.detail))}>"
+                         f"{escape(output)}</{tag}></testcase>")
+        return "\n".join([*lines, "</testsuite>"]) + "\n"
+
+
+class OnlyWriter:
+    """Lists only some kinds of results. The summary and the status are those of all files."""
+
+    def __init__(self, writer: ResultWriter, words: list[str]) -> None:
+        self.writer, self.words = writer, words
+
+    def begin(self, files: list[str]) -> None:
+        """Begins the list."""
+        self.writer.begin(files)
+
+    def add(self, result: Result) -> None:
+        """Takes one result."""
+        if result.result in self.words:
+            self.writer.add(result)
+        else:
+            self.writer.leave(result)
+
+    def leave(self, result: Result) -> None:
+        """Counts a result without listing it."""
+        self.writer.leave(result)
+
+    def end(self, stopped: str | None) -> None:
+        """Ends the list."""
+        self.writer.end(stopped)
+
+
+WRITERS: dict[str, type[TextWriter | TapWriter | LinesWriter | JsonWriter | JunitWriter]] = {
+    "text": TextWriter, "json": JsonWriter, "jsonl": LinesWriter, "tap": TapWriter, "junit": JunitWriter}

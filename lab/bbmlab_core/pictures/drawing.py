@@ -1,0 +1,474 @@
+"""`bbmlab draw`: a layout as an SVG picture, with its balls at a time or their ways over all times."""
+
+from dataclasses import dataclass, field
+from html import escape
+
+from ..physics.simulation import Table
+from ..texts.boxes import Box, clipped
+from ..texts.certificates import Module
+from ..texts.circuits import Circuit, evaluate, evaluate_samples, sampled_tables
+from ..texts.documents import Document
+from ..texts.gates import input_tables
+from ..texts.layouts import Cell, Layout, Part
+from .label_places import Name, Rect, leader, place_names
+from .picture_parts import OTHERS, chevrons, pieces_within
+from .ways import Piece, directed_ways, joined_pieces, ways_of
+
+CELL = 12
+MARGIN = 30
+NAME_SIZE = 8
+# Up to this many inputs all choices are tried, and else so many samples of them.
+MAX_INPUTS = 12
+SAMPLES = 256
+# Larger layouts get larger letters and wider ways, so that they can be read at the width of a page. Above `LARGE_SIDE`
+# ways stay as wide as they are at that side in a picture of one size: balls of the router keep four cells apart.
+PLAIN_SIDE = 64
+MAX_WIDENING = 2.5
+LARGE_SIDE = 512
+MAX_LEGEND = 40
+MAX_MIRRORS = 2000
+# More names of ports would cover each other and take minutes to place.
+MAX_NAMES = 512
+# In a picture of a large layout a ball is at least this part of its side, and the name of a gate is at least this part
+# of a port's name.
+LARGE_BALL, LEAST_NAME = 1 / 300, 0.5
+# More modules have faint borders and no numbers, which would hide the ways.
+MAX_NUMBERED = 64
+# Colours that people with any sight tell apart (Okabe and Ito) on white and on black, and dashes for print.
+COLOURS = ["#0072b2", "#d55e00", "#009e73", "#cc79a7", "#e69f00", "#56b4e9", "#8c510a", "#5e3c99"]
+DARK_COLOURS = ["#4aa8e0", "#f0803c", "#2cc79a", "#e3a1c4", "#f5b942", "#8fd0f5", "#c98f4e", "#a98be0"]
+DASHES = ["", "6 2", "2 2", "8 2 2 2", "4 4", "1 3", "10 3", "6 2 1 2 1 2"]
+SEVERAL, FAINT = 8, 9
+
+STYLE = """text{font:7px sans-serif;fill:#222}.name{font-weight:bold;font-size:8px;stroke:#f7f7f4;stroke-width:2px;
+stroke-linejoin:round;paint-order:stroke}.leader{stroke:#222;stroke-width:.7}.in{fill:none;stroke:#222}
+.out{fill:none;stroke:#222;stroke-dasharray:2 1.5}.waste{stroke:#222;fill:none}.mirror{fill:#7f8691}.ball{fill:#111}
+.box{fill:none;stroke:#7a3db8;stroke-width:1.2;stroke-dasharray:5 3}.number{fill:#7a3db8;font-size:8px}
+.faint{stroke-width:1;stroke-dasharray:none;stroke-opacity:.2}.fault{fill:none;stroke:#d00000;stroke-width:2.5}
+.way{fill:none;stroke-width:2.2;stroke-linecap:round}.way[stroke-dasharray]{stroke-linecap:butt}
+.back{fill:#fff}.plane{fill:#f7f7f4}.line{stroke:#dcdcd6;stroke-width:.4}.w8{stroke:#777}
+@media(prefers-color-scheme:dark){text{fill:#eee}.name{stroke:#1e2126}.leader{stroke:#eee}.fault{stroke:#ff5a52}\
+.in,.out,.waste{stroke:#eee}.mirror{fill:#7c828c}.ball{fill:#fff}
+.box{stroke:#c79bff}.number{fill:#c79bff}.back{fill:#16181c}.plane{fill:#1e2126}\
+.line{stroke:#343840}.w8{stroke:#999}}"""
+LIGHT_WAYS = "".join(f".w{index}{{stroke:{colour}}}" for index, colour in enumerate(COLOURS))
+DARK_WAYS = "".join(f".w{index}{{stroke:{colour}}}" for index, colour in enumerate(DARK_COLOURS))
+
+
+@dataclass
+class Drawing:
+    """What a picture shows of a layout, apart from its parts.
+
+    `labels` has the names of the wires that share a way with the key.
+    """
+
+    live: set[Cell] = field(default_factory=set)
+    ways: dict[str, list[Piece]] = field(default_factory=dict)
+    labels: dict[str, str] = field(default_factory=dict)
+    modules: list[Module] = field(default_factory=list)
+    # The boxes of modules that use gates, with what is said of them: in a large layout in place of all modules.
+    gates: list[tuple[Box, list[str]]] = field(default_factory=list)
+    faults: list[tuple[Cell, str]] = field(default_factory=list)
+    title: str = ""
+    # The part of the layout that is shown, or all of it; the cells that a ball takes at least; whether the ways have
+    # arrows.
+    view: Box | None = None
+    ball: float = 0.0
+    has_arrows: bool = False
+
+    def view_of(self, layout: Layout) -> Box:
+        """Returns the part of a layout that is shown."""
+        return self.view or Box(0, 0, layout.width, layout.height)
+
+
+def centre(cell: Cell) -> tuple[float, float]:
+    """Returns the middle of a cell in the picture."""
+    return MARGIN + cell[0] * CELL + CELL / 2, MARGIN + cell[1] * CELL + CELL / 2
+
+
+def short(number: float) -> str:
+    """Writes a coordinate with as few digits as it needs."""
+    return f"{number:.1f}".rstrip("0").rstrip(".")
+
+
+def point(cell: Cell) -> str:
+    """Writes the middle of a cell for a path."""
+    x, y = centre(cell)
+    return f"{short(x)} {short(y)}"
+
+
+def rectangle(kind: str, x: int, y: int, width: int, height: int) -> str:
+    """Returns a rectangle of cells."""
+    return (f'<rect class="{kind}" x="{MARGIN + x * CELL}" y="{MARGIN + y * CELL}" width="{width * CELL}" '
+            f'height="{height * CELL}"/>')
+
+
+def number_step(size: int) -> int:
+    """Returns how many cells lie between two numbers at the side."""
+    return 2 if size <= 40 else 8 if size <= 128 else 64 if size <= 1024 else 256
+
+
+def multiples(first: int, count: int, step: int) -> range:
+    """Returns the multiples of a step among some numbers from a first one on."""
+    return range(-(-first // step) * step, first + count, step)
+
+
+def plane(view: Box) -> list[str]:
+    """Returns the background with the lines of even blocks and the numbers of columns and rows."""
+    parts = [rectangle("plane", view.x, view.y, view.width, view.height)]
+    left, top = MARGIN + view.x * CELL, MARGIN + view.y * CELL
+    if max(view.width, view.height) <= 128:
+        right, bottom = left + view.width * CELL, top + view.height * CELL
+        lines = [f"M{MARGIN + x * CELL} {top}V{bottom}" for x in multiples(view.x, view.width + 1, 2)]
+        lines += [f"M{left} {MARGIN + y * CELL}H{right}" for y in multiples(view.y, view.height + 1, 2)]
+        parts.append(f'<path class="line" d="{"".join(lines)}"/>')
+    for x in multiples(view.x, view.width, number_step(view.width)):
+        parts.append(f'<text x="{short(centre((x, 0))[0])}" y="{top - 6}" text-anchor="middle">{x}</text>')
+    for y in multiples(view.y, view.height, number_step(view.height)):
+        parts.append(f'<text x="{left - 6}" y="{short(centre((0, y))[1] + 2.5)}" text-anchor="end">{y}</text>')
+    return parts
+
+
+def labelled_cells(layout: Layout) -> dict[tuple[Cell, str], list[str]]:
+    """Returns the cells that get names, with their kinds.
+
+    A ball of two cells has its name once: behind an `in`, ahead of an `out`.
+    """
+    ports: dict[tuple[str, str], list[Cell]] = {}
+    for part in layout.parts:
+        if part.kind in ("in", "out"):
+            ports.setdefault((part.kind, part.name or ""), []).append(part.cell)
+    labels: dict[tuple[Cell, str], list[str]] = {}
+    for (kind, name), cells in ports.items():
+        if len(cells) == 2 and all(abs(one - other) == 2 for one, other in zip(*cells)):
+            way = direction(cells[0], 0 if kind == "in" else layout.steps)
+            cells = [(max if kind == "out" else min)(cells, key=lambda cell: cell[0] * way[0] + cell[1] * way[1])]
+        for cell in cells:
+            labels.setdefault((cell, kind), []).append(name)
+    return labels
+
+
+def direction(cell: Cell, time: int) -> tuple[int, int]:
+    """Returns the direction in which a lone cell moves in the step from a time: dx and dy, each 1 or -1."""
+    return -1 if (cell[0] + time) % 2 else 1, -1 if (cell[1] + time) % 2 else 1
+
+
+def label_width(text: str, size: float) -> float:
+    """Estimates the width of bold letters of a size. An arrow is as wide as it is high."""
+    return size * (0.64 * len(text) + 0.5)
+
+
+def cell_rect(x: int, y: int, width: int = 1, height: int = 1) -> Rect:
+    """Returns the place of some cells in the picture."""
+    return Rect(MARGIN + x * CELL, MARGIN + y * CELL, width * CELL, height * CELL)
+
+
+def left_out_words(layout: Layout) -> str:
+    """Says that the names of ports are left out, if they are."""
+    count = len(labelled_cells(layout))
+    return f"; the names of {count} ports are left out" if count > MAX_NAMES else ""
+
+
+def port_labels(layout: Layout, view: Box, scale: float) -> list[str]:
+    """Returns the names of ports, inputs above and outputs below if they cover no other port there.
+
+    Names of one cell are in one place.
+    """
+    size = NAME_SIZE * scale
+    labels = [(cell_rect(*cell), kind, "→" + names[0] if kind == "in" else names[0] + "→")
+              for (cell, kind), names in labelled_cells(layout).items()]
+    if len(labels) > MAX_NAMES:
+        return []
+    names = [Name(cell, label_width(mark, size), size, kind == "in") for cell, kind, mark in labels]
+    named = {(name.cell.x, name.cell.y) for name in names}
+    # The second cell of a ball of two cells has no name of its own, and is a port too.
+    ports = [cell_rect(*part.cell) for part in layout.parts if part.kind in ("in", "out")]
+    bare = [rect for rect in ports if (rect.x, rect.y) not in named]
+    signs = [cell_rect(*part.cell) for part in layout.parts if part.kind in ("waste", "ball")]
+    walls = [cell_rect(part.x, part.y, part.width, part.height) for part in layout.of_kind("mirror")]
+    room, lines, parts = MARGIN * scale, [], []
+    bounds = Rect(MARGIN + view.x * CELL - room, MARGIN + view.y * CELL - room, view.width * CELL + 2 * room,
+                  view.height * CELL + 2 * room)
+    for (cell, _, mark), place in zip(labels, place_names(names, signs + walls, bare, bounds)):
+        line = leader(place, cell)
+        if line:
+            (x, y), (u, v) = line
+            lines.append(f'<path class="leader" d="M{short(x)} {short(y)}L{short(u)} {short(v)}"/>')
+        box = place.box
+        parts.append(f'<text class="name" x="{short(box.x + box.width / 2)}" y="{short(box.y + box.height * 0.84)}" '
+                     f'text-anchor="middle">{escape(mark)}</text>')
+    return lines + parts
+
+
+def mirror_parts(mirrors: list[Part]) -> list[str]:
+    """Returns mirrors: each by itself, or one path for very many."""
+    if len(mirrors) <= MAX_MIRRORS:
+        return [rectangle("mirror", part.x, part.y, part.width, part.height) for part in mirrors]
+    boxes = (f"M{MARGIN + part.x * CELL} "
+             f"{MARGIN + part.y * CELL}h{part.width * CELL}v{part.height * CELL}h-{part.width * CELL}z"
+             for part in mirrors)
+    return [f'<path class="mirror" d="{"".join(boxes)}"/>']
+
+
+def layout_parts(layout: Layout) -> list[str]:
+    """Returns mirrors, ports and waste cells."""
+    parts = mirror_parts(layout.of_kind("mirror"))
+    parts += [rectangle("out", part.x, part.y, 1, 1) for part in layout.of_kind("out")]
+    parts += [f'<rect class="in" x="{MARGIN + part.x * CELL + 1.5}" y="{MARGIN + part.y * CELL + 1.5}" '
+              f'width="{CELL - 3}" height="{CELL - 3}"/>'
+              for part in layout.of_kind("in")]
+    parts += [waste_sign(part) for part in layout.of_kind("waste")]
+    return parts
+
+
+def waste_sign(part: Part) -> str:
+    """Returns a cross in a waste cell."""
+    x, y = MARGIN + part.x * CELL + 2, MARGIN + part.y * CELL + 2
+    side = CELL - 4
+    return f'<path class="waste" d="M{x} {y}l{side} {side}m0-{side}l-{side} {side}"/>'
+
+
+def module_parts(modules: list[Module]) -> list[str]:
+    """Returns the borders of modules, with their numbers if they are few."""
+    is_numbered, parts = len(modules) <= MAX_NUMBERED, []
+    for module in modules:
+        box = module.box
+        parts.append(rectangle("box" if is_numbered else "box faint", box.x, box.y, box.width, box.height))
+        if is_numbered:
+            parts.append(f'<text class="number" x="{MARGIN + box.x * CELL + 3}" '
+                         f'y="{MARGIN + box.y * CELL + 9}">{module.number}</text>')
+    return parts
+
+
+def gate_parts(gates: list[tuple[Box, list[str]]]) -> list[str]:
+    """Returns the boxes of modules that use gates, with what is said of them."""
+    return ['<g><title>a module that uses '
+            f'{escape(", ".join(names))}</title>{rectangle("gate", box.x, box.y, box.width, box.height)}</g>'
+            for box, names in gates]
+
+
+def gate_names(gates: list[tuple[Box, list[str]]], scale: float) -> list[str]:
+    """Returns the first gate of each box, and how many others there are, where the box has room for these words."""
+    parts, largest = [], NAME_SIZE * scale
+    for box, names in gates:
+        shown = names[0] + (f" +{len(names) - 1}" if len(names) > 1 else "")
+        size = min(largest, box.width * CELL / (0.62 * len(shown)), box.height * CELL)
+        x, y = MARGIN + (box.x + box.width / 2) * CELL, MARGIN + (box.y + box.height / 2) * CELL + size / 3
+        if size >= LEAST_NAME * largest:
+            parts.append(f'<text class="gate-name" x="{short(x)}" y="{short(y)}" '
+                         f'style="font-size:{short(size)}px">{escape(shown)}</text>')
+    return parts
+
+
+def ball_parts(layout: Layout, live: set[Cell], least: float) -> list[str]:
+    """Returns the live cells that are no mirror's as discs of a least size in cells, and dead cells of mirrors as
+    holes."""
+    mirrors = layout.mirror_cells()
+    parts, radius = [], CELL * max(0.33, least / 2)
+    for cell in sorted(live - mirrors):
+        x, y = centre(cell)
+        parts.append(f'<circle class="ball" cx="{short(x)}" cy="{short(y)}" r="{radius:.1f}"/>')
+    if live:
+        parts += [rectangle("plane", *cell, 1, 1) for cell in sorted(mirrors - live)]
+    return parts
+
+
+def wire_style(wires: list[str]) -> dict[str, tuple[int, str]]:
+    """Returns the number of a colour, and a dash, for each wire."""
+    styles = {wire: (index % 8, DASHES[index // 8 % 8]) for index,
+              wire in enumerate(wire for wire in wires if wire not in ("", OTHERS))}
+    return styles | {"": (SEVERAL, "1 2"), OTHERS: (FAINT, "")}
+
+
+def way_order(drawing: Drawing, wires: list[str]) -> list[str]:
+    """Returns the wires that have a way: first those that are faint, then others in their order, then the constants,
+    and then what is no wire's."""
+    return [wire for wire in [OTHERS, *wires, "1", ""] if wire in drawing.ways]
+
+
+def label_of(drawing: Drawing, wire: str) -> str:
+    """Returns what the legend says of a wire."""
+    return {"": "no wire", "1": "constant"}.get(wire, drawing.labels.get(wire, wire))
+
+
+def way_parts(drawing: Drawing, wires: list[str], widening: float) -> list[str]:
+    """Returns the ways of balls, a path for each wire."""
+    order, parts = way_order(drawing, wires), []
+    styles = wire_style(order)
+    for index, wire in enumerate(order):
+        colour, dash = styles[wire]
+        # Later ways are thinner, so that one below another is still seen. In a large layout the thinnest must still be
+        # seen itself.
+        thinnest = 1.6 if widening == 1 else 2.6
+        width = (5 - (5 - thinnest) * index / max(1, len(order) - 1)) * widening
+        path = "".join(f"M{point(first)}L{point(last)}" for first, last in joined_pieces(drawing.ways[wire]))
+        dashes = f' stroke-dasharray="{" ".join(short(int(part) * widening) for part in dash.split())}"' if dash else ""
+        title = escape(label_of(drawing, wire))
+        parts.append(f'<path class="way w{colour}" style="stroke-width:{short(width)}"{dashes} '
+                     f'd="{path}"><title>{title}</title></path>')
+        heads = chevrons(drawing.ways[wire], 3 * width / CELL) if drawing.has_arrows and wire != OTHERS else []
+        if heads:
+            path = "".join("M" + "L".join(f"{short(MARGIN + x * CELL)} {short(MARGIN + y * CELL)}" for x, y in head)
+                           for head in heads)
+            parts.append(f'<path class="way w{colour}" style="stroke-width:{short(width)}" d="{path}"/>')
+    return parts
+
+
+def legend(drawing: Drawing, wires: list[str], y: int, width: float) -> tuple[list[str], int]:
+    """Returns the names of the wires with their colours, in lines of at most a width, and the height that they take."""
+    order = way_order(drawing, wires)
+    styles, parts = wire_style(order), []
+    x, top = float(MARGIN), y
+    for wire in order[:MAX_LEGEND]:
+        colour, dash = styles[wire]
+        text = label_of(drawing, wire)
+        text = text if len(text) <= 30 else text[:28] + ".."
+        room = 32 + 4.2 * len(text)
+        if x > MARGIN and x + room > width - MARGIN:
+            x, top = float(MARGIN), top + 12
+        dashes = f' stroke-dasharray="{dash}"' if dash else ""
+        parts.append(f'<path class="way w{colour}"{dashes} d="M{short(x)} {top}h16"/>'
+                     f'<text x="{short(x + 20)}" y="{top + 2.5}">{escape(text)}</text>')
+        x += room
+    return parts, top - y + 12 if parts else 0
+
+
+def shown_part(layout: Layout, drawing: Drawing) -> Layout:
+    """Returns what a picture shows of a layout, and takes away what it does not show of the drawing."""
+    view = drawing.view
+    if view is None:
+        return layout
+    drawing.ways = {wire: found for wire, pieces in drawing.ways.items() if (found := pieces_within(pieces, view))}
+    drawing.live = {cell for cell in drawing.live if view.has(cell)}
+    drawing.faults = [fault for fault in drawing.faults if view.has(fault[0])]
+    drawing.modules = [module for module in drawing.modules if overlaps(module.box, view)]
+    drawing.gates = [gate for gate in drawing.gates if overlaps(gate[0], view)]
+    return clipped(layout, view)
+
+
+def overlaps(one: Box, other: Box) -> bool:
+    """Returns whether two boxes share a cell."""
+    return (one.x < other.x + other.width and other.x < one.x + one.width and one.y < other.y + other.height
+            and other.y < one.y + one.height)
+
+
+def more_style(drawing: Drawing, scale: float) -> str:
+    """Returns the style that only some pictures need: of larger letters, of gates and of faint ways."""
+    letters = (f"g.plan text{{font-size:{short(7 * scale)}px}}g.plan .name{{font-size:{short(8 * scale)}px}}"
+               if scale > 1 else "")
+    if drawing.gates:
+        letters += (".gate{fill:#7a3db8;fill-opacity:.18}.gate-name{fill:#5c2a92;text-anchor:middle;font-weight:bold;"
+                    f"stroke:#f7f7f4;stroke-width:{short(2 * scale)}px;stroke-linejoin:round;paint-order:stroke}}"
+                    "@media(prefers-color-scheme:dark){.gate-name{fill:#d3b3ff;stroke:#1e2126}}")
+    if OTHERS in drawing.ways:
+        letters += f".w{FAINT}{{stroke:#cfcfc9}}@media(prefers-color-scheme:dark){{.w{FAINT}{{stroke:#3d424b}}}}"
+    return letters
+
+
+def svg(layout: Layout, drawing: Drawing, wires: list[str]) -> str:
+    """Writes the picture.
+
+    Above `PLAIN_SIDE` cells a side, letters and margins grow with the part of the layout that is shown.
+    """
+    view, layout = drawing.view_of(layout), shown_part(layout, drawing)
+    side = max(view.width, view.height)
+    scale = max(1.0, side / PLAIN_SIDE)
+    widening, margin = min(scale, MAX_WIDENING) * max(1.0, side / LARGE_SIDE), MARGIN * (scale - 1)
+    width, bottom = 2 * MARGIN * scale + view.width * CELL, MARGIN * scale + view.height * CELL
+    width = max(width, 2 * MARGIN + 256 if drawing.ways else 0)
+    keys, key_height = legend(drawing, wires, 24, width / scale)
+    height = bottom + (34 + key_height) * scale
+    ball = drawing.ball or (side * LARGE_BALL if side > LARGE_SIDE else 0.0)
+    parts = [*plane(view), *layout_parts(layout), *module_parts(drawing.modules), *gate_parts(drawing.gates),
+             *way_parts(drawing, wires, widening), *gate_names(drawing.gates, scale),
+             *ball_parts(layout, drawing.live, ball), *port_labels(layout, view, scale)]
+    for cell, about in drawing.faults:
+        x, y = centre(cell)
+        parts.append(f'<circle class="fault" cx="{short(x)}" cy="{short(y)}" '
+                     f'r="{CELL * max(0.75, ball):.1f}"><title>{escape(about)}</title></circle>')
+    style = f"{STYLE}{LIGHT_WAYS}@media(prefers-color-scheme:dark){{{DARK_WAYS}}}{more_style(drawing, scale)}"
+    words = escape(drawing.title + left_out_words(layout))
+    title = f'<g transform="scale({short(scale)})"><text x="{MARGIN}" y="12">{words}</text></g>'
+    below = f'<g transform="translate(0 {short(bottom)}) scale({short(scale)})">' + "\n".join(keys) + "</g>"
+    size = f"{short(width)} {short(height)}"
+    return (f'<svg xmlns="http://www.w3.org/2000/svg" viewBox="0 0 {size}" width="{short(width)}" '
+            f'height="{short(height)}" role="img">'
+            f"<title>{words}</title>\n<style>{style}</style>\n"
+            f'<rect class="back" width="{short(width)}" height="{short(height)}"/>\n'
+            f'<g class="plan" transform="translate({short(margin - view.x * CELL)} {short(margin - view.y * CELL)})">\n'
+            + "\n".join(parts)
+            + f"\n</g>\n{title}\n{below}\n</svg>\n")
+
+
+def wire_tables(document: Document, on: list[str]) -> tuple[dict[str, Table], Table, int]:
+    """Returns the tables of the wires, that of all columns, and the column in which just the names of `on` are true.
+
+    The columns are all assignments of the inputs, or samples if there are more inputs than `MAX_INPUTS`.
+    """
+    layout, circuit = document.layout, document.circuit
+    assert layout is not None
+    inputs = circuit.inputs if circuit else list(dict.fromkeys(part.name or "" for part in layout.of_kind("in")))
+    chosen = sum(1 << index for index, name in enumerate(inputs) if name in on)
+    if len(inputs) > MAX_INPUTS:
+        full = (1 << SAMPLES) - 1
+        return evaluate_samples(circuit, SAMPLES,
+                                on).tables if circuit else sampled_tables(inputs, SAMPLES, on), full, 0
+    if circuit:
+        values = evaluate(circuit, inputs, [gate.number for gate in circuit.gates])
+        return values.tables, values.full, chosen
+    return dict(zip(inputs, input_tables(len(inputs)))), (1 << (1 << len(inputs))) - 1, chosen
+
+
+def sampled_words(document: Document) -> str:
+    """Says that not all choices of the inputs are tried, if that is so."""
+    layout, circuit = document.layout, document.circuit
+    assert layout is not None
+    count = len(circuit.inputs) if circuit else len({part.name for part in layout.of_kind("in")})
+    return f" in {SAMPLES} sampled choices of the {count} inputs" if count > MAX_INPUTS else ""
+
+
+def ball_ways(document: Document, on: list[str] | None, until: int,
+              is_directed: bool = False) -> tuple[dict[str, list[Piece]], dict[str, str]]:
+    """Returns the ways of the balls by the wires that are true if and only if a ball takes them, as straight pieces.
+
+    With `on` only the ways under this choice of inputs are left. The empty name is for assignments that are no wire's.
+    Of equal wires the first one has the way: the second result is the list of their names, by this wire. Pieces go from
+    left to right, or as the balls fly.
+    """
+    layout = document.layout
+    assert layout is not None
+    tables, full, chosen = wire_tables(document, on or [])
+    names: dict[Table, str] = {}
+    equal: dict[str, list[str]] = {}
+    for name, table in tables.items():
+        equal.setdefault(names.setdefault(table, name), []).append(name)
+    names[full] = "1"
+    ways: dict[str, list[Piece]] = {}
+    for table, pieces in (directed_ways if is_directed else ways_of)(layout, tables, full, until).items():
+        if on is None or table >> chosen & 1:
+            ways.setdefault(names.get(table, ""), []).extend(pieces)
+    return ways, {name: ", ".join(same) for name, same in equal.items()}
+
+
+def by_levels(drawing: Drawing, circuit: Circuit, most_wires: int = MAX_LEGEND) -> list[str]:
+    """Gives the ways of more wires than some to groups of levels, and returns the groups.
+
+    A level counts the gates from the inputs to a wire.
+    """
+    levels = dict.fromkeys(circuit.inputs, 0)
+    for gate in circuit.gates:
+        level = max((levels[wire] for wire in gate.ins), default=0) + (gate.word not in ("source", "delay"))
+        levels.update((wire, level) for wire in gate.outs)
+    present = [wire for wire in drawing.ways if wire in levels]
+    if len(present) <= most_wires:
+        return list(levels)
+    most = max(levels[wire] for wire in present) + 1
+    size = -(-most // len(COLOURS))
+    lasts = {first: min(first + size, most) - 1 for first in range(0, most, size)}
+    groups = {first: f"level {first}" if first == last else f"levels {first} to {last}" for first,
+              last in lasts.items()}
+    ways: dict[str, list[Piece]] = {}
+    for wire, pieces in drawing.ways.items():
+        ways.setdefault(groups[levels[wire] // size * size] if wire in levels else wire, []).extend(pieces)
+    drawing.ways = ways
+    return list(groups.values())

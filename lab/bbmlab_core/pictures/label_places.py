@@ -1,0 +1,128 @@
+"""Where the names of ports go in a picture: next to their cells, off the cells of other ports and off each other.
+
+`view/labels.js` has the same rules for the page. All numbers are in units of the picture.
+"""
+
+from dataclasses import dataclass
+from typing import Iterator
+
+# A place that covers a port or another name costs so many times its covered area; other signs cost their area once.
+COVERING_COST = 100.0
+# How many lines of text a name may be away from its cell. Further than `MAX_BARE` it gets a line to its cell.
+MAX_AWAY = 6
+MAX_BARE = 1
+# The side of the squares in which rectangles are filed.
+BUCKET = 64.0
+
+Point = tuple[float, float]
+
+
+@dataclass(frozen=True)
+class Rect:
+    """A rectangle: its left upper corner and its size."""
+
+    x: float
+    y: float
+    width: float
+    height: float
+
+    def shared(self, other: "Rect") -> float:
+        """Returns the area that two rectangles share."""
+        wide = min(self.x + self.width, other.x + other.width) - max(self.x, other.x)
+        high = min(self.y + self.height, other.y + other.height) - max(self.y, other.y)
+        return wide * high if wide > 0 and high > 0 else 0.0
+
+
+@dataclass(frozen=True)
+class Name:
+    """A name to place: its cell, its size, and whether it is rather above its cell than below."""
+
+    cell: Rect
+    width: float
+    height: float
+    is_above: bool
+
+
+@dataclass(frozen=True)
+class Place:
+    """A place of a name: its rectangle, and how many lines of text it is away from the nearest place."""
+
+    box: Rect
+    away: int
+
+
+class Obstacles:
+    """Rectangles with the cost of covering them, filed by squares of the picture."""
+
+    def __init__(self) -> None:
+        self.filed: dict[tuple[int, int], list[int]] = {}
+        self.rects: list[tuple[Rect, float]] = []
+
+    def squares(self, rect: Rect) -> Iterator[tuple[int, int]]:
+        """Yields the squares that a rectangle touches."""
+        for row in range(int(rect.y // BUCKET), int((rect.y + rect.height) // BUCKET) + 1):
+            for column in range(int(rect.x // BUCKET), int((rect.x + rect.width) // BUCKET) + 1):
+                yield column, row
+
+    def add(self, rect: Rect, cost: float) -> None:
+        """Files a rectangle."""
+        for square in self.squares(rect):
+            self.filed.setdefault(square, []).append(len(self.rects))
+        self.rects.append((rect, cost))
+
+    def cost(self, rect: Rect) -> float:
+        """Returns what it costs to cover what lies below a rectangle."""
+        near = {number for square in self.squares(rect) for number in self.filed.get(square, [])}
+        return sum(self.rects[number][1] * rect.shared(self.rects[number][0]) for number in sorted(near))
+
+
+def places_of(name: Name) -> Iterator[Place]:
+    """Yields the places for a name, the best first: above or below, at the sides, at the corners, and then further
+    away."""
+    cell, first = name.cell, -1 if name.is_above else 1
+    x, y = cell.x + cell.width / 2, cell.y + cell.height / 2
+    for away in range(MAX_AWAY + 1):
+        lift = cell.height / 2 + name.height / 2 + 1 + away * name.height
+        shift = cell.width / 2 + name.width / 2 + 2 + away * name.height
+        half = name.width / 2
+        for dx, dy in ((0.0, first * lift), (0.0, -first * lift), (shift, 0.0), (-shift, 0.0), (half, first * lift),
+                       (-half, first * lift),
+                       (half, -first * lift), (-half, -first * lift), (shift, first * lift), (-shift, first * lift),
+                       (shift, -first * lift), (-shift, -first * lift)):
+            yield Place(Rect(x + dx - name.width / 2, y + dy - name.height / 2, name.width, name.height), away)
+
+
+def place_names(names: list[Name], signs: list[Rect], ports: list[Rect], bounds: Rect | None = None) -> list[Place]:
+    """Returns a place for each name, within the bounds if it can.
+
+    `ports` are the cells of ports that have no name of their own, and `signs` what a name should leave free if it can.
+    """
+    obstacles = Obstacles()
+    for rect in signs:
+        obstacles.add(rect, 1.0)
+    for rect in [*ports, *(name.cell for name in names)]:
+        obstacles.add(rect, COVERING_COST)
+    found = []
+    for name in names:
+        best, least = None, float("inf")
+        for place in places_of(name):
+            base = place.away * name.height
+            if base >= least:
+                break
+            outside = place.box.width * place.box.height - place.box.shared(bounds) if bounds else 0.0
+            cost = base + COVERING_COST * outside + obstacles.cost(place.box)
+            if cost < least:
+                best, least = place, cost
+        assert best is not None
+        obstacles.add(best.box, COVERING_COST)
+        found.append(best)
+    return found
+
+
+def leader(place: Place, cell: Rect) -> tuple[Point, Point] | None:
+    """Returns a line from a name to its cell, if the name is so far away that it needs one."""
+    if place.away < MAX_BARE:
+        return None
+    box = place.box
+    x, y = cell.x + cell.width / 2, cell.y + cell.height / 2
+    return (min(max(x, box.x), box.x + box.width), min(max(y, box.y), box.y + box.height)), (x, y)

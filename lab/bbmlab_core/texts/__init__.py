@@ -1,0 +1,1 @@
+"""Texts: the sections and their readers, writers, refusals and reports."""

@@ -1,0 +1,25 @@
+"""The assign section and its reader."""
+
+from .lines import Lines, SectionReader, forms_of
+
+
+class AssignReader(SectionReader):
+    """Reads an assign section."""
+
+    name = "assign"
+    def __init__(self, lines: Lines, known: list[str], command: str) -> None:
+        super().__init__(lines)
+        self.known = dict.fromkeys(known)
+        self.command = command
+        self.on: dict[str, int] = {}
+
+    def read_on(self, name: str) -> None:
+        """Reads a line `on`."""
+        if name not in self.known:
+            self.lines.refuse(3, "on_unknown", name=name, known=list(self.known), command=self.command)
+        if name in self.on:
+            self.lines.refuse(4, "on_twice", name=name, at=self.on[name])
+        self.on[name] = self.lines.taken
+
+    readers = {"assign": SectionReader.read_nothing, "on NAME": read_on, "end": SectionReader.read_nothing}
+    forms = forms_of(*readers)

@@ -1,0 +1,255 @@
+"""The circuit section: its model, its reader, and the values of its wires."""
+
+import random
+from dataclasses import dataclass, field
+from functools import cached_property, partial
+from typing import Any, Iterable
+
+from .gates import GATE_SIZES, INVERSE_GATES, Table, gate_row, input_tables
+from .lines import Lines, SectionReader, forms_of, order_of
+
+MAX_DELAY = 4096
+# The gates whose line has a number: the bit of a source, or the steps of a delay.
+WITH_PARAMETER = ("source", "delay")
+ORDER = ["input", "gate", "output", "spill"]
+LATER = order_of(ORDER)
+
+
+@dataclass
+class Gate:
+    """A gate line: its word, its bit or its number of steps, the wires that it uses and those that it defines."""
+
+    number: int
+    word: str
+    parameter: int | None
+    ins: list[str]
+    outs: list[str]
+    line: int
+
+    @property
+    def is_inverse(self) -> bool:
+        """Whether the gate turns back another one, and so has no row at some values."""
+        return self.word in INVERSE_GATES
+
+
+@dataclass
+class Circuit:
+    """The wires and gates of a circuit, each with the line that it comes from."""
+
+    inputs: list[str] = field(default_factory=list)
+    gates: list[Gate] = field(default_factory=list)
+    outputs: list[str] = field(default_factory=list)
+    spills: list[str] = field(default_factory=list)
+    defined: dict[str, int] = field(default_factory=dict)
+    consumed: dict[str, int] = field(default_factory=dict)
+    maker: dict[str, Gate] = field(default_factory=dict)
+
+    def cone(self, wires: list[str], stop_at: frozenset[str] = frozenset()) -> tuple[list[str], list[int]]:
+        """Returns the free wires and the gates from which `wires` follow. Free are inputs and the wires of `stop_at`.
+        """
+        todo, free, used = list(wires), set(), set()
+        while todo:
+            wire = todo.pop()
+            gate = self.maker.get(wire)
+            if gate is None or wire in stop_at:
+                free.add(wire)
+            elif gate.number not in used:
+                used.add(gate.number)
+                todo += gate.ins
+        return sorted(free, key=self.rank), sorted(used)
+
+    def rank(self, wire: str) -> tuple[int, int]:
+        """Returns a key that sorts wires in order of definition."""
+        gate = self.maker.get(wire)
+        return self.defined[wire], gate.outs.index(wire) if gate else 0
+
+
+@dataclass
+class Valuation:
+    """Tables of wires over assignments of some free wires, and where each gate has a row.
+
+    A bit of a table is a column. If `is_all`, column A is assignment A, and there is one for each choice of the free
+    wires. Else the columns are samples.
+    """
+
+    free: list[str]
+    full: Table
+    tables: dict[str, Table]
+    # The columns at which each gate and all gates before it have a row.
+    rows: dict[int, Table]
+    is_all: bool = True
+
+    def names_of(self, column: int) -> list[str]:
+        """Returns the free wires that are true in a column."""
+        return [name for name in self.free if self.tables[name] >> column & 1]
+
+    @cached_property
+    def defined(self) -> Table:
+        """The columns at which all gates have a row."""
+        defined = self.full
+        for table in self.rows.values():
+            defined &= table
+        return defined
+
+    @property
+    def scope(self) -> str:
+        """In how many choices of the inputs something was tried, in words."""
+        count = self.full.bit_length()
+        if self.is_all:
+            return "in the one choice of the inputs" if count == 1 else f"in all {count} choices of the inputs"
+        return f"in {count} sampled choices of the inputs"
+
+
+def evaluate(circuit: Circuit, free: list[str], gates: list[int]) -> Valuation:
+    """Returns the tables of the free wires and of the outputs of `gates`, in order of gates, over all assignments."""
+    full = (1 << (1 << len(free))) - 1
+    return evaluate_under(circuit, dict(zip(free, input_tables(len(free)))), full, gates)
+
+
+def sampled_tables(names: list[str], count: int, first: Iterable[str] = (), seed: int = 1) -> dict[str, Table]:
+    """Returns a table for each of some free wires in `count` sampled choices of them. In the first choice those of
+    `first` are on.
+
+    Among the samples are all wires off, all on, and many with one wire on or one off. The others are random, some with
+    many ones and some with few, so that wires that are seldom true or seldom false differ from constants.
+    """
+    chance, number, all_on = random.Random(seed), len(names), (1 << len(names)) - 1
+    chosen = set(first)
+    columns = [number_of("1" if name in chosen else "0" for name in names), 0, all_on]
+    some = range(number) if number <= count // 8 else sorted(chance.sample(range(number), count // 8))
+    columns += [flip ^ 1 << index for index in some for flip in (0, all_on)]
+    for index in range(count - len(columns)):
+        share = (0.5, 0.5, 0.25, 0.75, 0.1, 0.9, 0.03, 0.97)[index % 8]
+        columns.append(number_of("1" if chance.random() < share else "0" for _ in range(number)))
+    # The columns of a list of rows, by their digits: a shift for each bit would take quadratic time.
+    rows = [f"{column:0{number}b}"[::-1] for column in columns]
+    return dict(zip(names, map(number_of, zip(*rows))))
+
+
+def number_of(bits: Iterable[str]) -> int:
+    """Returns a number by its binary digits, from the lowest to the highest."""
+    return int("".join(bits)[::-1] or "0", 2)
+
+
+def evaluate_samples(circuit: Circuit, count: int, first: Iterable[str] = ()) -> Valuation:
+    """Returns the tables of all wires in `count` sampled choices of the inputs.
+
+    In the first choice the inputs of `first` are on.
+    """
+    tables = sampled_tables(circuit.inputs, count, first)
+    values = evaluate_under(circuit, tables, (1 << count) - 1, [gate.number for gate in circuit.gates])
+    values.is_all = False
+    return values
+
+
+def evaluate_under(circuit: Circuit, free: dict[str, Table], full: Table, gates: list[int]) -> Valuation:
+    """Returns the tables of wires that follow from those of the free wires by `gates`, in order of gates.
+
+    `full` has all columns.
+    """
+    tables = dict(free)
+    defined, rows = full, {}
+    for number in gates:
+        gate = circuit.gates[number]
+        outs, has_row = gate_row(gate.word, gate.parameter, [tables[name] for name in gate.ins], full)
+        defined &= has_row
+        rows[number] = defined
+        tables.update((name, table & defined) for name, table in zip(gate.outs, outs))
+    return Valuation(list(free), full, tables, rows)
+
+
+def values_under(circuit: Circuit, on: set[str]) -> tuple[dict[str, bool], int | None]:
+    """Returns the value of each wire under one assignment, and the first gate without a row, behind which there are
+    none."""
+    values = {name: name in on for name in circuit.inputs}
+    for gate in circuit.gates:
+        outs, has_row = gate_row(gate.word, gate.parameter, [int(values[name]) for name in gate.ins], 1)
+        if not has_row:
+            return values, gate.number
+        values.update((name, bool(table)) for name, table in zip(gate.outs, outs))
+    return values, None
+
+
+class CircuitReader(SectionReader):
+    """Reads a circuit section."""
+
+    name = "circuit"
+    def __init__(self, lines: Lines) -> None:
+        super().__init__(lines)
+        self.circuit = Circuit()
+
+    def read_input(self, name: str) -> None:
+        """Reads a line `input`."""
+        self.require_kind_order("input", LATER)
+        self.require_room([name])
+        self.define([name])
+        self.circuit.inputs.append(name)
+
+    def read_output(self, name: str) -> None:
+        """Reads a line `output`."""
+        self.require_kind_order("output", LATER)
+        self.consume([name])
+        self.circuit.outputs.append(name)
+
+    def read_spill(self, name: str) -> None:
+        """Reads a line `spill`."""
+        self.consume([name])
+        self.circuit.spills.append(name)
+
+    def read_gate(self, *values: Any, word: str) -> None:
+        """Reads a gate line of any kind."""
+        self.require_kind_order("gate", LATER)
+        parameter, names = (values[0], list(values[1:])) if word in WITH_PARAMETER else (None, list(values))
+        uses = GATE_SIZES[word][0]
+        ins, outs = names[:uses], names[uses:]
+        if word == "delay" and not 1 <= (parameter or 0) <= MAX_DELAY:
+            self.lines.refuse(2, "delay_limit", number=parameter)
+        self.require_room(outs)
+        if len(self.circuit.gates) == self.lines.limits.max_gates:
+            self.lines.refuse(2, "gate_count", limits=self.lines.limits)
+        self.consume(ins)
+        gate = Gate(len(self.circuit.gates), word, parameter, ins, outs, self.lines.taken)
+        self.define(outs)
+        self.circuit.gates.append(gate)
+        self.circuit.maker.update((name, gate) for name in outs)
+        self.kind_lines["gate"] = self.lines.taken
+
+    def read_end(self) -> None:
+        """Reads the line `end`, at which each wire is consumed."""
+        unused = [name for name in self.circuit.defined if name not in self.circuit.consumed]
+        if unused:
+            self.lines.refuse(11, "wire_not_consumed", names=unused, defined=dict(self.circuit.defined))
+
+    def require_room(self, outs: list[str]) -> None:
+        """Refuses the line that would pass the limit of wires."""
+        if len(self.circuit.defined) + len(outs) > self.lines.limits.max_wires:
+            self.lines.refuse(2, "wire_count", limits=self.lines.limits)
+
+    def consume(self, names: list[str]) -> None:
+        """Consumes wires from the left, each of which is defined and not yet consumed."""
+        for name in names:
+            if name not in self.circuit.defined:
+                self.lines.refuse(3, "wire_not_defined", name=name, known=list(self.circuit.defined))
+            if name in self.circuit.consumed:
+                self.lines.refuse(5, "wire_consumed", name=name, at=self.circuit.consumed[name])
+            self.circuit.consumed[name] = self.lines.taken
+
+    def define(self, names: list[str]) -> None:
+        """Defines wires from the left, none of which is defined yet."""
+        for name in names:
+            if name in self.circuit.defined:
+                self.lines.refuse(4, "wire_defined", name=name, at=self.circuit.defined[name])
+            self.circuit.defined[name] = self.lines.taken
+
+    readers = {
+        "circuit": SectionReader.read_nothing, "input NAME": read_input,
+        "source BIT -> NAME": partial(read_gate, word="source"),
+        "fredkin A B C -> D E F": partial(read_gate, word="fredkin"),
+        "cswap A B C -> D E F": partial(read_gate, word="cswap"),
+        "interact A B -> C D E F": partial(read_gate, word="interact"),
+        "switch A B -> C D E": partial(read_gate, word="switch"),
+        "delay N A -> B": partial(read_gate, word="delay"),
+        "unswitch A B C -> D E": partial(read_gate, word="unswitch"),
+        "uninteract A B C D -> E F": partial(read_gate, word="uninteract"),
+        "output NAME": read_output, "spill NAME": read_spill, "end": read_end}
+    forms = forms_of(*readers)

@@ -1,0 +1,86 @@
+"""The gates: how many wires each has, and the rule of each on bits or on whole tables of assignments.
+
+Sources: Fredkin and Toffoli 1982 for the gates; the order of outputs is that of docs/FORMATS.md.
+"""
+
+from typing import Callable
+
+# The number of inputs and of outputs.
+GATE_SIZES = {
+    "source": (0, 1), "fredkin": (3, 3), "cswap": (3, 3), "interact": (2, 4), "switch": (2, 3), "delay": (1, 1),
+    "unswitch": (3, 2), "uninteract": (4, 2),
+}
+INVERSE_GATES = {"unswitch": "switch", "uninteract": "interact"}
+
+Table = int
+Row = tuple[list[Table], Table]
+
+
+def _fredkin(full: Table, c: Table, x: Table, y: Table) -> Row:
+    """Returns the outputs of `fredkin`, and where it has a row."""
+    n = full ^ c
+    return [c, c & x | n & y, c & y | n & x], full
+
+
+def _cswap(full: Table, c: Table, x: Table, y: Table) -> Row:
+    """Returns the outputs of `cswap`, and where it has a row."""
+    n = full ^ c
+    return [c, c & y | n & x, c & x | n & y], full
+
+
+def _interact(full: Table, p: Table, q: Table) -> Row:
+    """Returns the outputs of `interact`, and where it has a row."""
+    return [p & q, q & ~p, p & ~q, p & q], full
+
+
+def _switch(full: Table, c: Table, x: Table) -> Row:
+    """Returns the outputs of `switch`, and where it has a row."""
+    return [c, c & x, x & ~c], full
+
+
+def _delay(full: Table, a: Table) -> Row:
+    """Returns the output of `delay`, and where it has a row."""
+    return [a], full
+
+
+def _unswitch(full: Table, c: Table, y: Table, z: Table) -> Row:
+    """Returns the outputs of `unswitch`, and where it has a row."""
+    return [c, y | z], full & ~(c & z | y & ~c)
+
+
+def _uninteract(full: Table, a: Table, b: Table, c: Table, d: Table) -> Row:
+    """Returns the outputs of `uninteract`, and where it has a row."""
+    none = ~(a | b | c | d)
+    alone = b & ~(a | c | d) | c & ~(a | b | d)
+    return [a | c, a | b], full & (none | alone | a & d & ~(b | c))
+
+
+RULES: dict[str, Callable[..., Row]] = {
+    "fredkin": _fredkin, "cswap": _cswap, "interact": _interact, "switch": _switch, "delay": _delay,
+    "unswitch": _unswitch, "uninteract": _uninteract,
+}
+
+
+def gate_row(word: str, number: int | None, inputs: list[Table], full: Table) -> Row:
+    """Returns the tables of a gate's outputs, and the table of the assignments under which the gate has a row.
+
+    A table is a number whose bit A says whether a wire is true under assignment A. `full` has the bits of all
+    assignments.
+    """
+    if word == "source":
+        return [full if number == 1 else 0], full
+    return RULES[word](full, *inputs)
+
+
+def input_tables(count: int) -> list[Table]:
+    """Returns a table for each of `count` free wires: bit I of an assignment is the value of wire I."""
+    tables = []
+    for index in range(count):
+        run = 1 << index
+        block = ((1 << run) - 1) << run
+        width = 2 * run
+        while width < 1 << count:
+            block |= block << width
+            width *= 2
+        tables.append(block)
+    return tables

@@ -1,0 +1,245 @@
+"""`bbmlab json`: a text and its report as one JSON document, and back."""
+
+import json
+from types import GeneratorType
+from typing import Any, Callable
+
+from ..host.terminal import LabError
+from .certificates import Certificate, Module
+from .circuits import Circuit
+from .documents import Document, without_collector
+from .gates import GATE_SIZES
+from .layouts import Layout
+from .limits import FIRST, SECOND
+from .lines import NAME
+from .refusals import refusal_words
+from .reports import Report
+
+FORMAT = "bbmlab bundle 1"
+# Writes a text as JSON. `json.dumps` takes four times as long.
+written_text = json.JSONEncoder().encode
+
+
+def circuit_json(circuit: Circuit) -> dict[str, Any]:
+    """Returns a circuit as JSON values."""
+    gates = [{"gate": gate.word, "parameter": gate.parameter, "ins": gate.ins, "outs": gate.outs}
+             for gate in circuit.gates]
+    return {"inputs": circuit.inputs, "gates": gates, "outputs": circuit.outputs, "spills": circuit.spills}
+
+
+def layout_json(layout: Layout) -> dict[str, Any]:
+    """Returns a layout as JSON values."""
+    return {"width": layout.width, "height": layout.height, "steps": layout.steps,
+            "mirrors": [[part.x, part.y, part.width, part.height] for part in layout.of_kind("mirror")],
+            "balls": [list(part.cell) for part in layout.of_kind("ball")],
+            "ins": [{"name": part.name, "cell": list(part.cell)} for part in layout.of_kind("in")],
+            "outs": [{"name": part.name, "cell": list(part.cell)} for part in layout.of_kind("out")],
+            "wastes": [list(part.cell) for part in layout.of_kind("waste")]}
+
+
+def module_json(module: Module) -> dict[str, Any]:
+    """Returns a module as JSON values. The time `*` is null."""
+    box = module.box
+    return {"box": list(box), "cuts": module.cuts, "uses": list(module.uses),
+            "keeps": list(module.keeps),
+            "edges": [[line.time, line.x, line.y, line.signal] for line in module.edges],
+            "halos": [[line.time, line.x, line.y, line.signal] for line in module.halos],
+            "stops": [[stop.time, stop.name, stop.x, stop.y] for stop in module.stops]}
+
+
+def report_json(report: Report) -> dict[str, Any]:
+    """Returns a report as JSON values."""
+    if report.refused:
+        return {"refused": {"line": report.refused[0], "code": report.refused[1]}}
+    return {"verdict": report.verdict, "certificate": report.digest, "modules": report.modules,
+            "findings": [{"kind_of_line": finding.word, **finding.values} for finding in report.findings]}
+
+
+def document_json(document: Document, report: Report | None) -> str:
+    """Writes the sections of a text, and a report if there is one, as one JSON document."""
+    if document.refusal:
+        raise LabError(f"the text is refused: {refusal_words(document)}", 1)
+    parts: dict[str, Any] = {"format": FORMAT}
+    if document.limits is not FIRST:
+        parts["limits"] = document.limits.number
+    if document.circuit:
+        parts["circuit"] = circuit_json(document.circuit)
+    if document.layout:
+        parts["layout"] = layout_json(document.layout)
+    if document.on is not None:
+        parts["assign"] = {"on": document.on}
+    if document.certificate:
+        certificate: Certificate = document.certificate
+        parts["certificate"] = {"version": certificate.version,
+                                "modules": (module_json(module) for module in certificate.modules)}
+    if report:
+        parts["report"] = report_json(report)
+    with without_collector():
+        return indented(parts, "\n") + "\n"
+
+
+def indented(value: Any, begin: str) -> str:
+    """Writes a JSON value as `json.dumps` does with an indent of 1, in half of its time. `begin` is a line feed and the
+    present indent.
+
+    The values of a generator are written as a list, and none is kept.
+    """
+    inner, kind = f"{begin} ", type(value)
+    if kind is int:
+        return str(value)
+    if kind is str:
+        return written_text(value)
+    if kind is list and value:
+        members = f",{inner}".join([str(member) if type(member) is int else indented(member, inner)
+                                    for member in value])
+        return f"[{inner}{members}{begin}]"
+    if kind is GeneratorType:
+        members = f",{inner}".join([indented(member, inner) for member in value])
+        return f"[{inner}{members}{begin}]" if members else "[]"
+    if kind is dict and value:
+        members = f",{inner}".join([f"{written_text(name)}: {indented(member, inner)}" for name,
+                                    member in value.items()])
+        return f"{{{inner}{members}{begin}}}"
+    return json.dumps(value)
+
+
+class Member:
+    """A value of a JSON document with its path, such as `certificate.modules[2].cuts[0]`.
+
+    What is wrong with it is a `LabError`.
+    """
+
+    def __init__(self, value: Any, path: str) -> None:
+        self.value, self.path = value, path
+
+    def wrong(self, wanted: str) -> LabError:
+        """Returns the error that says what the member should be."""
+        shown = json.dumps(self.value)
+        return LabError(f"{self.path} is {shown if len(shown) <= 60 else shown[:57] + '...'}, and not {wanted}")
+
+    def __getitem__(self, name: str) -> "Member":
+        """Returns a member of an object."""
+        if not isinstance(self.value, dict):
+            raise self.wrong("an object")
+        path = f"{self.path}.{name}" if self.path else name
+        if name not in self.value:
+            raise LabError(f"{path} is missing")
+        return Member(self.value[name], path)
+
+    def has(self, name: str) -> bool:
+        """Whether an object contains a member."""
+        return isinstance(self.value, dict) and name in self.value
+
+    def items(self, count: int | None = None) -> "list[Member]":
+        """Returns the values of a list, which has `count` of them if that is given."""
+        if not isinstance(self.value, list) or count is not None and len(self.value) != count:
+            raise self.wrong("a list" if count is None else f"a list of {count} values")
+        return [Member(value, f"{self.path}[{index}]") for index, value in enumerate(self.value)]
+
+    def number(self) -> str:
+        """Returns a number as a text writes it."""
+        if type(self.value) is not int or not 0 <= self.value < 10 ** 9:
+            raise self.wrong("a whole number from 0 to 999999999")
+        return str(self.value)
+
+    def name(self) -> str:
+        """Returns a name of a wire."""
+        if not isinstance(self.value, str) or not NAME.match(self.value):
+            raise self.wrong("a name of a wire: a to z, then a to z, 0 to 9 and _, at most 32 of them")
+        return str(self.value)
+
+    def signal(self) -> str:
+        """Returns a name of a wire, or `1`."""
+        return "1" if self.value == "1" else self.name()
+
+    def time(self) -> str:
+        """Returns a time, with `*` for null."""
+        return "*" if self.value is None else self.number()
+
+    def numbers(self, count: int) -> str:
+        """Returns so many numbers with spaces between them."""
+        return " ".join(item.number() for item in self.items(count))
+
+
+def gate_text(gate: Member) -> str:
+    """Returns the line of a gate."""
+    word, parameter = gate["gate"].value, gate["parameter"]
+    if not isinstance(word, str) or word not in GATE_SIZES:
+        raise gate["gate"].wrong("the word of a gate")
+    ins, outs = GATE_SIZES[word]
+    number = [parameter.number()] if word in ("source", "delay") else []
+    if not number and parameter.value is not None:
+        raise parameter.wrong("null")
+    return " ".join([word, *number, *(item.name() for item in gate["ins"].items(ins)), "->",
+                     *(item.name() for item in gate["outs"].items(outs))])
+
+
+def circuit_text(circuit: Member) -> list[str]:
+    """Returns the lines of a circuit."""
+    return ["circuit", *(f"input {item.name()}" for item in circuit["inputs"].items()),
+            *(gate_text(gate) for gate in circuit["gates"].items()),
+            *(f"output {item.name()}" for item in circuit["outputs"].items()),
+            *(f"spill {item.name()}" for item in circuit["spills"].items()), "end"]
+
+
+def layout_text(layout: Member) -> list[str]:
+    """Returns the lines of a layout."""
+    def ports(word: str) -> list[str]:
+        """Returns the lines of ports."""
+        return [f"{word} {port['name'].name()} {port['cell'].numbers(2)}" for port in layout[f"{word}s"].items()]
+
+    return [f"layout {layout['width'].number()} {layout['height'].number()} {layout['steps'].number()}",
+            *(f"mirror {box.numbers(4)}" for box in layout["mirrors"].items()),
+            *(f"ball {cell.numbers(2)}" for cell in layout["balls"].items()),
+            *ports("in"), *ports("out"), *(f"waste {cell.numbers(2)}" for cell in layout["wastes"].items()), "end"]
+
+
+def border_text(word: str, line: Member) -> str:
+    """Returns an `edge` or `halo` line."""
+    time, x, y, signal = line.items(4)
+    return f"{word} {time.time()} {x.number()} {y.number()} {signal.signal()}"
+
+
+def stop_text(line: Member) -> str:
+    """Returns a `stop` line."""
+    time, name, x, y = line.items(4)
+    return f"stop {time.number()} {name.name()} {x.number()} {y.number()}"
+
+
+def module_text(module: Member) -> list[str]:
+    """Returns the lines of a module."""
+    kinds: list[tuple[str, Callable[[Member], str]]] = [("cut", Member.name), ("use", Member.number),
+                                                        ("keep", Member.number)]
+    lines = [f"module {module['box'].numbers(4)}"]
+    for word, value in kinds:
+        lines += [f"{word} {value(item)}" for item in module[f"{word}s"].items()]
+    for word in ("edge", "halo"):
+        lines += [border_text(word, line) for line in module[f"{word}s"].items()]
+    return lines + [stop_text(line) for line in module["stops"].items()]
+
+
+def text_from_json(text: str) -> str:
+    """Returns the text of a JSON document. A report in it is left out. A member that is wrong is named."""
+    try:
+        document = Member(json.loads(text), "")
+    except (ValueError, RecursionError) as error:
+        raise LabError(f"this is no JSON document: {error}") from error
+    if not isinstance(document.value, dict) or document.value.get("format") != FORMAT:
+        raise LabError(f"the JSON document has not the format `{FORMAT}`")
+    lines: list[str] = []
+    if document.has("limits"):
+        limits = document["limits"]
+        if type(limits.value) is not int or limits.value not in (FIRST.number, SECOND.number):
+            raise limits.wrong(f"{FIRST.number} or {SECOND.number}")
+        lines += SECOND.head.splitlines() if limits.value == SECOND.number else []
+    if document.has("circuit"):
+        lines += circuit_text(document["circuit"])
+    if document.has("layout"):
+        lines += layout_text(document["layout"])
+    if document.has("assign"):
+        lines += ["assign", *(f"on {item.name()}" for item in document["assign"]["on"].items()), "end"]
+    if document.has("certificate"):
+        certificate = document["certificate"]
+        lines.append(f"certificate {certificate['version'].number()}")
+        lines += [line for module in certificate["modules"].items() for line in module_text(module)] + ["end"]
+    return "\n".join(lines) + "\n"

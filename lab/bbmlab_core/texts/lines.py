@@ -1,0 +1,189 @@
+"""Lines, words, numbers and names of a text, and how a reader refuses it."""
+
+import re
+from dataclasses import dataclass, field
+from functools import cache, partial
+from typing import Any, Callable, Iterable, NoReturn
+
+from .limits import FIRST, limits_of
+
+NUMBER_WORD = "(?:0|[1-9][0-9]{0,8})"
+NAME_WORD = "[a-z][a-z0-9_]{0,31}"
+NUMBER = re.compile(rf"{NUMBER_WORD}\Z")
+NAME = re.compile(rf"{NAME_WORD}\Z")
+
+# What each placeholder of a form takes.
+NUMBERS = {"X", "Y", "W", "H", "STEPS", "N", "T", "GATE", "VERSION"}
+NAMES = {"NAME", "A", "B", "C", "D", "E", "F"}
+
+Form = tuple[str, ...]
+# The kinds of line that come later than each kind.
+Order = dict[str, list[str]]
+Values = list[Any]
+
+
+@dataclass(frozen=True)
+class Refusal:
+    """The line and the code of a refusal, with the cause that the lab's reader found and the facts about it."""
+
+    line: int
+    code: int
+    cause: str
+    facts: dict[str, Any] = field(default_factory=dict)
+
+
+class Refused(Exception):
+    """A text that a reader does not take."""
+
+    def __init__(self, refusal: Refusal) -> None:
+        super().__init__(f"refused {refusal.line} {refusal.code}")
+        self.refusal = refusal
+
+
+def order_of(kinds: Iterable[str]) -> Order:
+    """Returns the kinds that come later than each kind."""
+    listed = list(kinds)
+    return {kind: listed[index:] for index, kind in enumerate(listed, 1)}
+
+
+def forms_of(*forms: str) -> dict[str, Form]:
+    """Returns the forms of a section by their keywords."""
+    return {form.split(" ")[0]: tuple(form.split(" ")) for form in forms}
+
+
+def word_value(word: str, placeholder: str) -> Any:
+    """Returns the value of a word in the place of a placeholder; raises ValueError where the word has no such form."""
+    if placeholder in NUMBERS and NUMBER.match(word):
+        return int(word)
+    if placeholder in NAMES and NAME.match(word):
+        return word
+    if placeholder == "BIT" and word in ("0", "1"):
+        return int(word)
+    if placeholder == "SIGNAL" and (word == "1" or NAME.match(word)):
+        return word
+    if placeholder == "TIME" and (word == "*" or NUMBER.match(word)):
+        return None if word == "*" else int(word)
+    if placeholder == word and not word.isupper():
+        return word
+    raise ValueError(f"{word!r} is not a {placeholder}")
+
+
+def value_pattern(place: str) -> str:
+    """Returns the regular expression of the words that may be in the place of a placeholder, as a group; other words
+    stand for themselves."""
+    if place in NUMBERS:
+        return f"({NUMBER_WORD})"
+    if place in NAMES:
+        return f"({NAME_WORD})"
+    other = {"BIT": "([01])", "SIGNAL": f"(1|{NAME_WORD})", "TIME": rf"(\*|{NUMBER_WORD})"}
+    return other.get(place) or re.escape(place)
+
+
+def time_of(word: str) -> int | None:
+    """Returns the time of a word, and None for `*`."""
+    return None if word == "*" else int(word)
+
+
+def value_reader(place: str) -> Callable[[str], Any]:
+    """Returns what makes a value of a word in the place of a placeholder."""
+    if place == "TIME":
+        return time_of
+    return int if place in NUMBERS or place == "BIT" else str
+
+
+@cache
+def form_pattern(form: Form) -> tuple[re.Pattern[str], list[Callable[[str], Any]]]:
+    """Returns the regular expression of a whole line of a form, and what makes the values of its groups."""
+    return re.compile(" ".join(map(value_pattern, form))), [value_reader(place) for place in form if place.isupper()]
+
+
+def match_line(line: str, forms: dict[str, Form]) -> tuple[str, Values] | None:
+    """Returns the keyword of a line and the values of its placeholders, or None where no form fits."""
+    keyword = line.partition(" ")[0]
+    form = forms.get(keyword)
+    if form is None:
+        return None
+    pattern, readers = form_pattern(form)
+    found = pattern.fullmatch(line)
+    return (keyword, [reader(word) for reader, word in zip(readers, found.groups())]) if found else None
+
+
+def match_form(words: list[str], forms: dict[str, Form]) -> tuple[str, Values] | None:
+    """Returns the keyword of a line and the values of its placeholders, or None where no form fits."""
+    return match_line(" ".join(words), forms)
+
+
+class Lines:
+    """The lines of a text, taken one by one and counted from 1. A first line `limits 2` is taken already."""
+
+    def __init__(self, text: str) -> None:
+        self.parts = text.split("\n")
+        self.limits = limits_of(text)
+        self.taken = 0 if self.limits is FIRST else 1
+
+    def refuse(self, code: int, cause: str, **facts: Any) -> NoReturn:
+        """Refuses the line that was taken last."""
+        raise Refused(Refusal(self.taken, code, cause, facts))
+
+    def take(self, section: str) -> str:
+        """Returns the next line."""
+        if self.taken == len(self.parts) - 1:
+            self.taken += 1
+            rest = self.parts[-1]
+            self.refuse(12, "line_not_ended" if rest else "text_ended", section=section, rest=rest)
+        self.taken += 1
+        return self.parts[self.taken - 1]
+
+    def finish(self, section: str) -> None:
+        """Refuses a text that goes on after its last section."""
+        if self.parts[self.taken:] != [""]:
+            rest = self.parts[self.taken]
+            self.taken += 1
+            self.refuse(12, "text_goes_on", section=section, rest=rest)
+
+
+class SectionReader:
+    """Reads one section line by line.
+
+    A subclass lists the forms of its lines, each with the method that takes the values of the line.
+    """
+
+    name = ""
+    readers: dict[str, Callable[..., None]] = {}
+    forms: dict[str, Form] = {}
+
+    def __init__(self, lines: Lines) -> None:
+        self.lines = lines
+        self.first_line = lines.taken + 1
+        self.last_line = 0
+        self.kind_lines: dict[str, int] = {}
+
+    def forms_now(self) -> dict[str, Form]:
+        """Returns the forms that the section has at this line."""
+        return self.forms
+
+    def read(self) -> None:
+        """Reads up to the line `end`, or raises `Refused`."""
+        keyword, readers = "", {form.partition(" ")[0]: partial(reader, self) for form, reader in self.readers.items()}
+        while keyword != "end":
+            found = match_line(self.lines.take(self.name), self.forms_now())
+            if found is None:
+                self.lines.refuse(1, "shape", section=self.name, begun=bool(keyword), forms=self.forms_now())
+            is_header = found[0] == self.name
+            if is_header and keyword:
+                self.lines.refuse(6, "second_header", section=self.name, first=self.first_line)
+            if not is_header and not keyword:
+                self.lines.refuse(6, "first_not_header", section=self.name, keyword=found[0])
+            keyword, values = found
+            readers[keyword](*values)
+            self.kind_lines[keyword] = self.lines.taken
+        self.last_line = self.lines.taken
+
+    def read_nothing(self) -> None:
+        """Reads a line without values, behind which nothing is left to do."""
+
+    def require_kind_order(self, keyword: str, order: Order) -> None:
+        """Refuses a kind of line that comes after a later kind."""
+        if not self.kind_lines.keys().isdisjoint(order[keyword]):
+            later = [kind for kind in order[keyword] if kind in self.kind_lines]
+            self.lines.refuse(6, "kind_after_later_kind", kind=keyword, later=later[-1], at=self.kind_lines[later[-1]])

@@ -1,0 +1,617 @@
+"""Refusals in plain English: for each cause that the lab's reader finds, what is wrong, which rule it breaks, and a
+hint.
+"""
+
+import difflib
+from dataclasses import dataclass, field
+from typing import Any, Callable
+
+from .documents import Document
+from .limits import needs_line
+from .lines import Refusal
+from .shape_hints import shape_hints
+
+RULES = {
+    1: "Each line has one of the forms of its section, with one space between words.",
+    2: "Each number and each count has a limit.",
+    3: "A name or a gate number is used after it is defined.",
+    4: "A name is defined, cut or turned on once.",
+    5: "Each wire is consumed once: by a gate, an `output` or a `spill`.",
+    6: "Kinds of line come in the order of docs/FORMATS.md, and lists rise.",
+    7: "Each cell lies in the rectangle, and no two parts share a cell.",
+    8: "A box has even corners, lies in the rectangle, and overlaps no earlier box.",
+    9: "A line of a module names wires that the module knows: its cuts and the outputs of the gates that it uses.",
+    10: "A line names a time and a cell at which a signal or a stop may be.",
+    11: "A section or a module ends when nothing is missing.",
+    12: "A text has its sections and nothing else, and its last line ends with a line feed.",
+}
+
+
+@dataclass
+class Explained:
+    """A refusal in words: what is wrong, the rule, hints that were not tried, and the names and lines that are meant.
+    """
+
+    what: list[str]
+    hints: list[str]
+    rule: str = ""
+    names: list[str] = field(default_factory=list)
+    lines: list[int] = field(default_factory=list)
+
+
+Facts = dict[str, Any]
+Teller = Callable[[Facts], Explained]
+TELLERS: dict[str, Teller] = {}
+
+
+def tells(cause: str) -> Callable[[Teller], Teller]:
+    """Registers the function that explains a cause."""
+    def register(teller: Teller) -> Teller:
+        """Notes the function as the one that explains these causes."""
+        TELLERS[cause] = teller
+        return teller
+    return register
+
+
+def listed(names: list[str], most: int = 8) -> str:
+    """Returns names in backticks with commas, at most `most` of them."""
+    shown = ", ".join(f"`{name}`" for name in names[:most])
+    return shown + (f" and {len(names) - most} more" if len(names) > most else "")
+
+
+def near(name: str, known: list[str]) -> str:
+    """Returns a hint at names that are written alike."""
+    alike = difflib.get_close_matches(name, known, 2, 0.5)
+    return f" Did you mean {' or '.join(f'`{other}`' for other in alike)}?" if alike else ""
+
+
+def earlier(facts: Facts) -> str:
+    """Returns the line of what comes before, where it is not the refused line itself."""
+    return "on this line" if facts["at"] == facts["here"] else f"line {facts['at']}"
+
+
+def box_words(box: Any) -> str:
+    """Returns a box as its columns and rows."""
+    return f"columns {box.x} to {box.x + box.width - 1}, rows {box.y} to {box.y + box.height - 1}"
+
+
+# ---- code 12
+
+@tells("text_ended")
+def _text_ended(facts: Facts) -> Explained:
+    """Explains a text that ends before its last section does."""
+    section = facts["section"]
+    return Explained([f"The text ends before the {section} section is complete: no line is left."],
+                     [f"Write the {section} section up to its line `end`. The file may have been cut off.",
+                      *(["`bbmlab certify` makes a certificate."] if section == "certificate" else [])])
+
+
+@tells("line_not_ended")
+def _line_not_ended(facts: Facts) -> Explained:
+    """Explains a last line without a line feed."""
+    return Explained([f"The last line, `{facts['rest'][:60]}`, does not end with a line feed."],
+                     ["Add a line feed at the end of the file. `bbmlab fmt` does."])
+
+
+@tells("text_goes_on")
+def _text_goes_on(facts: Facts) -> Explained:
+    """Explains lines after the last section."""
+    rest = facts["rest"]
+    shown = f"`{rest[:60]}`" if rest else "an empty line"
+    return Explained([f"The text goes on after the {facts['section']} section, which is the last: {shown}."],
+                     ["Remove what comes after the last `end`, or use the command that reads these sections."])
+
+
+# ---- code 6
+
+@tells("first_not_header")
+def _first_not_header(facts: Facts) -> Explained:
+    """Explains a section that does not begin with its header."""
+    header = {"layout": "layout W H STEPS", "certificate": "certificate 2"}.get(facts["section"], facts["section"])
+    return Explained([f"The {facts['section']} section begins here with a line `{facts['keyword']}` and not with its "
+                      "header."],
+                     [f"Write the header `{header}` first."])
+
+
+@tells("second_header")
+def _second_header(facts: Facts) -> Explained:
+    """Explains a second header in a section."""
+    return Explained([f"The {facts['section']} section has a second header; the first is line {facts['first']}."],
+                     ["Remove this header, or write `end` before it."], lines=[facts["first"]])
+
+
+@tells("kind_after_later_kind")
+def _kind_after_later_kind(facts: Facts) -> Explained:
+    """Explains a kind of line that comes too late in its section or module."""
+    kind, other = ("gate" if facts[name] == "gate" else f"`{facts[name]}`" for name in ("kind", "later"))
+    return Explained([f"This {kind} line comes after the {other} line {facts['at']}; it belongs before all {other} "
+                      "lines."],
+                     ["Move the line up. `bbmlab fmt` sorts the kinds."], lines=[facts["at"]])
+
+
+@tells("before_first_module")
+def _before_first_module(facts: Facts) -> Explained:
+    """Explains a line before the first `module` line."""
+    return Explained([f"This `{facts['kind']}` line comes before the first `module` line, so it belongs to no module."],
+                     ["Write a line `module X Y W H` before it."])
+
+
+@tells("gate_not_rising")
+def _gate_not_rising(facts: Facts) -> Explained:
+    """Explains a `use` or `keep` line whose gate number does not rise."""
+    kind, number, last = facts["kind"], facts["number"], facts["last"]
+    how = "the same number as" if number == last else "a lower number than"
+    return Explained([f"`{kind} {number}` has {how} `{kind} {last}` on line {facts['at']}; the gate numbers of a "
+                      "module rise."],
+                     ["Remove the line." if number == last else "Sort these lines by number. `bbmlab fmt` does."],
+                     lines=[facts["at"]])
+
+
+@tells("border_not_rising")
+def _border_not_rising(facts: Facts) -> Explained:
+    """Explains an `edge`, `halo` or `stop` line that is out of order."""
+    new, last = facts["new"], facts["last"]
+    if new.place == last.place:
+        what, hint = "names the same time and cell as", "Keep one of the two lines."
+    elif new.place[0] == -1:
+        what, hint = ("has `*`, and lines with `*` come first; it is out of order with",
+                      "Move it up. `bbmlab fmt` sorts.")
+    else:
+        part = next(name for name, a, b in zip(("time", "y", "x"), new.place, last.place) if a != b)
+        what, hint = f"has a smaller {part} than", "Sort by time, then y, then x. `bbmlab fmt` does."
+    return Explained([f"`{new}` {what} the line before it in the list, `{last}` (line {last.line})."], [hint],
+                     lines=[last.line])
+
+
+# ---- code 11
+
+@tells("wire_not_consumed")
+def _wire_not_consumed(facts: Facts) -> Explained:
+    """Explains wires that nothing consumes at the end of a circuit."""
+    names = facts["names"]
+    lines = [facts["defined"][name] for name in names]
+    where = ", ".join(f"`{name}` (line {line})" for name, line in list(zip(names, lines))[:8])
+    verb = "wires are" if len(names) > 1 else "wire is"
+    return Explained([f"{len(names)} {verb} defined and not consumed: {where}."],
+                     [f"Add `output {names[0]}`, or `spill {names[0]}` for a wire that is left over."], names=names,
+                     lines=lines)
+
+
+@tells("port_without_cell")
+def _port_without_cell(facts: Facts) -> Explained:
+    """Explains inputs or outputs without a cell at the end of a layout."""
+    what, hints = [], []
+    for kind, side in (("in", "inputs"), ("out", "outputs")):
+        names = facts[side]
+        if names:
+            what.append(f"The layout has no `{kind}` cell for {side[:-1] if len(names) == 1 else side} {listed(names)} "
+                        "of the circuit.")
+            hints.append(f"Add a line `{kind} {names[0]} X Y`.")
+    return Explained(what, hints, names=facts["inputs"] + facts["outputs"])
+
+
+@tells("port_not_local")
+def _port_not_local(facts: Facts) -> Explained:
+    """Explains a port in a box whose wire the module does not know."""
+    what = [f"Module {facts['module']} (line {facts['at']}) has the cell of `{port.kind} {port.name} {port.x} "
+            f"{port.y}` (line {port.line}) "
+            f"in its box, and does not know the wire `{port.name}`." for port in facts["ports"][:8]]
+    hints = [make_local(port.name, facts["makers"][port.name]) for port in facts["ports"][:8]]
+    names = list(dict.fromkeys(port.name for port in facts["ports"]))
+    return Explained(what, list(dict.fromkeys(hints)), names=names,
+                     lines=[facts["at"]] + [port.line for port in facts["ports"]])
+
+
+def make_local(name: str, gate: Any) -> str:
+    """Returns how a module comes to know a wire."""
+    if gate is None:
+        return f"Add `cut {name}` to the module."
+    if not gate.ins:
+        return f"Add `use {gate.number}` to the module: that source makes `{name}`."
+    return (f"Add `use {gate.number}` to the module: that {gate.word} makes `{name}` from {listed(gate.ins)}, which "
+            "the module then knows too. "
+            f"Or add `cut {name}` if the module lies away from that gate.")
+
+
+@tells("no_module")
+def _no_module(facts: Facts) -> Explained:
+    """Explains a certificate without modules."""
+    width, height = facts["size"]
+    return Explained(["The certificate has no module."],
+                     [f"Add modules that cover the rectangle of {width} by {height} cells, such as `module 0 0 "
+                      f"{min(width, 64)} {min(height, 64)}`."])
+
+
+@tells("gap")
+def _gap(facts: Facts) -> Explained:
+    """Explains cells that are in no box."""
+    gaps = facts["gaps"]
+    shown = "; ".join(box_words(gap) for gap in gaps[:4]) + (f"; and {len(gaps) - 4} more" if len(gaps) > 4 else "")
+    boxes = "The box of the only module leaves" if facts[
+        "modules"] == 1 else f"The boxes of the {facts['modules']} modules leave"
+    return Explained([f"{boxes} a gap: {shown} are in no box."],
+                     [f"Add a module for the gap, such as `module {gaps[0].x} {gaps[0].y} {min(gaps[0].width, 64)} "
+                      f"{min(gaps[0].height, 64)}`, "
+                      "or make a neighbour larger."])
+
+
+@tells("heard_not_local")
+def _heard_not_local(facts: Facts) -> Explained:
+    """Explains an edge line beside a module that does not know its wire."""
+    missing = facts["missing"]
+    what = [f"Module {module} does not know the wire `{line.signal}`: line {line.line} (`{line}`, of module {other}) "
+            "speaks of a cell "
+            f"beside its box." for module, line, other in missing[:4]]
+    more = [f"There are {len(missing) - 4} more lines of that kind."] if len(missing) > 4 else []
+    hints = [f"Add `cut {line.signal}` to module {module}, or `use` the gate that makes it." for module, line,
+             _ in missing[:4]]
+    return Explained(what + more, list(dict.fromkeys(hints)),
+                     names=list(dict.fromkeys(line.signal for _, line, _ in missing)),
+                     lines=[line.line for _, line, _ in missing])
+
+
+# ---- code 2
+
+def limit(what: str, hint: str) -> Explained:
+    """Returns a refusal for a limit."""
+    return Explained([what], [hint])
+
+
+@tells("layout_side")
+def _layout_side(facts: Facts) -> Explained:
+    """Explains a side of a layout that is odd or outside its limits."""
+    number, limits = facts["number"], facts["limits"]
+    most = limits.max_side
+    why = f"outside 2 to {most}" if not 2 <= number <= most else "odd"
+    size = {"width": "wider", "height": "higher"}[facts["what"]]
+    return limit(f"The {facts['what']} of the layout is {number}, which is {why}.",
+                 f"Take an even {facts['what']} from 2 to {most}"
+                 + (f", such as {number + 1}." if number % 2 and number < most else ".")
+                 + (needs_line(f"A layout {size} than {most}", limits) if number > most else ""))
+
+
+@tells("layout_steps")
+def _layout_steps(facts: Facts) -> Explained:
+    """Explains too many steps."""
+    most = facts["limits"].max_steps
+    return limit(f"The layout runs {facts['number']} steps; {most} is the most.",
+                 f"Take fewer steps.{needs_line(f'A layout of more than {most} steps', facts['limits'])}")
+
+
+@tells("mirror_side")
+def _mirror_side(facts: Facts) -> Explained:
+    """Explains a side of a mirror outside its limits."""
+    most = facts["limits"].max_side
+    more = needs_line(f"A side of more than {most}", facts["limits"]) if facts["number"] > most else ""
+    return limit(f"The {facts['what']} of the mirror is {facts['number']}; it is 1 to {most}.",
+                 f"A `mirror` line is `mirror X Y W H`: the cell, then width and height.{more}")
+
+
+@tells("delay_limit")
+def _delay_limit(facts: Facts) -> Explained:
+    """Explains the number of a delay outside its limits."""
+    return limit(f"The delay has {facts['number']} steps; it has 1 to 4096.",
+                 "Take a number from 1 to 4096, or several delays in a row.")
+
+
+@tells("wire_count")
+def _wire_count(facts: Facts) -> Explained:
+    """Explains the line that makes too many wires."""
+    most = facts["limits"].max_wires
+    return limit(f"With this line the circuit has more than {most} wires.",
+                 "Split the design into smaller "
+                 f"circuits.{needs_line(f'A circuit of more than {most} wires', facts['limits'])}")
+
+
+@tells("gate_count")
+def _gate_count(facts: Facts) -> Explained:
+    """Explains the line that makes too many gates."""
+    most = facts["limits"].max_gates
+    return limit(f"With this line the circuit has more than {most} gates, sources among them.",
+                 "Split the design into smaller "
+                 f"circuits.{needs_line(f'A circuit of more than {most} gates', facts['limits'])}")
+
+
+@tells("certificate_version")
+def _certificate_version(facts: Facts) -> Explained:
+    """Explains an unknown version."""
+    return limit(f"There is no certificate version {facts['number']}.",
+                 "Write `certificate 2`, or `certificate 1` with `halo` lines.")
+
+
+@tells("box_side")
+def _box_side(facts: Facts) -> Explained:
+    """Explains a side of a box that is odd or outside its limits."""
+    number = facts["number"]
+    why = "outside 2 to 64" if not 2 <= number <= 64 else "odd"
+    return limit(f"The {facts['what']} of the box is {number}, which is {why}.",
+                 f"Take an even {facts['what']} from 2 to 64.")
+
+
+@tells("module_count")
+def _module_count(facts: Facts) -> Explained:
+    """Explains one module too many."""
+    most = facts["limits"].max_modules
+    return limit(f"This is module {most} from 0; a certificate has at most {most} modules.",
+                 f"Take larger boxes.{needs_line(f'A certificate of more than {most} modules', facts['limits'])}")
+
+
+@tells("cut_count")
+def _cut_count(facts: Facts) -> Explained:
+    """Explains one `cut` line too many."""
+    return limit(f"Module {facts['module']} has 12 `cut` lines already; `{facts['name']}` would be the thirteenth.",
+                 "Use gates in place of cutting their outputs, or take a smaller box.")
+
+
+@tells("use_count")
+def _use_count(facts: Facts) -> Explained:
+    """Explains one `use` line too many."""
+    return limit(f"Module {facts['module']} has 64 `use` lines already.",
+                 "Cut a wire in place of using the gates before it, or take a smaller box.")
+
+
+@tells("border_count")
+def _border_count(facts: Facts) -> Explained:
+    """Explains one edge, halo or stop line too many."""
+    return limit(f"Module {facts['module']} has 65536 `edge`, `halo` and `stop` lines already.",
+                 "Take a smaller box, or a border that fewer balls cross.")
+
+
+# ---- codes 3, 4 and 5
+
+@tells("wire_not_defined")
+def _wire_not_defined(facts: Facts) -> Explained:
+    """Explains a wire that no line before defines."""
+    name = facts["name"]
+    return Explained([f"The wire `{name}` is not defined before this line.{near(name, facts['known'])}"],
+                     [f"Define `{name}` first, by an `input` or behind the arrow of an earlier gate. A circuit has no "
+                      "loops."], names=[name])
+
+
+@tells("wire_unknown")
+def _wire_unknown(facts: Facts) -> Explained:
+    """Explains a name in a certificate that is no wire."""
+    name = facts["name"]
+    return Explained([f"The circuit has no wire `{name}`.{near(name, facts['known'])}"],
+                     ["Write the name as the circuit has it."], names=[name])
+
+
+@tells("gate_unknown")
+def _gate_unknown(facts: Facts) -> Explained:
+    """Explains a number that no gate has."""
+    count = facts["count"]
+    has = f"gates 0 to {count - 1}" if count > 1 else "gate 0 alone" if count else "no gate"
+    return Explained([f"There is no gate {facts['number']}: the circuit has {has}."],
+                     ["Count gate lines from 0, `source` lines among them, in the order of their lines."],
+                     names=[str(facts["number"])])
+
+
+@tells("keep_not_inverse")
+def _keep_not_inverse(facts: Facts) -> Explained:
+    """Explains a `keep` line for a gate that is no inverse gate."""
+    gate, inverse = facts["gate"], facts["inverse"]
+    has = f"Its inverse gates are {', '.join(map(str, inverse))}." if inverse else "The circuit has no inverse gate."
+    return Explained([f"Gate {facts['number']} is `{gate.word}` (line {gate.line}), which is no inverse gate. {has}"],
+                     ["Remove the line, or give the number of an `unswitch` or `uninteract`."],
+                     names=[str(facts["number"])], lines=[gate.line])
+
+
+@tells("port_unknown")
+def _port_unknown(facts: Facts) -> Explained:
+    """Explains a port whose name is no input or output of the circuit."""
+    kind, name = facts["kind"], facts["name"]
+    side = "input" if kind == "in" else "output"
+    extra = f" It is a wire, and no {side}." if facts["is_wire"] else near(name, facts["known"])
+    return Explained([f"`{name}` is no {side} of the circuit.{extra}"],
+                     [f"Name one of the {side}s: {listed(facts['known'])}." if facts["known"]
+                      else f"The circuit has no {side}."], names=[name])
+
+
+@tells("on_unknown")
+def _on_unknown(facts: Facts) -> Explained:
+    """Explains an `on` line whose name is no input."""
+    name, known = facts["name"], facts["known"]
+    what = "no `in` line of the layout has that name" if facts["command"] == "run" else "the circuit has no such input"
+    return Explained([f"`{name}` can't be turned on: {what}.{near(name, known)}"],
+                     [f"The names are {listed(known)}." if known else "There is none: remove the `on` line."],
+                     names=[name])
+
+
+@tells("on_twice")
+def _on_twice(facts: Facts) -> Explained:
+    """Explains an `on` line whose name is on already."""
+    return Explained([f"`{facts['name']}` is on already (line {facts['at']})."], ["Remove one of the two lines."],
+                     names=[facts["name"]], lines=[facts["at"]])
+
+
+@tells("wire_defined")
+def _wire_defined(facts: Facts) -> Explained:
+    """Explains a wire that is defined already."""
+    return Explained([f"The wire `{facts['name']}` is defined already ({earlier(facts)})."],
+                     ["Give one of the two another name."],
+                     names=[facts["name"]], lines=[facts["at"]])
+
+
+@tells("wire_consumed")
+def _wire_consumed(facts: Facts) -> Explained:
+    """Explains a wire that is consumed already."""
+    return Explained([f"The wire `{facts['name']}` is consumed already ({earlier(facts)}): no wire branches."],
+                     ["To use a wire twice, copy it: the standard cell `fan_out` does, by a `switch` and a `source` "
+                      "(`bbmlab cells fan_out`)."], names=[facts["name"]], lines=[facts["at"]])
+
+
+@tells("cut_twice")
+def _cut_twice(facts: Facts) -> Explained:
+    """Explains a wire that is cut already."""
+    return Explained([f"Module {facts['module']} cuts `{facts['name']}` already (line {facts['at']})."],
+                     ["Remove one of the two lines."],
+                     names=[facts["name"]], lines=[facts["at"]])
+
+
+@tells("use_output_local")
+def _use_output_local(facts: Facts) -> Explained:
+    """Explains a gate whose output is local already."""
+    gate, names = facts["gate"], facts["names"]
+    return Explained([f"Gate {gate.number} (`{gate.word}`, line {gate.line}) makes {listed(names)}, which module "
+                      f"{facts['module']} "
+                      f"cuts already (line {facts['at'][0]})."],
+                     [f"Remove `cut {names[0]}`: a wire is cut, or made by a used gate, and not both."], names=names,
+                     lines=facts["at"])
+
+
+# ---- codes 7 and 8
+
+@tells("cell_outside")
+def _cell_outside(facts: Facts) -> Explained:
+    """Explains a cell outside the rectangle."""
+    x, y, width, height = facts["box"]
+    size = f"{facts['size'][0]} by {facts['size'][1]}"
+    shown = f"({x}, {y})" if width == height == 1 else f"({x}, {y}) to ({x + width - 1}, {y + height - 1})"
+    return Explained([f"The `{facts['kind']}` lies at {shown}, outside the rectangle of {size} cells, from (0, 0) to "
+                      f"({facts['size'][0] - 1}, {facts['size'][1] - 1})."],
+                     ["Move it, or make the layout larger."])
+
+
+@tells("cell_taken")
+def _cell_taken(facts: Facts) -> Explained:
+    """Explains a cell that is taken already."""
+    x, y = facts["cell"]
+    other = f"`{facts['other']} {facts['other_name']}`" if facts["other_name"] else f"a `{facts['other']}`"
+    return Explained([f"The cell ({x}, {y}) is taken by {other} already (line {facts['at']})."],
+                     ["Move one of the two, or remove it. An `in` and an `out` may share a cell."], lines=[facts["at"]])
+
+
+@tells("box_odd")
+def _box_odd(facts: Facts) -> Explained:
+    """Explains a box with an odd corner."""
+    box = facts["box"]
+    odd = " and ".join(f"{name} {value}" for name, value in (("x", box.x), ("y", box.y)) if value % 2)
+    return Explained([f"The corner of the box is odd: {odd}."], ["Move the box so that X and Y are even."])
+
+
+@tells("box_outside")
+def _box_outside(facts: Facts) -> Explained:
+    """Explains a box outside the rectangle."""
+    return Explained([f"The box ({box_words(facts['box'])}) is not inside the rectangle of {facts['size'][0]} by "
+                      f"{facts['size'][1]} cells."],
+                     ["Make the box smaller, or move it."])
+
+
+@tells("box_overlap")
+def _box_overlap(facts: Facts) -> Explained:
+    """Explains a box over an earlier one."""
+    x, y = facts["cell"]
+    return Explained([f"The box ({box_words(facts['box'])}) overlaps that of module {facts['other']} "
+                      f"({box_words(facts['other_box'])}, "
+                      f"line {facts['at']}): the cell ({x}, {y}) is in both."],
+                     ["Move one of the boxes, or make it smaller."], lines=[facts["at"]])
+
+
+# ---- codes 9 and 10
+
+@tells("use_input_not_local")
+def _use_input_not_local(facts: Facts) -> Explained:
+    """Explains a gate whose input is not local."""
+    gate, names = facts["gate"], facts["names"]
+    is_are = "are" if len(names) > 1 else "is"
+    return Explained([f"Gate {gate.number} (`{gate.word}`, line {gate.line}) uses {listed(names)}, which {is_are} not "
+                      "local in module "
+                      f"{facts['module']}."],
+                     [f"Add `cut {names[0]}`, or `use` the gate that makes `{names[0]}`, before this line."],
+                     names=names, lines=[gate.line])
+
+
+@tells("wire_not_local")
+def _wire_not_local(facts: Facts) -> Explained:
+    """Explains a wire of a line that is not local."""
+    name = facts["name"]
+    local = f"Local there: {listed(facts['local'])}." if facts["local"] else "No wire is local there."
+    return Explained([f"The wire `{name}` is not local in module {facts['module']}. {local}"],
+                     [make_local(name, facts["gate"])], names=[name])
+
+
+@tells("keep_not_used")
+def _keep_not_used(facts: Facts) -> Explained:
+    """Explains a `keep` line for a gate that the module does not use."""
+    gate = facts["gate"]
+    return Explained([f"Module {facts['module']} keeps gate {gate.number} (`{gate.word}`, line {gate.line}) and does "
+                      "not use it."],
+                     [f"Add `use {gate.number}` before it, with the wires {listed(gate.ins)} local."],
+                     names=[str(gate.number)], lines=[gate.line])
+
+
+def even_time_hint(time: int, steps: int) -> str:
+    """Returns a hint for an edge or halo line at an even time: the odd times beside it that are below the steps."""
+    times = [str(odd) for odd in (time - 1, time + 1) if 0 < odd < steps]
+    return f"Take the odd time at which the cell is live: {' or '.join(times)}." if times else "Remove the line."
+
+
+def place_words(fault: str, facts: Facts) -> tuple[str, str]:
+    """Returns what is wrong with a time or a cell, and a hint."""
+    new, box, steps = facts["new"], facts["box"], facts["steps"]
+    cell, last = f"({new.x}, {new.y})", steps - 1 if steps % 2 == 0 else steps - 2
+    corner = f"({box.x + box.width - 1}, {box.y + box.height - 1})"
+    return {
+        "not_in_ring": (f"The cell {cell} is not in the ring of module {facts['module']}, the outermost cells of its "
+                        f"box ({box_words(box)}).",
+                        "Name a cell of the ring; a cell inside the box needs no line."),
+        "on_rim": (f"The cell {cell} is on the rim, the outermost cells of the whole rectangle, where nothing is live "
+                   "at odd times.",
+                   "Remove the line; make the layout larger if a ball or a mirror is there."),
+        "not_in_halo": (f"The cell {cell} is not in the halo of module {facts['module']}, the cells around its box "
+                        f"({box_words(box)}).",
+                        "Name a cell that touches the box from outside."),
+        "halo_outside": (f"The cell {cell} is outside the rectangle.", "Remove the line."),
+        "even_time": (f"The time {new.time} is even; edge and halo lines have odd times.",
+                      even_time_hint(new.time or 0, steps)),
+        "time_not_below_steps": (f"The time {new.time} is not below the steps, {steps}.",
+                                 f"The last odd time below the steps is {last}." if last > 0
+                                 else "There is no odd time below the steps: remove the line."),
+        "star_cell": (f"The cell {cell} has a line with `*` already (line {facts['star']}).",
+                      "Remove one of the two lines."),
+        "stop_late": (f"The time {new.time} is after the last time, {steps}.", f"Take a time from 0 to {steps}."),
+        "stop_outside": (f"The cell {cell} is not in the box of module {facts['module']}, from ({box.x}, {box.y}) to "
+                         f"{corner}.",
+                         "Move the stop into the module that has the cell."),
+    }[fault]
+
+
+@tells("border_place")
+def _border_place(facts: Facts) -> Explained:
+    """Explains a time or a cell at which no line may be."""
+    told = [place_words(fault, facts) for fault in facts["faults"]]
+    star = [facts["star"]] if facts["star"] else []
+    return Explained([what for what, _ in told], [hint for _, hint in told], lines=star)
+
+
+# ---- all
+
+def explain_refusal(document: Document, refusal: Refusal) -> Explained:
+    """Returns a refusal of the lab's reader in words."""
+    if refusal.cause == "shape":
+        line = document.line(refusal.line)
+        hints = shape_hints(line, refusal.facts["section"], refusal.facts["begun"], refusal.facts["forms"])
+        explained = Explained([what for what, _ in hints], list(dict.fromkeys(hint for _, hint in hints)))
+    else:
+        explained = TELLERS[refusal.cause]({"here": refusal.line, **refusal.facts})
+    explained.rule = RULES[refusal.code]
+    return explained
+
+
+def refusal_words(document: Document, line: int | None = None) -> str:
+    """Returns in one line where the lab's reader refuses a text, the code, why, and the first hint.
+
+    `line` is the line of a file that has another spelling.
+    """
+    assert document.refusal
+    explained = explain_refusal(document, document.refusal)
+    hint = f" Hint: {explained.hints[0]}" if explained.hints else ""
+    return (f"line {line or document.refusal.line} is refused with code {document.refusal.code}: "
+            f"{' '.join(explained.what)}{hint}")
+
+
+def explain_code(line: int, code: int) -> Explained:
+    """Returns what a refusal alone says, where the lab's reader does not come to the same one."""
+    rule = RULES.get(code, "There is no such code.")
+    return Explained([f"The program refuses line {line} with code {code}."],
+                     ["docs/FORMATS.md has the rules of that line."], rule)

@@ -1,0 +1,1 @@
+"""The page of one file that shows a layout in a browser."""

@@ -1,0 +1,84 @@
+"""`bbmlab view`: one HTML file that shows a layout and its report in a browser, without a network."""
+
+import base64
+import hashlib
+import json
+import re
+from dataclasses import asdict
+from html import escape
+from pathlib import Path
+
+from ..explain.explaining import Explanation
+from ..host.terminal import escape_controls
+from ..texts import json_form
+from ..texts.documents import Document
+from .page_ways import page_ways
+
+TEMPLATE = Path(__file__).resolve().parent
+# The module of the page that imports the others.
+ENTRY = "controls"
+IMPORT = re.compile(r'^import (?:\* as (\w+)|(\{[^}]*\})) from "\./(\w+)\.js";\n', re.MULTILINE)
+EXPORT = re.compile(r"^export (\{[^}]*\});$", re.MULTILINE)
+RENAMED = re.compile(r"(\w+) as (\w+)")
+
+
+def page_data(document: Document, explanation: Explanation | None) -> str:
+    """Returns what the page shows, as JSON that may stand in a script element."""
+    parts = json.loads(json_form.document_json(document, None))
+    parts["explanation"] = asdict(explanation) if explanation else None
+    parts["ways"] = page_ways(document)
+    return json.dumps(parts, separators=(",", ":")).replace("<", "\\u003c")
+
+
+def source(name: str) -> str:
+    """Returns the text of a file of the template."""
+    return (TEMPLATE / name).read_text(encoding="utf-8")
+
+
+def modules_for(name: str, found: dict[str, str]) -> dict[str, str]:
+    """Adds a module's text to those found, after the modules that it imports, and returns them by their names."""
+    text = source(f"{name}.js")
+    for line in IMPORT.finditer(text):
+        if line[3] not in found:
+            modules_for(line[3], found)
+    found[name] = text
+    return found
+
+
+def imported(line: re.Match[str]) -> str:
+    """Returns an import as a declaration that reads `bbmlab`."""
+    names = line[1] or RENAMED.sub(r"\1: \2", line[2])
+    return f"const {names} = bbmlab.{line[3]};\n"
+
+
+def closed(text: str) -> str:
+    """Returns a module's text as an expression whose value is what the module exports."""
+    body = EXPORT.sub(lambda names: "return " + RENAMED.sub(r"\2: \1", names[1]) + ";", IMPORT.sub(imported, text))
+    return f"(() => {{\n{body}}})()"
+
+
+def joined(name: str) -> str:
+    """Returns a module and those that it needs as one script: a page of one file has no other files to import."""
+    needed = modules_for(name, {}).items()
+    return '"use strict";\nconst bbmlab = {};\n' + "".join(f"bbmlab.{own} = {closed(text)};\n" for own, text in needed)
+
+
+def source_word(text: str) -> str:
+    """Returns the word of a Content-Security-Policy that allows just this text of a script or style."""
+    return f"'sha256-{base64.b64encode(hashlib.sha256(text.encode()).digest()).decode()}'"
+
+
+def policy(style: str, script: str) -> str:
+    """Returns the page's Content-Security-Policy: its own style and script, and nothing else from anywhere."""
+    return (f"default-src 'none'; style-src {source_word(style)}; script-src {source_word(script)}; "
+            "base-uri 'none'; form-action 'none'")
+
+
+def page(document: Document, explanation: Explanation | None, title: str) -> str:
+    """Writes the page: the template with its style, its script and its data in place."""
+    assert document.layout
+    before, after = source("page.html").split("DATA")
+    style, script = source("page.css"), f"\n{joined(ENTRY)}"
+    for mark, text in (("POLICY", policy(style, script)), ("STYLE", style), ("TITLE", escape(escape_controls(title)))):
+        before = before.replace(mark, text)
+    return before + page_data(document, explanation) + after.replace("SCRIPT", script)
