@@ -122,8 +122,11 @@ class Joining(unittest.TestCase):
         document = self.joined("p=@half", "q=@block")
         assert document.layout and document.circuit
         self.assertEqual(document.circuit.outputs, ["p_sum", "p_carry", "q_b"])
-        steps = [read_document(self.parts[name].read_text(), "check").layout for name in ("half", "block")]
-        self.assertEqual(document.layout.steps, max(own.steps for own in steps if own))
+        parts = {name: read_part(name, self.parts[name].read_text()) for name in ("half", "block")}
+        self.assertEqual(document.layout.steps, max(own.layout.steps for own in parts.values()))
+        plan = planning.made_plan(composed(parts, []), 512, 150)
+        assert plan
+        self.assertTrue(all(plan.end - own.end < 2 for own in plan.placed), plan.placed)
         self.assert_runs(document)
 
     def test_delays_and_inverse_gates(self) -> None:
