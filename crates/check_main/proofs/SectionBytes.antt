@@ -2,7 +2,8 @@
 use Rattle.check_main.proofs.Imports.{CertView, FeedView, List, None, Ok, Option, Result, Some, [], ap}
 use Rattle.check_main.proofs.Imports.{certificate_text}
 use Rattle.check_main.proofs.Imports.{drop, sym, take, ℕ, ◌++◌, ◌∙◌, ◌≡◌}
-use Rattle.lemmas.proofs.Common.{append-nil, flat_map, take-append-drop}
+use Rattle.lemmas.proofs.Common.{append-nil, arith, drop-append_seam, flat_map, length, length-append, take-append-drop}
+use Rattle.lemmas.proofs.Common.{◌≤◌}
 use Rattle.std.specs.Option.{IfSome}
 use Rattle.section_text.specs.Feeds.{ahead}
 use Rattle.section_text.specs.Section.{Reads, with_line_feed}
@@ -23,9 +24,17 @@ pub text_taken : PrintsWhatIsRead → (l : Limits) (g : Setting) (old new : Feed
     Reads (certificate_grammar l g) (λ (d : CertView). certificate_section d) old new (Ok c) →
     taken_bytes new ≡ taken_bytes old ++ certificate_text c
 text_taken printed l g old new c r =
-    more_taken l g old new c r
+    more_taken (certificate_grammar l g) (λ (d : CertView). certificate_section d) old new c r
     ∙ ap (λ (t : List ℕ). taken_bytes old ++ t)
-    (printed l g old.taken (drop old.taken (lines_of old.text)) c (section_read l g old new c r).gives)
+    (printed l g old.taken (drop old.taken (lines_of old.text)) c
+    (section_read (certificate_grammar l g) (λ (d : CertView). certificate_section d) old new c r).gives)
+
+-- the bytes before are no more than those after
+pub section_bytes : (before after text : List ℕ) → after ≡ before ++ text →
+    (length before ≤ length after) × (drop (length before) after ≡ text)
+section_bytes before after text e =
+    let longer = ap length e ∙ length-append before text in
+    (omega (arith, longer), ap (drop (length before)) e ∙ drop-append_seam before text)
 
 -- a text that was read to its end is that of the lines that were taken
 read_to_end : (f : FeedView) → ahead f ≡ [] → bytes_after_last_line_feed f.text ≡ [] → taken_bytes f ≡ f.text
@@ -43,7 +52,8 @@ pub section_is_rest : PrintsWhatIsRead → (l : Limits) (g : Setting) (old new :
     bytes_after_last_line_feed new.text ≡ [] → IsRest old (certificate_text c)
 section_is_rest printed l g old new c r none over =
     sym (text_taken printed l g old new c r) ∙ read_to_end new none over
-    ∙ ap (λ (f : FeedView). f.text) (section_read l g old new c r).after
+    ∙ ap (λ (f : FeedView). f.text)
+    (section_read (certificate_grammar l g) (λ (d : CertView). certificate_section d) old new c r).after
 
 -- what holds of a value if there is one
 pub some_weaker : {A : Type 0} (o : Option A) (P Q : A → Type 0) → ((a : A) → P a → Q a) → IfSome o P → IfSome o Q

@@ -10,8 +10,7 @@ use Rattle.answers.specs.BundleText.{bundle_with}
 use Rattle.answers.proofs.Bundles.{bundle_answers, bundle_goes_on, bundle_read, certificate_failed, circuit_failed}
 use Rattle.answers.proofs.Bundles.{going_3, layout_failed, refusal_answers}
 use Rattle.check_main.specs.Preparing.{IsRest, IsSectionOf}
-use Rattle.answers.proofs.SectionLines.{section_bytes}
-use Rattle.check_main.proofs.SectionBytes.{IsReadFrom, section_is_rest, some_weaker, text_taken}
+use Rattle.check_main.proofs.SectionBytes.{IsReadFrom, section_bytes, section_is_rest, some_weaker, text_taken}
 use Rattle.check_main.proofs.bundle.report_after_front.Goals as goal
 
 pub returns-in-Err : goal.returns-in-Err
