@@ -135,6 +135,30 @@ class OneBall(unittest.TestCase):
                         turned = moved(ball(place, after), after, 20) | moved(ball(place, after), after, 20 - gap)
                         self.assertEqual(cells == turned, gap > 4)
 
+    def test_mirrors_turn_at_both_sides(self) -> None:
+        """A mirror turns a ball at each of two opposite sides at once, and neither changes the path of the other."""
+        self.assertIn("Two balls may also turn at opposite sides of one mirror at once: neither changes the path of the "
+                      "other.", " ".join(PAGE.split()))
+        rows = {DIRECTIONS[direction]: corners for direction, *corners in table("direction")}
+        for column, (width, height) in enumerate(((4, 2), (2, 4))):
+            for first, second in ((one, other) for one in rows for other in rows if one[1 - column] == 1 and
+                                  other[1 - column] == -1):
+                for lag in range(-12, 13, 2):
+                    x, y = start_of(first)
+                    across, down = shift(rows[first][column])
+                    corner = x + across, y + down
+                    balls: list[Cell] = []
+                    after: set[Cell] = set()
+                    for way, late in ((first, 0), (second, lag)):
+                        # At time 20 + late the lead is where the table wants it for this mirror.
+                        (dx, dy), (across, down) = way, shift(rows[way][column])
+                        x, y = corner[0] - across, corner[1] - down
+                        place, out = (((x - 2 * dx, y + dy), (dx, -dy)), ((x + dx, y - 2 * dy), (-dx, dy)))[column]
+                        balls += ball((x - (20 + late) * dx, y - (20 + late) * dy), way)
+                        after |= moved(ball(place, out), out, 40 - late)
+                    with self.subTest(first=first, second=second, width=width, lag=lag):
+                        self.assertEqual(run(balls, [(*corner, width, height)], 60), after)
+
     def test_short_mirrors(self) -> None:
         """The mirror with these columns has this result."""
         rows = table("columns of the mirror")

@@ -25,7 +25,7 @@ LIMITS = {
     "docs/JSON.md": 1050,
     "docs/LAB.md": 1720,
     "docs/OPERATING.md": 2550,
-    "docs/PHYSICS.md": 1100,
+    "docs/PHYSICS.md": 1150,
     "docs/STUDIO.md": 1100,
     "docs/TESTING.md": 1500,
     "examples/README.md": 1150,
