@@ -31,9 +31,9 @@ class Documents(unittest.TestCase):
                 for name in re.findall(r"`(\w+)`", line.split(":")[0])}
 
     def test_page_is_short(self) -> None:
-        """docs/LAB.md has at most 1760 words, bars and dashes not counted, and names each command."""
+        """docs/LAB.md has at most 1770 words, bars and dashes not counted, and names each command."""
         page = (support.TOP / "docs" / "LAB.md").read_text(encoding="utf-8")
-        self.assertLessEqual(sum(bool(re.search(r"\w", piece)) for piece in page.split()), 1760)
+        self.assertLessEqual(sum(bool(re.search(r"\w", piece)) for piece in page.split()), 1770)
         for name in ("check", "verify", "summary", "explain", "trace", "draw", "view", "studio", "certify", "circuit",
                      "table", "stats", "equal", "route", "join", "cells", "fmt", "json", "golly",
                      "from-golly"):

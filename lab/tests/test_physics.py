@@ -136,9 +136,9 @@ class OneBall(unittest.TestCase):
                         self.assertEqual(cells == turned, gap > 4)
 
     def test_mirrors_turn_at_both_sides(self) -> None:
-        """A mirror turns a ball at each of two opposite sides at once, and neither changes the path of the other."""
-        self.assertIn("Two balls may also turn at opposite sides of one mirror at once: neither changes the path of the "
-                      "other.", " ".join(PAGE.split()))
+        """A mirror turns balls at two opposite sides at once, and neither changes the path of the other."""
+        self.assertIn("Two balls may also turn at opposite sides of one mirror at once: neither changes the path of "
+                      "the other.", " ".join(PAGE.split()))
         rows = {DIRECTIONS[direction]: corners for direction, *corners in table("direction")}
         for column, (width, height) in enumerate(((4, 2), (2, 4))):
             for first, second in ((one, other) for one in rows for other in rows if one[1 - column] == 1 and

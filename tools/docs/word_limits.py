@@ -23,7 +23,7 @@ LIMITS = {
     "docs/GLOSSARY.md": 1050,
     "docs/GUIDE.md": 5120,
     "docs/JSON.md": 1050,
-    "docs/LAB.md": 1760,
+    "docs/LAB.md": 1770,
     "docs/OPERATING.md": 2550,
     "docs/PHYSICS.md": 1150,
     "docs/STUDIO.md": 1100,
