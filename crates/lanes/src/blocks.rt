@@ -1,7 +1,7 @@
 //! The blocks of both partitions, by the numbers of their cells in four planes.
 
-ghost use Rattle.lanes.specs.Blocks.{block_at, is_main};
-ghost use Rattle.std.specs.Prelude.{◌≡◌, ◌+◌, ◌^◌, ◌<◌, not};
+ghost use Rattle.lanes.specs.Blocks.{block_at};
+ghost use Rattle.std.specs.Prelude.{◌≡◌, ◌+◌, ◌^◌, ◌<◌};
 
 /// A partition of the cells into blocks.
 #[derive(Clone, Copy)]

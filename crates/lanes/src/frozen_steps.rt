@@ -4,7 +4,7 @@ ghost use Rattle.lanes.specs.Calm.{AreUnmarkedBlocksStable, HasRoomForBlockMarks
 ghost use Rattle.lanes.specs.Frozen.{AreFrozenIfFound};
 ghost use Rattle.lanes.specs.Lanes.{HasWordsStrideRows, TurnsCells};
 ghost use Rattle.lanes.specs.Live.{AllUnmarkedDead, HasRoomForCellMarks, HasSameRoom};
-ghost use Rattle.std.specs.Prelude.{◌*◌, ◌≤◌};
+ghost use Rattle.std.specs.Prelude.{◌*◌};
 
 use crate::block_marks::BlockMarks;
 use crate::blocks::Partition;

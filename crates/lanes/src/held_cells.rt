@@ -2,7 +2,7 @@
 
 ghost use Rattle.lanes.specs.Blocks.{AreCellNumbers, block_count};
 ghost use Rattle.lanes.specs.Held.{HasValueUnderAll, HasLiveDiagonals, IsEmptyBlock, cell_word_bit};
-ghost use Rattle.std.specs.Prelude.{ℕ, ◌≡◌, ◌+◌, ◌-◌, ◌*◌, ◌/◌, ◌^◌, ◌<◌, ◌≤◌, length, slice_index, false, true};
+ghost use Rattle.std.specs.Prelude.{ℕ, ◌≡◌, ◌+◌, ◌-◌, ◌*◌, ◌^◌, ◌<◌, ◌≤◌, length, slice_index, false, true};
 
 use crate::blocks::{BlockPlaces, Partition};
 use crate::planes::Planes;

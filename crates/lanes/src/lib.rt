@@ -16,7 +16,7 @@
 //!   rule. If it returns `false`, no cell changed.
 //! - [`MarkedPlanes::even_step`] turns all blocks whose upper left corner is even, which fill the box. It does not read
 //!   the halo, whose cells may change in any way. If it returns `false`, no cell of the box changed.
-//! - [`MarkedPlanes::count_down_busy_times`] changes no cell. A run calls it before each odd step.
+//! - [`MarkedPlanes::count_down_word_reads`] changes no cell. A run calls it before each odd step.
 //!
 //! The calls that read cells:
 //!

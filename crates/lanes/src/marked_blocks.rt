@@ -2,47 +2,47 @@
 
 ghost use Rattle.lanes.specs.Blocks.{AreCellNumbers, IsBlock, IsNotRowEnd, block_at, block_count};
 ghost use Rattle.lanes.specs.Settled.{KeepsSettled};
-ghost use Rattle.std.specs.Prelude.{◌≡◌, ◌≢◌, ◌+◌, ◌*◌, ◌%◌, ◌<◌, ◌≤◌, true, false};
+ghost use Rattle.std.specs.Prelude.{◌≡◌, ◌+◌, ◌*◌, ◌<◌, ◌≤◌, true, false};
 
 use crate::blocks::{BlockPlaces, Diagonal, Partition};
 use crate::marked_planes::MarkedPlanes;
 use crate::marks::is_marked;
 use crate::words::Changes;
 
-// For how many odd times the words of all blocks are read, after that many more blocks with two live cells than with
-// one or none.
-const BUSY_TIMES: u32 = 31;
+// For how many odd times the words of all blocks are read, once the crowded blocks are too many.
+const WORD_READ_TIMES: u32 = 31;
 
-const MAX_CROWD: u32 = 64;
+// How many more blocks may have two live cells than one or none, before the words of all blocks are read.
+const MAX_CROWDED_BLOCKS: u32 = 64;
 
 impl MarkedPlanes {
     ghost use Rattle.lanes.specs.Live.{AreBlockCellsUnmarked, IsLone};
     ghost use Rattle.lanes.specs.Turns.{TurnsBlock};
     ghost use Rattle.lanes.specs.Lanes.{HasWordsStrideRows};
 
-    // Counts a block that may have two live cells, and three times if it was turned: all that are turned in a step are
-    // taken off twice at its end.
+    // Counts a block that may have two live cells: three times if it was turned, since `settle_crowded_blocks` takes
+    // each block that a step turned off twice at the end of the step.
     fn count_crowded_block(&mut self, is_turned: bool)
         ensures planes { self.new.planes ≡ self.old.planes }
         ensures settled { KeepsSettled self.old self.new }
     {
-        self.crowd = self.crowd.saturating_add(1);
+        self.crowded_blocks = self.crowded_blocks.saturating_add(1);
         if is_turned {
-            self.crowd = self.crowd.saturating_add(2);
+            self.crowded_blocks = self.crowded_blocks.saturating_add(2);
         }
     }
 
     /// Counts the blocks that a step turned: each with one live cell, and the dead one that this cell left in the step
     /// before. If most blocks have two live cells, it costs less to read their words at once.
-    pub(crate) fn settle_crowd_count(&mut self, turned: usize)
+    pub(crate) fn settle_crowded_blocks(&mut self, turned: usize)
         requires { turned ≤ 4096 }
         ensures planes { self.new.planes ≡ self.old.planes }
         ensures settled { KeepsSettled self.old self.new }
     {
-        self.crowd = self.crowd.saturating_sub(2 * turned as u32);
-        if self.crowd > MAX_CROWD {
-            self.crowd = 0;
-            self.busy = BUSY_TIMES;
+        self.crowded_blocks = self.crowded_blocks.saturating_sub(2 * turned as u32);
+        if self.crowded_blocks > MAX_CROWDED_BLOCKS {
+            self.crowded_blocks = 0;
+            self.word_read_times = WORD_READ_TIMES;
             self.is_exact = false;
         }
     }
@@ -187,7 +187,7 @@ impl MarkedPlanes {
         ensures planes { self.new.planes ≡ self.old.planes }
         ensures settled { KeepsSettled self.old self.new }
     {
-        if self.busy == 0 {
+        if self.word_read_times == 0 {
             self.unmark_dead_cells(partition, u);
             self.count_crowded_block(is_turned);
             return;

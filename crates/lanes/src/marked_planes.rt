@@ -33,22 +33,23 @@ pub struct MarkedPlanes {
     pub(crate) live_marks: LiveMarks,
     // whether each cell with a mark is known to be live, so that one that is alone in its block may move unread
     pub(crate) is_exact: bool,
-    // up to how many odd times the words of all blocks are read that are looked at, and how many more blocks had two
-    // live cells, up to now, than one or none
-    pub(crate) busy: u32,
-    pub(crate) crowd: u32,
+    // For how many more odd times the words of all blocks that a step looks at are read. That costs less than single
+    // marks where most of them have two live cells.
+    pub(crate) word_read_times: u32,
+    // how many more of the blocks up to now had two live cells than had one or none
+    pub(crate) crowded_blocks: u32,
     // and for the numbers of cells of ring and halo
     pub(crate) border_marks: Vec<u64>,
-    // whether each block of the odd partition without a mark is as it was before the last odd step: there was one, and
-    // no even step after it turned whole planes
+    // Whether each block of the odd partition without a mark is as it was before the last odd step. It is, if there was
+    // an odd step and no even step after it turned whole planes.
     pub(crate) is_settled: bool,
-    // how many of the next steps turn whole planes, but for the blocks that no step changes
+    // how many of the next steps turn whole planes, without the blocks that no step changes
     pub(crate) whole_plane_steps: WholePlaneSteps,
     pub(crate) frozen: FrozenBlocks,
-    // how many steps are left in which many blocks change, until those that no step changes are looked for, and how
-    // often they may be looked for
-    pub(crate) until_search: u32,
-    pub(crate) searches: u32,
+    // After this many more steps in which many blocks change, the blocks that no step changes are looked for.
+    pub(crate) steps_until_search: u32,
+    // how often they may still be looked for
+    pub(crate) searches_left: u32,
     ghost block_room: { HasRoomForBlockMarks (planes.stride * planes.rows) block_marks },
     ghost live_room: { HasRoomForCellMarks (planes.stride * planes.rows) live_marks },
     ghost border_room: { planes.stride * planes.rows ≤ 64 * vec_len border_marks },
@@ -58,6 +59,7 @@ pub struct MarkedPlanes {
     ghost all_inner: { AreUnmarkedAwayFromBorder planes.stride planes.rows border_marks.items } by { AreUnmarkedAwayFromBorder-prop planes.stride planes.rows border_marks.items },
 }
 
+// How often the blocks that no step changes are looked for.
 const MAX_SEARCHES: u32 = 4;
 
 impl MarkedPlanes {
@@ -94,14 +96,14 @@ impl MarkedPlanes {
             block_marks,
             live_marks,
             is_exact: true,
-            busy: 0,
-            crowd: 0,
+            word_read_times: 0,
+            crowded_blocks: 0,
             border_marks,
             is_settled: false,
             whole_plane_steps: WholePlaneSteps::NONE,
             frozen: FrozenBlocks::not_found_yet(alloc),
-            until_search: STEPS_TO_SEARCH,
-            searches: MAX_SEARCHES,
+            steps_until_search: STEPS_TO_SEARCH,
+            searches_left: MAX_SEARCHES,
         })
     }
 
@@ -113,15 +115,15 @@ impl MarkedPlanes {
     }
 
     /// Counts an odd time. After some of them the words of all blocks are no longer read.
-    pub fn count_down_busy_times(&mut self)
+    pub fn count_down_word_reads(&mut self)
         ensures planes { self.new.planes ≡ self.old.planes }
         ensures settled { KeepsSettled self.old self.new }
     {
-        if self.busy == 0 {
+        if self.word_read_times == 0 {
             return;
         }
-        self.busy -= 1;
-        if self.busy == 0 {
+        self.word_read_times -= 1;
+        if self.word_read_times == 0 {
             self.unmark_all_dead();
         }
     }

@@ -8,8 +8,8 @@ use crate::marked_planes::MarkedPlanes;
 use crate::marks::take_first;
 use crate::phases::{WholePlaneSteps, is_turning_all_cheaper};
 
-/// In how many steps many blocks must change before those that no step changes are looked for: a search costs as much
-/// as some of these steps. And how often they are looked for again after they were given up.
+/// In how many steps many blocks must change before those that no step changes are looked for. A search costs as much
+/// as some of these steps.
 pub(crate) const STEPS_TO_SEARCH: u32 = 128;
 
 // So many blocks are few for `is_turning_all_cheaper`, in boxes of 16 by 16 cells or more. In smaller ones all steps
@@ -29,7 +29,7 @@ impl MarkedPlanes {
         ensures planes { self.new.planes ≡ self.old.planes }
         ensures settled { KeepsSettled self.old self.new }
     {
-        self.settle_crowd_count(changed);
+        self.settle_crowded_blocks(changed);
         if changed > MAX_FEW_BLOCKS
             && is_turning_all_cheaper(
                 changed,
@@ -71,15 +71,15 @@ impl MarkedPlanes {
         ensures planes { self.new.planes ≡ self.old.planes }
         ensures settled { KeepsSettled self.old self.new }
     {
-        if self.frozen.is_found() || self.searches == 0 {
+        if self.frozen.is_found() || self.searches_left == 0 {
             return;
         }
-        if self.until_search > steps {
-            self.until_search -= steps;
+        if self.steps_until_search > steps {
+            self.steps_until_search -= steps;
             return;
         }
-        self.until_search = STEPS_TO_SEARCH;
-        self.searches -= 1;
+        self.steps_until_search = STEPS_TO_SEARCH;
+        self.searches_left -= 1;
         self.frozen.find(&self.planes);
     }
 
@@ -197,7 +197,7 @@ impl MarkedPlanes {
         }
         let changed = self.step_by_marks(Partition::Odd);
         // Where nothing was known all blocks had marks, and these fill box and halo.
-        self.is_exact = self.busy == 0;
+        self.is_exact = self.word_read_times == 0;
         self.plan_next_steps(changed);
         changed > 0
     }

@@ -1,6 +1,6 @@
 //! When steps turn whole planes, and when they go by marks.
 
-ghost use Rattle.std.specs.Prelude.{◌+◌, ◌*◌, ◌/◌, ◌≤◌};
+ghost use Rattle.std.specs.Prelude.{◌+◌, ◌*◌, ◌≤◌};
 
 // How many steps turn whole planes after one in which many blocks changed, at first and at most.
 const FIRST_PHASE_STEPS: u32 = 62;

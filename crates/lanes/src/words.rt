@@ -3,7 +3,7 @@
 ghost use Rattle.bbm_rule.specs.Words.{AreTurned};
 ghost use Rattle.lanes.specs.Blocks.{is_main};
 ghost use Rattle.lanes.specs.Turns.{DiagonalStays, SwapsPart, TurnsPart, is_on_main_diagonal};
-ghost use Rattle.std.specs.Prelude.{ℕ, ◌≡◌, ◌+◌, ◌-◌, ◌/◌, ◌%◌, ◌^◌, ◌<◌, ◌≤◌, ◌⊎◌, length, bit_xor, slice_index, false, true, not};
+ghost use Rattle.std.specs.Prelude.{ℕ, ◌≡◌, ◌+◌, ◌-◌, ◌%◌, ◌^◌, ◌<◌, ◌≤◌, ◌⊎◌, length, bit_xor, slice_index, false, true, not};
 
 use crate::blocks::{BlockPlaces, Diagonal};
 use bbm_rule::turn_lanes;

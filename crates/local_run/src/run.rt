@@ -45,7 +45,7 @@ fn set_halo_find_edge_fault(
     ensures fault { MatchOption result (HasNoFaultOfKind job.now values.now time Kind.Edge)
         (λ f. IsFirstOfKind job.now values.now time Kind.Edge f) }
 {
-    marked_planes.count_down_busy_times();
+    marked_planes.count_down_word_reads();
     lines.look_at(job, time);
     if set_halo_check_ring(marked_planes, values, job, lines) {
         return None;
