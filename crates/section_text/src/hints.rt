@@ -3,9 +3,12 @@
 use crate::name::Name;
 use std::alloc::{AllocError, Global};
 
-// A name has this many slots or more, up to 4096 names. Fewer instructions were counted than with one slot, since names
-// of several kinds that end in numbers seldom share slots then.
+// A name has this many slots or more. Fewer instructions were counted than with one slot, since names of several kinds
+// that end in numbers seldom share slots then.
 const SLOTS_PER_NAME: usize = 4;
+
+// The most slots of a table for which four digits are enough to tell names apart.
+const FOUR_DIGIT_SLOTS: usize = 16_384;
 
 // How many slots a table for `name_count` names has: a power of two.
 fn slot_count_for(name_count: usize) -> usize {
@@ -14,7 +17,8 @@ fn slot_count_for(name_count: usize) -> usize {
         17..=64 => 256,
         65..=256 => 1024,
         257..=1024 => 4096,
-        _ => 16_384,
+        1025..=4096 => FOUR_DIGIT_SLOTS,
+        _ => 262_144,
     }
 }
 
@@ -28,6 +32,15 @@ fn last_digits(name: &Name) -> usize {
         [d] => *d as usize,
         [] => 0,
     }
+}
+
+// As `last_digits`, for five bytes. Where the fifth one is left out, the slot is that of a table with FOUR_DIGIT_SLOTS.
+fn last_five_digits(name: &Name) -> usize {
+    let fifth = match name.bytes() {
+        [.., e, _, _, _, _] => *e as usize,
+        _ => 0,
+    };
+    (FOUR_DIGIT_SLOTS * fifth).wrapping_add(last_digits(name))
 }
 
 // Returns a table of `slot_count` slots in which each name has the guess that it has in `places`.
@@ -62,7 +75,13 @@ impl NameHints {
     // The slot of a name. It is no index of the table if that has no slots.
     #[inline(always)]
     fn slot_of(&self, name: &Name) -> usize {
-        last_digits(name) & self.places.len().wrapping_sub(1)
+        let slots = self.places.len();
+        let digits = if slots > FOUR_DIGIT_SLOTS {
+            last_five_digits(name)
+        } else {
+            last_digits(name)
+        };
+        digits & slots.wrapping_sub(1)
     }
 
     /// Returns a place that a name may have.
