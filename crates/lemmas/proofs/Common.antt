@@ -12,7 +12,7 @@ pub use Rattle.std.proofs.Common.{map, max, min, nat_cmp, nat_eq, nat_le, nat_lt
 pub use Rattle.std.proofs.Common.{option_and_then, option_copied, option_map, option_to_list, pos, position, refl}
 pub use Rattle.std.proofs.Common.{replicate, rules, set, slice_get, slice_index, slice_index_or, slice_range, slice_set}
 pub use Rattle.std.proofs.Common.{subst, suc, sum_by, sym, take, take-append-drop, to_z, to_z-of_z, true, true≢false}
-pub use Rattle.std.proofs.Common.{unwrap_or, vec_capacity, vec_items, vec_len, w32, w64, zero, ℕ, ℤ, ⊎_elim}
+pub use Rattle.std.proofs.Common.{unwrap_or, vec_capacity, vec_len, w32, w64, zero, ℕ, ℤ, ⊎_elim}
 pub use Rattle.std.proofs.Math.Bool.{and-false, and-true, or-false, or-true}
 pub use Rattle.std.proofs.Math.ListN.{get_or-eq_default}
 pub use Rattle.std.proofs.Math.Logic.{∥∥₁_elim, ∥∥₁_map}
@@ -32,26 +32,25 @@ pub use Rattle.std.proofs.lemmas.Cmp.{int_cmp_total, nat_cmp_total, on_total, th
 pub use Rattle.std.proofs.lemmas.Grind.{common_steps, flat_map-append}
 pub use Rattle.std.proofs.lemmas.Int.{ints}
 pub use Rattle.std.proofs.lemmas.List.{append_cancel_left, append_cancel_right, at_drop_more, drop-drop, drop-replicate}
-pub use Rattle.std.proofs.lemmas.List.{drop_all, drop_at, drop_more, flat_map_more, get_or-append_right, get_or-drop}
+pub use Rattle.std.proofs.lemmas.List.{drop_all, drop_at, drop_more, get_or-append_right, get_or-drop}
 pub use Rattle.std.proofs.lemmas.List.{get_or-map, get_or-replicate, get_or-take, get_or_append_left, get_or_at}
 pub use Rattle.std.proofs.lemmas.List.{get_or_default, get_or_past, get_or_read, length-drop, length-map}
 pub use Rattle.std.proofs.lemmas.List.{length-replicate, length-take, length_push, map-append, map-id, map-set}
-pub use Rattle.std.proofs.lemmas.List.{map_push, nil_from_length, replicate_more, same_from_push, same_lists, set-set}
+pub use Rattle.std.proofs.lemmas.List.{map_push, replicate_more, same_from_push, same_lists, set-set}
 pub use Rattle.std.proofs.lemmas.List.{set_comm, take_all, take_at, take_more, take_more_set, take_rest, with_items_is}
 pub use Rattle.std.proofs.lemmas.List.Elements.{All-append, All-cons, All-contains, All-contains_itself}
 pub use Rattle.std.proofs.lemmas.List.Elements.{All-from_recursion, All-get_or, All-head, All-map, All-nil, All-push}
-pub use Rattle.std.proofs.lemmas.List.Elements.{All-replicate, All-same, All-tail, All-weaker, Contains-append_cases}
+pub use Rattle.std.proofs.lemmas.List.Elements.{All-same, All-tail, All-weaker, Contains-append_cases}
 pub use Rattle.std.proofs.lemmas.List.Elements.{Contains-append_left, Contains-append_right, Contains-push}
 pub use Rattle.std.proofs.lemmas.List.Elements.{filter-append}
 pub use Rattle.std.proofs.lemmas.List.Folds.{flat_map-map, list_all-append, list_all-map, list_any-append, list_any_at}
 pub use Rattle.std.proofs.lemmas.List.FromFn.{filter_of_map_range_with_len_more, get_or-map-range_with_len}
 pub use Rattle.std.proofs.lemmas.List.FromFn.{get_or-range_with_len, length-range_with_len, map-range_with_len_more}
-pub use Rattle.std.proofs.lemmas.List.Sorted.{All-permutation, IsPartitionPoint-from_clause, IsPartitionedBy-ltb}
+pub use Rattle.std.proofs.lemmas.List.Sorted.{All-permutation}
 pub use Rattle.std.proofs.lemmas.List.Sorted.{IsPermutation-sym, answers_always, ranks_by, sorted_far}
-pub use Rattle.std.proofs.lemmas.List.Sorted.{sum_by-IsPermutation}
 pub use Rattle.std.proofs.lemmas.List.Splits.{join_with_byte-slice_split, length-slice_split, slice_split-cons_no}
 pub use Rattle.std.proofs.lemmas.List.Splits.{slice_split-cons_yes, slice_split_at, slice_split_first, slice_split_none}
-pub use Rattle.std.proofs.lemmas.List.Sums.{AllPass-from_list_all, count_by-le-length, fails_before_first, fold_push}
+pub use Rattle.std.proofs.lemmas.List.Sums.{count_by-le-length, fails_before_first, fold_push}
 pub use Rattle.std.proofs.lemmas.List.Sums.{position_or_len_is, sum_by-append, sum_by-cons, sum_by-set, sum_by_push}
 pub use Rattle.std.proofs.lemmas.Map.Lookups.{CmpEqualImpliesEq, exact_pairs, exact_signed, exact_unsigned}
 pub use Rattle.std.proofs.lemmas.Nat.{and_or_self, div-add-mod', div-mul-add, div_below, from_le_bytes-to_le_bytes_2}
@@ -70,7 +69,7 @@ pub use Rattle.std.proofs.lemmas.Simd.{get_or-put_chunk_below, get_or-zip2, leng
 pub use Rattle.std.proofs.lemmas.Slice.Eq.{bytes_eq-Decides, slice_eq-Decides}
 pub use Rattle.std.specs.Arc.{arc_value}
 pub use Rattle.std.specs.Bool.{Decides, beq, one_answer}
-pub use Rattle.std.specs.Cmp.{IsTotalOrder, booleans_Decides, nat_cmp_is}
+pub use Rattle.std.specs.Cmp.{IsTotalOrder, booleans_Decides}
 pub use Rattle.std.specs.Cmp.Lexicographic.{bytes_decides, pointwise, same_text}
 pub use Rattle.std.specs.Fmt.{decimal, digit_glyph, digits_onto, signed_decimal}
 pub use Rattle.std.specs.Int.{bit_at, bit_not, div_ceil, to_le_bytes, trailing_zeros, w16}
@@ -79,7 +78,7 @@ pub use Rattle.std.specs.Int.RustNames.{unsigned_abs}
 pub use Rattle.std.specs.Io.KnownBytes.{Appends, Consumes, IsAtEnd, Keeps}
 pub use Rattle.std.specs.List.{AllByRecursion, AllZip, join_with_byte, list_all, list_any, onto_first, position_or_len}
 pub use Rattle.std.specs.List.{range_with_len, slice_split}
-pub use Rattle.std.specs.List.Sorted.{IsNonDecreasingBy, IsPartitionPoint, IsPermutation, IsSortedBy}
+pub use Rattle.std.specs.List.Sorted.{IsPermutation, IsSortedBy}
 pub use Rattle.std.specs.Option.{option_eq, option_map_or}
 pub use Rattle.std.specs.Ordering.{on, ordering_reverse, ordering_then}
 pub use Rattle.std.specs.Prelude.{int_le, int_lt, ⊤}
@@ -92,6 +91,9 @@ pub use Rattle.lemmas.proofs.Booleans.{right_is_true, same_truth, test_failed, t
 pub use Rattle.lemmas.proofs.Numbers.{below_or_from, below_or_same, same_or_higher, three_ways, positive}
 pub use Rattle.lemmas.proofs.Numbers.{at_most_by_test, below_by_test, not_below_by_test, lt_test, not_lt_test}
 pub use Rattle.lemmas.proofs.Numbers.{not_le_test, eq_itself, eq_sym, eq_test, nat_less, nat_equal, less_nat, int_less}
-pub use Rattle.lemmas.proofs.Numbers.{int_equal, int_same, int_itself, pred_pos, next_neg, up_moved, down_moved}
+pub use Rattle.lemmas.proofs.Numbers.{int_equal, pred_pos, next_neg, up_moved, down_moved}
 pub use Rattle.lemmas.proofs.Lists.{mapped_at, mapped_from, none_at, some_at, same_head, same_tail, nothing_in, one_in}
 pub use Rattle.lemmas.proofs.Lists.{all_unmapped, nothing_prop}
+pub use Rattle.lemmas.proofs.Orders.{both_ways, then_less}
+pub use Rattle.lemmas.proofs.Numbers.{low_number, place_within}
+pub use Rattle.lemmas.proofs.Lists.{same_bytes, begins_with}

@@ -1,4 +1,5 @@
 pub mod Booleans
 pub mod Numbers
 pub mod Lists
+pub mod Orders
 pub mod Common

@@ -3,7 +3,10 @@ use Rattle.std.proofs.Common.{List, [], ◌∷◌, ℕ, zero, suc, ◌<◌, ◌�
 use Rattle.std.proofs.Common.{slice_get, Contains, All, refl, ap, arith}
 use Rattle.std.proofs.lemmas.Option.{slice_get-map, same_Some}
 use Rattle.std.proofs.lemmas.List.Elements.{All-nil, All-cons, All-head, All-tail}
+use Rattle.std.proofs.Common.{◌++◌, drop, sym, take, take-append-drop, true}
 use Rattle.std.proofs.Props.{props}
+use Rattle.std.proofs.lemmas.Slice.Eq.{bytes_eq-Decides}
+use Rattle.std.specs.Str.{bytes_eq}
 
 pub mapped_at : {A B : Type 0} (f : A → B) (xs : List A) (k : ℕ) (x : A) → slice_get xs k ≡ Some x →
     slice_get (map f xs) k ≡ Some (f x)
@@ -43,3 +46,9 @@ all_unmapped P f (x ∷ xs) all = All-cons (λ x. P (f x)) x xs (All-head P (f x
 
 pub nothing_prop : IsProp ⊥
 nothing_prop = Prim.hlevel props
+
+pub same_bytes : (n m : List ℕ) → bytes_eq n m ≡ true → n ≡ m
+same_bytes n m e = (bytes_eq-Decides n m).0 e
+
+pub begins_with : (m l : List ℕ) (n : ℕ) → bytes_eq (take n l) m ≡ true → l ≡ m ++ drop n l
+begins_with m l n e = sym (take-append-drop n l) ∙ ap (λ t. t ++ drop n l) (same_bytes (take n l) m e)

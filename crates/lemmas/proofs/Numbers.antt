@@ -1,8 +1,11 @@
 -- Numbers: their order, and what tests and comparisons tell of it.
-use Rattle.std.proofs.Common.{ℕ, ℤ, zero, suc, pos, negsuc, ◌<◌, ◌≤◌, ◌+◌, ◌≡◌, ◌⊎◌, ◌==◌, ◌+ℤ◌, ◌-ℤ◌, ◌<ℤ◌, nat_lt}
-use Rattle.std.proofs.Common.{nat_le, nat_cmp, int_cmp, int_eq, Less, Equal, true, false, refl, arith, rules}
+use Rattle.std.proofs.Common.{ℕ, ℤ, zero, suc, pos, negsuc, ◌<◌, ◌≤◌, ◌+◌, ◌≡◌, ◌⊎◌, ◌==◌, ◌+ℤ◌, ◌-ℤ◌, ◌<ℤ◌, ◌≤ℤ◌, ◌*◌}
+use Rattle.std.proofs.Common.{nat_lt}
+use Rattle.std.proofs.Common.{nat_le, nat_cmp, int_cmp, Less, Equal, true, false, refl, arith, rules}
+use Rattle.std.proofs.Math.Nat.{mul-le-mul_left}
 use Rattle.std.proofs.lemmas.Int.{ints}
 use Rattle.std.proofs.lemmas.Bool.Decides.{nat_tests}
+use Rattle.lemmas.specs.Bounds.{last_place, max_side}
 
 pub below_or_from : (i m : ℕ) → (i < m) ⊎ (m ≤ i)
 below_or_from i m = grind arith
@@ -62,12 +65,6 @@ int_less a b e = grind arith
 pub int_equal : (a b : ℤ) → int_cmp a b ≡ Equal → a ≡ b
 int_equal a b e = grind arith
 
-pub int_same : (a b : ℤ) → int_eq a b ≡ true → a ≡ b
-int_same a b e = search rules
-
-pub int_itself : (a : ℤ) → int_eq a a ≡ true
-int_itself a = search rules
-
 pub pred_pos : (i : ℕ) → pos (suc i) -ℤ pos 1 ≡ pos i
 pred_pos i = omega (arith, ints)
 
@@ -79,3 +76,11 @@ up_moved x d = omega (arith, ints)
 
 pub down_moved : (x d : ℤ) → (x +ℤ d) -ℤ pos 1 ≡ (x -ℤ pos 1) +ℤ d
 down_moved x d = omega (arith, ints)
+
+-- a place of a layout, as an integer
+pub low_number : (z : ℤ) (k : ℕ) → z ≡ pos k → k < max_side → (pos 0 ≤ℤ z) × (z ≤ℤ pos last_place)
+low_number z k e lt = (omega (arith, ints, e, lt), omega (arith, ints, e, lt))
+
+-- the place of an item in rows of m items
+pub place_within : (m n w k : ℕ) → w < n → k < m → m * w + k < m * n
+place_within m n w k h l = let more : m * (w + 1) ≤ m * n = mul-le-mul_left m (omega arith) in omega (arith, more)

@@ -11,9 +11,10 @@ use Rattle.module_box.specs.LocalValues.{IsLocalValuation}
 use Rattle.bbm_rule.proofs.SameCells.{cell_same, cell_itself}
 use Rattle.local_run.specs.Laws.{OneValuationDecidesFault}
 use Rattle.local_run.proofs.LocalRuns.{AgreeBelow, live_same, run_same}
-use Rattle.local_run.proofs.OwnWires.{edge_below, demand_below}
+use Rattle.local_run.proofs.OwnWires.{demand_below}
 use Rattle.module_job.specs.declared.job.Demand.TheVariants as Demanded
 use Rattle.module_job.specs.declared.job.Stop as listed
+use Rattle.module_job.proofs.OwnSignals.{edge_below}
 
 -- ---- the same fault under valuations that agree
 meets_same : (n : ℕ) (u u' : Valuation) (d : Demand) (b : Bool) → AgreeBelow n u u' → IsDemandWireBelow n d →

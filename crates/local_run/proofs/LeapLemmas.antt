@@ -13,7 +13,7 @@ use Rattle.bbm_rule.proofs.SameCells.{cell_itself, cell_same}
 use Rattle.module_box.specs.Schedules.{moment_of}
 use Rattle.module_box.proofs.Rising.{all_times_found, event_found}
 use Rattle.local_run.specs.Laws.{QuietRunStaysUnchanged, QuietRunAddsNoEdgeFault}
-use Rattle.local_run.specs.Leaps.{HasNoEventsBetween}
+use Rattle.local_run.specs.Leaps.{AreLaterFrom, HasNoEventsBetween}
 use Rattle.local_run.proofs.LocalRuns.{even_or_odd, local_even, local_odd, step_all_same}
 
 -- ---- the signal of an event
@@ -189,6 +189,12 @@ sure es t place a rising some at less =
 pub drop_time : (es : List TimedSignal) (t low high m : ℕ) (a : TimedSignal) → IsRising moment_cmp moment_of es →
     IsTimePlaceBetween es t low high → slice_get es m ≡ Some a → t ≤ a.at.time → IsTimePlaceBetween es t low m
 drop_time es t low high m a rising b at le = grind (arith, common_steps, later)
+
+-- where an event is later, so are those behind it
+pub all_later : (es : List TimedSignal) (place t : ℕ) (a : TimedSignal) → IsRising moment_cmp moment_of es →
+    slice_get es place ≡ Some a → t < a.at.time → AreLaterFrom es place t
+all_later es place t a rising at less i e from ei =
+    let le = later es place i a e rising from at ei in omega (arith, less, le)
 
 -- the bounds have met at an event: there is none between t and its time
 pub none_until : (es : List TimedSignal) (t low high n : ℕ) (a : TimedSignal) → IsRising moment_cmp moment_of es →

@@ -1,13 +1,13 @@
 -- A job has one least fault
-use Rattle.local_run.proofs.Imports.{Edge, End, Equal, Fault, Greater, KeepFault, Kind, Less, None, Ordering}
+use Rattle.local_run.proofs.Imports.{Edge, End, Fault, KeepFault, Kind, None}
 use Rattle.local_run.proofs.Imports.{Some, Stop, ap, arith, cell_cmp, common_steps, fault_cmp, keep_cmp, kind_number}
-use Rattle.local_run.proofs.Imports.{refl, suc, zero, ℕ, ℤ, ◌≡◌, ◌≢◌}
-use Rattle.lemmas.proofs.Common.{CmpEqualImpliesEq, IsTotalOrder, exact_pairs, exact_signed, exact_unsigned}
+use Rattle.local_run.proofs.Imports.{refl, suc, zero, ℕ, ℤ, ◌≡◌}
+use Rattle.lemmas.proofs.Common.{CmpEqualImpliesEq, IsTotalOrder, both_ways, exact_pairs, exact_signed, exact_unsigned}
 use Rattle.bbm_rule.proofs.CellOrder.{cell_total}
-use Rattle.lemmas.proofs.Common.{nat_cmp_total, on_total, ordering_reverse, then_total}
+use Rattle.lemmas.proofs.Common.{nat_cmp_total, on_total, then_total}
 use Rattle.local_run.specs.Laws.{LeastFaultIsUnique, LeastKeepFaultIsUnique}
 
-fault_total : IsTotalOrder fault_cmp
+pub fault_total : IsTotalOrder fault_cmp
 unfolding fault_cmp
 fault_total = then_total (on_total (λ (f : Fault). f.time) nat_cmp_total)
     (then_total (on_total (λ (f : Fault). kind_number f.kind) nat_cmp_total)
@@ -40,20 +40,13 @@ fault_exact : CmpEqualImpliesEq fault_cmp
 unfolding fault_cmp cell_cmp
 fault_exact a b e = grind (arith, common_steps, unkey-key, unkey, exact_pairs, exact_unsigned, exact_signed, key)
 
-both_ways : (o p : Ordering) → o ≡ ordering_reverse p → o ≢ Greater → p ≢ Greater → o ≡ Equal
-both_ways Less Less e n m = grind (arith, common_steps)
-both_ways Less Equal e n m = e
-both_ways Less Greater e n m = absurd (m refl)
-both_ways Equal p e n m = refl
-both_ways Greater p e n m = absurd (n refl)
-
 pub least_unique : LeastFaultIsUnique
 least_unique j None None f g = refl
 least_unique j None (Some b) f g = absurd (f b g.0)
 least_unique j (Some a) None f g = absurd (g a f.0)
 least_unique j (Some a) (Some b) f g = grind (arith, common_steps, fault_exact, both_ways, fault_total)
 
-keep_total : IsTotalOrder keep_cmp
+pub keep_total : IsTotalOrder keep_cmp
 unfolding keep_cmp
 keep_total = then_total (on_total (λ (f : KeepFault). f.gate) nat_cmp_total)
     (on_total (λ (f : KeepFault). f.assignment) nat_cmp_total)

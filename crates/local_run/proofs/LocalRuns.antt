@@ -8,7 +8,8 @@ use Rattle.bbm_rule.proofs.Steps.{step_same}
 use Rattle.module_box.proofs.BoxSteps.{even_stays}
 use Rattle.local_run.specs.Runs.{local_step}
 use Rattle.local_run.specs.Laws.{LocalRunStaysInBox}
-use Rattle.local_run.proofs.OwnWires.{start_below, halo_below, start_outside}
+use Rattle.local_run.proofs.OwnWires.{start_below, start_outside}
+use Rattle.module_job.proofs.OwnSignals.{halo_below}
 
 pub even_or_odd : (t : ℕ) → (t % 2 ≡ 0) ⊎ (t % 2 ≡ 1)
 even_or_odd t = elim (cases_eq (t % 2) 0) [ inl e ↦ inl e | inr n ↦ inr (omega arith) ]

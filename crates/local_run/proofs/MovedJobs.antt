@@ -12,8 +12,8 @@ use Rattle.bbm_rule.specs.Moves.{IsMoved}
 use Rattle.bbm_rule.specs.Plane.{parity}
 use Rattle.bbm_rule.proofs.Moving.{parity_moved, step_moved}
 use Rattle.bbm_rule.specs.Boxes.{IsEven}
-use Rattle.module_box.specs.Moves.{BoxMovesAlong, IsMovedBox, IsInShiftRange, IsSmallShift, moved_cell}
-use Rattle.module_box.proofs.BoxCells.{in_box_nats}
+use Rattle.module_box.specs.Moves.{BoxMovesAlong, IsMovedBox, IsInShiftRange, moved_cell}
+use Rattle.module_box.proofs.BoxCells.{in_box_nats, small_number}
 use Rattle.module_box.proofs.MovedBoxes.{boxes_moved, cell_back, cell_cmp_moved}
 use Rattle.module_job.specs.Shapes.{moved_stop}
 use Rattle.module_job.proofs.ShapeParts.{back_forth, stops_back}
@@ -21,7 +21,6 @@ use Rattle.local_run.specs.Moves.{FaultsMoveWithJob, LeastFaultMovesWithJob, Sam
 use Rattle.local_run.specs.Moves.{columns_between, fault_moved_to_job, rows_between}
 use Rattle.local_run.proofs.LocalRuns.{even_or_odd, local_even, local_odd}
 use Rattle.module_job.specs.declared.job.Stop as listed
-use Rattle.lemmas.specs.Bounds.{max_side}
 
 -- ---- what is alike in two jobs where the faults of one are those of the other, moved
 record AreAlike (dx dy : ℤ) (j k : JobView) : Type 0 where
@@ -209,9 +208,6 @@ under_inside j u t End x y is f = f.inside
 fault_inside : (j : JobView) (f : Fault) → IsJob j → IsFault j f → in_box j.area f.cell.x f.cell.y ≡ true
 fault_inside j f is fault = ∥∥₁_elim fault.shown (Prim.hlevel props)
     (λ h. under_inside j h.values f.time f.kind f.cell.x f.cell.y is h.differs)
-
-small_number : (z : ℤ) (n m w : ℕ) → z ≡ pos n → n < m + w → m + w ≤ max_side → IsSmallShift z
-small_number z n m w e lt few = (omega (arith, ints, e), omega (arith, ints, e, lt, few))
 
 pub fault_near : (j : JobView) (f : Fault) → IsJob j → IsFault j f → IsInShiftRange f.cell
 fault_near j f is fault =

@@ -5,6 +5,7 @@ use Rattle.local_run.proofs.Imports.{by_lt_or_le, common_steps, event_none, halo
 use Rattle.local_run.proofs.Imports.{number_at, pos, shift_to_origin, signal_at, signals_moved, slice_get, sym, ℕ, ℤ}
 use Rattle.local_run.proofs.Imports.{◌%◌, ◌*◌, ◌+ℤ◌, ◌+◌, ◌-ℤ◌, ◌/◌, ◌<◌, ◌∙◌, ◌≡◌, ◌≤◌}
 use Rattle.bbm_rule.specs.Marks.{MarksOne}
+use Rattle.local_run.specs.Leaps.{AreLaterFrom}
 use Rattle.local_run.specs.Quiet.{AreStarredCellsMarked, IsZeroAtUnmarked, LacksCellMark, own_mark_number_at}
 use Rattle.lanes.proofs.LaneLemmas.{place_below}
 
@@ -68,6 +69,13 @@ pub events_between : (es : List TimedSignal) (t m n : ℕ) (P : TimedSignal → 
     ((i : ℕ) (e : TimedSignal) → m ≤ i → i < n → slice_get es i ≡ Some e → P e) → (i : ℕ) (e : TimedSignal) →
     slice_get es i ≡ Some e → e.at.time ≡ t → P e
 events_between es t m n P from to have i e at same = grind (arith, common_steps, by_lt_or_le)
+
+-- no event is at a time, if those before a place are earlier and the others later
+pub events_nowhere : (es : List TimedSignal) (t m n : ℕ) (P : TimedSignal → Type 0) → IsTimePlaceBetween es t m n →
+    AreLaterFrom es m t → (i : ℕ) (e : TimedSignal) → slice_get es i ≡ Some e → e.at.time ≡ t → P e
+events_nowhere es t m n P from later i e at same = by_lt_or_le i m
+    (λ l. let less = from.below i e l at in absurd (omega (arith, less, same)))
+    (λ ge. let more = later i e ge at in absurd (omega (arith, more, same)))
 
 -- ---- signals counted from the corner of the box
 pub outer_back : (c k : ℕ) → halo_coord c k +ℤ shift_to_origin c ≡ halo_coord 0 k

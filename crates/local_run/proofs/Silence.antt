@@ -1,10 +1,10 @@
 -- Cells that are known to be dead and have no line
-use Rattle.local_run.proofs.Imports.{AreSkippableBetween, Box2, Edge, IsEdgeCorrectAt, IsFaultWhereDefined}
+use Rattle.local_run.proofs.Imports.{AreSkippableBetween, Edge, IsEdgeCorrectAt, IsFaultWhereDefined}
 use Rattle.local_run.proofs.Imports.{IsHaloCellSet, IsLeastBelow, IsOutsideBoxFromHalo, IsReady, JobView, List, None}
 use Rattle.local_run.proofs.Imports.{Planes, Shows, Signal, Values, and_parts, ap, ap₂, arith, assignments, box_coord}
 use Rattle.local_run.proofs.Imports.{by_eq_or_not, by_lt_or_le, common_steps, dead_lane, false, false≢true, halo_coord}
-use Rattle.local_run.proofs.Imports.{in_box, in_ring, in_span, inl, inr, is_defined_under, is_live, lane, local_run}
-use Rattle.local_run.proofs.Imports.{mul-le-mul_left, number_at, refl, signal_at, subst, sym, true, valuation, ℕ, ℤ}
+use Rattle.local_run.proofs.Imports.{in_box, in_span, inl, inr, is_defined_under, is_live, lane, local_run}
+use Rattle.local_run.proofs.Imports.{mul-le-mul_left, number_at, refl, signal_at, subst, sym, true, valuation, ℕ}
 use Rattle.local_run.proofs.Imports.{◌%◌, ◌*◌, ◌+◌, ◌-◌, ◌/◌, ◌<◌, ◌∙◌, ◌≡◌, ◌≢◌, ◌≤◌}
 use Rattle.lanes.specs.Calm.{AreFourCellsDead}
 use Rattle.bbm_rule.specs.Marks.{IsUnmarked}
@@ -14,6 +14,7 @@ use Rattle.lanes.proofs.InsideLemmas.{in_row}
 use Rattle.local_run.proofs.Firsts.{not_in_ring, span_at}
 use Rattle.local_run.proofs.QuietLemmas.{outer_same}
 use Rattle.local_run.proofs.Stepping.{box_out, outer_inner}
+use Rattle.bbm_rule.proofs.RingTests.{ring_in_box}
 
 -- a cell of the box is in the planes as in the run
 pub shown_at : (j : JobView) (vs : Values) (p : Planes) (t x y a : ℕ) → Shows j vs t p → a < assignments j →
@@ -34,10 +35,6 @@ shown_at j vs p t x y a shows la inside =
     (shows.cells a px.number py.number la px.below py.below
     ∙ ap₂ (local_run j (valuation vs a) t) (sym (outer_inner j.area.x px.number))
     (sym (outer_inner j.area.y py.number))))
-
-pub ring_in_box : (b : Box2) (x y : ℤ) → in_ring b x y ≡ true → in_box b x y ≡ true
-unfolding in_ring
-ring_in_box b x y h = (and_parts _ _ h).0
 
 -- silent cells have no edge fault
 pub silent_edges : (j : JobView) (vs : Values) (p : Planes) (t column row : ℕ) → IsReady j vs → Shows j vs t p →

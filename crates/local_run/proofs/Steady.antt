@@ -16,7 +16,8 @@ use Rattle.local_run.specs.Scans.{IsHaloSet}
 use Rattle.local_run.specs.Steady.{AreEventMarks, IsNumberCorrect, IsNumberMarked, IsNumberOfCell, IsNumberSteady}
 use Rattle.local_run.specs.Steady.{IsOutsideHalo, IsSteadyAtUnmarked, IsSteadyWhereSettled, all_times_signal}
 use Rattle.local_run.proofs.QuietLemmas.{number_below, outer_back, outer_same, quiet_moved, still_quiet}
-use Rattle.local_run.proofs.Silence.{passed_edges, passed_halo, ring_in_box, shown_at}
+use Rattle.local_run.proofs.Silence.{passed_edges, passed_halo, shown_at}
+use Rattle.bbm_rule.proofs.RingTests.{ring_in_box}
 
 -- ---- signals of a time without an event
 steady_signal : (s : Signals) (t : ℕ) (x y : ℤ) →
@@ -58,11 +59,6 @@ number_of_cell b c x y ew eh lx ly ex ey = (
 
 pub outside_marked : (b : Box2) (c : Cell) (marks : List ℕ) → IsOutsideHalo b c → IsNumberMarked b c marks
 outside_marked b c marks out x y lx ly ex ey free = out x y lx ly ex ey
-
-pub still_number_marked : (b : Box2) (c : Cell) (old new : List ℕ) → KeepsMarks old new → IsNumberMarked b c old →
-    IsNumberMarked b c new
-still_number_marked b c old new keeps marked x y lx ly ex ey free =
-    marked x y lx ly ex ey (keeps (number_at b x y) free)
 
 pub steady_moved : (s : Signals) (b : Box2) (t : ℕ) (marks : List ℕ) →
     IsSteadyAtUnmarked (moved_signals (shift_to_origin b.x) (shift_to_origin b.y) s)

@@ -1,23 +1,18 @@
 -- Stops in their order, and the first of them that has a fault
-use Rattle.local_run.proofs.Imports.{Equal, Greater, HasNoFaultOfKind, IsFirstOfKind, IsLeastBelow, IsNextStop}
-use Rattle.local_run.proofs.Imports.{IsRising, IsStopFault, JobView, Less, Moment, None, Ordering, Some, Stop}
+use Rattle.local_run.proofs.Imports.{HasNoFaultOfKind, IsFirstOfKind, IsLeastBelow, IsNextStop}
+use Rattle.local_run.proofs.Imports.{IsRising, IsStopFault, JobView, Less, Moment, None, Some, Stop}
 use Rattle.local_run.proofs.Imports.{Valuation, Values, ap, arith, assignments, cases_lt, cell_cmp, common_steps}
 use Rattle.local_run.proofs.Imports.{get_or, inl, inr, int_equal, ints, is_defined_under, length, local_run, moment_cmp}
-use Rattle.local_run.proofs.Imports.{nat_equal, ordering_then, refl, same_Some, slice_get, slice_get-get_or}
+use Rattle.local_run.proofs.Imports.{nat_equal, refl, same_Some, slice_get, slice_get-get_or}
 use Rattle.local_run.proofs.Imports.{slice_get_within, subst, sym, three_ways, true, valuation, ℕ, ℤ, ◌+◌, ◌<ℤ◌, ◌<◌}
 use Rattle.local_run.proofs.Imports.{◌∙◌, ◌≡◌, ◌≢◌, ◌≤◌, ◌⊎◌}
-use Rattle.lemmas.proofs.Common.{below_or_same, int_less, nat_less}
+use Rattle.lemmas.proofs.Common.{below_or_same, int_less, nat_less, then_less}
 use Rattle.module_job.specs.Jobs.{stop_moment}
 use Rattle.local_run.specs.Scans.{IsStopMissed}
 use Rattle.local_run.proofs.LeapLemmas.{later_in_time}
 use Rattle.module_job.specs.declared.job.Stop as listed
 
 -- ---- the order of moments
-
-then_less : (o p : Ordering) → ordering_then o p ≡ Less → (o ≡ Less) ⊎ ((o ≡ Equal) × (p ≡ Less))
-then_less Less p h = inl refl
-then_less Equal p h = inr (refl, h)
-then_less Greater p h = absurd cc
 
 -- a cell comes after another, by y and x
 abbrev pub IsLater : ℤ → ℤ → ℤ → ℤ → Type 0

@@ -25,6 +25,10 @@ pub record IsTimePlaceBetween (es : List TimedSignal) (t low high : ℕ) : Type 
   pub below : (i : ℕ) (e : TimedSignal) → i < low → slice_get es i ≡ Some e → e.at.time < t
   pub above : (i : ℕ) (e : TimedSignal) → high ≤ i → slice_get es i ≡ Some e → t ≤ e.at.time
 
+-- the events from this place on are later than time t
+abbrev pub AreLaterFrom : List TimedSignal → ℕ → ℕ → Type 0
+AreLaterFrom es place t = (i : ℕ) (e : TimedSignal) → place ≤ i → slice_get es i ≡ Some e → t < e.at.time
+
 -- none of the events is at a time from t on, before n
 abbrev pub HasNoEventsBetween : List TimedSignal → ℕ → ℕ → Type 0
 HasNoEventsBetween events t n =

@@ -2,7 +2,6 @@
 ghost use Rattle.std.specs.Prelude.{◌≡◌, ◌≢◌, Some, IfNone, IfSome};
 ghost use Rattle.std.specs.Arc.{arc_value};
 ghost use Rattle.std.specs.Option.{option_map};
-ghost use Rattle.module_job.specs.Jobs.{IsJob};
 ghost use Rattle.module_job.specs.Shapes.{shape_of};
 ghost use Rattle.local_run.specs.Faults.{IsFault, IsLeastFault, IsLeastFault-prop, IsLeastKeepFault, IsLeastKeepFault-prop};
 ghost use Rattle.local_run.specs.Moves.{fault_moved_to_job};

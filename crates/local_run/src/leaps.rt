@@ -30,9 +30,10 @@ pub fn first_event_place(events: &[TimedSignal], time: u32) -> usize
     low
 }
 
-// A place before which all events are earlier than the time: `place`, if it is one, or the first.
+/// Returns a place before which all events are earlier than the time: `place`, if it is one, or the first.
+#[inline(always)]
 #[tactic(auto, using(crate::proofs::LeapLemmas::any_place))]
-fn valid_start_place(events: &[TimedSignal], place: usize, time: u32) -> usize
+pub fn valid_start_place(events: &[TimedSignal], place: usize, time: u32) -> usize
     requires rising_moments { IsRising moment_cmp moment_of events.now }
     ensures range { result ≤ length events.now }
     ensures start_is_valid { IsTimePlaceBetween events.now time result (length events.now) }

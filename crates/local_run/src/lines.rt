@@ -5,12 +5,13 @@ ghost use Rattle.module_job.specs.Shapes.{shape_of};
 ghost use Rattle.module_box.specs.Moments.{moment_cmp};
 ghost use Rattle.module_box.specs.Schedules.{IsRising, all_times_at, event_at, moment_of, signal_at};
 ghost use Rattle.local_run.specs.Quiet.{AreStarredCellMarks, AreStarredCellsMarked, AreLineMarks, box_at_origin, HasRoomForCellNumbers, IsCellMarked, IsZeroAtUnmarked, KeepsMarks};
+ghost use Rattle.local_run.specs.Leaps.{AreLaterFrom};
 ghost use Rattle.local_run.specs.Places.{halo_coord};
 ghost use Rattle.local_run.specs.Steady.{AreEventMarks, HasRoomForNumbers, IsNumberMarked, IsNumberOfCell, IsOutsideHalo, IsSteadyAtUnmarked};
-ghost use Rattle.std.specs.Prelude.{ℕ, nat_lt, ◌||◌, ◌≢◌, MatchOption, ◌≡◌, ◌<◌, ◌+◌, ◌*◌, ◌/◌, ◌%◌, ◌^◌, ◌≤◌, length, slice_index, slice_get, Some, IfOk, IfSome};
+ghost use Rattle.std.specs.Prelude.{ℕ, nat_lt, true, ◌||◌, ◌≢◌, MatchOption, ◌≡◌, ◌<◌, ◌+◌, ◌*◌, ◌/◌, ◌%◌, ◌^◌, ◌≤◌, length, slice_get, Some, IfOk, IfSome};
 ghost use Rattle.lemmas.specs.Bounds.{max_side, max_steps};
 
-use crate::leaps::first_event_place_from;
+use crate::leaps::{first_event_place_from, valid_start_place};
 use bbm_rule::Cell;
 use bbm_rule::marks::mark;
 use module_box::{AllTimesSignal, Box2, Moment, Schedule, Signal, TimedSignal};
@@ -115,8 +116,23 @@ fn mark_events(
     }
 }
 
+// Whether all events from a place on are later than a time.
+#[inline(always)]
+fn are_later_from(events: &[TimedSignal], place: usize, time: u32) -> bool
+    requires { IsRising moment_cmp moment_of events.now }
+    ensures { result ≡ true → AreLaterFrom events.now place time }
+{
+    if place < events.len() {
+        return time < events[place].at.time;
+    }
+    true
+}
+
 // Marks the cells of the events of a time, which are sought from a place on, and their numbers. Returns their places.
-#[tactic(auto, using(crate::proofs::QuietLemmas::events_between))]
+//
+// At most times no line begins or ends, which two looks show.
+#[inline(always)]
+#[tactic(auto, using(crate::proofs::QuietLemmas::events_between, crate::proofs::QuietLemmas::events_nowhere))]
 fn mark_events_at(
     marks: &mut [u64],
     numbers: &mut [u64],
@@ -136,7 +152,14 @@ fn mark_events_at(
     ensures numbers_marked { (i : ℕ) (e : TimedSignal) → slice_get list.now i ≡ Some e →
         e.at.time ≡ time → IsNumberMarked area e.at.cell numbers.new }
 {
-    let first = first_event_place_from(list, place, time);
+    let start = valid_start_place(list, place, time);
+    if are_later_from(list, start, time) {
+        return EventPlaces {
+            first: start,
+            end: start,
+        };
+    }
+    let first = first_event_place_from(list, start, time);
     let end = first_event_place_from(list, first, time + 1);
     mark_events(marks, numbers, area, list, first, end);
     EventPlaces { first, end }
@@ -144,6 +167,7 @@ fn mark_events_at(
 
 // Marks the cells of which a schedule says something at the time, where those of its signals at all times have marks,
 // and the numbers of its events. These are sought from a place on. Returns their places.
+#[inline(always)]
 fn mark_schedule(
     marks: &mut [u64],
     numbers: &mut [u64],

@@ -1,5 +1,5 @@
 //! The start of a run over planes, and its steps.
-ghost use Rattle.std.specs.Prelude.{ℕ, ◌≡◌, ◌+◌, ◌*◌, ◌/◌, ◌%◌, ◌<◌, ◌≤◌, true, false};
+ghost use Rattle.std.specs.Prelude.{ℕ, ◌≡◌, ◌+◌, ◌*◌, ◌/◌, ◌%◌, ◌<◌, false};
 ghost use Rattle.module_job.specs.Jobs.{job_start};
 ghost use Rattle.lanes.specs.Calm.{AreAllCellsDead};
 ghost use Rattle.lanes.specs.Lanes.{HasWordsStrideRows, lane};
