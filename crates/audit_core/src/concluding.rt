@@ -243,37 +243,28 @@ fn report_lines(
 fn local_line(number: usize, fault: Option<Fault>) -> Option<ReportLine>
     ensures { result ≡ local_line number fault }
 {
-    match fault {
-        Some(fault) => Some(ReportLine::Local {
-            module: number,
-            fault,
-        }),
-        None => None,
-    }
+    fault.map(|fault| ReportLine::Local {
+        module: number,
+        fault,
+    })
 }
 
 fn keep_line(number: usize, fault: Option<KeepFault>) -> Option<ReportLine>
     ensures { result ≡ keep_line number fault }
 {
-    match fault {
-        Some(fault) => Some(ReportLine::Keep {
-            module: number,
-            fault,
-        }),
-        None => None,
-    }
+    fault.map(|fault| ReportLine::Keep {
+        module: number,
+        fault,
+    })
 }
 
 fn border_line(number: usize, fault: Option<BorderFault>) -> Option<ReportLine>
     ensures { result ≡ border_line number fault }
 {
-    match fault {
-        Some(fault) => Some(ReportLine::Border {
-            module: number,
-            fault,
-        }),
-        None => None,
-    }
+    fault.map(|fault| ReportLine::Border {
+        module: number,
+        fault,
+    })
 }
 
 fn push_line_if_some(
@@ -284,7 +275,6 @@ fn push_line_if_some(
 {
     if let Some(line) = line {
         lines.push(line)?;
-        return Ok(());
     }
     Ok(())
 }

@@ -10,7 +10,6 @@ use Rattle.border_match.specs.BorderFaults.{AreBorderFaultsOf}
 use Rattle.certificate.specs.Grammars.{CertView}
 use Rattle.certificate.specs.Text.{certificate_text}
 use Rattle.core_book.specs.Concluding.{AreJobsOfCertificate, modules, setting}
-use Rattle.check_main.specs.declared.preparing.JobsAndBorders.{JobsAndBorders}
 use Rattle.check_main.specs.declared.preparing.Prepared.{Prepared}
 
 -- the bytes of the lines that were taken
@@ -25,11 +24,6 @@ IsRest f rest = taken_bytes f ++ rest ≡ f.text
 pub record IsSectionOf (f : FeedView) (from : ℕ) (c : CertView) : Type 0 where
   pub within : from ≤ length (taken_bytes f)
   pub bytes : drop from (taken_bytes f) ≡ certificate_text c
-
--- the jobs of the certificate's modules, and the faults of its borders
-pub record IsMadeFor (c : CertView) (made : JobsAndBorders) : Type 0 where
-  pub jobs : AreJobsOfCertificate c (map arc_value made.jobs.items)
-  pub borders : AreBorderFaultsOf (setting c) (modules c) made.borders.items
 
 -- the certificate's digest, the jobs of its modules, and the faults of its borders
 pub record IsPreparedFor (c : CertView) (prepared : Prepared) : Type 0 where

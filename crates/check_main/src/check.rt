@@ -1,7 +1,5 @@
 //! Checks a certificate: has its modules run by workers, and reports what was found.
 ghost use Rattle.std.specs.Prelude.{◌≡◌, ◌<◌, ◌≤◌, IfOk};
-ghost use Rattle.sha2.specs.Sha256.{sha256};
-ghost use Rattle.certificate.specs.Text.{certificate_text};
 ghost use Rattle.answers.specs.BundleReading.{bundle_of_certificate};
 ghost use Rattle.answers.specs.CheckText.{IsVerdictOn, SaysReport, verdict_outcome};
 ghost use Rattle.border_match.specs.BorderFaults.{AreBorderFaultsOf};
@@ -36,44 +34,13 @@ pub(crate) fn report_on<G: Gate + Sync, R: Threads + Wait + Sync>(
     ensures says { IfOk result (λ answered. SaysReport (bundle_of_certificate cert.now)
         answered.output.items answered.outcome) }
 {
-    let VerdictWithDigest { digest, verdict } = conclude_on(
-        rt, alloc, cert, prepared, workers, gate,
-    )?;
-    let output = report_with_digest(alloc, cert, digest, &verdict)?;
-    Ok(Answered {
-        outcome: outcome_of(&verdict),
-        output,
-    })
-}
-
-// The digest of a certificate, and the verdict on it.
-#[derive(Drop)]
-struct VerdictWithDigest {
-    digest: [u8; 32],
-    verdict: Verdict,
-}
-
-// What is concluded on a certificate, whose modules `workers` threads run.
-fn conclude_on<G: Gate + Sync, R: Threads + Wait + Sync>(
-    rt: &R,
-    alloc: Global,
-    cert: &Cert<'_>,
-    prepared: Prepared,
-    workers: usize,
-    gate: &G,
-) -> Result<VerdictWithDigest, AllocError>
-    requires workers { (0 < workers) × (workers ≤ 64) }
-    requires prepared { IsPreparedFor cert.now prepared }
-    ensures digest { IfOk result (λ concluded. concluded.digest
-        ≡ sha256 (certificate_text cert.now)) }
-    ensures verdict { IfOk result (λ concluded. IsVerdictOn cert.now concluded.verdict) }
-{
     let Prepared { opening, borders } = prepared;
     let audited = audit_opening(rt, alloc, cert, opening, workers, gate)?;
     let verdict = verdict_from(alloc, cert, &borders, &audited.state)?;
-    Ok(VerdictWithDigest {
-        digest: audited.state.digest(),
-        verdict,
+    let output = report_with_digest(alloc, cert, audited.state.digest(), &verdict)?;
+    Ok(Answered {
+        outcome: outcome_of(&verdict),
+        output,
     })
 }
 

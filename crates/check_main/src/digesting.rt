@@ -1,10 +1,10 @@
 //! Reads a certificate, while a thread takes its digest.
-ghost use Rattle.std.specs.Prelude.{◌≡◌, ◌++◌, ℕ, List, true, IfOk, IfSome};
+ghost use Rattle.std.specs.Prelude.{◌≡◌, ℕ, List, true, IfOk, IfSome};
 ghost use Rattle.sha2.specs.Sha256.{sha256};
 ghost use Rattle.section_text.specs.Section.{Reads};
 ghost use Rattle.certificate.specs.Grammars.{certificate_grammar, certificate_section};
 ghost use Rattle.certificate_lines.specs.Settings.{setting_of};
-ghost use Rattle.check_main.specs.Preparing.{IsRest, taken_bytes};
+ghost use Rattle.check_main.specs.Preparing.{IsRest};
 
 use certificate::{Cert, read_certificate_within};
 use circuit::Circuit;

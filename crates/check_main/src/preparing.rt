@@ -2,15 +2,14 @@
 ghost use Rattle.std.specs.Prelude.{◌≡◌, ◌≤◌, IfOk, IfSome, drop, length};
 ghost use Rattle.sha2.specs.Sha256.{sha256};
 ghost use Rattle.certificate.specs.Text.{certificate_text};
-ghost use Rattle.check_main.specs.Preparing.{IsMadeFor, IsPreparedFor, IsSectionOf, taken_bytes};
+ghost use Rattle.check_main.specs.Preparing.{IsPreparedFor, IsSectionOf, taken_bytes};
 
 use crate::auditing::DigestAndJobs;
 use border_match::{BorderFault, match_borders};
-use certificate::{Cert, Job};
+use certificate::Cert;
 use section_text::Feed;
 use sha2::{Digest, Sha256};
 use std::alloc::{AllocError, Global};
-use std::sync::Arc;
 
 /// The digest and the jobs of a certificate, and the faults of its borders.
 #[derive(Drop)]
@@ -39,26 +38,12 @@ pub(crate) fn prepare(
         None => Sha256::digest(certificate_section_in(&text, from)),
     };
     drop(text);
-    let JobsAndBorders { jobs, borders } = make_jobs_and_borders(alloc, cert)?;
+    let jobs = cert.jobs(alloc)?;
+    let borders = match_borders(alloc, cert, &jobs)?;
     Ok(Prepared {
         opening: DigestAndJobs { digest, jobs },
         borders,
     })
-}
-
-// Jobs, and the faults of the borders between their modules.
-#[derive(Drop)]
-struct JobsAndBorders {
-    jobs: Vec<Arc<Job>>,
-    borders: Vec<Option<BorderFault>>,
-}
-
-fn make_jobs_and_borders(alloc: Global, cert: &Cert<'_>) -> Result<JobsAndBorders, AllocError>
-    ensures { IfOk result (IsMadeFor cert.now) }
-{
-    let jobs = cert.jobs(alloc)?;
-    let borders = match_borders(alloc, cert, &jobs)?;
-    Ok(JobsAndBorders { jobs, borders })
 }
 
 fn certificate_section_in(text: &Feed, from: usize) -> &[u8]
