@@ -51,7 +51,7 @@ module _ {H I A : Type 0} (g : Grammar H I) (view : A → H × List I) (old new 
       ∙ flat_map-append with_line_feed (take old.taken (lines_of old.text)) (take (length (view a).1 + 2) (ahead old))
 
 -- the bytes before are no more than those after
-section_bytes : (before after text : List ℕ) → after ≡ before ++ text →
+pub section_bytes : (before after text : List ℕ) → after ≡ before ++ text →
     (length before ≤ length after) × (take (length before) after ≡ before) × (drop (length before) after ≡ text)
 section_bytes before after text e =
     let longer = ap length e ∙ length-append before text in (

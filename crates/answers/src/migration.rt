@@ -58,8 +58,8 @@ fn push_lines_without_h(out: &mut Vec<u8>, text: &[u8]) -> Result<(), AllocError
 
 /// Writes a bundle in version 2, without halo lines, from its text.
 ///
-/// The text is that of its lines, and its certificate's section begins at the byte `from`. Each line of a bundle has
-/// one spelling, so the lines that stay are copied.
+/// The text holds a bundle's lines and nothing else, and its certificate's section begins at the byte `from`. Each line
+/// of a bundle has one spelling, so the lines that stay are copied.
 pub(crate) fn migrate(alloc: Global, text: &[u8], from: usize) -> Result<Answered, AllocError>
     requires { from ≤ length text.now }
     ensures { IfOk result (λ answered. (limits : Limits) (bundle : Bundle) →

@@ -1,12 +1,12 @@
 -- The cells of rows and rectangles.
-use Rattle.bbm_rule.proofs.Imports.{Bool, List, [], ap, arith, cases_Bool, common_steps, false, inl, inr, ints, nat_eq}
-use Rattle.bbm_rule.proofs.Imports.{nat_lt, nat_tests, not, refl, suc, sym, true, w32, zero, ℕ, ◌&&◌, ◌+◌, ◌-◌, ◌<◌}
+use Rattle.bbm_rule.proofs.Imports.{Bool, List, [], ap, arith, cases_Bool, common_steps, false, inl, inr, ints}
+use Rattle.bbm_rule.proofs.Imports.{nat_lt, nat_tests, refl, suc, sym, true, w32, zero, ℕ, ◌+◌, ◌-◌, ◌<◌}
 use Rattle.bbm_rule.proofs.Imports.{◌||◌, ◌∙◌, ◌∷◌, ◌≡◌, ◌≤◌}
 use Rattle.bbm_rule.specs.CellLists.{cell, row_cells}
 use Rattle.bbm_rule.specs.declared.block.Cell.{Cell}
 use Rattle.lemmas.proofs.Common.{append-nil, append_assoc, ap₂, cond, filter, filter-append}
-use Rattle.lemmas.proofs.Common.{filter_of_map_range_with_len_more, flat_map, flat_map-append, list_all}
-use Rattle.lemmas.proofs.Common.{list_all-append, list_any, list_any-append, map-id, map-range_with_len_more, or-true}
+use Rattle.lemmas.proofs.Common.{filter_of_map_range_with_len_more, flat_map, flat_map-append}
+use Rattle.lemmas.proofs.Common.{list_any, list_any-append, map-id, map-range_with_len_more, or-true}
 use Rattle.lemmas.proofs.Common.{range_with_len, to_z, ◌++◌}
 use Rattle.lemmas.specs.Bounds.{max_side}
 

@@ -18,6 +18,6 @@ pub use Rattle.lemmas.proofs.Common.{bit_or, bit_xor, cases_Bool, common_steps, 
 pub use Rattle.lemmas.proofs.Common.{div-mul-add, eqb-true, false, false≢true, get_or, get_or-set_other}
 pub use Rattle.lemmas.proofs.Common.{get_or-set_same, inl, inr, ints, le-leb, length, length-set, ltb-true, map}
 pub use Rattle.lemmas.proofs.Common.{mod-mul-add, mul-le-mul_right, nat_eq, nat_lt, nat_tests, negsuc, next_neg, not}
-pub use Rattle.lemmas.proofs.Common.{not_lt_test, or-false, pos, pred_pos, refl, rules, set, suc, sym, to_z-of_z}
+pub use Rattle.lemmas.proofs.Common.{not_lt_test, or-false, pos, pred_pos, refl, set, suc, sym, to_z-of_z}
 pub use Rattle.lemmas.proofs.Common.{trailing_zeros, true, w32, w64, with_items, with_items_is, zero, ℕ, ℤ, ◌%◌, ◌&&◌}
 pub use Rattle.lemmas.proofs.Common.{◌*◌, ◌+ℤ◌, ◌+◌, ◌-ℤ◌, ◌-◌, ◌/◌, ◌<◌, ◌^◌, ◌||◌, ◌∙◌, ◌∷◌, ◌≡◌, ◌≢◌, ◌≤◌, ◌⊎◌}

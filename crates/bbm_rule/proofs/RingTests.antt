@@ -1,7 +1,8 @@
 -- Rings and halos by tests on the two coordinates
 use Rattle.bbm_rule.proofs.Imports.{Bool, arith, common_steps, in_span, not, pos, sym, ℤ, ◌&&◌, ◌+ℤ◌, ◌-ℤ◌, ◌||◌, ◌∙◌}
 use Rattle.bbm_rule.proofs.Imports.{◌≡◌}
-use Rattle.lemmas.proofs.Common.{ap₂}
+use Rattle.lemmas.proofs.Common.{and_from, and_parts, ap₂, true, ℕ, ◌+◌, ◌<◌, ◌≤◌}
+use Rattle.bbm_rule.proofs.Spans.{span_from}
 use Rattle.bbm_rule.specs.Boxes.{in_box, some_neighbour, in_ring, in_halo}
 use Rattle.bbm_rule.specs.declared.block.Box2.{Box2}
 
@@ -40,3 +41,14 @@ pub halo_read : (b : Box2) (x y : ℤ) (inside near_x near_y : Bool) → inside 
     near_y ≡ (in_span b.y b.h (y -ℤ pos 1) || in_span b.y b.h y || in_span b.y b.h (y +ℤ pos 1)) →
     (not inside && (near_x && near_y)) ≡ in_halo b x y
 halo_read b x y inside near_x near_y e f g = ap₂ (λ p q. not p && q) e (ap₂ ◌&&◌ f g) ∙ sym (halo_is b x y)
+
+-- ---- boxes
+
+pub ring_in_box : (b : Box2) (x y : ℤ) → in_ring b x y ≡ true → in_box b x y ≡ true
+unfolding in_ring
+ring_in_box b x y h = (and_parts (in_box b x y) _ h).0
+
+pub area_from : (a : Box2) (x y : ℕ) → a.x ≤ x → x < a.x + a.w → a.y ≤ y → y < a.y + a.h →
+    in_box a (pos x) (pos y) ≡ true
+unfolding in_box
+area_from a x y left right top bottom = grind (arith, common_steps, and_from, span_from)

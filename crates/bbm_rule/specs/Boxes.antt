@@ -1,5 +1,5 @@
 -- Boxes of cells, their rings and halos, and the boxes that tile a rectangle
-use Rattle.std.specs.Prelude.{◌≡◌, ℕ, ℤ, pos, ◌+◌, ◌+ℤ◌, ◌-ℤ◌, ◌%◌, ◌&&◌, ◌||◌, Bool, not, nat_lt, List, slice_get}
+use Rattle.std.specs.Prelude.{◌≡◌, ℕ, ℤ, pos, ◌+◌, ◌+ℤ◌, ◌-ℤ◌, ◌%◌, ◌&&◌, ◌||◌, not, List, slice_get}
 use Rattle.std.specs.Prelude.{Some, IsTrue}
 use Rattle.bbm_rule.specs.Plane.{State}
 use Rattle.bbm_rule.specs.Spans.{in_area}
@@ -23,11 +23,6 @@ in_ring b x y = in_box b x y && some_neighbour (λ x' y'. not (in_box b x' y')) 
 -- the cells outside the box with a neighbour in it
 unfoldable pub in_halo : Box2 → State
 in_halo b x y = not (in_box b x y) && some_neighbour (in_box b) x y
-
--- the halo of the first box may have a cell in the second, to judge by their corners and sides
-abbrev pub is_near : Box2 → Box2 → Bool
-is_near a b = nat_lt b.x (a.x + a.w + 1) && nat_lt a.x (b.x + b.w + 1) && nat_lt b.y (a.y + a.h + 1)
-    && nat_lt a.y (b.y + b.h + 1)
 
 -- the box's corner and its sides are even
 pub record IsEven (b : Box2) : Type 0 where

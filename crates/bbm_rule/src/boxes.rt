@@ -2,7 +2,7 @@
 
 ghost use Rattle.std.specs.Prelude.{◌≡◌, pos, ◌+ℤ◌, ◌-ℤ◌, ◌&&◌, ◌||◌};
 ghost use Rattle.bbm_rule.specs.Spans.{in_span};
-ghost use Rattle.bbm_rule.specs.Boxes.{in_box, in_ring, in_halo, is_near};
+ghost use Rattle.bbm_rule.specs.Boxes.{in_box, in_ring, in_halo};
 
 use crate::block::{Box2, Cell};
 
@@ -39,17 +39,6 @@ impl Box2 {
         let near_x = is_in_or_beside_range(self.x, self.w, cell.x);
         let near_y = is_in_or_beside_range(self.y, self.h, cell.y);
         !inside & (near_x & near_y)
-    }
-
-    /// Returns whether the halo of the box may have a cell in the other box, to judge by their corners and sides.
-    pub fn is_near(self, other: Box2) -> bool
-        ensures { result ≡ is_near self other }
-    {
-        let left = (other.x as u64) < self.x as u64 + self.w as u64 + 1;
-        let right = (self.x as u64) < other.x as u64 + other.w as u64 + 1;
-        let top = (other.y as u64) < self.y as u64 + self.h as u64 + 1;
-        let bottom = (self.y as u64) < other.y as u64 + other.h as u64 + 1;
-        left & right & top & bottom
     }
 }
 

@@ -2,7 +2,7 @@
 use Rattle.border_match.proofs.Imports.{All, AreJobOwners, AreModules, BorderFault, BorderLine, Box2, Cell, Halo}
 use Rattle.border_match.proofs.Imports.{IfSome, IsBorderFault, IsBorderFaultOfJob, IsLeast, IsLeastBorderFault}
 use Rattle.border_match.proofs.Imports.{IsListed, JobView, List, ModuleLines, None, Option, Ring, Signal, Signals, Some}
-use Rattle.border_match.proofs.Imports.{TimedSignal, [], and_parts, ap, ap₂, areas, arith, circuit_wire, common_steps}
+use Rattle.border_match.proofs.Imports.{TimedSignal, [], ap, ap₂, areas, arith, circuit_wire, common_steps}
 use Rattle.border_match.proofs.Imports.{edge_signal, event_at, events_of_line, get_or_from_slice_get, halo_signal}
 use Rattle.border_match.proofs.Imports.{in_box, in_halo, line_signals, mapped_from, option_map, owner_of, rectangle_of}
 use Rattle.border_match.proofs.Imports.{renumber_event, renumber_signals, same_some, setting_of, slice_get}
@@ -12,7 +12,6 @@ use Rattle.lemmas.proofs.Common.{All-cons, All-nil}
 use Rattle.circuit.specs.Bridge.{circuit_of}
 use Rattle.circuit.specs.declared.circuit_line.CircuitLine.{CircuitLine}
 use Rattle.pattern.specs.Layout.{Pattern}
-use Rattle.bbm_rule.specs.Boxes.{in_ring}
 use Rattle.module_box.specs.Tiling.{OwnersView, AreOwners, rectangle}
 use Rattle.certificate_lines.specs.Entries.{edges}
 use Rattle.certificate_lines.proofs.FlatParts.{flat_all}
@@ -21,10 +20,7 @@ use Rattle.certificate_lines.specs.Modules.{IsModule}
 use Rattle.border_match.specs.Boards.{job_signal, HasNoEventAtStart}
 use Rattle.certificate_lines.proofs.OddBlocks.{area_of}
 use Rattle.border_match.proofs.Renumbered.{signal_renumbered, no_event_back, lines_quiet}
-
-in_ring_box : (b : Box2) (x y : ℤ) → in_ring b x y ≡ true → in_box b x y ≡ true
-unfolding in_ring
-in_ring_box b x y ring = (and_parts (in_box b x y) _ ring).0
+use Rattle.bbm_rule.proofs.RingTests.{ring_in_box}
 
 module _ (cs : List CircuitLine) (p : Pattern) where
   pub halo_same : (m : ModuleLines) (j : JobView) (t : ℕ) (x y : ℤ) → IsJobOf (circuit_of cs) p m j →
@@ -108,7 +104,7 @@ module _ (cs : List CircuitLine) (p : Pattern) where
         let is = made.each k m.0 j m.1 got in
         let P : Cell → Type 0 = λ c. in_box m.0.area c.x c.y ≡ true in
         let has : P e.at.cell = listed_cell P j j.edges (edges m.0) e is.edges
-        (λ i d lt. in_ring_box m.0.area _ _ ((good.each k m.0 m.1).edge_lines i d lt).ring) at in
+        (λ i d lt. ring_in_box m.0.area _ _ ((good.each k m.0 m.1).edge_lines i d lt).ring) at in
         let inside = good.tile.inside _ _ k m.0.area (area_of ms k m.0 m.1) has in
         (inside, only _ _ k j inside got (ap (λ (b : Box2). in_box b e.at.cell.x e.at.cell.y) is.area ∙ has))
 

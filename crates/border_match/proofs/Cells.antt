@@ -8,10 +8,9 @@ use Rattle.border_match.proofs.Imports.{◌&&◌, ◌+ℤ◌, ◌+◌, ◌-◌, 
 use Rattle.lemmas.proofs.Common.{◌-ℤ◌, ◌||◌, and_from}
 use Rattle.bbm_rule.specs.Spans.{in_span}
 use Rattle.bbm_rule.proofs.Spans.{span_from, span_parts}
-use Rattle.module_box.specs.Moves.{IsInShiftRange, IsSmallShift}
-use Rattle.module_box.proofs.BoxCells.{in_span_nat, in_box_nats}
+use Rattle.module_box.specs.Moves.{IsInShiftRange}
+use Rattle.module_box.proofs.BoxCells.{in_box_nats, in_span_nat, small_number}
 use Rattle.module_box.proofs.NearBoxes.{near_one, near_parts}
-use Rattle.lemmas.specs.Bounds.{max_side}
 
 -- ---- jobs and owners
 
@@ -28,9 +27,6 @@ pub reached : (b : Borders) (f : BorderFault) → IsFaultOfSearchedJob b f →
 reached b f g = and_from _ _ g.inside g.halo
 
 -- ---- cells that have an owner
-
-small_number : (z : ℤ) (n m w : ℕ) → z ≡ pos n → n < m + w → m + w ≤ max_side → IsSmallShift z
-small_number z n m w e lt few = (omega (arith, ints, e), omega (arith, ints, e, lt, few))
 
 -- a cell of the rectangle is in the box of a job
 pub owned_near : (b : Borders) (c : Cell) (owner : JobView) → AreReadyBorders b → in_box b.whole c.x c.y ≡ true →
@@ -103,11 +99,6 @@ area_parts a x y inside = grind (arith, common_steps, and_parts, span_parts)
 pub area_at : (a : Box2) (x y : ℕ) (cx cy : ℤ) → cx ≡ pos x → cy ≡ pos y → in_box a cx cy ≡ true →
     ((a.x ≤ x) × (x < a.x + a.w)) × ((a.y ≤ y) × (y < a.y + a.h))
 area_at a x y cx cy ex ey inside = area_parts a x y (sym (ap₂ (in_box a) ex ey) ∙ inside)
-
-pub area_from : (a : Box2) (x y : ℕ) → a.x ≤ x → x < a.x + a.w → a.y ≤ y → y < a.y + a.h →
-    in_box a (pos x) (pos y) ≡ true
-unfolding in_box
-area_from a x y left right top bottom = grind (arith, common_steps, and_from, span_from)
 
 -- where a fault is
 pub placed : (b : Borders) (f : BorderFault) → IsFaultOfSearchedJob b f → IsPlaced b f.cell.x f.cell.y

@@ -1,18 +1,13 @@
 -- Moments and events that a search for the cells around a box passes over
-use Rattle.border_match.proofs.Imports.{Box2, Cell, Equal, Greater, IsInWindow, IsRising, IsWindowAround, Less, List}
+use Rattle.border_match.proofs.Imports.{Box2, Cell, IsInWindow, IsRising, IsWindowAround, Less, List}
 use Rattle.border_match.proofs.Imports.{Moment, Ordering, Some, TimedSignal, Window, arith, below_or_same, cell_cmp}
-use Rattle.border_match.proofs.Imports.{common_steps, get_or, inl, inr, ints, length, moment_cmp, moment_of}
-use Rattle.border_match.proofs.Imports.{moment_total, pos, refl, same_some, slice_get, slice_get-get_or}
+use Rattle.border_match.proofs.Imports.{common_steps, get_or, ints, length, moment_cmp, moment_of}
+use Rattle.border_match.proofs.Imports.{moment_total, pos, same_some, slice_get, slice_get-get_or}
 use Rattle.border_match.proofs.Imports.{slice_get_within, ℕ, ℤ, ◌%◌, ◌+ℤ◌, ◌+◌, ◌<◌, ◌∙◌, ◌≡◌, ◌≢◌, ◌≤◌, ◌⊎◌}
-use Rattle.lemmas.proofs.Common.{◌<ℤ◌, ◌≤ℤ◌, ordering_then, int_equal, int_less, nat_equal, nat_less, same_or_higher}
+use Rattle.lemmas.proofs.Common.{int_equal, int_less, nat_equal, nat_less, same_or_higher, then_less, ◌<ℤ◌, ◌≤ℤ◌}
 use Rattle.border_match.specs.Surroundings.{AreMomentsFarBetween, IsInOrAroundFromCorner}
 
 -- ---- the order of moments by their parts
-
-then_less : (o p : Ordering) → ordering_then o p ≡ Less → (o ≡ Less) ⊎ ((o ≡ Equal) × (p ≡ Less))
-then_less Less p h = inl refl
-then_less Equal p h = inr (refl, h)
-then_less Greater p h = absurd cc
 
 -- an earlier time, or at the same time an upper row, or in the same row a column further left
 abbrev IsBefore : Moment → Moment → Type 0

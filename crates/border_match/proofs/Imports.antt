@@ -16,9 +16,9 @@ pub use Rattle.border_match.specs.declared.borders.Borders.{Borders}
 pub use Rattle.border_match.specs.declared.fault.BorderFault.{BorderFault}
 pub use Rattle.border_match.specs.declared.signals.RingOrHalo.TheVariants.{Halo, Ring}
 pub use Rattle.border_match.specs.declared.window.Window.{Window}
-pub use Rattle.certificate.proofs.Imports.{All, All-head, All-tail, AreModules, Bool, Equal, Greater, IfSome, IsRising}
+pub use Rattle.certificate.proofs.Imports.{All, All-head, All-tail, AreModules, Bool, Greater, IfSome, IsRising}
 pub use Rattle.certificate.proofs.Imports.{JobView, Less, List, ModuleLines, None, Option, Ordering, Setting, Signals}
-pub use Rattle.certificate.proofs.Imports.{Some, Tile, [], and_parts, ap, ap₂, arc_value, areas, arith, cases_Bool}
+pub use Rattle.certificate.proofs.Imports.{Some, [], and_parts, ap, ap₂, arc_value, areas, arith, cases_Bool}
 pub use Rattle.certificate.proofs.Imports.{circuit_wire, common_steps, cond-false, cond-true, events_of_line, false}
 pub use Rattle.certificate.proofs.Imports.{get_or, get_or_from_slice_get, inl, inr, ints, is_among, is_at, length}
 pub use Rattle.certificate.proofs.Imports.{length-map, line_signals, map, mapped_from, nat_tests, option_map, pos, refl}
@@ -44,7 +44,6 @@ pub use Rattle.module_box.specs.declared.schedules.Moment.{Moment}
 pub use Rattle.module_box.specs.declared.schedules.Signal.{Signal}
 pub use Rattle.module_box.specs.declared.schedules.Signal.TheVariants.{Zero}
 pub use Rattle.module_box.specs.declared.schedules.TimedSignal.{TimedSignal}
-pub use Rattle.module_box.specs.declared.tile.TileFault.TheVariants.{Memory}
 pub use Rattle.module_job.proofs.Imports.{ShapeView, shape_of}
 pub use Rattle.module_job.specs.Jobs.{IsJob}
 pub use Rattle.pattern.specs.declared.layout_line.LayoutHeader.{LayoutHeader}

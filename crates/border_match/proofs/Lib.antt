@@ -3,7 +3,6 @@ pub mod NearModules
 pub mod FaultOrder
 pub mod FarEvents
 pub mod Least
-pub mod OwnSignals
 pub mod Cells
 pub mod Stars
 pub mod Steps

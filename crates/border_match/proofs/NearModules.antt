@@ -8,7 +8,8 @@ use Rattle.border_match.proofs.Imports.{same_some, slice_get, subst, sym, true, 
 use Rattle.border_match.proofs.Imports.{◌∷◌, ◌≡◌, ◌≤◌, ◌⊎◌}
 use Rattle.lemmas.proofs.Common.{list_any-append, or_cases, or_left, or_right}
 use Rattle.border_match.specs.Boards.{AreOutsideOwnersListed, IsOwnerListedIfOutsideBox, with_number_once}
-use Rattle.border_match.proofs.Cells.{area_at, area_from, cell_placed, halo_out, whole_parts}
+use Rattle.border_match.proofs.Cells.{area_at, cell_placed, halo_out, whole_parts}
+use Rattle.bbm_rule.proofs.RingTests.{area_from}
 
 -- ---- one number more
 

@@ -82,11 +82,6 @@ modules_step b ks i k d owner f lt is got (inl halo) = inl (inl halo)
 modules_step b ks i k d owner f lt is got (inr (edge, among)) =
     grind (arith, common_steps, among_more, take_more, same_some)
 
-pub no_module : (b : Borders) (ks : List ℕ) (f : BorderFault) → DiffersAtStarOfAny (take 0 ks) b f →
-    DiffersAtStar b b.job.now.halos.all_times f
-no_module b ks f (inl halo) = halo
-no_module b ks f (inr (edge, among)) = absurd (cc among)
-
 -- ---- if signals differ at time 0, a line with a star is for the cell of one of the modules
 
 -- a line of the list is for the cell

@@ -1,15 +1,15 @@
 -- One more event, module or time
 use Rattle.border_match.proofs.Imports.{AreEventsFar, AreReadyBorders, Bool, BorderFault, Borders}
 use Rattle.border_match.proofs.Imports.{Box2, Cell, CellDiffersWithoutEvent, Greater, HasCandidateAtMost}
-use Rattle.border_match.proofs.Imports.{IsAtEdgeEventOfAny, IsAtOwnersEdgeEvent, IsAtSomeEventBelow}
+use Rattle.border_match.proofs.Imports.{IsAtOwnersEdgeEvent, IsAtSomeEventBelow}
 use Rattle.border_match.proofs.Imports.{IsFaultOfSearchedJob, IsInOrAround, IsRising, IsWindowAround, JobView, Less}
 use Rattle.border_match.proofs.Imports.{List, Moment, None, Option, Signals, Some, TimedSignal, Window, Zero, []}
 use Rattle.border_match.proofs.Imports.{all_times_at, ap, ap₂, arith, below_or_from, below_or_same, border_cmp}
 use Rattle.border_match.proofs.Imports.{cases_Bool, cell_back, circuit_wire, common_steps, cond-false, event_at, false}
-use Rattle.border_match.proofs.Imports.{false≢true, get_or, inl, inr, ints, is_moment_at, jobs_of, length, length-map}
+use Rattle.border_match.proofs.Imports.{false≢true, inl, inr, ints, is_moment_at, jobs_of, length, length-map}
 use Rattle.border_match.proofs.Imports.{map, moment_cmp, moment_of, moved_cell, moved_event, option_map, pos, refl}
 use Rattle.border_match.proofs.Imports.{renumber_signal, same_some, shape_of, shift_to_origin, signal_at, slice_get}
-use Rattle.border_match.proofs.Imports.{slice_get-map, slice_get_within, subst, suc, sym, take, take_more}
+use Rattle.border_match.proofs.Imports.{slice_get-map, slice_get_within, subst, suc, sym}
 use Rattle.border_match.proofs.Imports.{tied_itself, true, unwrap_or, ℕ, ℤ, ◌%◌, ◌+◌, ◌<◌, ◌∙◌, ◌∷◌, ◌≡◌, ◌≢◌, ◌≤◌, ◌⊎◌}
 use Rattle.lemmas.proofs.Common.{less_nat, three_ways}
 use Rattle.module_box.proofs.Rising.{then_moment}
@@ -18,7 +18,6 @@ use Rattle.border_match.proofs.FarEvents.{seen}
 use Rattle.border_match.proofs.FaultOrder.{border_total}
 use Rattle.border_match.proofs.Least.{covers_after}
 use Rattle.border_match.proofs.Cells.{fault_around}
-use Rattle.border_match.proofs.NearModules.{among_more}
 
 pub same_fault : (time : ℕ) (cell : Cell) (f : BorderFault) → f.time ≡ time → f.cell ≡ cell →
     f ≡ record { time = time; cell = cell }
@@ -108,10 +107,6 @@ far_step b other a corner w es i next f same_area same_corner is are far g h =
     ]
 
 -- ---- modules
-
-pub edges_step : (b : Borders) (ks : List ℕ) (i k : ℕ) (d : ℕ) (f : BorderFault) → i < length ks → k ≡ get_or ks i d →
-    IsAtEdgeEventOfAny (take (i + 1) ks) b f → IsAtEdgeEventOfAny (take i ks) b f ⊎ IsAtEdgeEventOf k b f
-edges_step b ks i k d f lt is h = grind (arith, common_steps, among_more, take_more)
 
 other_is : (b : Borders) (k : ℕ) (other : JobView) (f : BorderFault) → slice_get (jobs_of b) k ≡ Some other →
     (h : IsAtEdgeEventOf k b f) → h.0.owner ≡ other

@@ -48,7 +48,7 @@ pub(crate) fn schedule(job: &Job, border: RingOrHalo) -> &Schedule
 
 /// Returns what a module says of one of these cells at a time.
 #[inline(always)]
-#[tactic(auto, using(crate::proofs::OwnSignals::edge_below, crate::proofs::OwnSignals::halo_below))]
+#[tactic(auto, using(module_job::proofs::OwnSignals::edge_below, module_job::proofs::OwnSignals::halo_below))]
 pub(crate) fn signal_at(job: &Job, border: RingOrHalo, time: u32, cell: Cell) -> Signal
     requires { IsInShiftRange cell }
     ensures { result ≡ job_signal border job.now time cell.x cell.y }

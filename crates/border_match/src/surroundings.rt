@@ -1,12 +1,12 @@
 //! Cells around the box of a module, and the events of another module's ring at such cells.
 //!
 //! The cells of that ring are counted from the corner of its own box.
-ghost use Rattle.std.specs.Prelude.{pos, ◌+◌, ◌≤◌, ◌+ℤ◌, ◌≤ℤ◌, ◌-◌, ◌≡◌, ◌<◌, ◌↔◌, length, IsTrue, IfNone, IfSome};
+ghost use Rattle.std.specs.Prelude.{pos, ◌+◌, ◌≤◌, ◌+ℤ◌, ◌≤ℤ◌, ◌-◌, ◌≡◌, ◌<◌, length, IsTrue, IfNone, IfSome};
 ghost use Rattle.module_box.specs.Moments.{moment_cmp};
 ghost use Rattle.module_box.specs.Moves.{moved_cell};
 ghost use Rattle.module_box.specs.Schedules.{IsRising, moment_of};
 ghost use Rattle.border_match.specs.Boards.{IsPlaceOf};
-ghost use Rattle.border_match.specs.Surroundings.{AreEventsFar, AreMomentsFarBetween, IsInOrAroundFromCorner, IsEventFarAt, IsExtent, IsFirstNotBefore, IsInWindow, IsWindowAround};
+ghost use Rattle.border_match.specs.Surroundings.{AreEventsFar, IsInOrAroundFromCorner, IsEventFarAt, IsExtent, IsFirstNotBefore};
 ghost use Rattle.lemmas.specs.Bounds.{max_side};
 
 use crate::window::Window;

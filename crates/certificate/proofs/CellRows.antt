@@ -1,16 +1,16 @@
 -- Lists of what cells carry and must be, that grow row by row.
 use Rattle.certificate.proofs.Imports.{AddsCells, All, Box2, Cell, Circuit, Demand, IsDemandWireBelow}
-use Rattle.certificate.proofs.Imports.{IsSignalWireBelow, List, LocalNet, Pattern, Signal, [], and_from, ap, arith}
+use Rattle.certificate.proofs.Imports.{IsSignalWireBelow, List, LocalNet, Pattern, Signal, [], ap, arith}
 use Rattle.certificate.proofs.Imports.{circuit_wire, common_steps, end_demand, flat_map, in_box, map, map-append, pos}
 use Rattle.certificate.proofs.Imports.{range_with_len, refl, renumber_demand, renumber_signal, replicate, row_cells}
 use Rattle.certificate.proofs.Imports.{start_signal, suc, sym, to_z, true, w32, wires, zero, ℕ, ◌++◌, ◌+◌, ◌-◌, ◌<◌}
 use Rattle.certificate.proofs.Imports.{◌∙◌, ◌∷◌, ◌≡◌, ◌≤◌}
 use Rattle.lemmas.proofs.Common.{get_or-replicate, length-replicate}
-use Rattle.bbm_rule.proofs.Spans.{span_from}
 use Rattle.bbm_rule.specs.CellLists.{cell}
 use Rattle.certificate.specs.declared.layout_tables.CellLists.{CellLists}
 use Rattle.bbm_rule.proofs.CellLists.{cast_cell, flat_map_range_more, row_more}
 use Rattle.lemmas.specs.Bounds.{max_side}
+use Rattle.bbm_rule.proofs.RingTests.{area_from}
 
 -- a row in two parts
 row_parts : (x a b y : ℕ) → row_cells x (a + b) y ≡ row_cells x a y ++ row_cells (x + a) b y
@@ -103,11 +103,7 @@ module _ (c : Circuit) (p : Pattern) (l : LocalNet) (first old new : CellLists) 
       grind (arith, common_steps, grow_cell, starts_at, demands_at)
 
 -- a cell of a box, whose numbers were cast
-cell_inside : (b : Box2) (x y : ℕ) → b.x ≤ x → x < b.x + b.w → b.y ≤ y → y < b.y + b.h → in_box b (pos x) (pos y) ≡ true
-unfolding in_box
-cell_inside b x y left right top bottom = grind (arith, common_steps, and_from, span_from)
-
 pub cast_inside : (b : Box2) (x y : ℕ) → x < max_side → y < max_side → b.x ≤ x → x < b.x + b.w → b.y ≤ y →
     y < b.y + b.h →
     in_box b (to_z w32 x) (to_z w32 y) ≡ true
-cast_inside b x y low row left right top bottom = grind (arith, common_steps, cast_cell, cell_inside)
+cast_inside b x y low row left right top bottom = grind (arith, common_steps, cast_cell, area_from)

@@ -20,9 +20,9 @@ use Rattle.bbm_rule.proofs.CellOrder.{cell_exact}
 use Rattle.certificate_lines.specs.Modules.{IsEdge, IsHalo, IsStop}
 use Rattle.certificate_lines.proofs.LineOrder.{pairs_each, rising_distinct}
 use Rattle.certificate_lines.proofs.Pairs.{each_append, each_at, pairs_append}
-use Rattle.certificate_lines.proofs.StoredLines.{ring_in_box}
 use Rattle.certificate.proofs.BorderOrder.{edges_rise, pairs_of_order}
 use Rattle.lemmas.specs.Bounds.{max_modules}
+use Rattle.bbm_rule.proofs.RingTests.{ring_in_box}
 
 -- ---- lists
 

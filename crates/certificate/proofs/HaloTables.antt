@@ -1,31 +1,28 @@
 -- The lists of the edge lines beside each module, from the modules of a certificate
 use Rattle.certificate.proofs.Imports.{AddsEdgePlaces, All, AreModules, BorderLine, Box2, Circuit, EdgePlace}
 use Rattle.certificate.proofs.Imports.{HaveListsFrom, HasOwnWires, IsEven, IsInnerCell, IsModule, List, ModuleLines}
-use Rattle.certificate.proofs.Imports.{Setting, Some, StoredBorder, StoredModule, [], and_parts, ap, areas, arith}
+use Rattle.certificate.proofs.Imports.{Setting, Some, StoredBorder, StoredModule, [], ap, areas, arith}
 use Rattle.certificate.proofs.Imports.{border_line, cases_Bool, common_steps, cond-false, cond-true, edge_lines_at}
-use Rattle.certificate.proofs.Imports.{edge_lines_beside, edges, false, filter, flat_map, get_or, in_box, in_halo}
-use Rattle.certificate.proofs.Imports.{in_ring, inl, inr, length, length-map, line_cell, list_at_or_empty, map}
+use Rattle.certificate.proofs.Imports.{edge_lines_beside, edges, false, filter, flat_map, get_or, in_halo}
+use Rattle.certificate.proofs.Imports.{inl, inr, length, length-map, line_cell, list_at_or_empty, map}
 use Rattle.certificate.proofs.Imports.{map-append, mapped_at, mapped_from, module_lines, nat_lt, nat_tests, refl}
-use Rattle.certificate.proofs.Imports.{slice_get, slice_get-get_or, subst, sym, true, whole, ℕ, ℤ, ◌++◌, ◌<◌, ◌∙◌, ◌∷◌}
+use Rattle.certificate.proofs.Imports.{slice_get, slice_get-get_or, subst, sym, true, whole, ℕ, ◌++◌, ◌<◌, ◌∙◌, ◌∷◌}
 use Rattle.certificate.proofs.Imports.{◌≡◌, ◌≤◌, ap₂, All-append, All-cons, All-nil, HasOwnWire, None, Option}
 use Rattle.certificate.proofs.Imports.{edge_lines_at_place, get_or_from_slice_get, option_to_list, slice_get_within}
 use Rattle.lemmas.proofs.Common.{all_unmapped}
 use Rattle.certificate_lines.specs.Modules.{IsWithinLineLimit}
 use Rattle.module_box.proofs.BoxCells.{in_rectangle}
 use Rattle.certificate_lines.proofs.StoredLemmas.{edges_with}
+use Rattle.bbm_rule.proofs.RingTests.{ring_in_box}
 
 -- ---- modules that are good
-
-in_ring_box : (b : Box2) (x y : ℤ) → in_ring b x y ≡ true → in_box b x y ≡ true
-unfolding in_ring
-in_ring_box b x y h = (and_parts (in_box b x y) _ h).0
 
 inner_edge : (g : Setting) (m : ModuleLines) → IsModule g m → All (λ e. IsInnerCell (whole g.size) e.cell) (edges m)
 inner_edge g m good k d lt =
     let e = get_or (edges m) k d in
     let is = good.edge_lines k d lt in (
       in_rectangle g.size.w g.size.h m.area e.cell.x e.cell.y good.inside
-          (in_ring_box m.area e.cell.x e.cell.y is.ring),
+          (ring_in_box m.area e.cell.x e.cell.y is.ring),
       is.rim,
     )
 

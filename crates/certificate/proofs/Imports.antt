@@ -1,5 +1,6 @@
 -- The names from outside this folder that two or more proofs of this crate use, in one file to import them from.
 pub use Rattle.bbm_rule.specs.Boxes.{Tile}
+pub use Rattle.section_text.proofs.Codes.{both_none}
 pub use Rattle.bbm_rule.specs.declared.block.Box2.{Box2}
 pub use Rattle.bbm_rule.specs.declared.block.Cell.{Cell}
 pub use Rattle.certificate.specs.Grammars.{CertView, certificate_grammar}
@@ -55,7 +56,7 @@ pub use Rattle.certificate_lines.proofs.LineOrder.{in_ordered, line_total, order
 pub use Rattle.certificate_lines.proofs.LineOrder.{rising_same}
 unfoldable pub use Rattle.certificate_lines.proofs.LineOrder.{In}
 pub use Rattle.certificate_lines.proofs.Lists.{any_at, some_is}
-pub use Rattle.certificate_lines.proofs.ModulePushes.{both_none, no_code}
+pub use Rattle.certificate_lines.proofs.ModulePushes.{no_code}
 pub use Rattle.certificate_lines.proofs.ModuleSplit.{split_module, split_other}
 pub use Rattle.certificate_lines.proofs.Pairs.{pairs_flat, rising_of}
 unfoldable pub use Rattle.certificate_lines.proofs.Pairs.{Each, Pairs}

@@ -1,9 +1,8 @@
 -- The first limits are those of old, and the second ones let in more.
-use Rattle.certificate.proofs.Imports.{Box2, CertificateLine, List, Module, None, PastLimit, Setting, SomethingMissing}
-use Rattle.certificate.proofs.Imports.{ap, areas, arith, both_none, certificate_grammar, common_steps, entry_fault}
-use Rattle.certificate.proofs.Imports.{false}
+use Rattle.certificate.proofs.Imports.{CertificateLine, List, Module, None, PastLimit, Setting, SomethingMissing}
+use Rattle.certificate.proofs.Imports.{ap, areas, arith, both_none, common_steps, entry_fault}
 use Rattle.certificate.proofs.Imports.{is_haloless_version, is_last_module_incomplete, last_module, modules_of, true, ℕ}
-use Rattle.certificate.proofs.Imports.{◌&&◌, ◌∙◌, ◌||◌, ◌≡◌}
+use Rattle.certificate.proofs.Imports.{◌&&◌, ◌||◌, ◌≡◌}
 use Rattle.lemmas.proofs.Common.{Bool, Option, length, nat_le, not, refl}
 use Rattle.lemmas.specs.Bounds.{max_modules}
 use Rattle.section_text.specs.Codes.{code_if, or_else}

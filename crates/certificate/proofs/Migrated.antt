@@ -13,7 +13,7 @@ use Rattle.certificate.proofs.Imports.{true_from_not, used_gate_in, with_halos, 
 use Rattle.certificate.proofs.Imports.{◌∷◌, ◌≡◌, ◌≤◌, not}
 use Rattle.lemmas.proofs.Common.{filter-append}
 use Rattle.std.proofs.lemmas.Simd.{map-map}
-use Rattle.section_text.specs.Codes.{or_else, code_if}
+use Rattle.section_text.specs.Codes.{code_if}
 use Rattle.certificate.specs.Laws.{AreFaultlessLines, GoodWithoutHalos, IsSectionOf, SectionWithoutHalos}
 use Rattle.certificate_lines.specs.Orders.{may_follow}
 use Rattle.certificate_lines.specs.Rules.{cut_line_code, use_line_code, keep_line_code, timed_line_count}
@@ -25,6 +25,7 @@ use Rattle.section_text.specs.declared.code.RefusalCode.{RefusalCode}
 use Rattle.certificate.proofs.FullModules.{meant_new, no_halo_left, without_same}
 use Rattle.certificate.proofs.Soundness.{faultless_modules, passed_line}
 use Rattle.section_text.specs.declared.limits.Limits.{Limits}
+use Rattle.section_text.proofs.Codes.{none_both}
 
 pub without_append : (xs ys : List CertificateLine) → without_halos (xs ++ ys) ≡ without_halos xs ++ without_halos ys
 unfolding without_halos
@@ -135,10 +136,6 @@ follow_less (Halo e ∷ lines) i h =
 follow_less (k ∷ lines) i h =
     let both = and_parts (may_precede k i) (list_all (λ j. may_precede j i) lines) h in
     rw (both.0, follow_less lines i both.1) refl
-
-none_both : (a b : Option RefusalCode) → a ≡ None → b ≡ None → or_else a b ≡ None
-none_both None b h k = k
-none_both (Some x) b h k = absurd cc
 
 coded : (b : Bool) (code : RefusalCode) → b ≡ false → code_if b code ≡ None
 coded true code h = absurd cc
@@ -374,7 +371,7 @@ section_without_halos l g es is knows =
           (coded _ SomethingMissing (migrated_lacks g es ∙ knows));
     }
 
-faultless_lines : (l : Limits) (g : Setting) (v : ℕ) (es before : List CertificateLine) →
+pub faultless_lines : (l : Limits) (g : Setting) (v : ℕ) (es before : List CertificateLine) →
     AreFaultlessLines l g v before es → AreFaultless (certificate_grammar l g) v before es
 faultless_lines l g v [] before h = tt
 faultless_lines l g v (i ∷ es) before h = (h.0, faultless_lines l g v es (before ++ i ∷ []) h.1)

@@ -2,37 +2,31 @@
 use Rattle.certificate.proofs.Imports.{All, All-cons, All-nil, AllTimesSignal, BorderLine, Box2, Cell, IsInShiftRange}
 use Rattle.certificate.proofs.Imports.{IsModule, IsSmallShift, IsWithinMaxSize, LayoutHeader, List, ModuleLines, None}
 use Rattle.certificate.proofs.Imports.{Option, Setting, Signal, Signals, Some, StoredBorder, TimedSignal, []}
-use Rattle.certificate.proofs.Imports.{all_times_of_line, and_parts, ap, arith, common_steps, edges, events_of_line}
-use Rattle.certificate.proofs.Imports.{flat_all, get_or, halos, in_box, in_ring, ints, is_sized, map, moved_stop}
+use Rattle.certificate.proofs.Imports.{all_times_of_line, ap, arith, common_steps, edges, events_of_line}
+use Rattle.certificate.proofs.Imports.{flat_all, get_or, halos, in_box, ints, is_sized, map, moved_stop}
 use Rattle.certificate.proofs.Imports.{one_or_wire, pos, renumber_all_times, renumber_event, renumber_signals}
 use Rattle.certificate.proofs.Imports.{shift_to_origin, size_fault, stops, stored_signals, subst, sym, true}
-use Rattle.certificate.proofs.Imports.{unnamed_line, ℕ, ℤ, ◌+ℤ◌, ◌+◌, ◌<◌, ◌≡◌, ◌≤◌, StoredStop, cell_at, stored_stop}
-use Rattle.lemmas.proofs.Common.{◌≤ℤ◌, All-map, All-weaker, all_unmapped}
+use Rattle.certificate.proofs.Imports.{unnamed_line, ℕ, ℤ, ◌+ℤ◌, ◌+◌, ◌≡◌, ◌≤◌, StoredStop, cell_at, stored_stop}
+use Rattle.lemmas.proofs.Common.{All-map, All-weaker, all_unmapped, low_number, ◌≤ℤ◌}
 use Rattle.module_box.specs.Moves.{moved_event}
 use Rattle.module_box.proofs.BoxCells.{in_box_nats}
 use Rattle.module_job.specs.Signals.{renumber_stop}
 use Rattle.module_job.specs.declared.job.Stop.{Stop}
 use Rattle.certificate.proofs.JobLemmas.{within_512}
 use Rattle.lemmas.specs.Bounds.{last_place, max_side}
-
-low_number : (z : ℤ) (k : ℕ) → z ≡ pos k → k < max_side → (pos 0 ≤ℤ z) × (z ≤ℤ pos last_place)
-low_number z k e lt = (omega (arith, ints, e, lt), omega (arith, ints, e, lt))
+use Rattle.bbm_rule.proofs.RingTests.{ring_in_box}
 
 -- a cell of a box within 4096 columns and rows
 pub low_in_box : (b : Box2) (c : Cell) → b.x + b.w ≤ max_side → b.y + b.h ≤ max_side → in_box b c.x c.y ≡ true →
     IsWithinMaxSize c
 low_in_box b c right bottom h = grind (arith, common_steps, in_box_nats, low_number)
 
-ring_inside : (b : Box2) (x y : ℤ) → in_ring b x y ≡ true → in_box b x y ≡ true
-unfolding in_ring
-ring_inside b x y h = (and_parts _ _ h).0
-
 pub low_edges : (g : Setting) (m : ModuleLines) (s : LayoutHeader) → s ≡ g.size → size_fault s ≡ None → IsModule g m →
     All (λ e. IsWithinMaxSize e.cell) (edges m)
 low_edges g m s is limits h k d lt =
     let w = within_512 g m s is limits h in
     let e = get_or (edges m) k d in
-    low_in_box m.area e.cell w.0 w.1 (ring_inside m.area e.cell.x e.cell.y (h.edge_lines k d lt).ring)
+    low_in_box m.area e.cell w.0 w.1 (ring_in_box m.area e.cell.x e.cell.y (h.edge_lines k d lt).ring)
 
 pub low_halos : (g : Setting) (m : ModuleLines) (s : LayoutHeader) → s ≡ g.size → size_fault s ≡ None → IsModule g m →
     All (λ e. IsWithinMaxSize e.cell) (halos m)

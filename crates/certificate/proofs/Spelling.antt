@@ -5,7 +5,7 @@ use Rattle.certificate.proofs.Imports.{form_text, length, refl, same_Some, slice
 use Rattle.certificate.proofs.Imports.{Bool, false, if◌then◌else◌, ◌≡◌}
 use Rattle.pattern.specs.Forms.{cell_of_words_from}
 use Rattle.lemmas.proofs.Common.{decimal, option_and_then_some}
-use Rattle.section_text.specs.Words.{◌>>=◌, words_of, is_word_at, if_one_word, number_after_keyword, name_after_keyword}
+use Rattle.section_text.specs.Words.{◌>>=◌, words_of, is_word_at, if_one_word, number_after_keyword}
 use Rattle.section_text.specs.Words.{name_at, number_at}
 use Rattle.section_text.specs.Section.{with_line_feed}
 use Rattle.section_text.specs.Spelling.{line_text}
@@ -17,6 +17,7 @@ use Rattle.certificate_lines.specs.Forms.{border_of_five_words}
 use Rattle.certificate_lines.specs.Forms.{border_of, stop_of_five_words, stop_of, form_of}
 use Rattle.pattern.proofs.Spelling.{cell_spelled, box_spelled}
 use Rattle.certificate.specs.Text.{star_or_time_word, one_or_name_word, border_words, stop_words}
+use Rattle.circuit.proofs.Spelling.{named_spelled}
 
 time_spelled : (ws : List (List ℕ)) (i : ℕ) (t : Option ℕ) → star_or_time_at_word ws i ≡ Some t →
     slice_get ws i ≡ Some (star_or_time_word t)
@@ -68,11 +69,6 @@ number_spelled ws v n at e =
     let found = passed (eqb (length ws) 2) (number_at ws 1) n e in
     two_words ws v (decimal n) (eqb-true _ _ found.0) (is_at_is ws 0 v at) (number_at_spelled ws 1 n found.1)
 
-name_spelled : (ws : List (List ℕ)) (v n : List ℕ) → is_word_at ws 0 v ≡ true → name_after_keyword ws ≡ Some n →
-    ws ≡ v ∷ n ∷ []
-unfolding name_after_keyword
-name_spelled ws v n at e = grind (arith, common_steps, passed, two_words, eqb-true, is_at_is, name_at_is)
-
 -- the first word of a form, and the others
 spelled : CertificateForm → List ℕ × List (List ℕ)
 spelled (Header version) = (codes "certificate", decimal version ∷ [])
@@ -103,7 +99,7 @@ form_words ws f e =
     by_test (is_word_at ws 0 (codes "stop")) _ _ f e
     (λ p is. grind (arith, common_steps, option_and_then_some, same_Some, stop_spelled)) (λ e.
     by_test (is_word_at ws 0 (codes "cut")) _ _ f e
-    (λ p is. grind (arith, common_steps, option_and_then_some, same_Some, name_spelled)) (λ e.
+    (λ p is. grind (arith, common_steps, option_and_then_some, same_Some, named_spelled)) (λ e.
     by_test (is_word_at ws 0 (codes "use")) _ _ f e
     (λ p is. grind (arith, common_steps, option_and_then_some, same_Some, number_spelled)) (λ e.
     by_test (is_word_at ws 0 (codes "keep")) _ _ f e

@@ -71,7 +71,7 @@ fn kept_gates(alloc: Global, modules: &[StoredModule]) -> Result<IndexSet<u32>, 
 }
 
 // Whether the gate is among those that are kept.
-#[tactic(auto, using(certificate_lines::proofs::KnownLemmas::among))]
+#[tactic(auto, using(module_box::proofs::WireLists::among))]
 fn is_kept(kept: &IndexSet<u32>, gate: usize) -> bool
     requires { gate < 2 ^ 32 }
     ensures { result ≡ is_among kept.now.keys gate }

@@ -1,6 +1,5 @@
 //! The reader of the certificate section.
-ghost use Rattle.std.specs.Prelude.{◌≡◌, ◌≤◌, [], true, drop, length, IfOk};
-ghost use Rattle.circuit.specs.Entries.{defined};
+ghost use Rattle.std.specs.Prelude.{◌≡◌, [], true, IfOk};
 ghost use Rattle.section_text.specs.Section.{Reads};
 ghost use Rattle.certificate.specs.Grammars.{certificate_grammar, certificate_section, version_number};
 ghost use Rattle.section_text.specs.declared.limits.Limits.TheVariants.{First};
@@ -10,7 +9,7 @@ ghost use Rattle.certificate_lines.specs.Versions.{is_halo};
 use crate::cert::Cert;
 use crate::version::Version;
 use certificate_lines::{Builder, BuiltParts, CertificateLine, LineTables, line_form, port_tables};
-use circuit::{Circuit, WireNo};
+use circuit::Circuit;
 use pattern::Layout;
 use section_text::{
     Feed, Form, Limits, Line, LineFault, ReadFault, RefusalCode, Section, read_section,

@@ -5,11 +5,11 @@ use Rattle.certificate_lines.proofs.Imports.{bytes_eq-Decides, cases_Bool, cell,
 use Rattle.certificate_lines.proofs.Imports.{false, false≢true, form_of, inl, inr, is_word_at, length, list_all}
 use Rattle.certificate_lines.proofs.Imports.{nat_tests, refl, stop_of, subst, suc, sym, take, take_rest, true, words_of}
 use Rattle.certificate_lines.proofs.Imports.{ℕ, ◌++◌, ◌-◌, ◌<◌, ◌==◌, ◌>>=◌, ◌∙◌, ◌∷◌, ◌≡◌}
-use Rattle.lemmas.proofs.Common.{take-append-drop, join_with_byte, join_with_byte-slice_split, onto_first}
+use Rattle.lemmas.proofs.Common.{begins_with, join_with_byte, join_with_byte-slice_split, onto_first}
 use Rattle.lemmas.proofs.Common.{slice_split-cons_no}
 use Rattle.section_text.specs.Leading.{leading_number}
 use Rattle.section_text.specs.Words.{is_lower, is_name, is_name_byte, is_space, name_at, name_of, number_at, number_of}
-use Rattle.section_text.proofs.Splitting.{lone_name_is, lone_number_is, some_words}
+use Rattle.section_text.proofs.Splitting.{letter_is_no_space, lone_name_is, lone_number_is, some_words}
 use Rattle.pattern.specs.Forms.{cell_of_words_from}
 use Rattle.certificate_lines.specs.BorderWords.{leading_star_or_time, one_or_name_of_one_word, one_or_name_from_word}
 use Rattle.certificate_lines.specs.BorderWords.{star_or_time_from_word}
@@ -17,9 +17,6 @@ use Rattle.certificate_lines.specs.Forms.{one_or_name_at_word, star_or_time_at_w
 use Rattle.certificate_lines.proofs.BorderLines.{edge_form, halo_form, stop_form}
 
 -- ---- the first word of a line
-
-begins_with : (m l : List ℕ) (n : ℕ) → bytes_eq (take n l) m ≡ true → l ≡ m ++ drop n l
-begins_with m l n e = sym (take-append-drop n l) ∙ ap (λ t. t ++ drop n l) ((bytes_eq-Decides (take n l) m).0 e)
 
 joined : (l w v : List ℕ) (vs : List (List ℕ)) → words_of l ≡ w ∷ v ∷ vs → l ≡ w ++ 32 ∷ join_with_byte 32 (v ∷ vs)
 joined l w v vs e = sym (join_with_byte-slice_split 32 l) ∙ ap (join_with_byte 32) e
@@ -82,9 +79,6 @@ number_time l o other is = ap (λ r. r >>= timed) is
 
 -- ---- the signal
 
-name_letter : (b : ℕ) → is_name_byte b ≡ true → is_space b ≡ false
-name_letter b e = grind (arith, nat_tests)
-
 small_letter : (b : ℕ) → is_lower b ≡ true → is_space b ≡ false
 small_letter b e = grind (arith, nat_tests)
 
@@ -92,7 +86,7 @@ letters : (bs : List ℕ) → list_all is_name_byte bs ≡ true → words_of bs 
 letters [] e = refl
 letters (b ∷ bs) e =
     let all = and_parts (is_name_byte b) (list_all is_name_byte bs) e in
-    slice_split-cons_no is_space b bs (name_letter b all.0) ∙ ap (onto_first b) (letters bs all.1)
+    slice_split-cons_no is_space b bs (letter_is_no_space b all.0) ∙ ap (onto_first b) (letters bs all.1)
 
 name_word : (w : List ℕ) → is_name w ≡ true → words_of w ≡ w ∷ []
 name_word [] e = absurd cc

@@ -16,11 +16,12 @@ use Rattle.lemmas.proofs.Common.{not_below_by_test, or_parts}
 use Rattle.certificate_lines.specs.Rules.{is_bad_box_side, is_misplaced, overlaps, in_boxes}
 use Rattle.certificate_lines.proofs.Growing.{areas_changed, length_changed, changed_at, last_at, last_by_place}
 use Rattle.certificate_lines.proofs.Lists.{any_at}
-use Rattle.certificate_lines.proofs.ModulePushes.{no_code, both_none, less}
+use Rattle.certificate_lines.proofs.ModulePushes.{no_code, less}
 use Rattle.certificate_lines.proofs.PortLemmas.{has_cell}
 use Rattle.module_box.specs.Tiling.{ArePartOwners, OwnersView, PutsBox}
 use Rattle.bbm_rule.proofs.RectangleLemmas.{in_box_cells}
 use Rattle.lemmas.specs.Bounds.{max_modules}
+use Rattle.section_text.proofs.Codes.{both_none}
 
 -- ---- a box that is good
 

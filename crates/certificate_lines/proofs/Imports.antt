@@ -1,5 +1,5 @@
 -- The names from outside this folder that two or more proofs of this crate use, in one file to import them from.
-pub use Rattle.bbm_rule.proofs.Imports.{Board, and-false, cond-false, cond-true, get_or-set_same, length-set, or-false}
+pub use Rattle.bbm_rule.proofs.Imports.{and-false, cond-false, cond-true, get_or-set_same, length-set, or-false}
 pub use Rattle.bbm_rule.proofs.Imports.{set, to_z-of_z}
 pub use Rattle.bbm_rule.proofs.SameCells.{cell_itself, cell_same}
 pub use Rattle.bbm_rule.specs.declared.block.Box2.{Box2}
@@ -60,8 +60,8 @@ pub use Rattle.module_box.proofs.Rising.{pushed}
 pub use Rattle.module_box.specs.Locals.{AreLocalLines, local_wires}
 pub use Rattle.module_box.specs.Places.{place_in}
 pub use Rattle.module_box.specs.Tiling.{IsInside, rectangle_of}
-pub use Rattle.pattern.proofs.Imports.{HasSameSize, HaveDistinctCells, append-nil, code_if, codes, flat_map-append}
-pub use Rattle.pattern.proofs.Imports.{list_all, list_any, list_any-append, live, nat_lt, nat_tests, row_cells}
+pub use Rattle.pattern.proofs.Imports.{HaveDistinctCells, append-nil, code_if, codes, flat_map-append}
+pub use Rattle.pattern.proofs.Imports.{list_all, list_any, list_any-append, nat_lt, nat_tests, row_cells}
 unfoldable pub use Rattle.pattern.proofs.Imports.{rectangle_cells, size_fault}
 pub use Rattle.pattern.proofs.InsideLemmas.{size_sides}
 pub use Rattle.bbm_rule.specs.CellLists.{cell}

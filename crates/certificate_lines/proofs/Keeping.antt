@@ -21,10 +21,11 @@ use Rattle.certificate_lines.proofs.Growing.{modules_push, flat_push, last_at, l
 use Rattle.certificate_lines.proofs.Lists.{some_is}
 use Rattle.certificate_lines.proofs.OrderLemmas.{inner_pushed, key_pushed, module_key, module_pushed}
 use Rattle.certificate_lines.proofs.LackedWires.{wires_begun, wires_more}
-use Rattle.certificate_lines.proofs.ModulePushes.{no_code, both_none, new_wire, good_use, known_cut, known_use}
+use Rattle.certificate_lines.proofs.ModulePushes.{no_code, new_wire, good_use, known_cut, known_use}
 use Rattle.certificate_lines.proofs.ModulePushes.{known_same, pushed}
 use Rattle.module_box.specs.Tiling.{ArePartOwners, OwnersView, PutsBox}
 use Rattle.lemmas.specs.Bounds.{max_side}
+use Rattle.section_text.proofs.Codes.{both_none}
 
 no_last : {X : Type 0} (x : X) → None ≡ Some x → ⊥
 no_last x e = cc

@@ -1,13 +1,9 @@
 -- Wires that are local, and wires that become local.
-use Rattle.certificate_lines.proofs.Imports.{Bool, List, [], ap, append-nil, ap₂, are_new_and_distinct, arith}
-use Rattle.certificate_lines.proofs.Imports.{common_steps, drop, false, get_or, is_among, length, list_any}
-use Rattle.certificate_lines.proofs.Imports.{list_any-append, nat_eq, not, refl, suc, sym, take, take-suc, true, zero}
+use Rattle.certificate_lines.proofs.Imports.{Bool, List, [], ap, append-nil, are_new_and_distinct, arith}
+use Rattle.certificate_lines.proofs.Imports.{common_steps, drop, false, get_or, is_among, length}
+use Rattle.certificate_lines.proofs.Imports.{list_any-append, not, refl, suc, sym, take, take-suc, true, zero}
 use Rattle.certificate_lines.proofs.Imports.{ℕ, ◌&&◌, ◌++◌, ◌+◌, ◌<◌, ◌==◌, ◌||◌, ◌∙◌, ◌∷◌, ◌≡◌}
-use Rattle.lemmas.proofs.Common.{add-one, eq_sym}
-
-pub among : (ws : List ℕ) (w : ℕ) → list_any (nat_eq w) ws ≡ is_among ws w
-among [] w = refl
-among (v ∷ ws) w = ap₂ (λ a b. a || b) (eq_sym v w) (among ws w)
+use Rattle.lemmas.proofs.Common.{add-one}
 
 and_again : (a b c : Bool) → (a && (b && c)) ≡ ((a && b) && c)
 and_again a b c = grind arith

@@ -2,13 +2,12 @@
 use Rattle.certificate_lines.proofs.Imports.{AreOnBoard, Bool, Cell, LayoutHeader, List, None, Option, Port, Some, []}
 use Rattle.certificate_lines.proofs.Imports.{and_parts, ap, arith, common_steps, false, get_or, if◌then◌else◌}
 use Rattle.certificate_lines.proofs.Imports.{is_at, length, list_all, list_all-append, port_at, refl, slice_get}
-use Rattle.certificate_lines.proofs.Imports.{subst, suc, sym, true, zero, ℕ, ℤ, ◌++◌, ◌<◌, ◌∙◌, ◌∷◌, ◌≡◌}
+use Rattle.certificate_lines.proofs.Imports.{subst, suc, sym, true, zero, ℕ, ℤ, ◌<◌, ◌∙◌, ◌∷◌, ◌≡◌}
 use Rattle.lemmas.proofs.Common.{list_all-map}
 use Rattle.pattern.specs.Layout.{Pattern, in_layout, parts_of}
 use Rattle.pattern.specs.Lines.{AreGoodAfter, is_inside}
-use Rattle.pattern.specs.declared.layout_line.LayoutLine.{LayoutLine}
-use Rattle.pattern.proofs.TakenLemmas.{faultless_is_inside}
 use Rattle.certificate_lines.proofs.Lists.{some_is}
+use Rattle.pattern.proofs.InsideLemmas.{parts_inside}
 
 -- ---- ports by their cells
 
@@ -57,12 +56,6 @@ none_stands (q ∷ ports) x y e zero p at h =
     cc (there, not_there)
 none_stands (q ∷ ports) x y e (suc i) p at h =
     none_stands ports x y (absent_here (is_at q.cell x y) q.name (port_at ports x y) e).1 i p at h
-
-parts_inside : (s : LayoutHeader) (before parts : List LayoutLine) → AreGoodAfter s before parts →
-    list_all (is_inside s) parts ≡ true
-parts_inside s before [] h = refl
-parts_inside s before (part ∷ parts) h =
-    rw (faultless_is_inside s before part h.1, parts_inside s (before ++ part ∷ []) parts h.2) refl
 
 -- those that are not rectangles
 pub record LieInside (p : Pattern) : Type 0 where

@@ -7,7 +7,7 @@ use Rattle.certificate_lines.proofs.Imports.{are_new_and_distinct, arith, common
 use Rattle.certificate_lines.proofs.Imports.{edges, eqb-true, false, false_from_not, flat_map, gates, halo_in, in_box}
 use Rattle.certificate_lines.proofs.Imports.{is_among, is_local, is_odd, is_star, is_starred_line_at, kept_gate_in}
 use Rattle.certificate_lines.proofs.Imports.{known, length, length_push, list_all, list_any, local_wires, may_follow}
-use Rattle.certificate_lines.proofs.Imports.{module_with_line, rank_of, nat_lt, nat_tests, not, option_to_list, or_else}
+use Rattle.certificate_lines.proofs.Imports.{module_with_line, rank_of, nat_lt, nat_tests, not, option_to_list}
 use Rattle.certificate_lines.proofs.Imports.{refl, slice_get, stop_in, subst, sym, true, true_from_not, used_gate_in}
 use Rattle.certificate_lines.proofs.Imports.{wire_of, ℕ, ◌%◌, ◌&&◌, ◌++◌, ◌<◌, ◌||◌, ◌∙◌, ◌∷◌, ◌≡◌, IsBodyLine, Module}
 use Rattle.certificate_lines.proofs.Imports.{append-nil, content_code, ◌+◌, ◌≤◌}
@@ -26,12 +26,9 @@ use Rattle.certificate_lines.proofs.Growing.{flat_push, flat_same}
 use Rattle.certificate_lines.proofs.LineRanks.{only_uses, only_keeps, only_edges, only_halos, only_stops}
 use Rattle.certificate_lines.proofs.ModuleLemmas.{all_before, list_all_push, lower_uses, none_before, order_push}
 use Rattle.certificate_lines.proofs.LocalLemmas.{local_cut, local_use, local_more}
+use Rattle.section_text.proofs.Codes.{both_none}
 
 -- ---- tests that a line passed
-
-pub both_none : (a b : Option RefusalCode) → or_else a b ≡ None → (a ≡ None) × (b ≡ None)
-both_none None b e = (refl, e)
-both_none (Some c) b e = absurd cc
 
 pub less : (a b : ℕ) → nat_le a b ≡ false → b < a
 less a b e = grind (arith, nat_tests)

@@ -3,13 +3,13 @@ use Rattle.certificate_lines.proofs.Imports.{AreApart, Bool, BorderLine, Box2, C
 use Rattle.certificate_lines.proofs.Imports.{List, ModuleLines, None, Option, Some, [], and-false, ap, ap₂, areas}
 use Rattle.certificate_lines.proofs.Imports.{arith, cases_Bool, common_steps, cond-false, cond-true}
 use Rattle.certificate_lines.proofs.Imports.{does_neighbour_lack_wire, eqb-true, false, in_box, in_box_nats}
-use Rattle.certificate_lines.proofs.Imports.{in_halo, inl, inr, ints, is_local_wire, is_nonlocal_signal}
+use Rattle.certificate_lines.proofs.Imports.{in_halo, inl, inr, is_local_wire, is_nonlocal_signal}
 use Rattle.certificate_lines.proofs.Imports.{is_outside_and_nonlocal, known, lacks_edge_wire, list_any}
 use Rattle.certificate_lines.proofs.Imports.{mapped_from, ne_eqb, not, or-false, partner, pos}
 use Rattle.certificate_lines.proofs.Imports.{rectangle_of, refl, slice_get, slice_get_within, length, suc, sym, true}
 use Rattle.certificate_lines.proofs.Imports.{zero, ℕ, ℤ}
 use Rattle.certificate_lines.proofs.Imports.{◌%◌, ◌&&◌, ◌<◌, ◌||◌, ◌∙◌, ◌∷◌, ◌≡◌, ◌≤◌, ◌⊎◌}
-use Rattle.lemmas.proofs.Common.{◌+ℤ◌, ◌-ℤ◌, ◌≤ℤ◌, eq-eqb, negsuc, eqb-false}
+use Rattle.lemmas.proofs.Common.{eq-eqb, eqb-false, low_number, negsuc, ◌+ℤ◌, ◌-ℤ◌, ◌≤ℤ◌}
 use Rattle.bbm_rule.specs.Plane.{parity}
 use Rattle.bbm_rule.specs.Spans.{in_span}
 use Rattle.bbm_rule.proofs.Spans.{even_span}
@@ -195,9 +195,6 @@ module _ (c : Circuit) (ms : List ModuleLines) where
       (λ m. grind (arith, common_steps, any_filter))
 
 -- ---- places in the rectangle
-
-low_number : (z : ℤ) (k : ℕ) → z ≡ pos k → k < max_side → (pos 0 ≤ℤ z) × (z ≤ℤ pos last_place)
-low_number z k e lt = (omega (arith, ints, e, lt), omega (arith, ints, e, lt))
 
 pub low_cell : (w h : ℕ) (x y : ℤ) → w ≤ max_side → h ≤ max_side → in_box (rectangle_of w h) x y ≡ true →
     ((pos 0 ≤ℤ x) × (x ≤ℤ pos last_place)) × ((pos 0 ≤ℤ y) × (y ≤ℤ pos last_place))

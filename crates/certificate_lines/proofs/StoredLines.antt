@@ -3,18 +3,16 @@ use Rattle.certificate_lines.proofs.Imports.{Box2, Cell, CertificateLine, Circui
 use Rattle.certificate_lines.proofs.Imports.{IsBodyLine, IsModule, IsTrue, Keep, LayoutHeader, List, Module}
 use Rattle.certificate_lines.proofs.Imports.{ModuleLines, None, Option, Setting, Some, Stop, Use, [], ap, arith}
 use Rattle.certificate_lines.proofs.Imports.{bytes_eq-Decides, common_steps, content_code, false≢true, gates, in_box}
-use Rattle.certificate_lines.proofs.Imports.{in_box_nats, ints, is_local, is_local_wire, is_some, known, last_module}
-use Rattle.certificate_lines.proofs.Imports.{last_of, length, may_follow, option_map, pos, refl, size_fault, size_sides}
-use Rattle.certificate_lines.proofs.Imports.{slice_get, slice_get_within, subst, sym, true, whole, wire_of, and_parts}
+use Rattle.certificate_lines.proofs.Imports.{in_box_nats, is_local, is_local_wire, is_some, known, last_module}
+use Rattle.certificate_lines.proofs.Imports.{last_of, length, may_follow, option_map, refl, size_fault, size_sides}
+use Rattle.certificate_lines.proofs.Imports.{slice_get, slice_get_within, subst, sym, true, whole, wire_of}
 use Rattle.certificate_lines.proofs.Imports.{ℕ, ℤ, ◌<◌, ◌∙◌, ◌∷◌, ◌≡◌, ◌≤◌, All, LineKey, edge_in, halo_in}
 use Rattle.certificate_lines.proofs.Imports.{key_of, last_body_line, flat_map-append, key_or_first}
 use Rattle.certificate_lines.proofs.Imports.{module_line_code, modules_of, ◌++◌}
-use Rattle.lemmas.proofs.Common.{All-push}
-use Rattle.std.specs.Prelude.{◌≤ℤ◌}
+use Rattle.lemmas.proofs.Common.{All-push, low_number}
 use Rattle.std.specs.Option.{option_and_then}
 use Rattle.std.proofs.lemmas.List.Quantifiers.{position-Some}
 use Rattle.circuit.proofs.Naming.{place_position}
-use Rattle.bbm_rule.specs.Boxes.{in_ring}
 use Rattle.certificate_lines.specs.BuilderView.{IsEdgeHaloOrStopLine, IsTrackedWith, wires_made_local}
 use Rattle.certificate_lines.specs.BuilderView.{AreTrackedModules, IsWireOfLine, IsWithinMaxSize, MayBeStored}
 use Rattle.certificate_lines.specs.Entries.{name_in}
@@ -26,7 +24,8 @@ use Rattle.module_box.proofs.BoxCells.{in_rectangle}
 use Rattle.certificate_lines.proofs.ModulePushes.{good_edge, good_halo, good_stop, good_use, keep_good, new_wire}
 use Rattle.certificate_lines.proofs.StoredLemmas.{count_stored, last_stored}
 use Rattle.module_box.specs.Tiling.{OwnersView, PutsBox}
-use Rattle.lemmas.specs.Bounds.{last_place, max_gates, max_side}
+use Rattle.lemmas.specs.Bounds.{max_gates}
+use Rattle.bbm_rule.proofs.RingTests.{ring_in_box}
 
 -- ---- the wire of a name
 
@@ -71,18 +70,11 @@ named_line g m i wire good is =
 
 -- ---- the numbers of a line
 
-low_number : (z : ℤ) (k : ℕ) → z ≡ pos k → k < max_side → (pos 0 ≤ℤ z) × (z ≤ℤ pos last_place)
-low_number z k e lt = (omega (arith, ints, e, lt), omega (arith, ints, e, lt))
-
 pub max_size : (s : LayoutHeader) (x y : ℤ) → size_fault s ≡ None → in_box (whole s) x y ≡ true →
     IsWithinMaxSize (record { x = x; y = y })
 max_size s x y sized inside =
     let sides = size_sides s sized in
     grind (arith, common_steps, in_box_nats, low_number)
-
-pub ring_in_box : (b : Box2) (x y : ℤ) → in_ring b x y ≡ true → in_box b x y ≡ true
-unfolding in_ring
-ring_in_box b x y h = (and_parts (in_box b x y) _ h).0
 
 wire_there : (f : ℕ → List ℕ) (wire : Option ℕ) (n : List ℕ) → option_map f wire ≡ Some n → IsTrue (is_some wire)
 wire_there f None n e = absurd cc

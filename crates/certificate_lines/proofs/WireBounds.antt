@@ -1,10 +1,11 @@
 -- The wires that a gate defines are wires of the netlist
 use Rattle.certificate_lines.proofs.Imports.{All, Gate, List, Some, [], arith, common_steps, slice_get, suc, zero, ℕ}
-use Rattle.certificate_lines.proofs.Imports.{◌+◌, ◌<◌, ◌∷◌, ◌≡◌, ◌≤◌}
+use Rattle.certificate_lines.proofs.Imports.{◌+◌, ◌<◌, ◌∷◌, ◌≡◌}
 use Rattle.lemmas.proofs.Common.{same_Some}
 use Rattle.circuit.specs.Gates.{defines}
 use Rattle.circuit.specs.Meaning.{AreOrdered, wires_after}
-use Rattle.module_box.proofs.LocalRows.{wires_grow, range_below}
+use Rattle.module_box.proofs.LocalRows.{range_below}
+use Rattle.circuit.proofs.Undefined.{wires_grow}
 
 pub defined_below : (n : ℕ) (gs : List Gate) (k : ℕ) (g : Gate) → AreOrdered n gs → slice_get gs k ≡ Some g →
     All (λ w. w < wires_after n gs) g.outs

@@ -10,7 +10,6 @@ ghost use Rattle.certificate_lines.specs.BuilderView.{does_neighbour_lack_wire, 
 ghost use Rattle.certificate_lines.specs.Versions.{lacks_edge_wire_beside};
 
 use crate::builder::Builder;
-use crate::rules::whole_of;
 use crate::stored_module::StoredBorder;
 use bbm_rule::{Cell, odd_partner};
 

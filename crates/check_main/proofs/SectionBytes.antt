@@ -2,8 +2,7 @@
 use Rattle.check_main.proofs.Imports.{CertView, FeedView, List, None, Ok, Option, Result, Some, [], ap}
 use Rattle.check_main.proofs.Imports.{certificate_text}
 use Rattle.check_main.proofs.Imports.{drop, sym, take, ℕ, ◌++◌, ◌∙◌, ◌≡◌}
-use Rattle.lemmas.proofs.Common.{append-nil, arith, drop-append_seam, flat_map, length, length-append, take-append-drop}
-use Rattle.lemmas.proofs.Common.{◌≤◌}
+use Rattle.lemmas.proofs.Common.{append-nil, flat_map, take-append-drop}
 use Rattle.std.specs.Option.{IfSome}
 use Rattle.section_text.specs.Feeds.{ahead}
 use Rattle.section_text.specs.Section.{Reads, with_line_feed}
@@ -30,12 +29,6 @@ text_taken printed l g old new c r =
     (section_read (certificate_grammar l g) (λ (d : CertView). certificate_section d) old new c r).gives)
 
 -- the bytes before are no more than those after
-pub section_bytes : (before after text : List ℕ) → after ≡ before ++ text →
-    (length before ≤ length after) × (drop (length before) after ≡ text)
-section_bytes before after text e =
-    let longer = ap length e ∙ length-append before text in
-    (omega (arith, longer), ap (drop (length before)) e ∙ drop-append_seam before text)
-
 -- a text that was read to its end is that of the lines that were taken
 read_to_end : (f : FeedView) → ahead f ≡ [] → bytes_after_last_line_feed f.text ≡ [] → taken_bytes f ≡ f.text
 read_to_end f none over =

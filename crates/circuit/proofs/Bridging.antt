@@ -1,11 +1,11 @@
 -- The gates of good lines are ordered.
 use Rattle.circuit.proofs.Imports.{All, AreGoodAfter, AreGoodCircuitLines, AreOrdered, Bool, CircuitLine, Gate}
-use Rattle.circuit.proofs.Imports.{GateKind, Kind, List, None, Option, RefusalCode, Some, [], added_line_code, ap}
+use Rattle.circuit.proofs.Imports.{GateKind, Kind, List, None, [], added_line_code, ap}
 use Rattle.circuit.proofs.Imports.{append-nil}
 use Rattle.circuit.proofs.Imports.{append_assoc, ap₂, arith, cases_Bool, common_steps, cond, consume_fault, consumed}
 use Rattle.circuit.proofs.Imports.{define_fault, defined, false, flat_map-append, gate_count, gate_of_line_kind}
 use Rattle.circuit.proofs.Imports.{gate_with_outs_from, gates_of, has, inl, input_count, inr, is_gate, is_input, length}
-use Rattle.circuit.proofs.Imports.{length-append, length-map, map, number, or_else, range_with_len, refl, subst}
+use Rattle.circuit.proofs.Imports.{length-append, length-map, map, number, range_with_len, refl, subst}
 use Rattle.circuit.proofs.Imports.{sum_by-cons, sym, take, true≢false, ℕ, ◌++◌, ◌+◌, ◌<◌, ◌∙◌, ◌∷◌, ◌≡◌}
 use Rattle.lemmas.proofs.Common.{count_by, sum_by-append}
 use Rattle.circuit.specs.Rules.{limit_fault, name_fault}
@@ -13,16 +13,13 @@ use Rattle.circuit.specs.Bridge.{IsGoodAfter}
 use Rattle.circuit.specs.Laws.{GatesAreOrdered}
 use Rattle.circuit.proofs.Places.{Have, number_new, numbers_left, numbers_below, consume_have, bytes_same}
 use Rattle.circuit.specs.declared.circuit_line.Kind.TheVariants.{Input, Gate as GateLine}
+use Rattle.section_text.proofs.Codes.{both_none}
 
 -- ---- what the tests of a line say
-or_else_none : (a b : Option RefusalCode) → or_else a b ≡ None → (a ≡ None) × (b ≡ None)
-or_else_none None b e = (refl, e)
-or_else_none (Some c) b e = grind (arith, common_steps)
-
 pub names_pass : (before : List CircuitLine) (r : CircuitLine) → added_line_code before r ≡ None →
     (consume_fault (defined before) (consumed before) r.ins ≡ None) × (define_fault (defined before) r.outs ≡ None)
 unfolding added_line_code
-names_pass before r e = or_else_none _ _ (or_else_none (limit_fault before r) (name_fault before r) e).1
+names_pass before r e = both_none _ _ (both_none (limit_fault before r) (name_fault before r) e).1
 
 -- ---- names that are newly defined
 pub define_first : (d : List (List ℕ)) (n : List ℕ) (ns : List (List ℕ)) → define_fault d (n ∷ ns) ≡ None →

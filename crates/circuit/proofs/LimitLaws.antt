@@ -1,5 +1,5 @@
 -- The first limits are those of old, and the second ones let in more.
-use Rattle.circuit.proofs.Imports.{Bool, None, Option, RefusalCode, Some, added_line_code, arith, common_steps, defined}
+use Rattle.circuit.proofs.Imports.{Bool, None, Option, RefusalCode, added_line_code, arith, common_steps, defined}
 use Rattle.circuit.proofs.Imports.{false}
 use Rattle.circuit.proofs.Imports.{gate_count, is_gate, length, or_else, refl, true, ℕ, ◌+◌, ◌≡◌}
 use Rattle.lemmas.proofs.Common.{false≢true, nat_le, nat_lt, ◌&&◌, ◌||◌}
@@ -7,6 +7,7 @@ use Rattle.section_text.specs.Codes.{code_if}
 use Rattle.section_text.specs.declared.code.RefusalCode.TheVariants.{PastLimit}
 use Rattle.circuit.specs.Laws.{FirstLimitsAreKept, SecondLimitsAreWider}
 use Rattle.circuit.specs.Rules.{is_wrong_delay, name_fault}
+use Rattle.section_text.proofs.Codes.{no_code_second}
 
 -- the code of two tests in a row, of which the first fails if the second does
 nested : (d a b : Bool) (rest : Option RefusalCode) → (b ≡ true → a ≡ true) →
@@ -35,11 +36,7 @@ twice true b rest e = absurd cc
 twice false true rest e = absurd cc
 twice false false rest e = e
 
-second_passes : (a b : Option RefusalCode) → or_else a b ≡ None → b ≡ None
-second_passes None b e = e
-second_passes (Some code) b e = absurd cc
-
 pub second_limits_are_wider : SecondLimitsAreWider
 unfolding added_line_code
 second_limits_are_wider entries r e =
-    twice (is_wrong_delay r.kind) _ (name_fault entries r) (second_passes _ _ e)
+    twice (is_wrong_delay r.kind) _ (name_fault entries r) (no_code_second _ _ e)

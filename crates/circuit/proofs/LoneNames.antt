@@ -1,15 +1,12 @@
 -- The form of a line of a keyword and a name, by what stands behind the keyword.
 use Rattle.circuit.proofs.Imports.{CircuitLine, Input, Item, List, None, Option, Output, Some, Spill, [], ap, bytes_eq}
-use Rattle.circuit.proofs.Imports.{bytes_eq-Decides, codes, drop, entry, form_of, is_word_at, length}
-use Rattle.circuit.proofs.Imports.{name_after_keyword, option_map, refl, sym, take, true, words_of, ℕ, ◌++◌, ◌-◌, ◌>>=◌}
+use Rattle.circuit.proofs.Imports.{codes, drop, entry, form_of, is_word_at, length}
+use Rattle.circuit.proofs.Imports.{name_after_keyword, option_map, refl, sym, take, true, words_of, ℕ, ◌-◌, ◌>>=◌}
 use Rattle.circuit.proofs.Imports.{◌∙◌, ◌∷◌, ◌≡◌}
-use Rattle.lemmas.proofs.Common.{take-append-drop, take_rest}
+use Rattle.lemmas.proofs.Common.{begins_with, take_rest}
 use Rattle.section_text.specs.Words.{name_of}
 use Rattle.section_text.specs.declared.section.Form.{Form}
 use Rattle.section_text.proofs.Splitting.{lone_name_is}
-
-begins_with : (m l : List ℕ) (n : ℕ) → bytes_eq (take n l) m ≡ true → l ≡ m ++ drop n l
-begins_with m l n e = sym (take-append-drop n l) ∙ ap (λ t. t ++ drop n l) ((bytes_eq-Decides (take n l) m).0 e)
 
 behind : (keyword l : List ℕ) (n : ℕ) (f : List ℕ → Form (Unit {0}) CircuitLine) →
     option_map f (name_of (take (length l - n) (drop n l)))

@@ -1,9 +1,9 @@
 -- The places of names.
-use Rattle.circuit.proofs.Imports.{All, Bool, ConsumedTwice, List, None, Option, RefusalCode, Some, [], ap, ap₂, arith}
+use Rattle.circuit.proofs.Imports.{All, ConsumedTwice, List, None, Option, RefusalCode, Some, [], ap, ap₂, arith}
 use Rattle.circuit.proofs.Imports.{bytes_eq, bytes_eq-Decides, cases_Bool, common_steps, cond, consume_fault, false}
 use Rattle.circuit.proofs.Imports.{has, inl, inr, length, list_any-append, map, number, position, refl, suc, sym, true}
 use Rattle.circuit.proofs.Imports.{true≢false, zero, ℕ, ◌++◌, ◌+◌, ◌<◌, ◌∙◌, ◌∷◌, ◌≡◌}
-use Rattle.lemmas.proofs.Common.{find, nat_lt, Decides, cond-true, lt-ltb, position_or_len}
+use Rattle.lemmas.proofs.Common.{nat_lt, cond-true, lt-ltb, position_or_len}
 use Rattle.std.proofs.lemmas.List.Recursion.{is_position_or_len}
 use Rattle.section_text.specs.declared.code.RefusalCode.TheVariants.{UnknownName}
 
@@ -106,13 +106,3 @@ look_up d n = ap (λ k. cond (nat_lt k (length d)) (Some k) None) (sym (number_p
 
 pub found_number : (d : List (List ℕ)) (n : List ℕ) (i : ℕ) → Some i ≡ position (bytes_eq n) d → i ≡ number d n
 found_number d n i e = grind (arith, common_steps, look_up)
-
--- a name that is found is the one that was looked up
-pub found_same : (d : List (List ℕ)) (n m : List ℕ) → find (bytes_eq n) d ≡ Some m → m ≡ n
-found_same [] n m e = absurd cc
-found_same (x ∷ xs) n m e = at (bytes_eq n x) x m (bytes_eq-Decides n x) (found_same xs n m) e
-  where
-    at : (b : Bool) (x m : List ℕ) → Decides b (n ≡ x) → (find (bytes_eq n) xs ≡ Some m → m ≡ n) →
-        cond b (Some x) (find (bytes_eq n) xs) ≡ Some m → m ≡ n
-    at true x m d rest e = let same : x ≡ m = cc in sym (d.0 refl ∙ same)
-    at false x m d rest e = rest e

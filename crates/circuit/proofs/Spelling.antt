@@ -41,7 +41,7 @@ lone_spelled : (ws : List (List ℕ)) (w : List ℕ) (f g : Line) → is_word_at
 unfolding if_one_word
 lone_spelled ws w f g at e = grind (arith, common_steps, cond_some, one_word, eqb-true, is_at_is)
 
-named_spelled : (ws : List (List ℕ)) (w n : List ℕ) → is_word_at ws 0 w ≡ true → name_after_keyword ws ≡ Some n →
+pub named_spelled : (ws : List (List ℕ)) (w n : List ℕ) → is_word_at ws 0 w ≡ true → name_after_keyword ws ≡ Some n →
     ws ≡ w ∷ n ∷ []
 unfolding name_after_keyword
 named_spelled ws w n at e = grind (arith, common_steps, passed, two_words, eqb-true, is_at_is, name_at_is)

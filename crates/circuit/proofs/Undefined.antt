@@ -182,7 +182,8 @@ slice_get_take [] (suc k) j h = refl
 slice_get_take (g ∷ gs) (suc k) zero h = refl
 slice_get_take (g ∷ gs) (suc k) (suc j) h = slice_get_take gs k j (omega arith)
 
-row_at : (v : Valuation) (gates : List Gate) (k : ℕ) (g : Gate) → All (HasRow v) gates → slice_get gates k ≡ Some g →
+pub row_at : (v : Valuation) (gates : List Gate) (k : ℕ) (g : Gate) → All (HasRow v) gates →
+    slice_get gates k ≡ Some g →
     HasRow v g
 row_at v gates k g all e = subst (HasRow v) (get_or_from_slice_get gates k g g e)
     (all k g (slice_get_within gates k g e))
@@ -268,7 +269,7 @@ forward_valuation n a ordered forward =
     differ b e f = cc
 
 -- ---- how many values there are before a gate
-wires_grow : (m : ℕ) (gs : List Gate) → m ≤ wires_after m gs
+pub wires_grow : (m : ℕ) (gs : List Gate) → m ≤ wires_after m gs
 unfolding wires_after
 wires_grow m [] = omega arith
 wires_grow m (g ∷ gs) = omega (arith, wires_grow (m + defines g.kind) gs)

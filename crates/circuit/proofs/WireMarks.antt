@@ -1,23 +1,20 @@
 -- Marks of wires, by the names that lines consume.
 use Rattle.circuit.proofs.Imports.{All, AreGoodAfter, AreGoodCircuitLines, Bool, CircuitLine, ConsumedTwice, List, None}
-use Rattle.circuit.proofs.Imports.{Some, [], ap, append-nil, append_assoc, ap₂, arith, bytes_eq, bytes_eq-Decides}
+use Rattle.circuit.proofs.Imports.{Some, [], ap, append-nil, append_assoc, ap₂, arith, bytes_eq}
 use Rattle.circuit.proofs.Imports.{cases_Bool, common_steps, consume_fault, consumed, define_fault, defined, drop, eqb}
 use Rattle.circuit.proofs.Imports.{eqb-true, false, flat_map-append, get_or, get_or_from_slice_get, has, inl, inr}
 use Rattle.circuit.proofs.Imports.{length, list_any-append, map, number, refl, slice_get, subst, suc, sym, take}
 use Rattle.circuit.proofs.Imports.{take_more, true, true≢false, with_marks_set, ℕ, ◌++◌, ◌+◌, ◌<◌, ◌∙◌, ◌∷◌, ◌≡◌, ◌≤◌}
-use Rattle.lemmas.proofs.Common.{◌||◌, eq-eqb, slice_set, drop_more, list_any, map-append, take_more_set}
+use Rattle.lemmas.proofs.Common.{drop_more, eq-eqb, list_any, map-append, same_bytes, slice_set, take_more_set, ◌||◌}
 use Rattle.circuit.proofs.Places.{Have, has_front, has_left, have_left, numbers_left, numbers_below, consume_have}
 use Rattle.circuit.proofs.Places.{bytes_same}
 use Rattle.circuit.proofs.Bridging.{names_pass, define_first, defined_push, push_cons}
 
 -- ---- equal names
 
-pub same_name : (n m : List ℕ) → bytes_eq n m ≡ true → n ≡ m
-same_name n m e = (bytes_eq-Decides n m).0 e
-
 other_name : (n m : List ℕ) → bytes_eq n m ≡ false → bytes_eq m n ≡ false
 other_name n m e = elim (cases_Bool (bytes_eq m n)) [
-  | inl h ↦ absurd (true≢false (sym (bytes_same n) ∙ ap (bytes_eq n) (sym (same_name m n h)) ∙ e))
+  | inl h ↦ absurd (true≢false (sym (bytes_same n) ∙ ap (bytes_eq n) (sym (same_bytes m n h)) ∙ e))
   | inr h ↦ h
 ]
 
@@ -35,7 +32,7 @@ pub mark_at : (c d : List (List ℕ)) (n : List ℕ) → has d n ≡ true →
 unfolding number
 mark_at c [] n h = absurd (true≢false (sym h))
 mark_at c (m ∷ d) n h = elim (cases_Bool (bytes_eq n m)) [
-  | inl e ↦ rw e (ap (λ (k : List ℕ). Some (has c k)) (sym (same_name n m e)))
+  | inl e ↦ rw e (ap (λ (k : List ℕ). Some (has c k)) (sym (same_bytes n m e)))
   | inr e ↦
       let next : number d n + 1 ≡ suc (number d n) = omega arith in
       rw e (ap (slice_get (map (has c) (m ∷ d))) next ∙ mark_at c d n (sym (has_front m n d e) ∙ h))
@@ -89,7 +86,7 @@ unfolding number
 mark_one c [] n is h = absurd (true≢false (sym h))
 mark_one c (m ∷ d) n is h = elim (cases_Bool (bytes_eq n m)) [
   | inl e ↦
-      let same = same_name n m e in
+      let same = same_bytes n m e in
       rw e (ap₂ (λ (b : Bool) bs. b ∷ bs)
       (sym (has_new c n) ∙ ap (has (c ++ n ∷ [])) same)
       (others c d n (ap (has d) same ∙ is.0)))
@@ -113,7 +110,7 @@ Within c d = (n : List ℕ) → has c n ≡ true → has d n ≡ true
 have_has : (d ns : List (List ℕ)) → Have d ns → Within ns d
 have_has d [] have n h = absurd (true≢false (sym h))
 have_has d (m ∷ ns) have n h = elim (cases_Bool (bytes_eq n m)) [
-  | inl e ↦ ap (has d) (same_name n m e) ∙ have.0
+  | inl e ↦ ap (has d) (same_bytes n m e) ∙ have.0
   | inr e ↦ have_has d ns have.1 n (sym (has_front m n ns e) ∙ h)
 ]
 
@@ -181,7 +178,7 @@ unfolding number
 number_name [] n m h e = absurd (true≢false (sym h))
 number_name (x ∷ d) n m h e = elim (cases_Bool (bytes_eq n x)) [
   | inl p ↦ elim (cases_Bool (bytes_eq m x)) [
-    | inl q ↦ same_name n x p ∙ sym (same_name m x q)
+    | inl q ↦ same_bytes n x p ∙ sym (same_bytes m x q)
     | inr q ↦ absurd (omega (arith, rw (p, q) at e))
   ]
   | inr p ↦ elim (cases_Bool (bytes_eq m x)) [
@@ -197,7 +194,7 @@ has_number d (m ∷ ns) n h = ap₂ (λ (a b : Bool). a || b) (one m) (has_numbe
   where
     one : (m : List ℕ) → eqb (number d m) (number d n) ≡ bytes_eq n m
     one m = elim (cases_Bool (bytes_eq n m)) [
-      | inl e ↦ ap (λ (k : List ℕ). eqb (number d k) (number d n)) (sym (same_name n m e))
+      | inl e ↦ ap (λ (k : List ℕ). eqb (number d k) (number d n)) (sym (same_bytes n m e))
           ∙ eq-eqb (number d n) (number d n) refl ∙ sym e
       | inr e ↦ elim (cases_Bool (eqb (number d m) (number d n))) [
         | inl q ↦ absurd (true≢false (sym (bytes_same n)

@@ -5,7 +5,7 @@ ghost use Rattle.circuit.specs.Entries.{entry, defined};
 ghost use Rattle.circuit.specs.Gates.{uses, defines};
 ghost use Rattle.circuit.specs.declared.circuit_line.Kind.TheVariants.{Input, Gate, Output, Spill};
 ghost use Rattle.circuit.specs.declared.circuit_line.GateKind.TheVariants.{Source};
-ghost use Rattle.circuit.specs.Rules.{exceeds_limit, exceeds_text_limit, is_wrong_delay, is_gate, gate_count, consumed, consume_fault, define_fault, first_unconsumed};
+ghost use Rattle.circuit.specs.Rules.{exceeds_limit, exceeds_text_limit, is_wrong_delay, is_gate, gate_count, consumed, consume_fault, first_unconsumed};
 ghost use Rattle.circuit.specs.DraftView.{draft_fault, with_line};
 ghost use Rattle.circuit.specs.Wiring.{gate_of, gate_with_outs_from};
 ghost use Rattle.circuit.specs.Meaning.{number};

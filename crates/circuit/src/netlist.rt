@@ -1,6 +1,5 @@
 //! Circuits: their wires, their gates, and their values.
 ghost use Rattle.std.specs.Prelude.{◌≡◌, ◌<◌, ◌≤◌, Some, true, length, take, slice_get, IfErr, IfOk, IfSome};
-ghost use Rattle.std.specs.Option.{option_map};
 ghost use Rattle.circuit.specs.Entries.{defined};
 ghost use Rattle.circuit.specs.Bridge.{AreValues, IsValuesFault, circuit_of, input_count, input_names, is_input, netlist_of, as_values};
 ghost use Rattle.circuit.specs.Meaning.{AreOrdered, wire_of, wires};
@@ -150,16 +149,6 @@ impl Circuit {
             return Some(WireNo::of(likely as u16));
         }
         self.wire_by_hash(name)
-    }
-
-    /// Returns the wire of this name, and the name as the circuit holds it, if there is one.
-    #[tactic(auto, using(crate::proofs::Naming::place_position, crate::proofs::Places::found_same))]
-    pub fn named_wire(&self, name: &Name) -> Option<(WireNo, &Name)>
-        ensures wire { option_map (λ p. p.0) result ≡ wire_of (circuit_of self.now) name.now }
-        ensures same_name { IfSome result (λ p. p.1.now ≡ name.now) }
-    {
-        let (index, own_name) = self.wires.get_full(name)?;
-        Some((WireNo::of(index as u16), own_name))
     }
 
     /// Returns the name of a wire, for a number below `wires()`.

@@ -29,11 +29,11 @@ at-le-total f (x ∷ xs) (suc i) d inside = omega (arith, at-le-total f xs i d (
 
 -- ---- one draw more
 
-times-append : (x : ℕ) (xs ys : List ℕ) → occurrences x (xs ++ ys) ≡ occurrences x xs + occurrences x ys
+pub times-append : (x : ℕ) (xs ys : List ℕ) → occurrences x (xs ++ ys) ≡ occurrences x xs + occurrences x ys
 times-append x [] ys = omega arith
 times-append x (y ∷ xs) ys = let rest = times-append x xs ys in omega (arith, rest)
 
-past_last-push : (xs : List ℕ) (x : ℕ) → past_last (xs ++ x ∷ []) ≡ x + 1
+pub past_last-push : (xs : List ℕ) (x : ℕ) → past_last (xs ++ x ∷ []) ≡ x + 1
 past_last-push [] x = refl
 past_last-push (y ∷ []) x = refl
 past_last-push (y ∷ z ∷ zs) x = past_last-push (z ∷ zs) x

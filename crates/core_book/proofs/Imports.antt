@@ -43,4 +43,3 @@ pub use Rattle.module_job.proofs.EqualJobs.{jobs_decide}
 pub use Rattle.module_job.proofs.Imports.{length-append, pointwise, same_job}
 pub use Rattle.module_job.specs.Groups.{AreGroups}
 pub use Rattle.pattern.proofs.Imports.{cond}
-pub use Rattle.section_text.proofs.Imports.{option_copied}

@@ -1,8 +1,8 @@
 //! Fills a book up.
-ghost use Rattle.std.specs.Prelude.{◌≡◌, ◌≢◌, ◌<◌, ◌≤◌, ◌+◌, ◌⊎◌, length, map, slice_get, true, false, Some, IfNone, IfSome, IfOk, IsErr, OnErr, OnOk};
+ghost use Rattle.std.specs.Prelude.{◌≡◌, ◌≢◌, ◌<◌, ◌≤◌, ◌+◌, ◌⊎◌, map, slice_get, true, false, Some, IfOk, IsErr, OnErr, OnOk};
 ghost use Rattle.std.specs.Arc.{arc_value};
-ghost use Rattle.core_book.specs.Book.{IsReplayed, new_book};
-ghost use Rattle.core_book.specs.Filling.{HoldsOfSameShape, IsHeldOrFiled, IsFilledTo, IsFull, IsOneMore, IsOpenFor, IsPartlyFilled, RunsAtMostOncePerShape, shapes_of};
+ghost use Rattle.core_book.specs.Book.{new_book};
+ghost use Rattle.core_book.specs.Filling.{HoldsOfSameShape, IsHeldOrFiled, IsFull, IsOneMore, IsOpenFor, IsPartlyFilled, RunsAtMostOncePerShape, shapes_of};
 ghost use Rattle.local_run.specs.Shown.{digest_of, job_of, number_of};
 
 use crate::book::BookState;

@@ -1,5 +1,5 @@
 //! The core: seats that draw numbers, and a book.
-ghost use Rattle.std.specs.Prelude.{◌≡◌, ◌<◌, ◌≤◌, ◌^◌, IfErr, IfOk, OnErr, OnOk, [], length, map, nat_lt, replicate, vec_len};
+ghost use Rattle.std.specs.Prelude.{◌≡◌, ◌<◌, ◌≤◌, ◌^◌, IfErr, IfOk, OnErr, OnOk, [], length, map, replicate, vec_len};
 ghost use Rattle.std.specs.Arc.{arc_value};
 ghost use Rattle.core_book.specs.Claims.{claim_answer, draws_after_claim, next_after_claim, claim_answer_of_draw, is_seat_finished};
 ghost use Rattle.core_book.specs.CoreView.{lists_of};

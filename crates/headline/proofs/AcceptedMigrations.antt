@@ -9,7 +9,7 @@ use Rattle.headline.proofs.Imports.{nat_tests, read_complete, refl, report_text,
 use Rattle.headline.proofs.Imports.{without_halos, ℕ, ◌++◌, ◌==◌, ◌∙◌, ◌∷◌, ◌≡◌, ◌≤◌}
 use Rattle.certificate.specs.Grammars.{migrated}
 use Rattle.certificate.specs.Laws.{AreFaultlessLines, IsSectionOf}
-use Rattle.certificate.proofs.Migrated.{migrated_lacks, migrated_modules}
+use Rattle.certificate.proofs.Migrated.{faultless_lines, migrated_lacks, migrated_modules}
 use Rattle.certificate.proofs.Soundness.{read_version}
 use Rattle.soundness.specs.MigrationLaws.{IsAcceptedMigration}
 use Rattle.soundness.proofs.Migrated.{migration_accepted}
@@ -30,11 +30,6 @@ as_lines : (l : Limits) (g : Setting) (v : ℕ) (es before : List CertificateLin
     AreFaultlessLines l g v before es
 as_lines l g v [] before h = tt
 as_lines l g v (i ∷ es) before h = (h.0, as_lines l g v es (before ++ i ∷ []) h.1)
-
-from_lines : (l : Limits) (g : Setting) (v : ℕ) (es before : List CertificateLine) → AreFaultlessLines l g v before es →
-    AreFaultless (certificate_grammar l g) v before es
-from_lines l g v [] before h = tt
-from_lines l g v (i ∷ es) before h = (h.0, from_lines l g v es (before ++ i ∷ []) h.1)
 
 -- ---- the certificate of a report
 
@@ -94,7 +89,7 @@ module _ (text report output : List ℕ) (b : Bundle) (read : bundle_of text ≡
   faultless_two : IsFaultless (certificate_grammar l g) 2 (without_halos c.entries)
   faultless_two = record {
     header = accepted.section.header;
-    each = from_lines l g 2 (without_halos c.entries) [] accepted.section.lines;
+    each = faultless_lines l g 2 (without_halos c.entries) [] accepted.section.lines;
     end = accepted.section.end;
   }
 

@@ -30,7 +30,6 @@ use Rattle.border_match.specs.declared.fault.BorderFault.{BorderFault}
 use Rattle.soundness.specs.PlainCertificates.{LocalLineMeans}
 use Rattle.core_book.specs.Verdicts.{AreLeastFaultsOfJob, report_lines_from, unkept_lines}
 use Rattle.core_book.specs.declared.verdict.LeastFaults.{LeastFaults}
-use Rattle.local_run.proofs.Silence.{ring_in_box}
 use Rattle.soundness.proofs.PlainCertificates.{only_module, plain_report_lines}
 use Rattle.soundness.proofs.SomeVerdict.{IsVecOf, jobs_good}
 use Rattle.soundness.proofs.Trials.{all_at, all_below, at_every, at_odd, at_odd_times, edge_test, every_cell, given_of}
@@ -40,6 +39,7 @@ use Rattle.headline.proofs.SomeReport.{certificate_by, limits, modules_good}
 use Rattle.headline.proofs.YesIsRight.{bundle_good, known}
 use Rattle.module_job.specs.declared.job.Demand.TheVariants as Demanded
 use Rattle.core_book.specs.declared.verdict.Verdict.TheVariants as verdict
+use Rattle.bbm_rule.proofs.RingTests.{ring_in_box}
 
 -- ---- tests of all elements
 

@@ -1,5 +1,5 @@
 -- A text that is read is read the same behind the line `limits 2`.
-use Rattle.headline.proofs.Imports.{AnswersOrRefuses, Bundle, Err, IsReportOf, List, None, Ok, Option, Refusal, Refused}
+use Rattle.headline.proofs.Imports.{AnswersOrRefuses, Bundle, Err, IsReportOf, List, None, Ok, Option, Refusal}
 use Rattle.headline.proofs.Imports.{Result, SaysReport, Some, [], ap, bundle_of, bundle_with, certificate_grammar}
 use Rattle.headline.proofs.Imports.{circuit_grammar, layout_grammar, layout_of, length, lines_of, port_names_of, refl}
 use Rattle.headline.proofs.Imports.{setting_of, subst, sym, ℕ, ◌++◌, ◌+◌, ◌∙◌, ◌∷◌, ◌≡◌}
@@ -9,7 +9,6 @@ use Rattle.circuit.specs.declared.circuit_line.CircuitLine.{CircuitLine}
 use Rattle.certificate_lines.specs.declared.certificate_line.CertificateLine.{CertificateLine}
 use Rattle.pattern.specs.declared.layout_line.LayoutHeader.{LayoutHeader}
 use Rattle.pattern.specs.declared.layout_line.LayoutLine.{LayoutLine}
-use Rattle.pattern.proofs.ReadingLemmas.{no_code_first, no_code_second}
 use Rattle.section_text.specs.Codes.{or_else}
 use Rattle.section_text.specs.Limits.{front_lines}
 use Rattle.section_text.specs.Section.{Grammar, refused_if_code, result_after_header, result_after_line}
@@ -22,12 +21,13 @@ use Rattle.section_text.specs.declared.limits.Limits.{Limits}
 use Rattle.section_text.specs.declared.limits.Limits.TheVariants.{First, Second}
 use Rattle.section_text.specs.declared.section.Form.{Form}
 use Rattle.section_text.specs.declared.section.Form.TheVariants.{End, Header, Item}
-use Rattle.meaning.specs.Design.{front_text, section_lines, text_limits}
+use Rattle.meaning.specs.Design.{front_text, text_limits}
 use Rattle.meaning.proofs.Fronts.{has_front}
 use Rattle.circuit.proofs.LimitLaws.{second_limits_are_wider as wider_circuit_line}
 use Rattle.pattern.proofs.LimitLaws.{second_limits_are_wider as wider_layout}
 use Rattle.certificate.proofs.LimitLaws.{second_limits_are_wider as wider_certificate_line}
 use Rattle.headline.specs.Fronts.{FrontLineKeepsReports}
+use Rattle.section_text.proofs.Codes.{no_code_first, no_code_second}
 
 -- ---- grammars of one form, of which the second accepts more
 

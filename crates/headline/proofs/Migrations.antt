@@ -2,26 +2,26 @@
 use Rattle.headline.proofs.Imports.{AreFaultless, AreLines, Bool, Bundle, CertificateLine}
 use Rattle.headline.proofs.Imports.{CircuitLine, End, Grammar, Header, IsFaultless, IsMigrationOf, IsSection, Item}
 use Rattle.headline.proofs.Imports.{LayoutHeader, LayoutLine, List, None, Ok, Option, Pattern, Refusal, RefusalCode}
-use Rattle.headline.proofs.Imports.{Refused, Result, SaysBundle, SaysDesign, Setting, Some, Yes, [], ap}
+use Rattle.headline.proofs.Imports.{Result, SaysBundle, SaysDesign, Setting, Some, Yes, [], ap}
 use Rattle.headline.proofs.Imports.{append-nil, append_assoc, ap₂, arith, bundle_of, bundle_with, bundle_text}
 use Rattle.headline.proofs.Imports.{bytes_after_last_line_feed, certificate_grammar, certificate_section_text}
 use Rattle.headline.proofs.Imports.{circuit_grammar, clean_both, code_if, codes, common_steps, false, flat_map}
 use Rattle.headline.proofs.Imports.{flat_map-append, if◌then◌else◌, is_word_at, layout_grammar, layout_of}
 use Rattle.headline.proofs.Imports.{layout_section_text, length, length-append, length-map, lines_again, lines_of}
-use Rattle.headline.proofs.Imports.{migrate_of, migrated_bundle, not, nothing_follows, number_after_keyword, number_at}
+use Rattle.headline.proofs.Imports.{migrate_of, migrated_bundle, nothing_follows, number_after_keyword, number_at}
 use Rattle.headline.proofs.Imports.{number_of, one_line, one_section, or_else, parts_of, port_names_of, read_faultless}
 use Rattle.headline.proofs.Imports.{refl, section_made, section_said, setting_of, subst, sym, take, take-append-drop}
 use Rattle.headline.proofs.Imports.{text_said, true, value_if_at_end, with_line_feed, without_halos, words_of, ℕ, ◌++◌}
 use Rattle.headline.proofs.Imports.{◌+◌, ◌∙◌, ◌∷◌, ◌≡◌}
-use Rattle.lemmas.proofs.Common.{drop, drop-append_seam, suc, zero}
+use Rattle.lemmas.proofs.Common.{drop-append_seam}
 use Rattle.section_text.specs.Sections.{section_then}
-use Rattle.section_text.proofs.Again.{lines_clean}
+use Rattle.section_text.proofs.Again.{drop_clean, lines_clean}
 use Rattle.section_text.proofs.Joined.{at_the_end}
 use Rattle.section_text.proofs.MadeSections.{clean_left, clean_right, forms, items_said}
 use Rattle.certificate_lines.specs.Versions.{is_halo}
 use Rattle.answers.proofs.KeptLines.{with_other, without_halo}
 use Rattle.headline.specs.Migration.{MigrationKeepsVersionTwo, MigrationIsIdempotent, MigrationSaysTheSame}
-use Rattle.headline.proofs.YesIsRight.{bundle_good, in_sections, past_circuit, past_layout}
+use Rattle.headline.proofs.YesIsRight.{bundle_good, in_sections, not_refused, past_circuit, past_layout}
 use Rattle.circuit.specs.Forms.{form_of as circuit_form}
 use Rattle.circuit.specs.Text.{circuit_text, form_text as circuit_line}
 use Rattle.circuit.proofs.Spelling.{form_line as circuit_spelled}
@@ -259,16 +259,11 @@ header_clean = grind (arith, common_steps)
 
 -- ---- the text that is written has sections
 
-lines_behind : (n : ℕ) (ls : List (List ℕ)) → AreLines ls → AreLines (drop n ls)
-lines_behind zero ls clean = clean
-lines_behind (suc n) [] clean = tt
-lines_behind (suc n) (l ∷ ls) clean = lines_behind n ls clean.1
-
 pub migrated_sections : (l : Limits) (text : List ℕ) (b : Bundle) → HasSections text b →
     (text_limits (front_text l ++ migrate_of b) ≡ l) × HasSections (front_text l ++ migrate_of b) (migrated_bundle b)
 migrated_sections l text b s =
     let clean : AreLines (s.first ++ (s.second ++ s.third)) =
-    subst AreLines s.lines (lines_behind (front_lines (text_limits text)) (lines_of text) (lines_clean text)) in
+    subst AreLines s.lines (drop_clean (front_lines (text_limits text)) (lines_of text) (lines_clean text)) in
     let later = clean_right s.first (s.second ++ s.third) clean in
     let one = one_line certificate_form (Some (Header b.version))
     (items_said certificate_form b.entries) s.third s.certificate_is in
@@ -305,9 +300,6 @@ pub record IsMigrated (text output : List ℕ) : Type 0 where
   pub bundle : Bundle
   pub read : bundle_of text ≡ Ok bundle
   pub says : output ≡ front_text (text_limits text) ++ migrate_of bundle
-
-not_refused : Yes ≡ Refused → ⊥
-not_refused e = cc
 
 pub was_migrated : (text output : List ℕ) → IsMigrationOf text output Yes → IsMigrated text output
 was_migrated text output says = grind (arith, common_steps, not_refused)

@@ -14,6 +14,7 @@ use Rattle.certificate_lines.specs.Entries.{change_last, keeps}
 use Rattle.headline.specs.PlainLaws.{PlainLinesTextIsDecided}
 use Rattle.headline.proofs.PlainTexts.{plain_is_decided}
 use Rattle.headline.proofs.YesIsRight.{good_designs}
+use Rattle.soundness.proofs.KeptGates.{listed_later}
 
 -- ---- lines that begin no module belong to the one before
 
@@ -62,14 +63,12 @@ three_parts f xs ys zs = grind (arith, common_steps, flat_map-append)
 
 -- ---- numbers among those that pass a test
 
-among_later : (x k : ℕ) (xs : List ℕ) → is_among xs k ≡ true → is_among (x ∷ xs) k ≡ true
-among_later x k xs h = grind (arith, common_steps, cases_Bool)
-
 pub among_range : (n a k : ℕ) → a ≤ k → k < a + n → is_among (range_with_len a n) k ≡ true
 among_range zero a k low high = absurd (omega (arith, low, high))
 among_range (suc n) a k low high = elim (cases_Bool (eqb a k)) [
   | inl here ↦ rw here refl
-  | inr other ↦ among_later a k (range_with_len (a + 1) n) (among_range n (a + 1) k (above other) (omega (arith, high)))
+  | inr other ↦ listed_later a k (range_with_len (a + 1) n)
+      (among_range n (a + 1) k (above other) (omega (arith, high)))
 ]
   where
     above : eqb a k ≡ false → a + 1 ≤ k
@@ -87,7 +86,7 @@ among_filter test (x ∷ xs) k h t = elim (cases_Bool (eqb x k)) [
 ]
   where
     by_test : (b : Bool) → test x ≡ b → is_among (filter test xs) k ≡ true → is_among (filter test (x ∷ xs)) k ≡ true
-    by_test true e h = rw e (among_later x k (filter test xs) h)
+    by_test true e h = rw e (listed_later x k (filter test xs) h)
     by_test false e h = rw e h
 
 -- ---- the plain module

@@ -1,7 +1,7 @@
 -- What a text says that is not refused keeps the rules of a design
 use Rattle.headline.proofs.Imports.{All-from_recursion, AllByRecursion, AnswersOrRefuses, AreFaultless, AreInOrder}
 use Rattle.headline.proofs.Imports.{Bundle, CircuitLine, End, Err, Form, Header, IsDesign, IsFaultless}
-use Rattle.headline.proofs.Imports.{IsSection, IsTrue, Item, LayoutHeader, LayoutLine, List, None, Ok, Option}
+use Rattle.headline.proofs.Imports.{IsSection, IsTrue, Item, LayoutHeader, LayoutLine, List, Ok}
 use Rattle.headline.proofs.Imports.{Pattern, Refusal, Result, SaysReport, Some, [], and_parts}
 use Rattle.headline.proofs.Imports.{ap₂, arith, bundle_of, circuit_grammar, common_steps, cond_some}
 use Rattle.headline.proofs.Imports.{consumed, defined, eqb, faultless_named, no_code_first, form_of, gate_entry}
@@ -20,7 +20,7 @@ use Rattle.headline.proofs.WrittenCircuits.{AreNames, names_both}
 use Rattle.headline.proofs.YesIsRight.{bundle_good, circuit_good, laid_out, no_missing}
 use Rattle.section_text.specs.declared.limits.Limits.{Limits}
 use Rattle.meaning.specs.Design.{text_limits}
-use Rattle.pattern.proofs.ReadingLemmas.{no_code_second}
+use Rattle.section_text.proofs.Codes.{no_code_second}
 
 -- ---- names that are read are names
 

@@ -52,6 +52,7 @@ use Rattle.section_text.specs.declared.limits.Limits.{Limits}
 use Rattle.section_text.specs.declared.limits.Limits.TheVariants.{First, Second}
 use Rattle.certificate_lines.specs.Rules.{module_limit_fault}
 use Rattle.meaning.specs.Design.{text_limits}
+use Rattle.circuit.proofs.Undefined.{wires_grow}
 
 -- ---- numbers in a range
 
@@ -496,11 +497,6 @@ length_taken zero xs h = refl
 length_taken (suc n) [] h = absurd (omega (arith, h))
 length_taken (suc n) (x ∷ xs) h = ap suc (length_taken n xs (omega (arith, h)))
 
-more_wires : (n : ℕ) (gs : List Gate) → n ≤ wires_after n gs
-unfolding wires_after
-more_wires n [] = omega arith
-more_wires n (x ∷ gs) = let more = more_wires (n + defines x.kind) gs in omega (arith, more)
-
 side_ok : (n : ℕ) → is_layout_side n ≡ true → n ≤ 64 → is_bad_box_side n ≡ false
 side_ok n side few = grind (arith, common_steps, eqb-true)
 
@@ -520,7 +516,7 @@ module _ (k : Limits) (circuit : List CircuitLine) (p : Pattern) (good : AreGood
   }
 
   pub its_given : length (input_names circuit) ≡ (netlist_of circuit).given
-  its_given = grind (arith, common_steps, wires_are_named, more_wires, inputs_are_first, length_taken)
+  its_given = grind (arith, common_steps, wires_are_named, wires_grow, inputs_are_first, length_taken)
 
   abbrev names_are : AreNamed (Some (port_names_of circuit)) (parts_of p)
   names_are = faultless_named k (Some (port_names_of circuit)) p.size (parts_of p) layout_good
@@ -538,7 +534,7 @@ module _ (k : Limits) (circuit : List CircuitLine) (p : Pattern) (good : AreGood
       let is : IsInputName circuit q.name = read_layout-names circuit p (inputs_are_first circuit good) names_are k q at
       in
       let low = is.is_given in
-      let more = more_wires (netlist_of circuit).given (netlist_of circuit).gates in
+      let more = wires_grow (netlist_of circuit).given (netlist_of circuit).gates in
       local_by q.name is.wire is.named (omega (arith, low, more))
 
   out_local : (k : ℕ) (q : Port) → slice_get p.outs k ≡ Some q →

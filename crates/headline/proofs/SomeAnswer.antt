@@ -3,7 +3,7 @@ use Rattle.headline.proofs.Imports.{AnswersOrRefuses, AreOrdered, CircuitLine, E
 use Rattle.headline.proofs.Imports.{IsMigrationOf, IsModulesOf, IsValueOf, List, No, Ok, Outcome, Refusal, Refused}
 use Rattle.headline.proofs.Imports.{Result, SaysMigration, SaysModules, SaysValues, ValueQuestion, Yes, [], bundle_of}
 use Rattle.headline.proofs.Imports.{circuit_grammar, codes, decimal, defined, gates_are_ordered, inl, inr, line_text}
-use Rattle.headline.proofs.Imports.{lines_of, netlist_of, pair_with_result, refl, refusal_line, section_of, subst}
+use Rattle.headline.proofs.Imports.{netlist_of, pair_with_result, refl, refusal_line, section_of, subst}
 use Rattle.headline.proofs.Imports.{value_lines, value_sections_of, ℕ, ◌++◌, ◌∷◌, ◌≡◌, ◌⊎◌}
 use Rattle.soundness.proofs.SomeValues.{HasStop, HasValues, values_or_stop}
 use Rattle.answers.specs.ValueText.{assigned_inputs}

@@ -16,7 +16,7 @@ use Rattle.headline.proofs.SomeAnswer.{SaysSomething, answered_always}
 use Rattle.headline.proofs.YesIsRight.{bundle_good, certificate_faultless}
 use Rattle.section_text.specs.declared.limits.Limits.{Limits}
 use Rattle.meaning.specs.Design.{text_limits}
-use Rattle.pattern.proofs.ReadingLemmas.{no_code_second}
+use Rattle.section_text.proofs.Codes.{no_code_second}
 
 -- ---- a layout from its lines
 

@@ -3,7 +3,7 @@ use Rattle.headline.proofs.Imports.{Bool, Cell, Cells, Err, HasAnAnswerToEachTex
 use Rattle.headline.proofs.Imports.{IsLiveOutside, IsRunEnd, IsRunOf, LayoutHeader, LayoutLine, LeftAt, List, None, Ok}
 use Rattle.headline.proofs.Imports.{Pattern, Refusal, Result, RunEnd, RunQuestion, SaysRunEnd, State, [], arith}
 use Rattle.headline.proofs.Imports.{cases_Bool, cond, false, filter, flat_map, has, in_box, in_layout, inl, inr}
-use Rattle.headline.proofs.Imports.{layout_grammar, length, lines_of, pair_with_result, partner, parts_of, plane_at}
+use Rattle.headline.proofs.Imports.{layout_grammar, length, pair_with_result, partner, parts_of, plane_at}
 use Rattle.headline.proofs.Imports.{read_faultless, rectangle_cells, refl, run, run_end_outcome, run_end_text}
 use Rattle.headline.proofs.Imports.{section_of, size_fault, start, step, subst, suc, sym, true, true≢false, vec_of}
 use Rattle.headline.proofs.Imports.{whole, zero, ℕ, ℤ, ◌<◌, ◌^◌, ◌∙◌, ◌∷◌, ◌≡◌, ◌≤◌, ◌⊎◌}
@@ -25,8 +25,8 @@ use Rattle.section_text.specs.declared.limits.Limits.{Limits}
 use Rattle.section_text.specs.Limits.{front_lines}
 use Rattle.meaning.specs.Design.{section_lines, text_limits}
 use Rattle.answers.specs.RunText.{run_sections_with}
-use Rattle.pattern.proofs.ReadingLemmas.{no_code_second}
 use Rattle.lemmas.specs.Bounds.{max_side}
+use Rattle.section_text.proofs.Codes.{no_code_second}
 
 -- ---- whether a step leaves the layout
 

@@ -1,7 +1,7 @@
 -- A text that is not refused begins with the design that it says, and one that is reported with a yes is right.
 use Rattle.headline.proofs.Imports.{All, All-cons, All-from_recursion, All-nil, All-tail, AllByRecursion, AreGoodAfter}
 use Rattle.headline.proofs.Imports.{Ball, Cell, CircuitLine, In, IsDesign, IsForm, IsLine, IsTrue, LayoutHeader}
-use Rattle.headline.proofs.Imports.{LayoutLine, List, Mirror, Out, Pattern, PortNameLists, Refused, Waste, Yes, []}
+use Rattle.headline.proofs.Imports.{LayoutLine, List, Mirror, Out, Pattern, PortNameLists, Waste, []}
 use Rattle.headline.proofs.Imports.{ap₂, arith, circuit_text, codes, common_steps, consume_have, consumed}
 use Rattle.headline.proofs.Imports.{defined, is_name, layout_text, map, names_pass, part_form, parts_of}
 use Rattle.headline.proofs.Imports.{port_names_of, pos, refl, subst, sym, true, ℕ, ℤ, ◌++◌, ◌<◌, ◌^◌, ◌∙◌, ◌∷◌, ◌≡◌}
@@ -19,7 +19,7 @@ use Rattle.headline.proofs.WrittenCircuits.{names_right, right_delay}
 use Rattle.headline.proofs.WrittenLayouts.{HasLimits, IsNumbered, IsPortName, has_limits, inside, number, numbered}
 use Rattle.headline.proofs.WrittenLayouts.{ports_named, small_mirror}
 use Rattle.headline.proofs.WrittenNames.{input_named, outs_named}
-use Rattle.headline.proofs.YesIsRight.{good_designs, yes_is_right_as_read}
+use Rattle.headline.proofs.YesIsRight.{good_designs, not_refused, yes_is_right_as_read}
 use Rattle.pattern.specs.Lines as lines
 use Rattle.lemmas.specs.Bounds.{max_side, max_steps}
 
@@ -136,9 +136,6 @@ read_is_printed text output outcome circuit p reports some says =
     design_printed (text_limits text) text good.rest circuit p
     (designs_are_read text output outcome circuit p reports some says)
     good.begins
-
-not_refused : Yes ≡ Refused → ⊥
-not_refused e = cc
 
 pub yes_is_right : YesMeansRight
 yes_is_right text output says = grind (arith, common_steps, yes_is_right_as_read, read_is_printed, not_refused)

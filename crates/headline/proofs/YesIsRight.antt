@@ -47,12 +47,9 @@ use Rattle.section_text.specs.Codes.{code_if}
 use Rattle.section_text.specs.Limits.{front_lines}
 use Rattle.section_text.specs.declared.code.RefusalCode.TheVariants.{PastLimit}
 use Rattle.circuit.specs.Rules.{exceeds_text_limit}
+use Rattle.section_text.proofs.Codes.{both_none}
 
 -- ---- the lines of a circuit that is read are good
-
-first_none : (a b : Option RefusalCode) → or_else a b ≡ None → (a ≡ None) × (b ≡ None)
-first_none None b e = (refl, e)
-first_none (Some code) b e = absurd cc
 
 -- where the last line is an input, there is no gate
 abbrev HasNoGateYet : List CircuitLine → Type 0
@@ -92,7 +89,7 @@ line_good l words ls before n rows (Some (Item r)) f none e rec =
     let passed = unless_ok n (or_else (order_fault before r)
     (or_else (code_if (exceeds_text_limit l before r) PastLimit) (added_line_code before r)))
     (section_body_of (circuit_grammar l) tt (before ++ r ∷ []) (n + 1) ls) (tt, rows) e in
-    let codes = first_none (order_fault before r) _ passed.0 in
+    let codes = both_none (order_fault before r) _ passed.0 in
     let h : last_rank before ≤ rank_of r.kind =
     ltb-false (rank_of r.kind) (last_rank before)
     (no_code (nat_lt (rank_of r.kind) (last_rank before)) OutOfOrder codes.0) in
@@ -102,7 +99,7 @@ line_good l words ls before n rows (Some (Item r)) f none e rec =
       rows_are = t.rows_are ∙ append_assoc before (r ∷ []) t.more;
       good = (
         record {
-          adds = (first_none _ (added_line_code before r) codes.1).1;
+          adds = (both_none _ (added_line_code before r) codes.1).1;
           fits = entry_fits words r f;
           inputs_first = no_gate_yet r.kind (last_rank before) (gate_count before) h none;
         },
@@ -144,7 +141,7 @@ pub laid_out : (l : Limits) (ports : Option PortNameLists) (s : LayoutHeader) (b
 unfolding lines.layout_line_fault lines.line_fault
 laid_out l ports s before [] good = tt
 laid_out l ports s before (part ∷ parts) good =
-    grind (arith, common_steps, first_none, (laid_out l ports s (before ++ part ∷ []) parts good.1))
+    grind (arith, common_steps, both_none, (laid_out l ports s (before ++ part ∷ []) parts good.1))
 
 -- ---- the sections of a bundle
 
@@ -291,8 +288,8 @@ own_design text b output outcome circuit layout reads says said =
       circuit_lines = good.circuit;
       all_consumed = good.all_consumed;
       few_wires = good.few_wires;
-      size = (first_none _ _ whole.header).1;
-      text_size = (first_none _ _ whole.header).0;
+      size = (both_none _ _ whole.header).1;
+      text_size = (both_none _ _ whole.header).0;
       layout_lines = laid_out (text_limits text) (Some (port_names_of b.circuit)) p.size [] (parts_of p) whole.each;
       rest = begins.rest;
       begins = begins.begins;
@@ -335,7 +332,7 @@ known text b output outcome reads says =
     record {
       ordered = gates_are_ordered c.circuit circuit;
       same = refl;
-      limits = (first_none _ _ whole.header).1;
+      limits = (both_none _ _ whole.header).1;
       laid_out = laid_out (text_limits text) (Some (port_names_of c.circuit)) c.layout.size []
           (parts_of c.layout) whole.each;
       are_modules = says.is_verdict.good;
@@ -392,7 +389,7 @@ module _ (text : List ℕ) (b : Bundle) (output : List ℕ) (outcome : Outcome) 
             (subst (λ (ss : List StopLine). AreOnTime (circuit_of c.circuit) ss) own right.times);
       }
 
-not_refused : Yes ≡ Refused → ⊥
+pub not_refused : Yes ≡ Refused → ⊥
 not_refused e = cc
 
 pub by_outcome : (P : Type 0) (text output : List ℕ) →

@@ -1,6 +1,6 @@
 -- A text that is reported with a yes is right in full.
 use Rattle.headline.proofs.Imports.{AreGoodCircuitLines, CircuitLine, HasRightStops, IsReportOf, IsRight, List, Option}
-use Rattle.headline.proofs.Imports.{Refused, Some, Yes, inputs_are_first, sym, ℕ, ◌∙◌, ◌≡◌}
+use Rattle.headline.proofs.Imports.{Some, Yes, inputs_are_first, sym, ℕ, ◌∙◌, ◌≡◌}
 use Rattle.circuit.proofs.Naming.{names_are_own}
 use Rattle.headline.specs.Laws.{YesMeansRightInFull}
 use Rattle.headline.specs.RightInFull.{HasDistinctNames, IsRightInFull}
@@ -8,10 +8,7 @@ use Rattle.headline.proofs.Designs.{one_design}
 use Rattle.headline.proofs.PlainTexts.{yes_off_rim}
 use Rattle.headline.proofs.Printed.{printed_is_read}
 use Rattle.headline.proofs.YesIsPrinted.{yes_is_right}
-use Rattle.headline.proofs.YesIsRight.{good_designs, one_valuation, yes_has_right_stops}
-
-not_refused : Yes ≡ Refused → ⊥
-not_refused e = cc
+use Rattle.headline.proofs.YesIsRight.{good_designs, not_refused, one_valuation, yes_has_right_stops}
 
 -- a name is that of one wire
 distinct : (circuit : List CircuitLine) → AreGoodCircuitLines circuit → HasDistinctNames circuit

@@ -8,7 +8,8 @@ use Rattle.lemmas.proofs.Common.{slice_get-map, slice_get_within, take_more}
 use Rattle.module_job.specs.Groups.{AreGroups}
 use Rattle.module_job.specs.Jobs.{JobView}
 use Rattle.module_job.specs.Shapes.{ShapeView}
-use Rattle.job_pool.proofs.Sums.{times-append, total-add, total_same}
+use Rattle.job_pool.proofs.Sums.{nothing, total-add, total_same}
+use Rattle.core_book.proofs.Counting.{times-append}
 
 -- ---- groups
 
@@ -77,10 +78,6 @@ one_test g y = grind (arith, nat_tests)
 due_cons : (g : ℕ) (gs ys : List ℕ) → due_count (g ∷ gs) ys ≡ occurrences g ys + due_count gs ys
 due_cons g gs [] = refl
 due_cons g gs (y ∷ ys) = let h = due_cons g gs ys in let t = one_test g y in omega (arith, h, t)
-
-nothing : {X : Type 0} (xs : List X) → total (λ v. 0) xs ≡ 0
-nothing [] = refl
-nothing (y ∷ ys) = let h = nothing ys in omega (arith, h)
 
 -- where all numbers of groups were drawn, each member's finding was due once
 pub due_in_all : (counter n : ℕ) (lists : List (List ℕ)) → IsDrawn counter lists → n ≤ counter → (gs : List ℕ) →

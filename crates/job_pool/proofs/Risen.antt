@@ -14,11 +14,7 @@ not_lower : (count : ℕ) (r : Reply) → count ≤ accepted_count_after count r
 not_lower count Accepted = omega arith
 not_lower count _ = omega arith
 
--- a share that has risen is as it was
-pub risen_still : (a b c : Counts) → HasRisen a b → c ≡ b → HasRisen a c
-risen_still a b c before same = subst (HasRisen a) (sym same) before
-
--- and now it counts one reply more
+-- a share that has risen counts one reply more
 pub risen_more : (a b c : Counts) (r : Reply) → HasRisen a b → c ≡ counts_after_reply b r → HasRisen a c
 risen_more a b c r before more = grind (arith, common_steps, not_lower)
 

@@ -7,6 +7,7 @@ use Rattle.lemmas.proofs.Common.{length-append, max, min}
 use Rattle.job_pool.specs.Lists.{count_less_than}
 use mathlib.Core.Option.{some, some-injective, some-ne-none}
 use lib.ListN.{get_elem?}
+use Rattle.core_book.proofs.Counting.{past_last-push, times-append}
 
 module _ {X : Type 0} where
   pub total_set : (f : X → ℕ) (xs : List X) (i : ℕ) (v w : X) → get_elem? xs i ≡ some v →
@@ -42,10 +43,6 @@ module _ {X : Type 0} where
   at_le f (x ∷ xs) zero v e = let h : f x ≡ f v = ap f (some-injective x v e) in omega arith
   at_le f (x ∷ xs) (suc i) v e = let h = at_le f xs i v e in omega arith
 
-pub times-append : (x : ℕ) (xs ys : List ℕ) → occurrences x (xs ++ ys) ≡ occurrences x xs + occurrences x ys
-times-append x [] ys = omega arith
-times-append x (y ∷ xs) ys = let h = times-append x xs ys in omega arith
-
 pub count_at_least-append : (n : ℕ) (xs ys : List ℕ) →
     count_at_least n (xs ++ ys) ≡ count_at_least n xs + count_at_least n ys
 count_at_least-append n [] ys = omega arith
@@ -54,11 +51,6 @@ count_at_least-append n (y ∷ xs) ys = let h = count_at_least-append n xs ys in
 pub past_greatest-append : (xs ys : List ℕ) → past_greatest (xs ++ ys) ≡ max (past_greatest xs) (past_greatest ys)
 past_greatest-append [] ys = omega arith
 past_greatest-append (y ∷ xs) ys = let h = past_greatest-append xs ys in omega arith
-
-pub past_last-snoc : (xs : List ℕ) (x : ℕ) → past_last (xs ++ x ∷ []) ≡ x + 1
-past_last-snoc [] x = refl
-past_last-snoc (y ∷ []) x = refl
-past_last-snoc (y ∷ z ∷ zs) x = past_last-snoc (z ∷ zs) x
 
 pub front-snoc : (xs : List ℕ) (x : ℕ) → all_but_last (xs ++ x ∷ []) ≡ xs
 front-snoc [] x = refl
@@ -77,7 +69,7 @@ pub pushed : (xs ys : List ℕ) (x n : ℕ) → ys ≡ xs ++ x ∷ [] → past_g
     past_greatest xs ≤ n
     → (past_greatest ys ≡ x + 1) × (length ys ≤ past_greatest ys) × (past_greatest ys ≡ past_last ys)
     × (past_greatest (all_but_last ys) ≤ n)
-pushed xs ys x n is above rising below = grind (arith, common_steps, past_greatest-append, past_last-snoc, front-snoc)
+pushed xs ys x n is above rising below = grind (arith, common_steps, past_greatest-append, past_last-push, front-snoc)
 
 pub none_late : (n : ℕ) (xs : List ℕ) → past_greatest xs ≤ n → count_at_least n xs ≡ 0
 none_late n [] h = refl
@@ -95,7 +87,7 @@ pub early_zero : (xs : List ℕ) → count_less_than 0 xs ≡ 0
 early_zero [] = refl
 early_zero (y ∷ ys) = let h = early_zero ys in grind (arith, nat_tests)
 
-nothing : {X : Type 0} (xs : List X) → total (λ v. 0) xs ≡ 0
+pub nothing : {X : Type 0} (xs : List X) → total (λ v. 0) xs ≡ 0
 nothing [] = refl
 nothing (y ∷ ys) = let h = nothing ys in omega arith
 

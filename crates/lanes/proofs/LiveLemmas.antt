@@ -14,6 +14,7 @@ use Rattle.lanes.specs.declared.blocks.Diagonal.{Diagonal}
 use Rattle.lanes.specs.declared.blocks.Diagonal.TheVariants.{Anti, Main}
 use Rattle.lanes.proofs.CalmLemmas.{other_cell}
 use Rattle.lanes.proofs.TurnLemmas.{same_beside}
+use Rattle.bbm_rule.proofs.PlaneLemmas.{dead_block as none_turned}
 
 -- ---- words that change places, one after another
 beside_more : (a k m : ℕ) (xs xs' xs'' : List ℕ) → IsSameOutsidePart a k xs xs' → IsSameOutsidePart (a + k) m xs' xs'' →
@@ -36,10 +37,6 @@ pub swaps_more : (a b k m : ℕ) (xs ys xs' ys' xs'' ys'' : List ℕ) → SwapsP
 swaps_more a b k m xs ys xs' ys' xs'' ys'' s t = grind (arith, common_steps, swapped_more, beside_more)
 
 -- ---- blocks of which no cell is live
-none_turned : turned false false false false ≡ false
-unfolding turned
-none_turned = refl
-
 none_stays : (a b c d : ℕ) → a ≡ 0 → b ≡ 0 → c ≡ 0 → d ≡ 0 → DiagonalStays a b c d
 none_stays a b c d ea eb ec ed j = rw (ea, eb, ec, ed, bit-zero j) (none_turned, none_turned)
 

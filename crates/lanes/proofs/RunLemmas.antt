@@ -5,6 +5,7 @@ use Rattle.lanes.proofs.Imports.{TurnsBlocksBetween, arith, block_at, block_coun
 use Rattle.lanes.proofs.Imports.{get_or, inl, inr, mul-le-mul_left, true, ℕ, ◌*◌, ◌+◌, ◌-◌, ◌<◌, ◌≡◌, ◌≤◌}
 use Rattle.lanes.specs.Turns.{TurnsFrom}
 use Rattle.lanes.proofs.FieldLemmas.{named_join, named_stay}
+use Rattle.lemmas.proofs.Common.{place_within}
 
 -- ---- the words of a run of cells
 below_end : (w m len k : ℕ) → m < len → k < w → w * m + k < w * len
@@ -86,16 +87,13 @@ none_turned part p = grind (arith, common_steps, named_stay)
 pub first_none : (part : Partition) (p : Planes) → KeepsCellsOutsideBlocks part p p
 first_none part p = grind (arith, common_steps)
 
-before_word : (w b u k : ℕ) → u < b → k < w → w * u + k < w * b
-before_word w b u k h l = let m : w * (u + 1) ≤ w * b = mul-le-mul_left w (omega arith) in omega (arith, m)
-
 pub first_part : (part : Partition) (p q : Planes) (first long : ℕ) →
     TurnsFrom (block_at part p.stride first) long p q → KeepsCellsOutsideBlocks part p q
 first_part part p q first long t = let b = further part p.stride first in record {
-  odd = λ u k h l. t.upper_left.below _ (before_word p.words _ u k (omega (arith, h, b.odd)) l);
-  right = λ u k h l. t.upper_right.below _ (before_word p.words _ u k (omega (arith, h, b.right)) l);
-  down = λ u k h l. t.lower_left.below _ (before_word p.words _ u k (omega (arith, h, b.down)) l);
-  even = λ u k h l. t.lower_right.below _ (before_word p.words _ u k (omega (arith, h, b.even)) l);
+  odd = λ u k h l. t.upper_left.below _ (place_within p.words _ u k (omega (arith, h, b.odd)) l);
+  right = λ u k h l. t.upper_right.below _ (place_within p.words _ u k (omega (arith, h, b.right)) l);
+  down = λ u k h l. t.lower_left.below _ (place_within p.words _ u k (omega (arith, h, b.down)) l);
+  even = λ u k h l. t.lower_right.below _ (place_within p.words _ u k (omega (arith, h, b.even)) l);
 }
 
 pub first_join : (part : Partition) (p q r : Planes) → HasWordsStrideRows p.words p.stride p.rows q →

@@ -1,10 +1,10 @@
 -- The line before the sections of a text.
-use Rattle.lemmas.proofs.Common.{AllByRecursion, Bool, List, Option, Some, [], ap, append_assoc, arith, common_steps}
-use Rattle.lemmas.proofs.Common.{drop, false, flat_map, flat_map-append, refl, subst, sym, take, take-append-drop}
-use Rattle.lemmas.proofs.Common.{true, length, ℕ, ◌++◌, ◌<◌, ◌∙◌, ◌∷◌, ◌≡◌, codes, if◌then◌else◌, slice_split_at, map}
+use Rattle.lemmas.proofs.Common.{Bool, List, Some, [], ap, append_assoc, arith, common_steps, same_bytes}
+use Rattle.lemmas.proofs.Common.{drop, false, flat_map, flat_map-append, refl, sym, take, take-append-drop}
+use Rattle.lemmas.proofs.Common.{true, length, ℕ, ◌++◌, ◌<◌, ◌∙◌, ◌∷◌, ◌≡◌, codes, if◌then◌else◌, slice_split_at}
 use Rattle.lemmas.proofs.Common.{None}
-use Rattle.lemmas.proofs.Common.{bytes_eq, bytes_eq-Decides}
-use Rattle.section_text.specs.Limits.{front_lines, is_first_line, limits_of}
+use Rattle.lemmas.proofs.Common.{bytes_eq}
+use Rattle.section_text.specs.Limits.{front_lines, limits_of}
 use Rattle.section_text.specs.SaidSection.{IsSection}
 use Rattle.section_text.specs.Section.{with_line_feed}
 use Rattle.section_text.specs.Words.{bytes_after_last_line_feed, lines_of, words_of}
@@ -12,7 +12,7 @@ use Rattle.section_text.specs.Words as words
 use Rattle.section_text.specs.declared.limits.Limits.{Limits}
 use Rattle.section_text.specs.declared.limits.Limits.TheVariants.{First, Second}
 use Rattle.section_text.specs.declared.section.Form.{Form}
-use Rattle.section_text.specs.declared.section.Form.TheVariants.{Header, Item, End}
+use Rattle.section_text.specs.declared.section.Form.TheVariants.{Header}
 use Rattle.section_text.proofs.Again.{AreLines}
 use Rattle.section_text.proofs.Lines.{ended-cons, some_part, whole_text}
 use Rattle.section_text.proofs.MadeSections.{items_said, one_line}
@@ -31,14 +31,11 @@ unfolding front_line words.is_word_at words.if_one_word words.name_after_keyword
     words.names_at words.number_of forms.form_of forms.gate_entry forms.gate_line_of_kind forms.gate_kind forms.bit_at
 no_form = refl
 
-same_line : (a b : List ℕ) → bytes_eq a b ≡ true → a ≡ b
-same_line a b e = grind (arith, common_steps, bytes_eq-Decides)
-
 heads_no_circuit : (line : List ℕ) (b : Bool) → bytes_eq line front_line ≡ b →
     circuit_form (words_of line) ≡ Some (Header tt) → b ≡ false
 heads_no_circuit line false e is = refl
 heads_no_circuit line true e is = absurd (
-    let same : line ≡ front_line = same_line line front_line e in
+    let same : line ≡ front_line = same_bytes line front_line e in
     let clash : None ≡ Some (Header tt) =
     sym no_form ∙ ap (λ (l : List ℕ). circuit_form (words_of l)) (sym same) ∙ is in
     cc)
@@ -111,7 +108,7 @@ front_spelled (line ∷ ls) = one (bytes_eq line (codes "limits 2")) refl
         flat_map with_line_feed (take (front_lines (if b then Second else First)) (line ∷ ls))
         ≡ front_text (if b then Second else First)
     one false e = refl
-    one true e = ap (λ (l : List ℕ). with_line_feed l ++ []) (same_line line (codes "limits 2") e)
+    one true e = ap (λ (l : List ℕ). with_line_feed l ++ []) (same_bytes line (codes "limits 2") e)
 
 pub front_and_lines : (text : List ℕ) → text ≡ front_text (text_limits text)
     ++ (flat_map with_line_feed (section_lines text) ++ bytes_after_last_line_feed text)

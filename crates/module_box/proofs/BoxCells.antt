@@ -3,9 +3,11 @@ use Rattle.module_box.proofs.Imports.{Box2, IsOwnersTable, Option, OwnersView, S
 use Rattle.module_box.proofs.Imports.{false≢true, get_or, get_or_from_slice_get, in_box, in_span, length}
 use Rattle.module_box.proofs.Imports.{mul-le-mul_right, owner_of, pos, rectangle, refl, slice_get_read, span_parts, sym}
 use Rattle.module_box.proofs.Imports.{true, unsigned_abs, ℕ, ℤ, ◌%◌, ◌*◌, ◌+◌, ◌/◌, ◌<◌, ◌∙◌, ◌≡◌, ◌≤◌}
-use Rattle.lemmas.proofs.Common.{negsuc}
+use Rattle.lemmas.proofs.Common.{ints, negsuc}
+use Rattle.lemmas.specs.Bounds.{max_side}
 use Rattle.bbm_rule.proofs.Spans.{in_span-negsuc}
 use Rattle.module_box.proofs.Imports.{and_from, span_from}
+use Rattle.module_box.specs.Moves.{IsSmallShift}
 use Rattle.module_box.specs.Tiling.{IsInside, rectangle_of}
 
 pub in_span_nat : (f n : ℕ) (x : ℤ) → in_span f n x ≡ true → (k : ℕ) × (x ≡ pos k) × (f ≤ k) × (k < f + n)
@@ -50,3 +52,6 @@ pub owner_read : (o : OwnersView) (x y : ℤ) (a b r : ℕ) → IsOwnersTable o 
     r ≡ get_or o.numbers ((a / 2) * (o.width / 2) + b / 2) r → r ≡ owner_of o x y
 unfolding owner_of
 owner_read o x y a b r t h ea eb e = grind (arith, common_steps, get_or_from_slice_get, slice_get_read, owner_in_table)
+
+pub small_number : (z : ℤ) (n m w : ℕ) → z ≡ pos n → n < m + w → m + w ≤ max_side → IsSmallShift z
+small_number z n m w e lt few = (omega (arith, ints, e), omega (arith, ints, e, lt, few))

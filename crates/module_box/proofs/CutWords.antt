@@ -2,8 +2,9 @@
 use Rattle.module_box.proofs.Imports.{Bool, ap, arith, bit, bit-zero, false}
 use Rattle.module_box.proofs.Imports.{refl, sym, true, ℕ, ◌*◌, ◌+◌}
 use Rattle.module_box.proofs.Imports.{◌-◌, ◌<◌, ◌∙◌, ◌≡◌, ◌≤◌}
-use Rattle.lemmas.proofs.Common.{bit_at_cat_high, bit_at_cat_low, bit_at_ones}
+use Rattle.lemmas.proofs.Common.{bit_at_cat_high, bit_at_cat_low}
 use Rattle.bbm_rule.proofs.BitLemmas.{holds_below, below_from_test}
+use Rattle.bbm_rule.proofs.MarkLemmas.{bit_ones}
 
 abbrev pub same : Bool → Bool → Bool
 same true y = y
@@ -16,10 +17,6 @@ same_is false true e = cc
 same_is false false e = refl
 
 -- all 64 bits are set
-pub bit_ones : (b : ℕ) → b < 64 → bit 18446744073709551615 b ≡ true
-unfolding bit
-bit_ones b h = rw (bit_at_ones 64 b h) refl
-
 swap : (j b : ℕ) → 64 * j + b ≡ j * 64 + b
 swap j b = omega arith
 

@@ -7,19 +7,14 @@ use Rattle.module_box.proofs.Imports.{is_this_gate, lane, length, length-map, le
 use Rattle.module_box.proofs.Imports.{mul-le-mul_left, range_with_len, refl, row, slice_get_within, slice_index}
 use Rattle.module_box.proofs.Imports.{slice_index_or, subst, sym, true, true≢false, wires, wires_after, ℕ, ◌%◌, ◌*◌}
 use Rattle.module_box.proofs.Imports.{◌++◌, ◌+◌, ◌/◌, ◌<◌, ◌∙◌, ◌∷◌, ◌≡◌, ◌≢◌, ◌≤◌}
-use Rattle.lemmas.proofs.Common.{get_or-set_other, get_or-set_same, length-set, set, All-cons, All-nil}
+use Rattle.lemmas.proofs.Common.{All-cons, All-nil, get_or-set_other, get_or-set_same, length-set, place_within, set}
 use Rattle.lemmas.proofs.Common.{get_or-range_with_len}
-use Rattle.circuit.proofs.Undefined.{undefined_at, undefined_is}
+use Rattle.circuit.proofs.Undefined.{undefined_at, undefined_is, wires_grow}
 use Rattle.circuit.proofs.Valuations.{evaluated, map_below}
 use Rattle.module_box.specs.LocalValues.{AreRowsAt, bit_of_row, value_of}
 use Rattle.module_box.proofs.WordRows.{read_lane}
 
 -- ---- what satisfies a netlist does so by its values of the netlist's wires
-pub wires_grow : (n : ℕ) (gs : List Gate) → n ≤ wires_after n gs
-unfolding wires_after
-wires_grow n [] = omega arith
-wires_grow n (g ∷ gs) = omega (arith, wires_grow (n + defines g.kind) gs)
-
 pub range_below : (n k m : ℕ) → n + k ≤ m → All (λ w. w < m) (range_with_len n k)
 range_below n k m h = grind (arith, common_steps, length-range_with_len, get_or-range_with_len)
 
@@ -55,9 +50,6 @@ next_row : (m v w : ℕ) → v < w → m * v + m ≤ m * w
 next_row m v w h = grind (arith, common_steps, mul-le-mul_left)
 
 -- the place of a word is in the rows
-pub place_within : (m n w k : ℕ) → w < n → k < m → m * w + k < m * n
-place_within m n w k h l = let more = next_row m w n h in omega (arith, more)
-
 -- two words of one column have two places
 pub rows_apart : (m v w k : ℕ) → v < w → k < m → m * v + k ≢ m * w + k
 rows_apart m v w k h l e = let more = next_row m v w h in absurd (omega (arith, more, e))

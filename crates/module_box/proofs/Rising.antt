@@ -1,5 +1,5 @@
 -- Facts about a rising list by comparing its keys with a key
-use Rattle.module_box.proofs.Imports.{AllTimesSignal, Cell, Equal, Greater, IsRising, Less, List, None, Option}
+use Rattle.module_box.proofs.Imports.{AllTimesSignal, Cell, Equal, Greater, IsRising, Less, List, None}
 use Rattle.module_box.proofs.Imports.{Ordering, Some, TimedSignal, [], all_times_at, and_parts, ap, arith}
 use Rattle.module_box.proofs.Imports.{below_or_from, below_or_same, cases_Bool, cell_cmp, common_steps, eqb, eqb-true}
 use Rattle.module_box.proofs.Imports.{event_at, inl, inr, is_at, length, moment_cmp, refl, rules, slice_get, suc, sym}
@@ -7,9 +7,11 @@ use Rattle.module_box.proofs.Imports.{true, zero, ℕ, ℤ, ◌++◌, ◌+◌, �
 use Rattle.lemmas.proofs.Common.{CmpEqualImpliesEq, IsTotalOrder, cond-false, cond-true, exact_pairs, exact_signed}
 use Rattle.lemmas.proofs.Common.{exact_unsigned, nat_cmp_total, on_total, then_total, tied_itself}
 use Rattle.bbm_rule.proofs.CellOrder.{cell_total}
-use Rattle.lemmas.proofs.Common.{int_itself, int_same, same_or_higher}
+use Rattle.lemmas.proofs.Common.{same_or_higher}
 use Rattle.module_box.specs.declared.schedules.Moment.{Moment}
 use Rattle.module_box.specs.Schedules.{is_moment_at}
+use Rattle.bbm_rule.proofs.SameCells.{cell_itself, cell_same}
+use Rattle.module_box.proofs.BoxCells.{same_some}
 
 -- ---- the order of moments
 pub moment_total : IsTotalOrder moment_cmp
@@ -30,9 +32,6 @@ pub record IsBetween {A K : Type 0} (cmp : K → K → Ordering) (key : A → K)
     (low high : ℕ) : Type 0 where
   pub below : (i : ℕ) (a : A) → i < low → slice_get xs i ≡ Some a → cmp (key a) k ≡ Less
   pub above : (i : ℕ) (a : A) → high ≤ i → slice_get xs i ≡ Some a → cmp k (key a) ≡ Less
-
-same_some : {A : Type 0} (o : Option A) (a b : A) → o ≡ Some a → o ≡ Some b → a ≡ b
-same_some o a b e f = cc
 
 pub raise_low : {A K : Type 0} (cmp : K → K → Ordering) (key : A → K) (xs : List A) (k : K) (low high m : ℕ) (a : A) →
     IsTotalOrder cmp → IsRising cmp key xs →
@@ -67,17 +66,11 @@ is_first cmp key xs m a total rising at i b lt e same =
 eqb_itself : (a : ℕ) → eqb a a ≡ true
 eqb_itself a = search rules
 
-at_cell : (c d : Cell) → is_at c d.x d.y ≡ true → c ≡ d
-at_cell c d h = grind (arith, common_steps, and_parts, int_same)
-
-at_own_cell : (c : Cell) → is_at c c.x c.y ≡ true
-at_own_cell c = rw (int_itself c.x, int_itself c.y)
-
 pub then_moment : (m n : Moment) → is_moment_at m n.time n.cell.x n.cell.y ≡ true → m ≡ n
-then_moment m n h = grind (arith, common_steps, and_parts, eqb-true, at_cell)
+then_moment m n h = grind (arith, common_steps, and_parts, eqb-true, cell_same)
 
 then_own_moment : (m : Moment) → is_moment_at m m.time m.cell.x m.cell.y ≡ true
-then_own_moment m = rw (eqb_itself m.time, at_own_cell m.cell)
+then_own_moment m = rw (eqb_itself m.time, cell_itself m.cell)
 
 pub all_times_none : (hs : List AllTimesSignal) (c : Cell) →
     ((i : ℕ) (h : AllTimesSignal) → slice_get hs i ≡ Some h → h.cell ≢ c) →
@@ -85,7 +78,7 @@ pub all_times_none : (hs : List AllTimesSignal) (c : Cell) →
 unfolding all_times_at
 all_times_none [] c f = refl
 all_times_none (h ∷ hs) c f = elim (cases_Bool (is_at h.cell c.x c.y)) [
-  | inl e ↦ absurd (f 0 h refl (at_cell h.cell c e))
+  | inl e ↦ absurd (f 0 h refl (cell_same h.cell c e))
   | inr e ↦ cond-false _ _ _ e ∙ all_times_none hs c (λ i h'. f (suc i) h')
 ]
 
@@ -94,9 +87,9 @@ pub all_times_some : (hs : List AllTimesSignal) (i : ℕ) (h : AllTimesSignal) �
     all_times_at hs h.cell.x h.cell.y ≡ Some h.signal
 unfolding all_times_at
 all_times_some [] i h e f = grind (arith, common_steps)
-all_times_some (g ∷ hs) zero h e f = grind (arith, common_steps, same_some, cond-true, at_own_cell)
+all_times_some (g ∷ hs) zero h e f = grind (arith, common_steps, same_some, cond-true, cell_itself)
 all_times_some (g ∷ hs) (suc i) h e f = elim (cases_Bool (is_at g.cell h.cell.x h.cell.y)) [
-  | inl t ↦ absurd (f 0 g (omega arith) refl (at_cell g.cell h.cell t))
+  | inl t ↦ absurd (f 0 g (omega arith) refl (cell_same g.cell h.cell t))
   | inr n ↦ cond-false _ _ _ n ∙ all_times_some hs i h e (λ j h' lt. f (suc j) h' (omega arith))
 ]
 

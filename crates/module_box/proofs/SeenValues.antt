@@ -1,8 +1,8 @@
 -- The values of a circuit's wires, as a module sees them
-use Rattle.module_box.proofs.Imports.{All, AreLocalsOf, Bool, Gate, HasRow, List, LocalNet, Netlist, Option, Satisfies}
+use Rattle.module_box.proofs.Imports.{AreLocalsOf, Bool, Gate, HasRow, LocalNet, Netlist, Option, Satisfies}
 use Rattle.module_box.proofs.Imports.{Some, Valuation, ap, arith, bit, circuit_wire, common_steps, eqb, false, get_or}
-use Rattle.module_box.proofs.Imports.{get_or_from_slice_get, map, refl, renumber_gate, row, same_Some, slice_get}
-use Rattle.module_box.proofs.Imports.{slice_get-get_or, slice_get_within, subst, suc, sym, true, zero, ℕ, ◌%◌, ◌*◌, ◌+◌}
+use Rattle.module_box.proofs.Imports.{map, refl, renumber_gate, row, same_Some, slice_get}
+use Rattle.module_box.proofs.Imports.{slice_get-get_or, subst, suc, sym, true, zero, ℕ, ◌%◌, ◌*◌, ◌+◌}
 use Rattle.module_box.proofs.Imports.{◌/◌, ◌<◌, ◌∙◌, ◌≡◌}
 use Rattle.lemmas.proofs.Common.{◌^◌, bit_at-suc, bit_at_lowest, map-map}
 use Rattle.bbm_rule.specs.Plane.{one_if}
@@ -10,6 +10,7 @@ use Rattle.circuit.proofs.Valuations.{at_most_one}
 use Rattle.module_box.specs.Locals.{circuit_gate}
 use Rattle.module_box.specs.LocalValues.{IsLocalValuation, values_by_local_number}
 use Rattle.module_box.specs.Laws.{ChoicesAreAssignments, LocalValuesAgree, UndefinedGateIsSeenLocally}
+use Rattle.circuit.proofs.Undefined.{row_at}
 
 -- ---- the number whose first n bits are these
 
@@ -60,11 +61,6 @@ choices_are_assignments n f = (from_bits n f, from_bits_below n f, bit-from_bits
 
 row_seen : (f : ℕ → ℕ) (v : Valuation) (g : Gate) → HasRow v (renumber_gate f g) → HasRow (λ i. v (f i)) g
 row_seen f v g h = ap (row g.kind) (sym (map-map v f g.ins)) ∙ h ∙ ap Some (map-map v f g.outs)
-
-row_at : (v : Valuation) (gates : List Gate) (k : ℕ) (g : Gate) → All (HasRow v) gates → slice_get gates k ≡ Some g →
-    HasRow v g
-row_at v gates k g all e = subst (HasRow v) (get_or_from_slice_get gates k g g e)
-    (all k g (slice_get_within gates k g e))
 
 seen_valuation : (n : Netlist) (l : LocalNet) (inputs v : Valuation) (a : ℕ) → AreLocalsOf n l → Satisfies n inputs v →
     ((i : ℕ) → i < l.netlist.given → bit a i ≡ values_by_local_number l v i) →

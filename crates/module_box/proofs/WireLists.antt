@@ -30,7 +30,7 @@ place_among (v ∷ ws) w = grind (arith, common_steps, place_among ws w)
 pub different_front : (xs ys : List ℕ) → AreDistinct (xs ++ ys) → AreDistinct xs
 different_front xs ys different i j w at there = different i j w (kept xs ys i w at) (kept xs ys j w there)
 
-among : (ws : List ℕ) (w : ℕ) → list_any (nat_eq w) ws ≡ is_among ws w
+pub among : (ws : List ℕ) (w : ℕ) → list_any (nat_eq w) ws ≡ is_among ws w
 among [] w = refl
 among (v ∷ ws) w = ap₂ (λ a b. a || b) (eq_sym v w) (among ws w)
 

@@ -12,8 +12,8 @@ use Rattle.lemmas.proofs.Common.{option_map, map-append}
 use Rattle.bbm_rule.proofs.BitLemmas.{bit-and, bit-or, bit-xor, xor}
 use Rattle.circuit.specs.Evaluate.{evaluate, first_undefined_gate, this_or_later_undefined}
 use Rattle.module_box.specs.LocalValues.{undefined_bits, row_unless_undefined, AddsRow}
-use Rattle.module_box.proofs.CutWords.{bit_ones}
 use Rattle.std.proofs.Math.ListN as listn
+use Rattle.bbm_rule.proofs.MarkLemmas.{bit_ones}
 
 -- which of two
 pick_first : (a x y : Bool) → xor y (a && xor x y) ≡ cond a x y

@@ -28,10 +28,6 @@ IsFirstLocalGateWithoutRow l cut_bits k = IsUndefined l.netlist (bit cut_bits) k
 abbrev pub values_by_local_number : LocalNet → Valuation → Valuation
 values_by_local_number l v i = v (circuit_wire l i)
 
--- vs lists each wire's value in the one local valuation under the assignment
-abbrev pub AreLocalValues : LocalNet → ℕ → List Bool → Type 0
-AreLocalValues l cut_bits vs = AreValues l.netlist (bit cut_bits) vs
-
 -- the reason why there are no local values: a gate without a row, or out of memory, about which it says no more
 abbrev pub IsLocalValuesError : Netlist → ℕ → LocalValuesError → Type 0
 IsLocalValuesError n cut_bits (NoRow k) = IsUndefined n (bit cut_bits) k

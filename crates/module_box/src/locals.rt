@@ -1,10 +1,10 @@
 //! The wires that a module knows, and the gates that it uses, numbered anew.
 
-ghost use Rattle.std.specs.Prelude.{◌≡◌, ◌==◌, ◌+◌, ◌<◌, ◌≤◌, ◌^◌, ◌++◌, [], map, length, position, is_some, slice_get, slice_index, IsTrue, Some, OnOk, IfOk, IfSome};
+ghost use Rattle.std.specs.Prelude.{◌≡◌, ◌==◌, ◌+◌, ◌<◌, ◌≤◌, ◌^◌, ◌++◌, [], map, length, position, is_some, slice_index, IsTrue, Some, OnOk, IfOk, IfSome};
 ghost use Rattle.std.specs.List.{All};
 ghost use Rattle.circuit.specs.Bridge.{netlist_of};
 ghost use Rattle.circuit.specs.Gates.{uses};
-ghost use Rattle.circuit.specs.Meaning.{Gate, wires};
+ghost use Rattle.circuit.specs.Meaning.{wires};
 ghost use Rattle.circuit.specs.Wiring.{gate_of};
 ghost use Rattle.module_box.specs.LocalGates.{gate_of_local_gate};
 ghost use Rattle.module_box.specs.Locals.{AreDistinct, AreLocalLines, AreLocalsOf, circuit_gate, circuit_wire, is_among, local_wires};

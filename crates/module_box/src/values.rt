@@ -1,6 +1,6 @@
 //! The values of the wires that a module knows, under one assignment of values to its cuts and under all of them.
 
-ghost use Rattle.std.specs.Prelude.{◌≡◌, ◌≢◌, ◌<◌, ◌≤◌, ◌+◌, ◌*◌, ◌++◌, ℕ, [], ◌∷◌, Some, None, true, false, map, length, slice_index, slice_index_or, OnOk, IfErr, IfOk, IfSome};
+ghost use Rattle.std.specs.Prelude.{◌≡◌, ◌≢◌, ◌<◌, ◌≤◌, ◌+◌, ◌*◌, ◌++◌, ℕ, Some, None, true, false, map, length, slice_index, slice_index_or, OnOk, IfErr, IfOk, IfSome};
 ghost use Rattle.bbm_rule.specs.Bits.{bit};
 ghost use Rattle.circuit.specs.Bridge.{AreValues};
 ghost use Rattle.circuit.specs.Meaning.{AreOrdered, wires, wires_after};

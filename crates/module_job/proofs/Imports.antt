@@ -2,7 +2,7 @@
 pub use Rattle.bbm_rule.proofs.Imports.{cond-false, cond-true, nat_tests}
 pub use Rattle.circuit.proofs.Imports.{slice_get-map}
 pub use Rattle.indexmap.specs.IndexMap.{get}
-pub use Rattle.lemmas.proofs.Common.{All-nil, Decides, Decides-eqb, arc_value, if◌then◌else◌, length-replicate}
+pub use Rattle.lemmas.proofs.Common.{Decides, Decides-eqb, arc_value, if◌then◌else◌, length-replicate}
 pub use Rattle.lemmas.proofs.Common.{mapped_at, pointwise, replicate, same_from_decides, same_head, same_tail}
 pub use Rattle.lemmas.proofs.Common.{unwrap_or, unwrap_or-slice_get}
 pub use Rattle.module_box.proofs.EqualTests.{both, lists, signal_decides}

@@ -4,6 +4,7 @@ pub mod FirstKeys
 pub mod FirstShapes
 pub mod FirstSummaries
 pub mod NumberedCells
+pub mod OwnSignals
 pub mod ShapeParts
 pub mod SparseLists
 pub mod TellingShapes

@@ -201,14 +201,7 @@ impl Job {
         self.shape.halos().at(time, own)
     }
 
-    /// Returns how many signals cells of the ring have at single times.
-    pub fn edge_events(&self) -> usize
-        ensures { result ≡ length self.now.edges.events }
-    {
-        self.shape.edges().events().len()
-    }
-
-    /// Returns one of these signals, by its place in their order.
+    /// Returns one of the signals that cells of the ring have at single times, by its place in their order.
     pub fn edge_event(&self, place: usize) -> TimedSignal
         requires { place < length self.now.edges.events }
         ensures { slice_get self.now.edges.events place ≡ Some result }

@@ -1,8 +1,7 @@
 //! The numbers of shapes, which differ for different shapes, and their keys.
 ghost use Rattle.std.specs.Prelude.{◌≡◌, ◌^◌, ◌<◌, ◌++◌, [], ◌∷◌, length, IfOk, OnOk};
 ghost use Rattle.std.specs.List.{All, flat_map};
-ghost use Rattle.module_box.specs.Numbers.{length_prefixed};
-ghost use Rattle.module_job.specs.Keys.{cell_numbers, sparse_list_numbers, demand_number, event_numbers, all_times_numbers, zigzag_number, number_bytes, shape_digest, shape_numbers, signal_number, signal_numbers, signals_numbers, stop_numbers};
+ghost use Rattle.module_job.specs.Keys.{cell_numbers, sparse_list_numbers, demand_number, event_numbers, all_times_numbers, zigzag_number, number_bytes, shape_digest, shape_numbers, signal_number, signals_numbers, stop_numbers};
 
 use crate::job::{Demand, Stop};
 use crate::shape::Shape;

@@ -33,8 +33,8 @@ pub use Rattle.pattern.specs.declared.layout_line.LayoutLine.TheVariants.{Ball, 
 pub use Rattle.pattern.specs.declared.layout_line.Port.{Port}
 pub use Rattle.section_text.proofs.Imports.{Bool, List, None, Option, Some, [], ap, append-nil, append_assoc, ap₂}
 pub use Rattle.section_text.proofs.Imports.{arith, cases_Bool, codes, common_steps, cond, false, flat_map, get_or, inl}
-pub use Rattle.section_text.proofs.Imports.{inr, length, list_all, map, nat_tests, refl, rules, same_Some, slice_get}
-pub use Rattle.section_text.proofs.Imports.{subst, suc, sym, take, true, zero, ℕ, ◌&&◌, ◌++◌, ◌+◌, ◌-◌, ◌<◌, ◌==◌, ◌∙◌}
+pub use Rattle.section_text.proofs.Imports.{inr, length, list_all, map, nat_tests, refl, same_Some, slice_get}
+pub use Rattle.section_text.proofs.Imports.{subst, suc, sym, take, true, zero, ℕ, ◌&&◌, ◌++◌, ◌+◌, ◌<◌, ◌==◌, ◌∙◌}
 pub use Rattle.section_text.proofs.Imports.{◌∷◌, ◌≡◌, ◌≤◌}
 unfoldable pub use Rattle.section_text.proofs.Imports.{name_at, number_at}
 pub use Rattle.section_text.specs.Codes.{code_if}

@@ -1,14 +1,15 @@
 -- The cells that are live at the start of a good layout lie inside it.
 use Rattle.pattern.proofs.Imports.{AreGoodAfter, Ball, Bool, Box2, Cell, In, LayoutHeader, LayoutLine, List, Mirror}
-use Rattle.pattern.proofs.Imports.{None, Pattern, Port, RefusalCode, TakenCell, [], arith, cell_fault, code_if}
+use Rattle.pattern.proofs.Imports.{None, Pattern, Port, TakenCell, [], arith, code_if}
 use Rattle.pattern.proofs.Imports.{common_steps, false, get_or, in_cells, in_layout, in_ports_on}
-use Rattle.pattern.proofs.Imports.{in_rectangles, in_span, is_at, is_inside, is_layout_side, is_taken, length, list_all}
+use Rattle.pattern.proofs.Imports.{in_rectangles, in_span, is_at, is_inside, is_layout_side, length, list_all}
 use Rattle.pattern.proofs.Imports.{list_any, nat_tests, negsuc, not, parts_of, pos, refl, size_fault, start, suc, true}
 use Rattle.pattern.proofs.Imports.{zero, ℕ, ℤ, ◌%◌, ◌&&◌, ◌++◌, ◌+◌, ◌<◌, ◌||◌, ◌∷◌, ◌≡◌, ◌≤◌}
 use Rattle.lemmas.proofs.Common.{list_all-append, list_all-map, left_is_true, right_is_true}
 use Rattle.bbm_rule.specs.Boxes.{in_box}
-use Rattle.pattern.proofs.TakenLemmas.{mirror_fits}
+use Rattle.pattern.proofs.TakenLemmas.{faultless_is_inside, mirror_fits}
 use Rattle.lemmas.specs.Bounds.{max_side}
+use Rattle.section_text.proofs.Codes.{no_code}
 
 -- ---- the size
 
@@ -16,10 +17,6 @@ pub record IsSideLength (n : ℕ) : Type 0 where
   pub least : 2 ≤ n
   pub most : n ≤ max_side
   pub even : n % 2 ≡ 0
-
-no_code : (a : Bool) (n : RefusalCode) → code_if (not a) n ≡ None → a ≡ true
-no_code true n e = refl
-no_code false n e = cc
 
 side_length : (n : ℕ) → is_layout_side n ≡ true → IsSideLength n
 side_length n e = grind (arith, common_steps, nat_tests)
@@ -34,16 +31,11 @@ first_holds : (a b : Bool) → code_if (not a || b) TakenCell ≡ None → a ≡
 first_holds true b e = refl
 first_holds false b e = cc
 
-part_inside : (s : LayoutHeader) (before : List LayoutLine) (part : LayoutLine) → cell_fault s before part ≡ None →
-    is_inside s part ≡ true
-unfolding cell_fault
-part_inside s before part e = first_holds (is_inside s part) (is_taken before part) e
-
-parts_inside : (s : LayoutHeader) (before parts : List LayoutLine) → AreGoodAfter s before parts →
+pub parts_inside : (s : LayoutHeader) (before parts : List LayoutLine) → AreGoodAfter s before parts →
     list_all (is_inside s) parts ≡ true
 parts_inside s before [] h = refl
 parts_inside s before (part ∷ parts) h =
-    rw (part_inside s before part h.1, parts_inside s (before ++ part ∷ []) parts h.2) refl
+    rw (faultless_is_inside s before part h.1, parts_inside s (before ++ part ∷ []) parts h.2) refl
 
 pub record BeginsInside (p : Pattern) : Type 0 where
   pub mirrors : list_all (λ r. is_inside p.size (Mirror r)) p.mirrors ≡ true

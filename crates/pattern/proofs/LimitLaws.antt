@@ -1,7 +1,7 @@
 -- The first limits are those of old, and the second ones let in more.
-use Rattle.pattern.proofs.Imports.{Bool, LayoutLine, List, None, Option, PortNameLists, RefusalCode, Some, ap, arith}
+use Rattle.pattern.proofs.Imports.{Bool, LayoutLine, None, Option, RefusalCode, Some, ap, arith}
 use Rattle.pattern.proofs.Imports.{code_if, common_steps, limit_fault, line_fault, name_fault, not, order_fault, refl}
-use Rattle.pattern.proofs.Imports.{sym, ℕ, ◌&&◌, ◌∙◌, ◌≡◌}
+use Rattle.pattern.proofs.Imports.{ℕ, ◌&&◌, ◌∙◌, ◌≡◌}
 use Rattle.lemmas.proofs.Common.{false, nat_le, nat_lt, true, ◌||◌}
 use Rattle.section_text.specs.Codes.{or_else}
 use Rattle.section_text.specs.declared.code.RefusalCode.TheVariants.{PastLimit}
@@ -12,7 +12,7 @@ use Rattle.pattern.specs.Lines.{cell_fault, is_layout_side, is_mirror_side, layo
 use Rattle.pattern.specs.Lines.{text_limit_fault, text_size_fault}
 use Rattle.pattern.specs.declared.layout_line.LayoutHeader.{LayoutHeader}
 use Rattle.pattern.specs.declared.layout_line.LayoutLine.TheVariants.{Ball, In, Mirror, Out, Waste}
-use Rattle.pattern.proofs.ReadingLemmas.{no_code_first, no_code_second}
+use Rattle.section_text.proofs.Codes.{no_code_first, no_code_second, none_both}
 
 -- two tests with one code are one test
 one_test : (a b : Bool) (rest : Option RefusalCode) →
@@ -96,21 +96,18 @@ wider_line (In p) e = refl
 wider_line (Out p) e = refl
 wider_line (Waste c) e = refl
 
-both_pass : (a b : Option RefusalCode) → a ≡ None → b ≡ None → or_else a b ≡ None
-both_pass a b first second = ap (λ o. or_else o b) first ∙ second
-
 pub second_limits_are_wider : SecondLimitsAreWider
 unfolding layout_line_fault line_fault
 second_limits_are_wider = record {
   sizes = λ ports s e.
       let fits : size_fault s ≡ None = no_code_second (text_size_fault First s) (size_fault s) e in
-      both_pass (text_size_fault Second s) (size_fault s) (wider_size s fits) fits;
+      none_both (text_size_fault Second s) (size_fault s) (wider_size s fits) fits;
   lines = λ ports s before part e.
       let later = no_code_second (order_fault before part) _ e in
       let good = no_code_second (text_limit_fault First part) (layout_line_fault ports s before part) later in
       let line : line_fault ports before part ≡ None = no_code_first _ (cell_fault s before part) good in
       let fits : limit_fault part ≡ None =
       no_code_first (limit_fault part) (name_fault ports part) (no_code_second (order_fault before part) _ line) in
-      both_pass (order_fault before part) _ (no_code_first (order_fault before part) _ e)
-      (both_pass (text_limit_fault Second part) (layout_line_fault ports s before part) (wider_line part fits) good);
+      none_both (order_fault before part) _ (no_code_first (order_fault before part) _ e)
+      (none_both (text_limit_fault Second part) (layout_line_fault ports s before part) (wider_line part fits) good);
 }

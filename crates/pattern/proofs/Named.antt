@@ -5,7 +5,7 @@ use Rattle.pattern.proofs.Imports.{◌∷◌, ◌≡◌}
 use Rattle.section_text.specs.declared.limits.Limits.{Limits}
 use Rattle.section_text.proofs.Good.{AreFaultless, IsFaultless}
 use Rattle.pattern.specs.Lines.{layout_line_fault}
-use Rattle.pattern.proofs.ReadingLemmas.{no_code_first, no_code_second}
+use Rattle.section_text.proofs.Codes.{no_code_first, no_code_second}
 
 named_part : (ports : Option PortNameLists) (s : LayoutHeader) (before : List LayoutLine) (part : LayoutLine) →
     layout_line_fault ports s before part ≡ None → name_fault ports part ≡ None

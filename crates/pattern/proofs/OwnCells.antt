@@ -7,17 +7,15 @@ use Rattle.pattern.proofs.Imports.{same_Some, slice_get, subst, suc, sym, takes_
 use Rattle.pattern.proofs.Imports.{ℤ, ◌++◌, ◌||◌, ◌∙◌, ◌∷◌, ◌≡◌}
 use Rattle.lemmas.proofs.Common.{true≢false, left_is_false}
 use Rattle.pattern.proofs.Added.{no_code, begun_push, ended_push}
+use Rattle.bbm_rule.proofs.SameCells.{cell_itself}
 
 -- the lines behind others are good after them
-good_behind : (s : LayoutHeader) (before front back : List LayoutLine) → AreGoodAfter s before (front ++ back) →
+pub good_behind : (s : LayoutHeader) (before front back : List LayoutLine) → AreGoodAfter s before (front ++ back) →
     AreGoodAfter s (before ++ front) back
 good_behind s before [] back good =
     subst (λ (l : List LayoutLine). AreGoodAfter s l back) (sym (append-nil before)) good
 good_behind s before (part ∷ front) back good =
     grind (arith, common_steps, good_behind s (before ++ part ∷ []) front back good.2)
-
-at_itself : (c : Cell) → is_at c c.x c.y ≡ true
-at_itself c = grind (arith, common_steps)
 
 or_right : (a b : Bool) → (a || (b || false)) ≡ false → b ≡ false
 or_right a b e = grind arith
@@ -52,7 +50,7 @@ module _ (make : Port → LayoutLine) (taken : List LayoutLine → State)
       let none = or_right (taken before q.cell.x q.cell.y) (is_at p.cell q.cell.x q.cell.y)
       (sym (one_more before p q.cell.x q.cell.y) ∙ free (before ++ make p ∷ []) ports good.2 i q e) in
       let all : is_at p.cell q.cell.x q.cell.y ≡ true =
-      subst (λ (c : Cell). is_at p.cell c.x c.y ≡ true) same (at_itself p.cell) in
+      subst (λ (c : Cell). is_at p.cell c.x c.y ≡ true) same (cell_itself p.cell) in
       true≢false (sym all ∙ none)
 
   own : (before : List LayoutLine) (ports : List Port) → AreGoodAfter s before (map make ports ++ rest) →

@@ -1,5 +1,5 @@
 -- The tables of a reader of layouts, for the lines so far.
-use Rattle.pattern.proofs.Imports.{Bool, LayoutLine, List, None, Option, PortNameLists, RefusalCode, Some}
+use Rattle.pattern.proofs.Imports.{Bool, LayoutLine, List, None, Option, PortNameLists}
 use Rattle.pattern.proofs.Imports.{SomethingMissing, [], ap, arith, code_if, common_steps, has, limit_fault, line_fault}
 use Rattle.pattern.proofs.Imports.{list_all, list_any, missing_fault, name_fault, named_ports, not, order_fault, refl}
 use Rattle.pattern.proofs.Imports.{sym, ℕ, ◌&&◌, ◌∙◌, ◌∷◌, ◌≡◌}
@@ -8,14 +8,7 @@ use Rattle.section_text.specs.Codes.{or_else}
 use Rattle.section_text.specs.declared.ports.PortNames.{PortNames}
 use Rattle.section_text.specs.declared.ports.PortNames.TheVariants.{Any, Only}
 use Rattle.pattern.specs.Lines.{is_in_line_named, is_out_line_named}
-
-pub no_code_first : (a b : Option RefusalCode) → or_else a b ≡ None → a ≡ None
-no_code_first None b e = refl
-no_code_first (Some code) b e = absurd cc
-
-pub no_code_second : (a b : Option RefusalCode) → or_else a b ≡ None → b ≡ None
-no_code_second None b e = e
-no_code_second (Some code) b e = absurd cc
+use Rattle.section_text.proofs.Codes.{no_code_first, no_code_second}
 
 module _ (ports : Option PortNameLists) (before : List LayoutLine) (part : LayoutLine)
     (good : line_fault ports before part ≡ None) where

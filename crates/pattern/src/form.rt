@@ -1,11 +1,11 @@
 //! The line forms of the layout section.
 ghost use Rattle.pattern.specs.Forms.{box_of};
-ghost use Rattle.std.specs.Prelude.{◌≡◌, ◌≤◌};
+ghost use Rattle.std.specs.Prelude.{◌≡◌};
 ghost use Rattle.section_text.specs.Listed.{list_of_four_words, list_of_five_words};
 ghost use Rattle.section_text.specs.Words.{words_of};
 ghost use Rattle.section_text.specs.Feeds.{IsLine, line_bytes};
 ghost use Rattle.pattern.specs.PortWords.{cell_from_words, port_from_words};
-ghost use Rattle.pattern.specs.Forms.{cell_of_words_from, cell_after_keyword, port_of, size_of, form_of};
+ghost use Rattle.pattern.specs.Forms.{cell_after_keyword, port_of, size_of, form_of};
 
 use crate::layout_line::{LayoutHeader, LayoutLine, Port};
 use bbm_rule::{Box2, Cell};

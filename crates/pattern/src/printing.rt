@@ -1,5 +1,5 @@
 //! The text of a layout.
-ghost use Rattle.std.specs.Prelude.{◌≡◌, ◌++◌, [], ◌∷◌, ℕ, List, OnOk, OnErr, IfOk, codes};
+ghost use Rattle.std.specs.Prelude.{◌≡◌, ◌++◌, ℕ, List, OnOk, OnErr, IfOk, codes};
 ghost use Rattle.std.specs.List.{flat_map};
 ghost use Rattle.section_text.specs.Spelling.{space_and_word, line_text};
 ghost use Rattle.pattern.specs.Text.{cell_words, natural_or_zero, layout_text, port_words, box_words, size_words};

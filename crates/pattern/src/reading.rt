@@ -7,7 +7,7 @@ ghost use Rattle.section_text.specs.Section.{Reads};
 ghost use Rattle.section_text.specs.Ports.{named_ports};
 ghost use Rattle.section_text.specs.Words.{has};
 ghost use Rattle.section_text.specs.declared.limits.Limits.TheVariants.{First};
-ghost use Rattle.pattern.specs.Lines.{AreNamed, allows_any_name, is_in_line_named, is_out_line_named, may_name_input, may_name_output, line_fault, missing_fault, name_fault};
+ghost use Rattle.pattern.specs.Lines.{AreNamed, allows_any_name, is_in_line_named, is_out_line_named, may_name_input, may_name_output, line_fault, name_fault};
 ghost use Rattle.pattern.specs.Grammars.{layout_grammar, layout_section};
 
 use crate::draft::Draft;

@@ -1,7 +1,7 @@
 //! The start of a layout, and its whole run.
-ghost use Rattle.std.specs.Prelude.{◌≡◌, ◌+◌, ◌≤◌, ◌<◌, ◌++◌, ◌||◌, true, ℕ, ℤ, List, map, OnOk, IfOk, MatchOption};
+ghost use Rattle.std.specs.Prelude.{◌≡◌, ◌+◌, ◌≤◌, ◌<◌, ◌++◌, ℤ, List, map, OnOk, IfOk, MatchOption};
 ghost use Rattle.std.specs.List.{All, flat_map, filter};
-ghost use Rattle.bbm_rule.specs.Board.{HasSameSize, is_inside, live};
+ghost use Rattle.bbm_rule.specs.Board.{HasSameSize, live};
 ghost use Rattle.bbm_rule.specs.CellLists.{in_cells, rectangle_cells, row_cells};
 ghost use Rattle.pattern.specs.Layout.{start};
 ghost use Rattle.section_text.specs.Words.{has};

@@ -1,5 +1,5 @@
 //! `circuit` and `pattern`.
-ghost use Rattle.std.specs.Prelude.{◌≡◌, ◌<◌, [], true, length};
+ghost use Rattle.std.specs.Prelude.{◌≡◌, ◌<◌, true, length};
 ghost use Rattle.circuit.specs.Bridge.{netlist_of};
 ghost use Rattle.circuit.specs.Entries.{defined};
 

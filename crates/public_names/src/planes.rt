@@ -1,5 +1,4 @@
 //! `bbm_rule` and `module_box`.
-ghost use Rattle.std.specs.Prelude.{◌≡◌, true};
 ghost use Rattle.circuit.specs.Bridge.{netlist_of};
 ghost use Rattle.module_box.specs.Locals.{AreLocalLines};
 ghost use Rattle.module_box.specs.Tiling.{MayHaveOwnerTable};

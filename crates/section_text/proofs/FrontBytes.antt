@@ -1,10 +1,9 @@
 -- The first bytes of a text, one after the other.
-use Rattle.section_text.proofs.Imports.{List, Option, Some, [], ap, arith, bytes_eq, bytes_eq-Decides}
-use Rattle.section_text.proofs.Imports.{common_steps}
+use Rattle.section_text.proofs.Imports.{List, Option, Some, [], ap, arith, bytes_eq}
 use Rattle.section_text.proofs.Imports.{false, slice_get, suc, sym, take, true, zero, ℕ, ◌+◌, ◌<◌, ◌∙◌}
 use Rattle.section_text.proofs.Imports.{◌∷◌, ◌≡◌}
 use Rattle.section_text.proofs.Imports.{Bool, subst, refl}
-use Rattle.lemmas.proofs.Common.{◌≢◌}
+use Rattle.lemmas.proofs.Common.{same_bytes, ◌≢◌}
 use Rattle.section_text.specs.Limits.{front_bytes}
 
 same_first : (xs ys : List ℕ) (k b : ℕ) → take k xs ≡ take k ys → slice_get xs k ≡ Some b → slice_get ys k ≡ Some b →
@@ -31,9 +30,6 @@ taken_at zero k xs lt = absurd (omega (arith, lt))
 taken_at (suc n) k [] lt = refl
 taken_at (suc n) zero (x ∷ xs) lt = refl
 taken_at (suc n) (suc k) (x ∷ xs) lt = taken_at n k xs (omega (arith, lt))
-
-same_bytes : (a b : List ℕ) → bytes_eq a b ≡ true → a ≡ b
-same_bytes a b e = grind (arith, common_steps, bytes_eq-Decides)
 
 differs : (a b : List ℕ) (t : Bool) → bytes_eq a b ≡ t → (a ≡ b → ⊥) → false ≡ t
 differs a b false e apart = refl

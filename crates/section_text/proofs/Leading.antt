@@ -9,7 +9,7 @@ use Rattle.lemmas.proofs.Common.{◌||◌, nat_lt, at_drop_more, slice_split-con
 use Rattle.std.proofs.Math.ListN.{drop_of_length-le}
 use Rattle.section_text.specs.Leading.{leading_number}
 use Rattle.section_text.proofs.Numbers.{is_one}
-use Rattle.section_text.proofs.Splitting.{some_words}
+use Rattle.section_text.proofs.Splitting.{digit_is_no_space, some_words}
 
 -- the number of the digits that a line begins with, after k digits that spell n, and the words behind its space
 unfoldable pub reads : ℕ → ℕ → List ℕ → Option (ℕ × List (List ℕ))
@@ -56,16 +56,14 @@ reads_end n k line i le = rw (drop_of_length-le line le) refl
 
 -- ---- words that begin with digits
 
-no_space : (b : ℕ) → is_digit b ≡ true → is_space b ≡ false
-no_space b digit = grind (arith, nat_tests)
-
 -- digits before a line become the begin of its first word
 put_before : (ds line w : List ℕ) (ws : List (List ℕ)) → list_all is_digit ds ≡ true → words_of line ≡ w ∷ ws →
     words_of (ds ++ line) ≡ (ds ++ w) ∷ ws
 put_before [] line w ws digits e = e
 put_before (d ∷ ds) line w ws digits e =
     let all = and_parts (is_digit d) (list_all is_digit ds) digits in
-    slice_split-cons_no is_space d (ds ++ line) (no_space d all.0) ∙ ap (onto_first d) (put_before ds line w ws all.1 e)
+    slice_split-cons_no is_space d (ds ++ line) (digit_is_no_space d all.0)
+    ∙ ap (onto_first d) (put_before ds line w ws all.1 e)
 
 pub first_of : (ws : List (List ℕ)) → 0 < length ws → (w : List ℕ) × (vs : List (List ℕ)) × (ws ≡ w ∷ vs)
 first_of [] some = absurd (omega arith)
@@ -160,7 +158,7 @@ reads_is ds (b ∷ line) begin = elim (cases_Bool (is_digit b)) [
         ∙ reads_is more line (one_more ds b begin (grind (arith, nat_tests, few)) digit)
         ∙ ap (λ l. leading_number (words_of l)) (append_assoc ds (b ∷ []) line)
     | inr full ↦
-        let first = begun b line (no_space b digit) in
+        let first = begun b line (digit_is_no_space b digit) in
         cond-false _ _ _ full ∙ not_leading (ds ++ b ∷ first.0) first.1
         (too_long ds b first.0 (grind (arith, nat_tests, full)))
         ∙ sym (ap leading_number (put_before ds (b ∷ line) (b ∷ first.0) first.1 begin.digits first.2))

@@ -1,3 +1,4 @@
+pub mod Codes
 pub mod LineFeeds
 pub mod FrontBytes
 pub mod Lines

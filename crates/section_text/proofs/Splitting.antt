@@ -10,6 +10,7 @@ use Rattle.section_text.proofs.Imports.{◌<◌, ◌==◌, ◌∙◌, ◌∷◌,
 use Rattle.lemmas.proofs.Common.{below_by_test, not_below_by_test, test_failed}
 use Rattle.section_text.specs.Words.{words_of_three, words_of_four, words_of_five, number_after_keyword}
 use Rattle.section_text.specs.Words.{name_after_keyword}
+use Rattle.section_text.proofs.NameLemmas.{letters_of_name}
 
 -- where the first space is
 found_by : (b : Bool) (p i : ℕ) → cond b (Some p) None ≡ Some i → (b ≡ true) × (p ≡ i)
@@ -138,15 +139,11 @@ letters_alone is_letter no_space (b ∷ bs) e =
     both true b e = (refl, e)
     both false b e = absurd cc
 
-letter_is_no_space : (b : ℕ) → is_name_byte b ≡ true → is_space b ≡ false
+pub letter_is_no_space : (b : ℕ) → is_name_byte b ≡ true → is_space b ≡ false
 letter_is_no_space b e = grind (arith, nat_tests)
 
-digit_is_no_space : (b : ℕ) → is_digit b ≡ true → is_space b ≡ false
+pub digit_is_no_space : (b : ℕ) → is_digit b ≡ true → is_space b ≡ false
 digit_is_no_space b e = grind (arith, nat_tests)
-
-name_letters : (w : List ℕ) → is_name w ≡ true → list_all is_name_byte w ≡ true
-name_letters [] e = refl
-name_letters (b ∷ bs) e = grind (arith, nat_tests)
 
 number_digits : (w : List ℕ) → is_number w ≡ true → list_all is_digit w ≡ true
 number_digits [] e = refl
@@ -167,7 +164,7 @@ read_alone f k l (w ∷ v ∷ vs) e (inr none) = rw (more (length vs)) (sym none
 pub lone_name_is : (k l : List ℕ) → name_after_keyword (k ∷ words_of l) ≡ name_of l
 unfolding name_after_keyword name_at name_of
 lone_name_is k l = read_alone name_of k l (words_of l) refl (elim (cases_Bool (is_name l)) [
-  | inl name ↦ inl (letters_alone is_name_byte letter_is_no_space l (name_letters l name))
+  | inl name ↦ inl (letters_alone is_name_byte letter_is_no_space l (letters_of_name l name))
   | inr none ↦ inr (cond-false _ _ _ none)
 ])
 

@@ -25,7 +25,7 @@ use Rattle.soundness.proofs.WholeRuns.{starts, steps_with_good_borders}
 use Rattle.module_job.specs.declared.job.Demand.TheVariants as Demanded
 use Rattle.module_job.specs.declared.job.Stop as listed
 use Rattle.local_run.specs.declared.fault.Kind.TheVariants.{Edge, End, Stop as AtStop}
-use Rattle.local_run.proofs.Silence.{ring_in_box}
+use Rattle.bbm_rule.proofs.RingTests.{ring_in_box}
 
 -- up to a time before which the borders are good, the plane is the jobs' runs
 pub runs_up_to : (lines : List CircuitLine) (p : Pattern) (ms : List ModuleLines) (jobs : List JobView)

@@ -40,8 +40,7 @@ pub use Rattle.circuit.specs.Meaning.{values_by_name}
 unfoldable pub use Rattle.circuit.specs.Meaning.{place_of}
 pub use Rattle.circuit.specs.declared.circuit_line.CircuitLine.{CircuitLine}
 pub use Rattle.circuit.specs.declared.circuit_line.GateKind.{GateKind}
-pub use Rattle.circuit.specs.declared.circuit_line.GateKind.TheVariants.{Cswap, Delay, Fredkin, Interact, Source}
-pub use Rattle.circuit.specs.declared.circuit_line.GateKind.TheVariants.{Switch, Uninteract, Unswitch}
+pub use Rattle.circuit.specs.declared.circuit_line.GateKind.TheVariants.{Delay, Source}
 pub use Rattle.circuit.specs.declared.circuit_line.Kind.TheVariants.{Input, Output}
 pub use Rattle.core_book.proofs.Imports.{All, AreLeastFaultsOfJob, Bool, IsLeastFault, IsLeastKeepFault, JobView, List}
 pub use Rattle.core_book.proofs.Imports.{ModuleLines, None, Option, Setting, Some, [], ap, append-nil, append_assoc}
@@ -92,7 +91,6 @@ pub use Rattle.pattern.specs.declared.layout_line.LayoutHeader.{LayoutHeader}
 pub use Rattle.pattern.specs.declared.layout_line.LayoutLine.{LayoutLine}
 pub use Rattle.pattern.specs.declared.layout_line.LayoutLine.TheVariants.{Ball, In, Mirror, Out, Waste}
 pub use Rattle.pattern.specs.declared.layout_line.Port.{Port}
-pub use Rattle.section_text.specs.declared.code.RefusalCode.{RefusalCode}
 pub use Rattle.section_text.specs.declared.code.RefusalCode.TheVariants.{UnknownName}
 pub use Rattle.soundness.specs.FirstFaults.{IsModuleAssignmentOf, HasGoodBorders, IsAsCertified, IsAssignmentOf}
 pub use Rattle.soundness.specs.FirstFaults.{IsFirstFault}

@@ -33,7 +33,7 @@ pub record PlaceOf (f : ℕ → ℕ) (places : List ℕ) (count n : ℕ) : Type 
 listed_first : (p : ℕ) (places : List ℕ) → is_among (p ∷ places) p ≡ true
 listed_first p places = rw (eq-eqb p p refl) refl
 
-listed_later : (p q : ℕ) (places : List ℕ) → is_among places q ≡ true → is_among (p ∷ places) q ≡ true
+pub listed_later : (p q : ℕ) (places : List ℕ) → is_among places q ≡ true → is_among (p ∷ places) q ≡ true
 listed_later p q places e = grind (arith, common_steps, cases_Bool)
 
 pub place_of : (f : ℕ → ℕ) (places : List ℕ) (count n : ℕ) → All (λ k. k < count) places →

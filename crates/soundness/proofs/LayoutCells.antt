@@ -1,7 +1,7 @@
 -- The cells of a layout: their ports, the start, and the demand at the end
 use Rattle.soundness.proofs.Imports.{AreGoodAfter, Ball, Bool, Box2, Cell, Circuit, In, IsEven, LayoutHeader}
 use Rattle.soundness.proofs.Imports.{LayoutLine, List, MeetsDemand, Mirror, None, One, Option, Out, Pattern, Port, Some}
-use Rattle.soundness.proofs.Imports.{Valuation, Waste, [], and_from, and_parts, any_at, ap, append-nil, append_assoc}
+use Rattle.soundness.proofs.Imports.{Valuation, Waste, [], and_from, and_parts, any_at, ap}
 use Rattle.soundness.proofs.Imports.{arith, cell_fault, cell_same, cells_of, cells_taken_at_end, code_if, common_steps}
 use Rattle.soundness.proofs.Imports.{end_demand, false, false≢true, if◌then◌else◌, in_box, in_cells, in_ports}
 use Rattle.soundness.proofs.Imports.{in_ports_on, in_rectangles, is_at, is_inside, is_live, is_taken, kept, map}
@@ -16,7 +16,7 @@ use Rattle.pattern.specs.Layout.{HaveDistinctCells, in_layout}
 use Rattle.pattern.specs.Lines.{holds}
 use Rattle.pattern.proofs.Added.{ended_push}
 use Rattle.pattern.proofs.InsideLemmas.{begins_inside, start_inside}
-use Rattle.pattern.proofs.OwnCells.{ins_apart, outs_apart}
+use Rattle.pattern.proofs.OwnCells.{good_behind, ins_apart, outs_apart}
 use Rattle.bbm_rule.proofs.RectangleLemmas.{in_box_cells}
 use Rattle.pattern.proofs.TakenLemmas.{is_sized}
 use Rattle.module_box.proofs.BoxCells.{same_some}
@@ -125,12 +125,6 @@ mirror_inside p x y good h = whole_inside p.size x y
     ∙ start_inside p (λ n. false) (begins_inside p good) x y (mirror_starts p x y h)
 
 -- ---- output cells are inside, and no mirror has them
-
-good_behind : (s : LayoutHeader) (before front back : List LayoutLine) → AreGoodAfter s before (front ++ back) →
-    AreGoodAfter s (before ++ front) back
-good_behind s before [] back good = grind (arith, common_steps, append-nil)
-good_behind s before (part ∷ front) back good =
-    grind (arith, common_steps, append_assoc, (good_behind s (before ++ part ∷ []) front back good.2))
 
 record IsFree (s : LayoutHeader) (before : List LayoutLine) (q : Port) : Type 0 where
   inside : in_layout s q.cell.x q.cell.y ≡ true

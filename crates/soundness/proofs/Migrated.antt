@@ -26,13 +26,13 @@ use Rattle.certificate.proofs.LineSignals.{SaysAt, line_said}
 use Rattle.certificate.proofs.MeantLines.{kept_of_all, stops_of_all}
 use Rattle.certificate.proofs.Migrated.{migrated_modules, section_modules, section_without_halos}
 use Rattle.local_run.specs.Laws.{HasSameHaloSignals}
-use Rattle.local_run.proofs.OwnWires.{halo_below}
 use Rattle.local_run.proofs.SameHalos.{same_halos_agree}
 use Rattle.border_match.proofs.Haloless.{haloless_match}
 use Rattle.border_match.proofs.SameSignals.{not_different}
 use Rattle.soundness.specs.MigrationLaws.{AcceptedWithoutHalos, IsAcceptedWithoutHalos, MigrationKeepsAcceptance}
 use Rattle.soundness.proofs.ModuleJobs.{one_job, signal_back}
 use Rattle.soundness.proofs.JobSignals.{no_signal, other_cell}
+use Rattle.module_job.proofs.OwnSignals.{halo_below}
 
 one_less : (n : ℕ) → nat_lt 1 n ≡ true → 1 < n
 one_less n h = grind (arith, nat_tests)

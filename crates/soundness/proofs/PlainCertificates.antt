@@ -43,7 +43,7 @@ use Rattle.module_job.specs.declared.job.Stop as listed
 use Rattle.local_run.specs.declared.fault.Kind.TheVariants.{Edge, End, Stop as AtStop}
 use Rattle.certificate.specs.Keeps as keeping
 use Rattle.core_book.specs.declared.verdict.ReportLine.TheVariants as line
-use Rattle.local_run.proofs.Silence.{ring_in_box}
+use Rattle.bbm_rule.proofs.RingTests.{ring_in_box}
 
 pub nat_greater : (a b : ℕ) → b < a → nat_cmp a b ≡ Greater
 nat_greater a b lt = grind arith

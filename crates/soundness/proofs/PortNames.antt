@@ -1,18 +1,15 @@
 -- The ports of a layout that was read have the names that were given, and each of these has a port
 use Rattle.soundness.proofs.Imports.{Ball, Bool, In, LayoutLine, List, Mirror, None, Out, Pattern, Port, PortNameLists}
-use Rattle.soundness.proofs.Imports.{RefusalCode, Some, UnknownName, Waste, [], and_parts, ap, ap₂, arith, bytes_eq}
-use Rattle.soundness.proofs.Imports.{cases_Bool, code_if, common_steps, false, false≢true, has, inl, input_names, inr}
-use Rattle.soundness.proofs.Imports.{kept, length, list_all, list_any, map, name_fault, not, option_map, or-false}
+use Rattle.soundness.proofs.Imports.{Some, UnknownName, Waste, [], and_parts, ap, ap₂, arith, bytes_eq}
+use Rattle.soundness.proofs.Imports.{cases_Bool, common_steps, false, false≢true, has, inl, input_names, inr}
+use Rattle.soundness.proofs.Imports.{kept, length, list_all, list_any, map, name_fault, option_map, or-false}
 use Rattle.soundness.proofs.Imports.{output_names, parts_of, refl, same_truth, skipped, slice_get, slice_get-map, subst}
 use Rattle.soundness.proofs.Imports.{suc, sym, true, ℕ, ◌++◌, ◌+◌, ◌||◌, ◌∙◌, ◌∷◌, ◌≡◌}
 use Rattle.lemmas.proofs.Common.{bytes_eq-Decides, list_any-append}
 use Rattle.pattern.specs.Lines.{is_in_line_named, is_out_line_named, missing_fault}
 use Rattle.soundness.specs.HeadlineLaws.{ReadLayoutHasPortNames}
 use Rattle.soundness.proofs.InputRuns.{at_place, in_known, in_stands}
-
-pub no_code : (b : Bool) (code : RefusalCode) → code_if (not b) code ≡ None → b ≡ true
-no_code true code e = refl
-no_code false code e = absurd cc
+use Rattle.section_text.proofs.Codes.{no_code}
 
 -- ---- what all names have
 

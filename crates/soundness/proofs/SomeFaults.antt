@@ -2,7 +2,7 @@
 use Rattle.lemmas.proofs.Common.{common_steps}
 use Rattle.soundness.proofs.Imports.{AreOrdered, Bool, BorderFault, Box2, Cell, Demand, Edge, End, Fault, IsBorderFault}
 use Rattle.soundness.proofs.Imports.{IsFault, IsFaultUnder, IsJob, IsKeepFault, IsLeastBorderFault, IsLeastFault}
-use Rattle.soundness.proofs.Imports.{IsLeastKeepFault, IsTotalOrder, IsTrue, JobView, KeepFault, Kind, List}
+use Rattle.soundness.proofs.Imports.{IsLeastKeepFault, IsTrue, JobView, KeepFault, Kind, List}
 use Rattle.soundness.proofs.Imports.{MeetsDemand, ModuleLines, None, One, Option, Setting, Signal, Some, Stop}
 use Rattle.soundness.proofs.Imports.{Valuation, Wire, Zero, [], ap, arith, as_values, assignments, bit}
 use Rattle.soundness.proofs.Imports.{border_cmp, box_place, decided, edge_signal, false, fault_cmp, flat_map}
@@ -10,14 +10,13 @@ use Rattle.soundness.proofs.Imports.{get_or_from_slice_get, halo_signal, in_box,
 use Rattle.soundness.proofs.Imports.{is_live, job_demand, local_run, map, range_with_len, rectangle_cells, refl}
 use Rattle.soundness.proofs.Imports.{signal_at, slice_get, slice_get-get_or, slice_get_within, subst, true}
 use Rattle.soundness.proofs.Imports.{undefined_has_none, whole, ℕ, ℤ, ∥∥₁_elim, ◌%◌, ◌+◌, ◌<◌, ◌∙◌, ◌∷◌, ◌≡◌, ◌≢◌, ◌⊎◌}
-use Rattle.lemmas.proofs.Common.{Decides-int_eq, nat_cmp_total, on_total, then_total}
+use Rattle.lemmas.proofs.Common.{Decides-int_eq}
 use Rattle.circuit.proofs.Undefined.{stopped, undefined_is_one}
 use Rattle.module_box.specs.LocalValues.{IsFirstLocalGateWithoutRow}
-use Rattle.bbm_rule.proofs.CellOrder.{cell_total}
 use Rattle.certificate_lines.proofs.LineOrder.{In, flat_in}
 use Rattle.certificate.proofs.FullModules.{stands}
 use Rattle.module_job.specs.Jobs.{IsStopOf}
-use Rattle.local_run.specs.Order.{keep_cmp, kind_number}
+use Rattle.local_run.specs.Order.{keep_cmp}
 use Rattle.local_run.proofs.Leasts.{undefined_no_fault}
 use Rattle.border_match.proofs.FaultOrder.{border_total}
 use Rattle.soundness.proofs.SomeLeast.{Decided, HasOne, among_in, below_decided, bools_decided, both_decided}
@@ -26,18 +25,8 @@ use Rattle.soundness.proofs.SomeLeast.{some_decided, true_decided}
 use Rattle.soundness.proofs.SomeValues.{HasStop, HasValues, values_or_stop}
 use Rattle.module_job.specs.declared.job.Demand.TheVariants as Demanded
 use Rattle.module_job.specs.declared.job.Stop as listed
-use Rattle.local_run.proofs.Silence.{ring_in_box}
-
-fault_total : IsTotalOrder fault_cmp
-unfolding fault_cmp
-fault_total = then_total (on_total (λ (f : Fault). f.time) nat_cmp_total)
-    (then_total (on_total (λ (f : Fault). kind_number f.kind) nat_cmp_total)
-    (then_total (on_total (λ (f : Fault). f.cell) cell_total) (on_total (λ (f : Fault). f.assignment) nat_cmp_total)))
-
-keep_total : IsTotalOrder keep_cmp
-unfolding keep_cmp
-keep_total = then_total (on_total (λ (f : KeepFault). f.gate) nat_cmp_total)
-    (on_total (λ (f : KeepFault). f.assignment) nat_cmp_total)
+use Rattle.bbm_rule.proofs.RingTests.{ring_in_box}
+use Rattle.local_run.proofs.Least.{fault_total, keep_total}
 
 integers_decided : (a b : ℤ) → Decided (a ≡ b)
 integers_decided a b = decided_by (Decides-int_eq a b).0 (Decides-int_eq a b).1 (true_decided _)

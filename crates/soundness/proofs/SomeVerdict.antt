@@ -33,8 +33,8 @@ use Rattle.soundness.proofs.SomeJobs.{are_jobs_of, job_of}
 use Rattle.soundness.proofs.SomeLeast.{Decided, both_decided, true_decided}
 use denote.RawPtr.{null_ptr}
 use Rattle.pattern.proofs.Added.{no_code}
-use Rattle.pattern.proofs.ReadingLemmas.{no_code_first}
 use Rattle.lemmas.specs.Bounds.{max_gates, max_side, max_steps, max_wires}
+use Rattle.section_text.proofs.Codes.{no_code_first}
 
 -- ---- how many lines there are
 

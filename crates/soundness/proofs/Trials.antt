@@ -20,7 +20,7 @@ use Rattle.certificate_lines.specs.Rules.{is_inverse_gate}
 use Rattle.module_box.proofs.EqualTests.{signal_decides}
 use Rattle.soundness.proofs.SomeVerdict.{jobs_good}
 use Rattle.module_job.specs.declared.job.Demand.TheVariants as Demanded
-use Rattle.local_run.proofs.Silence.{ring_in_box}
+use Rattle.bbm_rule.proofs.RingTests.{ring_in_box}
 
 -- ---- what is demanded, as a test
 

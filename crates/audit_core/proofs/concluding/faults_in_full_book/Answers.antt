@@ -1,4 +1,4 @@
-use Rattle.lemmas.proofs.Common.{◌+◌, ◌<◌, ◌∙◌, ◌≡◌, None, Some, ap, arith, inl, inr, length, refl, subst, sym}
+use Rattle.lemmas.proofs.Common.{◌+◌, ◌∙◌, ◌≡◌, None, Some, ap, arith, inl, inr, length, refl, subst, sym}
 use Rattle.lemmas.proofs.Common.{arc_value, length-map, slice_get_cases}
 use Rattle.std.specs.Option.{option_copied}
 use Rattle.core_book.specs.Book.{found_in}

@@ -1,4 +1,4 @@
-use Rattle.lemmas.proofs.Common.{◌++◌, ◌==◌, ◌∙◌, ◌≡◌, List, ap, length, map, rules, subst, sym, true, and_from}
+use Rattle.lemmas.proofs.Common.{◌++◌, ◌==◌, ◌∙◌, ◌≡◌, List, ap, length, map, rules, sym, true, and_from}
 use Rattle.lemmas.proofs.Common.{and_parts, arc_value, refl}
 use Rattle.std.specs.Vec.{vec_len}
 use Rattle.module_job.specs.Jobs.{JobView}

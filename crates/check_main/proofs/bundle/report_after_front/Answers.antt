@@ -10,8 +10,9 @@ use Rattle.answers.specs.BundleText.{bundle_with}
 use Rattle.answers.proofs.Bundles.{bundle_answers, bundle_goes_on, bundle_read, certificate_failed, circuit_failed}
 use Rattle.answers.proofs.Bundles.{going_3, layout_failed, refusal_answers}
 use Rattle.check_main.specs.Preparing.{IsRest, IsSectionOf}
-use Rattle.check_main.proofs.SectionBytes.{IsReadFrom, section_bytes, section_is_rest, some_weaker, text_taken}
+use Rattle.check_main.proofs.SectionBytes.{IsReadFrom, section_is_rest, some_weaker, text_taken}
 use Rattle.check_main.proofs.bundle.report_after_front.Goals as goal
+use Rattle.answers.proofs.SectionLines.{section_bytes}
 
 pub returns-in-Err : goal.returns-in-Err
 returns-in-Err g c =
@@ -108,7 +109,7 @@ prepare-requires-clause-section g c =
     (read ∙ ap (λ (l : List ℕ). l ++ certificate_text cert) (sym c.taken_text-from.ensures)) in
     subst (λ (f : FeedView). IsSectionOf f (length c.taken_text-from.result.now) cert)
     (sym (c.in_default.ensures.ok going).2)
-    (record { within = bytes.0; bytes = bytes.1 })
+    (record { within = bytes.0; bytes = bytes.2 })
 
 -- so a digest that was taken beside is that of the section
 pub prepare-requires-clause-digest : goal.prepare-requires-clause-digest

@@ -1,5 +1,5 @@
 use Rattle.job_pool.proofs.Imports.{Counts, ap, arc_value, arith, job_of, length, length-map, map, refl, shape_of}
-use Rattle.job_pool.proofs.Imports.{shapes_of, subst, sym, value_at, ℕ, ◌+◌, ◌<◌, ◌∙◌, ◌≡◌, ◌≤◌}
+use Rattle.job_pool.proofs.Imports.{shapes_of, subst, sym, value_at, ◌+◌, ◌<◌, ◌≤◌}
 use Rattle.lemmas.proofs.Common.{slice_get_within, slice_index}
 use Rattle.job_pool.specs.Links.{IsNextMember}
 use Rattle.job_pool.proofs.Linking.{first_has_none_before, to_next}

@@ -1,8 +1,9 @@
 use Rattle.job_pool.proofs.Imports.{View, [], ap, arith, nat_tests, past_greatest, past_last, sym, ◌++◌, ◌+◌, ◌∙◌, ◌∷◌}
 use Rattle.job_pool.proofs.Imports.{◌≡◌, ◌≤◌}
-use Rattle.job_pool.proofs.Sums.{none_late, pushed, past_last-snoc}
+use Rattle.job_pool.proofs.Sums.{none_late, pushed}
 use Rattle.job_pool.proofs.Moves.{claims}
 use Rattle.job_pool.proofs.desk.Desk.claim.Goals as goal
+use Rattle.core_book.proofs.Counting.{past_last-push}
 
 pub fetch_add-found-requires : goal.fetch_add-found-requires
 fetch_add-found-requires c = let desk = c.args.self.now in let seat = c.args.seat.now in
@@ -42,6 +43,6 @@ pub returns-else-found-self-clause-answer : goal.returns-else-found-self-clause-
 returns-else-found-self-clause-answer c =
     let d = c.fetch_add-found.ensures.2 in
     let e = ap (λ (v : View). past_last v.draws) d.1 in
-    let f = past_last-snoc c.args.seat.now.seat.me.0.draws c.fetch_add-found.result in
+    let f = past_last-push c.args.seat.now.seat.me.0.draws c.fetch_add-found.result in
     let seen : c.fetch_add-found.new.seat.me.0.seen ≡ c.fetch_add-found.result + 1 = ap (λ (v : View). v.seen) d.1 in
     omega arith

@@ -1,15 +1,15 @@
 use Rattle.job_pool.proofs.Imports.{All, ap, arc_value, arith, drawn_by, length, length-map, map, occurrences}
 use Rattle.job_pool.proofs.Imports.{past_last, rules, shape_of, shapes_of, subst, sym, ◌+◌, ◌<◌, ◌∙◌, ◌≡◌}
-use Rattle.job_pool.proofs.Sums.{past_last-snoc}
 use Rattle.job_pool.proofs.Members.{due_more, groups_below}
 use Rattle.job_pool.proofs.Filed.{empty_adds_none}
 use Rattle.job_pool.proofs.Risen.{risen_on}
 use Rattle.job_pool.proofs.worker.Worker.run.Goals as goal
+use Rattle.core_book.proofs.Counting.{past_last-push}
 
 pub loop-number-smaller : goal.loop-number-smaller
 loop-number-smaller g c = let before = c.loop-number.self.seat in let after = c.claim.new.seat in let a =
     c.in-Number.ensures.answer in
-    let s = past_last-snoc before.seat.me.0.draws c.in-Number.number in
+    let s = past_last-push before.seat.me.0.draws c.in-Number.number in
     let e = ap past_last (sym after.same ∙ a.2) in
     omega arith
 

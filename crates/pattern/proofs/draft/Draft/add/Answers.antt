@@ -1,6 +1,6 @@
 -- The grids hold the cells that are taken, those of the line among them.
 use Rattle.pattern.proofs.Imports.{LayoutHeader, Pattern, ap, cell_fault, cells_of, in_cells, live, parts_of, refl}
-use Rattle.pattern.proofs.Imports.{size_fault, sym, ◌&&◌, ◌||◌, ◌∙◌}
+use Rattle.pattern.proofs.Imports.{sym, ◌&&◌, ◌||◌, ◌∙◌}
 use Rattle.pattern.proofs.TakenLemmas.{begun_more, ended_more, faultless_is_inside, lies_on}
 use Rattle.pattern.proofs.draft.Draft.add.Goals as goal
 

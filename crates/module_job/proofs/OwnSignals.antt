@@ -1,9 +1,13 @@
 -- A wire that the signals of a job name is one of its own, at each cell and time
-use Rattle.border_match.proofs.Imports.{All, All-head, All-tail, AllTimesSignal, JobView, List, Signal, Signals}
-use Rattle.border_match.proofs.Imports.{TimedSignal, Zero, [], all_times_at, cases_Bool, event_at, inl, inr, is_at}
-use Rattle.border_match.proofs.Imports.{is_moment_at, signal_at, unwrap_or, ℕ, ℤ, ◌∷◌}
+use Rattle.lemmas.proofs.Common.{All, All-head, All-tail, List, [], cases_Bool, inl, inr, unwrap_or, ℕ, ℤ, ◌∷◌}
+use Rattle.bbm_rule.specs.Plane.{is_at}
+use Rattle.module_box.specs.Schedules.{Signals, all_times_at, event_at, is_moment_at, signal_at}
+use Rattle.module_box.specs.declared.schedules.AllTimesSignal.{AllTimesSignal}
+use Rattle.module_box.specs.declared.schedules.Signal.{Signal}
+use Rattle.module_box.specs.declared.schedules.Signal.TheVariants.{Zero}
+use Rattle.module_box.specs.declared.schedules.TimedSignal.{TimedSignal}
 use Rattle.circuit.specs.Meaning.{wires}
-use Rattle.module_job.specs.Jobs.{NamesOwnWires}
+use Rattle.module_job.specs.Jobs.{JobView, NamesOwnWires}
 use Rattle.module_job.specs.Signals.{IsSignalWireBelow}
 
 all_times_below : (n : ℕ) (hs : List AllTimesSignal) (x y : ℤ) (d : Signal) →
