@@ -4,7 +4,7 @@ from dataclasses import dataclass, field
 
 from bbmlab_core.certify.certifier import CertificatePlan, certified, grid_boxes
 from bbmlab_core.route.balls import Ball, Mirror, Run, block_cells, mirror_cells, run_exactly, start_state
-from bbmlab_core.texts.certificates import MAX_BOX_SIDE, Module
+from bbmlab_core.texts.certificates import MAX_BOX_SIDE, Module, line_words, local_wires
 from bbmlab_core.texts.circuits import Circuit, evaluate
 from bbmlab_core.texts.documents import read_document
 from bbmlab_core.texts.gates import Table
@@ -149,7 +149,7 @@ def with_stops(bundle: str, stops: list[tuple[int, str, Cell]]) -> str:
             continue
         end = next(number for number in range(module.line, len(lines)) if lines[number].startswith("module ")
                    or lines[number] == "end")
-        cuts, uses = circuit.cone(sorted({*module.local, *(name for _, _, _, name in own)}))
+        cuts, uses = circuit.cone(sorted({*local_wires(circuit, module), *(name for _, _, _, name in own)}))
         lines[module.line:end] = [*(f"cut {name}" for name in cuts), *(f"use {number}" for number in uses),
                                   *other_lines(module),
                                   *(f"stop {time} {name} {x} {y}" for time, y, x, name in own)]
@@ -158,4 +158,4 @@ def with_stops(bundle: str, stops: list[tuple[int, str, Cell]]) -> str:
 
 def other_lines(module: Module) -> list[str]:
     """Returns the lines of a module between its `use` lines and its stops."""
-    return [*(f"keep {number}" for number in sorted(module.keeps)), *(str(line) for line in module.edges)]
+    return [*(f"keep {number}" for number in module.keeps), *(line_words("edge", line) for line in module.edges)]

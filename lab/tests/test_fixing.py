@@ -21,9 +21,8 @@ from bbmlab_core.physics.mirrors import stays
 from bbmlab_core.physics.own_report import own_report
 from bbmlab_core.texts.skimming import certificate_digest
 from bbmlab_core.physics.simulation import Field, key_of
-from bbmlab_core.texts.boxes import Box
-from bbmlab_core.texts.certificates import BorderLine, Module
-from bbmlab_core.texts.layouts import Layout, Part
+from bbmlab_core.texts.certificates import Border, Module
+from bbmlab_core.texts.layouts import Box, Layout, Part
 from bbmlab_core.texts.reports import ReportError, parse_report
 from measure_fixes import right_texts, rounds_to_yes
 from mutations import FAMILIES, mutants
@@ -94,19 +93,19 @@ class DeletedLines(unittest.TestCase):
         """The wire of the line about the cell at the nearest time comes first, then those that most modules know, then
         that of a line next to it."""
         tables, layout = {"p": 5, "d": 5, "e": 5, "z": 3}, Layout(32, 32, 100)
-        knowing = [Module(number, Box(8 * number, 0, 8, 8), 1, local=dict.fromkeys(names, 1)) for number,
-                   names in enumerate(("p", "pe", "pe"))]
+        knowing = [Module(Box(8 * number, 0, 8, 8), tuple(names)) for number, names in enumerate(("p", "pe", "pe"))]
         for lines, modules, wanted in (([(8, 3, 41, "e"), (8, 3, 61, "p"), (9, 4, 49, "d")], [], "epd"),
                                        ([(8, 3, 41, "p"), (8, 3, 53, "e")], [], "epd"),
                                        ([(9, 4, 49, "d")], knowing, "ped"),
                                        ([(9, 4, 49, "d"), (7, 2, 47, "e"), (12, 3, 49, "p")], [], "dep"),
                                        ([], [], "pde")):
             check = BorderCheck.__new__(BorderCheck)
-            at: dict[tuple[int, int], list[tuple[Module, BorderLine]]] = {}
+            at: dict[tuple[int, int], list[tuple[Module, Border]]] = {}
             for x, y, time, name in lines:
-                at.setdefault((x, y), []).append((knowing[0], BorderLine("edge", time, x, y, name, 1)))
+                at.setdefault((x, y), []).append((knowing[0], Border(time, x, y, name)))
             check.__dict__.update(lines_at=at, layout=layout,
-                                  diagnosis=SimpleNamespace(values=SimpleNamespace(tables=tables)))
+                                  diagnosis=SimpleNamespace(values=SimpleNamespace(tables=tables),
+                                                            local=lambda module: module.cuts))
             self.assertEqual("".join(check.likely_wires(5, modules, (8, 3), 49)), wanted, lines)
 
     def test_first_edit(self) -> None:
@@ -138,7 +137,7 @@ class Mirrors(unittest.TestCase):
             for y in (4, 5):
                 for width in range(1, 6):
                     for height in range(1, 6):
-                        part = Part("mirror", None, x, y, width, height, 1)
+                        part = Part("mirror", None, x, y, width, height)
                         start = {key_of(cell): 1 for cell in part.cells()}
                         field = Field(start)
                         kept = []

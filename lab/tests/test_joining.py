@@ -82,7 +82,7 @@ def gate_lines(circuit: Circuit, renamed: Callable[[str], str]) -> list[str]:
     lines = []
     for gate in circuit.gates:
         parameter = [] if gate.parameter is None else [str(gate.parameter)]
-        lines.append(" ".join([gate.word, *parameter, *map(renamed, gate.ins), "->", *map(renamed, gate.outs)]))
+        lines.append(" ".join([gate.kind, *parameter, *map(renamed, gate.ins), "->", *map(renamed, gate.outs)]))
     return lines
 
 

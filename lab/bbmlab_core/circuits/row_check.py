@@ -39,6 +39,6 @@ def row_words(values: Valuation, gate: Gate, column: int) -> str:
     on = values.names_of(column)
     more = f" and {len(on) - MAX_NAMED} more" if len(on) > MAX_NAMED else ""
     inputs = f"with {' '.join(on[:MAX_NAMED])}{more} on" if on else "with no input on"
-    return (f"gate {gate.number} (`{gate.word}`, line {gate.line}) has no row for {given}, which it gets {inputs}: the "
+    return (f"gate {gate.number} (`{gate.kind}`, line {gate.line}) has no row for {given}, which it gets {inputs}: the "
             "circuit has no values "
             "there, so no layout computes it")

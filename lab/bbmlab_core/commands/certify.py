@@ -6,10 +6,9 @@ import sys
 from ..certify.certifier import CertificatePlan, certified, checked_boxes
 from ..host.program import ProgramError, ProgramTimeout, ask, find_program
 from ..host.terminal import LabError, escape_controls, read_text, write_text
-from ..texts.boxes import Box
 from ..texts.certificates import MAX_BOX_SIDE
 from ..texts.documents import Document, read_document
-from ..texts.layouts import Layout
+from ..texts.layouts import Box, Layout
 from ..texts.refusals import refusal_words
 
 

@@ -12,7 +12,7 @@ from typing import Callable
 
 from ..host.processor import processor_seconds
 from ..physics.simulation import Fault, Field, ModuleRun, Table, WholeRun, cell_of, end_tables, key_of, lowest_bit
-from ..texts.certificates import Module
+from ..texts.certificates import Module, local_wires
 from ..texts.circuits import Circuit, Valuation, evaluate, evaluate_samples
 from ..texts.documents import Document
 from ..texts.layouts import Cell, Layout, row_order
@@ -135,8 +135,15 @@ class Diagnosis:
         # Whether a run of the whole layout took too long.
         self.is_slow = False
         self._fields: dict[int, Field | None] = {}
+        self._local: dict[int, dict[str, None]] = {}
         # The lines whose causes are looked for by runs; None stands for all.
         self.detailed: set[str] | None = None
+
+    def local(self, module: Module) -> dict[str, None]:
+        """Returns the wires that a module knows, as a set in order."""
+        if module.number not in self._local:
+            self._local[module.number] = local_wires(self.circuit, module)
+        return self._local[module.number]
 
     @cached_property
     def values(self) -> Valuation:

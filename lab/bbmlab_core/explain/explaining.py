@@ -6,7 +6,7 @@ from dataclasses import asdict, dataclass, field, replace
 
 from ..host.terminal import escape_controls
 from ..physics.mirrors import falling_mirrors
-from ..texts.certificates import Certificate, StopLine
+from ..texts.certificates import Certificate, Module, Stop, line_words
 from ..texts.circuits import Circuit
 from ..texts.code_names import CODE_NAMES
 from ..texts.designs import require_report_of
@@ -64,10 +64,10 @@ class Explanation:
     fixed: str | None = None
 
 
-def stops_of(diagnosis: Diagnosis, wire: str) -> list[StopLine]:
-    """Returns the stops of a wire in all modules, in order of time."""
-    found = [stop for module in diagnosis.certificate.modules for stop in module.stops if stop.name == wire]
-    return sorted(found, key=lambda stop: stop.place)
+def stops_of(diagnosis: Diagnosis, wire: str) -> list[tuple[Module, Stop]]:
+    """Returns the stops of a wire with their modules, in order of time."""
+    found = [(module, stop) for module in diagnosis.certificate.modules for stop in module.stops if stop.name == wire]
+    return sorted(found, key=lambda pair: pair[1].place)
 
 
 def stop_words(diagnosis: Diagnosis, wire: str, which: int) -> str:
@@ -76,7 +76,8 @@ def stop_words(diagnosis: Diagnosis, wire: str, which: int) -> str:
     if not stops:
         return f"`{wire}` has no stop"
     name = "first" if which == 0 else "last"
-    return f"the {name} stop of `{wire}` is line {stops[which].line} (`{stops[which]}`)"
+    module, stop = stops[which]
+    return f"the {name} stop of `{wire}` is line {module.line_number('stop', stop)} (`{line_words('stop', stop)}`)"
 
 
 def explain_delay(diagnosis: Diagnosis, finding: Finding) -> Entry:
@@ -103,12 +104,13 @@ def explain_delay(diagnosis: Diagnosis, finding: Finding) -> Entry:
 def explain_meet(diagnosis: Diagnosis, finding: Finding) -> Entry:
     """Returns a `meet` line in words."""
     gate = diagnosis.circuit.gates[finding.number("gate")]
-    seen = [(wire, stops_of(diagnosis, wire)[-1]) for wire in gate.ins if stops_of(diagnosis, wire)]
-    told = ", ".join(f"`{wire}` at time {stop.time} (line {stop.line})" for wire, stop in seen)
-    entry = Entry(finding.text, finding.is_against, [f"Inputs of gate {gate.number} (`{gate.word}`, line {gate.line}) "
+    last = [stops_of(diagnosis, wire)[-1] for wire in gate.ins if stops_of(diagnosis, wire)]
+    seen = [(stop, module.line_number("stop", stop)) for module, stop in last]
+    told = ", ".join(f"`{stop.name}` at time {stop.time} (line {line})" for stop, line in seen)
+    entry = Entry(finding.text, finding.is_against, [f"Inputs of gate {gate.number} (`{gate.kind}`, line {gate.line}) "
                                                      f"have their last stops: {told}."],
-                  line=seen[0][1].line if seen else None,
-                  facts={"gate": gate.number, "last_stops": {wire: stop.time for wire, stop in seen}})
+                  line=seen[0][1] if seen else None,
+                  facts={"gate": gate.number, "last_stops": {stop.name: stop.time for stop, _ in seen}})
     if not finding.is_against:
         entry.what.append(f"So they meet at time {finding.values['found']}.")
         return entry
@@ -121,7 +123,7 @@ def explain_unkept(diagnosis: Diagnosis, finding: Finding) -> Entry:
     gate = diagnosis.circuit.gates[finding.number("gate")]
     users = [module.number for module in diagnosis.certificate.modules if gate.number in module.uses]
     entry = Entry(finding.text, True, [f"No module has a line `keep {gate.number}` for the inverse gate {gate.number} "
-                                       f"(`{gate.word}`, line {gate.line})."],
+                                       f"(`{gate.kind}`, line {gate.line})."],
                   line=gate.line, cause="unkept", facts={"gate": gate.number, "modules_that_use_it": users})
     used = f"Modules that use it: {', '.join(map(str, users))}." if users else "No module uses it."
     entry.what.append(used)
@@ -243,7 +245,7 @@ def whole_run_words(diagnosis: Diagnosis, faults: list[Finding]) -> list[str]:
 def missing_certificate_words(document: Document) -> list[str]:
     """Returns whether a certificate would help a design that has none: the whole run shows it, whatever certificate
     there is."""
-    design = replace(document, certificate=Certificate(2, []))
+    design = replace(document, certificate=Certificate())
     if design.circuit is None or design.layout is None or document.certificate and document.certificate.modules:
         return []
     outcome = Diagnosis(design).outcome
@@ -294,7 +296,7 @@ def undefined_gate(circuit: Circuit, output: str) -> int | None:
     A wire can have the name `undefined` too.
     """
     lines = output.splitlines()
-    is_gate = bool(lines) and lines[-1].startswith("undefined ") and len(lines) < len(circuit.defined)
+    is_gate = bool(lines) and lines[-1].startswith("undefined ") and len(lines) < len(circuit.wires)
     return int(lines[-1].split(" ")[1]) if is_gate else None
 
 
@@ -307,7 +309,7 @@ def explain_value(document: Document, output: str, file: str) -> Explanation:
     headline = [f"With {listed(document.on or []) or 'none of the inputs'} on, these wires are true: {true}."]
     if number is not None:
         gate = document.circuit.gates[number]
-        headline.append(f"Gate {gate.number} (`{gate.word}`, line {gate.line}) has no row for "
+        headline.append(f"Gate {gate.number} (`{gate.kind}`, line {gate.line}) has no row for "
                         f"{assignment_words({n: int(values[n]) for n in gate.ins})}: "
                         "the gate that it turns back never gives these values.")
     return Explanation(file, "value", headline, "values" if number is None else "undefined")

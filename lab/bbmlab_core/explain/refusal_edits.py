@@ -3,6 +3,7 @@
 import difflib
 from typing import Any, Callable, Iterable, Iterator
 
+from ..texts.certificates import Module, local_wires
 from ..texts.circuits import Circuit
 from ..texts.documents import Document
 from ..texts.limits import FIRST, LINE
@@ -73,13 +74,12 @@ def consumed_edits(_document: Document, number: int, facts: dict[str, Any]) -> I
     yield tuple(add(number - 1, f"spill {name}") for name in facts["names"])
 
 
-def local_edits(lines: list[str], circuit: Circuit, first: int, local: Iterable[str], name: str) -> Iterator[Edit]:
+def local_edits(lines: list[str], circuit: Circuit, module: Module, name: str) -> Iterator[Edit]:
     """Yields lines by which a module comes to know a wire: the gate that makes it, if the module knows what it uses,
     and a cut."""
-    gate = circuit.maker.get(name)
-    for text in ([f"use {gate.number}"] if gate and all(wire in set(local) for wire in gate.ins)
-                 else []) + [f"cut {name}"]:
-        yield add(place_in_module(lines, first, text), text)
+    gate, local = circuit.maker.get(name), local_wires(circuit, module)
+    for text in ([f"use {gate.number}"] if gate and all(wire in local for wire in gate.ins) else []) + [f"cut {name}"]:
+        yield add(place_in_module(lines, module.line, text), text)
 
 
 def module_line(document: Document, number: int) -> int:
@@ -93,11 +93,11 @@ def unknown_wire_edits(document: Document, number: int, facts: dict[str, Any]) -
     assert document.circuit and document.certificate
     lines, module = document.text.split("\n"), document.certificate.modules[facts["module"]]
     for name in [facts["name"]] if "name" in facts else facts["names"]:
-        for edit in local_edits(lines, document.circuit, module.line, module.local, name):
+        for edit in local_edits(lines, document.circuit, module, name):
             yield (edit,)
         gate = document.circuit.maker.get(name)
         if gate:
-            missing = [wire for wire in gate.ins if wire not in module.local]
+            missing = [wire for wire in gate.ins if wire not in local_wires(document.circuit, module)]
             new = [f"cut {wire}" for wire in missing] + [f"use {gate.number}"]
             yield tuple(add(place_in_module(lines, module.line, text), text) for text in new)
     yield (delete(number),)
@@ -117,7 +117,7 @@ def port_edits(document: Document, _number: int, facts: dict[str, Any]) -> Itera
     assert document.certificate and document.circuit
     lines, module = document.text.split("\n"), document.certificate.modules[facts["module"]]
     names = list(dict.fromkeys(port.name for port in facts["ports"]))
-    choices = [list(local_edits(lines, document.circuit, module.line, module.local, name)) for name in names]
+    choices = [list(local_edits(lines, document.circuit, module, name)) for name in names]
     yield tuple(dict.fromkeys(choice[0] for choice in choices))
     yield tuple(dict.fromkeys(choice[-1] for choice in choices))
 
@@ -127,13 +127,12 @@ def heard_edits(document: Document, _number: int, facts: dict[str, Any]) -> Iter
     lines."""
     assert document.certificate and document.circuit
     lines = document.text.split("\n")
-    wanted = dict.fromkeys((number, line.signal) for number, line, _ in facts["missing"])
+    wanted = dict.fromkeys((number, line.signal) for number, line, _, _ in facts["missing"])
     modules = document.certificate.modules
-    choices = [list(local_edits(lines, document.circuit, modules[number].line, modules[number].local, name)) for number,
-               name in wanted]
+    choices = [list(local_edits(lines, document.circuit, modules[number], name)) for number, name in wanted]
     yield tuple(dict.fromkeys(choice[0] for choice in choices))
     yield tuple(dict.fromkeys(choice[-1] for choice in choices))
-    yield tuple(dict.fromkeys(delete(line.line) for _, line, _ in facts["missing"]))
+    yield tuple(dict.fromkeys(delete(at) for *_, at in facts["missing"]))
 
 
 def name_edits(document: Document, number: int, facts: dict[str, Any]) -> Iterator[Edits]:
@@ -174,7 +173,9 @@ def place_edits(document: Document, number: int, facts: dict[str, Any]) -> Itera
 def consumer_edits(document: Document, number: int, facts: dict[str, Any]) -> Iterator[Edits]:
     """Yields the line with wires that nothing consumes in the place of one that is consumed already."""
     assert document.circuit
-    free = [name for name in document.circuit.defined if name not in document.circuit.consumed]
+    circuit = document.circuit
+    consumed = {*circuit.outputs, *circuit.spills, *(name for gate in circuit.gates for name in gate.ins)}
+    free = [name for name in circuit.wires if name not in consumed]
     yield from name_edits(document, number, {"name": facts["name"], "known": free})
 
 

@@ -30,7 +30,7 @@ def keep_lines(circuit: Circuit, module: Module) -> Iterator[str]:
     """Yields the least keep fault of a module."""
     values = local_values(circuit, module)
     before = values.full
-    for number in sorted(module.uses):
+    for number in module.uses:
         missing = before & ~values.rows[number]
         if number in module.keeps and missing:
             yield f"keep {module.number} {number} {lowest_bit(missing)}"
@@ -63,7 +63,7 @@ def gate_lines(circuit: Circuit, certificate: Certificate) -> Iterator[str]:
     times: dict[str, list[int]] = {}
     for stop in (stop for module in certificate.modules for stop in module.stops):
         times.setdefault(stop.name, []).append(stop.time)
-    for gate in (gate for gate in circuit.gates if gate.word == "delay"):
+    for gate in (gate for gate in circuit.gates if gate.kind == "delay"):
         used, made = times.get(gate.ins[0]), times.get(gate.outs[0])
         found = "missing" if not used or not made else "before" if min(made) < max(used) else str(min(made) - max(used))
         yield f"delay {gate.number} {gate.parameter} {found}"

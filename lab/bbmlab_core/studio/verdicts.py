@@ -4,9 +4,9 @@ Only the program gives a verdict. The lab makes the certificates, the words and 
 """
 
 from dataclasses import dataclass, field
-from typing import Any
+from typing import Any, Sequence
 
-from ..certify.certifier import CertificatePlan, certificate_text, certified
+from ..certify.certifier import CertificatePlan, certified
 from ..explain.diagnosis import Diagnosis, Truth
 from ..explain.explaining import explain_report, tried_words
 from ..explain.fixing import Fix, Fixer, outcome_words
@@ -14,11 +14,10 @@ from ..explain.trials import Budget, Trial
 from ..host.processor import processor_seconds
 from ..host.program import Answer, Executable, ProgramError, ProgramTimeout, ask
 from ..host.terminal import LabError
-from ..texts.boxes import Box
 from ..texts.certificates import MAX_BOX_SIDE, MAX_CUTS, MAX_USES, Certificate, Module
 from ..texts.circuits import Circuit, values_under
 from ..texts.documents import Document, read_document
-from ..texts.layouts import Cell, Layout
+from ..texts.layouts import Box, Cell, Layout
 from ..texts.refusals import explain_code, explain_refusal
 from ..texts.reports import Finding, Report, ReportError, parse_report
 from ..texts.skimming import cuts_of, head_of
@@ -66,7 +65,7 @@ class Judge:
         self.text = spelled(text).text
         self.head = head_of(self.text)
         self.until = processor_seconds() + seconds
-        self.inputs: list[str] = []
+        self.inputs: Sequence[str] = ()
 
     def ask(self, bundle: str) -> Answer:
         """Returns what the program answers to a bundle."""
@@ -119,7 +118,7 @@ class Judge:
         circuit, layout = design.circuit, design.layout
         if circuit is None or layout is None:
             return None
-        choices: list[tuple[str, list[str]]] = [("all inputs", circuit.inputs), ("no input", [])]
+        choices: list[tuple[str, Sequence[str]]] = [("all inputs", circuit.inputs), ("no input", [])]
         for words, on in choices:
             lines = [self.head[self.head.find("\nlayout ") + 1:].rstrip("\n"), "assign", *(f"on {name}" for name in on),
                      "end", ""]
@@ -137,7 +136,7 @@ class Judge:
     def made(self, first: Verdict) -> Verdict:
         """Returns the verdict with a certificate that the lab makes, or the first no if it makes none."""
         design = read_document(self.head, "design")
-        self.inputs = design.circuit.inputs if design.circuit else []
+        self.inputs = design.circuit.inputs if design.circuit else ()
         made = self.certified(design)
         if made.verdict == "none" and first.verdict == "no":
             first.words += [NO_OTHER_FOUND[first.by], *made.words]
@@ -204,7 +203,7 @@ def wrong_cell(circuit: Circuit, layout: Layout, on: set[str], live: set[Cell]) 
 
 def has_delay(circuit: Circuit) -> bool:
     """Whether a circuit has a gate whose steps only stops can show."""
-    return any(gate.word == "delay" for gate in circuit.gates)
+    return any(gate.kind == "delay" for gate in circuit.gates)
 
 
 def plain_certificate(circuit: Circuit, layout: Layout) -> str | None:
@@ -216,13 +215,12 @@ def plain_certificate(circuit: Circuit, layout: Layout) -> str | None:
     if max(layout.width,
            layout.height) > MAX_BOX_SIDE or len(circuit.inputs) > MAX_CUTS or len(circuit.gates) > MAX_USES:
         return None
-    module = Module(0, Box(0, 0, layout.width, layout.height), 0)
-    module.cuts, module.uses = list(circuit.inputs), {gate.number: 0 for gate in circuit.gates}
-    module.keeps = {gate.number: 0 for gate in circuit.gates if gate.is_inverse}
-    return certificate_text(Certificate(2, [module]))
+    keeps = tuple(gate.number for gate in circuit.gates if gate.is_inverse)
+    module = Module(Box(0, 0, layout.width, layout.height), circuit.inputs, tuple(range(len(circuit.gates))), keeps)
+    return str(Certificate(2, (module,)))
 
 
-def fault_form(cuts: list[list[str]], inputs: list[str], finding: Finding) -> dict[str, Any]:
+def fault_form(cuts: list[list[str]], inputs: Sequence[str], finding: Finding) -> dict[str, Any]:
     """Returns a line of a report for the page: its words, its cell and time, and the inputs that are on if the module
     cuts inputs alone."""
     form: dict[str, Any] = {"text": finding.text}

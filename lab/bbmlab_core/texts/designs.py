@@ -77,7 +77,7 @@ def is_of(document: Document, finding: Finding) -> bool:
     gate = circuit.gates[values["gate"]]
     if finding.word == "meet":
         return any(stop.name in gate.ins for module in certificate.modules for stop in module.stops)
-    return gate.word == "delay" if finding.word == "delay" else gate.is_inverse
+    return gate.kind == "delay" if finding.word == "delay" else gate.is_inverse
 
 
 def is_of_module(document: Document, finding: Finding, values: dict[str, int]) -> bool:

@@ -22,29 +22,22 @@ written_text = json.JSONEncoder().encode
 
 def circuit_json(circuit: Circuit) -> dict[str, Any]:
     """Returns a circuit as JSON values."""
-    gates = [{"gate": gate.word, "parameter": gate.parameter, "ins": gate.ins, "outs": gate.outs}
+    gates = [{"gate": gate.kind, "parameter": gate.parameter, "ins": gate.ins, "outs": gate.outs}
              for gate in circuit.gates]
     return {"inputs": circuit.inputs, "gates": gates, "outputs": circuit.outputs, "spills": circuit.spills}
 
 
 def layout_json(layout: Layout) -> dict[str, Any]:
     """Returns a layout as JSON values."""
-    return {"width": layout.width, "height": layout.height, "steps": layout.steps,
-            "mirrors": [[part.x, part.y, part.width, part.height] for part in layout.of_kind("mirror")],
-            "balls": [list(part.cell) for part in layout.of_kind("ball")],
-            "ins": [{"name": part.name, "cell": list(part.cell)} for part in layout.of_kind("in")],
-            "outs": [{"name": part.name, "cell": list(part.cell)} for part in layout.of_kind("out")],
-            "wastes": [list(part.cell) for part in layout.of_kind("waste")]}
+    ins, outs = ([{"name": port.name, "cell": port.cell} for port in ports] for ports in (layout.ins, layout.outs))
+    return {"width": layout.width, "height": layout.height, "steps": layout.steps, "mirrors": layout.mirrors,
+            "balls": layout.balls, "ins": ins, "outs": outs, "wastes": layout.wastes}
 
 
 def module_json(module: Module) -> dict[str, Any]:
     """Returns a module as JSON values. The time `*` is null."""
-    box = module.box
-    return {"box": list(box), "cuts": module.cuts, "uses": list(module.uses),
-            "keeps": list(module.keeps),
-            "edges": [[line.time, line.x, line.y, line.signal] for line in module.edges],
-            "halos": [[line.time, line.x, line.y, line.signal] for line in module.halos],
-            "stops": [[stop.time, stop.name, stop.x, stop.y] for stop in module.stops]}
+    return {"box": module.box, "cuts": module.cuts, "uses": module.uses, "keeps": module.keeps, "edges": module.edges,
+            "halos": module.halos, "stops": module.stops}
 
 
 def report_json(report: Report) -> dict[str, Any]:
@@ -89,7 +82,7 @@ def indented(value: Any, begin: str) -> str:
         return str(value)
     if kind is str:
         return written_text(value)
-    if kind is list and value:
+    if value and isinstance(value, (tuple, list)):
         members = f",{inner}".join([str(member) if type(member) is int else indented(member, inner)
                                     for member in value])
         return f"[{inner}{members}{begin}]"

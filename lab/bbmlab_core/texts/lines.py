@@ -113,6 +113,11 @@ def match_form(words: list[str], forms: dict[str, Form]) -> tuple[str, Values] |
     return match_line(" ".join(words), forms)
 
 
+def section_text(lines: Iterable[str]) -> str:
+    """Returns the text of a section, without its `end`."""
+    return "".join(f"{line}\n" for line in [*lines, "end"])
+
+
 class Lines:
     """The lines of a text, taken one by one and counted from 1. A first line `limits 2` is taken already."""
 

@@ -4,8 +4,9 @@ hint.
 
 import difflib
 from dataclasses import dataclass, field
-from typing import Any, Callable
+from typing import Any, Callable, Sequence
 
+from .certificates import line_words
 from .documents import Document
 from .limits import needs_line
 from .lines import Refusal
@@ -53,7 +54,7 @@ def tells(cause: str) -> Callable[[Teller], Teller]:
     return register
 
 
-def listed(names: list[str], most: int = 8) -> str:
+def listed(names: Sequence[str], most: int = 8) -> str:
     """Returns names in backticks with commas, at most `most` of them."""
     shown = ", ".join(f"`{name}`" for name in names[:most])
     return shown + (f" and {len(names) - most} more" if len(names) > most else "")
@@ -150,7 +151,7 @@ def _gate_not_rising(facts: Facts) -> Explained:
 @tells("border_not_rising")
 def _border_not_rising(facts: Facts) -> Explained:
     """Explains an `edge`, `halo` or `stop` line that is out of order."""
-    new, last = facts["new"], facts["last"]
+    kind, new, last = facts["kind"], facts["new"], facts["last"]
     if new.place == last.place:
         what, hint = "names the same time and cell as", "Keep one of the two lines."
     elif new.place[0] == -1:
@@ -159,8 +160,8 @@ def _border_not_rising(facts: Facts) -> Explained:
     else:
         part = next(name for name, a, b in zip(("time", "y", "x"), new.place, last.place) if a != b)
         what, hint = f"has a smaller {part} than", "Sort by time, then y, then x. `bbmlab fmt` does."
-    return Explained([f"`{new}` {what} the line before it in the list, `{last}` (line {last.line})."], [hint],
-                     lines=[last.line])
+    return Explained([f"`{line_words(kind, new)}` {what} the line before it in the list, `{line_words(kind, last)}` "
+                      f"(line {facts['at']})."], [hint], lines=[facts["at"]])
 
 
 # ---- code 11
@@ -208,7 +209,7 @@ def make_local(name: str, gate: Any) -> str:
         return f"Add `cut {name}` to the module."
     if not gate.ins:
         return f"Add `use {gate.number}` to the module: that source makes `{name}`."
-    return (f"Add `use {gate.number}` to the module: that {gate.word} makes `{name}` from {listed(gate.ins)}, which "
+    return (f"Add `use {gate.number}` to the module: that {gate.kind} makes `{name}` from {listed(gate.ins)}, which "
             "the module then knows too. "
             f"Or add `cut {name}` if the module lies away from that gate.")
 
@@ -239,15 +240,14 @@ def _gap(facts: Facts) -> Explained:
 def _heard_not_local(facts: Facts) -> Explained:
     """Explains an edge line beside a module that does not know its wire."""
     missing = facts["missing"]
-    what = [f"Module {module} does not know the wire `{line.signal}`: line {line.line} (`{line}`, of module {other}) "
-            "speaks of a cell "
-            f"beside its box." for module, line, other in missing[:4]]
+    what = [f"Module {module} does not know the wire `{line.signal}`: line {at} (`{line_words('edge', line)}`, of "
+            f"module {other}) speaks of a cell beside its box." for module, line, other, at in missing[:4]]
     more = [f"There are {len(missing) - 4} more lines of that kind."] if len(missing) > 4 else []
-    hints = [f"Add `cut {line.signal}` to module {module}, or `use` the gate that makes it." for module, line,
-             _ in missing[:4]]
+    hints = [f"Add `cut {line.signal}` to module {module}, or `use` the gate that makes it."
+             for module, line, _, _ in missing[:4]]
     return Explained(what + more, list(dict.fromkeys(hints)),
-                     names=list(dict.fromkeys(line.signal for _, line, _ in missing)),
-                     lines=[line.line for _, line, _ in missing])
+                     names=list(dict.fromkeys(line.signal for _, line, _, _ in missing)),
+                     lines=[at for *_, at in missing])
 
 
 # ---- code 2
@@ -391,7 +391,7 @@ def _keep_not_inverse(facts: Facts) -> Explained:
     """Explains a `keep` line for a gate that is no inverse gate."""
     gate, inverse = facts["gate"], facts["inverse"]
     has = f"Its inverse gates are {', '.join(map(str, inverse))}." if inverse else "The circuit has no inverse gate."
-    return Explained([f"Gate {facts['number']} is `{gate.word}` (line {gate.line}), which is no inverse gate. {has}"],
+    return Explained([f"Gate {facts['number']} is `{gate.kind}` (line {gate.line}), which is no inverse gate. {has}"],
                      ["Remove the line, or give the number of an `unswitch` or `uninteract`."],
                      names=[str(facts["number"])], lines=[gate.line])
 
@@ -452,7 +452,7 @@ def _cut_twice(facts: Facts) -> Explained:
 def _use_output_local(facts: Facts) -> Explained:
     """Explains a gate whose output is local already."""
     gate, names = facts["gate"], facts["names"]
-    return Explained([f"Gate {gate.number} (`{gate.word}`, line {gate.line}) makes {listed(names)}, which module "
+    return Explained([f"Gate {gate.number} (`{gate.kind}`, line {gate.line}) makes {listed(names)}, which module "
                       f"{facts['module']} "
                       f"cuts already (line {facts['at'][0]})."],
                      [f"Remove `cut {names[0]}`: a wire is cut, or made by a used gate, and not both."], names=names,
@@ -514,7 +514,7 @@ def _use_input_not_local(facts: Facts) -> Explained:
     """Explains a gate whose input is not local."""
     gate, names = facts["gate"], facts["names"]
     is_are = "are" if len(names) > 1 else "is"
-    return Explained([f"Gate {gate.number} (`{gate.word}`, line {gate.line}) uses {listed(names)}, which {is_are} not "
+    return Explained([f"Gate {gate.number} (`{gate.kind}`, line {gate.line}) uses {listed(names)}, which {is_are} not "
                       "local in module "
                       f"{facts['module']}."],
                      [f"Add `cut {names[0]}`, or `use` the gate that makes `{names[0]}`, before this line."],
@@ -534,7 +534,7 @@ def _wire_not_local(facts: Facts) -> Explained:
 def _keep_not_used(facts: Facts) -> Explained:
     """Explains a `keep` line for a gate that the module does not use."""
     gate = facts["gate"]
-    return Explained([f"Module {facts['module']} keeps gate {gate.number} (`{gate.word}`, line {gate.line}) and does "
+    return Explained([f"Module {facts['module']} keeps gate {gate.number} (`{gate.kind}`, line {gate.line}) and does "
                       "not use it."],
                      [f"Add `use {gate.number}` before it, with the wires {listed(gate.ins)} local."],
                      names=[str(gate.number)], lines=[gate.line])

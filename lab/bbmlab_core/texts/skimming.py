@@ -6,8 +6,8 @@ import hashlib
 import re
 from typing import Iterator
 
-from .boxes import Box
 from .certificates import MAX_CUTS
+from .layouts import Box
 
 HEADER = "certificate "
 # The numbers of a line `use` or `module`.
