@@ -5,7 +5,7 @@ from dataclasses import dataclass, field
 from bbmlab_core.certify.certifier import CertificatePlan, certified, grid_boxes
 from bbmlab_core.route.balls import Ball, Mirror, Run, block_cells, mirror_cells, run_exactly, start_state
 from bbmlab_core.texts.certificates import MAX_BOX_SIDE, Module, line_words, local_wires
-from bbmlab_core.texts.circuits import Circuit, evaluate
+from bbmlab_core.texts.circuits import Circuit, evaluate_all
 from bbmlab_core.texts.documents import read_document
 from bbmlab_core.texts.gates import Table
 from bbmlab_core.texts.layouts import Cell, row_order
@@ -100,7 +100,7 @@ def rectangles(cells: set[Cell]) -> list[Mirror]:
 def bundle_text(machine: Machine) -> str:
     """Returns the bundle of a machine, after a run of it under all its inputs."""
     circuit = read_circuit(machine.circuit_text())
-    values = evaluate(circuit, circuit.inputs, [gate.number for gate in circuit.gates])
+    values = evaluate_all(circuit)
     run = run_machine(machine, values.tables, values.full)
     dx, dy, width, height = frame_of(machine, run)
 

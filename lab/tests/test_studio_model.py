@@ -87,11 +87,7 @@ def random_layout(chooser: random.Random) -> Layout:
 
 def text_of(layout: Layout) -> str:
     """Returns the text of a layout with the inputs p and q."""
-    lines = [f"mirror {part.x} {part.y} {part.width} {part.height}" if part.kind == "mirror"
-             else " ".join(filter(None, [part.kind, part.name, str(part.x), str(part.y)]))
-             for part in layout.parts]
-    return "\n".join(["circuit", "input p", "input q", "end", f"layout {layout.width} {layout.height} {layout.steps}",
-                      *lines, "end", ""])
+    return f"circuit\ninput p\ninput q\nend\n{layout}"
 
 
 class Bytes(unittest.TestCase):

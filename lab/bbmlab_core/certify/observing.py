@@ -7,7 +7,7 @@ from dataclasses import dataclass, field
 from ..host.processor import processor_seconds
 from ..host.terminal import LabError
 from ..physics.simulation import Table, WholeRun, cell_of, key_of, lowest_bit
-from ..texts.circuits import Circuit, evaluate, evaluate_samples
+from ..texts.circuits import Circuit, evaluate_choices
 from ..texts.layouts import Box, Cell, Layout, row_order
 from ..texts.refusals import listed
 
@@ -41,10 +41,7 @@ class Observer:
         self.circuit, self.layout, self.until = circuit, layout, until
         # Whether the cells are remembered at each time, for stops.
         self.remembers = remembers or any(gate.kind == "delay" for gate in circuit.gates)
-        if len(circuit.inputs) <= MAX_TRIED_INPUTS:
-            self.values = evaluate(circuit, circuit.inputs, [gate.number for gate in circuit.gates])
-        else:
-            self.values = evaluate_samples(circuit, SAMPLES)
+        self.values = evaluate_choices(circuit, MAX_TRIED_INPUTS, SAMPLES)
         self.require_rows()
         self.signals: dict[Table, str] = {}
         for name, table in self.values.tables.items():

@@ -3,7 +3,7 @@ Toffoli 1982).
 """
 
 from ..host.terminal import LabError
-from ..texts.circuits import Circuit, Gate, Valuation, evaluate, evaluate_samples
+from ..texts.circuits import Circuit, Gate, Valuation, evaluate_choices
 from .gate_lines import read_circuit, source_line
 from .row_check import missing_row
 
@@ -17,9 +17,7 @@ INVERSES = {"fredkin": "fredkin", "cswap": "cswap", "delay": "delay", "switch": 
 
 def values_of(circuit: Circuit) -> Valuation:
     """Returns the values of a circuit's wires, in all choices of up to 16 inputs, or in samples."""
-    if len(circuit.inputs) <= MAX_ALL:
-        return evaluate(circuit, circuit.inputs, [gate.number for gate in circuit.gates])
-    return evaluate_samples(circuit, SAMPLES)
+    return evaluate_choices(circuit, MAX_ALL, SAMPLES)
 
 
 def constant_bit(values: Valuation, name: str) -> int | None:

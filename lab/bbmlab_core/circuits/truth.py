@@ -6,7 +6,7 @@ from collections import Counter
 from typing import Iterator
 
 from ..host.terminal import LabError
-from ..texts.circuits import Circuit, Valuation, evaluate, evaluate_samples, evaluate_under, values_under
+from ..texts.circuits import Circuit, Valuation, evaluate_choices, evaluate_under, values_under
 from ..texts.documents import Document
 
 # Up to so many inputs a table has all rows, and two circuits are compared in all.
@@ -98,13 +98,9 @@ def figures(document: Document) -> list[tuple[str, str]]:
 def both_values(one: Circuit, other: Circuit) -> tuple[Valuation, Valuation]:
     """Returns the values of two circuits with the same inputs, in all choices of up to 16 inputs, or else in samples.
     """
-    gates = [gate.number for gate in one.gates]
-    if len(one.inputs) <= MAX_ALL:
-        values = evaluate(one, one.inputs, gates)
-    else:
-        values = evaluate_samples(one, SAMPLES)
+    values = evaluate_choices(one, MAX_ALL, SAMPLES)
     free = {name: values.tables[name] for name in one.inputs}
-    return values, evaluate_under(other, free, values.full, [gate.number for gate in other.gates])
+    return values, evaluate_under(other, free, values.full, range(len(other.gates)))
 
 
 def difference(one: Circuit, other: Circuit, is_of_common: bool = False) -> tuple[str, str]:

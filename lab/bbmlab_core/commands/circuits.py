@@ -62,7 +62,7 @@ def returns_inputs(before: Circuit, after: Circuit) -> tuple[str, str]:
     compared."""
     values = values_of(before)
     back = evaluate_under(after, {name: values.tables[name] for name in after.inputs}, values.full,
-                          [gate.number for gate in after.gates])
+                          range(len(after.gates)))
     wrong = next((name for name in before.inputs if back.tables[name] != values.tables[name]), None)
     return ("" if wrong is None else f"it does not give `{wrong}` back"), values.scope
 

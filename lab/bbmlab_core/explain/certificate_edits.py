@@ -174,17 +174,12 @@ class CertificateEditor:
             return (replace(at, text),)
         return delete(at), self.added(module, text)
 
-    def stops_of(self, name: str) -> list[tuple[Module, Stop]]:
-        """Returns the stops of a wire with their modules, in order of time."""
-        found = [(module, stop) for module in self.certificate.modules for stop in module.stops if stop.name == name]
-        return sorted(found, key=lambda pair: pair[1].place)
-
     def for_delay(self, finding: Finding) -> Iterator[Proposal]:
         """Yields stops at other times for a delay, stops that are missing, and another number of steps in the circuit.
         """
         gate, wanted, found = self.circuit.gates[finding.number("gate")], finding.number(
             "wanted"), finding.values["found"]
-        used, made = self.stops_of(gate.ins[0]), self.stops_of(gate.outs[0])
+        used, made = self.certificate.stops_of(gate.ins[0]), self.certificate.stops_of(gate.outs[0])
         if used and made:
             if found == "before":
                 yield Proposal("stops", (self.renamed(*used[-1], gate.outs[0]), self.renamed(*made[0], gate.ins[0])))
@@ -227,11 +222,11 @@ class CertificateEditor:
         """Yields stops after which the inputs of a gate have their last stops at one time, or only one of them has
         stops."""
         gate = self.circuit.gates[finding.number("gate")]
-        last = {name: self.stops_of(name)[-1] for name in gate.ins if self.stops_of(name)}
+        last = {name: self.certificate.stops_of(name)[-1] for name in gate.ins if self.certificate.stops_of(name)}
         for name, seen in last.items():
             for time in dict.fromkeys(stop.time for _, stop in last.values()):
                 yield from self.new_stop(name, time) if time > seen[1].time else self.retimed(seen, time)
         for name in last:
             yield Proposal("stops",
                            tuple(delete(module.line_number("stop", stop)) for other in last if other != name
-                                 for module, stop in self.stops_of(other)))
+                                 for module, stop in self.certificate.stops_of(other)))

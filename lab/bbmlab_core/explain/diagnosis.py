@@ -13,7 +13,7 @@ from typing import Callable
 from ..host.processor import processor_seconds
 from ..physics.simulation import Fault, Field, ModuleRun, Table, WholeRun, cell_of, end_tables, key_of, lowest_bit
 from ..texts.certificates import Module, local_wires
-from ..texts.circuits import Circuit, Valuation, evaluate, evaluate_samples
+from ..texts.circuits import Circuit, Valuation, evaluate, evaluate_choices
 from ..texts.documents import Document
 from ..texts.layouts import Cell, Layout, row_order
 from ..texts.reports import Finding
@@ -148,9 +148,7 @@ class Diagnosis:
     @cached_property
     def values(self) -> Valuation:
         """The tables of all wires over all choices of the inputs, or over samples of them."""
-        if len(self.circuit.inputs) <= MAX_INPUTS:
-            return evaluate(self.circuit, self.circuit.inputs, [gate.number for gate in self.circuit.gates])
-        return evaluate_samples(self.circuit, SAMPLES)
+        return evaluate_choices(self.circuit, MAX_INPUTS, SAMPLES)
 
     @property
     def scope(self) -> str:

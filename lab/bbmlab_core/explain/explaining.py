@@ -6,7 +6,7 @@ from dataclasses import asdict, dataclass, field, replace
 
 from ..host.terminal import escape_controls
 from ..physics.mirrors import falling_mirrors
-from ..texts.certificates import Certificate, Module, Stop, line_words
+from ..texts.certificates import Certificate, line_words
 from ..texts.circuits import Circuit
 from ..texts.code_names import CODE_NAMES
 from ..texts.designs import require_report_of
@@ -64,15 +64,9 @@ class Explanation:
     fixed: str | None = None
 
 
-def stops_of(diagnosis: Diagnosis, wire: str) -> list[tuple[Module, Stop]]:
-    """Returns the stops of a wire with their modules, in order of time."""
-    found = [(module, stop) for module in diagnosis.certificate.modules for stop in module.stops if stop.name == wire]
-    return sorted(found, key=lambda pair: pair[1].place)
-
-
 def stop_words(diagnosis: Diagnosis, wire: str, which: int) -> str:
     """Returns the first (0) or last (-1) stop of a wire in words."""
-    stops = stops_of(diagnosis, wire)
+    stops = diagnosis.certificate.stops_of(wire)
     if not stops:
         return f"`{wire}` has no stop"
     name = "first" if which == 0 else "last"
@@ -92,7 +86,7 @@ def explain_delay(diagnosis: Diagnosis, finding: Finding) -> Entry:
     if not finding.is_against:
         entry.what.append(f"So the delay takes {found} steps, as it says.")
     elif found == "missing":
-        missing = [wire for wire in (used, made) if not stops_of(diagnosis, wire)]
+        missing = [wire for wire in (used, made) if not diagnosis.certificate.stops_of(wire)]
         entry.what.append(f"So nothing shows how long the delay takes: there is no stop for {listed(missing)}.")
     elif found == "before":
         entry.what.append("So the output is seen before the input.")
@@ -104,7 +98,7 @@ def explain_delay(diagnosis: Diagnosis, finding: Finding) -> Entry:
 def explain_meet(diagnosis: Diagnosis, finding: Finding) -> Entry:
     """Returns a `meet` line in words."""
     gate = diagnosis.circuit.gates[finding.number("gate")]
-    last = [stops_of(diagnosis, wire)[-1] for wire in gate.ins if stops_of(diagnosis, wire)]
+    last = [stops[-1] for stops in map(diagnosis.certificate.stops_of, gate.ins) if stops]
     seen = [(stop, module.line_number("stop", stop)) for module, stop in last]
     told = ", ".join(f"`{stop.name}` at time {stop.time} (line {line})" for stop, line in seen)
     entry = Entry(finding.text, finding.is_against, [f"Inputs of gate {gate.number} (`{gate.kind}`, line {gate.line}) "

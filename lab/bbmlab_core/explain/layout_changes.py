@@ -12,15 +12,15 @@ from typing import Iterable, Iterator
 
 from ..host.processor import processor_seconds
 from ..physics.simulation import Table, WholeRun, cell_of, end_tables, key_of
-from ..texts.circuits import Circuit, Gate, Valuation, evaluate, evaluate_under, sampled_tables
+from ..texts.circuits import Circuit, Gate, Valuation, evaluate_all, evaluate_choices
 from ..texts.layouts import Cell, Layout, Part, cells_of
 from ..texts.limits import limits_of
 from .diagnosis import MAX_INPUTS, MAX_STEPS
 from .edits import Edit, add, delete, place_in_section, replace
 from .meeting_places import meeting_places, start_before
 
-# How many choices of the inputs are tried first.
-SAMPLES = 20
+# How many samples of the inputs are tried first, if they are more than so many.
+SAMPLES, FEW_INPUTS = 20, 4
 # The most lines of one change.
 MAX_LINES = 8
 # How far from a place that is likely wrong a mirror is added, in cells.
@@ -38,20 +38,9 @@ class Change:
     layout: Layout
 
 
-def part_text(part: Part) -> str:
-    """Writes the line of a part."""
-    sides = f" {part.width} {part.height}" if part.kind == "mirror" else ""
-    return f"{part.kind}{f' {part.name}' if part.name else ''} {part.x} {part.y}{sides}"
-
-
 def few_values(circuit: Circuit) -> Valuation:
     """Returns the tables of all wires in at most 20 choices of the inputs, all of them if they are few."""
-    gates = [gate.number for gate in circuit.gates]
-    if 1 << len(circuit.inputs) <= SAMPLES:
-        return evaluate(circuit, circuit.inputs, gates)
-    values = evaluate_under(circuit, sampled_tables(circuit.inputs, SAMPLES), (1 << SAMPLES) - 1, gates)
-    values.is_all = False
-    return values
+    return evaluate_choices(circuit, FEW_INPUTS, SAMPLES)
 
 
 def wrong_cells(circuit_values: Valuation, layout: Layout, live: dict[int, Table]) -> dict[int, Table]:
@@ -79,7 +68,7 @@ class Bench:
         self.tried = 0
         self.values = few_values(circuit)
         self.all_values = self.values if self.values.is_all or len(circuit.inputs) > MAX_INPUTS else \
-            evaluate(circuit, circuit.inputs, [gate.number for gate in circuit.gates])
+            evaluate_all(circuit)
         self.touched: dict[int, int] = {}
         self.last = self.final(layout, self.values, notes=True)
 
@@ -108,7 +97,7 @@ class Bench:
                 values = self.all_values if all_of_them else self.values
             else:
                 values = few_values(change.circuit) if not all_of_them or len(self.circuit.inputs) > MAX_INPUTS else \
-                    evaluate(change.circuit, change.circuit.inputs, [gate.number for gate in change.circuit.gates])
+                    evaluate_all(change.circuit)
             live = self.final(change.layout, values)
             if live is None or wrong_cells(values, change.layout, live):
                 return False
@@ -140,9 +129,9 @@ class Bench:
         if not self.is_possible([*swaps.values(), *added], dropped | swaps.keys()):
             return None
         parts = [swaps.get(part, part) for part in self.layout.parts if part not in dropped] + added
-        edits = [replace(part.line, part_text(new)) for part, new in swaps.items()]
+        edits = [replace(part.line, str(new)) for part, new in swaps.items()]
         edits += [delete(part.line) for part in dropped]
-        edits += [add(place_in_section(self.lines, "layout", part_text(part)), part_text(part)) for part in added]
+        edits += [add(place_in_section(self.lines, "layout", str(part)), str(part)) for part in added]
         return Change(tuple(edits), self.circuit, self.layout.with_parts(parts))
 
     @cached_property
@@ -306,7 +295,7 @@ def larger_changes(bench: Bench) -> Iterator[Change]:
     parts = [shifted(part, 2, 2) for part in layout.parts]
     wide = with_fields(layout, width=layout.width + 4, height=layout.height + 4).with_parts(parts)
     edits = [replace(header, f"layout {wide.width} {wide.height} {wide.steps}"),
-             *(replace(part.line, part_text(part)) for part in parts)]
+             *(replace(part.line, str(part)) for part in parts)]
     yield Change(tuple(edits), bench.circuit, wide)
 
 

@@ -6,7 +6,7 @@ from typing import Sequence
 
 from ..physics.simulation import Table
 from ..texts.certificates import Module
-from ..texts.circuits import Circuit, evaluate, evaluate_samples, sampled_tables
+from ..texts.circuits import Circuit, evaluate_all, evaluate_samples, sampled_tables
 from ..texts.documents import Document
 from ..texts.gates import input_tables
 from ..texts.layouts import Box, Cell, Layout, Part
@@ -414,7 +414,7 @@ def wire_tables(document: Document, on: list[str]) -> tuple[dict[str, Table], Ta
         return evaluate_samples(circuit, SAMPLES,
                                 on).tables if circuit else sampled_tables(inputs, SAMPLES, on), full, 0
     if circuit:
-        values = evaluate(circuit, inputs, [gate.number for gate in circuit.gates])
+        values = evaluate_all(circuit)
         return values.tables, values.full, chosen
     return dict(zip(inputs, input_tables(len(inputs)))), (1 << (1 << len(inputs))) - 1, chosen
 

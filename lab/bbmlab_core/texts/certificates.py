@@ -206,6 +206,11 @@ class Certificate:
         """Returns the modules whose boxes touch that of `module`."""
         return [self.modules[number] for number in self.owners.near(module.box) if number != module.number]
 
+    def stops_of(self, wire: str) -> list[tuple[Module, Stop]]:
+        """Returns the stops of a wire with their modules, in order of time."""
+        found = [(module, stop) for module in self.modules for stop in module.stops if stop.name == wire]
+        return sorted(found, key=lambda pair: pair[1].place)
+
     def halo_lines(self, module: Module) -> Sequence[Border]:
         """Returns what the module hears: its halo lines, in version 2 the edge lines beside it."""
         if self.version == 1:

@@ -158,6 +158,16 @@ def evaluate(circuit: Circuit, free: Sequence[str], gates: Iterable[int]) -> Val
     return evaluate_under(circuit, dict(zip(free, input_tables(len(free)))), full, gates)
 
 
+def evaluate_all(circuit: Circuit) -> Valuation:
+    """Returns the tables of all wires in all choices of the inputs."""
+    return evaluate(circuit, circuit.inputs, range(len(circuit.gates)))
+
+
+def evaluate_choices(circuit: Circuit, most_inputs: int, samples: int) -> Valuation:
+    """Returns the tables of all wires in all choices of up to `most_inputs` inputs, or in samples if they are more."""
+    return evaluate_all(circuit) if len(circuit.inputs) <= most_inputs else evaluate_samples(circuit, samples)
+
+
 def sampled_tables(names: Sequence[str], count: int, first: Iterable[str] = (), seed: int = 1) -> dict[str, Table]:
     """Returns a table for each of some free wires in `count` sampled choices of them. In the first choice those of
     `first` are on.
@@ -189,7 +199,7 @@ def evaluate_samples(circuit: Circuit, count: int, first: Iterable[str] = ()) ->
     In the first choice the inputs of `first` are on.
     """
     tables = sampled_tables(circuit.inputs, count, first)
-    values = evaluate_under(circuit, tables, (1 << count) - 1, [gate.number for gate in circuit.gates])
+    values = evaluate_under(circuit, tables, (1 << count) - 1, range(len(circuit.gates)))
     values.is_all = False
     return values
 

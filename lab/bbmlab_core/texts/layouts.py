@@ -113,6 +113,11 @@ class Part(NamedTuple):
         """Yields the cells of the part, row by row."""
         return cells_of(self.x, self.y, self.width, self.height)
 
+    def __str__(self) -> str:
+        """Writes the line."""
+        sides = f" {self.width} {self.height}" if self.kind == "mirror" else ""
+        return f"{self.kind}{f' {self.name}' if self.name else ''} {self.x} {self.y}{sides}"
+
 
 @dataclass(frozen=True)
 class Layout:
@@ -150,11 +155,7 @@ class Layout:
 
     def __str__(self) -> str:
         """Writes the section."""
-        return section_text([
-            f"layout {self.width} {self.height} {self.steps}",
-            *(f"mirror {box.words}" for box in self.mirrors),
-            *(f"ball {x} {y}" for x, y in self.balls), *(f"in {name} {x} {y}" for name, x, y in self.ins),
-            *(f"out {name} {x} {y}" for name, x, y in self.outs), *(f"waste {x} {y}" for x, y in self.wastes)])
+        return section_text([f"layout {self.width} {self.height} {self.steps}", *map(str, self.parts)])
 
     @cached_property
     def parts(self) -> tuple[Part, ...]:
