@@ -13,7 +13,7 @@ import support
 from bbmlab_core.explain.diagnosis import Diagnosis, Truth
 from bbmlab_core.explain.edits import EditError, add, applied, delete, edits_between, replace
 from bbmlab_core.explain.expected_lines import BorderCheck
-from bbmlab_core.explain.explaining import Explanation, explain_answer
+from bbmlab_core.explain.explaining import ExplainedAnswer, explain_answer
 from bbmlab_core.explain.fixing import Fixer
 from bbmlab_core.explain.trials import Budget, Trial, is_yes
 from bbmlab_core.host.program import ask
@@ -33,7 +33,7 @@ def text_of(name: str) -> str:
     return (support.EXAMPLES / f"{name}.txt").read_text()
 
 
-def explained(text: str, command: str = "check") -> Explanation:
+def explained(text: str, command: str = "check") -> ExplainedAnswer:
     """Returns the program's answer to a text in words, with fixes that the program tried."""
     output = ask(support.program(), command, text.encode("latin-1")).output
     return explain_answer(text, command, output, "text", Trial(support.program()))
@@ -158,7 +158,7 @@ class Mirrors(unittest.TestCase):
 class Mistakes(unittest.TestCase):
     """The usual mistakes of designers, each with its fix in one look."""
 
-    def fixed(self, text: str, broken: str) -> Explanation:
+    def fixed(self, text: str, broken: str) -> ExplainedAnswer:
         """Returns the words on a broken text, after checking that its fix gets a yes and is about the edited lines."""
         self.assertNotEqual(text, broken)
         told = explained(broken)

@@ -138,7 +138,7 @@ class Runs(unittest.TestCase):
                             wanted.setdefault(cell, {})[run.time] = run.field.live[key_of(cell)]
                 if not run.step():
                     wanted = None
-            self.assertEqual(check.seen, wanted, name)
+            self.assertEqual(check.ring_tables, wanted, name)
 
 
 def random_layout(chooser: random.Random) -> Layout:
@@ -325,12 +325,12 @@ class Once(unittest.TestCase):
         self.assertTrue(diagnosis.can_run_whole())
         with mock.patch("bbmlab_core.explain.expected_lines.WholeRun.step", autospec=True,
                         side_effect=WholeRun.step) as step:
-            self.assertIsNone(BorderCheck(diagnosis, -1.0).seen)
+            self.assertIsNone(BorderCheck(diagnosis, -1.0).ring_tables)
             self.assertLessEqual(step.call_count, 1)
             with self.assertRaises(LabError):
                 certified(document, None, CertificatePlan(until=0.0))
             self.assertLessEqual(step.call_count, 2)
-            self.assertIsNotNone(BorderCheck(Diagnosis(document), 30.0).seen)
+            self.assertIsNotNone(BorderCheck(Diagnosis(document), 30.0).ring_tables)
             self.assertGreater(step.call_count, 5)
 
 

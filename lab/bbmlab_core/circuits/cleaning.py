@@ -33,7 +33,7 @@ class Cleaner:
         # The name under which a wire of the first half comes back, if it is another one.
         self.now: dict[str, str] = {}
 
-    def fresh(self, name: str, ending: str) -> str:
+    def fresh_name(self, name: str, ending: str) -> str:
         """Returns a new name that looks like another one."""
         return self.book.fresh(name[:MAX_NAME - len(ending)] + ending)
 
@@ -41,7 +41,7 @@ class Cleaner:
         """Returns the lines of the circuit."""
         maker = self.circuit.maker
         copied = [name for name in self.circuit.outputs if name in maker and maker[name].kind != "source"]
-        own = {name: self.fresh(name, "_own") for name in copied}
+        own = {name: self.fresh_name(name, "_own") for name in copied}
         first = [(gate.number, line) for gate in self.circuit.gates for line in self.forward(gate.number, own)]
         self.gates = [line for _, line in first]
         complements = [self.copy(own[name], name) for name in copied]
@@ -58,17 +58,19 @@ class Cleaner:
         ins, outs = tuple(own.get(name, name) for name in gate.ins), tuple(own.get(name, name) for name in gate.outs)
         if number not in self.separate:
             return [Gate(gate.kind, ins, outs, gate.parameter)]
-        zero = self.fresh("zero", "")
+        zero = self.fresh_name("zero", "")
         if gate.kind == "switch":
             return [source_line(0, zero), Gate("fredkin", (*ins, zero), outs)]
         # `interact` is a switch of q by p, and then one of p by "p and q".
-        other, control, both = self.fresh("zero", ""), self.fresh(ins[0], "_on"), self.fresh(outs[0], "_on")
+        other = self.fresh_name("zero", "")
+        control, both = (self.fresh_name(name, "_on") for name in (ins[0], outs[0]))
         return [source_line(0, zero), Gate("fredkin", (*ins, zero), (control, both, outs[1])),
                 source_line(0, other), Gate("fredkin", (both, control, other), (outs[0], outs[3], outs[2]))]
 
     def copy(self, wire: str, name: str) -> str:
         """Adds the copy of a wire, which gets the name of the output, and returns the name of its complement."""
-        one, passed, complement = self.fresh("one", ""), self.fresh(name, "_read"), self.fresh(name, "_not")
+        one = self.fresh_name("one", "")
+        passed, complement = (self.fresh_name(name, ending) for ending in ("_read", "_not"))
         self.gates += [source_line(1, one), Gate("switch", (wire, one), (passed, name, complement))]
         self.now[wire] = passed
         return complement
@@ -84,7 +86,7 @@ class Cleaner:
         if line.kind == "delay":
             self.now[line.ins[0]] = ins[0]
             return
-        self.now.update((name, self.fresh(name, "_back")) for name in line.ins)
+        self.now.update((name, self.fresh_name(name, "_back")) for name in line.ins)
         self.undone[len(self.gates)] = number
         self.gates.append(Gate(INVERSES[line.kind], ins, tuple(self.now[name] for name in line.ins)))
 

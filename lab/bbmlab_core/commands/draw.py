@@ -10,12 +10,12 @@ from ..texts.circuits import Circuit
 from ..texts.designs import read_design, report_for
 from ..texts.documents import Document
 from ..texts.layouts import Box, Layout
-from ..texts.reports import Report
+from ..texts.reports import ReportOrRefusal
 from ..texts.skimming import boxes_and_uses
 
 
-def picture_of(design: tuple[Document, Layout], names: str | None, time: int | None, report: Report | None = None,
-               look: Look = Look()) -> str:
+def picture_of(design: tuple[Document, Layout], names: str | None, time: int | None,
+               report: ReportOrRefusal | None = None, look: Look = Look()) -> str:
     """Returns the picture of a design at a time, or without a time the ways of its balls."""
     document, layout = design
     is_large = max(layout.width, layout.height) > drawing.LARGE_SIDE

@@ -6,7 +6,7 @@ from typing import Iterator, Sequence
 from ..physics.simulation import Table, key_of
 from ..texts.certificates import MAX_CUTS, MAX_USES, Module, Stop, line_words
 from ..texts.layouts import Cell
-from ..texts.reports import Finding
+from ..texts.reports import ReportLine
 from .diagnosis import MAX_SECONDS, Diagnosis
 from .edits import Edit, add, delete, place_in_module, replace
 from .expected_lines import BorderCheck, CellEdits
@@ -36,7 +36,7 @@ class CertificateEditor:
         self.check = BorderCheck(diagnosis, seconds)
         self.groups: list[CellEdits] = self.check.groups()
 
-    def for_all(self, findings: list[Finding]) -> Iterator[Proposal]:
+    def for_all(self, findings: list[ReportLine]) -> Iterator[Proposal]:
         """Yields edits for a whole report: all borders together, then each by itself, then those for each line of the
         report."""
         together = tuple(dict.fromkeys(edit for group in self.groups for edit in group.edits))
@@ -45,7 +45,7 @@ class CertificateEditor:
         for finding in findings:
             yield from self.for_finding(finding)
 
-    def for_finding(self, finding: Finding) -> Iterator[Proposal]:
+    def for_finding(self, finding: ReportLine) -> Iterator[Proposal]:
         """Yields edits for one line of a report."""
         if finding.word == "local":
             yield from self.for_local(finding)
@@ -60,7 +60,7 @@ class CertificateEditor:
         elif finding.word == "meet":
             yield from self.for_meet(finding)
 
-    def for_local(self, finding: Finding) -> Iterator[Proposal]:
+    def for_local(self, finding: ReportLine) -> Iterator[Proposal]:
         """Yields edits for a `local` line: the borders of its module up to its time, its stop, and gates in place of
         cuts."""
         module, time = self.diagnosis.module_of(finding), finding.number("time")
@@ -110,7 +110,7 @@ class CertificateEditor:
         if edits:
             yield Proposal("gates in place of cuts", tuple(edits))
 
-    def for_border(self, finding: Finding) -> Iterator[Proposal]:
+    def for_border(self, finding: ReportLine) -> Iterator[Proposal]:
         """Yields edits of the `halo` line or the `edge` line of a border that do not agree."""
         module, time = self.diagnosis.module_of(finding), finding.number("time")
         cell = finding.number("x"), finding.number("y")
@@ -174,7 +174,7 @@ class CertificateEditor:
             return (replace(at, text),)
         return delete(at), self.added(module, text)
 
-    def for_delay(self, finding: Finding) -> Iterator[Proposal]:
+    def for_delay(self, finding: ReportLine) -> Iterator[Proposal]:
         """Yields stops at other times for a delay, stops that are missing, and another number of steps in the circuit.
         """
         gate, wanted, found = self.circuit.gates[finding.number("gate")], finding.number(
@@ -218,7 +218,7 @@ class CertificateEditor:
             for cell in self.cells_with(name, time, module, (module.box.x, module.box.y))[:1]:
                 yield Proposal("stops", (self.added(module, line_words("stop", Stop(time, name, *cell))),))
 
-    def for_meet(self, finding: Finding) -> Iterator[Proposal]:
+    def for_meet(self, finding: ReportLine) -> Iterator[Proposal]:
         """Yields stops after which the inputs of a gate have their last stops at one time, or only one of them has
         stops."""
         gate = self.circuit.gates[finding.number("gate")]

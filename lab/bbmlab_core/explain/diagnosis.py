@@ -16,7 +16,7 @@ from ..texts.certificates import Module, local_wires
 from ..texts.circuits import Circuit, Valuation, evaluate, evaluate_choices
 from ..texts.documents import Document
 from ..texts.layouts import Cell, Layout, row_order
-from ..texts.reports import Finding
+from ..texts.reports import ReportLine
 
 MAX_INPUTS = 12
 # How many choices of the inputs are tried where they are more than MAX_INPUTS.
@@ -316,6 +316,6 @@ class Diagnosis:
         return f"{len(on)} of the {len(names)} inputs on" + (f" ({shown}{' ..' if len(on) > MAX_INPUTS else ''})" if on
                                                              else "")
 
-    def module_of(self, finding: Finding) -> Module:
+    def module_of(self, finding: ReportLine) -> Module:
         """Returns the module of a line of a report."""
         return self.certificate.modules[finding.number("module")]

@@ -106,7 +106,7 @@ class BorderCheck:
         return owner if owner and owner.box.has_in_ring(cell) else None
 
     @cached_property
-    def seen(self) -> dict[Cell, dict[int, Table]] | None:
+    def ring_tables(self) -> dict[Cell, dict[int, Table]] | None:
         """The tables of the cells of all rings at the odd times at which they are live, or None if the run is too long
         or leaves."""
         if not self.diagnosis.can_run_whole():
@@ -129,10 +129,10 @@ class BorderCheck:
 
     def groups(self) -> list[CellEdits]:
         """Returns the edits of all cells whose lines are wrong, in order of the first wrong time."""
-        if self.seen is None:
+        if self.ring_tables is None:
             return []
         found = [self.group(cell, self.lines_at.get(cell, []))
-                 for cell in sorted(self.seen.keys() | self.lines_at.keys())]
+                 for cell in sorted(self.ring_tables.keys() | self.lines_at.keys())]
         return sorted((group for group in found if group), key=lambda group: group.time)
 
     @cached_property
@@ -147,9 +147,9 @@ class BorderCheck:
     def group(self, cell: Cell, lines: list[tuple[Module, Border]]) -> CellEdits | None:
         """Returns the edits for one cell, or None if its lines are right or no lines would be."""
         owner = self.owner(cell)
-        if owner is None or self.seen is None:
+        if owner is None or self.ring_tables is None:
             return None
-        actual = self.seen.get(cell, {})
+        actual = self.ring_tables.get(cell, {})
         hearers = [other for other in self.certificate.neighbours(owner) if other.box.has_in_halo(cell)]
         wrong = self.wrong_time(owner, actual, lines)
         if self.certificate.version == 1:

@@ -12,7 +12,7 @@ from ..texts.code_names import CODE_NAMES
 from ..texts.designs import require_report_of
 from ..texts.documents import Document, read_document
 from ..texts.refusals import Explained, explain_code, explain_refusal, listed
-from ..texts.reports import RUN_ANSWER, Finding, Report, ReportError, parse_report
+from ..texts.reports import RUN_ANSWER, ReportLine, ReportOrRefusal, ReportError, parse_report
 from .diagnosis import MAX_STEPS, Diagnosis, Truth
 from .edits import Edit
 from .faults import Entry, assignment_words, explain_border, explain_keep, explain_local, shown
@@ -45,7 +45,7 @@ class FixForm:
 
 
 @dataclass
-class Explanation:
+class ExplainedAnswer:
     """An answer in words. A refusal has `refused` and no entries."""
 
     file: str
@@ -74,7 +74,7 @@ def stop_words(diagnosis: Diagnosis, wire: str, which: int) -> str:
     return f"the {name} stop of `{wire}` is line {module.line_number('stop', stop)} (`{line_words('stop', stop)}`)"
 
 
-def explain_delay(diagnosis: Diagnosis, finding: Finding) -> Entry:
+def explain_delay(diagnosis: Diagnosis, finding: ReportLine) -> Entry:
     """Returns a `delay` line in words."""
     gate, found, wanted = diagnosis.circuit.gates[finding.number("gate")], finding.values["found"], finding.values[
         "wanted"]
@@ -95,7 +95,7 @@ def explain_delay(diagnosis: Diagnosis, finding: Finding) -> Entry:
     return entry
 
 
-def explain_meet(diagnosis: Diagnosis, finding: Finding) -> Entry:
+def explain_meet(diagnosis: Diagnosis, finding: ReportLine) -> Entry:
     """Returns a `meet` line in words."""
     gate = diagnosis.circuit.gates[finding.number("gate")]
     last = [stops[-1] for stops in map(diagnosis.certificate.stops_of, gate.ins) if stops]
@@ -112,7 +112,7 @@ def explain_meet(diagnosis: Diagnosis, finding: Finding) -> Entry:
     return entry
 
 
-def explain_unkept(diagnosis: Diagnosis, finding: Finding) -> Entry:
+def explain_unkept(diagnosis: Diagnosis, finding: ReportLine) -> Entry:
     """Returns an `unkept` line in words."""
     gate = diagnosis.circuit.gates[finding.number("gate")]
     users = [module.number for module in diagnosis.certificate.modules if gate.number in module.uses]
@@ -128,7 +128,8 @@ EXPLAINERS = {"local": explain_local, "keep": explain_keep, "border": explain_bo
               "delay": explain_delay, "meet": explain_meet}
 
 
-def explain_report(document: Document, report: Report, file: str, trial: Trial | None = None) -> Explanation:
+def explain_report(document: Document, report: ReportOrRefusal, file: str,
+                   trial: Trial | None = None) -> ExplainedAnswer:
     """Returns a report in words, with fixes if there is somebody who tries them."""
     if report.refused:
         return explain_refused(document, report, file, trial)
@@ -151,7 +152,7 @@ def explain_report(document: Document, report: Report, file: str, trial: Trial |
         headline += whole_run_words(diagnosis, report.faults)
     headline.append(f"The certificate has {report.modules} module{'s' if report.modules != 1 else ''}; its digest is "
                     f"{report.digest[:16]}..")
-    explanation = Explanation(file, "check", headline, report.verdict, entries)
+    explanation = ExplainedAnswer(file, "check", headline, report.verdict, entries)
     if trial and report.verdict == "no":
         add_fixes(explanation, diagnosis, report, trial)
     return explanation
@@ -180,7 +181,7 @@ def mirror_words(diagnosis: Diagnosis) -> list[str]:
     return words
 
 
-def add_fixes(explanation: Explanation, diagnosis: Diagnosis, report: Report, trial: Trial) -> None:
+def add_fixes(explanation: ExplainedAnswer, diagnosis: Diagnosis, report: ReportOrRefusal, trial: Trial) -> None:
     """Adds a fix of the whole text and fixes of lines of the report; each was tried."""
     trial.begin_search()
     fixer = Fixer(diagnosis.document.text, report, trial, diagnosis)
@@ -201,7 +202,7 @@ def add_fixes(explanation: Explanation, diagnosis: Diagnosis, report: Report, tr
             entries[finding.text].fixes = explanation.fix.words
 
 
-def fix_form(before: Report, fix: Fix) -> FixForm:
+def fix_form(before: ReportOrRefusal, fix: Fix) -> FixForm:
     """Returns a fix as a document has it."""
     return FixForm(fix.edits, fix.remakes, fix.judge, fix.report.verdict, [*fix.words, outcome_words(before, fix)],
                    fix.others)
@@ -216,7 +217,7 @@ def tried_words(fixer: Fixer, trial: Trial) -> list[str]:
             f"{trial.judge}.{end}", *kinds]
 
 
-def whole_run_words(diagnosis: Diagnosis, faults: list[Finding]) -> list[str]:
+def whole_run_words(diagnosis: Diagnosis, faults: list[ReportLine]) -> list[str]:
     """Returns whether the whole run ends as the layout asks with a dead rim: a sentence for yes, no, and what was not
     found out."""
     outcome, values = diagnosis.outcome, diagnosis.values
@@ -249,16 +250,17 @@ def missing_certificate_words(document: Document) -> list[str]:
             "layout asks."]
 
 
-def explain_refused(document: Document, report: Report, file: str, trial: Trial | None = None) -> Explanation:
+def explain_refused(document: Document, report: ReportOrRefusal, file: str,
+                    trial: Trial | None = None) -> ExplainedAnswer:
     """Returns a refusal in words. Where the lab's reader does not come to the same line and code, only these are told.
     """
     assert report.refused
     (line, code), refusal = report.refused, document.refusal
     same = refusal is not None and (refusal.line, refusal.code) == (line, code)
     told = explain_refusal(document, refusal) if same and refusal else explain_code(line, code)
-    explanation = Explanation(file, document.command, [f"The text was refused: line {line}, code {code}."], "refused",
-                              refused=told, line=line,
-                              code=code, line_text=document.line(line))
+    headline = [f"The text was refused: line {line}, code {code}."]
+    explanation = ExplainedAnswer(file, document.command, headline, "refused", refused=told, line=line, code=code,
+                                  line_text=document.line(line))
     if refusal and same and refusal.cause == "text_ended" and refusal.facts["section"] == "certificate":
         explanation.headline += missing_certificate_words(document)
     if trial and same and document.command == "check":
@@ -271,7 +273,7 @@ def explain_refused(document: Document, report: Report, file: str, trial: Trial 
     return explanation
 
 
-def explain_run(document: Document, output: str, file: str) -> Explanation:
+def explain_run(document: Document, output: str, file: str) -> ExplainedAnswer:
     """Returns the answer of `run` in words."""
     word, count = output.split("\n", 1)[0].split(" ")
     on = listed(document.on or []) or "none of the inputs"
@@ -281,7 +283,7 @@ def explain_run(document: Document, output: str, file: str) -> Explanation:
     else:
         headline = [f"With {on} on, step {count} makes a cell outside the rectangle live.",
                     "A ball leaves: put a mirror on its way, make the layout larger, or take fewer steps."]
-    return Explanation(file, "run", headline, word)
+    return ExplainedAnswer(file, "run", headline, word)
 
 
 def undefined_gate(circuit: Circuit, output: str) -> int | None:
@@ -294,7 +296,7 @@ def undefined_gate(circuit: Circuit, output: str) -> int | None:
     return int(lines[-1].split(" ")[1]) if is_gate else None
 
 
-def explain_value(document: Document, output: str, file: str) -> Explanation:
+def explain_value(document: Document, output: str, file: str) -> ExplainedAnswer:
     """Returns the answer of `value` in words."""
     assert document.circuit
     number = undefined_gate(document.circuit, output)
@@ -306,17 +308,17 @@ def explain_value(document: Document, output: str, file: str) -> Explanation:
         headline.append(f"Gate {gate.number} (`{gate.kind}`, line {gate.line}) has no row for "
                         f"{assignment_words({n: int(values[n]) for n in gate.ins})}: "
                         "the gate that it turns back never gives these values.")
-    return Explanation(file, "value", headline, "values" if number is None else "undefined")
+    return ExplainedAnswer(file, "value", headline, "values" if number is None else "undefined")
 
 
-def explain_listing(command: str, output: str, file: str) -> Explanation:
+def explain_listing(command: str, output: str, file: str) -> ExplainedAnswer:
     """Returns the answer of `modules` or `migrate`, which refused nothing, in words."""
     if command == "modules":
         count = len(output.splitlines())
         modules = "one module" if count == 1 else f"{count} modules"
-        return Explanation(file, command, [f"The text is read, and its certificate has {modules}."], "read")
-    return Explanation(file, command, ["The text is read, and the program wrote it with a certificate of version 2."],
-                       "read")
+        return ExplainedAnswer(file, command, [f"The text is read, and its certificate has {modules}."], "read")
+    headline = ["The text is read, and the program wrote it with a certificate of version 2."]
+    return ExplainedAnswer(file, command, headline, "read")
 
 
 def require_answer(document: Document, output: str) -> None:
@@ -334,7 +336,7 @@ def require_answer(document: Document, output: str) -> None:
 
 
 def explain_answer(text: str, command: str, output: str, file: str, trial: Trial | None = None,
-                   known: Document | None = None) -> Explanation:
+                   known: Document | None = None) -> ExplainedAnswer:
     """Returns what a command of the program wrote, in words. Fixes are looked for only if there is a trial.
 
     `known` is the text as it was read already, if it was.
@@ -354,7 +356,7 @@ def own_answer(text: str, command: str) -> str | None:
     return f"refused {refusal.line} {refusal.code}\n" if refusal else None
 
 
-def as_json(explanation: Explanation) -> str:
+def as_json(explanation: ExplainedAnswer) -> str:
     """Writes an explanation as one JSON document."""
     members = asdict(explanation)
     del members["fixed"]
@@ -363,7 +365,7 @@ def as_json(explanation: Explanation) -> str:
     return json.dumps({"format": "bbmlab explanation 2", **members}, indent=2, ensure_ascii=True)
 
 
-def as_gcc(explanation: Explanation) -> list[str]:
+def as_gcc(explanation: ExplainedAnswer) -> list[str]:
     """Writes an explanation as `file:line: error: text` lines for editors.
 
     A control character, also one of the file's name, is an escape.

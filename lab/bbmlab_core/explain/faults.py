@@ -8,7 +8,7 @@ from ..texts.cell_pictures import text_picture
 from ..texts.certificates import Border, Module, Stop, line_words
 from ..texts.circuits import evaluate
 from ..texts.layouts import Cell
-from ..texts.reports import Finding, parse_finding
+from ..texts.reports import ReportLine, parse_finding
 from .diagnosis import Diagnosis, Difference, Occurrence, Signal, Truth
 
 
@@ -57,7 +57,7 @@ def wire_value(diagnosis: Diagnosis, module: Module, name: str, assignment: int)
     return values.tables[name] >> assignment & 1
 
 
-def wanted_of(diagnosis: Diagnosis, module: Module, finding: Finding) -> Wanted:
+def wanted_of(diagnosis: Diagnosis, module: Module, finding: ReportLine) -> Wanted:
     """Returns what the cell of a `local` line is to be."""
     cell, time = (finding.number("x"), finding.number("y")), finding.number("time")
     assignment, kind = finding.number("assignment"), finding.values["kind"]
@@ -110,7 +110,7 @@ def occurrence_words(diagnosis: Diagnosis, occurrence: Occurrence, names: str) -
             else f"{example}.")
 
 
-def explain_local(diagnosis: Diagnosis, finding: Finding) -> Entry:
+def explain_local(diagnosis: Diagnosis, finding: ReportLine) -> Entry:
     """Returns a `local` line in words."""
     module, time = diagnosis.module_of(finding), finding.number("time")
     cell, assignment = (finding.number("x"), finding.number("y")), finding.number("assignment")
@@ -164,7 +164,7 @@ def add_never_occurs(diagnosis: Diagnosis, module: Module, entry: Entry) -> None
     add_cause(diagnosis, module, finding, entry, diagnosis.occurrence(module, fault.assignment))
 
 
-def add_cause(diagnosis: Diagnosis, module: Module, finding: Finding, entry: Entry, occurrence: Occurrence) -> None:
+def add_cause(diagnosis: Diagnosis, module: Module, finding: ReportLine, entry: Entry, occurrence: Occurrence) -> None:
     """Adds the cause of a fault under an assignment that occurs: what the module hears, its line, or the layout."""
     assignment, time = finding.number("assignment"), finding.number("time")
     cell = finding.number("x"), finding.number("y")
@@ -236,7 +236,7 @@ def mirror_note(diagnosis: Diagnosis, cell: Cell) -> list[str]:
             "does not stay as it is."]
 
 
-def explain_keep(diagnosis: Diagnosis, finding: Finding) -> Entry:
+def explain_keep(diagnosis: Diagnosis, finding: ReportLine) -> Entry:
     """Returns a `keep` line in words."""
     module, gate = diagnosis.module_of(finding), diagnosis.circuit.gates[finding.number("gate")]
     assignment = finding.number("assignment")
@@ -270,7 +270,7 @@ def said_words(line: Border | None, kind: str, module: Module) -> str:
             else f"module {module.number} has no `{kind}` line for it")
 
 
-def explain_border(diagnosis: Diagnosis, finding: Finding) -> Entry:
+def explain_border(diagnosis: Diagnosis, finding: ReportLine) -> Entry:
     """Returns a `border` line in words."""
     module, time = diagnosis.module_of(finding), finding.number("time")
     cell = finding.number("x"), finding.number("y")

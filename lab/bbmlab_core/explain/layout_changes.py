@@ -140,7 +140,7 @@ class Bench:
         nearest to each other."""
         return [] if self.is_over() else meeting_places(self.layout, self.values)
 
-    def distance(self, part: Part) -> int:
+    def distance_to_fault(self, part: Part) -> int:
         """Returns how far a part lies from the places at which something is likely wrong, or from the first fault."""
         cells = self.places or ([self.near] if self.near else [])
         return min((max(part.x - cell[0], cell[0] - part.x - part.width + 1, part.y - cell[1],
@@ -341,7 +341,7 @@ def paired_changes(bench: Bench, gone: list[Part], new: list[Part]) -> Iterator[
 def move_changes(bench: Bench, kinds: tuple[str, ...], reach: int = 2) -> Iterator[Change]:
     """Yields moves of one part by at most `reach` cells, and of both cells of a ball of two cells together, those near
     the fault first."""
-    parts = sorted((part for part in bench.layout.parts if part.kind in kinds), key=bench.distance)
+    parts = sorted((part for part in bench.layout.parts if part.kind in kinds), key=bench.distance_to_fault)
     offsets = [(dx, dy) for dx in range(-reach, reach + 1) for dy in range(-reach, reach + 1) if dx or dy]
     offsets.sort(key=lambda offset: abs(offset[0]) + abs(offset[1]))
     for part in parts:
@@ -364,7 +364,7 @@ def has_mirror_parity(part: Part) -> bool:
 def drop_changes(bench: Bench) -> Iterator[Change]:
     """Yields the layout without one `ball`, one mirror or one of several cells of a port."""
     ports = [part for part in bench.layout.parts if part.kind in ("in", "out")]
-    for part in sorted(bench.layout.parts, key=bench.distance):
+    for part in sorted(bench.layout.parts, key=bench.distance_to_fault):
         is_port = part.kind in ("in", "out")
         if part.kind in ("ball", "mirror") or is_port and sum((other.kind, other.name) == (part.kind, part.name)
                                                               for other in ports) > 1:
@@ -376,7 +376,7 @@ def drop_changes(bench: Bench) -> Iterator[Change]:
 def ball_changes(bench: Bench) -> Iterator[Change]:
     """Yields the layout with one more `ball`: first the second cell of a ball of two cells, then each cell if they are
     few."""
-    parts = sorted(bench.layout.of_kind("ball") + bench.layout.of_kind("in"), key=bench.distance)
+    parts = sorted(bench.layout.of_kind("ball") + bench.layout.of_kind("in"), key=bench.distance_to_fault)
     cells = [(part.x + dx, part.y + dy) for part in parts for dx in (-2, 2) for dy in (-2, 2)]
     if bench.layout.width * bench.layout.height <= 1600:
         cells += [(x, y) for y in range(bench.layout.height) for x in range(bench.layout.width)]

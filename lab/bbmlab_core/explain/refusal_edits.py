@@ -64,7 +64,7 @@ def header_edits(_document: Document, number: int, facts: dict[str, Any]) -> Ite
     yield (delete(number),)
 
 
-def left_out(_document: Document, number: int, _facts: dict[str, Any]) -> Iterator[Edits]:
+def line_deletion(_document: Document, number: int, _facts: dict[str, Any]) -> Iterator[Edits]:
     """Yields the text without the line."""
     yield (delete(number),)
 
@@ -189,7 +189,7 @@ def ended_edits(document: Document, _number: int, _facts: dict[str, Any]) -> Ite
         yield (add(len(lines), "end"), add(len(lines), ""))
 
 
-def rest_edits(document: Document, number: int, _facts: dict[str, Any]) -> Iterator[Edits]:
+def rest_deletion(document: Document, number: int, _facts: dict[str, Any]) -> Iterator[Edits]:
     """Yields the text up to its last section."""
     lines = document.text.split("\n")
     count = len(lines) if lines[-1] else len(lines) - 1
@@ -220,22 +220,27 @@ def limit_edits(document: Document, number: int, facts: dict[str, Any]) -> Itera
         yield from number_edits(document, number, facts)
 
 
-FINDERS: dict[str, Finder] = {
-    "shape": shape_edits, "kind_after_later_kind": left_out, "gate_not_rising": left_out, "border_not_rising": left_out,
-    "before_first_module": left_out, "first_not_header": header_edits, "second_header": left_out,
-    "wire_not_consumed": consumed_edits, "port_not_local": port_edits, "heard_not_local": heard_edits, "gap": gap_edits,
-    "no_module": no_module_edits, "wire_not_local": unknown_wire_edits, "use_input_not_local": many_wires_edits,
-    "keep_not_used": left_out,
-    "wire_not_defined": name_edits, "wire_unknown": name_edits, "port_unknown": name_edits,
-    "gate_unknown": number_edits,
-    "keep_not_inverse": number_edits, "wire_defined": left_out, "wire_consumed": consumer_edits, "cut_twice": left_out,
-    "use_output_local": left_out, "border_place": number_edits, "box_odd": number_edits, "box_outside": number_edits,
-    "box_overlap": number_edits, "layout_side": limit_edits, "box_side": number_edits,
-    "certificate_version": number_edits,
-    "delay_limit": number_edits, "cell_outside": place_edits, "cell_taken": place_edits, "mirror_side": limit_edits,
-    "layout_steps": limit_edits, "wire_count": limit_edits, "gate_count": limit_edits, "module_count": limit_edits,
-    "cut_count": left_out, "text_ended": ended_edits, "line_not_ended": ended_edits, "text_goes_on": rest_edits,
-}
+FINDERS: dict[str, Finder] = {cause: finder for finder, causes in (
+    (shape_edits, "shape"),
+    (line_deletion, "kind_after_later_kind gate_not_rising border_not_rising before_first_module second_header "
+                    "keep_not_used wire_defined cut_twice use_output_local cut_count"),
+    (header_edits, "first_not_header"),
+    (consumed_edits, "wire_not_consumed"),
+    (port_edits, "port_not_local"),
+    (heard_edits, "heard_not_local"),
+    (gap_edits, "gap"),
+    (no_module_edits, "no_module"),
+    (unknown_wire_edits, "wire_not_local"),
+    (many_wires_edits, "use_input_not_local"),
+    (name_edits, "wire_not_defined wire_unknown port_unknown"),
+    (number_edits, "gate_unknown keep_not_inverse border_place box_odd box_outside box_overlap box_side "
+                   "certificate_version delay_limit"),
+    (consumer_edits, "wire_consumed"),
+    (limit_edits, "layout_side mirror_side layout_steps wire_count gate_count module_count"),
+    (place_edits, "cell_outside cell_taken"),
+    (ended_edits, "text_ended line_not_ended"),
+    (rest_deletion, "text_goes_on"),
+) for cause in causes.split()}
 
 
 def refusal_edits(document: Document) -> Iterator[Edits]:

@@ -13,7 +13,7 @@ from .layouts import Layout
 from .limits import FIRST, SECOND
 from .lines import NAME
 from .refusals import refusal_words
-from .reports import Report
+from .reports import ReportOrRefusal
 
 FORMAT = "bbmlab bundle 1"
 # Writes a text as JSON. `json.dumps` takes four times as long.
@@ -40,7 +40,7 @@ def module_json(module: Module) -> dict[str, Any]:
             "halos": module.halos, "stops": module.stops}
 
 
-def report_json(report: Report) -> dict[str, Any]:
+def report_json(report: ReportOrRefusal) -> dict[str, Any]:
     """Returns a report as JSON values."""
     if report.refused:
         return {"refused": {"line": report.refused[0], "code": report.refused[1]}}
@@ -48,7 +48,7 @@ def report_json(report: Report) -> dict[str, Any]:
             "findings": [{"kind_of_line": finding.word, **finding.values} for finding in report.findings]}
 
 
-def document_json(document: Document, report: Report | None) -> str:
+def document_json(document: Document, report: ReportOrRefusal | None) -> str:
     """Writes the sections of a text, and a report if there is one, as one JSON document."""
     if document.refusal:
         raise LabError(f"the text is refused: {refusal_words(document)}", 1)

@@ -21,7 +21,7 @@ def certificate_place(text: str) -> int:
     return text.find(f"\n{HEADER}") + 1 or len(text)
 
 
-def head_of(text: str) -> str:
+def design_text(text: str) -> str:
     """Returns the circuit and the layout of a text."""
     return text[:certificate_place(text)]
 

@@ -4,7 +4,7 @@ from dataclasses import dataclass
 
 from ...texts.limits import limits_for
 from .graph import Graph
-from .mapping import GARBAGE_COST, GATE_COSTS, MappedGate, Wire, Wiring
+from .mapping import GARBAGE_COST, GATE_COSTS, MappedGate, Wire, MappedGates
 from .naming import NameBook
 
 
@@ -32,7 +32,7 @@ class NamedCircuit:
         return "\n".join([*lines, *(f"spill {name}" for name in self.spills), "end", ""])
 
 
-def named(graph: Graph, wiring: Wiring) -> NamedCircuit:
+def named(graph: Graph, wiring: MappedGates) -> NamedCircuit:
     """Returns the circuit of a wiring, with a name for each wire."""
     book, names, gates = NameBook(), dict[Wire, str](), list(wiring.gates)
     inputs = [book.port(name) for name in graph.input_names]
