@@ -15,6 +15,7 @@ from bbmlab_core.explain.edits import EditError, add, applied, delete, edits_bet
 from bbmlab_core.explain.expected_lines import BorderCheck
 from bbmlab_core.explain.explaining import ExplainedAnswer, explain_answer
 from bbmlab_core.explain.fixing import Fixer
+from bbmlab_core.explain.refusal_edits import refusal_edits
 from bbmlab_core.explain.trials import Budget, Trial, is_yes
 from bbmlab_core.host.program import ask
 from bbmlab_core.physics.mirrors import stays
@@ -62,6 +63,15 @@ class Edits(unittest.TestCase):
                          ("a\na\na\n", "a\n")):
             with self.subTest(one=one, two=two):
                 self.assertEqual(applied(one, edits_between(one, two)), two)
+
+
+    def test_module_for_a_gap(self) -> None:
+        """A module that was left out is added again, if no wire comes into its box."""
+        head = "circuit\ninput p\noutput p\nend\nlayout 16 8 3\nin p 2 2\nout p 5 5\nend\n"
+        whole = f"{head}certificate 2\nmodule 0 0 8 8\ncut p\nmodule 8 0 8 8\nend\n"
+        text = whole.replace("module 8 0 8 8\n", "")
+        self.assertEqual([applied(text, edits) for edits in refusal_edits(support.read_document(text))], [whole])
+        self.assertTrue(says_yes(whole))
 
 
 class DeletedLines(unittest.TestCase):
