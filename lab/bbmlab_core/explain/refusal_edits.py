@@ -7,7 +7,7 @@ from ..texts.certificates import Module, local_wires
 from ..texts.circuits import Circuit
 from ..texts.documents import Document
 from ..texts.limits import FIRST, LINE
-from ..texts.lines import match_form
+from ..texts.lines import match_line
 from ..texts.spelling import spelled
 from .edits import Edit, add, delete, edits_between, place_in_module, replace
 
@@ -40,8 +40,9 @@ def shape_edits(document: Document, number: int, facts: dict[str, Any]) -> Itera
     if line and line != document.line(number):
         yield (replace(number, line),)
     for words in near_lines(line.split(" "), forms):
-        if match_form(words, forms):
-            yield (replace(number, " ".join(words)),)
+        near = " ".join(words)
+        if match_line(near, forms):
+            yield (replace(number, near),)
     yield (delete(number),)
 
 

@@ -76,7 +76,7 @@ def to_conservative(netlist: Netlist | str, *, cycles: int | None = None, state:
         mapped = core.map_read_netlist(read._core, core.Reading(None, cycles, state == "ports"))
     except LabError as error:
         raise ValueError(str(error)) from error
-    return model_of(mapped.text)
+    return mapped.circuit
 
 
 def model_of(circuit: Circuit | str) -> Circuit:

@@ -4,7 +4,6 @@
 import random
 
 from ...texts.circuits import Circuit
-from ...texts.documents import read_document
 from ...texts.limits import SECOND
 from ..cones import keeping_cone
 from .circuit_text import NamedCircuit, named
@@ -66,13 +65,9 @@ def map_graph(graph: Graph) -> NamedCircuit:
     separate: frozenset[int] = frozenset()
     while True:
         wiring = cheapest(graph, separate, len(needed) + len(graph.outputs))
-        circuit = named(graph, wiring)
-        require_room(len(circuit.gates),
-                     len(circuit.inputs) + sum(len(line.split(" -> ")[1].split()) for line in circuit.gates))
-        document = read_document(circuit.text(), "circuit")
-        if document.refusal or document.circuit is None:
-            raise NetlistError(f"The mapped circuit is wrong: {document.refusal}.")
-        failed = nodes_not_kept(document.circuit, wiring)
+        found = named(graph, wiring)
+        require_room(len(found.circuit.gates), len(found.circuit.wires))
+        failed = nodes_not_kept(found.circuit, wiring)
         if not failed:
-            return circuit
+            return found
         separate |= failed
