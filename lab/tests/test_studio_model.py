@@ -346,7 +346,7 @@ class Runs(unittest.TestCase):
         for path in sorted(support.EXAMPLES.glob("*.txt")):
             document = support.read_document(path.read_text(encoding="latin-1"))
             if document.circuit and not document.refusal:
-                wanted = json_form.circuit_json(document.circuit)
+                wanted = json.loads(json.dumps(json_form.circuit_json(document.circuit)))
                 told = node(["circuit",
                              path.read_text(encoding="latin-1").split("\nlayout ")[0].split("\nassign")[0]])[0]
                 self.assertEqual((told.pop("isWhole"), told), (True, wanted), path.name)
