@@ -14,10 +14,10 @@ from ..explain.trials import Budget, Trial
 from ..host.processor import processor_seconds
 from ..host.program import Answer, Executable, BadProgramError, ProgramTimeout, ask
 from ..host.terminal import LabError
-from ..texts.certificates import MAX_BOX_SIDE, MAX_CUTS, MAX_USES, Certificate, Module
+from ..texts.certificates import MAX_BOX_SIDE, MAX_CUTS, MAX_USES, Certificate, whole_module
 from ..texts.circuits import Circuit, values_under
 from ..texts.documents import Document, read_document
-from ..texts.layouts import Box, Cell, Layout
+from ..texts.layouts import Cell, Layout
 from ..texts.refusals import explain_code, explain_refusal
 from ..texts.reports import ReportLine, ReportOrRefusal, ReportError, parse_report
 from ..texts.skimming import cuts_of, design_text
@@ -215,9 +215,7 @@ def plain_certificate(circuit: Circuit, layout: Layout) -> str | None:
     if max(layout.width,
            layout.height) > MAX_BOX_SIDE or len(circuit.inputs) > MAX_CUTS or len(circuit.gates) > MAX_USES:
         return None
-    keeps = tuple(gate.number for gate in circuit.gates if gate.is_inverse)
-    module = Module(Box(0, 0, layout.width, layout.height), circuit.inputs, tuple(range(len(circuit.gates))), keeps)
-    return str(Certificate(2, (module,)))
+    return str(Certificate(2, (whole_module(circuit, layout),)))
 
 
 def fault_form(cuts: list[list[str]], inputs: Sequence[str], finding: ReportLine) -> dict[str, Any]:

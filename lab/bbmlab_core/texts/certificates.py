@@ -146,6 +146,12 @@ def local_wires(circuit: Circuit, module: "Module | ModuleDraft") -> dict[str, N
     return dict.fromkeys([*module.cuts, *(name for number in module.uses for name in circuit.gates[number].outs)])
 
 
+def whole_module(circuit: Circuit, layout: Layout) -> Module:
+    """Returns a module for the whole layout that cuts all inputs, uses all gates and keeps all inverse ones."""
+    keeps = tuple(gate.number for gate in circuit.gates if gate.is_inverse)
+    return Module(Box(0, 0, layout.width, layout.height), circuit.inputs, tuple(range(len(circuit.gates))), keeps)
+
+
 @dataclass
 class ModuleDraft:
     """A module whose lines are still being found."""
